@@ -98,6 +98,7 @@ pub use Rattle.rpki_ext.specs.declared.key_usage.KeyUsage
 pub use Rattle.rpki_cert.specs.Certificates
 pub use Rattle.rpki_cert.specs.Making
 pub use Rattle.rpki_cert.specs.Profiles
+pub use Rattle.rpki_cert.specs.SaidKinds
 pub use Rattle.rpki_cert.specs.Verification
 pub use Rattle.rpki_cert.specs.Errors
 pub use Rattle.rpki_cert.specs.Validation
@@ -109,6 +110,7 @@ pub use Rattle.rpki_cert.specs.declared.inspect.Kind
 pub use Rattle.rpki_cert.specs.declared.extra.Extra
 pub use Rattle.rpki_cert.specs.declared.issue.IssueCaError
 pub use Rattle.rpki_cert.specs.declared.rearrange_error.RearrangeError
+pub use Rattle.rpki_cert.specs.declared.saying.Said
 pub use Rattle.rpki_cert.specs.declared.validation_error.ValidationError
 pub use Rattle.rpki_cert.specs.declared.verification_error.VerificationError
 -- ---- revocation lists
@@ -151,7 +153,6 @@ pub use Rattle.rpki_path.specs.declared.path_fault.PathError
 pub use Rattle.rpki_path.specs.declared.path_fault.PathFault
 pub use Rattle.rpki_path.specs.declared.validating.Leaf
 -- ---- folders
-pub use Rattle.rpki_folder.specs.SaidKinds
 pub use Rattle.rpki_folder.specs.Folders
 pub use Rattle.rpki_folder.specs.Walks
 pub use Rattle.rpki_folder.specs.KeptLines
@@ -161,7 +162,6 @@ pub use Rattle.rpki_folder.specs.declared.find.Found
 pub use Rattle.rpki_folder.specs.declared.find.FoundPath
 pub use Rattle.rpki_folder.specs.declared.folder.Added
 pub use Rattle.rpki_folder.specs.declared.lines.Line
-pub use Rattle.rpki_folder.specs.declared.saying.Said
 pub use Rattle.rpki_folder.specs.declared.walk_error.WalkError
 -- ---- the line program
 pub use Rattle.rpki_lines.specs.Watching

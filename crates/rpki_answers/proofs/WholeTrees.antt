@@ -8,7 +8,7 @@ use Rattle.rpki.specs.Line.{Line}
 use Rattle.rpki.specs.Line.TheVariants as line
 use Rattle.rpki.specs.Times.{Moment}
 use Rattle.rpki_cert.proofs.Reordering.{all_append}
-use Rattle.rpki_files.specs.FaultRules.{ReasonFields}
+use Rattle.rpki_verdicts.specs.Reasons.{ReasonFields}
 use Rattle.rpki_files.specs.Files.{FileFields}
 use Rattle.rpki_verdicts.specs.Trees.{TreeFields, certs_of}
 use Rattle.rpki_verdicts.specs.PathAnswers.{reason_of}

@@ -12,7 +12,7 @@ use Rattle.rpki.specs.Line.TheVariants as line
 use Rattle.rpki.specs.Times.{Moment}
 use Rattle.rpki.specs.Verification.{Context}
 use Rattle.rpki_files.specs.Contents.{BeginsWithCertificate, BeginsWithEither, BeginsWithList}
-use Rattle.rpki_files.specs.FaultRules.{ReasonFields, IsReason}
+use Rattle.rpki_verdicts.specs.Reasons.{ReasonFields, IsReason}
 use Rattle.rpki_files.specs.Files.{FileFields}
 use Rattle.rpki_files.specs.LocatorFiles.{AreLocator}
 use Rattle.rpki_text.specs.Pages.{file_name_text, line_feed, line as label_line}

@@ -23,7 +23,7 @@ use Rattle.rpki_text.specs.BlockLines.{as_numbers_text, blocks_lines, resources_
 use Rattle.rpki_text.specs.CertificateTexts.{certificate_kind_text}
 use Rattle.rpki_files.specs.Contents.{BeginsWithList}
 use Rattle.rpki_files.specs.Files.{FileFields, contents}
-use Rattle.rpki_files.specs.SaidKinds.{IsKindOf}
+use Rattle.rpki.specs.SaidKinds.{IsKindOf}
 use Rattle.rpki_files.specs.LocatorFiles.{AreLocator}
 use Rattle.rpki_verdicts.specs.GivenLocators.{LocatorFields, locator_octets}
 use Rattle.rpki_verdicts.specs.PathFiles.{QuestionFields, IsAnchorLocator, demands_of}

@@ -1,6 +1,7 @@
 //! The verdicts on the certificates among files, for a person.
 ghost use Rattle.std.specs.Prelude.{◌≡◌, ◌≤◌, ◌<◌, ◌+◌, ◌^◌, ◌++◌, Some, IfOk, codes, map, slice_get, option_map, string_bytes};
-ghost use Rattle.rpki_files.specs.FaultRules.{ReasonFields, IsReason, reason, rule_of};
+ghost use Rattle.rpki_files.specs.FaultRules.{rule_of};
+ghost use Rattle.rpki_verdicts.specs.Reasons.{ReasonFields, IsReason, reason};
 ghost use Rattle.rpki_text.specs.Pages.{Appends, AppendsSome, line};
 ghost use Rattle.std.specs.Fmt.{decimal};
 ghost use Rattle.rpki_verdicts.specs.PathAnswers.{reason_of};
@@ -13,9 +14,10 @@ use crate::trees::TreeFinding;
 use crate::verdict_lines::{print_moment, print_no_locator, print_other_locators};
 use rpki::repository::folder::{Ended, Line};
 use rpki::repository::path::PathFault;
-use rpki_files::rules::{Rule, of_path};
+use rpki_files::rules::Rule;
 use rpki_files::{BareObject, Front};
 use rpki_text::{FileName, Page};
+use rpki_verdicts::reasons::of_path;
 use rpki_verdicts::{Fault, Tree, TreeAnswer, TreeQuestion};
 use std::alloc::{AllocError, Global};
 use std::fmt;

@@ -7,7 +7,7 @@ ghost use Rattle.rpki_text.specs.Pages.{Appends, AppendsSome, colons_text, line}
 ghost use Rattle.rpki.specs.Certificates.{IsCertificate};
 ghost use Rattle.rpki_answers.specs.NoteLines.{notes_lines};
 ghost use Rattle.rpki_files.specs.Contents.{BeginsBefore};
-ghost use Rattle.rpki_files.specs.SaidKinds.{IsKindOf};
+ghost use Rattle.rpki.specs.SaidKinds.{IsKindOf};
 ghost use Rattle.rpki_verdicts.specs.GivenLocators.{IsRead};
 ghost use Rattle.rpki_answers.specs.VerdictTexts.{SaysOfEach, IsFindingText, IsLocatorText, IsMemberPart, IsListPart, IsOutcomeText, IsVerdictText, IsAcceptanceText, IsHeldText, IsMemberText, IsRejectedText, after_line, anchor_line, checks_text, file_name_at, holder_text, left_of_text, locator_part, locator_text, locators_text, member_text, moment_line, names_line, no_list_text, no_locator_text, other_text, place_text, read_locator_line, reason_text, rejected_text, revocation_text, router_text};
 
@@ -15,12 +15,12 @@ use crate::details::details_of;
 use crate::notes::print_notes;
 use crate::verdicts::Finding;
 use rpki::crypto::KeyIdentifier;
-use rpki::repository::cert::{Cert, ResourceCert};
+use rpki::repository::cert::{Cert, ResourceCert, kind_of};
 use rpki::repository::path::Judged;
 use rpki::repository::resources::AsResources;
 use rpki::repository::tal::Tal;
 use rpki::repository::x509::{Serial, Time};
-use rpki_files::{Object, kind_of};
+use rpki_files::Object;
 use rpki_notes::{Note, notes_of};
 use rpki_text::blocks::{Family, as_blocks, ip_blocks, write_as_resources};
 use rpki_text::certificate::{key_identifier, kind_name};

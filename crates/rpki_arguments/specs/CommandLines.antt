@@ -2,7 +2,7 @@
 -- octets that the system has.
 use Rattle.std.specs.Prelude.{◌≡◌, ◌≢◌, ◌<◌, ◌^◌, ◌⊎◌, ℕ, List, [], ◌∷◌, ◌++◌, length, Contains, Option, Some, None, Bool, true, false, fold, codes}
 use Rattle.std.specs.Str.Parse.{IsNumeral, digits_value}
-use Rattle.rpki.specs.Times.{Moment, IsMoment}
+use Rattle.rpki_der.specs.Times.{Moment, IsMoment}
 use Rattle.rpki_text.specs.MomentTexts.{IsMomentText}
 use Rattle.rpki_arguments.specs.WordParts.{IsOption, GivesValue, AreInOrder, words_before, words_behind}
 use Rattle.rpki_arguments.specs.declared.arguments.Format.{Format}

@@ -1,7 +1,7 @@
 -- What is told of words that are no command line: something that is wrong with them, of the first
 -- word that is wrong, or of what they ask (own).
 use Rattle.std.specs.Prelude.{◌≡◌, ◌≢◌, ◌⊎◌, ℕ, List, [], ◌∷◌, ◌++◌, length, None, true, false, codes}
-use Rattle.rpki.specs.Times.{Moment, IsMoment}
+use Rattle.rpki_der.specs.Times.{Moment, IsMoment}
 use Rattle.rpki_text.specs.MomentTexts.{IsMomentText}
 use Rattle.rpki_arguments.specs.declared.arguments.Format.{Format}
 use Rattle.rpki_arguments.specs.declared.arguments.Misuse.{Misuse}

@@ -12,7 +12,7 @@ ghost use Rattle.rpki_arguments.specs.MisuseTexts.{misuse_text};
 ghost use Rattle.rpki_arguments.specs.CommandLines.Steps.{AddsSet, IsSwitch, IsOptionName};
 
 use crate::parts::{around_dashes, is, is_option};
-use rpki::repository::x509::Time;
+use rpki_der::Time;
 use rpki_text::{Characters, moments};
 use std::alloc::Global;
 use std::fmt;

@@ -23,7 +23,7 @@ use Rattle.rpki_path.specs.declared.path_fault.PathError.{PathError}
 use Rattle.rpki_path.specs.declared.path_fault.PathFault.{PathFault}
 use Rattle.rpki_folder.specs.Folders.{octets_at, cas_at, NamesSigner}
 use Rattle.rpki_folder.specs.KeptLines.{step, IsRejectedWithin, IsLine}
-use Rattle.rpki_folder.specs.SaidKinds.{BeginsWithKind}
+use Rattle.rpki_cert.specs.SaidKinds.{BeginsWithKind}
 use Rattle.rpki_folder.specs.Walks.{Root, at_anchor, members_at, LeadsTo, IsAcceptedAs, IsReached, IsRightOf, IsRight, Told, IsTold, told, Covers, AreAdmitted, IsWhyNone}
 use Rattle.rpki_folder.specs.declared.bounds.Ended.{Ended}
 use Rattle.rpki_folder.specs.declared.bounds.Ended.TheVariants.{TooDeep, OutOfSteps}

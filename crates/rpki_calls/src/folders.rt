@@ -5,11 +5,11 @@ use crate::inputs::{ANCHOR, anchor, new_year};
 use crate::making::authority;
 use crate::stores::list_by;
 use bytes::Bytes;
-use rpki_cert::{Cert, KeyUsage, ResourceCert, TbsCert};
+use rpki_cert::{Cert, KeyUsage, ResourceCert, Said, TbsCert};
 use rpki_cert_tests::samples::{self, rsa, shared};
 use rpki_crl::Crl;
 use rpki_folder::{
-    Accepted, Added, AllAdmitted, Bounds, Ended, Folder, Found, Line, Lines, Said, Visitor, Walk,
+    Accepted, Added, AllAdmitted, Bounds, Ended, Folder, Found, Line, Lines, Visitor, Walk,
 };
 use rpki_parts::StandIn;
 use rpki_path::{Member, PathFault};

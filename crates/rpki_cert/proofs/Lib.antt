@@ -18,3 +18,4 @@ pub mod Orders
 pub mod FrameReads
 pub mod SequencesMade
 pub mod SequencesBuilt
+pub mod SaidOnce

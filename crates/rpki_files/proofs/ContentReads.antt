@@ -2,9 +2,9 @@
 use Rattle.std.specs.Prelude.{Result, Ok, Err, IsOk, IsTrue, MatchResult, is_ok}
 use Rattle.std.proofs.Common.{◌≡◌, ◌↔◌, ℕ, List, refl, sym, subst}
 use Rattle.std.proofs.lemmas.Bool.{false≢true}
-use Rattle.rpki.specs.DecodeError.{DecodeError}
-use Rattle.rpki.specs.DecodeError.TheVariants as decoding
-use Rattle.rpki.specs.Place.{Place, Rejects, ReadsFrontBy, ReadsFrontOrMemoryBy, remaining}
+use Rattle.rpki_der.specs.declared.error.DecodeError.{DecodeError}
+use Rattle.rpki_der.specs.declared.error.DecodeError.TheVariants as decoding
+use Rattle.rpki_der.specs.Place.{Place, Rejects, ReadsFrontBy, ReadsFrontOrMemoryBy, remaining}
 use Rattle.rpki_files.specs.KnownKinds.{HasValue, SaysWhether}
 
 -- what follows from a rejection is rejected too

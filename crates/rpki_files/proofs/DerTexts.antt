@@ -3,12 +3,12 @@ use Rattle.std.specs.Str.{IsUtf8}
 use Rattle.std.proofs.Common.{◌≡◌, ◌+◌, ◌-◌, ◌<◌, ℕ, List, [], ◌∷◌, ◌++◌, length, get_or, refl, sym, ap, ◌∙◌, arith, append_assoc, append-nil, length-append, inl, inr}
 use Rattle.std.proofs.lemmas.List.{get_or-append_right}
 use Rattle.std.proofs.lemmas.Str.{lead_after_ascii}
-use Rattle.rpki.specs.Tags.{OBJECT_IDENTIFIER, SEQUENCE}
-use Rattle.rpki.specs.Values.{IsEnc, enc, length_octets}
-use Rattle.rpki.specs.Algorithms.{Algorithm, IsSignatureAlgorithm, algorithm_format, sha256_with_rsa}
-use Rattle.rpki.specs.Lists.{certificate_list_content_format, certificate_list_format}
-use Rattle.rpki.specs.SignedDatas.{SignedFields}
-use Rattle.rpki.specs.Skipping.{levels}
+use Rattle.rpki_der.specs.Tags.{OBJECT_IDENTIFIER, SEQUENCE}
+use Rattle.rpki_der.specs.Values.{IsEnc, enc, length_octets}
+use Rattle.rpki_parts.specs.Algorithms.{Algorithm, IsSignatureAlgorithm, algorithm_format, sha256_with_rsa}
+use Rattle.rpki_crl.specs.Lists.{certificate_list_content_format, certificate_list_format}
+use Rattle.rpki_parts.specs.SignedDatas.{SignedFields}
+use Rattle.rpki_der.specs.Skipping.{levels}
 use Rattle.rpki_parts.proofs.SignedFormats.{SignedParts, signed_parts}
 use Rattle.rpki_cert.proofs.CertificateParts.{certificate_parts}
 use Rattle.rpki_files.specs.Contents.{BeginsWithEither}

@@ -2,15 +2,15 @@
 use Rattle.std.specs.Prelude.{Result, Ok, Err, IfSome, IsSomeAnd, slice_get}
 use Rattle.std.specs.Result.{result_ok}
 use Rattle.std.proofs.Common.{◌≡◌, ℕ, List, [], ◌∷◌, refl, arith}
-use Rattle.rpki.specs.Encoding.{Means}
-use Rattle.rpki.specs.DecodeError.{DecodeError}
-use Rattle.rpki.specs.Place.{Place, remaining, ReadsFrontBy}
-use Rattle.rpki.specs.Tags.{SEQUENCE}
-use Rattle.rpki.specs.Values.{IsEnc}
+use Rattle.rpki_der.specs.Encoding.{Means}
+use Rattle.rpki_der.specs.declared.error.DecodeError.{DecodeError}
+use Rattle.rpki_der.specs.Place.{Place, remaining, ReadsFrontBy}
+use Rattle.rpki_der.specs.Tags.{SEQUENCE}
+use Rattle.rpki_der.specs.Values.{IsEnc}
 use Rattle.rpki_der.proofs.Formats.{unambiguous, one_meant, of_enc, same_enc}
-use Rattle.rpki.specs.Certificates.{certificate_content_format, tbs_content_format, version_format}
-use Rattle.rpki.specs.Lists.{certificate_list_content_format, certificate_list_format, list_content_format, list_format, version_2}
-use Rattle.rpki.specs.Skipping.{levels}
+use Rattle.rpki_cert.specs.Certificates.{certificate_content_format, tbs_content_format, version_format}
+use Rattle.rpki_crl.specs.Lists.{certificate_list_content_format, certificate_list_format, list_content_format, list_format, version_2}
+use Rattle.rpki_der.specs.Skipping.{levels}
 use Rattle.rpki_der.proofs.FormatLaws.{begins_so}
 use Rattle.rpki_parts.proofs.SignedFormats.{signed_parts}
 use Rattle.rpki_cert.proofs.CertificateFormats.{tbs_content_alone}

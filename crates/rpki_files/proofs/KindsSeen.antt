@@ -7,17 +7,16 @@ use Rattle.std.proofs.lemmas.Bool.{false≢true}
 use Rattle.std.proofs.lemmas.List.{append-nil}
 use Rattle.std.proofs.lemmas.List.Elements.{Contains-append_left, Contains-append_right}
 use Rattle.std.proofs.lemmas.Slice.Eq.{bytes_eq-Decides}
-use Rattle.rpki.specs.ExtensionKinds.{authority_key_identifier, crl_number, list_kinds}
-use Rattle.rpki.specs.Extensions.{Extension, IsExtension}
-use Rattle.rpki.specs.Kinds.{Tells, is_of}
-use Rattle.rpki.specs.KindTables.{identifiers_of}
-use Rattle.rpki.specs.ListExtensions.{GiveListExtensions, ListExtensions, with_any_flag}
-use Rattle.rpki.specs.Sequences.{AreEncodings, IsAtMostOne}
+use Rattle.rpki_ext.specs.ExtensionKinds.{authority_key_identifier, crl_number, list_kinds}
+use Rattle.rpki_der.specs.Extensions.{Extension, IsExtension, extension_format}
+use Rattle.rpki_ext.specs.Kinds.{Tells, is_of}
+use Rattle.rpki_ext.specs.KindTables.{identifiers_of}
+use Rattle.rpki_crl.specs.ListExtensions.{GiveListExtensions, ListExtensions, with_any_flag}
+use Rattle.rpki_der.specs.Sequences.{AreEncodings, IsAtMostOne}
 use Rattle.rpki_der.proofs.Choices.{sequence_reads}
 use Rattle.rpki_der.proofs.ExtensionReads.{extension_reads, extension_shrinks}
 use Rattle.rpki_der.proofs.Octets.{some, some_is}
-use Rattle.rpki.specs.Sequences.Reading.{sequence_of}
-use Rattle.rpki.specs.Extensions.{extension_format}
+use Rattle.rpki_der.specs.Sequences.Reading.{sequence_of}
 use Rattle.rpki_files.specs.KnownKinds.{HasContent}
 use Rattle.rpki_files.specs.StopPlaces.{AreComplete, AreOfKinds, AreWellPlaced, HasBoth, IsSecond, MayStand, MayStandBehind, kind_of}
 use Rattle.rpki_files.specs.declared.kinds.Kind.{Kind}

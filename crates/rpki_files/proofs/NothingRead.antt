@@ -2,10 +2,10 @@
 use Rattle.std.specs.Prelude.{IsTrue, is_some, Option, Some, None, Result, Ok, Err, IfOk}
 use Rattle.std.proofs.Common.{◌≡◌, ◌≢◌, ◌↔◌, ℕ, List, refl, sym, subst}
 use Rattle.std.proofs.lemmas.Bool.{false≢true}
-use Rattle.rpki.specs.Encoding.{Means}
-use Rattle.rpki.specs.Place.{Rejects}
-use Rattle.rpki.specs.DecodeError.{DecodeError}
-use Rattle.rpki.specs.DecodeError.TheVariants as decoding
+use Rattle.rpki_der.specs.Encoding.{Means}
+use Rattle.rpki_der.specs.Place.{Rejects}
+use Rattle.rpki_der.specs.declared.error.DecodeError.{DecodeError}
+use Rattle.rpki_der.specs.declared.error.DecodeError.TheVariants as decoding
 use Rattle.rpki_files.specs.Contents.{BeginsWithEither, FindsBefore, IsContent}
 use Rattle.rpki_files.specs.declared.contents.Content.{Content}
 use Rattle.rpki_files.specs.declared.contents.Content.TheVariants as content

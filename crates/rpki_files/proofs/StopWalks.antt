@@ -6,15 +6,15 @@ use Rattle.std.proofs.lemmas.List.{append-nil, take-append-drop, take-take, take
 use Rattle.std.proofs.Math.Nat.{eq-or-lt_of_le}
 use Rattle.std.proofs.lemmas.List.Edits.{length-between}
 use Rattle.bytes.proofs.Ranges.{drop-slice_range}
-use Rattle.rpki.specs.DecodeError.{DecodeError}
-use Rattle.rpki.specs.DecodeError.TheVariants as decoding
-use Rattle.rpki.specs.Encoding.{Begins}
-use Rattle.rpki.specs.Formats.{Format}
-use Rattle.rpki.specs.Place.{Place, EndsAt, IsWithin, Keeps, MovesOn, ReadsFrontBy, ReadsFrontOrMemoryBy, Rejects, remaining}
-use Rattle.rpki.specs.RevokedEntries.{AreEntries, Entry, Revoked, no_entries, revoked_format}
-use Rattle.rpki.specs.Sequences.{AreEncodings}
-use Rattle.rpki.specs.Tags.{SEQUENCE}
-use Rattle.rpki.specs.Values.{IsEnc}
+use Rattle.rpki_der.specs.declared.error.DecodeError.{DecodeError}
+use Rattle.rpki_der.specs.declared.error.DecodeError.TheVariants as decoding
+use Rattle.rpki_der.specs.Encoding.{Begins}
+use Rattle.rpki_der.specs.Formats.{Format}
+use Rattle.rpki_der.specs.Place.{Place, EndsAt, IsWithin, Keeps, MovesOn, ReadsFrontBy, ReadsFrontOrMemoryBy, Rejects, remaining}
+use Rattle.rpki_crl.specs.RevokedEntries.{AreEntries, Entry, Revoked, no_entries, revoked_format}
+use Rattle.rpki_der.specs.Sequences.{AreEncodings}
+use Rattle.rpki_der.specs.Tags.{SEQUENCE}
+use Rattle.rpki_der.specs.Values.{IsEnc}
 use Rattle.rpki_der.proofs.Answering.{certainly, rejects}
 use Rattle.rpki_der.proofs.Choices.{enc_begins}
 use Rattle.rpki_der.proofs.Places.{cut}

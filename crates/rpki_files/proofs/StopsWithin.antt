@@ -1,6 +1,6 @@
 -- A stop is at one of a file's octets, or right behind them.
 use Rattle.std.proofs.Common.{◌≡◌, ◌≤◌, ℕ, Bool, true, false, List, length, inl, inr, refl, ◌∙◌, arith}
-use Rattle.rpki.specs.Place.{Place}
+use Rattle.rpki_der.specs.Place.{Place}
 use Rattle.rpki_files.specs.StopPlaces.{Opens, Passes, ReadsToExtensions, StopsAmong, StopsAmongElements, StopsAt, StopsAtEntries, StopsAtExtension, StopsAtExtensions, StopsBefore, StopsBeforeExtensions, StopsBehind, StopsBehindSigned, StopsInSigned, StopsInside, whole}
 use Rattle.rpki_files.specs.declared.expected.Part.{Part}
 

@@ -4,10 +4,10 @@ use Rattle.std.specs.Prelude.{if◌then◌else◌, IsTrue, bytes_eq, Option, Som
 use Rattle.std.proofs.Common.{◌≡◌, ◌↔◌, ◌<◌, ◌+◌, ℕ, zero, suc, true, List, [], ◌∷◌, ◌++◌, length, take, drop, get_or, refl, sym, ap, subst, ◌∙◌, inl, inr, arith}
 use Rattle.std.proofs.lemmas.List.{at_drop_more}
 use Rattle.std.proofs.lemmas.Slice.Eq.{bytes_eq-Decides}
-use Rattle.rpki.specs.Encoding.{Begins}
-use Rattle.rpki.specs.Tags.{OBJECT_IDENTIFIER}
-use Rattle.rpki.specs.Values.{AreOctets, IsEnc}
-use Rattle.rpki.specs.Values.Reading.{◌>>=◌, value_at}
+use Rattle.rpki_der.specs.Encoding.{Begins}
+use Rattle.rpki_der.specs.Tags.{OBJECT_IDENTIFIER}
+use Rattle.rpki_der.specs.Values.{AreOctets, IsEnc}
+use Rattle.rpki_der.specs.Values.Reading.{◌>>=◌, value_at}
 use Rattle.rpki_der.proofs.Octets.{AreOctets-after, bind_some, if_some, nothing, some_is}
 use Rattle.rpki_der.proofs.ValueReads.{value_reads}
 use Rattle.rpki_files.specs.FileSorts.{BeginSo, IsFirstOf, type_octets}

@@ -2,12 +2,12 @@
 use Rattle.std.specs.Prelude.{◌↔◌, Bool, true, false, not, is_ok, IsTrue, MatchResult, Result, Ok, Err}
 use Rattle.std.proofs.Common.{◌≡◌, ◌++◌, List, ℕ, refl, sym, ap, subst, ◌∙◌, append_assoc}
 use Rattle.std.proofs.lemmas.Bool.{false≢true}
-use Rattle.rpki.specs.Algorithms.{Algorithm, algorithm_format}
-use Rattle.rpki.specs.DecodeError.{DecodeError}
-use Rattle.rpki.specs.Encoding.{Begins, Means}
-use Rattle.rpki.specs.Formats.{then}
-use Rattle.rpki.specs.Lists.{version_2}
-use Rattle.rpki.specs.Place.{Place, ReadsFrontBy, remaining}
+use Rattle.rpki_parts.specs.Algorithms.{Algorithm, algorithm_format}
+use Rattle.rpki_der.specs.declared.error.DecodeError.{DecodeError}
+use Rattle.rpki_der.specs.Encoding.{Begins, Means}
+use Rattle.rpki_der.specs.Formats.{then}
+use Rattle.rpki_crl.specs.Lists.{version_2}
+use Rattle.rpki_der.specs.Place.{Place, ReadsFrontBy, remaining}
 use Rattle.rpki_der.proofs.FormatAnswers.{alone_means, then_alone}
 use Rattle.rpki_der.proofs.Formats.{one_meant}
 use Rattle.rpki_der.proofs.RoundTrips.{begins_one}

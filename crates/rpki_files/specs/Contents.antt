@@ -1,12 +1,12 @@
 -- What the octets of a file begin with; what follows is ignored.
 use Rattle.std.specs.Prelude.{◌≡◌, ◌≢◌, ◌⊎◌, ℕ, Bool, List, ◌∷◌, length, Option, Some, None}
-use Rattle.rpki.specs.DecodeError.TheVariants as decoding
-use Rattle.rpki.specs.Encoding.{Begins, Means}
-use Rattle.rpki.specs.Tags.{SEQUENCE}
-use Rattle.rpki.specs.Values.{IsEnc}
-use Rattle.rpki.specs.Certificates.{CertFields, IsCertificate}
-use Rattle.rpki.specs.Lists.{CrlFields, IsCertificateList}
-use Rattle.rpki.specs.SaidKinds.{BeginsWithSaid}
+use Rattle.rpki_der.specs.declared.error.DecodeError.TheVariants as decoding
+use Rattle.rpki_der.specs.Encoding.{Begins, Means}
+use Rattle.rpki_der.specs.Tags.{SEQUENCE}
+use Rattle.rpki_der.specs.Values.{IsEnc}
+use Rattle.rpki_cert.specs.Certificates.{CertFields, IsCertificate}
+use Rattle.rpki_crl.specs.Lists.{CrlFields, IsCertificateList}
+use Rattle.rpki_cert.specs.SaidKinds.{BeginsWithSaid}
 use Rattle.rpki_files.specs.LocatorFiles.{AreLocator}
 use Rattle.rpki_files.specs.declared.bare.Front.{Front}
 use Rattle.rpki_files.specs.declared.bare.Front.TheVariants as front

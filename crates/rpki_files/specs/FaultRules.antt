@@ -2,28 +2,25 @@
 -- fault, in the order in which its type names them.
 use Prim.Native.String.{String}
 use Rattle.std.specs.Prelude.{◌≡◌, ◌↔◌, ◌==◌, ℕ, List, Bool, true, false, if◌then◌else◌, IsTrue, codes}
-use Rattle.rpki.specs.DecodeError.{DecodeError}
-use Rattle.rpki.specs.DecodeError.TheVariants as decoding
-use Rattle.rpki.specs.ErrorNames.{decode_error_name}
-use Rattle.rpki.specs.FaultNames.{path_fault_name}
-use Rattle.rpki.specs.Field.{Field}
-use Rattle.rpki.specs.Field.TheVariants as part
-use Rattle.rpki.specs.Inspection.{inspection_error_name}
-use Rattle.rpki.specs.InspectionError.{InspectionError}
-use Rattle.rpki.specs.InspectionError.TheVariants as inspection
-use Rattle.rpki.specs.PathFault.{PathFault}
-use Rattle.rpki.specs.PathFault.TheVariants as path
-use Rattle.rpki.specs.PublicKeyFormat.{PublicKeyFormat}
-use Rattle.rpki.specs.PublicKeyFormat.TheVariants.{Rsa, EcdsaP256}
-use Rattle.rpki.specs.Revocation.{revocation_error_name}
-use Rattle.rpki.specs.RevocationError.{RevocationError}
-use Rattle.rpki.specs.RevocationError.TheVariants as revocation
-use Rattle.rpki.specs.TalError.{TalError}
-use Rattle.rpki.specs.TalError.TheVariants as tal
-use Rattle.rpki.specs.TalErrors.{tal_error_name}
-use Rattle.rpki.specs.Verification.{verification_error_name}
-use Rattle.rpki.specs.VerificationError.{VerificationError}
-use Rattle.rpki.specs.VerificationError.TheVariants as verification
+use Rattle.rpki_der.specs.declared.error.DecodeError.{DecodeError}
+use Rattle.rpki_der.specs.declared.error.DecodeError.TheVariants as decoding
+use Rattle.rpki_der.specs.ErrorNames.{decode_error_name}
+use Rattle.rpki_der.specs.declared.error.Field.{Field}
+use Rattle.rpki_der.specs.declared.error.Field.TheVariants as part
+use Rattle.rpki_ext.specs.Inspection.{inspection_error_name}
+use Rattle.rpki_ext.specs.declared.inspection.InspectionError.{InspectionError}
+use Rattle.rpki_ext.specs.declared.inspection.InspectionError.TheVariants as inspection
+use Rattle.rpki_parts.specs.declared.key.PublicKeyFormat.{PublicKeyFormat}
+use Rattle.rpki_parts.specs.declared.key.PublicKeyFormat.TheVariants.{Rsa, EcdsaP256}
+use Rattle.rpki_crl.specs.Revocation.{revocation_error_name}
+use Rattle.rpki_crl.specs.declared.revocation_error.RevocationError.{RevocationError}
+use Rattle.rpki_crl.specs.declared.revocation_error.RevocationError.TheVariants as revocation
+use Rattle.rpki_tal.specs.declared.tal_error.TalError.{TalError}
+use Rattle.rpki_tal.specs.declared.tal_error.TalError.TheVariants as tal
+use Rattle.rpki_tal.specs.TalErrors.{tal_error_name}
+use Rattle.rpki_cert.specs.Verification.{verification_error_name}
+use Rattle.rpki_cert.specs.declared.verification_error.VerificationError.{VerificationError}
+use Rattle.rpki_cert.specs.declared.verification_error.VerificationError.TheVariants as verification
 use Rattle.rpki_files.specs.PolicyPresence.{HasPolicies}
 use Rattle.rpki_files.specs.declared.rules.Rule.{Rule}
 
@@ -204,41 +201,3 @@ IsReadingRule e octets r = (policies : Bool) × (IsTrue policies ↔ HasPolicies
 abbrev pub IsFileRule : Bool → DecodeError → List ℕ → RuleFields → Type 0
 IsFileRule true e octets r = r ≡ list_rule e
 IsFileRule false e octets r = IsReadingRule e octets r
-
--- ---- faults of a path
-
--- the step at which a fault comes, its name, and its rule
-pub record ReasonFields : Type 0 where
-  pub step : List ℕ
-  pub name : List ℕ
-  pub rule : RuleFields
-
--- of these
-abbrev pub reason : List ℕ → List ℕ → RuleFields → ReasonFields
-reason step name its_rule = record { step = step; name = name; rule = its_rule }
-
--- of a fault of the member with these octets
-abbrev pub IsReason : PathFault → List ℕ → ReasonFields → Type 0
-IsReason (path.Decode e) octets r =
-    (its_rule : RuleFields) × IsReadingRule e octets its_rule
-    × (r ≡ reason (codes "reading") (decode_error_name e) its_rule)
-IsReason (path.Inspect e) octets r = r ≡ reason (codes "profile") (inspection_error_name e) (inspection_rule e)
-IsReason (path.Verify e) octets r = r ≡ reason (codes "verification") (verification_error_name e) (verification_rule e)
-IsReason (path.Revocation e) octets r = r ≡ reason (codes "revocation") (revocation_error_name e) (revocation_rule e)
-IsReason path.Memory octets r = r ≡ reason (codes "memory") (path_fault_name path.Memory) no_memory
-
--- of a trust anchor whose key no locator has that is given
-abbrev pub locator_reason : ReasonFields
-locator_reason = reason (codes "locator") (codes "OtherKey") other_key
-
--- of a file that is given as a locator, and is none
-abbrev pub tal_reason : TalError → ReasonFields
-tal_reason e = reason (codes "locator") (tal_error_name e) (tal_rule e)
-
--- of the member at this place, where the path is valid but its names don't chain
-abbrev pub name_reason : ℕ → ReasonFields
-name_reason place = reason (codes "names") (codes "OtherName") (name_rule place)
-
--- of the last member's key, where the path is valid but that key can't be used
-abbrev pub key_reason : PublicKeyFormat → ReasonFields
-key_reason format = reason (codes "key") (codes "BadKey") (key_rule format)

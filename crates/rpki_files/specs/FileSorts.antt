@@ -1,9 +1,9 @@
 -- The sorts of files that are often given for certificates or lists, each by what its octets begin
 -- with. Which sorts these are is the project's own choice.
 use Rattle.std.specs.Prelude.{◌≡◌, ◌⊎◌, ℕ, IsTrue, List, [], ◌∷◌, Option, Some, None}
-use Rattle.rpki.specs.Encoding.{Begins}
-use Rattle.rpki.specs.Tags.{BIT_STRING, INTEGER, OBJECT_IDENTIFIER, OCTET_STRING, SEQUENCE, SET}
-use Rattle.rpki.specs.Values.{IsEnc}
+use Rattle.rpki_der.specs.Encoding.{Begins}
+use Rattle.rpki_der.specs.Tags.{BIT_STRING, INTEGER, OBJECT_IDENTIFIER, OCTET_STRING, SEQUENCE, SET}
+use Rattle.rpki_der.specs.Values.{IsEnc}
 use Rattle.rpki_files.specs.Contents.{BeginsWithEither}
 use Rattle.rpki_files.specs.LocatorFiles.{looks_like_locator}
 use Rattle.rpki_files.specs.PemFiles.{IsBareBase64, IsDamagedPem, IsUnendedPem}

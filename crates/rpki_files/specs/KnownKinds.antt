@@ -1,13 +1,13 @@
 -- The kinds of extensions that certificates and lists know, by their identifiers.
 use Rattle.std.specs.Prelude.{ℕ, Bool, true, false, if◌then◌else◌, List, [], ◌∷◌, ◌++◌, bytes_eq, codes, Result, Ok, Err}
-use Rattle.rpki.specs.Addresses.{IsIPAddrBlocks}
-use Rattle.rpki.specs.DecodeError.{DecodeError}
-use Rattle.rpki.specs.Encoding.{Means}
-use Rattle.rpki.specs.ExtensionKinds.{basic_constraints, subject_key_identifier, authority_key_identifier, key_usage, extended_key_usage, crl_distribution_points, authority_information_access, subject_information_access, certificate_policies, ip_resources, as_resources, crl_number}
-use Rattle.rpki.specs.Kinds.{Flag, IsFlagFor, required}
-use Rattle.rpki.specs.Overclaim.TheVariants.{Refuse, Trim}
-use Rattle.rpki.specs.Place.{Rejects}
-use Rattle.rpki.specs.Systems.{IsASIdentifiers}
+use Rattle.rpki_blocks.specs.Addresses.{IsIPAddrBlocks}
+use Rattle.rpki_der.specs.declared.error.DecodeError.{DecodeError}
+use Rattle.rpki_der.specs.Encoding.{Means}
+use Rattle.rpki_ext.specs.ExtensionKinds.{basic_constraints, subject_key_identifier, authority_key_identifier, key_usage, extended_key_usage, crl_distribution_points, authority_information_access, subject_information_access, certificate_policies, ip_resources, as_resources, crl_number}
+use Rattle.rpki_ext.specs.Kinds.{Flag, IsFlagFor, required}
+use Rattle.rpki_blocks.specs.declared.overclaim.Overclaim.TheVariants.{Refuse, Trim}
+use Rattle.rpki_der.specs.Place.{Rejects}
+use Rattle.rpki_blocks.specs.Systems.{IsASIdentifiers}
 use Rattle.rpki_files.specs.declared.kinds.Kind.{Kind}
 use Rattle.rpki_files.specs.declared.kinds.Kind.TheVariants as known
 

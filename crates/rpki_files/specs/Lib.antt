@@ -2,7 +2,6 @@
 pub mod PemFiles
 pub mod Files
 pub mod Contents
-pub mod SaidKinds
 pub mod LocatorFiles
 pub mod StopPlaces
 pub mod PolicyPresence

@@ -1,14 +1,14 @@
 -- Whether octets that are built as a certificate is have Certificate Policies, be it one of the
 -- profile or not, or an extension that only certificates of the RPKI have.
 use Rattle.std.specs.Prelude.{◌≡◌, ◌⊎◌, ℕ, List, [], ◌∷◌}
-use Rattle.rpki.specs.Encoding.{Begins, Means}
-use Rattle.rpki.specs.Extensions.{Extension, IsExtension}
-use Rattle.rpki.specs.ExtensionKinds.{as_resources, certificate_policies, ip_resources}
-use Rattle.rpki.specs.Overclaim.TheVariants.{Refuse, Trim}
-use Rattle.rpki.specs.Reading.{Inside}
-use Rattle.rpki.specs.Sequences.{AreEncodings}
-use Rattle.rpki.specs.Tags.{INTEGER, SEQUENCE}
-use Rattle.rpki.specs.Values.{IsEnc}
+use Rattle.rpki_der.specs.Encoding.{Begins, Means}
+use Rattle.rpki_der.specs.Extensions.{Extension, IsExtension}
+use Rattle.rpki_ext.specs.ExtensionKinds.{as_resources, certificate_policies, ip_resources}
+use Rattle.rpki_blocks.specs.declared.overclaim.Overclaim.TheVariants.{Refuse, Trim}
+use Rattle.rpki_der.specs.Reading.{Inside}
+use Rattle.rpki_der.specs.Sequences.{AreEncodings}
+use Rattle.rpki_der.specs.Tags.{INTEGER, SEQUENCE}
+use Rattle.rpki_der.specs.Values.{IsEnc}
 use Rattle.rpki_files.specs.KnownKinds.{HasContent}
 use Rattle.rpki_files.specs.declared.kinds.Kind.TheVariants as known
 use Rattle.rpki_files.specs.declared.policies.Wanted.{Wanted}

@@ -2,27 +2,27 @@
 -- of the file. What stands before that octet was read as the parts before; from there on no value of
 -- the part begins, or the one that begins may not stand there (RFC 5280 4.1, 5.1, RFC 6487 4, 5).
 use Rattle.std.specs.Prelude.{◌≡◌, ◌≢◌, ◌≤◌, ◌<◌, ◌⊎◌, ℕ, Bool, true, false, List, [], ◌∷◌, ◌++◌, Contains, length, map, slice_range, Result, Ok, Err}
-use Rattle.rpki.specs.Algorithms.{Algorithm, algorithm_format}
-use Rattle.rpki.specs.BasicFormats.{serial_format, time_format}
-use Rattle.rpki.specs.CertificateExtensions.{ExtensionFields}
-use Rattle.rpki.specs.CertificateExtensions as certificate
-use Rattle.rpki.specs.Certificates.{version_format}
-use Rattle.rpki.specs.DecodeError.{DecodeError}
-use Rattle.rpki.specs.Encoding.{Begins, BeginsOther, Means}
-use Rattle.rpki.specs.Extensions.{Extension, IsExtension, extension_format}
-use Rattle.rpki.specs.Formats.{Format, then}
-use Rattle.rpki.specs.Keys.{public_key_format}
-use Rattle.rpki.specs.ListExtensions.{ListExtensions}
-use Rattle.rpki.specs.ListExtensions as list
-use Rattle.rpki.specs.Lists.{version_2}
-use Rattle.rpki.specs.Names.{name_format}
-use Rattle.rpki.specs.Place.{Place, EndsAt, IsWithin, MovesOn, Rejects, remaining}
-use Rattle.rpki.specs.RevokedEntries.{Entry, AreEntries, entry_format, revoked_format}
-use Rattle.rpki.specs.Sequences.{AreEncodings}
-use Rattle.rpki.specs.Skipping.{levels}
-use Rattle.rpki.specs.Tags.{CONTEXT_CONSTRUCTED, SEQUENCE}
-use Rattle.rpki.specs.Validities.{validity_format}
-use Rattle.rpki.specs.Values.{IsEnc}
+use Rattle.rpki_parts.specs.Algorithms.{Algorithm, algorithm_format}
+use Rattle.rpki_der.specs.BasicFormats.{serial_format, time_format}
+use Rattle.rpki_ext.specs.CertificateExtensions.{ExtensionFields}
+use Rattle.rpki_ext.specs.CertificateExtensions as certificate
+use Rattle.rpki_cert.specs.Certificates.{version_format}
+use Rattle.rpki_der.specs.declared.error.DecodeError.{DecodeError}
+use Rattle.rpki_der.specs.Encoding.{Begins, BeginsOther, Means}
+use Rattle.rpki_der.specs.Extensions.{Extension, IsExtension, extension_format}
+use Rattle.rpki_der.specs.Formats.{Format, then}
+use Rattle.rpki_parts.specs.Keys.{public_key_format}
+use Rattle.rpki_crl.specs.ListExtensions.{ListExtensions}
+use Rattle.rpki_crl.specs.ListExtensions as list
+use Rattle.rpki_crl.specs.Lists.{version_2}
+use Rattle.rpki_parts.specs.Names.{name_format}
+use Rattle.rpki_der.specs.Place.{Place, EndsAt, IsWithin, MovesOn, Rejects, remaining}
+use Rattle.rpki_crl.specs.RevokedEntries.{Entry, AreEntries, entry_format, revoked_format}
+use Rattle.rpki_der.specs.Sequences.{AreEncodings}
+use Rattle.rpki_der.specs.Skipping.{levels}
+use Rattle.rpki_der.specs.Tags.{CONTEXT_CONSTRUCTED, SEQUENCE}
+use Rattle.rpki_parts.specs.Validities.{validity_format}
+use Rattle.rpki_der.specs.Values.{IsEnc}
 use Rattle.rpki_files.specs.KnownKinds.{HasContent, MayHaveFlag, known_kind}
 use Rattle.rpki_files.specs.PartTexts.{part_text}
 use Rattle.rpki_files.specs.declared.expected.Field.{Field}

@@ -1,16 +1,16 @@
 //! Objects of many files, of which only the octets are kept.
 ghost use Rattle.std.specs.Prelude.{◌≡◌, ◌↔◌, ℕ, List, IfOk, IfSome, IsTrue, MatchOption};
-ghost use Rattle.rpki.specs.Certificates.{CertFields, IsCertificate};
-ghost use Rattle.rpki.specs.Encoding.{Means};
-ghost use Rattle.rpki.specs.Lists.{IsCertificateList};
+ghost use Rattle.rpki_cert.specs.Certificates.{CertFields, IsCertificate};
+ghost use Rattle.rpki_der.specs.Encoding.{Means};
+ghost use Rattle.rpki_crl.specs.Lists.{IsCertificateList};
 ghost use Rattle.rpki_files.specs.Contents.{BeginsWithCertificate, BeginsWithEither, BeginsWithList, IsContent, IsFront};
 ghost use Rattle.rpki_files.specs.PemFiles.{IsObjectOf};
 
 use crate::contents::{Content, read_content};
 use crate::files::object_octets;
 use bytes::Bytes;
-use rpki::repository::folder::Said;
-use rpki::repository::{Cert, Crl};
+use rpki_cert::{Cert, Said};
+use rpki_crl::Crl;
 use std::alloc::{AllocError, Global};
 use std::marker::Model;
 

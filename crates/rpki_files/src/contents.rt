@@ -1,17 +1,18 @@
 //! What octets begin with: a certificate, a revocation list, or neither.
 ghost use Rattle.std.specs.Prelude.{◌≡◌, ◌≢◌, ◌↔◌, ℕ, List, IsSomeAnd, IfOk, IfSome};
-ghost use Rattle.rpki.specs.Encoding.{Means};
-ghost use Rattle.rpki.specs.Place.{MeansOrMemoryBy, remaining};
-ghost use Rattle.rpki.specs.Tags.{SEQUENCE};
-ghost use Rattle.rpki.specs.Values.{IsEnc};
-ghost use Rattle.rpki.specs.Certificates.{IsCertificate};
-ghost use Rattle.rpki.specs.DecodeError.TheVariants as decoding;
-ghost use Rattle.rpki.specs.Lists.{IsCertificateList};
+ghost use Rattle.rpki_der.specs.Encoding.{Means};
+ghost use Rattle.rpki_der.specs.Place.{MeansOrMemoryBy, remaining};
+ghost use Rattle.rpki_der.specs.Tags.{SEQUENCE};
+ghost use Rattle.rpki_der.specs.Values.{IsEnc};
+ghost use Rattle.rpki_cert.specs.Certificates.{IsCertificate};
+ghost use Rattle.rpki_der.specs.declared.error.DecodeError.TheVariants as decoding;
+ghost use Rattle.rpki_crl.specs.Lists.{IsCertificateList};
 ghost use Rattle.rpki_files.specs.Contents.{BeginsBefore, BeginsWithCertificate, BeginsWithList, HasFirstInside, IsContent, LooksLikeList};
 
 use bytes::Bytes;
-use rpki::der::{Cursor, DecodeError};
-use rpki::repository::{Cert, Crl};
+use rpki_cert::Cert;
+use rpki_crl::Crl;
+use rpki_der::{Cursor, DecodeError};
 use std::alloc::{AllocError, Global};
 
 /// What the octets begin as.

@@ -1,8 +1,8 @@
 //! Files: in DER or in PEM, with what their octets begin with.
 ghost use Rattle.std.specs.List.{starts_with};
 ghost use Rattle.std.specs.Prelude.{◌≡◌, ◌≢◌, ◌↔◌, ◌++◌, ℕ, nat_eq, List, IsTrue, IfOk, MatchOption};
-ghost use Rattle.rpki.specs.Certificates.{IsCertificate};
-ghost use Rattle.rpki.specs.Lists.{IsCertificateList};
+ghost use Rattle.rpki_cert.specs.Certificates.{IsCertificate};
+ghost use Rattle.rpki_crl.specs.Lists.{IsCertificateList};
 ghost use Rattle.rpki_files.specs.Contents.{BeginsWithEither, BeginsWithList, FindsBefore, IsContent};
 ghost use Rattle.rpki_files.specs.FileSorts.{IsToldSort};
 ghost use Rattle.rpki_files.specs.PemFiles.{HasBase64, HasBeginLine, IsBareBase64, IsDamagedPem, IsObjectOf, IsPemOf, IsUnendedPem, begin_line, byte_order_mark, is_begin_line, is_end_line};
@@ -10,8 +10,9 @@ ghost use Rattle.rpki_files.specs.PemFiles.{HasBase64, HasBeginLine, IsBareBase6
 use crate::contents::{Content, read_content};
 use crate::sorts::{Sort, sort_of};
 use bytes::Bytes;
-use rpki::base64::{octets_of, push_digits};
-use rpki::repository::{Cert, Crl};
+use rpki_cert::Cert;
+use rpki_crl::Crl;
+use rpki_tal::{octets_of, push_digits};
 use std::alloc::{AllocError, Global};
 use std::marker::Model;
 

@@ -1,18 +1,16 @@
 //! The kinds of extensions: their names, and whether one may stand as it stands.
 ghost use Rattle.std.specs.Prelude.{◌≡◌, ◌++◌, ◌↔◌, IsTrue, IsOk, MatchResult};
-ghost use Rattle.rpki.specs.Place.{remaining};
+ghost use Rattle.rpki_der.specs.Place.{remaining};
 ghost use Rattle.rpki_files.specs.KnownKinds.{kind_among, place_kinds, resource_kinds, known_in_certificates, known_in_lists, known_kind, kind_name, kind_wanted, HasContent, MayHaveFlag, SaysWhether};
 ghost use Rattle.rpki_files.specs.declared.kinds.Kind.TheVariants.{Unknown, NoList};
 
-use rpki::der::{Cursor, DecodeError};
-use rpki::oid;
-use rpki::repository::extension::{
+use rpki_blocks::{AsResources, IpResources};
+use rpki_der::{Cursor, DecodeError, Serial, oid};
+use rpki_ext::{
     take_authority_information_access, take_authority_key_identifier, take_basic_constraints,
     take_certificate_policies, take_crl_distribution_points, take_extended_key_usage,
     take_key_usage, take_subject_information_access, take_subject_key_identifier,
 };
-use rpki::repository::resources::{AsResources, IpResources};
-use rpki::repository::x509::Serial;
 use std::alloc::Global;
 
 /// The kinds that certificates and lists know. Resources have two identifiers (RFC 8360 4.2).

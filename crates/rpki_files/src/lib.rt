@@ -12,7 +12,6 @@ mod locators;
 mod places;
 mod policies;
 pub mod rules;
-mod saying;
 mod sorts;
 
 pub use bare::{BareObject, Front, read_bare_object};
@@ -21,5 +20,4 @@ pub use files::{Object, read_object};
 pub use locators::{looks_like_locator, read_locator};
 pub use places::{Place, place_of};
 pub use policies::extensions_in;
-pub use saying::{is_router, kind_of, said_kind};
 pub use sorts::{Description, Sort, describe};

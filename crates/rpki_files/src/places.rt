@@ -1,15 +1,15 @@
 //! Where the reading of a file stops.
 ghost use Rattle.std.specs.Prelude.{◌≡◌, ◌≢◌, ◌≤◌, ◌<◌, ◌↔◌, ◌++◌, ◌∷◌, ◌+◌, false, true, false, List, [], length, map, Contains, IfErr, IfOk, IsErr, IsTrue, MatchResult, OnOk};
-ghost use Rattle.rpki.specs.Algorithms.{Algorithm};
-ghost use Rattle.rpki.specs.DecodeError.TheVariants as decoding;
-ghost use Rattle.rpki.specs.Extensions.{Extension, IsExtension};
-ghost use Rattle.rpki.specs.Certificates.{version_format};
-ghost use Rattle.rpki.specs.Lists.{version_2};
-ghost use Rattle.rpki.specs.Place.{Keeps, remaining};
-ghost use Rattle.rpki.specs.Place.Reading.{Took};
-ghost use Rattle.rpki.specs.Values.{AreOctets};
-ghost use Rattle.rpki.specs.RevokedEntries.{AreEntries, Entry, IsEntry, entry_format};
-ghost use Rattle.rpki.specs.Tags.{SEQUENCE};
+ghost use Rattle.rpki_parts.specs.Algorithms.{Algorithm};
+ghost use Rattle.rpki_der.specs.declared.error.DecodeError.TheVariants as decoding;
+ghost use Rattle.rpki_der.specs.Extensions.{Extension, IsExtension};
+ghost use Rattle.rpki_cert.specs.Certificates.{version_format};
+ghost use Rattle.rpki_crl.specs.Lists.{version_2};
+ghost use Rattle.rpki_der.specs.Place.{Keeps, remaining};
+ghost use Rattle.rpki_der.specs.Place.Reading.{Took};
+ghost use Rattle.rpki_der.specs.Values.{AreOctets};
+ghost use Rattle.rpki_crl.specs.RevokedEntries.{AreEntries, Entry, IsEntry, entry_format};
+ghost use Rattle.rpki_der.specs.Tags.{SEQUENCE};
 ghost use Rattle.rpki_files.specs.KnownKinds.{SaysWhether, known_kind};
 ghost use Rattle.rpki_files.specs.PartTexts.{part_text};
 ghost use Rattle.rpki_files.specs.StopPlaces.{AlgorithmsDiffer, AnswersWhether, AreComplete, AreFields, AreIncomplete, AreOfKinds, EncodesSome, HasAlgorithm, HasBoth, HasOther, HasTag, IsField, IsNext, IsSecond, IsStop, IsStopPlace, MayStand, MayStandAs, Opens, Passes, ReadsAlgorithm, ReadsEntries, ReadsExtensions, ReadsSigned, ReadsToExtensions, StopsAmong, StopsAmongElements, StopsAt, StopsAtAlgorithm, StopsAtEntries, StopsAtExtension, StopsAtExtensions, StopsBefore, StopsBeforeExtensions, StopsBehind, StopsInEntries, StopsInExtensions, StopsInSigned, StopsInside, extensions_tag, kind_of};
@@ -17,12 +17,11 @@ ghost use Rattle.rpki_files.specs.StopPlaces.{AlgorithmsDiffer, AnswersWhether, 
 use crate::expected::{Field, Part};
 use crate::kinds::{Kind, without_value};
 use bytes::Bytes;
-use rpki::comparing::parts::equal_algorithms;
-use rpki::crypto::{PublicKey, RpkiSignatureAlgorithm};
-use rpki::der::{Cursor, DecodeError, tag, take_extension};
-use rpki::repository::crl::CrlEntry;
-use rpki::repository::extension::Extensions;
-use rpki::repository::x509::{Name, Serial, Time, Validity};
+use rpki_crl::CrlEntry;
+use rpki_der::{Cursor, DecodeError, Serial, Time, tag, take_extension};
+use rpki_ext::Extensions;
+use rpki_parts::comparing::equal_algorithms;
+use rpki_parts::{Name, PublicKey, RpkiSignatureAlgorithm, Validity};
 use std::alloc::{AllocError, Global};
 
 /// The part at which reading stops, the octet of the file at which it stops, and what is wanted

@@ -1,17 +1,16 @@
 //! The extensions of octets that are built as a certificate is, and whether Certificate Policies are
 //! among them.
 ghost use Rattle.std.specs.Prelude.{◌≡◌, ◌↔◌, IsTrue, option_map};
-ghost use Rattle.rpki.specs.Place.{remaining};
-ghost use Rattle.rpki.specs.Values.Reading.{value_at};
+ghost use Rattle.rpki_der.specs.Place.{remaining};
+ghost use Rattle.rpki_der.specs.Values.Reading.{value_at};
 ghost use Rattle.rpki_files.specs.KnownKinds.{HasContent};
 ghost use Rattle.rpki_files.specs.PolicyPresence.{AreExtensions, BeginsWithOne, HasPolicies, IsOneOf, IsOtherCertificate, IsWanted, resource_identifiers};
 ghost use Rattle.rpki_files.specs.PolicyPresence.Reading.{extensions_at, rest_at};
 
 use crate::kinds::Kind;
 use bytes::Bytes;
-use rpki::der::{Cursor, tag, take_extension};
-use rpki::oid;
-use rpki::repository::extension::take_certificate_policies;
+use rpki_der::{Cursor, oid, tag, take_extension};
+use rpki_ext::take_certificate_policies;
 
 // The content of the value with this identifier octet that stands next.
 pub(crate) fn content<'a>(fields: &mut Cursor<'a>, identifier: u8) -> Option<Cursor<'a>>

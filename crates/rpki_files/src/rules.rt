@@ -1,15 +1,14 @@
 //! What a fault means for a person, and the section of the standard that it breaks.
 ghost use Rattle.std.specs.Prelude.{◌≡◌};
-ghost use Rattle.rpki_files.specs.FaultRules.{IsFileRule, IsReadingRule, IsReason, field_section, inspection_rule, key_rule, list_rule, name_rule, no_memory, other_key, reading_rule, reason, revocation_rule, rule_of, tal_rule, verification_rule};
+ghost use Rattle.rpki_files.specs.FaultRules.{IsFileRule, IsReadingRule, field_section, inspection_rule, key_rule, list_rule, name_rule, no_memory, other_key, reading_rule, revocation_rule, rule_of, tal_rule, verification_rule};
 
 use crate::policies::has_policies;
 use bytes::Bytes;
-use rpki::crypto::PublicKeyFormat;
-use rpki::der::{DecodeError, Field};
-use rpki::repository::crl::RevocationError;
-use rpki::repository::error::{InspectionError, VerificationError};
-use rpki::repository::path::PathFault;
-use rpki::repository::tal::TalError;
+use rpki_cert::{InspectionError, VerificationError};
+use rpki_crl::RevocationError;
+use rpki_der::{DecodeError, Field};
+use rpki_parts::PublicKeyFormat;
+use rpki_tal::TalError;
 
 /// A sentence, and the section that asks it.
 #[derive(Clone, Copy)]
@@ -36,7 +35,8 @@ fn meaning(says: &'static str, section: &'static str) -> Rule
     Rule { says, section }
 }
 
-fn out_of_memory() -> Rule
+/// Tells what it means that memory ran out.
+pub fn out_of_memory() -> Rule
     ensures { rule_of result ≡ no_memory }
 {
     meaning("out of memory", "no section")
@@ -253,20 +253,5 @@ pub fn of_file(fault: &DecodeError, octets: &Bytes, is_list: bool) -> Rule
         of_list(fault)
     } else {
         of_reading(fault, octets)
-    }
-}
-
-/// Tells of a fault of a path's member, which has these octets, at which step it came, its name,
-/// and what it means.
-pub fn of_path(fault: &PathFault, octets: &Bytes) -> (&'static str, &'static str, Rule)
-    ensures { let answer = reason result.0.now result.1.now (rule_of result.2) in
-        IsReason fault.now octets.now answer }
-{
-    match fault {
-        PathFault::Decode(fault) => ("reading", fault.name(), of_reading(fault, octets)),
-        PathFault::Inspect(fault) => ("profile", fault.name(), of_inspection(*fault)),
-        PathFault::Verify(fault) => ("verification", fault.name(), of_verification(fault)),
-        PathFault::Revocation(fault) => ("revocation", fault.name(), of_revocation(fault)),
-        PathFault::Memory => ("memory", fault.name(), out_of_memory()),
     }
 }

@@ -1,6 +1,6 @@
 //! The sorts of files that are often given for certificates or lists, and what is said of them.
 ghost use Rattle.std.specs.Prelude.{◌≡◌, ◌↔◌, option_map, IfOk, IsTrue};
-ghost use Rattle.rpki.specs.Place.{remaining};
+ghost use Rattle.rpki_der.specs.Place.{remaining};
 ghost use Rattle.rpki_files.specs.FileSorts.{BeginSo, IsOfSort, IsSortOf, type_octets};
 ghost use Rattle.rpki_files.specs.FileSorts.Reading.{turned};
 ghost use Rattle.rpki_files.specs.SortTexts.{description};
@@ -9,7 +9,7 @@ use crate::files::{is_bare_base64, is_damaged_pem, is_unended_pem};
 use crate::locators::looks_like_locator;
 use crate::policies::{content, is_other_certificate};
 use bytes::Bytes;
-use rpki::der::{Cursor, tag};
+use rpki_der::{Cursor, tag};
 use std::alloc::{AllocError, Global};
 
 /// A sort of file that holds neither a certificate of the RPKI nor a revocation list.

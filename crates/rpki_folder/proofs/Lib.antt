@@ -1,4 +1,3 @@
-pub mod SaidOnce
 pub mod PathsDown
 pub mod Outcomes
 pub mod Descent

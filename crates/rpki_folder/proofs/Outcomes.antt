@@ -13,10 +13,10 @@ use Rattle.rpki_path.specs.declared.path_fault.PathFault.{PathFault}
 use Rattle.rpki_path.specs.Paths.{Candidate, candidate}
 use Rattle.rpki_path.specs.Judging.{IsRouterIfAny}
 use Rattle.rpki_folder.specs.Folders.{octets_at, cas_at, NamesSigner}
-use Rattle.rpki_folder.specs.SaidKinds.{BeginsWithKind}
+use Rattle.rpki_cert.specs.SaidKinds.{BeginsWithKind}
 use Rattle.rpki_folder.specs.Walks.{Root, members_at, LeadsTo, IsAcceptedAs, IsReached, IsRightOf}
 use Rattle.rpki_folder.specs.Walks.Steps.{IsAnswer, GoesOn, IsOutcome}
-use Rattle.rpki_folder.proofs.SaidOnce.{begins_one}
+use Rattle.rpki_cert.proofs.SaidOnce.{begins_one}
 use Rattle.rpki_folder.proofs.PathsDown.{members_more, leads_further, no_fault, names_signer, says_authority, no_router_fault, router_names_signer}
 
 -- the first of these places

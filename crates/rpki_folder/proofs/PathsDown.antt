@@ -26,9 +26,9 @@ use Rattle.rpki_path.proofs.ValidPaths.{one_more}
 use Rattle.rpki_path.proofs.Rejections.{one_path, GoesOn, goes_on, fault_there, no_valid_path}
 use Rattle.rpki_path.proofs.Verdicts.{wrong_below}
 use Rattle.rpki_folder.specs.Folders.{octets_at, cas_at, NamesSigner}
-use Rattle.rpki_folder.specs.SaidKinds.{BeginsWithKind}
+use Rattle.rpki_cert.specs.SaidKinds.{BeginsWithKind}
 use Rattle.rpki_folder.specs.Walks.{Root, members_at, LeadsTo}
-use Rattle.rpki_folder.proofs.SaidOnce.{authority_says}
+use Rattle.rpki_cert.proofs.SaidOnce.{authority_says}
 
 -- ---- members at places
 

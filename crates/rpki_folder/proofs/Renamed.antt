@@ -5,7 +5,7 @@ use Rattle.rpki_cert.specs.declared.inspect.Kind.TheVariants.{Authority}
 use Rattle.rpki_revocation.specs.Asking.{RevocationChecks}
 use Rattle.rpki_path.specs.Paths.{Candidate, candidate}
 use Rattle.rpki_folder.specs.Folders.{octets_at, cas_at}
-use Rattle.rpki_folder.specs.SaidKinds.{BeginsWithKind}
+use Rattle.rpki_cert.specs.SaidKinds.{BeginsWithKind}
 use Rattle.rpki_folder.specs.Walks.{Root, members_at, IsAcceptedAs, IsReached}
 
 module _ (certs others : List (List ℕ)) (moved : ℕ → ℕ) (same : (place : ℕ) → octets_at others (moved place) ≡ octets_at certs place) where

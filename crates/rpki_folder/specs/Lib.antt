@@ -1,4 +1,3 @@
-pub mod SaidKinds
 pub mod KeyTables
 pub mod Folders
 pub mod IssuerLists

@@ -16,7 +16,7 @@ use Rattle.rpki_path.specs.Paths.Steps.{demand_under}
 use Rattle.rpki_path.specs.Routers.{router_demand}
 use Rattle.rpki_path.specs.Judging.{IsRouterIfAny}
 use Rattle.rpki_path.specs.LocatedPaths.{IsAcceptedFrom, IsLocatedFault, IsOutOfMemory}
-use Rattle.rpki_folder.specs.SaidKinds.{BeginsWithKind}
+use Rattle.rpki_cert.specs.SaidKinds.{BeginsWithKind}
 use Rattle.rpki_folder.specs.Folders.{octets_at, cas_at, NamesSigner}
 use Rattle.rpki_folder.specs.declared.bounds.Ended.{Ended}
 use Rattle.rpki_folder.specs.declared.bounds.Ended.TheVariants.{Whole, TooDeep, OutOfSteps}

@@ -2,11 +2,10 @@
 ghost use Rattle.std.specs.Prelude.{◌≡◌, IfOk};
 ghost use Rattle.rpki_ext.specs.Kinds.{Means};
 ghost use Rattle.rpki_cert.specs.Certificates.{IsCertificate};
-ghost use Rattle.rpki_folder.specs.SaidKinds.{BeginsWithSaid};
+ghost use Rattle.rpki_cert.specs.SaidKinds.{BeginsWithSaid};
 
-use crate::saying::Said;
 use bytes::Bytes;
-use rpki_cert::Cert;
+use rpki_cert::{Cert, Said};
 use rpki_path::Member;
 use std::alloc::{AllocError, Global};
 use std::marker::Model;
@@ -22,7 +21,7 @@ pub struct Filed {
 
 impl Model for Filed {
     ghost use Rattle.std.specs.Prelude.{ℕ, List};
-    ghost use Rattle.rpki_folder.specs.SaidKinds.{BeginsWithSaid};
+    ghost use Rattle.rpki_cert.specs.SaidKinds.{BeginsWithSaid};
 
     ghost Value = { List ℕ };
 

@@ -5,13 +5,12 @@ ghost use Rattle.rpki_cert.specs.Certificates.{CertFields, IsCertificate};
 ghost use Rattle.rpki_der.specs.declared.error.DecodeError.TheVariants.{Memory};
 ghost use Rattle.rpki_folder.specs.Folders.{empty, with_cert, with_list, ArePlacesOf, IsAdded};
 ghost use Rattle.rpki_folder.specs.KeyTables.{list_places};
-ghost use Rattle.rpki_folder.specs.SaidKinds.{BeginsWithSaid};
+ghost use Rattle.rpki_cert.specs.SaidKinds.{BeginsWithSaid};
 
 use crate::filed::Filed;
 use crate::keys::KeyTable;
-use crate::saying::Said;
 use bytes::Bytes;
-use rpki_cert::{Cert, laws};
+use rpki_cert::{Cert, Said, laws};
 use rpki_crl::Crl;
 use rpki_der::DecodeError;
 use rpki_parts::KeyIdentifier;

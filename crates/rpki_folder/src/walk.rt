@@ -423,7 +423,7 @@ impl<'w, A: Admission, V: Verifier> Walk<'w, A, V> {
 
     /// Walks below an issuer that was validated before. Each certificate of the folder that names the
     /// key of an accepted CA as the one that signs it, and that is let in there, is judged as what it
-    /// says that it is ([`crate::said_kind`]), and the visitor is told the verdict: that of
+    /// says that it is ([`rpki_cert::said_kind`]), and the visitor is told the verdict: that of
     /// [`rpki_path::judge`] on the path that leads to it, with the folder's lists. Certificates of one
     /// key, as renewals that lie side by side, are each judged, and so are those below each of them.
     /// Returns whether everything was looked at; a bound that was met is told. Errs where memory runs

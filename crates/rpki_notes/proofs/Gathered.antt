@@ -2,13 +2,13 @@
 use Rattle.std.specs.List.{flat_map}
 use Rattle.std.proofs.Common.{◌≡◌, ℕ, List, [], ◌∷◌, ◌++◌, map, Some, None, refl, sym, ap, subst, ◌∙◌, append_assoc, arith}
 use Rattle.std.proofs.lemmas.List.{append-nil, map-append}
-use Rattle.rpki.specs.CertificateExtensions.{ExtensionFields}
-use Rattle.rpki.specs.Encoding.{Begins}
-use Rattle.rpki.specs.Extensions.{Extension, IsExtension, extension_format}
-use Rattle.rpki.specs.Sequences.{AreEncodings}
-use Rattle.rpki.specs.NameTexts.Reading.{values_in}
-use Rattle.rpki.specs.Sequences.Reading.{Shrinks}
-use Rattle.rpki.specs.Values.Reading.{value_at}
+use Rattle.rpki_ext.specs.CertificateExtensions.{ExtensionFields}
+use Rattle.rpki_der.specs.Encoding.{Begins}
+use Rattle.rpki_der.specs.Extensions.{Extension, IsExtension, extension_format}
+use Rattle.rpki_der.specs.Sequences.{AreEncodings}
+use Rattle.rpki_parts.specs.NameTexts.Reading.{values_in}
+use Rattle.rpki_der.specs.Sequences.Reading.{Shrinks}
+use Rattle.rpki_der.specs.Values.Reading.{value_at}
 use Rattle.rpki_der.proofs.ValueReads.{value_shorter}
 use Rattle.rpki_parts.proofs.NameTexts.{no_values, one_value}
 use Rattle.rpki_notes.specs.Facts.{FactFields, fact_view, facts_in, facts_of}

@@ -2,7 +2,7 @@
 use Rattle.std.specs.Int.Digits.{number_from_digits}
 use Rattle.std.proofs.Common.{◌≡◌, ◌↔◌, ◌≤◌, ◌^◌, ◌*◌, ◌+◌, ◌<◌, ℕ, List, [], ◌∷◌, length, get_or, ap, subst, zero-add, arith}
 use Rattle.std.proofs.lemmas.Int.Digits.{number_lt}
-use Rattle.rpki.specs.Values.{AreOctets}
+use Rattle.rpki_der.specs.Values.{AreOctets}
 use Rattle.rpki_der.proofs.HighFirst.{number_behind}
 
 by_first : (d n p whole : ℕ) → p ≡ 256 ^ 19 → whole ≡ d * p + n → n < p → (128 ≤ d) ↔ (2 ^ 159 ≤ whole)

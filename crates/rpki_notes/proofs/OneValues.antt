@@ -1,8 +1,8 @@
 -- Whether octets are one value.
 use Rattle.std.proofs.Common.{◌≡◌, ◌↔◌, ◌≤◌, ℕ, List, [], ◌++◌, length, get_or, sym, ap, subst, ◌∙◌, arith}
 use Rattle.std.proofs.lemmas.List.{append-nil}
-use Rattle.rpki.specs.Encoding.{Begins}
-use Rattle.rpki.specs.Values.{IsEnc, IsValue, enc}
+use Rattle.rpki_der.specs.Encoding.{Begins}
+use Rattle.rpki_der.specs.Values.{IsEnc, IsValue, enc}
 use Rattle.rpki_der.proofs.Formats.{of_enc}
 use Rattle.rpki_der.proofs.Values.{one_value}
 

@@ -2,11 +2,11 @@
 use Rattle.std.proofs.Common.{◌≡◌, ◌↔◌, Bool, ℕ, List, [], ◌∷◌, ◌++◌, true, false, if◌then◌else◌, refl, sym, ap, subst, inl, inr}
 use Rattle.std.proofs.lemmas.Bool.{false≢true}
 use Rattle.std.proofs.lemmas.List.{append-nil}
-use Rattle.rpki.specs.Certificates.{CertFields, IsCertificate}
-use Rattle.rpki.specs.Encoding.{Begins, Means}
-use Rattle.rpki.specs.Extensions.{Extension}
-use Rattle.rpki.specs.Tags.{SEQUENCE}
-use Rattle.rpki.specs.Values.{IsEnc}
+use Rattle.rpki_cert.specs.Certificates.{CertFields, IsCertificate, certificate_content_format, certificate_format, tbs_content_format, version_format}
+use Rattle.rpki_der.specs.Encoding.{Begins, Means}
+use Rattle.rpki_der.specs.Extensions.{Extension}
+use Rattle.rpki_der.specs.Tags.{SEQUENCE}
+use Rattle.rpki_der.specs.Values.{IsEnc}
 use Rattle.rpki_der.specs.Skipping.{levels}
 use Rattle.rpki_der.proofs.FormatLaws.{one_meaning}
 use Rattle.rpki_der.proofs.Formats.{one_meant}
@@ -15,7 +15,6 @@ use Rattle.rpki_parts.specs.Keys.{public_key_format}
 use Rattle.rpki_parts.specs.Validities.{validity_format}
 use Rattle.rpki_parts.proofs.NameReads.{name_sequence}
 use Rattle.rpki_parts.proofs.SignedFormats.{signed_parts}
-use Rattle.rpki_cert.specs.Certificates.{certificate_content_format, certificate_format, tbs_content_format, version_format}
 use Rattle.rpki_cert.proofs.CertificateFormats.{certificate_lawful}
 use Rattle.rpki_files.specs.PolicyPresence.{StandBefore, tags_before}
 use Rattle.rpki_notes.specs.Notes.{AreNotes, AreThose, Breaks, HaveExtensions, IsNoteOf, every_note}

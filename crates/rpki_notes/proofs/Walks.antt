@@ -1,9 +1,9 @@
 -- A walk over extensions, and one of them that has what is looked for.
 use Rattle.std.proofs.Common.{◌≡◌, ◌↔◌, ℕ, List, [], ◌∷◌, Some, true, refl, sym, ap, subst, ◌∙◌, inl, inr, arith, length}
-use Rattle.rpki.specs.Encoding.{Begins}
-use Rattle.rpki.specs.Extensions.{Extension, IsExtension, extension_format}
-use Rattle.rpki.specs.Kinds.{is_of}
-use Rattle.rpki.specs.Sequences.{AreEncodings}
+use Rattle.rpki_der.specs.Encoding.{Begins}
+use Rattle.rpki_der.specs.Extensions.{Extension, IsExtension, extension_format}
+use Rattle.rpki_ext.specs.Kinds.{is_of}
+use Rattle.rpki_der.specs.Sequences.{AreEncodings}
 use Rattle.rpki_der.proofs.ExtensionReads.{extension_reads, extension_shrinks}
 use Rattle.rpki_der.proofs.Octets.{some_is}
 use Rattle.rpki_notes.specs.Notes.{HaveOne}

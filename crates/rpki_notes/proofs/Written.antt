@@ -5,18 +5,18 @@ use Rattle.std.specs.declared.alloc.AllocError.{AllocError}
 use Rattle.std.proofs.Common.{◌≡◌, ◌<◌, ◌^◌, ◌++◌, ℕ, List, [], length, Option, Some, None, true, refl, sym, ap, subst, ◌∙◌, inl, inr, arith}
 use Rattle.std.proofs.lemmas.Bool.{false≢true}
 use Rattle.std.proofs.lemmas.List.{append-nil}
-use Rattle.rpki.specs.Encoding.{Begins}
-use Rattle.rpki.specs.Extensions.{Extension, IsExtension, content_of_some, extension, extension_of_some, extension_format}
-use Rattle.rpki.specs.Overclaim.{Overclaim}
-use Rattle.rpki.specs.Overclaim.TheVariants.{Refuse, Trim}
-use Rattle.rpki.specs.Overclaims.{as_identifier, ip_identifier}
-use Rattle.rpki.specs.Primitives.{IsOid, bool_or_false}
-use Rattle.rpki.specs.EncodeError.{EncodeError}
-use Rattle.rpki.specs.ResourceExtensions.{critical}
-use Rattle.rpki.specs.Tags.{OBJECT_IDENTIFIER, OCTET_STRING, SEQUENCE}
-use Rattle.rpki.specs.Unions.{text_of}
-use Rattle.rpki.specs.Values.{AreOctets, enc, length_octets}
-use Rattle.rpki.specs.Writers.{Writes}
+use Rattle.rpki_der.specs.Encoding.{Begins}
+use Rattle.rpki_der.specs.Extensions.{Extension, IsExtension, content_of_some, extension, extension_of_some, extension_format}
+use Rattle.rpki_blocks.specs.declared.overclaim.Overclaim.{Overclaim}
+use Rattle.rpki_blocks.specs.declared.overclaim.Overclaim.TheVariants.{Refuse, Trim}
+use Rattle.rpki_blocks.specs.Overclaims.{as_identifier, ip_identifier}
+use Rattle.rpki_der.specs.Primitives.{IsOid, bool_or_false}
+use Rattle.rpki_der.specs.declared.error.EncodeError.{EncodeError}
+use Rattle.rpki_blocks.specs.ResourceExtensions.{critical}
+use Rattle.rpki_der.specs.Tags.{OBJECT_IDENTIFIER, OCTET_STRING, SEQUENCE}
+use Rattle.rpki_blocks.specs.Unions.{text_of}
+use Rattle.rpki_der.specs.Values.{AreOctets, enc, length_octets}
+use Rattle.rpki_der.specs.Writers.{Writes}
 use Rattle.rpki_der.proofs.ExtensionReads.{extension_reads, extension_shrinks}
 use Rattle.rpki_der.proofs.ExtensionWritten.{extension_encoded, extension_inside_octets}
 use Rattle.rpki_der.proofs.IdentifierReads.{oid_takes}

@@ -3,17 +3,17 @@ use Rattle.std.specs.Borrow.{Bor}
 use Rattle.std.specs.List.{flat_map}
 use Rattle.std.specs.Option.{option_copied}
 use Rattle.std.specs.Prelude.{◌≡◌, ℕ, Bool, false, List, [], ◌∷◌, Option, Some, None, if◌then◌else◌, bytes_eq}
-use Rattle.rpki.specs.CertificateExtensions.{ExtensionFields}
-use Rattle.rpki.specs.Certificates.{CertFields, IsCertificate}
-use Rattle.rpki.specs.Encoding.{Means}
-use Rattle.rpki.specs.ExtensionKinds.{authority_information_access, certificate_policies, crl_distribution_points, known, subject_information_access}
-use Rattle.rpki.specs.Extensions.{Extension}
-use Rattle.rpki.specs.Identifiers.{pkix}
-use Rattle.rpki.specs.Kinds.{is_of}
-use Rattle.rpki.specs.NameTexts.Reading.{values_in}
-use Rattle.rpki.specs.SubjectAccess.{Access}
-use Rattle.rpki.specs.Tags.{CONTEXT, CONTEXT_CONSTRUCTED, OBJECT_IDENTIFIER, SEQUENCE}
-use Rattle.rpki.specs.Values.Reading.{◌>>=◌, value_at}
+use Rattle.rpki_ext.specs.CertificateExtensions.{ExtensionFields}
+use Rattle.rpki_cert.specs.Certificates.{CertFields, IsCertificate}
+use Rattle.rpki_der.specs.Encoding.{Means}
+use Rattle.rpki_ext.specs.ExtensionKinds.{authority_information_access, certificate_policies, crl_distribution_points, known, subject_information_access}
+use Rattle.rpki_der.specs.Extensions.{Extension}
+use Rattle.rpki_der.specs.Identifiers.{pkix}
+use Rattle.rpki_ext.specs.Kinds.{is_of}
+use Rattle.rpki_parts.specs.NameTexts.Reading.{values_in}
+use Rattle.rpki_ext.specs.SubjectAccess.{Access}
+use Rattle.rpki_der.specs.Tags.{CONTEXT, CONTEXT_CONSTRUCTED, OBJECT_IDENTIFIER, SEQUENCE}
+use Rattle.rpki_der.specs.Values.Reading.{◌>>=◌, value_at}
 use Rattle.rpki_notes.specs.Notes.{HaveExtensions}
 use Rattle.rpki_notes.specs.declared.fact.Fact.{Fact}
 use Rattle.rpki_notes.specs.declared.fact.FactKind.{FactKind}

@@ -1,9 +1,9 @@
 -- What the walk over the extensions asks of each.
 use Rattle.std.specs.List.{list_any}
 use Rattle.std.specs.Prelude.{◌≡◌, ◌⊎◌, ℕ, Bool, List, [], bytes_eq}
-use Rattle.rpki.specs.ExtensionKinds.{as_resources, ip_resources, known}
-use Rattle.rpki.specs.Extensions.{Extension, IsExtension}
-use Rattle.rpki.specs.Kinds.{identifiers_by_mode}
+use Rattle.rpki_ext.specs.ExtensionKinds.{as_resources, ip_resources, known}
+use Rattle.rpki_der.specs.Extensions.{Extension, IsExtension}
+use Rattle.rpki_ext.specs.Kinds.{identifiers_by_mode}
 use Rattle.rpki_notes.specs.Notes.{IsNotCritical, IsNotOneValue, IsOtherThan}
 use Rattle.rpki_notes.specs.declared.finding.Kinds.{Kinds}
 use Rattle.rpki_notes.specs.declared.finding.Kinds.TheVariants.{Addresses, Systems, Known}

@@ -1,18 +1,18 @@
 -- What is taken of a certificate although a standard forbids it.
 use Rattle.std.specs.Prelude.{◌≡◌, ◌≢◌, ◌≤◌, ◌^◌, ◌⊎◌, ℕ, List, [], ◌∷◌, true, false, IsNone, IsSome}
-use Rattle.rpki.specs.Addresses.{ip_addr_blocks}
-use Rattle.rpki.specs.CertificateExtensions.{ExtensionFields}
-use Rattle.rpki.specs.Certificates.{CertFields, IsCertificate, TbsFields}
-use Rattle.rpki.specs.Encoding.{Means}
-use Rattle.rpki.specs.ExtensionKinds.{as_resources, ip_resources, known}
-use Rattle.rpki.specs.Extensions.{Extension, IsExtension}
-use Rattle.rpki.specs.Kinds.{identifiers_by_mode, is_of}
-use Rattle.rpki.specs.KeyUsage.TheVariants.{Ee}
-use Rattle.rpki.specs.NameForms.{IsRpkiName}
-use Rattle.rpki.specs.Sequences.{AreEncodings}
-use Rattle.rpki.specs.Systems.{written_as}
-use Rattle.rpki.specs.Unions.{text_of}
-use Rattle.rpki.specs.Values.{IsValue}
+use Rattle.rpki_blocks.specs.Addresses.{ip_addr_blocks}
+use Rattle.rpki_ext.specs.CertificateExtensions.{ExtensionFields}
+use Rattle.rpki_cert.specs.Certificates.{CertFields, IsCertificate, TbsFields}
+use Rattle.rpki_der.specs.Encoding.{Means}
+use Rattle.rpki_ext.specs.ExtensionKinds.{as_resources, ip_resources, known}
+use Rattle.rpki_der.specs.Extensions.{Extension, IsExtension}
+use Rattle.rpki_ext.specs.Kinds.{identifiers_by_mode, is_of}
+use Rattle.rpki_ext.specs.declared.key_usage.KeyUsage.TheVariants.{Ee}
+use Rattle.rpki_parts.specs.NameForms.{IsRpkiName}
+use Rattle.rpki_der.specs.Sequences.{AreEncodings}
+use Rattle.rpki_blocks.specs.Systems.{written_as}
+use Rattle.rpki_blocks.specs.Unions.{text_of}
+use Rattle.rpki_der.specs.Values.{IsValue}
 use Rattle.rpki_files.specs.PolicyPresence.{HasExtensions}
 use Rattle.rpki_notes.specs.declared.note.Note.{Note}
 use Rattle.rpki_notes.specs.declared.note.Note.TheVariants as note

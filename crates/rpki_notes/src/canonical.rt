@@ -1,14 +1,14 @@
 //! The canonical contents of a certificate's resources (RFC 3779 2.2.3, 3.2.3).
 ghost use Rattle.std.specs.Prelude.{◌≡◌, IfOk, IsOk, OnOk};
-ghost use Rattle.rpki.specs.Place.{remaining};
-ghost use Rattle.rpki.specs.Values.{AreOctets};
+ghost use Rattle.rpki_der.specs.Place.{remaining};
+ghost use Rattle.rpki_der.specs.Values.{AreOctets};
 ghost use Rattle.rpki_notes.specs.FaultSearch.{IsContentOf, IsExtensionOf, IsExtensionOrNone};
 ghost use Rattle.rpki_notes.specs.Notes.{canonical_addresses, canonical_systems};
 
 use bytes::Bytes;
-use rpki::der::{Cursor, EncodeError, Piece, take_extension};
-use rpki::repository::cert::TbsCert;
-use rpki::repository::resources::IpResources;
+use rpki_blocks::IpResources;
+use rpki_cert::TbsCert;
+use rpki_der::{Cursor, EncodeError, Piece, take_extension};
 use std::alloc::{AllocError, Global};
 
 // A cursor over the content of the extension that the octets are; where there are none, over none.

@@ -1,9 +1,9 @@
 //! The content of a value.
 ghost use Rattle.std.specs.Prelude.{◌≡◌, option_map};
-ghost use Rattle.rpki.specs.Place.{remaining};
-ghost use Rattle.rpki.specs.Values.Reading.{value_at};
+ghost use Rattle.rpki_der.specs.Place.{remaining};
+ghost use Rattle.rpki_der.specs.Values.Reading.{value_at};
 
-use rpki::der::Cursor;
+use rpki_der::Cursor;
 
 /// The identifier octet of a uniformResourceIdentifier, [6] (RFC 5280 4.2.1.6).
 pub(crate) const URI: u8 = 0x86;

@@ -1,22 +1,20 @@
 //! A walk over the extensions of a certificate, for what they say beside the fields.
 ghost use Rattle.std.specs.Prelude.{◌≡◌, ◌++◌, List, map, option_map, bytes_eq, IfOk, OnOk};
-ghost use Rattle.rpki.specs.Certificates.{CertFields, IsCertificate};
-ghost use Rattle.rpki.specs.Encoding.{Means};
-ghost use Rattle.rpki.specs.Extensions.{Extension, IsExtension};
-ghost use Rattle.rpki.specs.Extensions.Views.{extension_view};
-ghost use Rattle.rpki.specs.Place.{remaining};
-ghost use Rattle.rpki.specs.Sequences.{AreEncodings};
+ghost use Rattle.rpki_cert.specs.Certificates.{CertFields, IsCertificate};
+ghost use Rattle.rpki_der.specs.Encoding.{Means};
+ghost use Rattle.rpki_der.specs.Extensions.{Extension, IsExtension};
+ghost use Rattle.rpki_der.specs.Extensions.Views.{extension_view};
+ghost use Rattle.rpki_der.specs.Place.{remaining};
+ghost use Rattle.rpki_der.specs.Sequences.{AreEncodings};
 ghost use Rattle.rpki_notes.specs.Facts.{AreFacts, fact_view, facts_in, facts_of, id_qt_cps, known_facts, source_of, statement_at, statement_facts, uri_by};
 
 use crate::contents::content;
 use crate::fact::{Fact, FactKind};
 use crate::further::{put_access, put_fact, put_issuers, put_lists};
 use bytes::Bytes;
-use rpki::der::{Cursor, tag, take_extension};
-use rpki::oid;
-use rpki::repository::Cert;
-use rpki::repository::cert::TbsCert;
-use rpki::repository::extension::is_known;
+use rpki_cert::{Cert, TbsCert};
+use rpki_der::{Cursor, oid, tag, take_extension};
+use rpki_ext::is_known;
 use rpki_files::{Object, extensions_in};
 use std::alloc::{AllocError, Global};
 

@@ -1,19 +1,18 @@
 //! A walk over the extensions of a certificate, as they stand.
 ghost use Rattle.std.specs.Prelude.{◌≡◌, ◌↔◌, List, IsTrue, bytes_eq, true};
 ghost use Rattle.std.specs.List.{list_any};
-ghost use Rattle.rpki.specs.Extensions.{Extension, IsExtension};
-ghost use Rattle.rpki.specs.Extensions.Views.{extension_view};
-ghost use Rattle.rpki.specs.Kinds.{is_of};
-ghost use Rattle.rpki.specs.Place.{remaining};
-ghost use Rattle.rpki.specs.Sequences.{AreEncodings};
-ghost use Rattle.rpki.specs.Values.{IsValue};
+ghost use Rattle.rpki_der.specs.Extensions.{Extension, IsExtension};
+ghost use Rattle.rpki_der.specs.Extensions.Views.{extension_view};
+ghost use Rattle.rpki_ext.specs.Kinds.{is_of};
+ghost use Rattle.rpki_der.specs.Place.{remaining};
+ghost use Rattle.rpki_der.specs.Sequences.{AreEncodings};
+ghost use Rattle.rpki_der.specs.Values.{IsValue};
 ghost use Rattle.rpki_notes.specs.FaultSearch.{HasFault, sought_names, is_named};
 ghost use Rattle.rpki_notes.specs.Notes.{HaveExtensions, HaveOne};
 
 use bytes::Bytes;
-use rpki::der::{Cursor, take_extension};
-use rpki::oid;
-use rpki::repository::extension::is_known;
+use rpki_der::{Cursor, oid, take_extension};
+use rpki_ext::is_known;
 use rpki_files::extensions_in;
 
 /// The kinds of extensions that are looked at.

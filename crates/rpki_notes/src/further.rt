@@ -1,17 +1,16 @@
 //! URIs of a certificate beside the ones that readers keep.
 ghost use Rattle.std.specs.Prelude.{◌≡◌, ◌++◌, map, option_map, OnOk};
 ghost use Rattle.std.specs.Option.{option_copied};
-ghost use Rattle.rpki.specs.Place.{remaining};
-ghost use Rattle.rpki.specs.Values.Reading.{value_at};
-ghost use Rattle.rpki.specs.Tags.{SEQUENCE};
+ghost use Rattle.rpki_der.specs.Place.{remaining};
+ghost use Rattle.rpki_der.specs.Values.Reading.{value_at};
+ghost use Rattle.rpki_der.specs.Tags.{SEQUENCE};
 ghost use Rattle.rpki_notes.specs.Facts.{URI, access_facts, description_facts, descriptions_facts, fact_view, further_at, further_if, further_names, further_names_if, is_kept, issuer_names, kept_by, kept_view, location_facts, one_fact, point_names};
 ghost use Rattle.rpki_notes.specs.declared.fact.FactKind.TheVariants.{FurtherIssuer, FurtherList};
 
 use crate::contents::{URI, content};
 use crate::fact::{Fact, FactKind};
-use rpki::der::{Cursor, tag};
-use rpki::oid;
-use rpki::repository::cert::TbsCert;
+use rpki_cert::TbsCert;
+use rpki_der::{Cursor, oid, tag};
 use std::alloc::AllocError;
 
 /// Adds a fact.

@@ -1,20 +1,17 @@
 //! The notes of a certificate.
-ghost use Rattle.std.specs.Prelude.{◌≡◌, ◌↔◌, ◌≤◌, ◌^◌, ◌++◌, ◌∷◌, List, [], length};
-ghost use Rattle.std.specs.Prelude.{if◌then◌else◌, IfOk, OnOk, IsTrue};
+ghost use Rattle.std.specs.Prelude.{◌≡◌, ◌↔◌, ◌≤◌, ◌^◌, ◌++◌, ◌∷◌, List, [], length, if◌then◌else◌, IfOk, OnOk, IsTrue};
 ghost use Rattle.std.specs.Int.Digits.{number_from_digits};
-ghost use Rattle.rpki.specs.Certificates.{IsCertificate};
-ghost use Rattle.rpki.specs.Encoding.{Means};
-ghost use Rattle.rpki.specs.Extensions.{Extension};
-ghost use Rattle.rpki_notes.specs.Notes.{AreNotes, Breaks, HaveExtensions, IsEndEntityWithNotify};
-ghost use Rattle.rpki_notes.specs.Notes.{HasOtherIssuer, HasOtherSubject};
+ghost use Rattle.rpki_cert.specs.Certificates.{IsCertificate};
+ghost use Rattle.rpki_der.specs.Encoding.{Means};
+ghost use Rattle.rpki_der.specs.Extensions.{Extension};
+ghost use Rattle.rpki_notes.specs.Notes.{AreNotes, Breaks, HaveExtensions, IsEndEntityWithNotify, HasOtherIssuer, HasOtherSubject};
 
 use crate::canonical;
 use crate::finding::{Fault, Kinds, has_one};
 use crate::note::Note;
 use bytes::Bytes;
-use rpki::repository::Cert;
-use rpki::repository::cert::{KeyUsage, TbsCert};
-use rpki::repository::x509::Serial;
+use rpki_cert::{Cert, KeyUsage, TbsCert};
+use rpki_der::Serial;
 use rpki_files::Object;
 use std::alloc::{AllocError, Global};
 

@@ -6,7 +6,7 @@ use Rattle.rpki.specs.Certificates.{CertFields}
 use Rattle.rpki.specs.GivenPaths.{PathStrings}
 use Rattle.rpki.specs.Judged.{Judged}
 use Rattle.rpki.specs.Verification.{Context, ResourceFields}
-use Rattle.rpki_files.specs.SaidKinds.{SaysAuthority}
+use Rattle.rpki.specs.SaidKinds.{SaysAuthority}
 use Rattle.rpki_verdicts.specs.PathAnswers.{AreSame, IsVerdictBy}
 use Rattle.rpki_verdicts.specs.PathFiles.{IsGivenBy}
 use Rattle.rpki_verdicts.specs.declared.path.Fault.{Fault}

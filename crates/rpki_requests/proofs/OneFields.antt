@@ -8,7 +8,7 @@ use Rattle.rpki.specs.Names.{IsName}
 use Rattle.rpki.specs.Times.{Moment}
 use Rattle.rpki.specs.Verification.{ResourceFields}
 use Rattle.rpki_values.specs.OnlyValues.{IsOnly}
-use Rattle.rpki_verdicts.proofs.OneVerdict.{one_kind}
+use Rattle.rpki_cert.proofs.SaidOnce.{says_one}
 use Rattle.rpki_wanted.specs.AskedFields.{fields_asked, subject_asked}
 use Rattle.rpki_wanted.specs.PreparedOctets.{IsCompleted}
 use Rattle.rpki_wanted.specs.declared.wanted.Wanted.{Wanted}
@@ -52,7 +52,7 @@ module _ (kind : Kind) (asked : AskedFields) (keys : List (List ℕ)) (issuer : 
 -- as one kind
 pub one_completed : (issuer : Option ResourceFields) (f : TbsFields) (a b : Kind) → IsCompletedAs issuer f a → IsCompletedAs issuer f b → a ≡ b
 one_completed None f a b p q = p ∙ sym q
-one_completed (Some issuer) f a b p q = one_kind f a b p q
+one_completed (Some issuer) f a b p q = says_one f a b p q
 
 pub same_completed : (issuer : Option ResourceFields) (at : Moment) (strict : Bool) (signature octets : List ℕ) (a b : Kind) (f g : TbsFields) (prepared given : List ℕ) → a ≡ b → f ≡ g → prepared ≡ given → IsCompleted a issuer at strict f prepared signature octets → IsCompleted b issuer at strict g given signature octets
 same_completed issuer at strict signature octets a b f g prepared given kinds fields files p =

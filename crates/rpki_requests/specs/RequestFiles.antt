@@ -12,7 +12,7 @@ use Rattle.rpki.specs.Revocation.{NamesIssuer}
 use Rattle.rpki.specs.RsaSignatures.{IsSignedByRsa}
 use Rattle.rpki.specs.Verification.{Context, ResourceFields, IsSignedBy}
 use Rattle.rpki_files.specs.Contents.{BeginsWithList}
-use Rattle.rpki_files.specs.SaidKinds.{SaysAuthority, SaysKind}
+use Rattle.rpki.specs.SaidKinds.{SaysAuthority, SaysKind}
 use Rattle.rpki_verdicts.specs.PathFiles.{Demands}
 use Rattle.rpki_verdicts.specs.PathAnswers.{HoldSame, IsVerdictBy}
 use Rattle.rpki_verdicts.specs.declared.path.Verdict.TheVariants.{Accepted}

@@ -19,10 +19,10 @@ use crate::values::{both, wanted};
 use crate::words::{Errand, Order};
 use bytes::Bytes;
 use rpki::laws;
-use rpki::repository::cert::{Kind, ResourceCert, TbsCert};
+use rpki::repository::cert::{Kind, ResourceCert, TbsCert, said_kind};
 use rpki::repository::crl::{RevokedCertificates, TbsCertList};
 use rpki::repository::x509::{Name, Time};
-use rpki_files::{Object, said_kind};
+use rpki_files::Object;
 use rpki_wanted::{
     WantedError, complete_list_octets, complete_octets, fields, prepare_list_octets, prepare_octets,
 };

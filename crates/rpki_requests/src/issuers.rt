@@ -4,7 +4,7 @@ ghost use Rattle.rpki.specs.RsaSignatures.{IsSignedByRsa};
 ghost use Rattle.rpki.specs.Verification.{ResourceFields, context};
 ghost use Rattle.rpki_files.specs.Contents.{BeginsWithList};
 ghost use Rattle.rpki_files.specs.Files.{contents};
-ghost use Rattle.rpki_files.specs.SaidKinds.{SaysAuthority};
+ghost use Rattle.rpki.specs.SaidKinds.{SaysAuthority};
 ghost use Rattle.rpki_requests.specs.Refusals.{TellsPath};
 ghost use Rattle.rpki_requests.specs.RequestFiles.{IsIssuerOf, IsNoAuthority, IsNoListAt, IsOnlyIssuer, IsOnlyPathIssuer, IsPathIssuer};
 ghost use Rattle.rpki_requests.specs.declared.refusals.Refusal.TheVariants.{Memory, NoAuthority};

@@ -2,9 +2,9 @@
 use Rattle.std.specs.Prelude.{IsTrue, ◌==◌, ◌&&◌, not, Bool, true, false, if◌then◌else◌}
 use Rattle.std.proofs.Common.{◌≡◌, ℕ, ◌/◌, ◌%◌, ◌<◌, ◌≢◌, List, [], ◌∷◌, ◌++◌, refl, sym, arith}
 use Rattle.std.proofs.lemmas.Bool.Decides.{nat_tests}
-use Rattle.rpki.specs.NameTexts.{is_visible}
-use Rattle.rpki.specs.Texts.{digit, hexadecimal}
-use Rattle.rpki.specs.Values.{AreOctets}
+use Rattle.rpki_parts.specs.NameTexts.{is_visible}
+use Rattle.rpki_der.specs.Texts.{digit, hexadecimal}
+use Rattle.rpki_der.specs.Values.{AreOctets}
 use Rattle.rpki_text.specs.Pages.{AreVisible, characters_text}
 
 -- a hexadecimal digit is visible

@@ -2,8 +2,8 @@
 use Rattle.std.specs.Prelude.{Option, Some, None, IfSome, IfNone, get_or}
 use Rattle.std.proofs.Common.{◌≡◌, ℕ, zero, suc, ◌+◌, List, [], ◌∷◌, ◌++◌, take, drop, length, refl, sym, ap, ◌∙◌, arith}
 use Rattle.std.proofs.Math.Seq.{drop-cons, drop-length}
-use Rattle.rpki.specs.Texts.{time_text}
-use Rattle.rpki.specs.Times.{Moment, IsMoment, fourteen_digits}
+use Rattle.rpki_der.specs.Texts.{time_text}
+use Rattle.rpki_der.specs.Times.{Moment, IsMoment, fourteen_digits}
 use Rattle.rpki_text.specs.MomentTexts.{date_digits, all_digits, IsDateText, HasMarks}
 
 -- ---- the texts and their digits

@@ -1,6 +1,6 @@
 -- A text says one moment at most.
 use Rattle.std.proofs.Common.{◌≡◌, ℕ, ◌+◌, ◌%◌, ◌/◌, inl, inr, List, ◌++◌, length, cond, nat_eq, sym, ap, ◌∙◌, arith}
-use Rattle.rpki.specs.Times.{Moment, two, fourteen_digits}
+use Rattle.rpki_der.specs.Times.{Moment, two, fourteen_digits}
 use Rattle.rpki_text.specs.MomentTexts.{date_digits, all_digits, IsMomentText}
 use Rattle.rpki_text.proofs.DigitPlaces.{date_from, all_from}
 

@@ -2,9 +2,9 @@
 use Rattle.std.specs.Fmt.{decimal}
 use Rattle.std.specs.List.{flat_map}
 use Rattle.std.specs.Prelude.{ℕ, ◌==◌, if◌then◌else◌, List, [], ◌∷◌, ◌++◌, codes}
-use Rattle.rpki.specs.BlockTexts.{range_text, v4_text, v6_text, v4_block_text, v6_block_text}
-use Rattle.rpki.specs.Resources.{Resources, missing, inherit, blocks}
-use Rattle.rpki.specs.Sets.{Block}
+use Rattle.rpki_blocks.specs.BlockTexts.{range_text, v4_text, v6_text, v4_block_text, v6_block_text}
+use Rattle.rpki_blocks.specs.Resources.{Resources, missing, inherit, blocks}
+use Rattle.rpki_blocks.specs.Sets.{Block}
 use Rattle.rpki_text.specs.Pages.{line, further_line}
 use Rattle.rpki_text.specs.declared.blocks.Family.{Family}
 use Rattle.rpki_text.specs.declared.blocks.Family.TheVariants.{V4, V6}

@@ -2,23 +2,23 @@
 use Rattle.std.specs.List.{concat}
 use Rattle.std.specs.Option.{option_map}
 use Rattle.std.specs.Prelude.{ℕ, Bool, List, [], ◌∷◌, ◌++◌, codes, Option, Some, None}
-use Rattle.rpki.specs.BlockTexts.{v4_block_text, v6_block_text}
-use Rattle.rpki.specs.CertificateExtensions.{ExtensionFields}
-use Rattle.rpki.specs.Certificates.{CertFields, TbsFields}
-use Rattle.rpki.specs.Inspection.{inspection_error_name}
-use Rattle.rpki.specs.InspectionError.{InspectionError}
-use Rattle.rpki.specs.KeyUsage.{KeyUsage}
-use Rattle.rpki.specs.KeyUsage.TheVariants.{Ca, Ee}
-use Rattle.rpki.specs.Kind.{Kind}
-use Rattle.rpki.specs.Kind.TheVariants.{Anchor, Authority, EndEntity, Detached, Router}
-use Rattle.rpki.specs.NameTexts.{name_text}
-use Rattle.rpki.specs.Overclaim.{Overclaim}
-use Rattle.rpki.specs.Overclaim.TheVariants.{Refuse, Trim}
-use Rattle.rpki.specs.Profiles.{MeetsProfile, IsFirstFault}
-use Rattle.rpki.specs.Texts.{serial_text, time_text}
-use Rattle.rpki.specs.Times.{Moment}
-use Rattle.rpki.specs.Validities.{ValidityFields}
-use Rattle.rpki_files.specs.SaidKinds.{IsKindOf}
+use Rattle.rpki_blocks.specs.BlockTexts.{v4_block_text, v6_block_text}
+use Rattle.rpki_ext.specs.CertificateExtensions.{ExtensionFields}
+use Rattle.rpki_cert.specs.Certificates.{CertFields, TbsFields}
+use Rattle.rpki_ext.specs.Inspection.{inspection_error_name}
+use Rattle.rpki_ext.specs.declared.inspection.InspectionError.{InspectionError}
+use Rattle.rpki_ext.specs.declared.key_usage.KeyUsage.{KeyUsage}
+use Rattle.rpki_ext.specs.declared.key_usage.KeyUsage.TheVariants.{Ca, Ee}
+use Rattle.rpki_cert.specs.declared.inspect.Kind.{Kind}
+use Rattle.rpki_cert.specs.declared.inspect.Kind.TheVariants.{Anchor, Authority, EndEntity, Detached, Router}
+use Rattle.rpki_parts.specs.NameTexts.{name_text}
+use Rattle.rpki_blocks.specs.declared.overclaim.Overclaim.{Overclaim}
+use Rattle.rpki_blocks.specs.declared.overclaim.Overclaim.TheVariants.{Refuse, Trim}
+use Rattle.rpki_cert.specs.Profiles.{MeetsProfile, IsFirstFault}
+use Rattle.rpki_der.specs.Texts.{serial_text, time_text}
+use Rattle.rpki_der.specs.Times.{Moment}
+use Rattle.rpki_parts.specs.Validities.{ValidityFields}
+use Rattle.rpki_cert.specs.SaidKinds.{IsKindOf}
 use Rattle.rpki_text.specs.BlockLines.{as_numbers_text, resources_lines}
 use Rattle.rpki_text.specs.KeyTexts.{IsKeyAnswer, key_text, point_text}
 use Rattle.rpki_text.specs.ListTexts.{signature_line}

@@ -2,11 +2,11 @@
 use Rattle.std.specs.Fmt.{decimal}
 use Rattle.std.specs.List.{concat, flat_map}
 use Rattle.std.specs.Prelude.{ℕ, ◌||◌, nat_le, Bool, true, false, List, [], ◌∷◌, ◌++◌, length, take, codes}
-use Rattle.rpki.specs.Lists.{ListFields}
-use Rattle.rpki.specs.NameTexts.{name_text}
-use Rattle.rpki.specs.RevokedEntries.{Entry, Revoked}
-use Rattle.rpki.specs.Texts.{serial_text, time_text}
-use Rattle.rpki.specs.Times.{Moment}
+use Rattle.rpki_crl.specs.Lists.{ListFields}
+use Rattle.rpki_parts.specs.NameTexts.{name_text}
+use Rattle.rpki_crl.specs.RevokedEntries.{Entry, Revoked}
+use Rattle.rpki_der.specs.Texts.{serial_text, time_text}
+use Rattle.rpki_der.specs.Times.{Moment}
 use Rattle.rpki_text.specs.Pages.{line, further_line, colons_text}
 use Rattle.rpki_text.specs.Periods.{end_text}
 

@@ -1,7 +1,7 @@
 -- The texts of moments that a person may write.
 use Rattle.std.specs.Prelude.{◌≡◌, ℕ, ◌⊎◌, List, [], ◌∷◌, ◌++◌, map, length, get_or, replicate}
-use Rattle.rpki.specs.Texts.{date_text, time_text}
-use Rattle.rpki.specs.Times.{Moment, fourteen_digits}
+use Rattle.rpki_der.specs.Texts.{date_text, time_text}
+use Rattle.rpki_der.specs.Times.{Moment, fourteen_digits}
 
 -- a moment at midnight, as YYYY-MM-DD
 pub record IsDateText (m : Moment) (text : List ℕ) : Type 0 where

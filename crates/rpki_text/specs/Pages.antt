@@ -3,8 +3,8 @@ use Rattle.std.specs.Fmt.{decimal}
 use Rattle.std.specs.List.{AllByRecursion, flat_map}
 use Rattle.std.specs.Option.{option_map}
 use Rattle.std.specs.Prelude.{◌≡◌, ℕ, ◌-◌, ◌==◌, ◌&&◌, not, IsTrue, if◌then◌else◌, List, [], ◌∷◌, ◌++◌, length, replicate, codes, Option, Some, None, ◌⊎◌}
-use Rattle.rpki.specs.NameTexts.{is_visible}
-use Rattle.rpki.specs.Texts.{hexadecimal}
+use Rattle.rpki_parts.specs.NameTexts.{is_visible}
+use Rattle.rpki_der.specs.Texts.{hexadecimal}
 
 -- ---- a page: the text so far, or nothing once memory has run out
 

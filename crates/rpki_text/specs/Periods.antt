@@ -1,9 +1,9 @@
 -- What is said of a period at a moment: what time is left of it, or gone since (own).
 use Rattle.std.specs.Fmt.{decimal}
 use Rattle.std.specs.Prelude.{ℕ, ◌/◌, ◌%◌, ◌-ℤ◌, Bool, nat_le, nat_lt, if◌then◌else◌, List, ◌++◌, codes, unsigned_abs}
-use Rattle.rpki.specs.Texts.{time_text}
-use Rattle.rpki.specs.Times.{Moment, second_number}
-use Rattle.rpki.specs.Timestamps.{timestamp}
+use Rattle.rpki_der.specs.Texts.{time_text}
+use Rattle.rpki_der.specs.Times.{Moment, second_number}
+use Rattle.rpki_der.specs.Timestamps.{timestamp}
 
 -- how many seconds lie between two moments; no day has a leap second
 abbrev pub seconds_between : Moment → Moment → ℕ

@@ -6,9 +6,7 @@ ghost use Rattle.rpki_text.specs.BlockLines.{family_address_text, family_text, a
 
 use crate::lines::{write_further_line, write_line};
 use crate::page::Page;
-use rpki::repository::resources::{
-    Addr, AsBlock, AsBlocks, AsResources, IpBlock, IpBlocks, IpResources,
-};
+use rpki_blocks::{Addr, AsBlock, AsBlocks, AsResources, IpBlock, IpBlocks, IpResources};
 use std::fmt;
 
 /// Which of the two families of addresses a block is of. IPv4 stands in the upper 32 bits.

@@ -1,8 +1,8 @@
 //! A certificate for a person.
 ghost use Rattle.std.specs.Prelude.{◌≡◌, ◌++◌, Some, codes, option_map};
 ghost use Rattle.std.specs.Fmt.{WritesOnOk};
-ghost use Rattle.rpki.specs.Kind.TheVariants.{Anchor, Authority, EndEntity, Detached, Router};
-ghost use Rattle.rpki.specs.Texts.{serial_text};
+ghost use Rattle.rpki_cert.specs.declared.inspect.Kind.TheVariants.{Anchor, Authority, EndEntity, Detached, Router};
+ghost use Rattle.rpki_der.specs.Texts.{serial_text};
 ghost use Rattle.rpki_text.specs.KeyTexts.{point_text};
 ghost use Rattle.rpki_text.specs.Pages.{Appends, line, line_if_any, colons_text};
 ghost use Rattle.rpki_text.specs.CertificateTexts.{IsAnswer, AreAnswers, AreFindings, answer_for, answer_text, certificate_kind_text, kind_line, profiled_kind_text, profile_line, usage_text, policy_text, uri_line, names_text, validity_text, keys_text, places_text, resources_text, details_text, profiles_text, certificate_text};
@@ -13,12 +13,9 @@ use crate::lines::{Characters, Colons, write_line};
 use crate::list::write_signature;
 use crate::moments::Period;
 use crate::page::Page;
-use rpki::crypto::{KeyIdentifier, PublicKey, PublicKeyFormat};
-use rpki::repository::cert::{Cert, KeyUsage, Kind, Overclaim, TbsCert};
-use rpki::repository::error::InspectionError;
-use rpki::repository::x509::{Serial, Time, Validity};
-use rpki::uri::{Https, Rsync};
-use rpki_files::kind_of;
+use rpki_cert::{Cert, InspectionError, KeyUsage, Kind, Overclaim, TbsCert, kind_of};
+use rpki_der::{Serial, Time};
+use rpki_parts::{Https, KeyIdentifier, PublicKey, PublicKeyFormat, Rsync, Validity};
 use std::fmt;
 
 /// Prints the serial number in hexadecimal, without zeros before it but in whole octets.

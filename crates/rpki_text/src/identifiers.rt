@@ -1,7 +1,7 @@
 //! Object identifiers as text: their numbers with dots between them, as names print types.
 ghost use Rattle.std.specs.Prelude.{◌≡◌, ◌<◌, ◌^◌, ◌&&◌, not, nat_lt, true, Some};
 ghost use Rattle.std.specs.Fmt.{WritesOnOk};
-ghost use Rattle.rpki.specs.NameTexts.{with_octet, number_after, are_small, number_text, numbers_text, ended_with, dotted_text};
+ghost use Rattle.rpki_parts.specs.NameTexts.{with_octet, number_after, are_small, number_text, numbers_text, ended_with, dotted_text};
 ghost use Rattle.rpki_text.specs.IdentifierTexts.{identifier_text};
 
 use crate::lines::write_colons;

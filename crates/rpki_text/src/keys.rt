@@ -1,10 +1,10 @@
 //! What is said of a key.
 ghost use Rattle.std.specs.Prelude.{◌≡◌, ◌↔◌, IsTrue, Some};
-ghost use Rattle.rpki.specs.KeyForms.{IsUsableKey};
+ghost use Rattle.rpki_keys.specs.KeyForms.{IsUsableKey};
 ghost use Rattle.rpki_text.specs.KeyTexts.{IsKeyAnswer, IsLocatorKey, exponent_text, form_text, asked_text, key_text, locator_key_text};
 
-use rpki::crypto::keys::{KeyForm, form_of, is_usable};
-use rpki::crypto::{PublicKey, PublicKeyFormat};
+use rpki_keys::{KeyForm, form_of, is_usable};
+use rpki_parts::{PublicKey, PublicKeyFormat};
 use std::fmt;
 
 /// What a key is, and whether the RPKI uses it. It is printed as that, and where it can't be used

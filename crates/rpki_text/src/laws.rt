@@ -1,6 +1,6 @@
 //! Laws about the definitions, each the contract of a function with no parameters and no body.
 ghost use Rattle.std.specs.Prelude.{◌≡◌, ℕ, List};
-ghost use Rattle.rpki.specs.Values.{AreOctets};
+ghost use Rattle.rpki_der.specs.Values.{AreOctets};
 ghost use Rattle.rpki_text.specs.Pages.{AreVisible, file_name_text};
 
 /// Says that a file's name is printed as visible characters of ASCII and spaces alone, so that it

@@ -1,7 +1,7 @@
 //! Lines: labels, and values from column 26 on.
 ghost use Rattle.std.specs.Prelude.{[], ◌∷◌, Some, IfSome, replicate};
 ghost use Rattle.std.specs.Fmt.{WritesOnOk};
-ghost use Rattle.rpki.specs.Texts.{hexadecimal};
+ghost use Rattle.rpki_der.specs.Texts.{hexadecimal};
 ghost use Rattle.rpki_text.specs.Pages.{label_text, line, further_line, count_text, colons_text, character_text, characters_text, file_name_text};
 
 use std::fmt;

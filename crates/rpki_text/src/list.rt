@@ -1,7 +1,7 @@
 //! A revocation list for a person.
 ghost use Rattle.std.specs.Prelude.{◌≡◌, ◌++◌, Some, IfSome, length, take, codes};
 ghost use Rattle.std.specs.Fmt.{WritesOnOk};
-ghost use Rattle.rpki.specs.Texts.{serial_text, time_text};
+ghost use Rattle.rpki_der.specs.Texts.{serial_text, time_text};
 ghost use Rattle.rpki_text.specs.Pages.{Appends};
 ghost use Rattle.rpki_text.specs.ListTexts.{entry_lines, shown_text, revoked_text, list_head, signature_line, list_text};
 
@@ -9,8 +9,8 @@ use crate::certificate::write_key_identifier;
 use crate::lines::{write_further_line, write_line};
 use crate::moments::Period;
 use crate::page::Page;
-use rpki::repository::crl::{Crl, RevokedCertificates, TbsCertList};
-use rpki::repository::x509::{Serial, Time};
+use rpki_crl::{Crl, RevokedCertificates, TbsCertList};
+use rpki_der::{Serial, Time};
 use std::fmt;
 
 // How many revoked certificates are shown, unless all are asked for.

@@ -1,13 +1,13 @@
 //! Moments as text, as seconds, and what is said of a period at a moment.
 ghost use Rattle.std.specs.Prelude.{◌≡◌, ◌↔◌, ◌<◌, ◌^◌, Some, IfSome, IfNone, IsTrue, length, pos};
 ghost use Rattle.std.specs.Fmt.{WritesOnOk};
-ghost use Rattle.rpki.specs.Texts.{time_text};
-ghost use Rattle.rpki.specs.Times.{Moment, IsMoment};
-ghost use Rattle.rpki.specs.Timestamps.{timestamp};
+ghost use Rattle.rpki_der.specs.Texts.{time_text};
+ghost use Rattle.rpki_der.specs.Times.{Moment, IsMoment};
+ghost use Rattle.rpki_der.specs.Timestamps.{timestamp};
 ghost use Rattle.rpki_text.specs.MomentTexts.{date_digits, all_digits, IsDateText, HasMarks, IsMomentText};
 ghost use Rattle.rpki_text.specs.Periods.{seconds_between, duration_text, state_text, end_text};
 
-use rpki::repository::x509::Time;
+use rpki_der::Time;
 use std::fmt;
 
 fn seconds_between(one: Time, other: Time) -> u64

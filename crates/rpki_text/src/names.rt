@@ -1,9 +1,9 @@
 //! Distinguished names as text.
-ghost use Rattle.rpki.specs.NameTexts.{name_text};
+ghost use Rattle.rpki_parts.specs.NameTexts.{name_text};
 ghost use Rattle.rpki_text.specs.Pages.{Appends};
 
 use crate::page::Page;
-use rpki::repository::x509::Name;
+use rpki_parts::Name;
 
 /// Prints a name, as it prints itself.
 pub fn name(page: &mut Page, it: &Name)

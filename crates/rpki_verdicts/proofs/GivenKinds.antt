@@ -12,8 +12,7 @@ use Rattle.rpki.specs.PathFault.TheVariants.{Decode, Inspect, Verify, Revocation
 use Rattle.rpki.specs.Paths.{UnlessMemory}
 use Rattle.rpki.specs.Verification.{Context}
 use Rattle.rpki_files.specs.Files.{FileFields, contents}
-use Rattle.rpki_files.specs.SaidKinds.{IsJudgedAs}
-use Rattle.rpki_verdicts.specs.PathFiles.{Demands, IsGivenBy, AreListsOf}
+use Rattle.rpki_verdicts.specs.PathFiles.{IsJudgedAs, Demands, IsGivenBy, AreListsOf}
 use Rattle.rpki_verdicts.specs.PathAnswers.{IsPathVerdict, IsVerdictBy}
 use Rattle.rpki_verdicts.specs.PathAnswers.Steps.{IsKindOfLast}
 use Rattle.rpki_verdicts.specs.declared.path.Verdict.{Verdict}

@@ -1,71 +1,37 @@
 -- Files have one verdict at most.
-use Rattle.std.specs.Prelude.{Option, Some, None, IsSome, IsNone}
+use Rattle.std.specs.Prelude.{Option, Some, None}
 use Rattle.std.proofs.Common.{◌≡◌, ◌+◌, ◌++◌, ◌∷◌, [], ℕ, List, length, inl, inr, refl, sym, ap, subst, ◌∙◌, arith}
-use Rattle.std.proofs.lemmas.Bool.{true≢false, false≢true}
 use Rattle.std.proofs.lemmas.List.{same_from_push, length-append}
 use Rattle.rpki.specs.Asking.{RevocationChecks, nobody}
 use Rattle.rpki.specs.AskedLists.{by_lists}
-use Rattle.rpki.specs.Certificates.{TbsFields, CertFields, IsCertificate}
+use Rattle.rpki.specs.Certificates.{CertFields, IsCertificate}
 use Rattle.rpki.specs.GivenPaths.{PathStrings, path_to, anchor_alone}
 use Rattle.rpki.specs.Judged.{Judged}
 use Rattle.rpki.specs.Judging.{IsAcceptedWith, IsRouterIfAny}
 use Rattle.rpki.specs.KeyForms.{IsUsableKey}
 use Rattle.rpki.specs.Kind.{Kind}
-use Rattle.rpki.specs.Kind.TheVariants.{Anchor, Authority, EndEntity, Detached, Router}
 use Rattle.rpki.specs.Lists.{CrlFields, CrlState, IsCertificateList}
 use Rattle.rpki.specs.NameChains.{strings_below}
 use Rattle.rpki.specs.Paths.{Path, Candidate, HasHeld, IsAccepted, certificate_at, last}
 use Rattle.rpki.specs.Values.{IsUnambiguous}
 use Rattle.rpki.specs.Verification.{Context, ResourceFields}
+use Rattle.rpki_cert.proofs.SaidOnce.{begins_one}
 use Rattle.rpki_der.proofs.Formats.{one_meant}
 use Rattle.rpki_path.proofs.Rejections as paths
 use Rattle.rpki_path.proofs.UnchainedNames.{never_chained}
 use Rattle.rpki_files.specs.Contents.{BeginsWithCertificate}
-use Rattle.rpki_files.specs.FaultRules.{locator_reason}
+use Rattle.rpki_verdicts.specs.Reasons.{locator_reason}
 use Rattle.rpki_verdicts.specs.GivenLocators.{IsLocated}
-use Rattle.rpki_files.specs.SaidKinds.{SaysKind, BeginsWithKind, IsJudgedAs}
-use Rattle.rpki_verdicts.specs.PathFiles.{Demands, HasJudgedLast, IsGivenBy, AreListsOf}
+use Rattle.rpki_verdicts.specs.PathFiles.{Demands, HasJudgedLast, IsGivenBy, IsJudgedAs, AreListsOf}
 use Rattle.rpki_verdicts.specs.PathAnswers.{last_certificate, last_key, reason_of, AreSame, HoldSame, IsUsablePath, IsVerdictOn, IsVerdictBy}
 use Rattle.rpki_verdicts.specs.PathAnswers.Steps.{IsNamedVerdict}
 use Rattle.rpki_verdicts.specs.declared.path.Fault.{Fault}
 use Rattle.rpki_verdicts.specs.declared.path.Verdict.{Verdict}
 use Rattle.rpki_verdicts.specs.declared.path.Verdict.TheVariants.{Accepted, Rejected}
 
--- ---- one kind
-
-some_or_none : {A : Type 0} (o : Option A) → IsSome o → IsNone o → ⊥
-some_or_none None some none = false≢true some
-some_or_none (Some x) some none = true≢false none
-
--- a certificate says one kind at most
-pub one_kind : (f : TbsFields) (a b : Kind) → SaysKind a f → SaysKind b f → a ≡ b
-one_kind f Anchor b p q = absurd p
-one_kind f a Anchor p q = absurd q
-one_kind f Router Router p q = refl
-one_kind f Router Authority p q = absurd (q.0 p)
-one_kind f Router EndEntity p q = absurd (q.0.0 p)
-one_kind f Router Detached p q = absurd (q.0.0 p)
-one_kind f Authority Router p q = absurd (p.0 q)
-one_kind f Authority Authority p q = refl
-one_kind f Authority EndEntity p q = absurd (q.0.1 p.1)
-one_kind f Authority Detached p q = absurd (q.0.1 p.1)
-one_kind f EndEntity Router p q = absurd (p.0.0 q)
-one_kind f EndEntity Authority p q = absurd (p.0.1 q.1)
-one_kind f EndEntity EndEntity p q = refl
-one_kind f EndEntity Detached p q = absurd (some_or_none f.extensions.access.signed_object p.1 q.1)
-one_kind f Detached Router p q = absurd (p.0.0 q)
-one_kind f Detached Authority p q = absurd (p.0.1 q.1)
-one_kind f Detached EndEntity p q = absurd (some_or_none f.extensions.access.signed_object q.1 p.1)
-one_kind f Detached Detached p q = refl
-
 module _ (one_certificate : IsUnambiguous IsCertificate) where
-  one_said : (octets : List ℕ) (a b : Kind) → BeginsWithKind a octets → BeginsWithKind b octets → a ≡ b
-  one_said octets a b p q =
-      let same = one_meant IsCertificate one_certificate p.0 q.0 octets p.1 q.1 in
-      one_kind q.0.fields a b (subst (λ (cert : CertFields). SaysKind a cert.fields) same p.2) q.2
-
   one_judged : (octets : List ℕ) (a b : Kind) → IsJudgedAs a octets → IsJudgedAs b octets → a ≡ b
-  one_judged octets a b (inl p) (inl q) = one_said octets a b p q
+  one_judged octets a b (inl p) (inl q) = begins_one one_certificate octets a b p q
   one_judged octets a b (inl p) (inr q) = absurd (q.1 p.0 p.1)
   one_judged octets a b (inr p) (inl q) = absurd (p.1 q.0 q.1)
   one_judged octets a b (inr p) (inr q) = p.0 ∙ sym q.0

@@ -17,14 +17,13 @@ use Rattle.rpki.specs.Kind.TheVariants.{Anchor, Authority, EndEntity, Detached, 
 use Rattle.rpki.specs.LocatedPaths.{IsAcceptedFrom}
 use Rattle.rpki.specs.Locators.{NamedTal}
 use Rattle.rpki.specs.Paths.{Candidate, candidate, Member, IsAccepted, IsMember}
-use Rattle.rpki.specs.SaidKinds as said
 use Rattle.rpki.specs.SignedDatas.{signed_data}
 use Rattle.rpki.specs.Values.{enc}
 use Rattle.rpki.specs.Verification.{Context, ResourceFields}
 use Rattle.rpki.specs.Walks.{IsAcceptedAs, IsReached, LeadsTo, at_anchor}
 use Rattle.rpki_cert.proofs.CertificateFormats.{certificate_is}
 use Rattle.rpki_files.specs.Files.{FileFields, contents}
-use Rattle.rpki_files.specs.SaidKinds.{BeginsWithKind}
+use Rattle.rpki.specs.SaidKinds.{BeginsWithKind}
 use Rattle.rpki_verdicts.specs.Searches.{IsValidAmong, files_at}
 
 -- ---- places
@@ -92,14 +91,6 @@ router_below x asked r octets (Some c) h = (h.0, record { meets = h.1.meets; che
 
 -- ---- the path
 
--- what the certificate says that it is, as files have it
-said_as : (kind : Kind) (octets : List ℕ) → said.BeginsWithKind kind octets → BeginsWithKind kind octets
-said_as Router octets h = h
-said_as Authority octets h = h
-said_as EndEntity octets h = h
-said_as Detached octets h = h
-said_as Anchor octets h = absurd h.2
-
 module _ (x : Context) (asked : RevocationChecks) (t : NamedTal) (anchor file : FileFields) (certs : List FileFields) (above : List ℕ) where
   abbrev Octets : List (List ℕ)
   Octets = map (octets_at (contents certs)) above
@@ -145,5 +136,5 @@ module _ (x : Context) (asked : RevocationChecks) (t : NamedTal) (anchor file : 
   pub reached_files : slice_get certs 0 ≡ Some file → IsReached x asked (at_anchor t anchor.octets) (contents certs) above 0 → IsValidAmong x asked (contents Files)
   reached_files first h =
       let same : octets_at (contents certs) 0 ≡ file.octets = get_or_from_slice_get (contents certs) 0 file.octets [] (slice_get-map (λ (f : FileFields). f.octets) certs 0 ∙ ap (option_map (λ (f : FileFields). f.octets)) first) in
-      of_kind h.0 (said_as h.0 file.octets (subst (λ (o : List ℕ). said.BeginsWithKind h.0 o) same h.2)) h.1
+      of_kind h.0 (subst (λ (o : List ℕ). BeginsWithKind h.0 o) same h.2) h.1
       (subst (λ (o : List ℕ). IsAcceptedAs x asked (at_anchor t anchor.octets) (cas_at (contents certs) above) h.0 o h.1) same h.3)

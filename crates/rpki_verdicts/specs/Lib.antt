@@ -1,6 +1,7 @@
 -- The definitions that the contracts of judging files cite.
 pub mod GivenLocators
 pub mod PathFiles
+pub mod Reasons
 pub mod PathAnswers
 pub mod UnrevokedMembers
 pub mod Trees

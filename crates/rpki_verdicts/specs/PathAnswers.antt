@@ -18,7 +18,8 @@ use Rattle.rpki.specs.TalError.{TalError}
 use Rattle.rpki.specs.Verification.{Context, ResourceFields}
 use Rattle.rpki.specs.NameChains.{BeginChained, IsUnchained, strings_below}
 use Rattle.rpki_files.specs.Contents.{BeginsWithCertificate}
-use Rattle.rpki_files.specs.FaultRules.{ReasonFields, reason, rule_of, IsReason, key_reason, locator_reason, name_reason, tal_reason}
+use Rattle.rpki_files.specs.FaultRules.{rule_of}
+use Rattle.rpki_verdicts.specs.Reasons.{ReasonFields, reason, IsReason, key_reason, locator_reason, name_reason, tal_reason}
 use Rattle.rpki_files.specs.LocatorFiles.{AreLocator}
 use Rattle.rpki_verdicts.specs.GivenLocators.{IsLocated}
 use Rattle.rpki_verdicts.specs.PathFiles.{Demands, IsGivenBy, AreListsOf}

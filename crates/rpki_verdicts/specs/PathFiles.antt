@@ -1,14 +1,16 @@
 -- What is asked of files: the path that they are, and the lists that are given (own).
 use Rattle.std.specs.Prelude.{◌≡◌, ◌⊎◌, ℕ, List, [], ◌∷◌, Bool, true, slice_get, Option, Some, None}
 use Rattle.rpki.specs.Encoding.{Means}
+use Rattle.rpki.specs.Certificates.{CertFields, IsCertificate}
 use Rattle.rpki.specs.Times.{Moment}
 use Rattle.rpki.specs.Kind.{Kind}
+use Rattle.rpki.specs.Kind.TheVariants.{Authority}
+use Rattle.rpki.specs.SaidKinds.{BeginsWithKind}
 use Rattle.rpki.specs.Lists.{CrlState, IsCertificateList}
 use Rattle.rpki.specs.GivenPaths.{PathStrings, anchor_alone, HasLast}
 use Rattle.rpki.specs.LocatedPaths.{IsLocatorOf}
 use Rattle.rpki_files.specs.Contents.{BeginsWithList}
 use Rattle.rpki_files.specs.Files.{FileFields, contents}
-use Rattle.rpki_files.specs.SaidKinds.{IsJudgedAs}
 use Rattle.rpki_verdicts.specs.GivenLocators.{LocatorFields, IsFirst, locator_octets}
 
 -- what is asked: the files of the path, those given as lists and as locators, whether names have to
@@ -46,6 +48,12 @@ locator_at locators (Some place) = slice_get locators place
 abbrev pub IsAnchorLocator : QuestionFields → Option LocatorFields → Type 0
 IsAnchorLocator question found =
     (o : Option ℕ) × IsPlaceOfLocator question o × (found ≡ locator_at question.locators o)
+
+-- as what the last file is judged: as what its certificate says that it is, and as a CA where it
+-- begins with none
+abbrev pub IsJudgedAs : Kind → List ℕ → Type 0
+IsJudgedAs kind octets =
+    BeginsWithKind kind octets ⊎ ((kind ≡ Authority) × ((c : CertFields) → Means IsCertificate c octets → ⊥))
 
 -- the files are a path with a last one below the trust anchor, which is judged as it says
 pub record HasJudgedLast (files : List (List ℕ)) (g : PathStrings) : Type 0 where

@@ -18,7 +18,7 @@ use Rattle.rpki.specs.WalkError.{WalkError}
 use Rattle.rpki.specs.WalkError.TheVariants.{Anchor}
 use Rattle.rpki.specs.Walks.{Told, Tells, IsValidAnchor, IsWhyNone, at_anchor}
 use Rattle.rpki_files.specs.Contents.{BeginsWithCertificate}
-use Rattle.rpki_files.specs.FaultRules.{IsReason, locator_reason}
+use Rattle.rpki_verdicts.specs.Reasons.{IsReason, locator_reason}
 use Rattle.rpki_files.specs.Files.{FileFields, contents}
 use Rattle.rpki_verdicts.specs.GivenLocators.{LocatorFields}
 use Rattle.rpki_verdicts.specs.PathAnswers.{reason_of}

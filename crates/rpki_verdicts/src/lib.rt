@@ -5,6 +5,7 @@
 
 mod locators;
 mod path;
+pub mod reasons;
 mod search;
 mod unordered;
 

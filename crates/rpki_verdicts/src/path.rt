@@ -10,12 +10,11 @@ ghost use Rattle.rpki.specs.Paths.{UnlessMemory};
 ghost use Rattle.rpki.specs.PathFault.TheVariants.{Memory};
 ghost use Rattle.rpki.specs.NameChains.{BeginPath, IsUnchained, strings_below};
 ghost use Rattle.rpki_files.specs.Contents.{BeginsWithCertificate};
-ghost use Rattle.rpki_files.specs.FaultRules.{locator_reason, name_reason, tal_reason};
+ghost use Rattle.rpki_verdicts.specs.Reasons.{locator_reason, name_reason, tal_reason};
 ghost use Rattle.rpki_files.specs.Files.{contents};
 ghost use Rattle.rpki_files.specs.LocatorFiles.{AreLocator};
 ghost use Rattle.rpki_verdicts.specs.GivenLocators.{IsLocated, IsRead, locator_octets};
-ghost use Rattle.rpki_files.specs.SaidKinds.{IsJudgedAs};
-ghost use Rattle.rpki_verdicts.specs.PathFiles.{AreListsOf, Demands, IsAnchorLocator, IsPlaceOfLocator, demands_of};
+ghost use Rattle.rpki_verdicts.specs.PathFiles.{IsJudgedAs, AreListsOf, Demands, IsAnchorLocator, IsPlaceOfLocator, demands_of};
 ghost use Rattle.rpki_verdicts.specs.PathAnswers.{last_key, reason_of, AreChained, AreSame, IsNoLocator, IsReasonAt, IsPathVerdict, IsVerdictBy};
 ghost use Rattle.rpki_verdicts.specs.PathAnswers.Steps.{IsKindOfLast, IsKeyVerdict, IsNamedVerdict};
 ghost use Rattle.rpki_verdicts.specs.UnrevokedMembers.{AreUnrevoked};
@@ -23,11 +22,12 @@ ghost use Rattle.rpki_verdicts.specs.declared.path.Verdict.TheVariants.{Accepted
 ghost use Rattle.rpki_verdicts.specs.declared.path.Fault.{Fault as Faulty};
 
 use crate::locators::{GivenLocator, place_of_key};
+use crate::reasons::of_path;
 use rpki::crypto::keys::is_usable;
 use rpki::crypto::{PublicKey, RsaVerifier};
 use rpki::laws;
 use rpki::repository::Cert;
-use rpki::repository::cert::Kind;
+use rpki::repository::cert::{Kind, said_kind};
 use rpki::repository::crl::Crl;
 use rpki::repository::path::{
     GivenPath, Judged, Member, PathError, first_unchained, judge as judge_path,
@@ -35,8 +35,8 @@ use rpki::repository::path::{
 use rpki::repository::revocation::{GivenLists, NobodyAsked, RevocationSource};
 use rpki::repository::tal::TalError;
 use rpki::repository::x509::Time;
-use rpki_files::rules::{Rule, of_key, of_name, of_other_key, of_path, of_tal};
-use rpki_files::{Object, said_kind};
+use rpki_files::Object;
+use rpki_files::rules::{Rule, of_key, of_name, of_other_key, of_tal};
 use std::alloc::{AllocError, Global};
 use std::marker::Model;
 

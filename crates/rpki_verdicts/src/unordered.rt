@@ -18,16 +18,15 @@ ghost use Rattle.rpki_verdicts.specs.Trees.{AllAccepted, accepted_count, accepts
 
 use crate::locators::{GivenLocator, tal_of_key};
 use crate::path::{Fault, other_key, with_table};
+use crate::reasons::of_path;
 use rpki::crypto::RsaVerifier;
 use rpki::laws;
+use rpki::repository::cert::Said;
 use rpki::repository::crl::Crl;
-use rpki::repository::folder::{
-    AllAdmitted, Bounds, Ended, Folder, Line, Lines, Said, Walk, WalkError,
-};
+use rpki::repository::folder::{AllAdmitted, Bounds, Ended, Folder, Line, Lines, Walk, WalkError};
 use rpki::repository::path::{LocatedError, Member};
 use rpki::repository::tal::Tal;
 use rpki::repository::x509::Time;
-use rpki_files::rules::of_path;
 use rpki_files::{BareObject, Front};
 use std::alloc::{AllocError, Global};
 

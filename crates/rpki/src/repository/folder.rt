@@ -2,5 +2,5 @@
 //! (RFC 6487 7.2, RFC 8630 3).
 pub use rpki_folder::{
     Accepted, Added, Admission, AllAdmitted, Bounds, Ended, Filed, Folder, Found, FoundPath, Line,
-    Lines, Said, Visitor, Walk, WalkError,
+    Lines, Visitor, Walk, WalkError,
 };

@@ -8,7 +8,7 @@ ghost use Rattle.rpki_answers.specs.JsonValues.{Pair, Puts, Pushes};
 ghost use Rattle.rpki_answers.specs.JsonVerdicts.{PushesSome, PutsSome};
 ghost use Rattle.rpki_answers.specs.TreeTexts.{SaysInOrder};
 ghost use Rattle.rpki_answers.specs.VerdictTexts.{file_name_at};
-ghost use Rattle.rpki_files.specs.FaultRules.{ReasonFields, IsReason};
+ghost use Rattle.rpki_verdicts.specs.Reasons.{ReasonFields, IsReason};
 ghost use Rattle.rpki_verdicts.specs.PathAnswers.{reason_of};
 ghost use Rattle.rpki_verdicts.specs.Trees.{asked_of};
 
@@ -20,8 +20,8 @@ use rpki::repository::folder::{Ended, Line};
 use rpki::repository::path::PathFault;
 use rpki::repository::x509::Time;
 use rpki_arguments::Format;
-use rpki_files::rules::of_path;
 use rpki_files::{BareObject, Front};
+use rpki_verdicts::reasons::of_path;
 use rpki_verdicts::{Fault, Tree, TreeAnswer, TreeQuestion};
 use serde_json::Value;
 use std::alloc::{AllocError, Global};

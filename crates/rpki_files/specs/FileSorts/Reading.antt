@@ -1,7 +1,7 @@
 -- The reading function of turns at values of DER.
 use Rattle.std.specs.Prelude.{ℕ, if◌then◌else◌, List, [], ◌∷◌, bytes_eq, Option, Some, None}
-use Rattle.rpki.specs.Tags.{OBJECT_IDENTIFIER}
-use Rattle.rpki.specs.Values.Reading.{◌>>=◌, value_at}
+use Rattle.rpki_der.specs.Tags.{OBJECT_IDENTIFIER}
+use Rattle.rpki_der.specs.Values.Reading.{◌>>=◌, value_at}
 use Rattle.rpki_files.specs.FileSorts.{type_octets}
 use Rattle.rpki_files.specs.declared.sorts.Turn.{Turn}
 use Rattle.rpki_files.specs.declared.sorts.Turn.TheVariants.{Over, Into, Named}

@@ -1,8 +1,8 @@
 -- The reading function of where a certificate's extensions stand.
 use Rattle.std.specs.Prelude.{ℕ, List, [], ◌∷◌, Option, Some}
-use Rattle.rpki.specs.Reading.{inside}
-use Rattle.rpki.specs.Tags.{SEQUENCE}
-use Rattle.rpki.specs.Values.Reading.{◌>>=◌, value_at}
+use Rattle.rpki_der.specs.Reading.{inside}
+use Rattle.rpki_der.specs.Tags.{SEQUENCE}
+use Rattle.rpki_der.specs.Values.Reading.{◌>>=◌, value_at}
 use Rattle.rpki_files.specs.PolicyPresence.{tags_before}
 
 -- what stands behind values with these identifier octets

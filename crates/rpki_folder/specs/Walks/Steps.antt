@@ -12,7 +12,7 @@ use Rattle.rpki_path.specs.declared.located.LocatedError.TheVariants.{OtherKey, 
 use Rattle.rpki_path.specs.Paths.{Finds}
 use Rattle.rpki_path.specs.Paths.Steps.{IsIssuedBy}
 use Rattle.rpki_path.specs.Judging.{IsRouterIfAny}
-use Rattle.rpki_folder.specs.SaidKinds.{BeginsWithKind}
+use Rattle.rpki_cert.specs.SaidKinds.{BeginsWithKind}
 use Rattle.rpki_folder.specs.Walks.{demand_as}
 
 -- what is answered of octets that are judged as this kind below the issuer

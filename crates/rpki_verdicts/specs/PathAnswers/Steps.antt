@@ -5,8 +5,8 @@ use Rattle.rpki.specs.KeyForms.{IsUsableKey}
 use Rattle.rpki.specs.Kind.{Kind}
 use Rattle.rpki.specs.Kind.TheVariants.{Authority}
 use Rattle.rpki.specs.GivenPaths.{PathStrings}
-use Rattle.rpki_files.specs.FaultRules.{key_reason}
-use Rattle.rpki_files.specs.SaidKinds.{IsJudgedAs}
+use Rattle.rpki_verdicts.specs.Reasons.{key_reason}
+use Rattle.rpki_verdicts.specs.PathFiles.{IsJudgedAs}
 use Rattle.rpki_verdicts.specs.PathAnswers.{last_key, reason_of, AreChained, IsOtherName}
 use Rattle.rpki_verdicts.specs.declared.path.Verdict.{Verdict}
 use Rattle.rpki_verdicts.specs.declared.path.Verdict.TheVariants.{Accepted, Rejected}

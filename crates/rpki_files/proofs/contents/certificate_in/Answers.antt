@@ -1,7 +1,7 @@
 use Rattle.std.proofs.Common.{rules, ◌≡◌, ℕ, List, Err, subst}
-use Rattle.rpki.specs.Certificates.{CertFields, IsCertificate}
-use Rattle.rpki.specs.Encoding.{Begins}
-use Rattle.rpki.specs.Place.{Rejects}
+use Rattle.rpki_cert.specs.Certificates.{CertFields, IsCertificate}
+use Rattle.rpki_der.specs.Encoding.{Begins}
+use Rattle.rpki_der.specs.Place.{Rejects}
 use Rattle.rpki_der.proofs.Answering.{rejects}
 use Rattle.rpki_files.proofs.contents.certificate_in.Goals as goal
 

@@ -1,9 +1,9 @@
 use Rattle.std.specs.Prelude.{slice_get}
 use Rattle.std.proofs.Common.{rules, ◌≡◌, ◌∷◌, ℕ, List, Some, None, ap, ◌∙◌}
-use Rattle.rpki.specs.Encoding.{Means}
-use Rattle.rpki.specs.Place.{remaining}
-use Rattle.rpki.specs.Tags.{SEQUENCE}
-use Rattle.rpki.specs.Values.{IsEnc}
+use Rattle.rpki_der.specs.Encoding.{Means}
+use Rattle.rpki_der.specs.Place.{remaining}
+use Rattle.rpki_der.specs.Tags.{SEQUENCE}
+use Rattle.rpki_der.specs.Values.{IsEnc}
 use Rattle.rpki_files.proofs.FirstInside.{first_found}
 use Rattle.rpki_files.proofs.contents.first_inside.Goals as goal
 

@@ -1,7 +1,7 @@
 use Rattle.std.proofs.Common.{rules, ◌≡◌, ℕ, List, Err, subst}
-use Rattle.rpki.specs.Lists.{CrlFields, IsCertificateList}
-use Rattle.rpki.specs.Encoding.{Begins}
-use Rattle.rpki.specs.Place.{Rejects}
+use Rattle.rpki_crl.specs.Lists.{CrlFields, IsCertificateList}
+use Rattle.rpki_der.specs.Encoding.{Begins}
+use Rattle.rpki_der.specs.Place.{Rejects}
 use Rattle.rpki_der.proofs.Answering.{rejects}
 use Rattle.rpki_files.proofs.contents.list_in.Goals as goal
 

@@ -1,5 +1,5 @@
 use Rattle.std.proofs.Common.{◌≡◌, false, refl}
-use Rattle.rpki.specs.Place.{remaining}
+use Rattle.rpki_der.specs.Place.{remaining}
 use Rattle.rpki_der.proofs.Answering.{memory_alone}
 use Rattle.rpki_files.specs.StopPlaces.{AreComplete}
 use Rattle.rpki_files.specs.declared.expected.Part.TheVariants as part

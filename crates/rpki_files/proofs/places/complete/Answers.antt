@@ -1,5 +1,5 @@
 use Rattle.std.proofs.Common.{◌≡◌, false, true}
-use Rattle.rpki.specs.Place.{remaining}
+use Rattle.rpki_der.specs.Place.{remaining}
 use Rattle.rpki_files.specs.StopPlaces.{AreComplete, AreOfKinds, HasBoth}
 use Rattle.rpki_files.specs.declared.expected.Part.TheVariants as part
 use Rattle.rpki_files.proofs.KindsSeen.{both_needed, both_suffice}

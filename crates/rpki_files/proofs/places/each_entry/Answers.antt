@@ -1,7 +1,7 @@
 use Rattle.std.proofs.Common.{◌≡◌, ◌++◌, ◌∷◌, [], Err, refl, rules, subst}
 use Rattle.std.proofs.lemmas.Bool.{false≢true}
-use Rattle.rpki.specs.Place.{Place}
-use Rattle.rpki.specs.RevokedEntries.{AreEntries, IsEntry}
+use Rattle.rpki_der.specs.Place.{Place}
+use Rattle.rpki_crl.specs.RevokedEntries.{AreEntries, IsEntry}
 use Rattle.rpki_files.specs.StopPlaces.{Passes, StopsInEntries}
 use Rattle.rpki_files.proofs.StopWalks.{at_end, encodings_more, goes_on, not_at_end, passed, passed_all, stays}
 use Rattle.rpki_files.proofs.places.each_entry.Goals as goal

@@ -1,6 +1,6 @@
 use Rattle.std.proofs.Common.{List, length}
-use Rattle.rpki.specs.Place.{remaining}
-use Rattle.rpki.specs.RevokedEntries.{AreEntries, Entry}
+use Rattle.rpki_der.specs.Place.{remaining}
+use Rattle.rpki_crl.specs.RevokedEntries.{AreEntries, Entry}
 use Rattle.rpki_files.specs.StopPlaces.{Passes}
 use Rattle.rpki_files.proofs.places.each_entry.Given as goal
 

@@ -1,7 +1,7 @@
 use Rattle.std.proofs.Common.{◌≡◌, ◌++◌, ◌∷◌, [], List, Err, ap, refl, rules, subst, ◌∙◌}
 use Rattle.std.proofs.lemmas.Bool.{false≢true}
-use Rattle.rpki.specs.Extensions.{IsExtension}
-use Rattle.rpki.specs.Place.{Place}
+use Rattle.rpki_der.specs.Extensions.{IsExtension}
+use Rattle.rpki_der.specs.Place.{Place}
 use Rattle.rpki_files.specs.StopPlaces.{AreWellPlaced, MayStand, Passes, StopsAtExtension, StopsInExtensions, kind_of}
 use Rattle.rpki_files.specs.declared.kinds.Kind.{Kind}
 use Rattle.rpki_files.proofs.KindsSeen.{kinds_more, placed_more}

@@ -1,6 +1,6 @@
 use Rattle.std.proofs.Common.{◌≡◌, List, length, map}
-use Rattle.rpki.specs.Extensions.{Extension}
-use Rattle.rpki.specs.Place.{remaining}
+use Rattle.rpki_der.specs.Extensions.{Extension}
+use Rattle.rpki_der.specs.Place.{remaining}
 use Rattle.rpki_files.specs.StopPlaces.{AreWellPlaced, Passes, kind_of}
 use Rattle.rpki_files.proofs.places.each_extension.Given as goal
 

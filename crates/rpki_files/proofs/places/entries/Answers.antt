@@ -1,9 +1,9 @@
 use Rattle.std.proofs.Common.{List, inl, inr, refl, subst, sym}
-use Rattle.rpki.specs.Encoding.{Begins}
-use Rattle.rpki.specs.Place.{EndsAt, IsWithin, Place, remaining}
-use Rattle.rpki.specs.RevokedEntries.{AreEntries, Entry, revoked_format}
-use Rattle.rpki.specs.Tags.{SEQUENCE}
-use Rattle.rpki.specs.Values.{IsEnc}
+use Rattle.rpki_der.specs.Encoding.{Begins}
+use Rattle.rpki_der.specs.Place.{EndsAt, IsWithin, Place, remaining}
+use Rattle.rpki_crl.specs.RevokedEntries.{AreEntries, Entry, revoked_format}
+use Rattle.rpki_der.specs.Tags.{SEQUENCE}
+use Rattle.rpki_der.specs.Values.{IsEnc}
 use Rattle.rpki_files.specs.StopPlaces.{EncodesSome, Passes, ReadsEntries, StopsAtEntries, StopsInEntries}
 use Rattle.rpki_files.specs.declared.expected.Part.TheVariants as part
 use Rattle.rpki_files.proofs.StopWalks.{entries_are, errs_so, no_entries_are, oks_so, opens_at, opens_some, passes_so, stays, stops_for}

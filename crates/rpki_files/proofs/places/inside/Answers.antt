@@ -1,5 +1,5 @@
 use Rattle.std.proofs.Common.{◌≡◌, Err, inl, inr, refl, rules}
-use Rattle.rpki.specs.Tags.{SEQUENCE}
+use Rattle.rpki_der.specs.Tags.{SEQUENCE}
 use Rattle.rpki_files.specs.StopPlaces.{HasTag, StopsAtAlgorithm, StopsBefore, StopsInSigned, StopsInside}
 use Rattle.rpki_files.specs.declared.expected.Part.TheVariants as part
 use Rattle.rpki_files.proofs.StopWalks.{passed}

@@ -1,7 +1,7 @@
 use Rattle.std.proofs.Common.{subst, sym}
-use Rattle.rpki.specs.Algorithms.{algorithm_format}
-use Rattle.rpki.specs.Encoding.{Begins, Means}
-use Rattle.rpki.specs.Place.{Place, remaining}
+use Rattle.rpki_parts.specs.Algorithms.{algorithm_format}
+use Rattle.rpki_der.specs.Encoding.{Begins, Means}
+use Rattle.rpki_der.specs.Place.{Place, remaining}
 use Rattle.rpki_files.proofs.TwoAlgorithms.{none_stands, other_stands}
 use Rattle.rpki_files.proofs.places.is_other.Goals as goal
 

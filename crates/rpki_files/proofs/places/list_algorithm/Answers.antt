@@ -1,7 +1,7 @@
 use Rattle.std.specs.Prelude.{is_ok}
 use Rattle.std.proofs.Common.{ap, subst, sym}
-use Rattle.rpki.specs.Lists.{version_2}
-use Rattle.rpki.specs.Place.{Place, remaining}
+use Rattle.rpki_crl.specs.Lists.{version_2}
+use Rattle.rpki_der.specs.Place.{Place, remaining}
 use Rattle.rpki_der.proofs.FormatAnswers.{answers_alone}
 use Rattle.rpki_crl.proofs.ListFormats.{version_alone}
 use Rattle.rpki_files.specs.StopPlaces.{HasAlgorithm}

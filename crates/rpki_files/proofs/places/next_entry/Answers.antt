@@ -1,6 +1,6 @@
 use Rattle.std.proofs.Common.{refl}
-use Rattle.rpki.specs.RevokedEntries.{IsEntry, entry_format}
-use Rattle.rpki.specs.RevokedEntries.Views.{entry_of}
+use Rattle.rpki_crl.specs.RevokedEntries.{IsEntry, entry_format}
+use Rattle.rpki_crl.specs.RevokedEntries.Views.{entry_of}
 use Rattle.rpki_crl.proofs.EntryReads.{entry_shrinks}
 use Rattle.rpki_files.specs.StopPlaces.{EncodesSome, StopsBefore}
 use Rattle.rpki_files.specs.declared.expected.Part.TheVariants as part

@@ -1,7 +1,7 @@
 use Rattle.std.proofs.Common.{◌≡◌, ◌<◌, inl, inr, length, refl, subst, ◌∙◌}
-use Rattle.rpki.specs.Extensions.{Extension, IsExtension}
-use Rattle.rpki.specs.Extensions.Views.{extension_view}
-use Rattle.rpki.specs.Place.{remaining}
+use Rattle.rpki_der.specs.Extensions.{Extension, IsExtension}
+use Rattle.rpki_der.specs.Extensions.Views.{extension_view}
+use Rattle.rpki_der.specs.Place.{remaining}
 use Rattle.rpki_der.proofs.ExtensionReads.{extension_shrinks}
 use Rattle.rpki_files.specs.StopPlaces.{IsNext, MayStandAs, Passes, StopsAtExtension, kind_of}
 use Rattle.rpki_files.specs.declared.expected.Part.TheVariants as part

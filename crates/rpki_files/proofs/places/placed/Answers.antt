@@ -1,5 +1,5 @@
 use Rattle.std.proofs.Common.{◌≡◌, ap, refl, subst, sym}
-use Rattle.rpki.specs.Place.{remaining}
+use Rattle.rpki_der.specs.Place.{remaining}
 use Rattle.rpki_der.proofs.Answering.{memory_alone}
 use Rattle.rpki_files.specs.KnownKinds.{known_kind}
 use Rattle.rpki_files.specs.StopPlaces.{MayStandAs}

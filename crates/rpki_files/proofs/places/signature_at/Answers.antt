@@ -1,5 +1,5 @@
 use Rattle.std.proofs.Common.{◌≡◌, Err, inl, inr, rules}
-use Rattle.rpki.specs.Tags.{SEQUENCE}
+use Rattle.rpki_der.specs.Tags.{SEQUENCE}
 use Rattle.rpki_files.specs.StopPlaces.{HasTag, Opens, StopsAt, StopsBefore, StopsInside, whole}
 use Rattle.rpki_files.specs.declared.expected.Part.TheVariants as part
 use Rattle.rpki_files.proofs.StopWalks.{errs_so, passed, values_so}

@@ -1,11 +1,11 @@
-use Rattle.rpki.specs.Algorithms.{algorithm_format}
-use Rattle.rpki.specs.BasicFormats.{serial_format, time_format}
-use Rattle.rpki.specs.Certificates.{version_format}
-use Rattle.rpki.specs.Keys.{public_key_format}
-use Rattle.rpki.specs.Lists.{version_2}
-use Rattle.rpki.specs.Names.{name_format}
-use Rattle.rpki.specs.Skipping.{levels}
-use Rattle.rpki.specs.Validities.{validity_format}
+use Rattle.rpki_parts.specs.Algorithms.{algorithm_format}
+use Rattle.rpki_der.specs.BasicFormats.{serial_format, time_format}
+use Rattle.rpki_cert.specs.Certificates.{version_format}
+use Rattle.rpki_parts.specs.Keys.{public_key_format}
+use Rattle.rpki_crl.specs.Lists.{version_2}
+use Rattle.rpki_parts.specs.Names.{name_format}
+use Rattle.rpki_der.specs.Skipping.{levels}
+use Rattle.rpki_parts.specs.Validities.{validity_format}
 use Rattle.rpki_der.proofs.FormatAnswers.{answers_alone}
 use Rattle.rpki_cert.proofs.CertificateFormats.{version_alone}
 use Rattle.rpki_crl.proofs.ListFormats.{version_alone as list_version_alone}

@@ -1,5 +1,5 @@
 use Rattle.std.proofs.Common.{◌↔◌, ◌+◌, ◌≤◌, length}
-use Rattle.rpki.specs.Place.{remaining}
+use Rattle.rpki_der.specs.Place.{remaining}
 use Rattle.rpki_files.specs.PolicyPresence.{AreExtensions}
 use Rattle.rpki_files.proofs.policies.are_extensions.Given as goal
 

@@ -1,7 +1,7 @@
 use Rattle.std.proofs.Common.{refl, sym, ◌∙◌, arith}
 use Rattle.std.proofs.lemmas.Bool.{false≢true}
-use Rattle.rpki.specs.Extensions.Views.{extension_view}
-use Rattle.rpki.specs.Place.{remaining}
+use Rattle.rpki_der.specs.Extensions.Views.{extension_view}
+use Rattle.rpki_der.specs.Place.{remaining}
 use Rattle.rpki_der.proofs.ExtensionReads.{extension_shrinks}
 use Rattle.rpki_files.proofs.FoundPolicies.{none_there, first_has, others_have, none_of_nothing}
 use Rattle.rpki_files.proofs.policies.begins_with_one.Goals as goal

@@ -1,5 +1,5 @@
 use Rattle.std.proofs.Common.{◌↔◌, ◌+◌, ◌≤◌, length}
-use Rattle.rpki.specs.Place.{remaining}
+use Rattle.rpki_der.specs.Place.{remaining}
 use Rattle.rpki_files.specs.PolicyPresence.{BeginsWithOne}
 use Rattle.rpki_files.proofs.policies.begins_with_one.Given as goal
 

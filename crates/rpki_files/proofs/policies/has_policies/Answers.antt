@@ -1,8 +1,8 @@
 use Rattle.std.specs.Prelude.{Some}
 use Rattle.std.proofs.Common.{◌≡◌, ℕ, List, sym, subst, ◌∙◌}
 use Rattle.std.proofs.lemmas.Bool.{false≢true}
-use Rattle.rpki.specs.Place.{remaining}
-use Rattle.rpki.specs.Values.{AreOctets}
+use Rattle.rpki_der.specs.Place.{remaining}
+use Rattle.rpki_der.specs.Values.{AreOctets}
 use Rattle.rpki_der.proofs.Octets.{nothing, some_is}
 use Rattle.rpki_files.specs.PolicyPresence.{BeginsWithOne}
 use Rattle.rpki_files.specs.PolicyPresence.Reading.{extensions_at}

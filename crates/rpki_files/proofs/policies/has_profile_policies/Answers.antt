@@ -1,4 +1,4 @@
-use Rattle.rpki.specs.ExtensionKinds.{certificate_policies}
+use Rattle.rpki_ext.specs.ExtensionKinds.{certificate_policies}
 use Rattle.rpki_files.proofs.ContentReads.{read_or_none}
 use Rattle.rpki_files.proofs.policies.has_profile_policies.Goals as goal
 

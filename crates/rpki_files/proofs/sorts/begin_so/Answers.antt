@@ -2,8 +2,8 @@ use Rattle.std.specs.Prelude.{Some}
 use Rattle.std.proofs.Common.{◌≡◌, List, ap, drop, sym, subst, ◌∙◌}
 use Rattle.std.proofs.lemmas.Bool.{false≢true}
 use Rattle.std.proofs.lemmas.List.{at_drop_all}
-use Rattle.rpki.specs.Place.{remaining}
-use Rattle.rpki.specs.Values.{AreOctets}
+use Rattle.rpki_der.specs.Place.{remaining}
+use Rattle.rpki_der.specs.Values.{AreOctets}
 use Rattle.rpki_files.specs.FileSorts.Reading.{all_turned}
 use Rattle.rpki_files.specs.declared.sorts.Turn.{Turn}
 use Rattle.rpki_files.proofs.Turns.{turns_taken, turn_more, turn_stops}

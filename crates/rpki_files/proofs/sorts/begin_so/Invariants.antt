@@ -1,5 +1,5 @@
 use Rattle.std.proofs.Common.{◌≡◌, drop}
-use Rattle.rpki.specs.Place.{remaining}
+use Rattle.rpki_der.specs.Place.{remaining}
 use Rattle.rpki_files.specs.FileSorts.Reading.{all_turned}
 use Rattle.rpki_files.proofs.sorts.begin_so.Given as goal
 

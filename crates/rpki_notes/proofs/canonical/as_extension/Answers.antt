@@ -1,9 +1,9 @@
 use Rattle.std.proofs.Common.{rules, ◌≡◌, [], subst}
 use Rattle.std.specs.Prelude.{IfOk}
-use Rattle.rpki.specs.Overclaims.{as_identifier}
-use Rattle.rpki.specs.Resources.{Resources}
-use Rattle.rpki.specs.Systems.{written_as}
-use Rattle.rpki.specs.Unions.{text_of}
+use Rattle.rpki_blocks.specs.Overclaims.{as_identifier}
+use Rattle.rpki_blocks.specs.Resources.{Resources}
+use Rattle.rpki_blocks.specs.Systems.{written_as}
+use Rattle.rpki_blocks.specs.Unions.{text_of}
 use Rattle.rpki_notes.specs.FaultSearch.{IsExtensionOf}
 use Rattle.rpki_notes.proofs.Written.{as_oid, kept_is}
 use Rattle.rpki_notes.proofs.canonical.as_extension.Goals as goal

@@ -1,9 +1,9 @@
 use Rattle.std.proofs.Common.{ℕ, List, sym, ap, subst, ◌∙◌, refl}
 use Rattle.std.proofs.lemmas.Bool.{false≢true}
-use Rattle.rpki.specs.Encoding.{Begins}
-use Rattle.rpki.specs.Extensions.{Extension, IsExtension, extension_format}
-use Rattle.rpki.specs.Extensions.Views.{extension_view}
-use Rattle.rpki.specs.Place.{remaining}
+use Rattle.rpki_der.specs.Encoding.{Begins}
+use Rattle.rpki_der.specs.Extensions.{Extension, IsExtension, extension_format}
+use Rattle.rpki_der.specs.Extensions.Views.{extension_view}
+use Rattle.rpki_der.specs.Place.{remaining}
 use Rattle.rpki_notes.proofs.Written.{content_read, not_refused, nothing_kept}
 use Rattle.rpki_notes.proofs.canonical.content_of.Goals as goal
 

@@ -1,9 +1,9 @@
 use Rattle.std.proofs.Common.{rules, ◌≡◌, [], subst}
 use Rattle.std.specs.Prelude.{IfOk}
-use Rattle.rpki.specs.Addresses.{ip_addr_blocks}
-use Rattle.rpki.specs.Overclaims.{ip_identifier}
-use Rattle.rpki.specs.Resources.{Resources}
-use Rattle.rpki.specs.Unions.{text_of}
+use Rattle.rpki_blocks.specs.Addresses.{ip_addr_blocks}
+use Rattle.rpki_blocks.specs.Overclaims.{ip_identifier}
+use Rattle.rpki_blocks.specs.Resources.{Resources}
+use Rattle.rpki_blocks.specs.Unions.{text_of}
 use Rattle.rpki_notes.specs.FaultSearch.{IsExtensionOf}
 use Rattle.rpki_notes.proofs.Written.{ip_oid, kept_is}
 use Rattle.rpki_notes.proofs.canonical.ip_extension.Goals as goal

@@ -1,6 +1,6 @@
 use Rattle.std.proofs.Common.{refl, map}
-use Rattle.rpki.specs.Extensions.Views.{extension_view}
-use Rattle.rpki.specs.Place.{remaining}
+use Rattle.rpki_der.specs.Extensions.Views.{extension_view}
+use Rattle.rpki_der.specs.Place.{remaining}
 use Rattle.rpki_der.proofs.ExtensionReads.{extension_shrinks}
 use Rattle.rpki_notes.specs.Facts.{fact_view}
 use Rattle.rpki_notes.proofs.Gathered.{all_gathered, one_gathered, rest_gathered}

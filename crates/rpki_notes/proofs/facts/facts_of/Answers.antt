@@ -1,6 +1,6 @@
 use Rattle.std.specs.Prelude.{ℕ, List}
-use Rattle.rpki.specs.Certificates.{CertFields, IsCertificate}
-use Rattle.rpki.specs.Encoding.{Means}
+use Rattle.rpki_cert.specs.Certificates.{CertFields, IsCertificate}
+use Rattle.rpki_der.specs.Encoding.{Means}
 use Rattle.rpki_notes.proofs.facts.facts_of.Goals as goal
 
 never : (octets : List ℕ) → ((c : CertFields) → Means IsCertificate c octets → ⊥) → (c : CertFields) → Means IsCertificate c octets → ⊥

@@ -1,9 +1,9 @@
 use Rattle.std.proofs.Common.{◌≡◌, ℕ, List, sym, ap, subst, ◌∙◌}
 use Rattle.std.proofs.lemmas.Result.{IfOk-weaker}
-use Rattle.rpki.specs.Certificates.{TbsFields}
-use Rattle.rpki.specs.Extensions.{IsExtension}
-use Rattle.rpki.specs.Place.{remaining}
-use Rattle.rpki.specs.Sequences.{AreEncodings}
+use Rattle.rpki_cert.specs.Certificates.{TbsFields}
+use Rattle.rpki_der.specs.Extensions.{IsExtension}
+use Rattle.rpki_der.specs.Place.{remaining}
+use Rattle.rpki_der.specs.Sequences.{AreEncodings}
 use Rattle.rpki_der.proofs.Octets.{nothing, some_is}
 use Rattle.rpki_files.proofs.FoundPolicies.{extensions_again}
 use Rattle.rpki_notes.specs.Facts.{facts_of}

@@ -1,6 +1,6 @@
 use Rattle.std.specs.Prelude.{Some, None, if◌then◌else◌}
 use Rattle.std.proofs.Common.{Bool, List, ℕ, ap, ◌∙◌}
-use Rattle.rpki.specs.Place.{remaining}
+use Rattle.rpki_der.specs.Place.{remaining}
 use Rattle.rpki_notes.proofs.facts.uri_of.Goals as goal
 
 pub returns-then-is_cps : goal.returns-then-is_cps

@@ -1,7 +1,7 @@
 use Rattle.std.proofs.Common.{◌≡◌, ℕ, List, sym, subst, ◌∙◌}
-use Rattle.rpki.specs.Extensions.{IsExtension}
-use Rattle.rpki.specs.Place.{remaining}
-use Rattle.rpki.specs.Sequences.{AreEncodings}
+use Rattle.rpki_der.specs.Extensions.{IsExtension}
+use Rattle.rpki_der.specs.Place.{remaining}
+use Rattle.rpki_der.specs.Sequences.{AreEncodings}
 use Rattle.rpki_der.proofs.Octets.{nothing, some_is}
 use Rattle.rpki_files.proofs.FoundPolicies.{extensions_again}
 use Rattle.rpki_notes.proofs.finding.has_one.Goals as goal

@@ -1,7 +1,7 @@
 use Rattle.std.proofs.Common.{refl}
 use Rattle.std.proofs.lemmas.Bool.{false≢true}
-use Rattle.rpki.specs.Extensions.Views.{extension_view}
-use Rattle.rpki.specs.Place.{remaining}
+use Rattle.rpki_der.specs.Extensions.Views.{extension_view}
+use Rattle.rpki_der.specs.Place.{remaining}
 use Rattle.rpki_der.proofs.ExtensionReads.{extension_shrinks}
 use Rattle.rpki_notes.specs.FaultSearch.{HasFault, sought_names}
 use Rattle.rpki_notes.proofs.Walks.{first_has, goes_on, none_left, none_read}

@@ -1,5 +1,5 @@
 use Rattle.std.proofs.Common.{length}
-use Rattle.rpki.specs.Place.{remaining}
+use Rattle.rpki_der.specs.Place.{remaining}
 use Rattle.rpki_notes.specs.FaultSearch.{HasFault, sought_names}
 use Rattle.rpki_notes.proofs.Walks.{IsLookedFor}
 use Rattle.rpki_notes.proofs.finding.is_among.Given as goal

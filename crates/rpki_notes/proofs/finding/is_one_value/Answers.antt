@@ -1,8 +1,8 @@
 use Rattle.std.proofs.Common.{◌≤◌, List, ℕ, length, get_or, sym, ap, subst, arith}
 use Rattle.std.proofs.lemmas.Bool.{false≢true}
-use Rattle.rpki.specs.Encoding.{Begins}
-use Rattle.rpki.specs.Place.{Place, remaining}
-use Rattle.rpki.specs.Values.{IsEnc}
+use Rattle.rpki_der.specs.Encoding.{Begins}
+use Rattle.rpki_der.specs.Place.{Place, remaining}
+use Rattle.rpki_der.specs.Values.{IsEnc}
 use Rattle.rpki_notes.proofs.OneValues.{none_if_refused, nothing_is_none, one_if_ends}
 use Rattle.rpki_notes.proofs.finding.is_one_value.Goals as goal
 

@@ -1,6 +1,6 @@
 use Rattle.std.proofs.Common.{sym, map}
-use Rattle.rpki.specs.Place.{remaining}
-use Rattle.rpki.specs.Tags.{SEQUENCE}
+use Rattle.rpki_der.specs.Place.{remaining}
+use Rattle.rpki_der.specs.Tags.{SEQUENCE}
 use Rattle.rpki_notes.specs.Facts.{description_facts, fact_view}
 use Rattle.rpki_notes.proofs.Gathered.{all_said, one_said, value_shrinks}
 use Rattle.rpki_notes.proofs.further.put_descriptions.Goals as goal

@@ -1,5 +1,5 @@
 use Rattle.std.proofs.Common.{◌≡◌, ◌++◌, length, map}
-use Rattle.rpki.specs.Place.{remaining}
+use Rattle.rpki_der.specs.Place.{remaining}
 use Rattle.rpki_notes.specs.Facts.{descriptions_facts, fact_view}
 use Rattle.rpki_notes.proofs.further.put_descriptions.Given as goal
 

@@ -1,6 +1,6 @@
 use Rattle.std.proofs.Common.{sym, map}
 use Rattle.std.specs.Option.{option_copied}
-use Rattle.rpki.specs.Place.{remaining}
+use Rattle.rpki_der.specs.Place.{remaining}
 use Rattle.rpki_notes.specs.Facts.{URI, fact_view, further_if}
 use Rattle.rpki_notes.proofs.Gathered.{all_said, one_said, value_shrinks}
 use Rattle.rpki_notes.proofs.further.put_names.Goals as goal

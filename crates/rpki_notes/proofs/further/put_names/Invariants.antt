@@ -1,6 +1,6 @@
 use Rattle.std.proofs.Common.{◌≡◌, ◌++◌, length, map}
 use Rattle.std.specs.Option.{option_copied}
-use Rattle.rpki.specs.Place.{remaining}
+use Rattle.rpki_der.specs.Place.{remaining}
 use Rattle.rpki_notes.specs.Facts.{fact_view, further_names}
 use Rattle.rpki_notes.proofs.further.put_names.Given as goal
 

@@ -1,7 +1,7 @@
 use Rattle.std.proofs.Common.{◌≡◌, ◌↔◌, List, get_or, take, true, sym, subst}
 use Rattle.std.proofs.lemmas.List.{take_all, take_more}
-use Rattle.rpki.specs.Certificates.{TbsFields}
-use Rattle.rpki.specs.Extensions.{Extension}
+use Rattle.rpki_cert.specs.Certificates.{TbsFields}
+use Rattle.rpki_der.specs.Extensions.{Extension}
 use Rattle.rpki_notes.specs.Notes.{AreNotes, AreThose, Breaks, HaveExtensions, IsNoteOf, every_note}
 use Rattle.rpki_notes.specs.declared.note.Note.{Note}
 use Rattle.rpki_notes.specs.declared.note.Note.TheVariants.{SerialZero}

@@ -1,5 +1,5 @@
 use Rattle.std.proofs.Common.{◌≡◌, length}
-use Rattle.rpki.specs.NameTexts.{are_small}
+use Rattle.rpki_parts.specs.NameTexts.{are_small}
 use Rattle.rpki_text.proofs.identifiers.are_small.Given as goal
 
 abbrev pub invariant-loop-octet : goal.invariant-loop-octet

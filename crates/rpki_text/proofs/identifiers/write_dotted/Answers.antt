@@ -1,7 +1,7 @@
 use Rattle.std.specs.Prelude.{◌&&◌, not, nat_lt}
 use Rattle.std.proofs.Common.{rules, ◌≡◌, ◌∷◌, ◌^◌}
 use Rattle.std.proofs.lemmas.Bool.{and_parts}
-use Rattle.rpki.specs.NameTexts.{are_small, subidentifiers, number_after, ended_with, numbers_text, dotted_text}
+use Rattle.rpki_parts.specs.NameTexts.{are_small, subidentifiers, number_after, ended_with, numbers_text, dotted_text}
 use Rattle.rpki_parts.proofs.NameTexts.{piece_written, numbers_split}
 use Rattle.rpki_text.proofs.identifiers.write_dotted.Goals as goal
 

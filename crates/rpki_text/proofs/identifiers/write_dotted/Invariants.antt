@@ -1,6 +1,6 @@
 use Rattle.std.proofs.Common.{◌≡◌, true, length}
 use Rattle.std.specs.Fmt.{IsPlainFormatter}
-use Rattle.rpki.specs.NameTexts.{are_small, subidentifiers, numbers_text, dotted_text}
+use Rattle.rpki_parts.specs.NameTexts.{are_small, subidentifiers, numbers_text, dotted_text}
 use Rattle.rpki_parts.proofs.NameTexts.{IsPartWritten}
 use Rattle.rpki_text.proofs.identifiers.write_dotted.Given as goal
 

@@ -2,7 +2,7 @@ use Rattle.std.proofs.Common.{take}
 use Rattle.std.specs.Fmt.{HasWritten, IsPlainFormatter}
 use Rattle.std.specs.List.{flat_map}
 use Rattle.std.specs.Prelude.{◌∷◌, ◌++◌, [], codes}
-use Rattle.rpki.specs.Texts.{hexadecimal}
+use Rattle.rpki_der.specs.Texts.{hexadecimal}
 use Rattle.rpki_text.proofs.lines.write_colons.Given as goal
 
 abbrev pub invariant-loop-octet : goal.invariant-loop-octet

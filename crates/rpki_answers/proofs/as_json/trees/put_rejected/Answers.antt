@@ -1,5 +1,6 @@
 use Rattle.std.proofs.lemmas.Result.{IfOk-weaker}
-use Rattle.rpki_files.specs.FaultRules.{reason, rule_of}
+use Rattle.rpki_files.specs.FaultRules.{rule_of}
+use Rattle.rpki_verdicts.specs.Reasons.{reason}
 use Rattle.rpki_answers.specs.JsonTrees.{rejected_members}
 use Rattle.rpki_answers.proofs.PutMembers.{then_put, last_put}
 use Rattle.rpki_answers.proofs.as_json.trees.put_rejected.Goals as goal

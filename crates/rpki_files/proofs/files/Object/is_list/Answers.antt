@@ -1,6 +1,6 @@
 use Rattle.std.specs.Prelude.{IsTrue}
 use Rattle.std.proofs.Common.{◌↔◌, Bool, sym, subst}
-use Rattle.rpki.specs.Lists.{IsCertificateList}
+use Rattle.rpki_crl.specs.Lists.{IsCertificateList}
 use Rattle.rpki_files.specs.Contents.{BeginsWithList}
 use Rattle.rpki_files.proofs.NothingRead.{found_or_not}
 use Rattle.rpki_files.proofs.files.Object.is_list.Goals as goal

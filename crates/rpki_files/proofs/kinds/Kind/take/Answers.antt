@@ -1,7 +1,7 @@
-use Rattle.rpki.specs.Addresses.{IsIPAddrBlocks}
+use Rattle.rpki_blocks.specs.Addresses.{IsIPAddrBlocks}
 use Rattle.rpki_blocks.specs.Addresses.Views.{families_of}
-use Rattle.rpki.specs.ExtensionKinds.{basic_constraints, subject_key_identifier, authority_key_identifier, key_usage, extended_key_usage, crl_distribution_points, authority_information_access, subject_information_access, certificate_policies, crl_number}
-use Rattle.rpki.specs.Systems.{IsASIdentifiers}
+use Rattle.rpki_ext.specs.ExtensionKinds.{basic_constraints, subject_key_identifier, authority_key_identifier, key_usage, extended_key_usage, crl_distribution_points, authority_information_access, subject_information_access, certificate_policies, crl_number}
+use Rattle.rpki_blocks.specs.Systems.{IsASIdentifiers}
 use Rattle.rpki_files.proofs.ContentReads.{begins, begins_or_memory}
 use Rattle.rpki_files.proofs.kinds.Kind.take.Goals as goal
 

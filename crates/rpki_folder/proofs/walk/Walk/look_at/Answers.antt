@@ -6,7 +6,7 @@ use Rattle.rpki_cert.specs.Verification.{ResourceFields}
 use Rattle.rpki_path.specs.declared.judging.Judged.{Judged}
 use Rattle.rpki_path.specs.declared.path_fault.PathFault.{PathFault}
 use Rattle.rpki_folder.specs.Folders.{octets_at}
-use Rattle.rpki_folder.specs.SaidKinds.{SaysKind, BeginsWithKind}
+use Rattle.rpki_cert.specs.SaidKinds.{SaysKind, BeginsWithKind}
 use Rattle.rpki_folder.specs.Walks.Steps.{GoesOn, Hands}
 use Rattle.rpki_folder.proofs.StepAnswers.{octets_here}
 use Rattle.rpki_folder.proofs.walk.Walk.look_at.Goals as goal

@@ -8,7 +8,7 @@ use Rattle.rpki_cert.specs.Certificates.{TbsFields, CertFields, IsCertificate}
 use Rattle.rpki_cert.specs.Profiles.{MeetsProfile}
 use Rattle.rpki_cert.specs.declared.inspect.Kind.{Kind}
 use Rattle.rpki_cert.specs.declared.inspect.Kind.TheVariants.{Anchor, Authority, EndEntity, Detached, Router}
-use Rattle.rpki_folder.specs.SaidKinds.{SaysAuthority, SaysKind, BeginsWithKind}
+use Rattle.rpki_cert.specs.SaidKinds.{SaysAuthority, SaysKind, BeginsWithKind}
 
 both : {X : Type 0} (o : Option X) → IsSome o → IsNone o → ⊥
 both None some none = absurd cc

@@ -1,11 +1,12 @@
 //! What a certificate says that it is, and what it is.
 ghost use Rattle.std.specs.Prelude.{◌↔◌, IsTrue, IsSomeAnd};
-ghost use Rattle.rpki.specs.RouterPurposes.{HasRouterPurpose};
-ghost use Rattle.rpki_files.specs.SaidKinds.{SaysRouter, SaysKind, IsKindOf};
+ghost use Rattle.rpki_ext.specs.RouterPurposes.{HasRouterPurpose};
+ghost use Rattle.rpki_cert.specs.SaidKinds.{SaysRouter, SaysKind, IsKindOf, IsSaid};
 
-use rpki::crypto::PublicKeyFormat;
-use rpki::repository::Cert;
-use rpki::repository::cert::{Kind, TbsCert};
+use crate::cert::Cert;
+use crate::inspect::Kind;
+use crate::tbs::TbsCert;
+use rpki_parts::{KeyIdentifier, PublicKeyFormat};
 
 // Whether a further purpose of the key is that of routers (RFC 8209 3.1.3.2).
 fn has_router_purpose(tbs: &TbsCert) -> bool
@@ -55,5 +56,30 @@ pub fn kind_of(cert: &Cert, strict: bool) -> Kind
     match cert.inspect_ta(strict) {
         Ok(()) => Kind::Anchor,
         Err(_) => said_kind(cert.as_tbs()),
+    }
+}
+
+/// What a certificate says of its place among others.
+#[derive(Clone, Copy)]
+pub struct Said {
+    /// The kind that it says that it is of, below a trust anchor.
+    pub kind: Kind,
+    /// The identifier of its own key.
+    pub key: KeyIdentifier,
+    /// That of the key that it names as the one that signs it.
+    pub signer: Option<KeyIdentifier>,
+}
+
+impl Said {
+    /// Returns what the certificate says.
+    pub fn of(cert: &Cert) -> Said
+        ensures { IsSaid result cert.now.fields }
+    {
+        let tbs = cert.as_tbs();
+        Said {
+            kind: said_kind(tbs),
+            key: tbs.subject_key_identifier(),
+            signer: tbs.authority_key_identifier(),
+        }
     }
 }

@@ -1,10 +1,10 @@
 use Rattle.std.proofs.Common.{inr, subst}
-use Rattle.rpki.specs.Certificates.{TbsFields}
-use Rattle.rpki.specs.Kind.TheVariants.{Anchor}
-use Rattle.rpki.specs.Profiles.{Lacks, faults}
+use Rattle.rpki_cert.specs.Certificates.{TbsFields}
+use Rattle.rpki_cert.specs.declared.inspect.Kind.TheVariants.{Anchor}
+use Rattle.rpki_cert.specs.Profiles.{Lacks, faults}
 use Rattle.rpki_cert.proofs.Checks.{first_not_all}
-use Rattle.rpki_files.specs.SaidKinds.{SaysKind}
-use Rattle.rpki_files.proofs.saying.kind_of.Goals as goal
+use Rattle.rpki_cert.specs.SaidKinds.{SaysKind}
+use Rattle.rpki_cert.proofs.saying.kind_of.Goals as goal
 
 pub returns-in-Err : goal.returns-in-Err
 returns-in-Err c =

@@ -1,13 +1,13 @@
--- What a certificate says that it is, what it is, and as what the last file of a path is judged
--- (own).
+-- What a certificate says that it is, and what it is (own).
 use Rattle.std.specs.Prelude.{◌≡◌, ◌⊎◌, ℕ, Bool, List, Some, true, IsSome, IsNone, IsSomeAnd}
-use Rattle.rpki.specs.Encoding.{Means}
-use Rattle.rpki.specs.RouterPurposes.{HasRouterPurpose}
-use Rattle.rpki.specs.PublicKeyFormat.TheVariants.{EcdsaP256}
-use Rattle.rpki.specs.Certificates.{TbsFields, CertFields, IsCertificate}
-use Rattle.rpki.specs.Kind.{Kind}
-use Rattle.rpki.specs.Kind.TheVariants.{Anchor, Authority, EndEntity, Detached, Router}
-use Rattle.rpki.specs.Profiles.{MeetsProfile}
+use Rattle.rpki_ext.specs.Kinds.{Means}
+use Rattle.rpki_ext.specs.RouterPurposes.{HasRouterPurpose}
+use Rattle.rpki_parts.specs.declared.key.PublicKeyFormat.TheVariants.{EcdsaP256}
+use Rattle.rpki_cert.specs.Certificates.{TbsFields, CertFields, IsCertificate}
+use Rattle.rpki_cert.specs.declared.inspect.Kind.{Kind}
+use Rattle.rpki_cert.specs.declared.inspect.Kind.TheVariants.{Anchor, Authority, EndEntity, Detached, Router}
+use Rattle.rpki_cert.specs.declared.saying.Said.{Said}
+use Rattle.rpki_cert.specs.Profiles.{MeetsProfile}
 
 -- a CA's
 abbrev pub SaysAuthority : TbsFields → Type 0
@@ -43,7 +43,13 @@ IsKindOf kind strict c =
 abbrev pub BeginsWithKind : Kind → List ℕ → Type 0
 BeginsWithKind kind octets = (c : CertFields) × Means IsCertificate c octets × SaysKind kind c.fields
 
--- as what the last file is judged; as a CA where it begins with no certificate
-abbrev pub IsJudgedAs : Kind → List ℕ → Type 0
-IsJudgedAs kind octets =
-    BeginsWithKind kind octets ⊎ ((kind ≡ Authority) × ((c : CertFields) → Means IsCertificate c octets → ⊥))
+-- what a certificate says of its place among others: its kind, the identifier of its own key, and that
+-- of the key that it names as the one that signs it (RFC 5280 4.2.1.1)
+pub record IsSaid (said : Said) (f : TbsFields) : Type 0 where
+  pub kind_is : SaysKind said.kind f
+  pub key_is : said.key ≡ f.extensions.subject_key_identifier
+  pub signer_is : said.signer ≡ f.extensions.authority_key_identifier
+
+-- the octets begin with a certificate that says this
+abbrev pub BeginsWithSaid : Said → List ℕ → Type 0
+BeginsWithSaid said octets = (c : CertFields) × Means IsCertificate c octets × IsSaid said c.fields

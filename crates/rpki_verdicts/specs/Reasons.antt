@@ -1,0 +1,49 @@
+-- Why a path is rejected: the step at which a fault comes, its name, and what it means (own).
+use Rattle.std.specs.Prelude.{◌≡◌, ℕ, List, codes}
+use Rattle.rpki.specs.ErrorNames.{decode_error_name}
+use Rattle.rpki.specs.FaultNames.{path_fault_name}
+use Rattle.rpki.specs.Inspection.{inspection_error_name}
+use Rattle.rpki.specs.PathFault.{PathFault}
+use Rattle.rpki.specs.PathFault.TheVariants as path
+use Rattle.rpki.specs.PublicKeyFormat.{PublicKeyFormat}
+use Rattle.rpki.specs.Revocation.{revocation_error_name}
+use Rattle.rpki.specs.TalError.{TalError}
+use Rattle.rpki.specs.TalErrors.{tal_error_name}
+use Rattle.rpki.specs.Verification.{verification_error_name}
+use Rattle.rpki_files.specs.FaultRules.{RuleFields, IsReadingRule, inspection_rule, key_rule, name_rule, no_memory, other_key, revocation_rule, tal_rule, verification_rule}
+
+-- the step at which a fault comes, its name, and its rule
+pub record ReasonFields : Type 0 where
+  pub step : List ℕ
+  pub name : List ℕ
+  pub rule : RuleFields
+
+-- of these
+abbrev pub reason : List ℕ → List ℕ → RuleFields → ReasonFields
+reason step name its_rule = record { step = step; name = name; rule = its_rule }
+
+-- of a fault of the member with these octets
+abbrev pub IsReason : PathFault → List ℕ → ReasonFields → Type 0
+IsReason (path.Decode e) octets r =
+    (its_rule : RuleFields) × IsReadingRule e octets its_rule
+    × (r ≡ reason (codes "reading") (decode_error_name e) its_rule)
+IsReason (path.Inspect e) octets r = r ≡ reason (codes "profile") (inspection_error_name e) (inspection_rule e)
+IsReason (path.Verify e) octets r = r ≡ reason (codes "verification") (verification_error_name e) (verification_rule e)
+IsReason (path.Revocation e) octets r = r ≡ reason (codes "revocation") (revocation_error_name e) (revocation_rule e)
+IsReason path.Memory octets r = r ≡ reason (codes "memory") (path_fault_name path.Memory) no_memory
+
+-- of a trust anchor whose key no locator has that is given
+abbrev pub locator_reason : ReasonFields
+locator_reason = reason (codes "locator") (codes "OtherKey") other_key
+
+-- of a file that is given as a locator, and is none
+abbrev pub tal_reason : TalError → ReasonFields
+tal_reason e = reason (codes "locator") (tal_error_name e) (tal_rule e)
+
+-- of the member at this place, where the path is valid but its names don't chain
+abbrev pub name_reason : ℕ → ReasonFields
+name_reason place = reason (codes "names") (codes "OtherName") (name_rule place)
+
+-- of the last member's key, where the path is valid but that key can't be used
+abbrev pub key_reason : PublicKeyFormat → ReasonFields
+key_reason format = reason (codes "key") (codes "BadKey") (key_rule format)

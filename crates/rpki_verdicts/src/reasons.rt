@@ -1,0 +1,24 @@
+//! Why a path is rejected: the step at which a fault comes, its name, and what it means.
+ghost use Rattle.rpki_files.specs.FaultRules.{rule_of};
+ghost use Rattle.rpki_verdicts.specs.Reasons.{IsReason, reason};
+
+use bytes::Bytes;
+use rpki::repository::path::PathFault;
+use rpki_files::rules::{
+    Rule, of_inspection, of_reading, of_revocation, of_verification, out_of_memory,
+};
+
+/// Tells of a fault of a path's member, which has these octets, at which step it came, its name,
+/// and what it means.
+pub fn of_path(fault: &PathFault, octets: &Bytes) -> (&'static str, &'static str, Rule)
+    ensures { let answer = reason result.0.now result.1.now (rule_of result.2) in
+        IsReason fault.now octets.now answer }
+{
+    match fault {
+        PathFault::Decode(fault) => ("reading", fault.name(), of_reading(fault, octets)),
+        PathFault::Inspect(fault) => ("profile", fault.name(), of_inspection(*fault)),
+        PathFault::Verify(fault) => ("verification", fault.name(), of_verification(fault)),
+        PathFault::Revocation(fault) => ("revocation", fault.name(), of_revocation(fault)),
+        PathFault::Memory => ("memory", fault.name(), out_of_memory()),
+    }
+}
