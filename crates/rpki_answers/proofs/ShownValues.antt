@@ -1,6 +1,6 @@
 -- The values of files that are shown have no floats.
 use Rattle.std.specs.List.{AllByRecursion}
-use Rattle.std.proofs.Common.{Bool, ℕ, List, [], ◌∷◌, inl, inr, sym, subst}
+use Rattle.std.proofs.Common.{Bool, List, inl, inr, sym, subst}
 use Rattle.serde_json.specs.Data.{Data}
 use Rattle.rpki_files.specs.Files.{FileFields}
 use Rattle.rpki_answers.specs.JsonAnswers.{AreFileValues, IsFileItem, IsFileJson}

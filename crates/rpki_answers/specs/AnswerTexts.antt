@@ -1,5 +1,5 @@
 -- What is answered of the files that a request names.
-use Rattle.std.specs.Prelude.{◌≡◌, ◌≢◌, ◌*◌, ◌^◌, ◌-◌, min, unwrap_or, ℕ, length, List, []}
+use Rattle.std.specs.Prelude.{◌≡◌, ◌*◌, ◌^◌, ◌-◌, min, unwrap_or, ℕ, length, List, []}
 use Rattle.rpki.specs.RsaSignatures.{IsSignedByRsa}
 use Rattle.rpki.specs.Times.{Moment}
 use Rattle.rpki.specs.Verification.{context}
@@ -15,7 +15,6 @@ use Rattle.rpki_answers.specs.ShownTexts.{IsTextOfFiles}
 use Rattle.rpki_answers.specs.TreeTexts.{IsAcceptingFinding, IsTreeFinding, IsTreeText}
 use Rattle.rpki_answers.specs.VerdictTexts.{IsTextOfPath}
 use Rattle.rpki_arguments.specs.declared.arguments.Format.{Format}
-use Rattle.rpki_arguments.specs.declared.arguments.Format.TheVariants.{Text}
 use Rattle.rpki_arguments.specs.declared.arguments.Task.{Task}
 use Rattle.rpki_arguments.specs.declared.arguments.Task.TheVariants.{Show, Validate, Tree}
 use Rattle.rpki_answers.specs.declared.outcomes.Outcome.{Outcome}

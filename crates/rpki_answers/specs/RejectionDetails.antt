@@ -1,9 +1,8 @@
 -- What a rejection tells beside its rule, so that its reader can act (own): which list is wanted,
 -- which keys differ, which moment is over, what else a file is that is no certificate, and that the
 -- files stand the other way round.
-use Rattle.std.specs.List.{concat}
 use Rattle.std.specs.Option.{option_map}
-use Rattle.std.specs.Prelude.{◌≡◌, ◌↔◌, ◌-◌, ℕ, Bool, IsTrue, if◌then◌else◌, List, [], ◌∷◌, ◌++◌, length, codes, slice_get, Option, Some, None}
+use Rattle.std.specs.Prelude.{◌≡◌, ◌↔◌, ◌-◌, ℕ, Bool, IsTrue, if◌then◌else◌, List, [], ◌++◌, length, codes, slice_get, Option, Some, None}
 use Rattle.rpki.specs.Certificates.{CertFields, IsCertificate}
 use Rattle.rpki.specs.Encoding.{Means}
 use Rattle.rpki.specs.Kind.TheVariants.{Anchor}

@@ -3,13 +3,12 @@
 use Rattle.std.specs.Fmt.{decimal}
 use Rattle.std.specs.List.{concat, flat_map}
 use Rattle.std.specs.Option.{option_map}
-use Rattle.std.specs.Prelude.{◌≡◌, ◌==◌, ◌+◌, ◌⊎◌, ℕ, All, List, [], ◌∷◌, ◌++◌, length, codes, slice_get, unwrap_or, Option, None, Some, MatchOption}
+use Rattle.std.specs.Prelude.{◌≡◌, ◌==◌, ◌+◌, ◌⊎◌, ℕ, All, List, [], ◌∷◌, ◌++◌, length, codes, slice_get, unwrap_or, Option, Some}
 use Rattle.std.specs.Bool.{MatchBool}
 use Rattle.rpki.specs.Ended.{Ended}
 use Rattle.rpki.specs.Ended.TheVariants.{Whole, TooDeep, OutOfSteps}
 use Rattle.rpki.specs.Line.{Line}
 use Rattle.rpki.specs.Line.TheVariants as line
-use Rattle.rpki.specs.Times.{Moment}
 use Rattle.rpki.specs.Verification.{Context}
 use Rattle.rpki_files.specs.Contents.{BeginsWithCertificate, BeginsWithEither, BeginsWithList}
 use Rattle.rpki_verdicts.specs.Reasons.{ReasonFields, IsReason}
@@ -19,7 +18,6 @@ use Rattle.rpki_text.specs.Pages.{file_name_text, line_feed, line as label_line}
 use Rattle.rpki_verdicts.specs.GivenLocators.{locator_octets}
 use Rattle.rpki_verdicts.specs.PathAnswers.{IsNoLocator, reason_of}
 use Rattle.rpki_verdicts.specs.Trees.{TreeFields, IsAccepting, IsTreeAnswer, accepted_count, certs_of}
-use Rattle.rpki_verdicts.specs.declared.path.Fault.{Fault}
 use Rattle.rpki_verdicts.specs.declared.unordered.Tree.{Tree}
 use Rattle.rpki_verdicts.specs.declared.unordered.TreeAnswer.{TreeAnswer}
 use Rattle.rpki_verdicts.specs.declared.unordered.TreeAnswer.TheVariants.{NoAnchor, WrongAnchor, Walked}

@@ -1,13 +1,12 @@
 -- What stands where in the octets of a certificate.
 use Rattle.std.specs.Prelude.{IfErr, IfOk, Result, Ok, Err}
-use Rattle.std.proofs.Common.{◌≡◌, ◌≤◌, ◌<◌, ◌+◌, ◌-◌, ℕ, List, [], ◌∷◌, ◌++◌, length, take, drop, get_or, slice_range, refl, sym, ap, subst, ◌∙◌, append_assoc, arith}
+use Rattle.std.proofs.Common.{◌≡◌, ◌≤◌, ◌<◌, ◌+◌, ◌-◌, ℕ, List, [], ◌∷◌, ◌++◌, length, drop, get_or, slice_range, refl, sym, ap, subst, ◌∙◌, append_assoc, arith}
 use Rattle.std.proofs.lemmas.List.{append-nil, drop_all, drop_more}
 use Rattle.std.proofs.lemmas.List.Edits.{length-between}
 use Rattle.rpki_der.specs.Answers.{AnswersBy}
-use Rattle.rpki_der.specs.BasicFormats.{bit_string}
 use Rattle.rpki_der.specs.Encoding.{Begins, Means}
 use Rattle.rpki_der.specs.Formats.{any_octets}
-use Rattle.rpki_der.specs.Place.{Place, IsWithin, MovesOn, ReadsFrontBy, remaining}
+use Rattle.rpki_der.specs.Place.{Place, IsWithin, MovesOn, remaining}
 use Rattle.rpki_der.specs.Primitives.{IsBits}
 use Rattle.rpki_der.specs.Skipping.{levels}
 use Rattle.rpki_der.specs.Tags.{BIT_STRING, CONTEXT_CONSTRUCTED, INTEGER, SEQUENCE}
@@ -24,7 +23,7 @@ use Rattle.rpki_parts.proofs.PartFormats.{whole_bits_are}
 use Rattle.rpki_parts.proofs.SignedFormats.{SignedParts, signed_parts}
 use Rattle.rpki_cert.specs.Certificates.{CertFields, IsCertificate, TbsFields, certificate_content_format, tbs_content_format, tbs_format, version_format}
 use Rattle.rpki_c.specs.CertificateSpans.{AreSignedSpans, AreTagged, GoesBehind, HasTag, IsAtFields, IsInside, IsKeySpan, IsSpan, StandsNone, StoodAt}
-use Rattle.rpki_c.specs.Contents.{BeginsNoCertificate}
+use Rattle.rpki_folder.specs.Folders.{BeginsNoCertificate}
 
 -- ---- answers, and cursors that go on
 

@@ -1,6 +1,6 @@
 -- The places of a path's signatures that are told one after the other, as many as there is room for.
 use Rattle.std.specs.List.{concat}
-use Rattle.std.proofs.Common.{◌≡◌, ◌≢◌, ◌≤◌, ◌<◌, ◌+◌, ◌-◌, ℕ, List, [], ◌∷◌, ◌++◌, length, take, drop, get_or, set, slice_range, refl, sym, ap, subst, ◌∙◌, below_more, arith}
+use Rattle.std.proofs.Common.{◌≡◌, ◌≢◌, ◌≤◌, ◌<◌, ◌+◌, ◌-◌, ℕ, List, [], ◌++◌, length, take, drop, get_or, set, slice_range, refl, sym, ap, subst, ◌∙◌, below_more, arith}
 use Rattle.std.proofs.lemmas.List.{drop-drop, drop-set-lt, drop_at, drop_more, get_or-set_other, get_or-set_same, length-append, length-drop, length-set, take_at}
 use Rattle.bytes.proofs.Ranges.{slice_range-slice_range}
 use Rattle.rpki_parts.specs.Keys.{IsPublicKey}

@@ -12,10 +12,9 @@ use Rattle.rpki_cert.specs.Certificates.{CertFields, IsCertificate}
 use Rattle.rpki_crl.specs.Lists.{CrlState}
 use Rattle.rpki_tal.specs.Locators.{TalFields}
 use Rattle.rpki_path.specs.LocatedPaths.{BeginsWithKey}
-use Rattle.rpki_folder.specs.Folders.{FolderFields, with_cert, with_list, octets_at}
+use Rattle.rpki_folder.specs.Folders.{FolderFields, with_cert, with_list, octets_at, BeginsNoCertificate}
 use Rattle.rpki_folder.specs.declared.folder.Added.{Added}
 use Rattle.rpki_folder.specs.declared.folder.Added.TheVariants.{Certificate, List as list_added, Neither}
-use Rattle.rpki_c.specs.Contents.{BeginsNoCertificate}
 use Rattle.rpki_c.specs.Verdicts.{BeginsNoList}
 use Rattle.rpki_c.specs.FolderFates.{IsTakenFor, IsNoList, AreListsAmong, AreCertificatesAmong}
 use Rattle.rpki_c.specs.FolderFates.Steps.{IsAddedAs, AreSorted}

@@ -6,7 +6,7 @@ use Rattle.rpki_parts.specs.Signatures.{Verifies}
 use Rattle.rpki_cert.specs.Certificates.{CertFields, IsCertificate}
 use Rattle.rpki_cert.specs.Verification.{context}
 use Rattle.rpki_path.specs.declared.judging.Judged.{Judged}
-use Rattle.rpki_c.specs.Contents.{BeginsNoCertificate}
+use Rattle.rpki_folder.specs.Folders.{BeginsNoCertificate}
 use Rattle.rpki_c.specs.Questions.{HasTerms, HasNoTerms}
 use Rattle.rpki_c.specs.Verdicts.{AnswersStrings, AreStringsOf, DontAddUp, IsUncalled, Refused}
 use Rattle.rpki_c.specs.declared.answers.Said.{Said}

@@ -7,8 +7,7 @@ use Rattle.rpki_blocks.specs.declared.overclaim.Overclaim.{Overclaim}
 use Rattle.rpki_blocks.specs.declared.overclaim.Overclaim.TheVariants.{Refuse, Trim}
 use Rattle.rpki_ext.specs.declared.key_usage.KeyUsage.{KeyUsage}
 use Rattle.rpki_ext.specs.declared.key_usage.KeyUsage.TheVariants.{Ca, Ee}
-use Rattle.rpki_ext.specs.Kinds.{Means}
-use Rattle.rpki_cert.specs.Certificates.{TbsFields, CertFields, IsCertificate}
+use Rattle.rpki_cert.specs.Certificates.{TbsFields}
 use Rattle.rpki_crl.specs.Lists.{ListFields}
 use Rattle.rpki_crl.specs.RevokedEntries.{Entry, IsRevoked, Revoked}
 use Rattle.rpki_c.specs.TimeParts.{moment_of_parts}
@@ -16,10 +15,6 @@ use Rattle.rpki_c.specs.declared.certificates.RpkiCertificate.{RpkiCertificate}
 use Rattle.rpki_c.specs.declared.lists.RpkiEntry.{RpkiEntry}
 use Rattle.rpki_c.specs.declared.lists.RpkiList.{RpkiList}
 use Rattle.rpki_c.specs.declared.moments.RpkiTime.{RpkiTime}
-
--- the octets begin with no certificate
-abbrev pub BeginsNoCertificate : List ℕ → Type 0
-BeginsNoCertificate octets = (c : CertFields) → Means IsCertificate c octets → ⊥
 
 -- 1 where it is so, and else 0
 abbrev pub IsFlag : Type 0 → ℕ → Type 0

@@ -1,7 +1,7 @@
 -- What becomes of strings, which are certificates and revocation lists in any order, below the
 -- trust anchor among them that has a locator's key (own).
 use Rattle.std.specs.List.{AllByRecursion}
-use Rattle.std.specs.Prelude.{◌≡◌, ◌⊎◌, ◌+◌, ◌<◌, ℕ, List, [], ◌∷◌, length, slice_index_or, Err}
+use Rattle.std.specs.Prelude.{◌≡◌, ◌⊎◌, ◌+◌, ◌<◌, ℕ, List, [], ◌∷◌, length, Err}
 use Rattle.rpki_ext.specs.Kinds.{Means}
 use Rattle.rpki_cert.specs.Certificates.{CertFields, IsCertificate}
 use Rattle.rpki_cert.specs.Verification.{Context, ResourceFields}
@@ -11,11 +11,10 @@ use Rattle.rpki_revocation.specs.AskedLists.{by_lists}
 use Rattle.rpki_tal.specs.Locators.{NamedTal, TalFields}
 use Rattle.rpki_path.specs.LocatedPaths.{BeginsWithKey}
 use Rattle.rpki_path.specs.declared.path_fault.PathFault.{PathFault}
-use Rattle.rpki_folder.specs.Folders.{octets_at}
+use Rattle.rpki_folder.specs.Folders.{octets_at, BeginsNoCertificate}
 use Rattle.rpki_folder.specs.Walks.{Root, at_anchor, members_at, LeadsTo, IsReached, Told, IsRight, IsRightOf, Covers, HasBelow}
 use Rattle.rpki_folder.specs.declared.bounds.Ended.{Ended}
 use Rattle.rpki_folder.specs.declared.bounds.Ended.TheVariants.{TooDeep, OutOfSteps}
-use Rattle.rpki_c.specs.Contents.{BeginsNoCertificate}
 use Rattle.rpki_c.specs.FolderQuestions.{asked_or, usual_steps}
 use Rattle.rpki_c.specs.Verdicts.{BeginsNoList}
 pub mod Steps

@@ -3,11 +3,10 @@
 use Rattle.std.specs.Prelude.{◌≡◌, ◌⊎◌, ℕ, List, [], Option, Some, None, option_map, Result, Ok, Err}
 use Rattle.rpki_ext.specs.Kinds.{Means}
 use Rattle.rpki_cert.specs.Certificates.{TbsFields}
-use Rattle.rpki_cert.specs.Verification.{IsSignedBy, ResourceFields}
+use Rattle.rpki_cert.specs.Verification.{ResourceFields}
 use Rattle.rpki_crl.specs.Lists.{CrlFields, CrlState, IsCertificateList, IsTbsCertList, ListFields}
-use Rattle.rpki_crl.specs.Revocation.{NamesIssuer}
 use Rattle.rpki_crl.specs.RevokedEntries.{Revoked}
-use Rattle.rpki_keys.specs.RsaSignatures.{IsSignedByRsa}
+use Rattle.rpki_wanted.specs.Issuers.{IsOwnList}
 use Rattle.rpki_wanted.specs.WantedLists.{IsListCompleted, IsListPrepared, IsListWanted, WantedListFields}
 use Rattle.rpki_c.specs.Verdicts.{BeginsNoList}
 use Rattle.rpki_c.specs.WantedAnswers.{IsAuthorityOf, IsNoAuthority}
@@ -20,11 +19,6 @@ use Rattle.rpki_c.specs.declared.wanted_list.ListTerms.{ListTerms}
 use Rattle.rpki_c.specs.declared.wanted_list.RpkiWantedList.{RpkiWantedList}
 
 -- ---- the list before
-
--- the list is one of the issuer: it names its key, which signed it
-pub record IsOwnList (issuer : TbsFields) (list : CrlFields) : Type 0 where
-  pub names : NamesIssuer issuer list
-  pub signed : IsSignedBy IsSignedByRsa issuer.key list.signed_data
 
 -- the octets begin with this list of the issuer
 abbrev pub BeginsWithOwn : TbsFields → List ℕ → CrlState → Type 0

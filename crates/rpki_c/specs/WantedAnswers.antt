@@ -1,6 +1,6 @@
 -- What is answered to what a caller wants of a certificate: the octets that are to be signed, those of
 -- the certificate, or why there are none (own).
-use Rattle.std.specs.Prelude.{◌≡◌, ◌≢◌, ◌⊎◌, ◌<◌, ℕ, List, [], Option, Some, None, option_map, Result, Ok, Err}
+use Rattle.std.specs.Prelude.{◌≡◌, ◌≢◌, ◌⊎◌, ◌<◌, ℕ, List, [], Option, Some, None, Result, Ok, Err}
 use Rattle.rpki_cert.specs.Certificates.{TbsFields, IsTbsCertificate}
 use Rattle.rpki_cert.specs.Verification.{ResourceFields}
 use Rattle.rpki_cert.specs.declared.inspect.Kind.{Kind}
@@ -11,8 +11,9 @@ use Rattle.rpki_parts.specs.Keys.{KeyFields, IsPublicKey}
 use Rattle.rpki_parts.specs.Names.{IsName}
 use Rattle.rpki_parts.specs.Uris.{IsHttps, IsRsync}
 use Rattle.rpki_path.specs.declared.judging.Judged.{Judged}
-use Rattle.rpki_wanted.specs.AskedFields.{fields_asked, issuer_name, subject_asked}
-use Rattle.rpki_wanted.specs.PreparedOctets.{IsCompleted, IsPrepared, IsUncompleted, IsUnprepared}
+use Rattle.rpki_wanted.specs.AskedFields.{fields_asked, subject_asked}
+use Rattle.rpki_wanted.specs.Issuers.{IsNamed, fields_above}
+use Rattle.rpki_wanted.specs.PreparedOctets.{IsCompleted, IsPrepared, IsToSign, IsUncompleted, IsUnprepared}
 use Rattle.rpki_wanted.specs.declared.preparing.WantedError.{WantedError}
 use Rattle.rpki_wanted.specs.declared.preparing.WantedError.TheVariants as wanting
 use Rattle.rpki_wanted.specs.declared.wanted.Wanted.{Wanted}
@@ -72,10 +73,6 @@ AnswersValue {V} w Is (Err why.Memory) = Unit {0}
 AnswersValue {V} w Is (Err _) = ⊥
 
 -- ---- who issues
-
--- the fields of the issuer's certificate
-abbrev pub fields_above : Option ResourceFields → Option TbsFields
-fields_above issuer = option_map (λ r. r.cert.fields) issuer
 
 -- a trust anchor has no path above it; the path of another certificate ends in a CA
 abbrev pub EndsWell : Kind → RpkiQuestion → Type 0
@@ -166,15 +163,6 @@ AnswersWanted w r =
     ⊎ ((t : WantedTerms) × HasWantedTerms w t × AnswersTerms w t r)
 
 -- ---- what is completed
-
--- the octets are a TBSCertificate with these fields, of a key that the RPKI uses
-pub record IsToSign (f : TbsFields) (octets : List ℕ) : Type 0 where
-  pub is_data : IsTbsCertificate f octets
-  pub usable : IsUsableKey f.key
-
--- its issuer is named as the certificate above, and without one as the subject (RFC 6487 4.4)
-abbrev pub IsNamed : Option ResourceFields → TbsFields → Type 0
-IsNamed issuer f = f.issuer ≡ issuer_name (fields_above issuer) f.subject
 
 -- the fields of what was signed, or why there are none
 abbrev pub AnswersSigned : List ℕ → Result TbsFields Unissued → Type 0

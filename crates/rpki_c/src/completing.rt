@@ -1,9 +1,9 @@
 //! Certificates that are completed by their signatures.
-ghost use Rattle.std.specs.Prelude.{◌≡◌, ◌↔◌, option_map, IfErr, IfOk, IsNone, IsTrue, IfSome};
-ghost use Rattle.rpki_c.specs.WantedAnswers.{AnswersCompletedBelow, AnswersCompletion, AnswersCompletionTerms, AnswersNamed, AnswersSigned, IsNamed, fields_above};
+ghost use Rattle.std.specs.Prelude.{◌≡◌, option_map, IfErr, IfOk, IsNone, IfSome};
+ghost use Rattle.rpki_c.specs.WantedAnswers.{AnswersCompletedBelow, AnswersCompletion, AnswersCompletionTerms, AnswersNamed, AnswersSigned};
+ghost use Rattle.rpki_wanted.specs.Issuers.{IsNamed};
 ghost use Rattle.rpki_c.specs.WantedQuestions.{HasCompletionTerms, HasNoCompletionTerms};
 ghost use Rattle.rpki_c.specs.declared.unissued.Unissued.TheVariants.{OtherName};
-ghost use Rattle.rpki_wanted.specs.AskedFields.{issuer_name};
 
 use crate::certificates::kind_of;
 use crate::issuer::issuer_of;
@@ -13,7 +13,7 @@ use crate::unissued::Unissued;
 use bytes::Bytes;
 use rpki_cert::{Kind, ResourceCert, TbsCert};
 use rpki_keys::is_usable;
-use rpki_parts::Name;
+use rpki_wanted::issuers::is_named;
 use rpki_wanted::{complete_octets, read_tbs};
 use std::alloc::Global;
 
@@ -58,25 +58,6 @@ fn completion_terms_of(completion: &RpkiCompletion<'_>) -> Option<CompletionTerm
         kind: kind_of(completion.kind)?,
         asked: terms_of(&completion.issuer)?,
     })
-}
-
-// The name of who issues.
-fn name_above<'a>(tbs: &'a TbsCert, issuer: Option<&'a ResourceCert>) -> &'a Name
-    ensures { let above = fields_above (option_map (λ r. r.now) issuer.entry) in
-        result.now ≡ issuer_name above tbs.now.subject }
-{
-    match issuer {
-        Some(issuer) => issuer.as_cert().as_tbs().subject(),
-        None => tbs.subject(),
-    }
-}
-
-// Whether the issuer is named as the certificate above, if there is one, and else as the subject.
-fn is_named(tbs: &TbsCert, issuer: Option<&ResourceCert>) -> bool
-    ensures { IsTrue result ↔ IsNamed (option_map (λ r. r.now) issuer.entry) tbs.now }
-{
-    let name = name_above(tbs, issuer);
-    tbs.issuer().as_bytes() == name.as_bytes()
 }
 
 // The fields of what was signed.

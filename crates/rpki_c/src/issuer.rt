@@ -1,15 +1,15 @@
 //! Who issues: the CA that a path ends in, or nobody above a trust anchor.
-ghost use Rattle.std.specs.Prelude.{◌≡◌, ◌↔◌, option_map, Err, IfErr, IfOk, IsTrue};
+ghost use Rattle.std.specs.Prelude.{◌≡◌, ◌↔◌, Err, IfErr, IfOk, IsTrue};
 ghost use Rattle.rpki_cert.specs.declared.inspect.Kind.TheVariants.{Anchor};
 ghost use Rattle.rpki_c.specs.Verdicts.{AnswersQuestion};
-ghost use Rattle.rpki_c.specs.WantedAnswers.{IsAuthorityOf, IsHeld, IsIssuerOf, IsNoAuthority, IsNoIssuer, fields_above};
+ghost use Rattle.rpki_c.specs.WantedAnswers.{IsAuthorityOf, IsHeld, IsIssuerOf, IsNoAuthority, IsNoIssuer};
 ghost use Rattle.rpki_keys.specs.RsaSignatures.{IsSignedByRsa};
 
 use crate::judging::judge_question;
 use crate::question::RpkiQuestion;
 use crate::refusal::Refusal;
 use crate::unissued::Unissued;
-use rpki_cert::{Kind, ResourceCert, TbsCert};
+use rpki_cert::{Kind, ResourceCert};
 use rpki_path::Judged;
 use std::alloc::Global;
 
@@ -70,16 +70,5 @@ pub(crate) fn issuer_of(
     match authority_of(alloc, question) {
         Ok(issuer) => Ok(Some(issuer)),
         Err(why) => Err(why),
-    }
-}
-
-/// Returns the fields of the issuer's certificate.
-pub(crate) fn above<'i>(issuer: Option<&'i ResourceCert>) -> Option<&'i TbsCert>
-    ensures { option_map (λ f. f.now) result
-        ≡ fields_above (option_map (λ r. r.now) issuer.entry) }
-{
-    match issuer {
-        Some(issuer) => Some(issuer.as_cert().as_tbs()),
-        None => None,
     }
 }

@@ -1,8 +1,9 @@
 //! What is to be signed of a revocation list that a caller wants.
-ghost use Rattle.std.specs.Prelude.{◌≡◌, ◌⊎◌, ◌↔◌, option_map, IfErr, IfOk, IsTrue};
+ghost use Rattle.std.specs.Prelude.{◌≡◌, ◌⊎◌, option_map, IfErr, IfOk};
 ghost use Rattle.rpki_ext.specs.Kinds.{Means};
 ghost use Rattle.rpki_crl.specs.Lists.{IsCertificateList};
-ghost use Rattle.rpki_c.specs.ListAnswers.{AnswersBehind, AnswersListBelow, AnswersListFields, AnswersListTerms, AnswersWantedList, BeginsWithOwn, IsNoPrevious, IsOwnList, IsPreviousOf};
+ghost use Rattle.rpki_c.specs.ListAnswers.{AnswersBehind, AnswersListBelow, AnswersListFields, AnswersListTerms, AnswersWantedList, BeginsWithOwn, IsNoPrevious, IsPreviousOf};
+ghost use Rattle.rpki_wanted.specs.Issuers.{IsOwnList};
 ghost use Rattle.rpki_c.specs.Verdicts.{BeginsNoList};
 ghost use Rattle.rpki_c.specs.declared.unissued.Unissued.TheVariants.{Memory, OtherList};
 
@@ -13,18 +14,9 @@ use crate::wanted_list::{ListTerms, RpkiWantedList, list_given, list_terms_of};
 use bytes::Bytes;
 use rpki_cert::ResourceCert;
 use rpki_crl::{Crl, RevokedCertificates, TbsCertList};
-use rpki_keys::RsaVerifier;
+use rpki_wanted::issuers::is_own;
 use rpki_wanted::{list_fields, prepare_list_octets};
 use std::alloc::Global;
-
-// Whether the list names the issuer's key, and this key signed it.
-fn is_own(list: &Crl, issuer: &ResourceCert) -> bool
-    ensures { IsTrue result ↔ IsOwnList issuer.now.cert.fields list.now.list }
-{
-    let key = issuer.as_cert().as_tbs().subject_public_key_info();
-    list.verify_issuer_claim(issuer, true).is_ok()
-        && list.verify_signature(key, &RsaVerifier).is_ok()
-}
 
 // The list that the octets begin with.
 fn read_list(alloc: Global, octets: &[u8]) -> Result<Crl, Unissued>
@@ -51,7 +43,7 @@ fn owned_by(list: Crl, issuer: &ResourceCert) -> Result<Crl, Unissued>
     ensures other { IfErr result (λ e. (e ≡ OtherList)
         × (IsOwnList issuer.now.cert.fields list.list → ⊥)) }
 {
-    if is_own(&list, issuer) {
+    if is_own(&list, issuer, true) {
         return Ok(list);
     }
     drop(list);

@@ -2,12 +2,13 @@
 ghost use Rattle.std.specs.Prelude.{◌≡◌, option_map};
 ghost use Rattle.rpki_c.specs.WantedAnswers.{AnswersBelow, AnswersFields, AnswersTerms, AnswersWanted, unfit_of};
 
-use crate::issuer::{above, issuer_of};
+use crate::issuer::issuer_of;
 use crate::unissued::Unissued;
 use crate::values::values_of;
 use crate::wanted::{RpkiWanted, WantedTerms, wanted_terms_of};
 use bytes::Bytes;
 use rpki_cert::{ResourceCert, TbsCert};
+use rpki_wanted::issuers::above;
 use rpki_wanted::{WantedError, fields, prepare_octets};
 use std::alloc::Global;
 

@@ -6,7 +6,7 @@ ghost use Rattle.rpki_der.specs.declared.error.DecodeError.TheVariants.{Memory};
 ghost use Rattle.rpki_ext.specs.Kinds.{Means};
 ghost use Rattle.rpki_cert.specs.Certificates.{CertFields, IsCertificate};
 ghost use Rattle.rpki_c.specs.Answered.{AreSaid, IsAdded, IsAsked, IsOf, IsUnasked};
-ghost use Rattle.rpki_c.specs.Contents.{BeginsNoCertificate};
+ghost use Rattle.rpki_folder.specs.Folders.{BeginsNoCertificate};
 ghost use Rattle.rpki_c.specs.SignaturePlaces.{AnswersSignatures, IsToldSignatures, StandsAt, TellsSignature};
 
 use crate::answers::{Answers, Said};

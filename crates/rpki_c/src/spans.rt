@@ -3,7 +3,7 @@ ghost use Rattle.std.specs.Prelude.{◌≡◌, ◌≢◌, ◌≤◌, length, IfE
 ghost use Rattle.rpki_der.specs.Place.{MovesOn};
 ghost use Rattle.rpki_der.specs.Tags.{SEQUENCE};
 ghost use Rattle.rpki_der.specs.declared.error.DecodeError.TheVariants.{Memory};
-ghost use Rattle.rpki_c.specs.Contents.{BeginsNoCertificate};
+ghost use Rattle.rpki_folder.specs.Folders.{BeginsNoCertificate};
 ghost use Rattle.rpki_c.specs.CertificateSpans.{AreSignedSpans, AreTagged, GoesBehind, HasTag, IsAtFields, IsInside, IsKeySpan, IsSpan, StandsNone, StoodAt};
 
 use bytes::Bytes;

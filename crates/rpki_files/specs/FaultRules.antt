@@ -4,21 +4,16 @@ use Prim.Native.String.{String}
 use Rattle.std.specs.Prelude.{◌≡◌, ◌↔◌, ◌==◌, ℕ, List, Bool, true, false, if◌then◌else◌, IsTrue, codes}
 use Rattle.rpki_der.specs.declared.error.DecodeError.{DecodeError}
 use Rattle.rpki_der.specs.declared.error.DecodeError.TheVariants as decoding
-use Rattle.rpki_der.specs.ErrorNames.{decode_error_name}
 use Rattle.rpki_der.specs.declared.error.Field.{Field}
 use Rattle.rpki_der.specs.declared.error.Field.TheVariants as part
-use Rattle.rpki_ext.specs.Inspection.{inspection_error_name}
 use Rattle.rpki_ext.specs.declared.inspection.InspectionError.{InspectionError}
 use Rattle.rpki_ext.specs.declared.inspection.InspectionError.TheVariants as inspection
 use Rattle.rpki_parts.specs.declared.key.PublicKeyFormat.{PublicKeyFormat}
 use Rattle.rpki_parts.specs.declared.key.PublicKeyFormat.TheVariants.{Rsa, EcdsaP256}
-use Rattle.rpki_crl.specs.Revocation.{revocation_error_name}
 use Rattle.rpki_crl.specs.declared.revocation_error.RevocationError.{RevocationError}
 use Rattle.rpki_crl.specs.declared.revocation_error.RevocationError.TheVariants as revocation
 use Rattle.rpki_tal.specs.declared.tal_error.TalError.{TalError}
 use Rattle.rpki_tal.specs.declared.tal_error.TalError.TheVariants as tal
-use Rattle.rpki_tal.specs.TalErrors.{tal_error_name}
-use Rattle.rpki_cert.specs.Verification.{verification_error_name}
 use Rattle.rpki_cert.specs.declared.verification_error.VerificationError.{VerificationError}
 use Rattle.rpki_cert.specs.declared.verification_error.VerificationError.TheVariants as verification
 use Rattle.rpki_files.specs.PolicyPresence.{HasPolicies}

@@ -14,7 +14,8 @@ use Rattle.rpki_wanted.specs.PreparedOctets.{IsCompleted}
 use Rattle.rpki_wanted.specs.declared.wanted.Wanted.{Wanted}
 use Rattle.rpki_requests.specs.Fulfilment.{AsksFields}
 use Rattle.rpki_requests.specs.OptionValues.{GivesWanted}
-use Rattle.rpki_requests.specs.RequestFiles.{IsCompletedAs, IsKeyFile, fields_above}
+use Rattle.rpki_requests.specs.RequestFiles.{IsCompletedAs, IsKeyFile}
+use Rattle.rpki_wanted.specs.Issuers.{fields_above}
 use Rattle.rpki_requests.specs.RequestWords.{AskedFields}
 
 -- ---- what is prepared

@@ -18,7 +18,8 @@ use Rattle.rpki_verdicts.specs.PathAnswers.{HoldSame}
 use Rattle.rpki_wanted.specs.AskedFields.{fields_asked, issuer_name}
 use Rattle.rpki_wanted.specs.PreparedOctets.{IsCompleted, IsPrepared, issuer_in}
 use Rattle.rpki_requests.specs.Fulfilment.{CompletesBelow, PreparesBelow}
-use Rattle.rpki_requests.specs.RequestFiles.{AreOneIssuer, fields_above}
+use Rattle.rpki_requests.specs.RequestFiles.{AreOneIssuer}
+use Rattle.rpki_wanted.specs.Issuers.{fields_above}
 use Rattle.rpki_requests.specs.RequestWords.{AskedFields}
 
 -- ---- checks

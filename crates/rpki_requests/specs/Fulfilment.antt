@@ -11,12 +11,13 @@ use Rattle.rpki.specs.RevokedEntries.{Revoked}
 use Rattle.rpki.specs.RsaSignatures.{IsSignedByRsa}
 use Rattle.rpki.specs.Times.{Moment}
 use Rattle.rpki.specs.Verification.{Context, ResourceFields, context}
-use Rattle.rpki_wanted.specs.AskedFields.{fields_asked, issuer_name, subject_asked}
-use Rattle.rpki_wanted.specs.PreparedOctets.{IsPrepared, IsCompleted}
+use Rattle.rpki_wanted.specs.AskedFields.{fields_asked, subject_asked}
+use Rattle.rpki_wanted.specs.Issuers.{IsNamed, fields_above}
+use Rattle.rpki_wanted.specs.PreparedOctets.{IsCompleted, IsPrepared, IsToSign}
 use Rattle.rpki_wanted.specs.WantedLists.{IsListCompleted, IsListPrepared, IsListWanted, WantedListFields}
 use Rattle.rpki_wanted.specs.declared.wanted.Wanted.{Wanted}
 use Rattle.rpki_requests.specs.OptionValues.{GivesList, GivesWanted}
-use Rattle.rpki_requests.specs.RequestFiles.{InputFields, IsCompletedAs, IsIssuerOf, IsKeyFile, IsPreviousOf, IsToSign, fields_above}
+use Rattle.rpki_requests.specs.RequestFiles.{InputFields, IsCompletedAs, IsIssuerOf, IsKeyFile, IsPreviousOf}
 use Rattle.rpki_requests.specs.RequestWords.{AskedFields}
 use Rattle.rpki_requests.specs.declared.fulfilling.Made.{Made}
 use Rattle.rpki_requests.specs.declared.fulfilling.Made.TheVariants.{ToSign, Certificate}
@@ -88,7 +89,7 @@ pub record CompletesBelow (asked : AskedFields) (at : Moment) (issuer : Option R
     (prepared signature octets : List ℕ) : Type 0 where
   pub fields : TbsFields
   pub fields_are : IsToSign fields prepared
-  pub named : fields.issuer ≡ issuer_name (fields_above issuer) fields.subject
+  pub named : IsNamed issuer fields
   pub kind : Kind
   pub kind_is : IsCompletedAs issuer fields kind
   pub completed : IsCompleted kind issuer at asked.strict fields prepared signature octets

@@ -1,21 +1,20 @@
 -- What the files of a request are: the issuer's path, the subject's key, the issuer's list before,
 -- what is revoked, what is completed (own).
-use Rattle.std.specs.Prelude.{◌≡◌, ◌⊎◌, ◌<◌, ℕ, All, List, [], ◌∷◌, true, get_or, length, option_map, IsSome, Option, Some, None}
-use Rattle.rpki.specs.Certificates.{TbsFields, CertFields, IsCertificate, IsTbsCertificate}
+use Rattle.std.specs.Prelude.{◌≡◌, ◌⊎◌, ◌<◌, ℕ, All, List, [], ◌∷◌, true, get_or, length, IsSome, Option, Some, None}
+use Rattle.rpki.specs.Certificates.{TbsFields, CertFields, IsCertificate}
 use Rattle.rpki.specs.Judged.{Judged}
 use Rattle.rpki.specs.KeyForms.{IsUsableKey}
 use Rattle.rpki.specs.Keys.{KeyFields, IsPublicKey}
 use Rattle.rpki.specs.Kind.{Kind}
 use Rattle.rpki.specs.Kind.TheVariants.{Anchor}
 use Rattle.rpki.specs.Lists.{CrlFields, IsCertificateList}
-use Rattle.rpki.specs.Revocation.{NamesIssuer}
-use Rattle.rpki.specs.RsaSignatures.{IsSignedByRsa}
-use Rattle.rpki.specs.Verification.{Context, ResourceFields, IsSignedBy}
+use Rattle.rpki.specs.Verification.{Context, ResourceFields}
 use Rattle.rpki_files.specs.Contents.{BeginsWithList}
 use Rattle.rpki.specs.SaidKinds.{SaysAuthority, SaysKind}
 use Rattle.rpki_verdicts.specs.PathFiles.{Demands}
 use Rattle.rpki_verdicts.specs.PathAnswers.{HoldSame, IsVerdictBy}
 use Rattle.rpki_verdicts.specs.declared.path.Verdict.TheVariants.{Accepted}
+use Rattle.rpki_wanted.specs.Issuers.{IsOwnList}
 
 -- the octets of the objects of the files that a request names: those of the issuer's path, the
 -- lists that it is judged with, those of the subject's key, of the list before, of what is revoked,
@@ -75,10 +74,6 @@ abbrev pub IsOnlyIssuer : Context → List (List ℕ) → List (List ℕ) → Op
 IsOnlyIssuer x files lists issuer =
     (other : Option ResourceFields) → IsIssuerOf x files lists other → AreOneIssuer other issuer
 
--- the fields of its certificate
-abbrev pub fields_above : Option ResourceFields → Option TbsFields
-fields_above issuer = option_map (λ r. r.cert.fields) issuer
-
 -- ---- the key
 
 -- there is one file, and it is the SubjectPublicKeyInfo of a key that the RPKI uses
@@ -90,12 +85,7 @@ pub record IsKeyFile (files : List (List ℕ)) (key : KeyFields) : Type 0 where
 
 -- ---- the list before, and what is revoked
 
--- the list names the issuer's key, and this key signed it; it may be stale
-pub record IsOwnList (issuer : TbsFields) (list : CrlFields) : Type 0 where
-  pub names : NamesIssuer issuer list
-  pub signed : IsSignedBy IsSignedByRsa issuer.key list.signed_data
-
--- the octets are such a list
+-- the octets are a list of the issuer
 pub record IsOwnListIn (issuer : TbsFields) (octets : List ℕ) (list : CrlFields) : Type 0 where
   pub is_list : IsCertificateList list octets
   pub own : IsOwnList issuer list
@@ -122,11 +112,6 @@ pub record IsRevokedFile (issuer : TbsFields) (serial : ℕ) (octets : List ℕ)
   pub serial_is : serial ≡ cert.fields.serial
 
 -- ---- what is completed
-
--- the octets are a TBSCertificate with these fields, of a key that the RPKI uses
-pub record IsToSign (f : TbsFields) (octets : List ℕ) : Type 0 where
-  pub is_data : IsTbsCertificate f octets
-  pub usable : IsUsableKey f.key
 
 -- as which kind it is completed: below an issuer as it says, and else as a trust anchor
 abbrev pub IsCompletedAs : Option ResourceFields → TbsFields → Kind → Type 0

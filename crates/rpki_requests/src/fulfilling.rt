@@ -3,9 +3,8 @@ ghost use Rattle.std.specs.Prelude.{◌≡◌, ◌≢◌, ◌↔◌, ℕ, List, 
 ghost use Rattle.rpki_files.specs.Files.{contents};
 ghost use Rattle.rpki.specs.Lists.{IsTbsCertList};
 ghost use Rattle.rpki.specs.Verification.{ResourceFields};
-ghost use Rattle.rpki_wanted.specs.AskedFields.{issuer_name};
 ghost use Rattle.rpki_requests.specs.Fulfilment.{AsksFields, Completes, CompletesAs, CompletesBelow, CompletesListBelow, Fulfils, GivesToSign, Prepares, PreparesBelow, PreparesList, PreparesListBelow, context_of};
-ghost use Rattle.rpki_requests.specs.RequestFiles.{IsCompletedAs, IsIssuerOf, IsOnlyIssuer, fields_above};
+ghost use Rattle.rpki_requests.specs.RequestFiles.{IsCompletedAs, IsIssuerOf, IsOnlyIssuer};
 ghost use Rattle.rpki_requests.specs.RequestWords.Views.{asked_fields};
 ghost use Rattle.rpki_requests.specs.Refusals.{AnswersOnly, IsPathless, TellsPath};
 ghost use Rattle.rpki_requests.specs.declared.refusals.Refusal.TheVariants.{Memory};
@@ -21,8 +20,9 @@ use bytes::Bytes;
 use rpki::laws;
 use rpki::repository::cert::{Kind, ResourceCert, TbsCert, said_kind};
 use rpki::repository::crl::{RevokedCertificates, TbsCertList};
-use rpki::repository::x509::{Name, Time};
+use rpki::repository::x509::Time;
 use rpki_files::Object;
+use rpki_wanted::issuers::{above, is_named};
 use rpki_wanted::{
     WantedError, complete_list_octets, complete_octets, fields, prepare_list_octets, prepare_octets,
 };
@@ -77,17 +77,6 @@ pub(crate) fn unfit(error: WantedError) -> Refusal
     match error {
         WantedError::Memory => Refusal::Memory,
         other => Refusal::Unfit(other),
-    }
-}
-
-// The fields of the issuer's certificate.
-fn above<'i>(issuer: Option<&'i ResourceCert>) -> Option<&'i TbsCert>
-    ensures { option_map (λ f. f.now) result
-        ≡ fields_above (option_map (λ r. r.now) issuer.entry) }
-{
-    match issuer {
-        Some(issuer) => Some(issuer.as_cert().as_tbs()),
-        None => None,
     }
 }
 
@@ -231,26 +220,6 @@ fn list_prepared(
     let octets = list_prepared_below(alloc, order, inputs, &issuer, at);
     drop(issuer);
     Ok(Made::ToSign(octets?))
-}
-
-// The name of who issues.
-fn name_above<'a>(tbs: &'a TbsCert, issuer: Option<&'a ResourceCert>) -> &'a Name
-    ensures { let above = fields_above (option_map (λ r. r.now) issuer.entry) in
-        result.now ≡ issuer_name above tbs.now.subject }
-{
-    match issuer {
-        Some(issuer) => issuer.as_cert().as_tbs().subject(),
-        None => tbs.subject(),
-    }
-}
-
-// Whether the issuer is named as the certificate above, if there is one, and else as the subject.
-fn is_named(tbs: &TbsCert, issuer: Option<&ResourceCert>) -> bool
-    ensures { let above = fields_above (option_map (λ r. r.now) issuer.entry) in
-        IsTrue result ↔ (tbs.now.issuer ≡ issuer_name above tbs.now.subject) }
-{
-    let name = name_above(tbs, issuer);
-    tbs.issuer().as_bytes() == name.as_bytes()
 }
 
 // As which kind it is completed.

@@ -5,7 +5,8 @@ ghost use Rattle.rpki.specs.KeyForms.{IsUsableKey};
 ghost use Rattle.rpki.specs.Keys.{IsPublicKey};
 ghost use Rattle.rpki_files.specs.Files.{contents};
 ghost use Rattle.rpki_requests.specs.Refusals.{AnswersOnly, IsPathless};
-ghost use Rattle.rpki_requests.specs.RequestFiles.{IsKeyFile, IsToSign};
+ghost use Rattle.rpki_requests.specs.RequestFiles.{IsKeyFile};
+ghost use Rattle.rpki_wanted.specs.PreparedOctets.{IsToSign};
 
 use crate::refusals::Refusal;
 use bytes::Bytes;

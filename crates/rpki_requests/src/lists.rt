@@ -9,7 +9,7 @@ ghost use Rattle.rpki_values.specs.ValueTexts.{IsSerialText};
 ghost use Rattle.rpki_requests.specs.Fulfilment.{AsksList};
 ghost use Rattle.rpki_requests.specs.OptionValues.{GivesEntries, GivesList, given_alone, revoked_at};
 ghost use Rattle.rpki_requests.specs.Refusals.{AnswersOnly, AnswersOnlyBy, IsPathless};
-ghost use Rattle.rpki_requests.specs.RequestFiles.{IsOwnList, IsOwnListIn, IsPreviousOf, IsRevokedFile};
+ghost use Rattle.rpki_requests.specs.RequestFiles.{IsOwnListIn, IsPreviousOf, IsRevokedFile};
 ghost use Rattle.rpki_requests.specs.RequestWords.{values_of};
 ghost use Rattle.rpki_requests.specs.RequestWords.Views.{asked_fields};
 ghost use Rattle.rpki.specs.RevokedEntries.Views.{entry_of};
@@ -19,7 +19,6 @@ use crate::refusals::Refusal;
 use crate::values::{at_most_once, both, moment};
 use crate::words::{Order, Setting};
 use bytes::Bytes;
-use rpki::crypto::RsaVerifier;
 use rpki::der::Cursor;
 use rpki::laws;
 use rpki::repository::Crl;
@@ -28,6 +27,7 @@ use rpki::repository::crl::{CrlEntry, RevokedCertificates, TbsCertList};
 use rpki::repository::x509::{Serial, Time};
 use rpki_files::Object;
 use rpki_values::Textual;
+use rpki_wanted::issuers::is_own;
 use rpki_wanted::{WantedList, list_fields};
 use std::alloc::{AllocError, Global};
 
@@ -55,15 +55,6 @@ fn whole_certificate<'f>(file: &'f Object<'_>) -> Option<&'f Cert>
         return None;
     };
     if left == 0 { Some(cert) } else { None }
-}
-
-// Whether the list names the issuer's key, and this key signed it.
-fn is_own(list: &Crl, issuer: &ResourceCert, strict: bool) -> bool
-    ensures { IsTrue result ↔ IsOwnList issuer.now.cert.fields list.now.list }
-{
-    let key = issuer.as_cert().as_tbs().subject_public_key_info();
-    list.verify_issuer_claim(issuer, strict).is_ok()
-        && list.verify_signature(key, &RsaVerifier).is_ok()
 }
 
 // The one file, if there is one; errs where there are several.

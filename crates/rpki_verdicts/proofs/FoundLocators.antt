@@ -1,10 +1,9 @@
 -- The locator whose key a certificate has, and the files that are given as locators.
-use Rattle.std.specs.Prelude.{All, IsOkAnd, Option, Some, None, is_none, Result, Ok, Err, slice_get}
-use Rattle.std.proofs.Common.{◌≡◌, ◌≢◌, ◌↔◌, ℕ, Bool, true, false, List, [], ◌∷◌, length, refl, sym, ap, subst, ◌∙◌}
+use Rattle.std.specs.Prelude.{All, IsOkAnd, Option, Some, None, is_none, Result, Ok, Err}
+use Rattle.std.proofs.Common.{◌≡◌, ◌≢◌, ◌↔◌, ℕ, Bool, true, false, List, [], ◌∷◌, length, refl, sym, ap, ◌∙◌}
 use Rattle.std.proofs.lemmas.Bool.{true≢false, false≢true}
 use Rattle.rpki.specs.Certificates.{CertFields, IsCertificate}
 use Rattle.rpki.specs.Encoding.{Means}
-use Rattle.rpki.specs.Keys.{KeyFields}
 use Rattle.rpki.specs.LocatedPaths.{IsLocatorOf}
 use Rattle.rpki.specs.Locators.{IsLocator, NamedTal, TalFields}
 use Rattle.rpki.specs.TalError.{TalError}

@@ -1,12 +1,12 @@
 -- What is asked of files: the path that they are, and the lists that are given (own).
 use Rattle.std.specs.Prelude.{◌≡◌, ◌⊎◌, ℕ, List, [], ◌∷◌, Bool, true, slice_get, Option, Some, None}
 use Rattle.rpki.specs.Encoding.{Means}
-use Rattle.rpki.specs.Certificates.{CertFields, IsCertificate}
 use Rattle.rpki.specs.Times.{Moment}
 use Rattle.rpki.specs.Kind.{Kind}
 use Rattle.rpki.specs.Kind.TheVariants.{Authority}
 use Rattle.rpki.specs.SaidKinds.{BeginsWithKind}
 use Rattle.rpki.specs.Lists.{CrlState, IsCertificateList}
+use Rattle.rpki.specs.Folders.{BeginsNoCertificate}
 use Rattle.rpki.specs.GivenPaths.{PathStrings, anchor_alone, HasLast}
 use Rattle.rpki.specs.LocatedPaths.{IsLocatorOf}
 use Rattle.rpki_files.specs.Contents.{BeginsWithList}
@@ -53,7 +53,7 @@ IsAnchorLocator question found =
 -- begins with none
 abbrev pub IsJudgedAs : Kind → List ℕ → Type 0
 IsJudgedAs kind octets =
-    BeginsWithKind kind octets ⊎ ((kind ≡ Authority) × ((c : CertFields) → Means IsCertificate c octets → ⊥))
+    BeginsWithKind kind octets ⊎ ((kind ≡ Authority) × BeginsNoCertificate octets)
 
 -- the files are a path with a last one below the trust anchor, which is judged as it says
 pub record HasJudgedLast (files : List (List ℕ)) (g : PathStrings) : Type 0 where

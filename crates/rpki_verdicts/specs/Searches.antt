@@ -93,8 +93,8 @@ StandsAlone q file =
 
 -- The path that is sought to the first of the files: that one alone; below a trust anchor that is
 -- wrong; a valid path, as of its certificates and lists; or, where there is none, some files that end
--- in it, of which the verdict tells what is wrong. Beside it stands how the walk ended that came to no
--- valid path, so that there is one only where a bound was met; the other answers are whole.
+-- in it, of which the verdict tells what is wrong. Beside it stands how far that was looked for: a
+-- bound can only have been met where no valid path was found.
 pub data IsSoughtPath (x : Context) (q : TreeFields) (file : FileFields) : List FileFields → Ended → Type 0 where
   alone : StandsAlone q file → IsSoughtPath x q file (file ∷ []) Whole
   below_wrong : (anchor : FileFields) (fault : Fault) → IsWrongAnchor x q anchor fault

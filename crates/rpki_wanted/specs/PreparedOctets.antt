@@ -1,6 +1,6 @@
 -- What is to be signed, and what is completed by its signature (RFC 6487 4, 7.2; RFC 5280 4.1.1.3).
 use Rattle.std.specs.Prelude.{◌≡◌, ◌≢◌, ◌^◌, ◌<◌, ℕ, Bool, List, Option, Some, None, length}
-use Rattle.rpki_cert.specs.Certificates.{TbsFields, encoding}
+use Rattle.rpki_cert.specs.Certificates.{TbsFields, IsTbsCertificate, encoding}
 use Rattle.rpki_cert.specs.Verification.{ResourceFields}
 use Rattle.rpki_cert.specs.declared.inspect.Kind.{Kind}
 use Rattle.rpki_der.specs.Times.{Moment}
@@ -8,6 +8,7 @@ use Rattle.rpki_issuing.specs.Readiness.{signed_with, IsReady, IsSignatureFault,
 use Rattle.rpki_issuing.specs.Roles.{kind_of}
 use Rattle.rpki_issuing.specs.declared.role.Role.{Role}
 use Rattle.rpki_issuing.specs.declared.role.Role.TheVariants.{Anchor, Authority, EndEntity, Detached, Router}
+use Rattle.rpki_keys.specs.KeyForms.{IsUsableKey}
 use Rattle.rpki_keys.specs.RsaSignatures.{IsSignedByRsa}
 use Rattle.rpki_parts.specs.SignedDatas.{signed_content, signed_data}
 use Rattle.rpki_wanted.specs.declared.preparing.WantedError.{WantedError}
@@ -54,6 +55,11 @@ IsUnprepared kind issuer at strict f e =
     (role : Role) × IsRoleOf kind issuer role × IsUnpreparedAs at strict role f e
 
 -- ---- what is completed
+
+-- the octets are a TBSCertificate with these fields, of a key that the RPKI uses
+pub record IsToSign (f : TbsFields) (octets : List ℕ) : Type 0 where
+  pub is_data : IsTbsCertificate f octets
+  pub usable : IsUsableKey f.key
 
 -- the octets were prepared of these fields, the key of who issues signed them, and this is the
 -- certificate

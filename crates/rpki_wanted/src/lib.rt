@@ -2,6 +2,7 @@
 //! is to be signed of them, and what is completed by its signature.
 #![tactic(auto)]
 
+pub mod issuers;
 mod lists;
 mod making;
 mod preparing;

@@ -7,7 +7,7 @@ use Rattle.rpki_cert.specs.Verification.{Context, ResourceFields}
 use Rattle.rpki_crl.specs.Lists.{CrlState}
 use Rattle.rpki_revocation.specs.Asking.{RevocationChecks}
 use Rattle.rpki_path.specs.declared.located.LocatedError.TheVariants.{OtherKey, Path as path}
-use Rattle.rpki_folder.specs.Folders.{FolderFields, octets_at}
+use Rattle.rpki_folder.specs.Folders.{FolderFields, octets_at, BeginsNoCertificate}
 use Rattle.rpki_folder.specs.KeptLines.{AreLines}
 use Rattle.rpki_folder.specs.Walks.{Root, LeadsTo, Told, IsRight, AreUsedUp, IsTooDeep, IsComplete}
 use Rattle.rpki_folder.specs.declared.bounds.Ended.{Ended}
@@ -17,7 +17,6 @@ use Rattle.rpki_folder.specs.declared.lines.Line.{Line}
 use Rattle.rpki_folder.specs.declared.lines.Line.TheVariants.{Unseen, Accepted, Rejected}
 use Rattle.rpki_folder.specs.declared.walk_error.WalkError.{WalkError}
 use Rattle.rpki_folder.specs.declared.walk_error.WalkError.TheVariants.{Anchor, Memory}
-use Rattle.rpki_c.specs.Contents.{BeginsNoCertificate}
 use Rattle.rpki_c.specs.Verdicts.{BeginsNoList}
 use Rattle.rpki_c.specs.FolderFates.{Fate, anchor, list, neither, unseen, accepted, rejected, IsTakenFor, AreListsAmong, AreCertificatesAmong}
 use Rattle.rpki_c.specs.declared.refusal.Refusal.{Refusal}

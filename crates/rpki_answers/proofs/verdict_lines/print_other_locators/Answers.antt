@@ -1,7 +1,7 @@
 use Rattle.std.proofs.Common.{List, ℕ, sym, subst}
 use Rattle.rpki_text.specs.Pages.{Appends}
 use Rattle.rpki_verdicts.specs.GivenLocators.{LocatorFields}
-use Rattle.rpki_answers.specs.VerdictTexts.{locator_part, locators_text}
+use Rattle.rpki_answers.specs.VerdictTexts.{locator_part}
 use Rattle.rpki_answers.proofs.AppendedTexts.{then_appended}
 use Rattle.rpki_answers.proofs.PartsOfEach.{parts_more, parts_all}
 use Rattle.rpki_answers.proofs.verdict_lines.print_other_locators.Goals as goal

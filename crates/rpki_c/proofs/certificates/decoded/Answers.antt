@@ -1,4 +1,4 @@
-use Rattle.rpki_c.specs.Contents.{BeginsNoCertificate}
+use Rattle.rpki_folder.specs.Folders.{BeginsNoCertificate}
 use Rattle.rpki_c.proofs.Unread.{unless_memory}
 use Rattle.rpki_c.proofs.certificates.decoded.Goals as goal
 

@@ -6,7 +6,8 @@ use Rattle.rpki_parts.specs.Keys.{KeyFields}
 use Rattle.rpki_parts.specs.Names.{IsName}
 use Rattle.rpki_wanted.specs.AskedFields.{fields_asked}
 use Rattle.rpki_wanted.specs.declared.wanted.Wanted.{Wanted}
-use Rattle.rpki_c.specs.WantedAnswers.{GivesValues, fields_above, subject_of}
+use Rattle.rpki_c.specs.WantedAnswers.{GivesValues, subject_of}
+use Rattle.rpki_wanted.specs.Issuers.{fields_above}
 use Rattle.rpki_c.proofs.AnsweredWants.{value_fields}
 use Rattle.rpki_c.proofs.WantedValues.{when_ok, when_err}
 use Rattle.rpki_c.proofs.preparing.fields_of.Goals as goal

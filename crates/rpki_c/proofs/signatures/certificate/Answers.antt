@@ -1,5 +1,5 @@
 use Rattle.std.proofs.Common.{ℕ, List, subst}
-use Rattle.rpki_c.specs.Contents.{BeginsNoCertificate}
+use Rattle.rpki_folder.specs.Folders.{BeginsNoCertificate}
 use Rattle.rpki_c.proofs.Unread.{unless_memory}
 use Rattle.rpki_c.proofs.signatures.certificate.Goals as goal
 

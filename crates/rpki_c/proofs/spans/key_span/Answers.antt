@@ -1,5 +1,5 @@
 use Rattle.std.proofs.Common.{◌≡◌, Err, rules}
-use Rattle.rpki_c.specs.Contents.{BeginsNoCertificate}
+use Rattle.rpki_folder.specs.Folders.{BeginsNoCertificate}
 use Rattle.rpki_c.proofs.CertificateWalks.{err_so, key_stood, no_key, not_before_key}
 use Rattle.rpki_c.proofs.spans.key_span.Goals as goal
 

@@ -1,5 +1,5 @@
 use Rattle.std.proofs.Common.{◌≡◌, Err, rules}
-use Rattle.rpki_c.specs.Contents.{BeginsNoCertificate}
+use Rattle.rpki_folder.specs.Folders.{BeginsNoCertificate}
 use Rattle.rpki_c.proofs.CertificateWalks.{both_stood, err_so, no_algorithm, no_message, no_signature}
 use Rattle.rpki_c.proofs.spans.signed_spans.Goals as goal
 

@@ -1,5 +1,5 @@
 use Rattle.std.specs.Prelude.{is_none}
-use Rattle.std.proofs.Common.{rules, ◌≡◌, [], true, false, length, sym, subst, ◌∙◌}
+use Rattle.std.proofs.Common.{rules, ◌≡◌, true, false, length, sym, subst, ◌∙◌}
 use Rattle.std.proofs.lemmas.Bool.{false≢true}
 use Rattle.std.proofs.lemmas.Bool.Decides.{Decides-eqb}
 use Rattle.rpki_verdicts.specs.GivenLocators.{locator_octets}

@@ -1,4 +1,4 @@
-use Rattle.std.proofs.Common.{◌∷◌, ◌∙◌, ℕ, List, ap, subst}
+use Rattle.std.proofs.Common.{◌∙◌, ap, subst}
 use Rattle.rpki.specs.Certificates.{TbsFields}
 use Rattle.rpki.specs.Keys.{KeyFields}
 use Rattle.rpki_verdicts.specs.GivenLocators.{HasKeyRead, IsFirst, locator_octets}

@@ -1,6 +1,6 @@
 use Rattle.std.specs.List.{AllByRecursion, flat_map}
 use Rattle.std.specs.Prelude.{map, string_bytes}
-use Rattle.std.proofs.Common.{◌≡◌, ◌∙◌, false, ℕ, List, Option, refl, sym, ap, subst}
+use Rattle.std.proofs.Common.{◌≡◌, ◌∙◌, false, ℕ, List, refl, sym, ap, subst}
 use Rattle.std.proofs.lemmas.List.Folds.{flat_map-map}
 use Rattle.serde_json.specs.View.{view}
 use Rattle.serde_json.specs.Written.{has_float}

@@ -1,9 +1,9 @@
-use Rattle.std.proofs.Common.{◌≡◌, ◌∙◌, List, [], sym, ap, subst}
+use Rattle.std.proofs.Common.{List, [], sym, subst}
 use Rattle.serde_json.specs.Data.{Data}
 use Rattle.rpki_verdicts.specs.GivenLocators.{LocatorFields}
-use Rattle.rpki_answers.specs.JsonValues.{Pushes, array_of}
+use Rattle.rpki_answers.specs.JsonValues.{Pushes}
 use Rattle.rpki_answers.specs.JsonVerdicts.{no_locator_items}
-use Rattle.rpki_answers.proofs.PartsOfEach.{parts_more, parts_all}
+use Rattle.rpki_answers.proofs.PartsOfEach.{parts_more}
 use Rattle.rpki_answers.proofs.PushedValues.{then_pushed}
 use Rattle.rpki_answers.proofs.as_json.verdicts.not_locators.Goals as goal
 

@@ -3,7 +3,6 @@ use Rattle.std.proofs.Common.{rules, ◌≡◌, ℕ, List, ap, sym, subst, ◌�
 use Rattle.std.proofs.lemmas.List.Folds.{flat_map-map}
 use Rattle.rpki.specs.Keys.{key_identifier}
 use Rattle.rpki.specs.Locators.{uri_text}
-use Rattle.rpki_text.specs.KeyTexts.{IsLocatorKey}
 use Rattle.rpki_text.specs.Pages.{Appends}
 use Rattle.rpki_answers.specs.ShownTexts.{location_line}
 use Rattle.rpki_answers.proofs.AppendedTexts.{then_appended, last_appended}
