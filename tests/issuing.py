@@ -687,6 +687,9 @@ def try_out():
         check(f'{what}: status 3 and {text!r}, and not {done.returncode}', done.returncode == 3
               and not done.stdout and text in done.stderr.decode(), done.stderr)
 
+    done = prepare('ca', out='-')
+    check('--out -: the octets on standard output, and no file', done.returncode == 0
+          and done.stdout == octets and not Path('-').exists(), done.stderr)
     is_written('--out', prepare('ca', **wanted), octets)
     Path('made.tbs').write_bytes(b'before')
     fails('--out of a file that is there', prepare('ca', **wanted),

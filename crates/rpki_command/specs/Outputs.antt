@@ -1,5 +1,5 @@
 -- What a run puts out: a text on standard output, and files that it makes (own).
-use Rattle.std.specs.Prelude.{◌≡◌, ℕ, List, [], ◌∷◌, ◌++◌, Bool, Option, Some, None}
+use Rattle.std.specs.Prelude.{◌≡◌, ℕ, List, [], ◌∷◌, ◌++◌, Bool, bytes_eq, codes, if◌then◌else◌, Option, Some, None}
 
 -- a file that is made: its name and its octets, and whether one that was there may be overwritten
 pub record MadeFile : Type 0 where
@@ -18,11 +18,16 @@ only_text text = record { text = text; files = [] }
 abbrev pub nothing : Output
 nothing = only_text []
 
--- octets on standard output, or in the file that is named
+-- octets in the file of this name, and nothing on standard output
+abbrev pub only_file : List ℕ → Bool → List ℕ → Output
+only_file name overwrites octets =
+    record { text = []; files = record { name = name; octets = octets; overwrites = overwrites } ∷ [] }
+
+-- octets on standard output, which `-` names too, or in the file that is named
 abbrev pub placed : List (List ℕ) → Bool → List ℕ → Output
 placed [] overwrites octets = only_text octets
 placed (name ∷ more) overwrites octets =
-    record { text = []; files = record { name = name; octets = octets; overwrites = overwrites } ∷ [] }
+    if bytes_eq name (codes "-") then only_text octets else only_file name overwrites octets
 
 -- the files that were made, where they are known, are those from before and these
 abbrev pub Makes : Option (List MadeFile) → Option (List MadeFile) → List MadeFile → Type 0

@@ -129,8 +129,8 @@ fn unmade(name: &[u8], why: &Unmade) -> Error {
     anyhow!("{name}: {why}")
 }
 
-// Puts a text into the file that is named, if one is, and else out. Errs where that file can't be
-// made.
+// Puts a text into the file that is named, if one is, and else out, as where `-` is named. Errs where
+// that file can't be made.
 fn put<M: FileMaker, O: Write>(
     files: &mut M,
     out: &mut O,
@@ -148,6 +148,9 @@ fn put<M: FileMaker, O: Write>(
     let Some((name, _others)) = names.split_first() else {
         return Ok(out.write_all(text));
     };
+    if *name == b"-".as_slice() {
+        return Ok(out.write_all(text));
+    }
     match make_named(files, *name, text, overwrites) {
         Ok(()) => Ok(Ok(())),
         Err(why) => Err(unmade(*name, &why)),
