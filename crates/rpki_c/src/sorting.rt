@@ -11,10 +11,10 @@ ghost use Rattle.rpki_c.specs.Verdicts.{BeginsNoList};
 
 use crate::lists::list_of;
 use bytes::Bytes;
-use rpki_cert::{Cert, laws};
+use rpki_cert::{Cert, Said, laws};
 use rpki_crl::Crl;
 use rpki_der::DecodeError;
-use rpki_folder::{Added, Folder, Said};
+use rpki_folder::{Added, Folder};
 use rpki_tal::Tal;
 use std::alloc::{AllocError, Global};
 
