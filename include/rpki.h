@@ -18,7 +18,8 @@
  *   - What is to be signed is written exactly where only a signature is missing, and a certificate
  *     or list exactly where the issuer's key signed it (crates/rpki_c/specs/WantedAnswers.antt and
  *     ListAnswers.antt), unless memory runs out.
- * Only tested is that the caller's memory then holds those ranges, entries and places.
+ * That the caller's memory then holds what is written is proved, as far as its pointers and lengths
+ * are true.
  *
  * What the caller has to keep:
  *   - Each pointer points to as many elements as the length beside it says, aligned as C asks.

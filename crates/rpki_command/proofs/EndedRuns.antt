@@ -1,7 +1,8 @@
 -- How runs end.
+use Rattle.std.specs.Bool.{MatchBool}
 use Rattle.std.specs.Prelude.{Option, Some, None, Result, Ok, Err, IfOk, IsOkAnd}
 use Rattle.std.specs.declared.vec.Vec.{Vec}
-use Rattle.std.proofs.Common.{◌≡◌, ◌==◌, ℕ, Bool, false, List, [], ◌∷◌, length, map, inl, inr, refl, subst, sym, ap, ◌∙◌}
+use Rattle.std.proofs.Common.{◌≡◌, ◌==◌, ℕ, Bool, false, true, List, [], ◌∷◌, length, map, inl, inr, refl, subst, sym, ap, ◌∙◌}
 use Rattle.std.proofs.lemmas.Bool.{eq-eqb, false≢true}
 use Rattle.std.proofs.lemmas.List.{length-map}
 use Rattle.rpki.specs.RsaSignatures.{IsSignedByRsa}
@@ -40,9 +41,13 @@ module _ (reads : Reads) (lists : Lists) (r : RequestFields) (now : Moment) (tex
       let its = answer.whole in
       no_misuse q.task (context IsSignedByRsa now q.strict) (demands_by q (locator_files its.locators)) (contents its.files) (contents its.lists) its.ends.1
 
+  by_found : (q : RequestFields) (found : Outcome) (are_all_read : Bool) → IsAnswer reads q now found text → MatchBool are_all_read (WrongUse ≡ found) (WrongUse ≡ Unread) → ⊥
+  by_found q found true answer is = by_files q (subst (λ (o : Outcome). IsAnswer reads q now o text) (sym is) answer)
+  by_found q found false answer is = cc
+
   by_sought : (q : RequestFields) (sought : Option SoughtNames) → IsAnswerBy reads q now sought WrongUse text → ⊥
   by_sought q None h = let wrong : WrongUse ≡ Unread = h.0 in cc
-  by_sought q (Some sought) h = by_files (with_sought q sought) h
+  by_sought q (Some sought) h = by_found (with_sought q sought) h.0 sought.are_all_read h.1 h.2
 
   never_misuse : (folders : List (List ℕ)) → IsAnswerAmong folders reads lists r now WrongUse text → ⊥
   never_misuse [] h = by_files (record r { files = h.0 }) h.2

@@ -5,5 +5,6 @@ mod ListsAmong
 mod NamedObjects
 mod PemLines
 mod ReadFiles
+mod UnreadFiles
 mod WholeSources
 mod WrittenTexts

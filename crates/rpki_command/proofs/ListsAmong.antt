@@ -1,7 +1,6 @@
 -- The names of those of the files that begin with lists.
 use Rattle.std.proofs.Common.{◌≡◌, ◌+◌, ◌<◌, ◌∷◌, ◌++◌, ℕ, List, [], length, take, get_or, sym, ap, subst, ◌∙◌, inl, inr}
 use Rattle.std.proofs.lemmas.List.{take_more}
-use Rattle.rpki_files.specs.Contents.{BeginsWithList}
 use Rattle.rpki_files.specs.Files.{FileFields}
 use Rattle.rpki_command.specs.SoughtPaths.{AreListNames}
 

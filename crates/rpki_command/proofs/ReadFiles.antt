@@ -1,5 +1,4 @@
 -- The files that could be read, of those that are named.
-use Rattle.std.specs.Prelude.{All}
 use Rattle.std.proofs.Common.{◌≡◌, ◌+◌, ◌<◌, ◌≤◌, ◌∷◌, ◌++◌, ℕ, List, [], length, take, get_or, map, sym, ap, subst, ◌∙◌, inl, inr, arith}
 use Rattle.std.proofs.lemmas.List.{length-map, map_more}
 use Rattle.rpki_files.specs.Files.{FileFields, file_names}

@@ -1,7 +1,7 @@
 -- What a writer has taken, and which files were made.
 use Rattle.std.specs.Prelude.{Option, Some, None}
 use Rattle.std.specs.Io.KnownBytes.{Appends}
-use Rattle.std.proofs.Common.{◌≡◌, ◌∙◌, ◌++◌, ℕ, List, [], ap, sym, append_assoc}
+use Rattle.std.proofs.Common.{◌∙◌, ◌++◌, ℕ, List, [], ap, sym, append_assoc}
 use Rattle.std.proofs.lemmas.List.{append-nil}
 use Rattle.rpki_command.specs.Outputs.{MadeFile, Makes}
 

@@ -1,6 +1,7 @@
 -- The definitions that the contracts of the command cite.
 pub mod AboutTexts
 pub mod ReadFiles
+pub mod UnreadFiles
 pub mod ListedFolders
 pub mod Messages
 pub mod Moments

@@ -34,9 +34,13 @@ IsUnlisted lists name = (IsUtf8 name → ⊥) ⊎ lists name None
 abbrev pub is_folder_name : List ℕ → Bool
 is_folder_name name = ends_with nat_eq name (codes "/")
 
+-- it ends as that of a certificate or a revocation list does
+abbrev pub is_file_name : List ℕ → Bool
+is_file_name name = ends_with nat_eq name (codes ".cer") || ends_with nat_eq name (codes ".crl")
+
 -- it is that of a folder, a certificate or a revocation list
 abbrev pub is_taken : List ℕ → Bool
-is_taken name = is_folder_name name || (ends_with nat_eq name (codes ".cer") || ends_with nat_eq name (codes ".crl"))
+is_taken name = is_folder_name name || is_file_name name
 
 -- these names stand for the name: those in its folder that are taken, sorted by their octets; or it
 -- alone, where it is no folder's

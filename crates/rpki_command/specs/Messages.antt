@@ -1,7 +1,7 @@
--- What a run says on standard error of words, of requests and of a search (own).
+-- What a run says on standard error of words, of requests, of folders and of a search (own).
 use Rattle.std.specs.Fmt.{decimal}
 use Rattle.std.specs.Io.KnownBytes.{Appends}
-use Rattle.std.specs.Prelude.{ℕ, List, [], ◌++◌, codes, Option}
+use Rattle.std.specs.Prelude.{ℕ, List, [], ◌++◌, ◌==◌, codes, if◌then◌else◌, Option}
 use Rattle.rpki.specs.Ended.{Ended}
 use Rattle.rpki.specs.Ended.TheVariants.{Whole, TooDeep, OutOfSteps}
 use Rattle.rpki_arguments.specs.Misuses.{IsMisuse}
@@ -25,18 +25,21 @@ SaysLineMisuse words before after =
     (misuse : arguments.Misuse) × IsMisuse misuse words
     × Appends before after (misuse_message (line.misuse_text misuse))
 
--- and says one thing that is wrong with words that ask for nothing to be prepared or completed
-abbrev pub SaysRequestMisuse : Option (List ℕ) → Option (List ℕ) → Type 0
-SaysRequestMisuse before after =
-    (misuse : requests.Misuse) × Appends before after (misuse_message (request.misuse_text misuse))
+-- and says one thing that is wrong with words that ask for nothing to be prepared or completed: which is
+-- so, and is the first word that is wrong, or why what they ask doesn't suit it
+abbrev pub SaysRequestMisuse : List (List ℕ) → Option (List ℕ) → Option (List ℕ) → Type 0
+SaysRequestMisuse words before after =
+    (misuse : requests.Misuse) × request.IsMisuse misuse words
+    × Appends before after (misuse_message (request.misuse_text misuse))
 
 -- why a request gives nothing, in a line
 abbrev pub refusal_message : Refusal → List ℕ
 refusal_message why = codes "rpki: " ++ refusal_text why ++ codes "\n"
 
--- what was written since says so
-abbrev pub SaysRefusal : Option (List ℕ) → Option (List ℕ) → Type 0
-SaysRefusal before after = (why : Refusal) × Appends before after (refusal_message why)
+-- how many files of folders were passed over, if some were, in a line
+abbrev pub passed_message : ℕ → List ℕ
+passed_message passed =
+    if passed == 0 then [] else codes "rpki: passed over in folders: " ++ (decimal passed ++ codes " files whose names end neither in .cer nor in .crl\n")
 
 -- where a search met a bound, that not every path was looked at, with the number and the option that
 -- sets it, in a line; and else nothing

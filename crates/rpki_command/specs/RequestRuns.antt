@@ -1,19 +1,23 @@
 -- How a run ends that prepares or completes a certificate or a list, and what it puts out, by what
 -- reading files gives and by what a clock tells (own).
+use Rattle.std.specs.Io.KnownBytes.{Appends}
 use Rattle.std.specs.List.{AllZip, Contains}
 use Rattle.std.specs.Prelude.{◌≡◌, ◌⊎◌, ℕ, List, [], Option, Some, Bool, true, codes}
 use Rattle.rpki.specs.Times.{Moment}
 use Rattle.rpki_arguments.specs.CommandLines.{usual_size}
 use Rattle.rpki_files.specs.PemFiles.{IsObjectOf}
-use Rattle.rpki_requests.specs.Fulfilment.{Fulfils}
+use Rattle.rpki_requests.specs.Fulfilment.{Fulfils, context_of}
 use Rattle.rpki_requests.specs.OptionValues.{IsMomentSaid, SaysAtMostOnce}
+use Rattle.rpki_requests.specs.Refusals.{IsPathless, TellsPath}
 use Rattle.rpki_requests.specs.RequestFiles.{InputFields}
 use Rattle.rpki_requests.specs.RequestWords.{AskedFields, AsksHelp, GivenFields, IsRequestLine, values_of}
 use Rattle.rpki_requests.specs.declared.fulfilling.Made.{Made}
 use Rattle.rpki_requests.specs.declared.fulfilling.Made.TheVariants.{ToSign, Certificate, RevocationList}
+use Rattle.rpki_requests.specs.declared.refusals.Refusal.{Refusal}
 use Rattle.rpki_requests.specs.declared.words.Setting.{Setting}
 use Rattle.rpki_requests.specs.declared.words.Setting.TheVariants.{At, Crl, Issuer, Key, Out, Previous, Revoke}
 use Rattle.rpki_command.specs.AboutTexts.{usage_text}
+use Rattle.rpki_command.specs.Messages.{refusal_message}
 use Rattle.rpki_command.specs.Moments.{IsMomentBy}
 use Rattle.rpki_command.specs.Outputs.{Output, nothing, only_text, placed}
 use Rattle.rpki_command.specs.PemTexts.{IsPemText}
@@ -113,6 +117,35 @@ AskedEnds reads tells asked Rejection output =
     ((output ≡ nothing) × NamesNoMoment asked.given) ⊎ ReadEnds reads tells asked Rejection output
 AskedEnds reads tells asked Unread output = (output ≡ nothing) × HasUnreadInput reads asked
 AskedEnds reads tells asked WrongUse output = ⊥
+
+-- ---- why it gives nothing
+
+-- what was written since says why, and what it says of the issuer's path is so, with these files at this
+-- moment
+abbrev pub SaysWhy : AskedFields → InputFields → Moment → Option (List ℕ) → Option (List ℕ) → Type 0
+SaysWhy asked inputs now before after =
+    (why : Refusal) × TellsPath (context_of asked now) inputs.issuers inputs.lists why
+    × Appends before after (refusal_message why)
+
+-- it says why, and nothing of the issuer's path
+abbrev pub SaysPathless : Option (List ℕ) → Option (List ℕ) → Type 0
+SaysPathless before after =
+    (why : Refusal) × IsPathless why × Appends before after (refusal_message why)
+
+-- it says why this gives nothing: by what its options are alone, or by the files as they are read, at a
+-- moment that may be asked
+abbrev pub SaysRefusalOf : Reads → (Moment → Type 0) → AskedFields → Option (List ℕ) → Option (List ℕ) → Type 0
+SaysRefusalOf reads tells asked before after =
+    SaysPathless before after
+    ⊎ ((now : Moment) × (inputs : InputFields) × IsMomentAsked tells asked.given now
+    × AreInputs reads asked inputs × SaysWhy asked inputs now before after)
+
+-- and so it says of what the words ask
+abbrev pub SaysRefusal : Reads → (Moment → Type 0) → List (List ℕ) → Option (List ℕ) → Option (List ℕ) → Type 0
+SaysRefusal reads tells words before after =
+    (asked : AskedFields) × IsRequestLine asked words × SaysRefusalOf reads tells asked before after
+
+-- ---- words
 
 -- a run on these words, which don't ask how the command is used, ends so: with wrong use and nothing
 -- exactly where they ask for nothing to be prepared or completed, else as what they ask does

@@ -1,6 +1,7 @@
 -- How a run of the command ends, and what it writes, by what reading files and listing folders gives and
 -- by what a clock tells (own).
 use Rattle.std.specs.Prelude.{◌≡◌, ◌≢◌, ◌⊎◌, ℕ, List, [], ◌∷◌, Option, Some, None, IsFalse, IsTrue}
+use Rattle.std.specs.Bool.{MatchBool}
 use Rattle.rpki.specs.Times.{Moment}
 use Rattle.rpki_files.specs.Files.{FileFields}
 use Rattle.rpki_verdicts.specs.GivenLocators.{LocatorFields, locator_files}
@@ -18,7 +19,7 @@ use Rattle.rpki_requests.specs.RequestWords.{BeginsRequest}
 use Rattle.rpki_command.specs.SoughtPaths.{IsSearch, with_sought}
 use Rattle.rpki_arguments.specs.declared.arguments.Format.TheVariants.{Text}
 use Rattle.rpki_arguments.specs.declared.arguments.Task.{Task}
-use Rattle.rpki_arguments.specs.declared.arguments.Task.TheVariants.{Show, Validate, Tree, Help, Version}
+use Rattle.rpki_arguments.specs.declared.arguments.Task.TheVariants.{Tree, Help, Version}
 use Rattle.rpki_answers.specs.declared.outcomes.Outcome.{Outcome}
 use Rattle.rpki_answers.specs.declared.outcomes.Outcome.TheVariants.{Success, WrongUse, Unread}
 use Rattle.rpki_command.specs.declared.searching.SoughtNames.{SoughtNames}
@@ -50,12 +51,13 @@ IsAnswerOfNamed reads lists r now outcome text =
     (names : List (List ℕ)) × AreFilesOf lists r.task r.files names
     × IsAnswer reads (record r { files = names }) now outcome text
 
--- the answer by what was sought: that to the same request of the files and the lists that were found;
--- or none, where a file couldn't be read
+-- the answer by what was sought: that to the same request of the files and the lists that were found,
+-- which ends as unread where another file couldn't be read; or none, where what is asked for couldn't be
 abbrev pub IsAnswerBy : Reads → RequestFields → Moment → Option SoughtNames → Outcome → List ℕ → Type 0
 IsAnswerBy reads r now None outcome text = (outcome ≡ Unread) × (text ≡ [])
 IsAnswerBy reads r now (Some sought) outcome text =
-    IsAnswer reads (with_sought r sought) now outcome text
+    (found : Outcome) × IsAnswer reads (with_sought r sought) now found text
+    × MatchBool sought.are_all_read (outcome ≡ found) (outcome ≡ Unread)
 
 -- the answer where a path is sought in folders: among the request's file and those that stand for the
 -- folders' names
@@ -109,5 +111,5 @@ RunEndsAs reads lists tells words outcome = (output : Output) × RunEnds reads l
 -- what was written since is what is said of them, by what they begin as
 abbrev pub SaysMisuse : List (List ℕ) → Option (List ℕ) → Option (List ℕ) → Type 0
 SaysMisuse words before after =
-    (BeginsRequest words × SaysRequestMisuse before after)
+    (BeginsRequest words × SaysRequestMisuse words before after)
     ⊎ ((BeginsRequest words → ⊥) × SaysLineMisuse words before after)

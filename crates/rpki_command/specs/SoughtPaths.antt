@@ -1,5 +1,5 @@
 -- A path that is sought: what is read of the files among which it is, and which files it has (own).
-use Rattle.std.specs.Prelude.{◌≡◌, ◌⊎◌, ℕ, List, [], ◌∷◌, Option, Some, None}
+use Rattle.std.specs.Prelude.{◌≡◌, ◌⊎◌, ◌↔◌, ℕ, List, [], ◌∷◌, Option, Some, None, IsTrue}
 use Rattle.rpki.specs.RsaSignatures.{IsSignedByRsa}
 use Rattle.rpki.specs.Times.{Moment}
 use Rattle.rpki.specs.Verification.{context}
@@ -37,14 +37,26 @@ abbrev pub with_sought : RequestFields → SoughtNames → RequestFields
 with_sought r sought =
     record r { files = word_octets sought.files.items; lists = word_octets sought.lists.items }
 
--- What a search gives at a moment, of what is read of the files of a request: the names; or none,
--- exactly where a file can't be read.
+-- the first of the files that could be read has the first of these names
+abbrev pub IsFirstRead : List (List ℕ) → List FileFields → Type 0
+IsFirstRead [] files = ⊥
+IsFirstRead (name ∷ names) [] = ⊥
+IsFirstRead (name ∷ names) (file ∷ files) = file.name ≡ name
+
+-- what is asked for could be read: the first file that the request names, and its locators
+abbrev pub IsAskedRead : RequestFields → List FileFields → List LocatorFields → Type 0
+IsAskedRead r files locators =
+    IsFirstRead r.files files × (file_names (locator_files locators) ≡ r.locators)
+
+-- What a search gives at a moment, of what is read of the files of a request: the names, and whether all
+-- files could be read; or none, exactly where what is asked for couldn't be.
 abbrev pub IsSearchOf : RequestFields → Moment → List FileFields → List FileFields
     → List LocatorFields → Option SoughtNames → Type 0
-IsSearchOf r now files lists locators None = AreAllRead r files lists (locator_files locators) → ⊥
+IsSearchOf r now files lists locators None = IsAskedRead r files locators → ⊥
 IsSearchOf r now files lists locators (Some sought) =
-    AreAllRead r files lists (locator_files locators)
+    IsAskedRead r files locators
     × IsSought (tree_question_of r now files locators) sought
+    × (IsTrue sought.are_all_read ↔ AreAllRead r files lists (locator_files locators))
 
 pub record IsSearch (reads : Reads) (r : RequestFields) (now : Moment) (sought : Option SoughtNames) : Type 0 where
   pub files : List FileFields

@@ -23,8 +23,8 @@ use rpki_files::{BareObject, Object};
 use rpki_verdicts::{GivenLocator, Question, TreeQuestion};
 use std::alloc::{AllocError, Global};
 
-// Whether all files of these names could be read, of which so many could be.
-fn are_read(names: &[&[u8]], count: usize) -> bool
+/// Returns whether all files of these names could be read, of which so many could be.
+pub fn are_read(names: &[&[u8]], count: usize) -> bool
     ensures { let names = map (λ name. name.now) names.now in (files : List FileFields)
         → AreNamed names files → count ≡ length files
         → IsTrue result ↔ (file_names files ≡ names) }

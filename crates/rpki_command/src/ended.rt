@@ -1,4 +1,7 @@
 //! How a run ended, when its text was written.
+ghost use Rattle.std.specs.Bool.{MatchBool};
+ghost use Rattle.std.specs.Prelude.{◌≡◌};
+
 use rpki_answers::Outcome;
 use std::io;
 
@@ -7,4 +10,25 @@ use std::io;
 pub struct Ended {
     pub outcome: Outcome,
     pub written: io::Result<()>,
+}
+
+impl Ended {
+    /// Leaves the outcome where all files could be read; else it is that one couldn't be.
+    pub fn if_read(self, are_all_read: bool) -> Ended
+        ensures outcome { MatchBool are_all_read
+            (result.outcome ≡ self.outcome) (result.outcome ≡ Outcome.Unread) }
+        ensures written { result.written ≡ self.written }
+    {
+        if are_all_read {
+            return self;
+        }
+        let Ended {
+            outcome: _,
+            written,
+        } = self;
+        Ended {
+            outcome: Outcome::Unread,
+            written,
+        }
+    }
 }

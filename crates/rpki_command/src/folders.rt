@@ -6,13 +6,16 @@ ghost use Rattle.std.specs.List.Sorted.{IsPermutation, IsSorted};
 ghost use Rattle.std.specs.Ordering.{nat_cmp};
 ghost use Rattle.std.specs.Prelude.{◌≡◌, ◌||◌, ◌++◌, ◌∷◌, [], Bool, List, ℕ, Some, map, IfOk, MatchOption, OnOk, true};
 ghost use Rattle.std.specs.Bool.{MatchBool};
+ghost use Rattle.std.specs.Io.KnownBytes.{Appends};
 ghost use Rattle.rpki_arguments.specs.CommandLines.Views.{fields_of, word_octets};
 ghost use Rattle.rpki_command.specs.ListedFolders.{AreDown, AreFilesOf, AreOpened, IsUnlisted, StandFor, is_folder_name, is_taken};
+ghost use Rattle.rpki_command.specs.Messages.{passed_message};
 
 use crate::files::{FileSource, Unread};
 use crate::reading::tell;
 use rpki_arguments::{Request, Task};
 use std::alloc::{AllocError, Global};
+use std::io;
 use std::io::Write;
 
 /// How many levels of folders are opened below one that is named.
@@ -73,7 +76,7 @@ fn listed<F: FileSource, E: Write>(
         Ok(listed) => Ok(listed),
         Err(Unread::Memory) => Err(AllocError),
         Err(why) => {
-            tell(err, name, &why);
+            let _told = tell(err, name, &why);
             drop(why);
             Ok(None)
         }
@@ -82,7 +85,8 @@ fn listed<F: FileSource, E: Write>(
 
 impl Names {
     fn new(alloc: Global, passed: usize) -> Names
-        ensures { word_octets result.all.items ≡ [] }
+        ensures none { word_octets result.all.items ≡ [] }
+        ensures passed { result.passed ≡ passed }
     {
         Names {
             all: Vec::new(alloc),
@@ -204,13 +208,16 @@ fn copied(alloc: Global, names: &[&[u8]]) -> Result<Vec<Vec<u8>>, AllocError>
 }
 
 // Says how many files of folders were passed over.
-fn tell_passed<E: Write>(err: &mut E, passed: usize) {
-    if passed > 0 {
-        let _told = writeln!(
-            err,
-            "rpki: passed over in folders: {passed} files whose names end neither in .cer nor in .crl"
-        );
+fn tell_passed<E: Write>(err: &mut E, passed: usize) -> io::Result<()>
+    ensures { OnOk result (Appends (E.contents err.old) (E.contents err.new) (passed_message passed)) }
+{
+    if passed == 0 {
+        return Ok(());
     }
+    writeln!(
+        err,
+        "rpki: passed over in folders: {passed} files whose names end neither in .cer nor in .crl"
+    )
 }
 
 /// Returns the names of the files that stand for names of which each may be a folder's. Errs only
@@ -230,7 +237,7 @@ pub fn opened<F: FileSource, E: Write>(
     };
     let first = level(alloc, files, err, given, true)?;
     let Names { all, passed } = opened_down(alloc, files, err, first)?;
-    tell_passed(err, passed);
+    let _told = tell_passed(err, passed);
     Ok(all)
 }
 

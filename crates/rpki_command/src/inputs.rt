@@ -6,6 +6,7 @@ ghost use Rattle.rpki_requests.specs.RequestWords.Views.{asked_fields};
 ghost use Rattle.rpki_command.specs.ReadFiles.{IsUnread};
 ghost use Rattle.rpki_command.specs.RequestRuns.{AreInputs, AreObjectsNamed, HasUnread, HasUnreadInput, IsObjectNamed};
 ghost use Rattle.rpki_command.specs.RequestRuns.Views.{input_fields};
+ghost use Rattle.rpki_command.specs.UnreadFiles.{IsNamed, IsWhyUnread};
 ghost use Rattle.rpki_arguments.specs.CommandLines.{usual_size};
 
 use crate::files::{FileSource, Unread};
@@ -69,8 +70,7 @@ fn object_named<'a, F: FileSource>(
 ) -> Result<Object<'a>, Unread>
     ensures object { IfOk result (λ object.
         IsObjectNamed (F.reads files.now) name.now object.octets) }
-    ensures unread { IfErr result (λ why.
-        why ≢ Unread.Memory → IsUnread (F.reads files.now) usual_size name.now) }
+    ensures unread { IfErr result (IsWhyUnread (F.reads files.now) usual_size name.now) }
 {
     match octets_by(alloc, files, name, MOST) {
         Ok((text, octets)) => match read_object(alloc, text, octets) {
@@ -91,6 +91,7 @@ fn push<'a>(all: &mut Vec<Object<'a>>, object: Object<'a>) -> Result<(), AllocEr
 }
 
 // Reads the file of this name and pushes its object.
+#[tactic(auto, using(crate::proofs::UnreadFiles::unread_of))]
 fn push_named<'a, F: FileSource>(
     alloc: Global,
     files: &F,
@@ -102,6 +103,7 @@ fn push_named<'a, F: FileSource>(
         × (contents all.new.items ≡ contents all.old.items ++ octets ∷ [])) }
     ensures unread { IfErr result (λ e.
         e.why ≢ Unread.Memory → IsUnread (F.reads files.now) usual_size name.now) }
+    ensures named { IfErr result (IsNamed (F.reads files.now)) }
 {
     match object_named(alloc, files, name) {
         Ok(object) => match push(all, object) {
@@ -122,6 +124,7 @@ fn objects_named<'a, F: FileSource>(
         AreObjectsNamed (F.reads files.now) names (contents all.items)) }
     ensures unread { let names = map (λ name. name.now) names.now in IfErr result (λ e.
         e.why ≢ Unread.Memory → HasUnread (F.reads files.now) names) }
+    ensures named { IfErr result (IsNamed (F.reads files.now)) }
 {
     let mut all = Vec::new(alloc);
     for name in names {
@@ -141,6 +144,7 @@ fn objects_of<'a, F: FileSource>(
         IfOk result (λ all. AreObjectsNamed (F.reads files.now) names (contents all.items)) }
     ensures unread { let names = values_of setting (asked_fields order.now).given in
         IfErr result (λ e. e.why ≢ Unread.Memory → HasUnread (F.reads files.now) names) }
+    ensures named { IfErr result (IsNamed (F.reads files.now)) }
 {
     let Ok(names) = order.values_of(alloc, setting) else {
         return Err(no_memory());
@@ -161,6 +165,7 @@ pub fn read_inputs<'a, F: FileSource>(
         AreInputs (F.reads files.now) (asked_fields order.now) (input_fields objects)) }
     ensures unread { IfErr result (λ e. e.why ≢ Unread.Memory
         → HasUnreadInput (F.reads files.now) (asked_fields order.now)) }
+    ensures named { IfErr result (IsNamed (F.reads files.now)) }
 {
     let issuers = objects_of(alloc, files, order, Setting::Issuer)?;
     let lists = objects_of(alloc, files, order, Setting::Crl)?;

@@ -1,6 +1,7 @@
 //! Where files are made, and why one can't be.
-ghost use Rattle.std.specs.Prelude.{[], ◌∷◌, List, None, Option, OnOk};
+ghost use Rattle.std.specs.Prelude.{[], ◌∷◌, List, None, Option, IfErr, OnOk};
 ghost use Rattle.rpki_command.specs.Outputs.{Makes};
+ghost use Rattle.rpki_command.specs.UnreadFiles.{IsWhyUnmade};
 
 use crate::files::write_failure;
 use std::fs::OpenOptions;
@@ -75,7 +76,8 @@ pub fn make_named<M: FileMaker>(
     octets: &[u8],
     overwrites: bool,
 ) -> Result<(), Unmade>
-    ensures { OnOk result (Makes (M.made files.old) (M.made files.new)
+    ensures unmade { IfErr result (IsWhyUnmade name.now) }
+    ensures made { OnOk result (Makes (M.made files.old) (M.made files.new)
         (record { name = name.now; octets = octets.now; overwrites = overwrites } ∷ [])) }
 {
     match str::from_utf8(name) {

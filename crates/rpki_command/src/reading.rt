@@ -1,7 +1,8 @@
 //! The files that a request names, and what is said of those that can't be read.
-ghost use Rattle.std.specs.Prelude.{◌≡◌, ◌≢◌, [], ◌∷◌, ◌++◌, All, List, Some, map, IfErr, IfOk, MatchOption, OnOk};
+ghost use Rattle.std.specs.Prelude.{◌≡◌, [], ◌∷◌, ◌++◌, All, List, Some, map, IfErr, IfOk, MatchOption, OnOk};
 ghost use Rattle.rpki_arguments.specs.CommandLines.Views.{fields_of};
 ghost use Rattle.rpki_command.specs.ReadFiles.{AreFilesRead, AreObjectsRead, AreRead, IsUnread};
+ghost use Rattle.rpki_command.specs.UnreadFiles.{IsWhyUnread, SaysUnread};
 ghost use Rattle.rpki_verdicts.specs.GivenLocators.{LocatorFields, IsRead, locator_files};
 
 use crate::files::{FileSource, Unread};
@@ -10,16 +11,19 @@ use rpki_files::{BareObject, Object, read_bare_object, read_object};
 use rpki_text::Characters;
 use rpki_verdicts::GivenLocator;
 use std::alloc::{AllocError, Global};
+use std::io;
 use std::io::Write;
 
-/// Says why a file can't be read. Where this can't be told, the exit status still tells it.
-pub fn tell<E: Write>(err: &mut E, name: &[u8], why: &Unread) {
+/// Says why a file can't be read, in a line with its name.
+pub fn tell<E: Write>(err: &mut E, name: &[u8], why: &Unread) -> io::Result<()>
+    ensures { OnOk result
+        (SaysUnread name.now why.now (E.contents err.old) (E.contents err.new)) }
+{
     if name == b"-".as_slice() {
-        let _told = writeln!(err, "rpki: standard input: {why}");
-        return;
+        return writeln!(err, "rpki: standard input: {why}");
     }
     let name = Characters(name);
-    let _told = writeln!(err, "rpki: {name}: {why}");
+    writeln!(err, "rpki: {name}: {why}")
 }
 
 /// Returns what the file of this name holds, or why it can't be read.
@@ -32,8 +36,7 @@ pub fn octets_by<'a, F: FileSource>(
     ensures name { IfOk result (λ read. read.0.now ≡ name.now) }
     ensures octets { IfOk result (λ read.
         F.reads files.now name.now most (Some read.1.items)) }
-    ensures unread { IfErr result (λ why.
-        why ≢ Unread.Memory → IsUnread (F.reads files.now) most name.now) }
+    ensures unread { IfErr result (IsWhyUnread (F.reads files.now) most name.now) }
 {
     match str::from_utf8(name) {
         Ok(text) => match files.read_file(alloc, text, most) {
@@ -45,6 +48,7 @@ pub fn octets_by<'a, F: FileSource>(
 }
 
 // What a file of this name holds; where it can't be read, that is said, and there is nothing.
+#[tactic(auto, using(crate::proofs::UnreadFiles::unread_of))]
 fn octets_told<'a, F: FileSource, E: Write>(
     alloc: Global,
     files: &F,
@@ -60,7 +64,8 @@ fn octets_told<'a, F: FileSource, E: Write>(
         Ok(read) => Ok(Some(read)),
         Err(Unread::Memory) => Err(AllocError),
         Err(why) => {
-            tell(err, name, &why);
+            // (where this can't be told, the exit status still tells it)
+            let _told = tell(err, name, &why);
             drop(why);
             Ok(None)
         }

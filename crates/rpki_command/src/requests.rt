@@ -3,14 +3,16 @@
 ghost use Rattle.std.specs.Prelude.{◌≡◌, ◌≢◌, List, ℕ, map, IfErr, IfOk, IsFalse, IsTrue, OnErr, OnOk, Ok};
 ghost use Rattle.std.specs.Io.KnownBytes.{Appends};
 ghost use Rattle.rpki_arguments.specs.CommandLines.Views.{word_octets};
-ghost use Rattle.rpki_requests.specs.Fulfilment.{Fulfils};
+ghost use Rattle.rpki_requests.specs.Fulfilment.{Fulfils, context_of};
+ghost use Rattle.rpki_requests.specs.Refusals.{TellsPath};
 ghost use Rattle.rpki_requests.specs.RequestMisuses.{misuse_text};
 ghost use Rattle.rpki_requests.specs.RequestWords.Views.{asked_fields};
-ghost use Rattle.rpki_command.specs.Messages.{SaysRefusal, SaysRequestMisuse, misuse_message, refusal_message};
+ghost use Rattle.rpki_command.specs.Messages.{SaysRequestMisuse, misuse_message, refusal_message};
 ghost use Rattle.rpki_command.specs.Outputs.{Makes, Output, placed};
 ghost use Rattle.rpki_command.specs.PemTexts.{IsPemText};
-ghost use Rattle.rpki_command.specs.RequestRuns.{AskedEnds, InputsEnd, IsWritten, RequestEnds, WordsEnd};
+ghost use Rattle.rpki_command.specs.RequestRuns.{AskedEnds, InputsEnd, IsWritten, RequestEnds, SaysRefusal, SaysRefusalOf, SaysWhy, WordsEnd};
 ghost use Rattle.rpki_command.specs.RequestRuns.Views.{input_fields};
+ghost use Rattle.rpki_command.specs.UnreadFiles.{SaysOneUnread, SaysUnread};
 
 use crate::about::usage;
 use crate::clock::{MomentSource, moment};
@@ -61,12 +63,14 @@ fn refuse<E: Write>(err: &mut E, refusal: &Refusal) -> Result<()>
 
 // Says which file can't be read, and why, unless memory ran out.
 fn tell_unreadable<E: Write>(err: &mut E, unreadable: &Unreadable<'_>) -> Result<()>
-    ensures { OnOk result (unreadable.now.why ≢ Unread.Memory) }
+    ensures memory { OnOk result (unreadable.now.why ≢ Unread.Memory) }
+    ensures said { let file = unreadable.now in OnOk result
+        (SaysUnread file.name.now file.why (E.contents err.old) (E.contents err.new)) }
 {
     if let Unread::Memory = unreadable.why {
         return Err(anyhow!("out of memory"));
     }
-    tell(err, unreadable.name, &unreadable.why);
+    tell(err, unreadable.name, &unreadable.why)?;
     Ok(())
 }
 
@@ -118,6 +122,9 @@ fn text_of(
         × IsWritten asked.is_pem given text) }
     ensures refused { IfErr result (λ why. why ≢ Refusal.Memory → (given : Made)
         → Fulfils (asked_fields order.now) (input_fields objects.now) now given → ⊥) }
+    ensures told { let inputs = input_fields objects.now in
+        let x = context_of (asked_fields order.now) now in
+        IfErr result (TellsPath x inputs.issuers inputs.lists) }
 {
     let made = fulfil(alloc, order, &objects.as_inputs(), now)?;
     Ok(written(alloc, made, order.is_pem)?)
@@ -173,8 +180,10 @@ fn answer_inputs<M: FileMaker, O: Write, E: Write>(
         × InputsEnd (asked_fields order.now) inputs now ended.outcome output
         × OnOk ended.written (Appends (O.contents out.old) (O.contents out.new) output.text)
         × Makes (M.made files.old) (M.made files.new) output.files) }
-    ensures refused { IfOk result (λ ended. ended.outcome ≡ Outcome.Rejection
-        → SaysRefusal (E.contents err.old) (E.contents err.new)) }
+    ensures refused { let asked = asked_fields order.now in let inputs = input_fields objects.now in
+        IfOk result (λ ended. ended.outcome ≡ Outcome.Rejection
+        → SaysWhy asked inputs now (E.contents err.old) (E.contents err.new)) }
+    ensures read { IfOk result (λ ended. ended.outcome ≢ Outcome.Unread) }
     ensures unwritten { OnErr result (out.new ≡ out.old) }
 {
     let names = order.values_of(alloc, Setting::Out)?;
@@ -213,8 +222,11 @@ fn answer_order<S: FileSource + MomentSource, M: FileMaker, O: Write, E: Write>(
         × AskedEnds (S.reads system.now) (S.tells system.now) asked ended.outcome output
         × OnOk ended.written (Appends (O.contents out.old) (O.contents out.new) output.text)
         × Makes (M.made files.old) (M.made files.new) output.files) }
-    ensures refused { IfOk result (λ ended. ended.outcome ≡ Outcome.Rejection
-        → SaysRefusal (E.contents err.old) (E.contents err.new)) }
+    ensures refused { let says = SaysRefusalOf (S.reads system.now) (S.tells system.now) in
+        IfOk result (λ ended. ended.outcome ≡ Outcome.Rejection
+        → says (asked_fields order.now) (E.contents err.old) (E.contents err.new)) }
+    ensures unread { IfOk result (λ ended. ended.outcome ≡ Outcome.Unread
+        → SaysOneUnread (S.reads system.now) (E.contents err.old) (E.contents err.new)) }
     ensures unwritten { OnErr result (out.new ≡ out.old) }
 {
     let named = match named_moment(alloc, order, Setting::At) {
@@ -253,10 +265,14 @@ fn answer_words<S: FileSource + MomentSource, M: FileMaker, O: Write, E: Write>(
         × WordsEnd (S.reads system.now) (S.tells system.now) words ended.outcome output
         × OnOk ended.written (Appends (O.contents out.old) (O.contents out.new) output.text)
         × Makes (M.made files.old) (M.made files.new) output.files) }
-    ensures said { IfOk result (λ ended. ended.outcome ≡ Outcome.WrongUse
-        → SaysRequestMisuse (E.contents err.old) (E.contents err.new)) }
-    ensures refused { IfOk result (λ ended. ended.outcome ≡ Outcome.Rejection
-        → SaysRefusal (E.contents err.old) (E.contents err.new)) }
+    ensures said { let words = word_octets words.now in
+        IfOk result (λ ended. ended.outcome ≡ Outcome.WrongUse
+        → SaysRequestMisuse words (E.contents err.old) (E.contents err.new)) }
+    ensures refused { let says = SaysRefusal (S.reads system.now) (S.tells system.now) in
+        IfOk result (λ ended. ended.outcome ≡ Outcome.Rejection
+        → says (word_octets words.now) (E.contents err.old) (E.contents err.new)) }
+    ensures unread { IfOk result (λ ended. ended.outcome ≡ Outcome.Unread
+        → SaysOneUnread (S.reads system.now) (E.contents err.old) (E.contents err.new)) }
     ensures unwritten { OnErr result (out.new ≡ out.old) }
 {
     match read_request(alloc, words) {
@@ -289,10 +305,14 @@ pub fn run_request<S: FileSource + MomentSource, M: FileMaker, O: Write, E: Writ
         × RequestEnds (S.reads system.now) (S.tells system.now) words ended.outcome output
         × OnOk ended.written (Appends (O.contents out.old) (O.contents out.new) output.text)
         × Makes (M.made files.old) (M.made files.new) output.files) }
-    ensures said { IfOk result (λ ended. ended.outcome ≡ Outcome.WrongUse
-        → SaysRequestMisuse (E.contents err.old) (E.contents err.new)) }
-    ensures refused { IfOk result (λ ended. ended.outcome ≡ Outcome.Rejection
-        → SaysRefusal (E.contents err.old) (E.contents err.new)) }
+    ensures said { let words = word_octets words.now in
+        IfOk result (λ ended. ended.outcome ≡ Outcome.WrongUse
+        → SaysRequestMisuse words (E.contents err.old) (E.contents err.new)) }
+    ensures refused { let says = SaysRefusal (S.reads system.now) (S.tells system.now) in
+        IfOk result (λ ended. ended.outcome ≡ Outcome.Rejection
+        → says (word_octets words.now) (E.contents err.old) (E.contents err.new)) }
+    ensures unread { IfOk result (λ ended. ended.outcome ≡ Outcome.Unread
+        → SaysOneUnread (S.reads system.now) (E.contents err.old) (E.contents err.new)) }
     ensures unwritten { OnErr result (out.new ≡ out.old) }
 {
     if asks_help(words) {

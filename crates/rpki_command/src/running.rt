@@ -4,10 +4,12 @@ ghost use Rattle.std.specs.Io.KnownBytes.{Appends};
 ghost use Rattle.rpki_arguments.specs.CommandLines.Views.{fields_of, word_octets};
 ghost use Rattle.rpki_answers.specs.Outcomes.{AsksOfFiles};
 ghost use Rattle.rpki_arguments.specs.MisuseTexts.{misuse_text};
-ghost use Rattle.rpki_command.specs.Messages.{SaysLineMisuse, SaysRefusal, misuse_message};
+ghost use Rattle.rpki_command.specs.Messages.{SaysLineMisuse, misuse_message};
 ghost use Rattle.rpki_command.specs.Outputs.{Makes, Output};
+ghost use Rattle.rpki_command.specs.RequestRuns.{SaysRefusal};
 ghost use Rattle.rpki_command.specs.Runs.{IsAnswer, IsAnswerBy, IsAnswerIn, IsAnswerOf, IsAnswerOfNamed, IsWholeAnswer, LineEnds, RunEnds, SaysMisuse};
 ghost use Rattle.rpki_requests.specs.RequestWords.{BeginsRequest};
+ghost use Rattle.rpki_command.specs.UnreadFiles.{SaysOneUnread};
 
 use crate::about::{text_about, usage};
 use crate::answering::{answer_objects, answer_tree, quieted};
@@ -174,7 +176,8 @@ fn answer_of_named<F: FileSource, O: Write, E: Write>(
     answer(alloc, files, out, err, &request, now)
 }
 
-// Answers the request of the path that was sought; where a file couldn't be read, there is none.
+// Answers the request of the path that was sought, if what is asked for could be read. It ends as
+// unread where another file couldn't be.
 fn answer_by<F: FileSource, O: Write, E: Write>(
     alloc: Global,
     files: &F,
@@ -199,7 +202,8 @@ fn answer_by<F: FileSource, O: Write, E: Write>(
         });
     };
     let request = with_path(alloc, request, &sought.files, &sought.lists)?;
-    answer(alloc, files, out, err, &request, now)
+    let ended = answer(alloc, files, out, err, &request, now)?;
+    Ok(ended.if_read(sought.are_all_read))
 }
 
 // Answers the request of the path to its file that is sought among the files that stand for the
@@ -306,9 +310,13 @@ pub fn run<S: FileSource + MomentSource, M: FileMaker, O: Write, E: Write>(
     ensures said { let words = word_octets words.now in
         IfOk result (λ ended. ended.outcome ≡ Outcome.WrongUse
         → SaysMisuse words (E.contents err.old) (E.contents err.new)) }
-    ensures refused { BeginsRequest (word_octets words.now)
+    ensures refused { let says = SaysRefusal (S.reads system.now) (S.tells system.now) in
+        BeginsRequest (word_octets words.now)
         → IfOk result (λ ended. ended.outcome ≡ Outcome.Rejection
-        → SaysRefusal (E.contents err.old) (E.contents err.new)) }
+        → says (word_octets words.now) (E.contents err.old) (E.contents err.new)) }
+    ensures unread { BeginsRequest (word_octets words.now)
+        → IfOk result (λ ended. ended.outcome ≡ Outcome.Unread
+        → SaysOneUnread (S.reads system.now) (E.contents err.old) (E.contents err.new)) }
     ensures unwritten { OnErr result (out.new ≡ out.old) }
 {
     if is_request(words) {

@@ -1,5 +1,5 @@
 //! A path that is sought: the names of its files, and of the lists beside them.
-ghost use Rattle.std.specs.Prelude.{◌≡◌, ◌++◌, ◌∷◌, [], List, ℕ, map, IfOk, OnOk};
+ghost use Rattle.std.specs.Prelude.{◌≡◌, ◌↔◌, ◌++◌, ◌∷◌, [], List, ℕ, map, IfOk, IsTrue, OnOk};
 ghost use Rattle.std.specs.Io.KnownBytes.{Appends};
 ghost use Rattle.rpki.specs.RsaSignatures.{IsSignedByRsa};
 ghost use Rattle.rpki.specs.Verification.{context};
@@ -10,9 +10,9 @@ ghost use Rattle.rpki_verdicts.specs.Trees.{asked_of};
 ghost use Rattle.rpki_answers.specs.AnswerTexts.{tree_question_of};
 ghost use Rattle.rpki_command.specs.Messages.{bound_message};
 ghost use Rattle.rpki_command.specs.ReadFiles.{AreGiven};
-ghost use Rattle.rpki_command.specs.SoughtPaths.{AreListNames, IsSearch, IsSearchOf, IsSought};
+ghost use Rattle.rpki_command.specs.SoughtPaths.{AreListNames, IsFirstRead, IsSearch, IsSearchOf, IsSought};
 
-use crate::answering::{are_all_read, tree_question};
+use crate::answering::{are_all_read, are_read, tree_question};
 use crate::files::FileSource;
 use crate::reading::{GivenFiles, read_given};
 use rpki::repository::folder::Ended;
@@ -31,6 +31,8 @@ pub struct SoughtNames {
     pub lists: Vec<Vec<u8>>,
     /// How the walk ended, where it came to no valid path; else whole.
     pub ended: Ended,
+    /// Whether all files among which it was sought could be read.
+    pub are_all_read: bool,
 }
 
 // Adds a file's name.
@@ -130,8 +132,8 @@ fn tell_bound<E: Write>(
     }
 }
 
-// The path that is sought to the first of these files, and the lists among them. Where the search met
-// a bound, it says so.
+// The path that is sought to the first of these files, and the lists among them, where all files could
+// be read or not. Where the search met a bound, it says so.
 fn sought_among<E: Write>(
     alloc: Global,
     err: &mut E,
@@ -139,9 +141,11 @@ fn sought_among<E: Write>(
     now: Time,
     files: &[BareObject<'_>],
     locators: &[GivenLocator<'_>],
+    are_all_read: bool,
 ) -> Result<SoughtNames, AllocError>
-    ensures { IfOk result (IsSought
+    ensures sought { IfOk result (IsSought
         (tree_question_of (fields_of request.now) now files.now locators.now)) }
+    ensures read { IfOk result (λ sought. sought.are_all_read ≡ are_all_read) }
 {
     let question = tree_question(request, now, files, locators);
     let lists = list_names(alloc, files)?;
@@ -152,6 +156,7 @@ fn sought_among<E: Write>(
                 files,
                 lists,
                 ended,
+                are_all_read,
             })
         }
         Err(error) => {
@@ -161,7 +166,20 @@ fn sought_among<E: Write>(
     }
 }
 
-// What is sought among the files that could be read, where all could be.
+// Whether the first of these names is that of the first of the files that could be read.
+fn is_first_read(names: &[&[u8]], files: &[BareObject<'_>]) -> bool
+    ensures { IsTrue result ↔ IsFirstRead (map (λ name. name.now) names.now) files.now }
+{
+    let Some((name, _names)) = names.split_first() else {
+        return false;
+    };
+    let Some((file, _files)) = files.split_first() else {
+        return false;
+    };
+    file.name().as_bytes() == *name
+}
+
+// What is sought among the files that could be read, where what is asked for could be.
 fn sought_if_read<E: Write>(
     alloc: Global,
     err: &mut E,
@@ -175,16 +193,17 @@ fn sought_if_read<E: Write>(
     ensures { IfOk result
         (IsSearchOf (fields_of request.now) now files.now lists.now locators.now) }
 {
-    if !are_all_read(request, files.len(), lists.len(), locators.len()) {
+    if !is_first_read(&request.files, files) || !are_read(&request.locators, locators.len()) {
         return Ok(None);
     }
-    let sought = sought_among(alloc, err, request, now, files, locators)?;
+    let are_all_read = are_all_read(request, files.len(), lists.len(), locators.len());
+    let sought = sought_among(alloc, err, request, now, files, locators, are_all_read)?;
     Ok(Some(sought))
 }
 
-/// Seeks the path to the first file of a request among the others, as reading them gives them. Gives
-/// none where one can't be read, and says why. Where it met a bound before it came to a valid path, it
-/// says so. Errs only where memory runs out.
+/// Seeks the path to the first file of a request among the others, as reading them gives them. Of each
+/// that can't be read it says why, and gives none where that is the first file or a locator. Where it
+/// met a bound before it came to a valid path, it says so. Errs only where memory runs out.
 pub fn names_sought<F: FileSource, E: Write>(
     alloc: Global,
     files: &F,

@@ -9,6 +9,8 @@ use Rattle.rpki_requests.specs.declared.words.Demand.{Demand}
 use Rattle.rpki_requests.specs.declared.words.Errand.{Errand}
 use Rattle.rpki_requests.specs.declared.words.Given.{Given}
 use Rattle.rpki_requests.specs.declared.words.Setting.{Setting}
+use Rattle.rpki_requests.specs.declared.words.Misuse.{Misuse}
+use Rattle.rpki_requests.specs.RequestMisuses.{IsWrongCount}
 use Rattle.rpki_requests.specs.RequestWords.{GivenFields, Meets, demand, is_same, values_of}
 use Rattle.rpki_requests.specs.RequestWords.Views.{given_fields}
 
@@ -42,6 +44,10 @@ module _ (setting : Setting) (errand : Errand) (given list : List Given) (often 
   -- so many meet what is demanded, or don't
   pub met : Meets often n → Meets (demand setting errand) (length (values_of setting (map given_fields given)))
   met meets = subst (λ (m : ℕ). Meets (demand setting errand) m) times_is (subst (λ (d : Demand). Meets d n) often_is meets)
+
+  -- what is told of so many is told of those that stand there
+  pub counted : (misuse : Misuse) → IsWrongCount misuse setting often n → IsWrongCount misuse setting (demand setting errand) (length (values_of setting (map given_fields given)))
+  counted misuse wrong = subst (λ (m : ℕ). IsWrongCount misuse setting (demand setting errand) m) times_is (subst (λ (d : Demand). IsWrongCount misuse setting d n) often_is wrong)
 
   pub unmet : (Meets often n → ⊥) → Meets (demand setting errand) (length (values_of setting (map given_fields given))) → ⊥
   unmet not meets = not (subst (λ (d : Demand). Meets d n) (sym often_is) (subst (λ (m : ℕ). Meets (demand setting errand) m) (sym times_is) meets))

@@ -14,3 +14,4 @@ mod PlaceByPlace
 mod RequestParts
 mod RevokedFiles
 mod Settings
+mod WrongRequests

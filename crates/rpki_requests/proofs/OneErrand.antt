@@ -7,6 +7,8 @@ use Rattle.rpki_arguments.specs.WordParts.{AddsParts, AreInOrder, words_before, 
 use Rattle.rpki_arguments.proofs.PartsOfWords.{one_list}
 use Rattle.rpki_requests.specs.declared.words.Errand.{Errand}
 use Rattle.rpki_requests.specs.declared.words.Errand.TheVariants.{Authority, EndEntity, Detached, Router, Anchor, RevocationList, Completion}
+use Rattle.rpki_requests.specs.declared.words.Misuse.{Misuse}
+use Rattle.rpki_requests.specs.RequestMisuses.{IsReason, IsUnsuited}
 use Rattle.rpki_requests.specs.RequestWords.{AskedFields, BeginsRequest, IsRequestLine, IsRequestPart, RequestPart, Suits, errand_words, file, only_errand, with_part}
 use Rattle.rpki_requests.proofs.RequestParts.{request_grammar, request_clear}
 
@@ -97,6 +99,10 @@ module _ (words : List (List ℕ)) (errand : Errand) (rest : List (List ℕ)) (w
         ∙ ap (λ (l : List RequestPart). fold with_part (only_errand errand) (l ++ map file (words_behind h.rest))) parts
         ∙ ap (λ (l : List (List ℕ)). fold with_part (only_errand errand) (adds.0 ++ map file (words_behind l))) (sym same.1)
         ∙ sym all_asked
+
+    -- for a reason that is told
+    pub reason_told : (misuse : Misuse) → IsReason misuse asked → IsUnsuited misuse errand rest
+    reason_told misuse reason = record { parts = adds.0; parts_are = adds.1; asked = asked; asks = all_asked; reason = reason }
 
     -- what they ask doesn't suit their errand
     pub unsuited : (Suits asked → ⊥) → (other : AskedFields) → IsRequestLine other words → ⊥

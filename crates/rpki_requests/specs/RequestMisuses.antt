@@ -1,9 +1,101 @@
--- What is said of words that ask for nothing to be prepared or completed (own).
-use Rattle.std.specs.Prelude.{ℕ, List, ◌++◌, codes}
+-- What is told of words that ask for nothing to be prepared or completed: something that is wrong with
+-- them, of the first word that is wrong, or of what they ask; and what is said of it (own).
+use Rattle.std.specs.Prelude.{◌≡◌, ◌≢◌, ◌≤◌, ◌⊎◌, ℕ, List, [], ◌∷◌, ◌++◌, length, map, fold, true, false, codes}
 use Rattle.rpki_text.specs.Pages.{characters_text}
-use Rattle.rpki_requests.specs.RequestWords.{setting_name, switch_name}
+use Rattle.rpki_arguments.specs.WordParts.{AreInOrder, IsOption, Joins, words_before, words_behind}
+use Rattle.rpki_requests.specs.RequestWords.{AskedFields, IsRequestPart, RequestPart, demand, errand_words, file, files_wanted, only_errand, setting_name, switch_name, takes, values_of, with_part}
+use Rattle.rpki_requests.specs.declared.words.Demand.{Demand}
+use Rattle.rpki_requests.specs.declared.words.Demand.TheVariants.{Never, AtMostOnce, Once, AtLeastOnce}
+use Rattle.rpki_requests.specs.declared.words.Errand.{Errand}
 use Rattle.rpki_requests.specs.declared.words.Misuse.{Misuse}
 use Rattle.rpki_requests.specs.declared.words.Misuse.TheVariants.{NoErrand, Unknown, NoValue, Unsuited, UnsuitedSwitch, Missing, Repeated, Files, Memory}
+use Rattle.rpki_requests.specs.declared.words.Setting.{Setting}
+use Rattle.rpki_requests.specs.declared.words.Switch.{Switch}
+use Rattle.rpki_requests.specs.declared.words.Switch.TheVariants.{Trim, Pem}
+
+-- ---- the first words
+
+-- they begin as no request does, as is told: there are none, or none behind `prepare`; or one is none of
+-- those that name what is asked
+abbrev pub IsNoErrand : Misuse → List (List ℕ) → Type 0
+IsNoErrand NoErrand words = (words ≡ []) ⊎ (words ≡ codes "prepare" ∷ [])
+IsNoErrand (Unknown word) words =
+    ((rest : List (List ℕ)) × (words ≡ word.now ∷ rest)
+    × (word.now ≢ codes "prepare") × (word.now ≢ codes "complete"))
+    ⊎ ((rest : List (List ℕ)) × (words ≡ codes "prepare" ∷ word.now ∷ rest)
+    × ((errand : Errand) → errand_words errand ≡ codes "prepare" ∷ word.now ∷ [] → ⊥))
+IsNoErrand _ words = ⊥
+
+-- ---- a word behind them
+
+-- the word is an option that there isn't
+abbrev pub IsUnknownOption : List ℕ → Type 0
+IsUnknownOption word =
+    IsOption word × ((setting : Setting) → word ≡ setting_name setting → ⊥)
+    × ((setting : Setting) (value : List ℕ) → Joins (setting_name setting) value word → ⊥)
+    × ((given : Switch) → word ≡ switch_name given → ⊥)
+
+-- the words begin with what is told: with an option that there isn't, or with one whose value is missing
+abbrev pub IsWrongFirst : Misuse → List (List ℕ) → Type 0
+IsWrongFirst (Unknown word) words =
+    (rest : List (List ℕ)) × (words ≡ word.now ∷ rest) × IsUnknownOption word.now
+IsWrongFirst (NoValue setting) words = words ≡ setting_name setting ∷ []
+IsWrongFirst _ words = ⊥
+
+-- the words are parts up to what is told
+pub record IsFirstWrong (misuse : Misuse) (words : List (List ℕ)) : Type 0 where
+  pub parts : List RequestPart
+  pub before : List (List ℕ)
+  pub behind : List (List ℕ)
+  pub parts_are : AreInOrder IsRequestPart parts before
+  pub wrong : IsWrongFirst misuse behind
+  pub words_are : words ≡ before ++ behind
+
+-- ---- what is asked
+
+-- an option that stands so often isn't demanded so, as is told: it has no place here, is missing, or
+-- stands twice
+abbrev pub IsWrongCount : Misuse → Setting → Demand → ℕ → Type 0
+IsWrongCount (Unsuited option) setting often times = (option ≡ setting) × (often ≡ Never) × (1 ≤ times)
+IsWrongCount (Missing option) setting often times =
+    (option ≡ setting) × ((often ≡ Once) ⊎ (often ≡ AtLeastOnce)) × (times ≡ 0)
+IsWrongCount (Repeated option) setting often times =
+    (option ≡ setting) × ((often ≡ Once) ⊎ (often ≡ AtMostOnce)) × (2 ≤ times)
+IsWrongCount _ setting often times = ⊥
+
+-- so it is of one option that takes a value
+abbrev pub HasWrongCount : Misuse → AskedFields → Type 0
+HasWrongCount misuse asked =
+    (setting : Setting)
+    × IsWrongCount misuse setting (demand setting asked.errand) (length (values_of setting asked.given))
+
+-- what is told is a reason why this doesn't suit its errand
+abbrev pub IsReason : Misuse → AskedFields → Type 0
+IsReason (UnsuitedSwitch Trim) asked = (asked.trims ≡ true) × (takes Trim asked.errand ≡ false)
+IsReason (UnsuitedSwitch Pem) asked = (asked.is_pem ≡ true) × (takes Pem asked.errand ≡ false)
+IsReason (UnsuitedSwitch _) asked = ⊥
+IsReason Files asked = length asked.files ≢ files_wanted asked.errand
+IsReason misuse asked = HasWrongCount misuse asked
+
+-- the words behind those of the errand are parts, and what they ask doesn't suit it, as is told
+pub record IsUnsuited (misuse : Misuse) (errand : Errand) (words : List (List ℕ)) : Type 0 where
+  pub parts : List RequestPart
+  pub parts_are : AreInOrder IsRequestPart parts (words_before words)
+  pub asked : AskedFields
+  pub asks : asked ≡ fold with_part (only_errand errand) (parts ++ map file (words_behind words))
+  pub reason : IsReason misuse asked
+
+-- ---- all words
+
+-- what is told of the words is so: they begin as no request does; or behind what they ask is the first
+-- word that is wrong, or it doesn't suit what is asked
+abbrev pub IsMisuse : Misuse → List (List ℕ) → Type 0
+IsMisuse misuse words =
+    IsNoErrand misuse words
+    ⊎ ((errand : Errand) × (rest : List (List ℕ)) × (words ≡ errand_words errand ++ rest)
+    × (IsFirstWrong misuse (words_before rest) ⊎ IsUnsuited misuse errand rest))
+
+-- ---- what is said of it
 
 -- what is wrong first: nothing is named; a word is unknown; an option has no value, doesn't belong
 -- to what is asked, is missing or stands twice; there are too few files, or too many

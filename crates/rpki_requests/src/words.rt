@@ -3,7 +3,7 @@ ghost use Rattle.std.specs.Prelude.{◌≡◌, ◌≢◌, ◌↔◌, ◌==◌, �
 ghost use Rattle.std.specs.Fmt.{WritesOnOk};
 ghost use Rattle.rpki_arguments.specs.CommandLines.Views.{word_octets};
 ghost use Rattle.rpki_arguments.specs.WordParts.{AddsPart, AddsParts, AreInOrder, BeginsNoPart, Joins};
-ghost use Rattle.rpki_requests.specs.RequestMisuses.{misuse_text};
+ghost use Rattle.rpki_requests.specs.RequestMisuses.{HasWrongCount, IsFirstWrong, IsMisuse, IsNoErrand, IsReason, IsWrongCount, IsWrongFirst, misuse_text};
 ghost use Rattle.rpki_requests.specs.RequestWords.{AskedFields, AsksHelp, BeginsRequest, IsRequestLine, IsRequestPart, Meets, RequestPart, Suits, demand, errand_words, file, files_wanted, is_same, of_authorities, of_certificates, of_issued, of_lists, only_errand, option, setting_name, switch, switch_name, takes, values_of, with_part};
 ghost use Rattle.rpki_requests.specs.RequestWords.Views.{asked_fields, given_fields};
 
@@ -287,6 +287,7 @@ fn errand_of(words: &[Vec<u8>]) -> Result<(Errand, &[Vec<u8>]), Misuse<'_>>
         (λ r. word_octets words.now ≡ errand_words r.0 ++ word_octets r.1.now) }
     ensures unknown { IfErr result (λ _. (errand : Errand) (rest : List (List ℕ))
         → word_octets words.now ≡ errand_words errand ++ rest → ⊥) }
+    ensures told { IfErr result (λ e. IsNoErrand e (word_octets words.now)) }
 {
     let Some((first, behind)) = words.split_first() else {
         return Err(Misuse::NoErrand);
@@ -422,6 +423,8 @@ fn add_word<'a>(asked: &mut Order<'a>, word: &'a [u8]) -> Result<(), Misuse<'a>>
         OnOk result (adds (asked_fields asked.old) (asked_fields asked.new)) }
     ensures unknown { IfErr result
         (λ e. e ≢ Misuse.Memory → BeginsNoPart IsRequestPart (word.now ∷ [])) }
+    ensures told { IfErr result (λ e. e ≢ Misuse.Memory
+        → (rest : List (List ℕ)) → IsWrongFirst e (word.now ∷ rest)) }
 {
     if !is_option(word) {
         return add_file(asked, word);
@@ -444,6 +447,8 @@ fn add_words<'a>(asked: &mut Order<'a>, words: &'a [Vec<u8>]) -> Result<(), Misu
         OnOk result (adds (asked_fields asked.old) (asked_fields asked.new)) }
     ensures unknown { IfErr result (λ e. e ≢ Misuse.Memory → (parts : List RequestPart)
         → AreInOrder IsRequestPart parts (word_octets words.now) → ⊥) }
+    ensures told { IfErr result
+        (λ e. e ≢ Misuse.Memory → IsFirstWrong e (word_octets words.now)) }
 {
     // The option whose value is the next word.
     let mut awaiting = None;
@@ -611,7 +616,8 @@ impl<'a> Order<'a> {
 
 // What is wrong of an option that stands so often, if anything is.
 fn misuse_by(often: Demand, times: usize, setting: Setting) -> Option<Misuse<'static>>
-    ensures { MatchOption result (Meets often times) (λ _. Meets often times → ⊥) }
+    ensures told { IfSome result (λ e. IsWrongCount e setting often times) }
+    ensures wrong { MatchOption result (Meets often times) (λ _. Meets often times → ⊥) }
 {
     let is_missing = times == 0;
     let is_repeated = times > 1;
@@ -627,7 +633,8 @@ fn misuse_by(often: Demand, times: usize, setting: Setting) -> Option<Misuse<'st
 
 // What is wrong of the options that take a value, if anything is.
 fn misuse_of_settings(asked: &Order<'_>) -> Option<Misuse<'static>>
-    ensures { let a = asked_fields asked.now in MatchOption result
+    ensures told { IfSome result (λ e. HasWrongCount e (asked_fields asked.now)) }
+    ensures wrong { let a = asked_fields asked.now in MatchOption result
         ((setting : Setting) → Meets (demand setting a.errand) (length (values_of setting a.given)))
         (λ _. ((setting : Setting) → Meets (demand setting a.errand)
         (length (values_of setting a.given))) → ⊥) }
@@ -642,8 +649,10 @@ fn misuse_of_settings(asked: &Order<'_>) -> Option<Misuse<'static>>
 }
 
 // What doesn't suit the errand, if anything doesn't.
+#[tactic(auto, using(crate::proofs::WrongRequests::reason_of))]
 fn misuse_of(asked: &Order<'_>) -> Option<Misuse<'static>>
-    ensures { MatchOption result (Suits (asked_fields asked.now))
+    ensures told { IfSome result (λ e. IsReason e (asked_fields asked.now)) }
+    ensures wrong { MatchOption result (Suits (asked_fields asked.now))
         (λ _. Suits (asked_fields asked.now) → ⊥) }
 {
     if let Some(misuse) = misuse_of_settings(asked) {
@@ -710,6 +719,7 @@ pub fn read_request<'a>(alloc: Global, words: &'a [Vec<u8>]) -> Result<Order<'a>
         → IsRequestLine other (word_octets words.now) → other ≡ asked_fields asked) }
     ensures rejected { IfErr result (λ e. e ≢ Misuse.Memory → (asked : AskedFields)
         → IsRequestLine asked (word_octets words.now) → ⊥) }
+    ensures told { IfErr result (λ e. e ≢ Misuse.Memory → IsMisuse e (word_octets words.now)) }
 {
     let (errand, rest) = errand_of(words)?;
     let mut asked = new_asked(alloc, errand);

@@ -1,4 +1,4 @@
-use Rattle.std.proofs.Common.{◌≡◌, ◌++◌, map, take}
+use Rattle.std.proofs.Common.{◌≡◌, ◌++◌, take}
 use Rattle.rpki_arguments.specs.CommandLines.Views.{fields_of, word_octets}
 use Rattle.rpki_command.proofs.folders.with_further.Given as goal
 

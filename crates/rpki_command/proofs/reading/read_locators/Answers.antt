@@ -1,5 +1,5 @@
 use Rattle.std.specs.Prelude.{All}
-use Rattle.std.proofs.Common.{◌≡◌, ◌∙◌, ◌+◌, ◌++◌, List, ℕ, Bor, map, take, sym, ap, subst}
+use Rattle.std.proofs.Common.{◌∙◌, ◌+◌, List, ℕ, Bor, map, take, sym, ap, subst}
 use Rattle.std.proofs.lemmas.List.{map-append}
 use Rattle.std.proofs.lemmas.List.Elements.{All-append}
 use Rattle.rpki_files.specs.Files.{FileFields}

@@ -3,6 +3,10 @@ use Rattle.rpki_command.specs.Outputs.{nothing}
 use Rattle.rpki_command.proofs.WrittenTexts.{appends_none, makes_none}
 use Rattle.rpki_command.proofs.requests.answer_words.Goals as goal
 
+pub returns-in_ok-say-in-Err-clause-said : goal.returns-in_ok-say-in-Err-clause-said
+returns-in_ok-say-in-Err-clause-said g c =
+    λ wrong. (c.in-Err.misuse, c.in-Err.ensures.told c.in_ok-say-in-Err.ensures.memory, c.in_ok-say-in-Err.ensures.said)
+
 pub returns-in_ok-say-in-Err-clause-ended : goal.returns-in_ok-say-in-Err-clause-ended
 returns-in_ok-say-in-Err-clause-ended g c =
     let ended = c.silent.ensures in

@@ -6,11 +6,10 @@ use Rattle.rpki_files.specs.Files.{FileFields, file_names}
 use Rattle.rpki_verdicts.specs.Searches.{IsSoughtPath}
 use Rattle.rpki_verdicts.specs.Trees.{TreeFields}
 use Rattle.rpki_answers.specs.AnswerTexts.{tree_question_of}
-use Rattle.rpki_command.specs.SoughtPaths.{IsSought}
 use Rattle.rpki_command.proofs.searching.sought_among.Goals as goal
 
-pub returns-in-Ok : goal.returns-in-Ok
-returns-in-Ok g c =
+pub returns-in-Ok-clause-sought : goal.returns-in-Ok-clause-sought
+returns-in-Ok-clause-sought g c =
     let q = tree_question_of (fields_of c.args.request.now) c.args.now c.args.files.now c.args.locators.now in
     let names = word_octets c.in-Ok.files.items in
     let found = subst (λ (p : TreeFields). (path : List FileFields)

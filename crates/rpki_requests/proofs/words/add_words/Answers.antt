@@ -4,6 +4,7 @@ use Rattle.rpki_arguments.proofs.WordByWord.{value_added, word_added, word_rejec
 use Rattle.rpki_requests.specs.RequestWords.{option, with_part}
 use Rattle.rpki_requests.specs.RequestWords.Views.{asked_fields}
 use Rattle.rpki_requests.proofs.RequestParts.{request_grammar, request_clear}
+use Rattle.rpki_requests.proofs.WrongRequests.{word_wrong, option_wrong}
 use Rattle.rpki_requests.proofs.words.add_words.Goals as goal
 use Rattle.rpki_requests.proofs.words.add_words.Goals.{in-Some+in_ok-add_given, in_default+in-Some-setting_of, in_default+in_default-setting_of+in_ok-add_word}
 
@@ -13,6 +14,13 @@ returns-in_err-add_word-clause-unknown c =
     let none : c.loop-word.awaiting ≡ None = search rules in
     let so_far = rw none at c.loop-word.invariant in
     rw is (λ not_memory. word_rejected request_grammar with_part request_clear c.args.words.now c.loop-word.word-index c.word-item.result c.loop-word-test.true c.word-item.is _ _ c.as_slice-word.result.now c.as_slice-word.ensures.value so_far (c.in_err-add_word.ensures.unknown not_memory))
+
+pub returns-in_err-add_word-clause-told : goal.returns-in_err-add_word-clause-told
+returns-in_err-add_word-clause-told c =
+    let is : c.from_residual-in_err-add_word.result ≡ Err c.in_err-add_word.field-0.0 = search rules in
+    let none : c.loop-word.awaiting ≡ None = search rules in
+    let so_far = rw none at c.loop-word.invariant in
+    rw is (λ not_memory. word_wrong c.args.words.now c.loop-word.word-index c.word-item.result c.loop-word-test.true c.word-item.is _ _ c.as_slice-word.result.now c.as_slice-word.ensures.value _ so_far (c.in_err-add_word.ensures.told not_memory))
 
 pub loop-word-preserved : goal.loop-word-preserved
 loop-word-preserved c =
@@ -24,6 +32,10 @@ loop-word-preserved c =
       | in_default+in_default-setting_of+in_ok-add_word w ↦
           rw (w.asked-is, w.awaiting-is, w.in_default.is) (word_added request_grammar with_part request_clear c.args.words.now c.loop-word.word-index c.word-item.result c.loop-word-test.true c.word-item.is (asked_fields c.args.asked.now) (asked_fields c.loop-word.asked) c.as_slice-word.result.now c.as_slice-word.ensures.value (rw w.in_default.is at c.loop-word.invariant) _ w.in_ok-add_word.ensures.added)
     ]
+
+pub returns-in-Some-awaiting-clause-told : goal.returns-in-Some-awaiting-clause-told
+returns-in-Some-awaiting-clause-told c = λ not_memory.
+    option_wrong c.args.words.now c.loop-word.word-index _ _ c.in-Some-awaiting.setting (rw c.in-Some-awaiting.is at c.loop-word.invariant) c.loop-word-test.false
 
 pub returns-in-Some-awaiting-clause-unknown : goal.returns-in-Some-awaiting-clause-unknown
 returns-in-Some-awaiting-clause-unknown c = λ not_memory.

@@ -1,0 +1,82 @@
+-- Files that can't be read or made: why, and what is said of it (own).
+use Rattle.std.specs.Fmt.{decimal}
+use Rattle.std.specs.Io.KnownBytes.{Appends}
+use Rattle.std.specs.IoError.{error_kind}
+use Rattle.std.specs.Prelude.{◌≡◌, ℕ, List, ◌++◌, bytes_eq, codes, if◌then◌else◌, Option, Some, None, IfSome}
+use Rattle.std.specs.Str.{IsUtf8}
+use Rattle.std.specs.declared.io.ErrorKind.{ErrorKind}
+use Rattle.std.specs.declared.io.ErrorKind.TheVariants.{IsADirectory, NotFound, PermissionDenied}
+use Rattle.rpki_arguments.specs.CommandLines.{usual_size}
+use Rattle.rpki_text.specs.Pages.{characters_text}
+use Rattle.rpki_command.specs.ReadFiles.{Reads, IsUnread}
+use Rattle.rpki_command.specs.declared.files.Unread.{Unread}
+use Rattle.rpki_command.specs.declared.files.Unread.TheVariants as unread
+use Rattle.rpki_command.specs.declared.inputs.Unreadable.{Unreadable}
+use Rattle.rpki_command.specs.declared.making.Unmade.{Unmade}
+use Rattle.rpki_command.specs.declared.making.Unmade.TheVariants as unmade
+
+-- ---- why
+
+-- why the file of this name can't be read, where no more than so many octets are taken: its name isn't
+-- text, it has more octets, or the system doesn't give them; or memory ran out, of which no more is known
+abbrev pub IsWhyUnread : Reads → ℕ → List ℕ → Unread → Type 0
+IsWhyUnread reads most name unread.OtherName = IsUtf8 name → ⊥
+IsWhyUnread reads most name (unread.TooLong limit) = (limit ≡ most) × reads name most None
+IsWhyUnread reads most name (unread.AboveLimit limit) = (limit ≡ most) × reads name most None
+IsWhyUnread reads most name (unread.Failed error) = reads name most None
+IsWhyUnread reads most name unread.Memory = Unit {0}
+
+-- a file that can't be read is named, and why
+abbrev pub IsNamed : Reads → Unreadable → Type 0
+IsNamed reads file = IsWhyUnread reads usual_size file.name.now file.why
+
+-- why a source doesn't give its octets: it has more than so many, or it fails, or memory ran out
+abbrev pub IsWhyNotGiven : ℕ → Unread → Type 0
+IsWhyNotGiven most (unread.TooLong limit) = limit ≡ most
+IsWhyNotGiven most (unread.Failed error) = Unit {0}
+IsWhyNotGiven most unread.Memory = Unit {0}
+IsWhyNotGiven most _ = ⊥
+
+-- why the file of this name can't be made: its name isn't text, or the system doesn't make it
+abbrev pub IsWhyUnmade : List ℕ → Unmade → Type 0
+IsWhyUnmade name unmade.OtherName = IsUtf8 name → ⊥
+IsWhyUnmade name (unmade.Failed error) = Unit {0}
+
+-- ---- what is said of it
+
+-- why the system didn't open, read or write a file, where that has words of its own here; else the words
+-- are the system's
+abbrev pub failure_text : ErrorKind → Option (List ℕ)
+failure_text NotFound = Some (codes "no such file or directory")
+failure_text IsADirectory = Some (codes "is a directory")
+failure_text PermissionDenied = Some (codes "permission denied")
+failure_text _ = None
+
+abbrev pub unread_text : Unread → Option (List ℕ)
+unread_text unread.OtherName = Some (codes "a file whose name isn't UTF-8 can't be opened")
+unread_text (unread.TooLong most) =
+    Some (codes "more than " ++ (decimal most ++ codes " octets (--max-size sets the limit)"))
+unread_text (unread.AboveLimit most) = Some (codes "more than " ++ (decimal most ++ codes " octets"))
+unread_text (unread.Failed error) = failure_text (error_kind error)
+unread_text unread.Memory = Some (codes "out of memory")
+
+-- what a file is called: `-` is standard input
+abbrev pub called : List ℕ → List ℕ
+called name = if bytes_eq name (codes "-") then codes "standard input" else characters_text name
+
+-- that a file can't be read, and why, in a line
+abbrev pub unread_message : List ℕ → List ℕ → List ℕ
+unread_message name why = codes "rpki: " ++ (called name ++ (codes ": " ++ (why ++ codes "\n")))
+
+-- what was written since says so
+abbrev pub SaysUnread : List ℕ → Unread → Option (List ℕ) → Option (List ℕ) → Type 0
+SaysUnread name why before after =
+    IfSome (unread_text why) (λ text. Appends before after (unread_message name text))
+
+-- and says it of one file that can't be read
+pub record SaysOneUnread (reads : Reads) (before after : Option (List ℕ)) : Type 0 where
+  pub name : List ℕ
+  pub why : Unread
+  pub cannot : IsUnread reads usual_size name
+  pub because : IsWhyUnread reads usual_size name why
+  pub said : SaysUnread name why before after
