@@ -1,13 +1,13 @@
 -- The request that a command line asks: one at most.
 use Rattle.std.specs.Prelude.{codes, Option, Some, None, cond}
 use Rattle.std.specs.Str.{bytes_eq}
-use Rattle.std.proofs.Common.{◌≡◌, ℕ, inl, inr, List, [], ◌∷◌, sym, ap, ◌∙◌, subst}
+use Rattle.std.proofs.Common.{◌≡◌, ℕ, inl, inr, List, ◌∷◌, sym, ap, ◌∙◌, subst}
 use Rattle.rpki_arguments.specs.declared.arguments.Task.{Task}
 use Rattle.rpki_arguments.specs.declared.arguments.Task.TheVariants.{Show, Validate, Tree, Help, Version}
 use Rattle.rpki_arguments.specs.CommandLines.{IsPart, IsTaskName, LinePart, AreParts, RequestFields, only_task, with_files, with_part, with_parts, Suits, IsCommandLine}
 use Rattle.rpki_arguments.specs.declared.arguments.Misuse.{Misuse}
-use Rattle.rpki_arguments.specs.Misuses.{IsFirstWrong, IsMisuse, IsReason, IsUnknownTask, IsUnsuited}
-use Rattle.rpki_arguments.specs.WordParts.{AddsParts, words_before, words_behind}
+use Rattle.rpki_arguments.specs.Misuses.{IsMisuse, IsReason, IsUnknownTask, IsUnsuited, IsWrongFirst}
+use Rattle.rpki_arguments.specs.WordParts.{AddsParts, words_before, words_behind, IsFirstWrong}
 use Rattle.rpki_arguments.proofs.CommandParts.{line_grammar, line_clear}
 use Rattle.rpki_arguments.proofs.PartsOfWords.{one_list}
 
@@ -50,7 +50,7 @@ module _ (words : List (List ℕ)) (first : List ℕ) (rest : List (List ℕ)) (
   task_told misuse unknown = subst (λ (l : List (List ℕ)). IsMisuse misuse l) (sym words_are) (inl unknown)
 
   -- the first wrong word of those behind it is told
-  pub word_told : (misuse : Misuse) (task : Task) → IsTaskName task first → IsFirstWrong misuse (words_before rest) → IsMisuse misuse words
+  pub word_told : (misuse : Misuse) (task : Task) → IsTaskName task first → IsFirstWrong IsPart IsWrongFirst misuse (words_before rest) → IsMisuse misuse words
   word_told misuse task task_is wrong =
       subst (λ (l : List (List ℕ)). IsMisuse misuse l) (sym words_are) (inr (task, task_is, inl wrong))
 

@@ -5,7 +5,7 @@ use Rattle.std.proofs.Common.{◌≡◌, ℕ, ◌+◌, ◌<◌, ◌≤◌, List,
 use Rattle.std.proofs.lemmas.List.{append_assoc, append-nil, get_or-map, length-map, map-append, map_more, take-append-drop, take_all, drop_more}
 use Rattle.std.proofs.lemmas.List.Sums.{fold_push}
 use Rattle.rpki_arguments.specs.CommandLines.Views.{word_octets}
-use Rattle.rpki_arguments.specs.WordParts.{AddsPart, AddsParts, AreInOrder, BeginsNoPart}
+use Rattle.rpki_arguments.specs.WordParts.{AddsPart, AddsParts, AreInOrder, BeginsNoPart, IsFirstWrong}
 use Rattle.rpki_arguments.proofs.PartsOfWords.{Grammar, IsClear, one_more, none_behind, value_missing}
 
 -- the new one has what the option with this value says too
@@ -94,6 +94,17 @@ module _ {P S R : Type 0} (g : Grammar P S) (with_part : R → P → R) where
         word_split =
             split_is ∙ ap (λ (l : List (List ℕ)). l ++ word.items ∷ word_octets (drop (i + 1) words)) front_is ∙ ap (λ (w : List ℕ). so_far.front ++ w ∷ word_octets (drop (i + 1) words)) (sym text_is)
 
+        -- it is wrong, as is told
+        pub word_wrong : {M : Type 0} (IsWrong : M → List (List ℕ) → Type 0) (misuse : M) → ((rest : List (List ℕ)) → IsWrong misuse (text ∷ rest)) → IsFirstWrong g.IsPart IsWrong misuse (word_octets words)
+        word_wrong IsWrong misuse tells = record {
+          parts = so_far.added.0;
+          before = so_far.front;
+          behind = text ∷ word_octets (drop (i + 1) words);
+          parts_are = so_far.added.1;
+          wrong = tells (word_octets (drop (i + 1) words));
+          words_are = word_split;
+        }
+
         -- the word is none
         pub word_rejected : BeginsNoPart g.IsPart (text ∷ []) → (parts : List P) → AreInOrder g.IsPart parts (word_octets words) → ⊥
         word_rejected none parts =
@@ -116,3 +127,14 @@ module _ {P S R : Type 0} (g : Grammar P S) (with_part : R → P → R) where
       pub value_awaited : (parts : List P) → AreInOrder g.IsPart parts (word_octets words) → ⊥
       value_awaited parts =
           value_missing g clear so_far.added.0 parts so_far.front (word_octets words) setting so_far.added.1 option_last
+
+      -- its value is missing, as is told
+      pub option_wrong : {M : Type 0} (IsWrong : M → List (List ℕ) → Type 0) (misuse : M) → IsWrong misuse (g.name setting ∷ []) → IsFirstWrong g.IsPart IsWrong misuse (word_octets words)
+      option_wrong IsWrong misuse tells = record {
+        parts = so_far.added.0;
+        before = so_far.front;
+        behind = g.name setting ∷ [];
+        parts_are = so_far.added.1;
+        wrong = tells;
+        words_are = option_last;
+      }

@@ -1,7 +1,7 @@
 -- The first wrong word of a command line: how it is found, and that there are no parts then.
-use Rattle.std.specs.Prelude.{Some, None, codes}
+use Rattle.std.specs.Prelude.{Some, codes}
 use Rattle.std.specs.declared.vec.Vec.{Vec}
-use Rattle.std.proofs.Common.{◌≡◌, ℕ, ◌+◌, ◌<◌, ◌≤◌, List, [], ◌∷◌, ◌++◌, length, get_or, take, drop, refl, ap, ◌∙◌, subst, inl, inr}
+use Rattle.std.proofs.Common.{◌≡◌, ℕ, ◌+◌, ◌<◌, List, [], ◌∷◌, ◌++◌, length, get_or, take, drop, refl, ap, ◌∙◌, subst, inl, inr}
 use Rattle.rpki_arguments.specs.declared.arguments.Format.{Format}
 use Rattle.rpki_arguments.specs.declared.arguments.Misuse.{Misuse}
 use Rattle.rpki_arguments.specs.declared.arguments.Misuse.TheVariants.{Unknown, NoValue, NoMoment, NoSize, NoNumber, NoFormat}
@@ -10,12 +10,12 @@ use Rattle.rpki_arguments.specs.declared.arguments.Setting.TheVariants.{At, MaxS
 use Rattle.rpki_arguments.specs.CommandLines.{IsFormatName, IsPart, LinePart, lenient, json, quiet, all, no_names, help, AreParts, RequestFields, setting_name, with_part}
 use Rattle.rpki_arguments.specs.CommandLines.Steps.{IsOptionName, IsSetPart, IsSwitch}
 use Rattle.rpki_arguments.specs.CommandLines.Views.{word_octets}
-use Rattle.rpki_arguments.specs.Misuses.{BeginsWith, IsBound, IsFirstWrong, IsNoNumber, IsUnknownOption, IsWrongFirst, NamesFormat}
+use Rattle.rpki_arguments.specs.Misuses.{BeginsWith, IsBound, IsNoNumber, IsUnknownOption, IsWrongFirst, NamesFormat}
 use Rattle.rpki_arguments.specs.Misuses.Steps.{TellsValue, TellsWord}
-use Rattle.rpki_arguments.specs.WordParts.{BeginsNoPart, IsOption, Joins}
+use Rattle.rpki_arguments.specs.WordParts.{BeginsNoPart, IsFirstWrong, IsOption, Joins}
 use Rattle.rpki_arguments.proofs.CommandParts.{line_grammar, line_clear, no_option}
 use Rattle.rpki_arguments.proofs.PartsOfWords.{none_behind, value_missing, no_value, no_joined}
-use Rattle.rpki_arguments.proofs.WordByWord.{AreAdded, value_split, word_split, option_last}
+use Rattle.rpki_arguments.proofs.WordByWord.{AreAdded, value_split}
 
 -- ---- a word
 
@@ -33,7 +33,7 @@ word_joined misuse setting value word joins tells rest =
 
 module _ {Z : Type 0} (words : List (Vec ℕ Z)) (i : ℕ) (word : Vec ℕ Z) (low : i < length words) (there : word ≡ get_or words i word) (old new : RequestFields) (text : List ℕ) (text_is : text ≡ word.items) (misuse : Misuse) where
   -- the word is no value of the option before it
-  pub value_wrong : (setting : Setting) → AreAdded line_grammar with_part (word_octets (take i words)) old new (Some setting) → TellsValue misuse setting text → IsFirstWrong misuse (word_octets words)
+  pub value_wrong : (setting : Setting) → AreAdded line_grammar with_part (word_octets (take i words)) old new (Some setting) → TellsValue misuse setting text → IsFirstWrong IsPart IsWrongFirst misuse (word_octets words)
   value_wrong setting so_far tells = record {
     parts = so_far.added.0;
     before = so_far.front;
@@ -42,28 +42,6 @@ module _ {Z : Type 0} (words : List (Vec ℕ Z)) (i : ℕ) (word : Vec ℕ Z) (l
     wrong = tells (setting_name setting ∷ text ∷ word_octets (drop (i + 1) words)) (setting_name setting ∷ text ∷ [], word_octets (drop (i + 1) words), inl refl, refl);
     words_are = value_split line_grammar with_part line_clear words i word low there old new text text_is setting so_far;
   }
-
-  -- the word is none of a part
-  pub word_wrong : AreAdded line_grammar with_part (word_octets (take i words)) old new None → TellsWord misuse text → IsFirstWrong misuse (word_octets words)
-  word_wrong so_far tells = record {
-    parts = so_far.added.0;
-    before = so_far.front;
-    behind = text ∷ word_octets (drop (i + 1) words);
-    parts_are = so_far.added.1;
-    wrong = tells (word_octets (drop (i + 1) words));
-    words_are = word_split line_grammar with_part line_clear words i word low there old new text text_is so_far;
-  }
-
--- all words were gone over, and an option's value is missing
-pub option_wrong : {Z : Type 0} (words : List (Vec ℕ Z)) (i : ℕ) (old new : RequestFields) (setting : Setting) → AreAdded line_grammar with_part (word_octets (take i words)) old new (Some setting) → length words ≤ i → IsFirstWrong (NoValue setting) (word_octets words)
-option_wrong words i old new setting so_far high = record {
-  parts = so_far.added.0;
-  before = so_far.front;
-  behind = setting_name setting ∷ [];
-  parts_are = so_far.added.1;
-  wrong = refl;
-  words_are = option_last line_grammar with_part line_clear words i old new setting so_far high;
-}
 
 -- ---- words with a wrong one are no parts
 
@@ -126,6 +104,6 @@ module _ (parts others : List LinePart) (before behind words : List (List ℕ)) 
   no_first _ wrong = absurd wrong
 
 -- what is told of the first wrong word is told of no parts
-pub wrong_no_parts : (misuse : Misuse) (words : List (List ℕ)) → IsFirstWrong misuse words → (parts : List LinePart) → AreParts parts words → ⊥
+pub wrong_no_parts : (misuse : Misuse) (words : List (List ℕ)) → IsFirstWrong IsPart IsWrongFirst misuse words → (parts : List LinePart) → AreParts parts words → ⊥
 wrong_no_parts misuse words wrong parts are =
     no_first wrong.parts parts wrong.before wrong.behind words wrong.parts_are wrong.words_are are misuse wrong.wrong

@@ -11,7 +11,7 @@ use Rattle.rpki_arguments.specs.declared.arguments.Setting.TheVariants.{Depth, S
 use Rattle.rpki_arguments.specs.declared.arguments.Task.{Task}
 use Rattle.rpki_arguments.specs.declared.arguments.Task.TheVariants.{Show, Validate, Tree, Help, Version}
 use Rattle.rpki_arguments.specs.CommandLines.{IsFormatName, IsNumberText, IsPart, IsTaskName, LinePart, AreParts, RequestFields, only_task, setting_name, with_files, with_parts, AsksNoBounds, ReadsInput}
-use Rattle.rpki_arguments.specs.WordParts.{IsOption, GivesValue, Joins, words_before, words_behind}
+use Rattle.rpki_arguments.specs.WordParts.{IsFirstWrong, IsOption, GivesValue, Joins, words_before, words_behind}
 pub mod Steps
 
 -- ---- a word behind the task
@@ -57,15 +57,6 @@ IsWrongFirst (NoFormat text) words =
     (setting : Setting) × NamesFormat setting × BeginsWith setting text.now words
     × ((f : Format) → IsFormatName f text.now → ⊥)
 IsWrongFirst _ words = ⊥
-
--- the words are parts up to what is told
-pub record IsFirstWrong (misuse : Misuse) (words : List (List ℕ)) : Type 0 where
-  pub parts : List LinePart
-  pub before : List (List ℕ)
-  pub behind : List (List ℕ)
-  pub parts_are : AreParts parts before
-  pub wrong : IsWrongFirst misuse behind
-  pub words_are : words ≡ before ++ behind
 
 -- ---- what is asked
 
@@ -125,4 +116,4 @@ IsMisuse misuse [] = misuse ≡ NoTask
 IsMisuse misuse (first ∷ rest) =
     IsUnknownTask misuse first
     ⊎ ((task : Task) × IsTaskName task first
-    × (IsFirstWrong misuse (words_before rest) ⊎ IsUnsuited misuse task rest))
+    × (IsFirstWrong IsPart IsWrongFirst misuse (words_before rest) ⊎ IsUnsuited misuse task rest))

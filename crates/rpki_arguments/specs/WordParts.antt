@@ -39,6 +39,16 @@ BeginsNoPart {P} IsPart words =
     (part : P) (its behind rest : List (List ℕ)) → IsPart part its
     → words ++ behind ≡ its ++ rest → ⊥
 
+-- the words are parts up to some that are wrong, as is told
+pub record IsFirstWrong {P M : Type 0} (IsPart : P → List (List ℕ) → Type 0)
+    (IsWrong : M → List (List ℕ) → Type 0) (misuse : M) (words : List (List ℕ)) : Type 0 where
+  pub parts : List P
+  pub before : List (List ℕ)
+  pub behind : List (List ℕ)
+  pub parts_are : AreInOrder IsPart parts before
+  pub wrong : IsWrong misuse behind
+  pub words_are : words ≡ before ++ behind
+
 -- the word is the option's name, `=` and a value
 abbrev pub Joins : List ℕ → List ℕ → List ℕ → Type 0
 Joins name value word = word ≡ name ++ codes "=" ++ value

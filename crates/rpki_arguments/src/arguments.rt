@@ -5,8 +5,8 @@ ghost use Rattle.std.specs.Fmt.{WritesOnOk};
 ghost use Rattle.rpki_text.specs.Pages.{characters_text};
 ghost use Rattle.rpki_arguments.specs.CommandLines.{IsFormatName, IsTaskName, IsNumberText, IsPart, LinePart, RequestFields, only_task, setting_name, with_files, with_part, AsksNoPath, AsksSearch, AsksTree, NamesInput, ReadsInput, Suits, SuitsFolders, IsCommandLine};
 ghost use Rattle.rpki_arguments.specs.CommandLines.Views.{word_octets, fields_of};
-ghost use Rattle.rpki_arguments.specs.WordParts.{AddsPart, AddsParts, IsOption, Joins, words_before, words_behind};
-ghost use Rattle.rpki_arguments.specs.Misuses.{IsBound, IsExtra, IsFirstWrong, IsMisuse, IsReason, NamesFormat};
+ghost use Rattle.rpki_arguments.specs.WordParts.{AddsPart, AddsParts, IsFirstWrong, IsOption, Joins, words_before, words_behind};
+ghost use Rattle.rpki_arguments.specs.Misuses.{IsBound, IsExtra, IsMisuse, IsReason, IsWrongFirst, NamesFormat};
 ghost use Rattle.rpki_arguments.specs.Misuses.Steps.{TellsValue, TellsWord};
 ghost use Rattle.rpki_arguments.specs.MisuseTexts.{misuse_text};
 ghost use Rattle.rpki_arguments.specs.CommandLines.Steps.{AddsSet, IsSwitch, IsOptionName};
@@ -426,7 +426,7 @@ fn add_words<'a>(request: &mut Request<'a>, words: &'a [Vec<u8>]) -> Result<(), 
     ensures added { let adds = AddsParts IsPart with_part (word_octets words.now) in
         OnOk result (adds (fields_of request.old) (fields_of request.new)) }
     ensures told { IfErr result
-        (λ e. e ≢ Misuse.Memory → IsFirstWrong e (word_octets words.now)) }
+        (λ e. e ≢ Misuse.Memory → IsFirstWrong IsPart IsWrongFirst e (word_octets words.now)) }
 {
     // The option whose value is the next word.
     let mut awaiting = None;

@@ -13,7 +13,8 @@ pub fn read_locator(
     octets: &[u8],
     strict: bool,
 ) -> Result<Result<Tal, TalError>, AllocError>
-    ensures { IfOk result (IsReadAs strict octets.now) }
+    ensures read { IfOk result (IsReadAs strict octets.now) }
+    ensures name { IfOk result (λ read. IfOk read (λ tal. tal.name ≡ name.now)) }
 {
     let name = String::from_str(alloc, name)?;
     match Tal::read_named(alloc, name, octets, strict) {

@@ -2,7 +2,7 @@
 -- them, of the first word that is wrong, or of what they ask; and what is said of it (own).
 use Rattle.std.specs.Prelude.{◌≡◌, ◌≢◌, ◌≤◌, ◌⊎◌, ℕ, List, [], ◌∷◌, ◌++◌, length, map, fold, true, false, codes}
 use Rattle.rpki_text.specs.Pages.{characters_text}
-use Rattle.rpki_arguments.specs.WordParts.{AreInOrder, IsOption, Joins, words_before, words_behind}
+use Rattle.rpki_arguments.specs.WordParts.{AreInOrder, IsFirstWrong, IsOption, Joins, words_before, words_behind}
 use Rattle.rpki_requests.specs.RequestWords.{AskedFields, IsRequestPart, RequestPart, demand, errand_words, file, files_wanted, only_errand, setting_name, switch_name, takes, values_of, with_part}
 use Rattle.rpki_requests.specs.declared.words.Demand.{Demand}
 use Rattle.rpki_requests.specs.declared.words.Demand.TheVariants.{Never, AtMostOnce, Once, AtLeastOnce}
@@ -41,15 +41,6 @@ IsWrongFirst (Unknown word) words =
     (rest : List (List ℕ)) × (words ≡ word.now ∷ rest) × IsUnknownOption word.now
 IsWrongFirst (NoValue setting) words = words ≡ setting_name setting ∷ []
 IsWrongFirst _ words = ⊥
-
--- the words are parts up to what is told
-pub record IsFirstWrong (misuse : Misuse) (words : List (List ℕ)) : Type 0 where
-  pub parts : List RequestPart
-  pub before : List (List ℕ)
-  pub behind : List (List ℕ)
-  pub parts_are : AreInOrder IsRequestPart parts before
-  pub wrong : IsWrongFirst misuse behind
-  pub words_are : words ≡ before ++ behind
 
 -- ---- what is asked
 
@@ -93,7 +84,7 @@ abbrev pub IsMisuse : Misuse → List (List ℕ) → Type 0
 IsMisuse misuse words =
     IsNoErrand misuse words
     ⊎ ((errand : Errand) × (rest : List (List ℕ)) × (words ≡ errand_words errand ++ rest)
-    × (IsFirstWrong misuse (words_before rest) ⊎ IsUnsuited misuse errand rest))
+    × (IsFirstWrong IsRequestPart IsWrongFirst misuse (words_before rest) ⊎ IsUnsuited misuse errand rest))
 
 -- ---- what is said of it
 

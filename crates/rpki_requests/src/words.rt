@@ -2,8 +2,8 @@
 ghost use Rattle.std.specs.Prelude.{◌≡◌, ◌≢◌, ◌↔◌, ◌==◌, ℕ, List, [], ◌∷◌, ◌++◌, codes, count_by, filter, Contains, length, map, fold, position, IfErr, IfNone, IfOk, IfSome, IsTrue, MatchOption, OnOk, Some};
 ghost use Rattle.std.specs.Fmt.{WritesOnOk};
 ghost use Rattle.rpki_arguments.specs.CommandLines.Views.{word_octets};
-ghost use Rattle.rpki_arguments.specs.WordParts.{AddsPart, AddsParts, AreInOrder, BeginsNoPart, Joins};
-ghost use Rattle.rpki_requests.specs.RequestMisuses.{HasWrongCount, IsFirstWrong, IsMisuse, IsNoErrand, IsReason, IsWrongCount, IsWrongFirst, misuse_text};
+ghost use Rattle.rpki_arguments.specs.WordParts.{AddsPart, AddsParts, AreInOrder, BeginsNoPart, IsFirstWrong, Joins};
+ghost use Rattle.rpki_requests.specs.RequestMisuses.{HasWrongCount, IsMisuse, IsNoErrand, IsReason, IsWrongCount, IsWrongFirst, misuse_text};
 ghost use Rattle.rpki_requests.specs.RequestWords.{AskedFields, AsksHelp, BeginsRequest, IsRequestLine, IsRequestPart, Meets, RequestPart, Suits, demand, errand_words, file, files_wanted, is_same, of_authorities, of_certificates, of_issued, of_lists, only_errand, option, setting_name, switch, switch_name, takes, values_of, with_part};
 ghost use Rattle.rpki_requests.specs.RequestWords.Views.{asked_fields, given_fields};
 
@@ -448,7 +448,7 @@ fn add_words<'a>(asked: &mut Order<'a>, words: &'a [Vec<u8>]) -> Result<(), Misu
     ensures unknown { IfErr result (λ e. e ≢ Misuse.Memory → (parts : List RequestPart)
         → AreInOrder IsRequestPart parts (word_octets words.now) → ⊥) }
     ensures told { IfErr result
-        (λ e. e ≢ Misuse.Memory → IsFirstWrong e (word_octets words.now)) }
+        (λ e. e ≢ Misuse.Memory → IsFirstWrong IsRequestPart IsWrongFirst e (word_octets words.now)) }
 {
     // The option whose value is the next word.
     let mut awaiting = None;

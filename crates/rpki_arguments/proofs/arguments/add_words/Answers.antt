@@ -1,10 +1,11 @@
 use Rattle.std.specs.Prelude.{None}
-use Rattle.std.proofs.Common.{rules, ◌≡◌, Err}
+use Rattle.std.proofs.Common.{rules, ◌≡◌, Err, refl}
+use Rattle.rpki_arguments.specs.Misuses.{IsWrongFirst}
 use Rattle.rpki_arguments.specs.CommandLines.{with_part}
 use Rattle.rpki_arguments.specs.CommandLines.Views.{fields_of}
 use Rattle.rpki_arguments.proofs.CommandParts.{line_grammar, line_clear}
-use Rattle.rpki_arguments.proofs.WordByWord.{value_added, word_added, option_awaits}
-use Rattle.rpki_arguments.proofs.WrongWords.{value_wrong, word_wrong, option_wrong}
+use Rattle.rpki_arguments.proofs.WordByWord.{value_added, word_added, option_awaits, word_wrong, option_wrong}
+use Rattle.rpki_arguments.proofs.WrongWords.{value_wrong}
 use Rattle.rpki_arguments.proofs.arguments.add_words.Goals as goal
 use Rattle.rpki_arguments.proofs.arguments.add_words.Goals.{in-Some+in_ok-add_set, in_default+in-Some-setting_of, in_default+in_default-setting_of+in_ok-add_word}
 
@@ -19,7 +20,7 @@ returns-in_err-add_word-clause-told c =
     let is : c.from_residual-in_err-add_word.result ≡ Err c.in_err-add_word.field-0.0 = search rules in
     let none : c.loop-word.awaiting ≡ None = search rules in
     let so_far = rw none at c.loop-word.invariant in
-    rw is (λ not_memory. word_wrong c.args.words.now c.loop-word.word-index c.word-item.result c.loop-word-test.true c.word-item.is _ _ c.as_slice-word.result.now c.as_slice-word.ensures.value _ so_far (c.in_err-add_word.ensures.told not_memory))
+    rw is (λ not_memory. word_wrong line_grammar with_part line_clear c.args.words.now c.loop-word.word-index c.word-item.result c.loop-word-test.true c.word-item.is _ _ c.as_slice-word.result.now c.as_slice-word.ensures.value so_far IsWrongFirst _ (c.in_err-add_word.ensures.told not_memory))
 
 pub loop-word-preserved : goal.loop-word-preserved
 loop-word-preserved c =
@@ -34,4 +35,4 @@ loop-word-preserved c =
 
 pub returns-in-Some-awaiting-clause-told : goal.returns-in-Some-awaiting-clause-told
 returns-in-Some-awaiting-clause-told c = λ not_memory.
-    option_wrong c.args.words.now c.loop-word.word-index _ _ c.in-Some-awaiting.setting (rw c.in-Some-awaiting.is at c.loop-word.invariant) c.loop-word-test.false
+    option_wrong line_grammar with_part line_clear c.args.words.now c.loop-word.word-index _ _ c.in-Some-awaiting.setting (rw c.in-Some-awaiting.is at c.loop-word.invariant) c.loop-word-test.false IsWrongFirst _ refl

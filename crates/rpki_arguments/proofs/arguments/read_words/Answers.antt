@@ -1,8 +1,8 @@
 use Rattle.std.proofs.Common.{rules, ◌≡◌, ◌∷◌, ◌∙◌, ℕ, List, Err, ap, sym, subst}
 use Rattle.rpki_arguments.specs.CommandLines.{AreParts, IsPart, RequestFields, IsTaskName, only_task, with_files, with_part}
 use Rattle.rpki_arguments.specs.CommandLines.Views.{word_octets, fields_of}
-use Rattle.rpki_arguments.specs.WordParts.{AddsParts}
-use Rattle.rpki_arguments.specs.Misuses.{IsFirstWrong}
+use Rattle.rpki_arguments.specs.WordParts.{AddsParts, IsFirstWrong}
+use Rattle.rpki_arguments.specs.Misuses.{IsWrongFirst}
 use Rattle.rpki_arguments.proofs.OneRequest.{no_parts, only, unsuited, task_told, word_told, reason_told}
 use Rattle.rpki_arguments.proofs.UnsuitedRequests.{reason_unsuited}
 use Rattle.rpki_arguments.proofs.WrongWords.{wrong_no_parts}
@@ -21,7 +21,7 @@ returns-in_err-add_words-clause-told c =
     let task_is : IsTaskName c.in-Some-task_of.task c.as_slice.result.now = search rules in
     let is : c.from_residual.result ≡ Err c.in_err-add_words.field-0.0 = search rules in
     rw is (λ not_memory. word_told (word_octets c.args.words.now) c.as_slice.result.now (word_octets c.in-Some.rest.now) split c.in_err-add_words.field-0.0 c.in-Some-task_of.task task_is
-    (subst (λ (l : List (List ℕ)). IsFirstWrong c.in_err-add_words.field-0.0 l) c.around_dashes.ensures.before (c.in_err-add_words.ensures.told not_memory)))
+    (subst (λ (l : List (List ℕ)). IsFirstWrong IsPart IsWrongFirst c.in_err-add_words.field-0.0 l) c.around_dashes.ensures.before (c.in_err-add_words.ensures.told not_memory)))
 
 -- the first names no task
 pub returns-in_default-task_of-clause-told : goal.returns-in_default-task_of-clause-told

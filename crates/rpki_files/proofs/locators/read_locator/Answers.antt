@@ -15,7 +15,7 @@ no_locator strict NoKey octets not_memory none it = none it.0 it.1
 no_locator strict BadKey octets not_memory none it = none it.0 it.1
 no_locator strict Memory octets not_memory none it = not_memory refl
 
-pub returns-else-is_memory : goal.returns-else-is_memory
-returns-else-is_memory c =
+pub returns-else-is_memory-clause-read : goal.returns-else-is_memory-clause-read
+returns-else-is_memory-clause-read c =
     let not_memory : c.in-Err.fault ≢ Memory = λ is. false≢true (sym c.if-is_memory.false ∙ c.is_memory.ensures.1 is) in
     (not_memory, c.in-Err.ensures.fault, no_locator c.args.strict c.in-Err.fault c.args.octets.now not_memory c.in-Err.ensures.rejected)

@@ -1,8 +1,8 @@
 use Rattle.std.specs.Prelude.{fold, map}
 use Rattle.std.proofs.Common.{rules, ◌≡◌, ◌∙◌, ℕ, List, Err, ap, inl, inr, sym, subst}
 use Rattle.rpki_arguments.specs.CommandLines.Views.{word_octets}
-use Rattle.rpki_arguments.specs.WordParts.{AddsParts, AreInOrder}
-use Rattle.rpki_requests.specs.RequestMisuses.{IsFirstWrong}
+use Rattle.rpki_arguments.specs.WordParts.{AddsParts, AreInOrder, IsFirstWrong}
+use Rattle.rpki_requests.specs.RequestMisuses.{IsWrongFirst}
 use Rattle.rpki_requests.specs.RequestWords.{AskedFields, IsRequestPart, file, only_errand, with_part}
 use Rattle.rpki_requests.specs.RequestWords.Views.{asked_fields}
 use Rattle.rpki_requests.proofs.OneErrand.{no_parts, only, reason_told, unsuited}
@@ -21,7 +21,7 @@ returns-in_err-add_words-clause-told c =
       c.in_ok-errand.errand,
       word_octets c.in_ok-errand.rest.now,
       c.in_ok-errand.ensures.named,
-      inl (subst (λ (l : List (List ℕ)). IsFirstWrong c.in_err-add_words.field-0.0 l) c.around_dashes.ensures.before (c.in_err-add_words.ensures.told not_memory)),
+      inl (subst (λ (l : List (List ℕ)). IsFirstWrong IsRequestPart IsWrongFirst c.in_err-add_words.field-0.0 l) c.around_dashes.ensures.before (c.in_err-add_words.ensures.told not_memory)),
     ))
 
 pub returns-in-Some-clause-told : goal.returns-in-Some-clause-told
