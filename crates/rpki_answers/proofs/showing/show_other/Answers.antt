@@ -16,7 +16,7 @@ returns-in-Ok c =
     let tal = c.in-Ok.tal.tal in
     let printed = c.print_locator.ensures in
     let octets = c.as_slice-octets.ensures ∙ c.octets.ensures in
-    let read = subst (λ (r : Result NamedTal TalError). IsReadAs o.strict c.as_slice-octets.result.now r) c.in-Ok.is c.in_ok-tal.ensures in
+    let read = subst (λ (r : Result NamedTal TalError). IsReadAs o.strict c.as_slice-octets.result.now r) c.in-Ok.is c.in_ok-tal.ensures.read in
     let is : IsLocator o.strict tal file.octets = subst (λ (l : List ℕ). IsLocator o.strict tal l) octets read in
     record {
       shows = ((λ yes. inr (tal, is)), (λ shown. refl));
@@ -31,7 +31,7 @@ returns-in-Err c =
     let o = c.args.options.now in
     let file = c.args.object.now in
     let octets = c.as_slice-octets.ensures ∙ c.octets.ensures in
-    let read = subst (λ (r : Result NamedTal TalError). IsReadAs o.strict c.as_slice-octets.result.now r) c.in-Err.is c.in_ok-tal.ensures in
+    let read = subst (λ (r : Result NamedTal TalError). IsReadAs o.strict c.as_slice-octets.result.now r) c.in-Err.is c.in_ok-tal.ensures.read in
     let why = subst (λ (l : List ℕ). IsWhyNoLocator o.strict l c.in-Err.error) octets read in
     let none : CanBeShown o.strict file.octets → ⊥ = ⊎_elim c.requires.neither why.2 in
     record {

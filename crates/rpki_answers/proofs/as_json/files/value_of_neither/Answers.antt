@@ -12,7 +12,7 @@ returns-in_ok-value-in-Ok c =
     let strict = c.args.strict in
     let tal = c.in-Ok.tal.tal in
     let octets = c.as_slice-octets.ensures ∙ c.octets.ensures in
-    let read = subst (λ (r : Result NamedTal TalError). IsReadAs strict c.as_slice-octets.result.now r) c.in-Ok.is c.in_ok-read.ensures in
+    let read = subst (λ (r : Result NamedTal TalError). IsReadAs strict c.as_slice-octets.result.now r) c.in-Ok.is c.in_ok-read.ensures.read in
     let is : IsLocator strict tal file.octets = subst (λ (l : List ℕ). IsLocator strict tal l) octets read in
     record {
       shows = ((λ yes. inr (tal, is)), (λ shown. refl));
@@ -24,7 +24,7 @@ returns-in_ok-value-in-Err c =
     let file = c.args.object.now in
     let strict = c.args.strict in
     let octets = c.as_slice-octets.ensures ∙ c.octets.ensures in
-    let read = subst (λ (r : Result NamedTal TalError). IsReadAs strict c.as_slice-octets.result.now r) c.in-Err.is c.in_ok-read.ensures in
+    let read = subst (λ (r : Result NamedTal TalError). IsReadAs strict c.as_slice-octets.result.now r) c.in-Err.is c.in_ok-read.ensures.read in
     let why = subst (λ (l : List ℕ). IsWhyNoLocator strict l c.in-Err.error) octets read in
     let none : CanBeShown strict file.octets → ⊥ = ⊎_elim c.requires.neither why.2 in
     record {
