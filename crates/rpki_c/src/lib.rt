@@ -3,6 +3,8 @@
 //! below it; `include/rpki.h` tells the caller's part.
 #![tactic(auto)]
 
+ghost use Rattle.std.specs.Prelude.{◌≡◌};
+
 mod answers;
 mod certificates;
 mod completing;
@@ -37,6 +39,8 @@ mod wanted_list;
 
 /// Tells the number of this interface. It grows with each change that a caller has to follow.
 #[unsafe(no_mangle)]
-pub extern "C" fn rpki_abi_version() -> u32 {
+pub extern "C" fn rpki_abi_version() -> u32
+    ensures { result ≡ 3 }
+{
     3
 }
