@@ -6,7 +6,7 @@ use Rattle.rpki_der.specs.Tags.{BIT_STRING, INTEGER, OBJECT_IDENTIFIER, OCTET_ST
 use Rattle.rpki_der.specs.Values.{IsEnc}
 use Rattle.rpki_files.specs.Contents.{BeginsWithEither}
 use Rattle.rpki_files.specs.LocatorFiles.{looks_like_locator}
-use Rattle.rpki_files.specs.PemFiles.{IsBareBase64, IsDamagedPem, IsUnendedPem}
+use Rattle.rpki_files.specs.PemFiles.{IsBareBase64, IsDamagedPem, IsSeveralPem, IsUnendedPem}
 use Rattle.rpki_files.specs.PolicyPresence.{IsOtherCertificate}
 use Rattle.rpki_files.specs.declared.sorts.ContentType.{ContentType}
 use Rattle.rpki_files.specs.declared.sorts.ContentType.TheVariants as of
@@ -84,6 +84,7 @@ version_1 =
 abbrev pub IsOfSort : Sort → List ℕ → Type 0
 IsOfSort sort.Empty octets = octets ≡ []
 IsOfSort sort.Base64 octets = IsBareBase64 octets
+IsOfSort sort.SeveralPem octets = IsSeveralPem octets
 IsOfSort sort.UnendedPem octets = IsUnendedPem octets
 IsOfSort sort.DamagedPem octets = IsDamagedPem octets
 IsOfSort sort.Locator octets = IsTrue (looks_like_locator octets)
@@ -102,8 +103,8 @@ IsOfSort sort.OtherCertificate octets = IsOtherCertificate octets
 -- every sort, in the order in which they are looked for
 abbrev pub every_sort : List Sort
 every_sort =
-    sort.Empty ∷ sort.Base64 ∷ sort.UnendedPem ∷ sort.DamagedPem ∷ sort.Locator ∷ sort.Roa ∷ sort.Manifest
-    ∷ sort.Ghostbusters ∷ sort.SignedData ∷ sort.PrivateKey ∷ sort.RsaPrivateKey ∷ sort.CurvePrivateKey
+    sort.Empty ∷ sort.Base64 ∷ sort.SeveralPem ∷ sort.UnendedPem ∷ sort.DamagedPem ∷ sort.Locator ∷ sort.Roa
+    ∷ sort.Manifest ∷ sort.Ghostbusters ∷ sort.SignedData ∷ sort.PrivateKey ∷ sort.RsaPrivateKey ∷ sort.CurvePrivateKey
     ∷ sort.PublicKey ∷ sort.Request ∷ sort.Version1 ∷ sort.OtherCertificate ∷ []
 
 -- the first of the xs that has the property, if one has it

@@ -32,13 +32,18 @@ pub record HasBase64 (digits text : List ℕ) : Type 0 where
   pub has_end : IsTrue (list_any is_end_line (lines_behind_begin text))
   pub digits_are : digits ≡ flat_map without_white_space (before_first is_end_line (lines_behind_begin text))
 
--- a file in PEM: a text whose first object has these octets
+-- a second object begins in a text (RFC 7468 2)
+abbrev pub BeginsAgain : List ℕ → Type 0
+BeginsAgain text = IsTrue (list_any is_begin_line (lines_behind_begin text))
+
+-- a file in PEM: a text in which one object begins and no second one (own), which has these octets
 pub record IsPemOf (octets file : List ℕ) : Type 0 where
   pub is_text : IsUtf8 file
   pub has_base64 : HasBase64 (base64_of octets) file
   pub are_octets : IsBytes octets
+  pub is_only : ¬ BeginsAgain file
 
--- the octets of a file's object: of its first one in PEM, or all of the file's where it isn't in PEM
+-- the octets of a file's object: of the one in PEM, or all of the file's where it isn't in PEM
 abbrev pub IsObjectOf : List ℕ → List ℕ → Type 0
 IsObjectOf file octets = IsPemOf octets file ⊎ ((octets ≡ file) × ((inside : List ℕ) → ¬ IsPemOf inside file))
 
@@ -52,7 +57,11 @@ HasBeginLine text = IsTrue (list_any is_begin_line (lines text))
 abbrev pub IsUnendedPem : List ℕ → Type 0
 IsUnendedPem file = IsUtf8 file × HasBeginLine file × ((digits : List ℕ) → ¬ HasBase64 digits file)
 
--- a text in which an object begins, and whose first object has no octets
+-- a text in which several objects begin
+abbrev pub IsSeveralPem : List ℕ → Type 0
+IsSeveralPem file = IsUtf8 file × BeginsAgain file
+
+-- a text in which an object begins that has no octets
 abbrev pub IsDamagedPem : List ℕ → Type 0
 IsDamagedPem file = IsUtf8 file × HasBeginLine file × ((octets : List ℕ) → ¬ IsPemOf octets file)
 

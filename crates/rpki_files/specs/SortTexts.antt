@@ -34,6 +34,11 @@ description sort.Base64 =
     "no line that begins with -----BEGIN stands before it"
     "RFC 7468 2"
     "put the lines of PEM around it, or decode it: base64 -d"
+description sort.SeveralPem =
+    described "PEM with several objects"
+    "more than one object begins in it, and a file is read as one"
+    "RFC 7468 2"
+    "put each object into a file of its own"
 description sort.UnendedPem =
     described "PEM without its end"
     "no line that begins with -----END stands behind its first object"

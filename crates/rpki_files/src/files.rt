@@ -5,7 +5,7 @@ ghost use Rattle.rpki_cert.specs.Certificates.{IsCertificate};
 ghost use Rattle.rpki_crl.specs.Lists.{IsCertificateList};
 ghost use Rattle.rpki_files.specs.Contents.{BeginsWithEither, BeginsWithList, FindsBefore, IsContent};
 ghost use Rattle.rpki_files.specs.FileSorts.{IsToldSort};
-ghost use Rattle.rpki_files.specs.PemFiles.{HasBase64, HasBeginLine, IsBareBase64, IsDamagedPem, IsObjectOf, IsPemOf, IsUnendedPem, begin_line, byte_order_mark, is_begin_line, is_end_line};
+ghost use Rattle.rpki_files.specs.PemFiles.{BeginsAgain, HasBase64, HasBeginLine, IsBareBase64, IsDamagedPem, IsObjectOf, IsPemOf, IsSeveralPem, IsUnendedPem, begin_line, byte_order_mark, is_begin_line, is_end_line};
 
 use crate::contents::{Content, read_content};
 use crate::sorts::{Sort, sort_of};
@@ -143,7 +143,20 @@ fn base64_in(alloc: Global, text: &str) -> Result<Option<Vec<u8>>, AllocError>
     Ok(None)
 }
 
-// The octets of a file's first object in PEM, if it has one.
+// Whether a second object of PEM begins in a text.
+fn begins_again(text: &str) -> bool
+    ensures { IsTrue result ↔ BeginsAgain text.now }
+{
+    let lines = text.lines().skip_while(|line| !is_begin_line(line));
+    for line in lines.skip(1) {
+        if is_begin_line(line) {
+            return true;
+        }
+    }
+    false
+}
+
+// The octets of a file's object in PEM, if it has one, and only one.
 fn from_pem(alloc: Global, file: &[u8]) -> Result<Option<Vec<u8>>, AllocError>
     ensures { IfOk result (λ found. MatchOption found
         ((octets : List ℕ) → ¬ IsPemOf octets file.now)
@@ -152,6 +165,9 @@ fn from_pem(alloc: Global, file: &[u8]) -> Result<Option<Vec<u8>>, AllocError>
     let Ok(text) = str::from_utf8(file) else {
         return Ok(None);
     };
+    if begins_again(text) {
+        return Ok(None);
+    }
     match base64_in(alloc, text)? {
         Some(digits) => octets_of(alloc, &digits),
         None => Ok(None),
@@ -168,6 +184,16 @@ fn has_begin_line(text: &str) -> bool
         }
     }
     false
+}
+
+/// Returns whether octets are a text in which several objects of PEM begin.
+pub fn is_several_pem(octets: &[u8]) -> bool
+    ensures { IsTrue result ↔ IsSeveralPem octets.now }
+{
+    match str::from_utf8(octets) {
+        Ok(text) => begins_again(text),
+        Err(_) => false,
+    }
 }
 
 /// Returns whether octets are a text in which an object of PEM begins that has no end.

@@ -5,7 +5,7 @@ ghost use Rattle.rpki_files.specs.FileSorts.{BeginSo, IsOfSort, IsSortOf, type_o
 ghost use Rattle.rpki_files.specs.FileSorts.Reading.{turned};
 ghost use Rattle.rpki_files.specs.SortTexts.{description};
 
-use crate::files::{is_bare_base64, is_damaged_pem, is_unended_pem};
+use crate::files::{is_bare_base64, is_damaged_pem, is_several_pem, is_unended_pem};
 use crate::locators::looks_like_locator;
 use crate::policies::{content, is_other_certificate};
 use bytes::Bytes;
@@ -18,9 +18,11 @@ pub enum Sort {
     Empty,
     /// Base64 without the lines of PEM around it.
     Base64,
-    /// PEM whose first object has no end.
+    /// PEM in which several objects begin.
+    SeveralPem,
+    /// PEM whose object has no end.
     UnendedPem,
-    /// PEM whose first object isn't base64.
+    /// PEM whose object isn't base64.
     DamagedPem,
     /// A trust anchor locator, or what looks like one.
     Locator,
@@ -49,9 +51,10 @@ pub enum Sort {
 }
 
 // Every sort, in the order in which they are looked for.
-const SORTS: [Sort; 16] = [
+const SORTS: [Sort; 17] = [
     Sort::Empty,
     Sort::Base64,
+    Sort::SeveralPem,
     Sort::UnendedPem,
     Sort::DamagedPem,
     Sort::Locator,
@@ -230,6 +233,7 @@ fn is_of_sort(alloc: Global, octets: &Bytes, sort: Sort) -> Result<bool, AllocEr
     match sort {
         Sort::Empty => Ok(octets.as_slice().is_empty()),
         Sort::Base64 => is_bare_base64(alloc, octets.as_slice()),
+        Sort::SeveralPem => Ok(is_several_pem(octets.as_slice())),
         Sort::UnendedPem => is_unended_pem(alloc, octets.as_slice()),
         Sort::DamagedPem => is_damaged_pem(alloc, octets.as_slice()),
         Sort::Locator => Ok(looks_like_locator(octets.as_slice())),
@@ -299,6 +303,9 @@ pub fn describe(sort: Sort) -> Description
         Base64 => "base64 without the lines of PEM",
             "no line that begins with -----BEGIN stands before it", "RFC 7468 2",
             "put the lines of PEM around it, or decode it: base64 -d";
+        SeveralPem => "PEM with several objects",
+            "more than one object begins in it, and a file is read as one", "RFC 7468 2",
+            "put each object into a file of its own";
         UnendedPem => "PEM without its end",
             "no line that begins with -----END stands behind its first object", "RFC 7468 2",
             "copy it again, as a whole";
