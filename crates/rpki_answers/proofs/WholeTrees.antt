@@ -14,13 +14,13 @@ use Rattle.rpki_verdicts.specs.Trees.{TreeFields, certs_of}
 use Rattle.rpki_verdicts.specs.PathAnswers.{reason_of}
 use Rattle.rpki_verdicts.specs.declared.unordered.Tree.{Tree}
 use Rattle.rpki_verdicts.specs.declared.unordered.TreeAnswer.TheVariants.{NoAnchor, WrongAnchor, Walked}
-use Rattle.rpki_answers.specs.JsonTrees.{AreFileMembers, AreLineMembers, AreTreeItems, IsFileItem, accepted_members, end_members, name_item, name_items, no_anchor_json, rejected_members, summary_members, unjudged_members, wrong_anchor_json}
-use Rattle.rpki_answers.specs.JsonValues.{Pair, text_member}
+use Rattle.rpki_answers.specs.JsonTrees.{AreFileMembers, AreFrontMembers, AreLineMembers, AreTreeItems, IsFileItem, accepted_members, end_members, name_item, name_items, no_anchor_json, rejected_members, summary_members, unjudged_members, wrong_anchor_json}
+use Rattle.rpki_answers.specs.JsonValues.{Pair, count_member_if_any, text_member}
 use Rattle.rpki_answers.specs.TreeTexts.{SaysInOrder}
 use Rattle.rpki_answers.specs.VerdictTexts.{file_name_at}
 use Rattle.rpki_answers.specs.declared.trees.TreeFinding.{TreeFinding}
 use Rattle.rpki_answers.specs.declared.trees.TreeFinding.TheVariants.{NotALocator, Answered}
-use Rattle.rpki_answers.proofs.WholeValues.{IsWhole, AreWhole, none_whole, then_whole, object_whole, array_whole, integer_whole}
+use Rattle.rpki_answers.proofs.WholeValues.{IsWhole, AreWhole, none_whole, then_whole, both_whole, object_whole, array_whole, integer_whole, count_if_any_whole}
 use Rattle.rpki_answers.proofs.WholeVerdicts.{AllWhole, items_whole, no_locator_whole, no_locators_whole}
 
 -- ---- a certificate
@@ -62,10 +62,14 @@ certificate_whole false tree file its pairs is = line_whole tree file its pairs 
 
 -- ---- files
 
+front_whole : (tree : Tree) (place next : ℕ) (file : FileFields) (pairs : List Pair) → AreFrontMembers tree place next file pairs → AreWhole pairs
+front_whole tree place next file pairs (inl is) = certificate_whole (place == tree.anchor) tree file _ pairs is.1
+front_whole tree place next file pairs (inr (inl is)) = word_whole (codes "list") pairs is.1
+front_whole tree place next file pairs (inr (inr is)) = word_whole (codes "neither") pairs is.1
+
 members_whole : (tree : Tree) (place next : ℕ) (file : FileFields) (pairs : List Pair) → AreFileMembers tree place next file pairs → AreWhole pairs
-members_whole tree place next file pairs (inl is) = certificate_whole (place == tree.anchor) tree file _ pairs is.1
-members_whole tree place next file pairs (inr (inl is)) = word_whole (codes "list") pairs is.1
-members_whole tree place next file pairs (inr (inr is)) = word_whole (codes "neither") pairs is.1
+members_whole tree place next file pairs is =
+    subst AreWhole (sym is.4) (both_whole is.0 (count_member_if_any (codes "octets_after_end") is.1) (front_whole tree place next file is.0 is.2) (count_if_any_whole (codes "octets_after_end") is.1))
 
 item_whole : (tree : Tree) (place next : ℕ) (file : FileFields) (items : List Data) → IsFileItem tree place next file items → AllWhole items
 unfolding AllWhole

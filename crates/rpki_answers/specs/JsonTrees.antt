@@ -8,7 +8,7 @@ use Rattle.rpki.specs.Ended.TheVariants.{Whole, TooDeep, OutOfSteps}
 use Rattle.rpki.specs.Line.{Line}
 use Rattle.rpki.specs.Line.TheVariants as line
 use Rattle.rpki.specs.Times.{Moment}
-use Rattle.rpki_files.specs.Contents.{BeginsWithCertificate, BeginsWithEither, BeginsWithList}
+use Rattle.rpki_files.specs.Contents.{BeginsWithCertificate, BeginsWithEither, BeginsWithList, StandBehind}
 use Rattle.rpki_verdicts.specs.Reasons.{ReasonFields, IsReason}
 use Rattle.rpki_files.specs.Files.{FileFields}
 use Rattle.rpki_verdicts.specs.PathAnswers.{reason_of}
@@ -16,7 +16,7 @@ use Rattle.rpki_verdicts.specs.Trees.{TreeFields, accepted_count, certs_of}
 use Rattle.rpki_verdicts.specs.declared.unordered.Tree.{Tree}
 use Rattle.rpki_verdicts.specs.declared.unordered.TreeAnswer.TheVariants.{NoAnchor, WrongAnchor, Walked}
 use Rattle.rpki_answers.specs.JsonTexts.{json_lines, value_text}
-use Rattle.rpki_answers.specs.JsonValues.{Pair, array_of, count_json, flattened, member_of, moment_json, object_of, text_member}
+use Rattle.rpki_answers.specs.JsonValues.{Pair, array_of, count_json, count_member_if_any, flattened, member_of, moment_json, object_of, text_member}
 use Rattle.rpki_answers.specs.JsonVerdicts.{no_locator_json, no_locators_json}
 use Rattle.rpki_answers.specs.TreeTexts.{SaysInOrder}
 use Rattle.rpki_answers.specs.VerdictTexts.{file_name_at}
@@ -69,13 +69,19 @@ AreCertificateMembers tree place file pairs =
 
 -- ---- files
 
--- what is said of a file, where the next certificate stands at this place, and one behind it at the
--- next
-abbrev pub AreFileMembers : Tree → ℕ → ℕ → FileFields → List Pair → Type 0
-AreFileMembers tree place next file pairs =
+-- what is said of what a file begins with, where the next certificate stands at this place, and one
+-- behind it at the next
+abbrev pub AreFrontMembers : Tree → ℕ → ℕ → FileFields → List Pair → Type 0
+AreFrontMembers tree place next file pairs =
     (BeginsWithCertificate file.octets × AreCertificateMembers tree place file pairs × (next ≡ place + 1))
     ⊎ ((BeginsWithList file.octets × (pairs ≡ text_member (codes "verdict") (codes "list")) × (next ≡ place))
     ⊎ ((BeginsWithEither file.octets → ⊥) × (pairs ≡ text_member (codes "verdict") (codes "neither")) × (next ≡ place)))
+
+-- what is said of a file: of what it begins with, and how many octets stand behind that, where some do
+abbrev pub AreFileMembers : Tree → ℕ → ℕ → FileFields → List Pair → Type 0
+AreFileMembers tree place next file pairs =
+    (front : List Pair) × (left : ℕ) × AreFrontMembers tree place next file front × StandBehind file.octets left
+    × (pairs ≡ front ++ count_member_if_any (codes "octets_after_end") left)
 
 -- its value: the name, and what is said
 abbrev pub IsFileItem : Tree → ℕ → ℕ → FileFields → List Data → Type 0

@@ -3,14 +3,14 @@
 use Rattle.std.specs.Fmt.{decimal}
 use Rattle.std.specs.List.{concat, flat_map}
 use Rattle.std.specs.Option.{option_map}
-use Rattle.std.specs.Prelude.{◌≡◌, ◌==◌, ◌+◌, ◌⊎◌, ℕ, All, List, [], ◌∷◌, ◌++◌, length, codes, slice_get, unwrap_or, Option, Some}
+use Rattle.std.specs.Prelude.{◌≡◌, ◌==◌, ◌+◌, ◌⊎◌, ℕ, if◌then◌else◌, All, List, [], ◌∷◌, ◌++◌, length, codes, slice_get, unwrap_or, Option, Some}
 use Rattle.std.specs.Bool.{MatchBool}
 use Rattle.rpki.specs.Ended.{Ended}
 use Rattle.rpki.specs.Ended.TheVariants.{Whole, TooDeep, OutOfSteps}
 use Rattle.rpki.specs.Line.{Line}
 use Rattle.rpki.specs.Line.TheVariants as line
 use Rattle.rpki.specs.Verification.{Context}
-use Rattle.rpki_files.specs.Contents.{BeginsWithCertificate, BeginsWithEither, BeginsWithList}
+use Rattle.rpki_files.specs.Contents.{BeginsWithCertificate, BeginsWithEither, BeginsWithList, StandBehind}
 use Rattle.rpki_verdicts.specs.Reasons.{ReasonFields, IsReason}
 use Rattle.rpki_files.specs.Files.{FileFields}
 use Rattle.rpki_files.specs.LocatorFiles.{AreLocator}
@@ -21,6 +21,7 @@ use Rattle.rpki_verdicts.specs.Trees.{TreeFields, IsAccepting, IsTreeAnswer, acc
 use Rattle.rpki_verdicts.specs.declared.unordered.Tree.{Tree}
 use Rattle.rpki_verdicts.specs.declared.unordered.TreeAnswer.{TreeAnswer}
 use Rattle.rpki_verdicts.specs.declared.unordered.TreeAnswer.TheVariants.{NoAnchor, WrongAnchor, Walked}
+use Rattle.rpki_answers.specs.ShownTexts.{left_text}
 use Rattle.rpki_answers.specs.VerdictTexts.{locators_text, moment_line, no_locator_text}
 use Rattle.rpki_answers.specs.declared.trees.TreeFinding.{TreeFinding}
 use Rattle.rpki_answers.specs.declared.trees.TreeFinding.TheVariants.{NotALocator, Answered}
@@ -59,13 +60,23 @@ SaysOfCertificate tree place file said =
 
 -- ---- files
 
--- what is said of a file, where the next certificate stands at this place, and one behind it at the
--- next
-abbrev pub SaysOfFile : Tree → ℕ → ℕ → FileFields → List ℕ → Type 0
-SaysOfFile tree place next file said =
+-- what is said of what a file begins with, where the next certificate stands at this place, and one
+-- behind it at the next
+abbrev pub SaysOfFront : Tree → ℕ → ℕ → FileFields → List ℕ → Type 0
+SaysOfFront tree place next file said =
     (BeginsWithCertificate file.octets × SaysOfCertificate tree place file said × (next ≡ place + 1))
     ⊎ ((BeginsWithList file.octets × (said ≡ codes "revocation list") × (next ≡ place))
     ⊎ ((BeginsWithEither file.octets → ⊥) × (said ≡ codes "neither a certificate nor a list") × (next ≡ place)))
+
+-- that so many octets stand behind it, where some do
+abbrev pub behind_text : ℕ → List ℕ
+behind_text left = if left == 0 then [] else (codes ", after its end " ++ left_text left)
+
+-- what is said of a file: of what it begins with, and of what stands behind that
+abbrev pub SaysOfFile : Tree → ℕ → ℕ → FileFields → List ℕ → Type 0
+SaysOfFile tree place next file said =
+    (front : List ℕ) × (left : ℕ) × SaysOfFront tree place next file front × StandBehind file.octets left
+    × (said ≡ front ++ behind_text left)
 
 -- a line: the file's name, and what is said of it
 abbrev pub file_line : List ℕ → List ℕ → List ℕ

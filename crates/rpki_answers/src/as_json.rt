@@ -52,7 +52,7 @@ pub struct Shown<'a> {
 
 // How many octets stand behind the object, where some do.
 #[tactic(auto, unfolding(crate::specs::JsonValues::put_all))]
-fn left(out: &mut Members, left: usize) -> Result<(), AllocError>
+pub(crate) fn left(out: &mut Members, left: usize) -> Result<(), AllocError>
     ensures { OnOk result
         (Puts (count_member_if_any (codes "octets_after_end") left) out.old out.new) }
 {

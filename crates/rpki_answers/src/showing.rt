@@ -77,7 +77,7 @@ fn begun(page: &mut Page, object: &Object<'_>)
 }
 
 // That so many octets aren't read.
-fn left_over(page: &mut Page, left: usize)
+pub(crate) fn left_over(page: &mut Page, left: usize)
     ensures { Appends page.old (left_text left) page.new }
 {
     page.count(left as u64, " octet", " octets");

@@ -7,9 +7,10 @@ ghost use Rattle.std.specs.Fmt.{decimal};
 ghost use Rattle.rpki_verdicts.specs.PathAnswers.{reason_of};
 ghost use Rattle.rpki_verdicts.specs.Trees.{asked_of};
 ghost use Rattle.rpki_verdicts.specs.declared.unordered.TreeAnswer.TheVariants.{Walked};
-ghost use Rattle.rpki_answers.specs.TreeTexts.{AreFileLines, IsAnswerText, IsFileLine, IsTreeText, SaysOfCertificate, SaysOfFile, SaysOfLine, accepted_text, end_text, ended_text, file_line, further_text, name_text_at, rejection_text};
+ghost use Rattle.rpki_answers.specs.TreeTexts.{AreFileLines, IsAnswerText, IsFileLine, IsTreeText, SaysOfCertificate, SaysOfFile, SaysOfFront, SaysOfLine, accepted_text, behind_text, end_text, ended_text, file_line, further_text, name_text_at, rejection_text};
 ghost use Rattle.rpki_answers.specs.VerdictTexts.{locators_text, moment_line, no_locator_text};
 
+use crate::showing::left_over;
 use crate::trees::TreeFinding;
 use crate::verdict_lines::{print_moment, print_no_locator, print_other_locators};
 use rpki::repository::folder::{Ended, Line};
@@ -103,12 +104,12 @@ fn print_certificate(page: &mut Page, tree: &Tree<'_, '_>, place: usize, file: &
     print_line(page, tree, file, tree.lines.as_slice().get(place));
 }
 
-// What is said of a file, where the next certificate stands at this place. Returns the place of one
-// behind it.
-fn print_said(page: &mut Page, tree: &Tree<'_, '_>, place: usize, file: &BareObject<'_>) -> usize
+// What is said of what a file begins with, where the next certificate stands at this place. Returns
+// the place of one behind it.
+fn print_front(page: &mut Page, tree: &Tree<'_, '_>, place: usize, file: &BareObject<'_>) -> usize
     requires { place + 1 < 2 ^ 64 }
     ensures next { result ≤ place + 1 }
-    ensures said { AppendsSome (SaysOfFile tree.now place result file.now) page.old page.new }
+    ensures said { AppendsSome (SaysOfFront tree.now place result file.now) page.old page.new }
 {
     match file.front() {
         Front::Certificate(_) => {
@@ -124,6 +125,27 @@ fn print_said(page: &mut Page, tree: &Tree<'_, '_>, place: usize, file: &BareObj
             place
         }
     }
+}
+
+// That so many octets stand behind it, where some do.
+fn print_behind(page: &mut Page, left: usize)
+    ensures { Appends page.old (behind_text left) page.new }
+{
+    if left > 0 {
+        page.text(", after its end ");
+        left_over(page, left);
+    }
+}
+
+// What is said of a file: of what it begins with, and of what stands behind that.
+fn print_said(page: &mut Page, tree: &Tree<'_, '_>, place: usize, file: &BareObject<'_>) -> usize
+    requires { place + 1 < 2 ^ 64 }
+    ensures next { result ≤ place + 1 }
+    ensures said { AppendsSome (SaysOfFile tree.now place result file.now) page.old page.new }
+{
+    let next = print_front(page, tree, place, file);
+    print_behind(page, file.left());
+    next
 }
 
 // The line of a file.

@@ -33,6 +33,14 @@ CanBeShown strict octets = BeginsWithEither octets ⊎ AreLocator strict octets
 abbrev pub BeginsBefore : {V : Type 0} → (V → List ℕ → Type 0) → List ℕ → V → ℕ → Type 0
 BeginsBefore encodes octets v left = (rest : List ℕ) × Begins encodes octets v rest × (left ≡ length rest)
 
+-- so many octets stand behind the certificate or the list that the octets begin with; none are told
+-- where they begin with neither
+abbrev pub StandBehind : List ℕ → ℕ → Type 0
+StandBehind octets left =
+    ((c : CertFields) × BeginsBefore IsCertificate octets c left)
+    ⊎ (((l : CrlFields) × BeginsBefore IsCertificateList octets l left)
+    ⊎ ((BeginsWithEither octets → ⊥) × (left ≡ 0)))
+
 -- what octets were read as: the certificate or the list that they begin with, with the count of the
 -- octets behind it; or they begin with neither, and the fault isn't that memory ran out
 abbrev pub IsContent : List ℕ → Content → Type 0

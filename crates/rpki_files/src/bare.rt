@@ -3,7 +3,7 @@ ghost use Rattle.std.specs.Prelude.{◌≡◌, ◌↔◌, ℕ, List, IfOk, IfSom
 ghost use Rattle.rpki_cert.specs.Certificates.{CertFields, IsCertificate};
 ghost use Rattle.rpki_der.specs.Encoding.{Means};
 ghost use Rattle.rpki_crl.specs.Lists.{IsCertificateList};
-ghost use Rattle.rpki_files.specs.Contents.{BeginsWithCertificate, BeginsWithEither, BeginsWithList, IsContent, IsFront};
+ghost use Rattle.rpki_files.specs.Contents.{BeginsWithCertificate, BeginsWithEither, BeginsWithList, IsContent, IsFront, StandBehind};
 ghost use Rattle.rpki_files.specs.PemFiles.{IsObjectOf};
 
 use crate::contents::{Content, read_content};
@@ -24,23 +24,24 @@ pub enum Front {
 }
 
 /// An object without what was read of it, which would take as much memory as its octets: its file's
-/// name, its octets, in DER, and what they begin with.
+/// name, its octets, in DER, what they begin with, and how many of them stand behind that.
 #[derive(Drop)]
 pub struct BareObject<'a> {
     name: &'a str,
     octets: Bytes,
     front: Front,
+    left: usize,
 }
 
 impl<'a> Model for BareObject<'a> {
     ghost use Rattle.rpki_files.specs.Files.{FileFields};
-    ghost use Rattle.rpki_files.specs.Contents.{IsFront};
+    ghost use Rattle.rpki_files.specs.Contents.{IsFront, StandBehind};
 
     ghost Value = { FileFields };
 
     ghost view = { λ o. record { name = o.name.now; octets = o.octets } };
 
-    ghost invariant = { λ o. IsFront o.octets o.front };
+    ghost invariant = { λ o. IsFront o.octets o.front × StandBehind o.octets o.left };
 }
 
 // What is kept of what octets begin with.
@@ -54,14 +55,26 @@ fn front_of(content: &Content) -> Front
     }
 }
 
-// What octets begin with, of which no more is kept.
-fn read_front(alloc: Global, octets: &Bytes) -> Result<Front, AllocError>
-    ensures { IfOk result (IsFront octets.now) }
+// How many octets stand behind what was read of them.
+fn left_of(content: &Content) -> usize
+    ensures { (octets : List ℕ) → IsContent octets content.now → StandBehind octets result }
+{
+    match content {
+        Content::Certificate(_, left) | Content::List(_, left) => *left,
+        Content::Neither(_) => 0,
+    }
+}
+
+// What octets begin with, of which no more is kept, and how many stand behind it.
+fn read_front(alloc: Global, octets: &Bytes) -> Result<(Front, usize), AllocError>
+    ensures front { IfOk result (λ it. IsFront octets.now it.0) }
+    ensures left { IfOk result (λ it. StandBehind octets.now it.1) }
 {
     let content = read_content(alloc, octets)?;
     let front = front_of(&content);
+    let left = left_of(&content);
     drop(content);
-    Ok(front)
+    Ok((front, left))
 }
 
 impl<'a> BareObject<'a> {
@@ -84,6 +97,14 @@ impl<'a> BareObject<'a> {
         ensures { IsFront self.now.octets result }
     {
         self.front
+    }
+
+    /// Returns how many octets stand behind the certificate or the list that the octets begin with, and
+    /// 0 where they begin with neither.
+    pub fn left(&self) -> usize
+        ensures { StandBehind self.now.octets result }
+    {
+        self.left
     }
 
     /// Returns whether the octets begin with a certificate.
@@ -151,10 +172,11 @@ pub fn read_bare_object<'a>(
         → IfOk result (λ object. object.octets ≡ file.items) }
 {
     let octets = object_octets(alloc, file)?;
-    let front = read_front(alloc, &octets)?;
+    let (front, left) = read_front(alloc, &octets)?;
     Ok(BareObject {
         name,
         octets,
         front,
+        left,
     })
 }

@@ -3,7 +3,7 @@ ghost use Rattle.std.specs.Prelude.{◌≡◌, ◌≤◌, ◌<◌, ◌+◌, ◌^
 ghost use Rattle.std.specs.List.{AllByRecursion};
 ghost use Rattle.serde_json.specs.View.{view};
 ghost use Rattle.serde_json.specs.Written.{has_float};
-ghost use Rattle.rpki_answers.specs.JsonTrees.{AreCertificateMembers, AreFileMembers, AreLineMembers, AreTreeItems, IsFileItem, IsTreeJson, accepted_members, end_members, ended_word, name_item, name_items, no_anchor_json, rejected_members, summary_members, tree_json_text, unjudged_members, wrong_anchor_json};
+ghost use Rattle.rpki_answers.specs.JsonTrees.{AreCertificateMembers, AreFileMembers, AreFrontMembers, AreLineMembers, AreTreeItems, IsFileItem, IsTreeJson, accepted_members, end_members, ended_word, name_item, name_items, no_anchor_json, rejected_members, summary_members, tree_json_text, unjudged_members, wrong_anchor_json};
 ghost use Rattle.rpki_answers.specs.JsonValues.{Pair, Puts, Pushes};
 ghost use Rattle.rpki_answers.specs.JsonVerdicts.{PushesSome, PutsSome};
 ghost use Rattle.rpki_answers.specs.TreeTexts.{SaysInOrder};
@@ -12,6 +12,7 @@ ghost use Rattle.rpki_verdicts.specs.Reasons.{ReasonFields, IsReason};
 ghost use Rattle.rpki_verdicts.specs.PathAnswers.{reason_of};
 ghost use Rattle.rpki_verdicts.specs.Trees.{asked_of};
 
+use crate::as_json::left;
 use crate::as_json::objects::Members;
 use crate::as_json::texts::{value_text, values_text};
 use crate::as_json::verdicts::{no_locator, not_locators};
@@ -133,9 +134,9 @@ fn put_certificate(
     put_line(out, alloc, tree, file, tree.lines.as_slice().get(place))
 }
 
-// What is said of a file, where the next certificate stands at this place. Returns the place of one
-// behind it.
-fn put_said(
+// What is said of what a file begins with, where the next certificate stands at this place. Returns
+// the place of one behind it.
+fn put_front(
     out: &mut Members,
     alloc: Global,
     tree: &Tree<'_, '_>,
@@ -145,7 +146,7 @@ fn put_said(
     requires { place + 1 < 2 ^ 64 }
     ensures next { IfOk result (λ next. next ≤ place + 1) }
     ensures said { IfOk result (λ next.
-        PutsSome (AreFileMembers tree.now place next file.now) out.old out.new) }
+        PutsSome (AreFrontMembers tree.now place next file.now) out.old out.new) }
 {
     match file.front() {
         Front::Certificate(_) => {
@@ -161,6 +162,24 @@ fn put_said(
             Ok(place)
         }
     }
+}
+
+// What is said of a file: of what it begins with, and how many octets stand behind that.
+fn put_said(
+    out: &mut Members,
+    alloc: Global,
+    tree: &Tree<'_, '_>,
+    place: usize,
+    file: &BareObject<'_>,
+) -> Result<usize, AllocError>
+    requires { place + 1 < 2 ^ 64 }
+    ensures next { IfOk result (λ next. next ≤ place + 1) }
+    ensures said { IfOk result (λ next.
+        PutsSome (AreFileMembers tree.now place next file.now) out.old out.new) }
+{
+    let next = put_front(out, alloc, tree, place, file)?;
+    left(out, file.left())?;
+    Ok(next)
 }
 
 // Pushes the value of a file.
