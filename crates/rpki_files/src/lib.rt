@@ -5,6 +5,7 @@
 
 mod bare;
 mod contents;
+mod decoding;
 mod expected;
 mod files;
 mod kinds;
@@ -16,6 +17,7 @@ mod sorts;
 
 pub use bare::{BareObject, Front, read_bare_object};
 pub use contents::{Content, Form, looks_like};
+pub use decoding::{Misread, decode_cert, decode_crl};
 pub use files::{Object, read_object};
 pub use locators::{looks_like_locator, read_locator};
 pub use places::{Place, place_of};
