@@ -123,6 +123,13 @@ pub use Rattle.rpki_crl.specs.ListMaking
 pub use Rattle.rpki_crl.specs.Revocation
 pub use Rattle.rpki_crl.specs.declared.entry.CrlEntry
 pub use Rattle.rpki_crl.specs.declared.revocation_error.RevocationError
+-- ---- where reading stops
+pub use Rattle.rpki_files.specs.KnownKinds
+pub use Rattle.rpki_files.specs.PartTexts
+pub use Rattle.rpki_files.specs.Contents as FileContents
+pub use Rattle.rpki_files.specs.StopPlaces
+pub use Rattle.rpki_files.specs.Misreads
+pub use Rattle.rpki_files.specs.declared.decoding.Misread
 -- ---- issuing where the key is elsewhere
 pub use Rattle.rpki_issuing.specs.IssuingErrors
 pub use Rattle.rpki_issuing.specs.Roles

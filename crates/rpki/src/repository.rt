@@ -1,6 +1,7 @@
 //! What a repository of the RPKI holds: certificates, revocation lists, and what they are made of.
 pub mod cert;
 pub mod crl;
+pub mod decoding;
 pub mod error;
 pub mod extension;
 pub mod folder;

@@ -1,5 +1,5 @@
 //! What octets begin with: a certificate, a revocation list, or neither.
-ghost use Rattle.std.specs.Prelude.{◌≡◌, ◌≢◌, ◌↔◌, ℕ, List, IsSomeAnd, IfOk, IfSome};
+ghost use Rattle.std.specs.Prelude.{◌≡◌, ◌≢◌, ◌↔◌, false, ℕ, List, IsSomeAnd, IfOk, IfSome};
 ghost use Rattle.rpki_der.specs.Encoding.{Means};
 ghost use Rattle.rpki_der.specs.Place.{MeansOrMemoryBy, remaining};
 ghost use Rattle.rpki_der.specs.Tags.{SEQUENCE};
@@ -70,8 +70,8 @@ pub enum Content {
     Neither(DecodeError),
 }
 
-// Reads the certificate that the octets begin with, and counts the octets behind it.
-fn certificate_in(alloc: Global, octets: &Bytes) -> Result<(Cert, usize), DecodeError>
+/// Reads the certificate that the octets begin with, and counts the octets behind it.
+pub(crate) fn certificate_in(alloc: Global, octets: &Bytes) -> Result<(Cert, usize), DecodeError>
     ensures means { MeansOrMemoryBy (λ found. found.0) (Means IsCertificate) result octets.now }
     ensures left { IfOk result (λ found. BeginsBefore IsCertificate octets.now found.0 found.1) }
 {
@@ -80,12 +80,13 @@ fn certificate_in(alloc: Global, octets: &Bytes) -> Result<(Cert, usize), Decode
     Ok((cert, cursor.rest().len()))
 }
 
-// Reads the revocation list that the octets begin with, and counts the octets behind it.
-fn list_in(alloc: Global, octets: &Bytes) -> Result<(Crl, usize), DecodeError>
+/// Reads the revocation list that the octets begin with, and counts the octets behind it.
+pub(crate) fn list_in(alloc: Global, octets: &Bytes) -> Result<(Crl, usize), DecodeError>
     ensures means { let encodes = Means IsCertificateList in
         MeansOrMemoryBy (λ found. found.0.list) encodes result octets.now }
     ensures left { IfOk result (λ found.
         BeginsBefore IsCertificateList octets.now found.0.list found.1) }
+    ensures uncached { IfOk result (λ found. found.0.is_cached ≡ false) }
 {
     let mut cursor = Cursor::new(octets);
     let list = Crl::take_from(alloc, &mut cursor)?;

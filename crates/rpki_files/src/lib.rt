@@ -5,6 +5,7 @@
 
 mod bare;
 mod contents;
+mod decoding;
 mod digits;
 mod expected;
 mod files;
@@ -19,6 +20,7 @@ mod sorts;
 
 pub use bare::{BareObject, Front, read_bare_object};
 pub use contents::{Content, Form, looks_like};
+pub use decoding::{Misread, decode_cert, decode_crl};
 pub use files::{Object, read_object};
 pub use flaws::{ExtensionFlaw, Flaw, SerialFlaw, TimeFlaw, VersionFlaw};
 pub use locators::{looks_like_locator, read_locator};

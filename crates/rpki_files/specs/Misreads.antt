@@ -1,0 +1,26 @@
+-- Why octets can't be read as a certificate, or as a list (own).
+use Rattle.std.specs.Prelude.{◌≢◌, ◌≤◌, ℕ, Bool, true, false, List, length, Option, Some, None}
+use Rattle.rpki_der.specs.declared.error.DecodeError.TheVariants as decoding
+use Rattle.rpki_files.specs.Contents.{BeginsWithCertificate, BeginsWithList}
+use Rattle.rpki_files.specs.StopPlaces.{IsStopPlace}
+use Rattle.rpki_files.specs.declared.decoding.Misread.{Misread}
+use Rattle.rpki_files.specs.declared.decoding.Misread.TheVariants as misread
+use Rattle.rpki_files.specs.declared.places.Place.{Place}
+
+-- the octets begin with what they are read as: with a certificate, or with a list
+abbrev pub BeginsAsRead : Bool → List ℕ → Type 0
+BeginsAsRead false octets = BeginsWithCertificate octets
+BeginsAsRead true octets = BeginsWithList octets
+
+-- memory ran out; or they begin with none, the fault is another, and reading stops at the place, which
+-- is one of the octets or their end
+abbrev pub IsMisread : Bool → List ℕ → Misread → Type 0
+IsMisread is_list octets misread.Memory = Unit {0}
+IsMisread is_list octets (misread.Stopped fault place) =
+    (BeginsAsRead is_list octets → ⊥) × (fault ≢ decoding.Memory) × IsStopPlace is_list octets place
+    × (place.octet ≤ length octets)
+
+-- the place that is told, unless memory ran out
+abbrev pub place_told : Misread → Option Place
+place_told misread.Memory = None
+place_told (misread.Stopped fault place) = Some place

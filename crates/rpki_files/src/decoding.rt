@@ -1,0 +1,122 @@
+//! Certificates and revocation lists decoded, and where their reading stops otherwise.
+ghost use Rattle.std.specs.Prelude.{◌≡◌, ◌≢◌, false, true, IfErr, IfOk};
+ghost use Rattle.rpki_cert.specs.Certificates.{IsCertificate};
+ghost use Rattle.rpki_crl.specs.Lists.{IsCertificateList};
+ghost use Rattle.rpki_der.specs.Encoding.{Means};
+ghost use Rattle.rpki_der.specs.declared.error.DecodeError.TheVariants as decoding;
+ghost use Rattle.rpki_files.specs.Misreads.{BeginsAsRead, IsMisread};
+
+use crate::contents::{certificate_in, list_in};
+use crate::places::{Place, place_of};
+use bytes::Bytes;
+use rpki_cert::Cert;
+use rpki_crl::Crl;
+use rpki_der::DecodeError;
+use std::alloc::{AllocError, Global};
+use std::fmt;
+use thiserror::Error;
+
+/// Why octets can't be read as a certificate, or as a revocation list.
+#[derive(Debug, Drop, Error)]
+pub enum Misread {
+    /// They begin with none: their reading stops at this place.
+    #[error("{fault}: {place}")]
+    Stopped { fault: DecodeError, place: Place },
+    #[error("out of memory")]
+    Memory,
+}
+
+impl Misread {
+    ghost use Rattle.std.specs.Prelude.{◌≡◌, ◌↔◌, IsTrue, Option};
+    ghost use Rattle.rpki_files.specs.Misreads.{place_told};
+    ghost use Rattle.rpki_files.specs.declared.decoding.Misread.TheVariants.{Memory};
+
+    /// Returns where reading stops, unless memory ran out.
+    pub fn place(&self) -> Option<Place>
+        ensures { result ≡ place_told self.now }
+    {
+        match self {
+            Misread::Stopped { place, .. } => Some(*place),
+            Misread::Memory => None,
+        }
+    }
+
+    /// Tells whether memory ran out.
+    pub fn is_memory(&self) -> bool
+        ensures { IsTrue result ↔ self.now ≡ Memory }
+    {
+        match self {
+            Misread::Stopped { .. } => false,
+            Misread::Memory => true,
+        }
+    }
+}
+
+impl From<AllocError> for Misread {
+    ghost use Rattle.std.specs.Prelude.{◌≡◌};
+    ghost use Rattle.rpki_files.specs.declared.decoding.Misread.TheVariants.{Memory};
+
+    ghost from_gives = { λ _ e. e ≡ Memory };
+
+    fn from(_error: AllocError) -> Misread {
+        Misread::Memory
+    }
+}
+
+/// Writes the part and the octet: "the serial number, from octet 15".
+impl fmt::Display for Place {
+    fn fmt<W: fmt::Write>(&self, f: &mut fmt::Formatter<W>) -> fmt::Result {
+        let field = self.field;
+        let octet = self.octet;
+        write!(f, "{field}, from octet {octet}")
+    }
+}
+
+impl fmt::Debug for Place {
+    fn fmt<W: fmt::Write>(&self, f: &mut fmt::Formatter<W>) -> fmt::Result {
+        write!(f, "Place({self})")
+    }
+}
+
+// Why octets can't be read that begin with none, for this fault.
+fn why_unread(alloc: Global, octets: &Bytes, is_list: bool, fault: DecodeError) -> Misread
+    requires { fault ≢ decoding.Memory → BeginsAsRead is_list octets.now → ⊥ }
+    ensures { IsMisread is_list octets.now result }
+{
+    if fault.is_memory() {
+        drop(fault);
+        return Misread::Memory;
+    }
+    match place_of(alloc, octets, is_list) {
+        Ok(place) => Misread::Stopped { fault, place },
+        Err(error) => {
+            drop(fault);
+            Misread::from(error)
+        }
+    }
+}
+
+/// Decodes the certificate at the start of the octets as [`Cert::decode_shared`] does, and ignores
+/// what follows. Errs where there is none, and tells where reading stops.
+pub fn decode_cert(alloc: Global, octets: &Bytes) -> Result<Cert, Misread>
+    ensures read { IfOk result (λ cert. Means IsCertificate cert octets.now) }
+    ensures misread { IfErr result (IsMisread false octets.now) }
+{
+    match certificate_in(alloc, octets) {
+        Ok((cert, _)) => Ok(cert),
+        Err(fault) => Err(why_unread(alloc, octets, false, fault)),
+    }
+}
+
+/// Decodes the revocation list at the start of the octets as [`Crl::decode_shared`] does, and
+/// ignores what follows. Errs where there is none, and tells where reading stops.
+pub fn decode_crl(alloc: Global, octets: &Bytes) -> Result<Crl, Misread>
+    ensures read { IfOk result (λ list. Means IsCertificateList list.list octets.now) }
+    ensures uncached { IfOk result (λ list. list.is_cached ≡ false) }
+    ensures misread { IfErr result (IsMisread true octets.now) }
+{
+    match list_in(alloc, octets) {
+        Ok((list, _)) => Ok(list),
+        Err(fault) => Err(why_unread(alloc, octets, true, fault)),
+    }
+}
