@@ -312,6 +312,28 @@ uint32_t rpki_list_issuer(const uint8_t *octets, size_t length, uint8_t *out, si
 uint32_t rpki_list_ask(const uint8_t *octets, size_t length, const uint8_t *serials,
                        size_t serials_length, uint8_t *answers, size_t count);
 
+/* ---- where reading stops */
+
+/* Tells where the reading of octets stops: what stands before was read, and from there on stands
+ * none of the part that has to come next. */
+struct rpki_stop {
+    uint32_t fault; /* is an RPKI_DECODE_ one, or RPKI_OK where the octets can be read */
+    uint64_t octet; /* is where that part has to begin; 0 where the octets can be read */
+};
+
+/* Numbers the texts about the part at which reading stops. */
+enum rpki_part_text {
+    RPKI_PART_NAME = 0,  /* its name: "the issuer" */
+    RPKI_PART_WANTED = 1 /* what has to stand there, and by which section: "a Name (RFC 5280 ..)" */
+};
+
+/* Tells where the reading of octets stops that begin with no certificate, where `is_list` is 0, or
+ * with no list, where it is any other number. Answers RPKI_OK, and writes into *stop the fault and
+ * the octet, and one text about the part there, an enum rpki_part_text. Octets that can be read
+ * have an empty text. Answers RPKI_BAD_CALL where no text has the number. */
+uint32_t rpki_stop_text(const uint8_t *octets, size_t length, uint32_t is_list, uint32_t which,
+                        struct rpki_stop *stop, uint8_t *out, size_t room, uint64_t *count);
+
 /* ---- paths */
 
 /* Holds strings of octets, which stand one behind the other, and the length of each. */

@@ -125,6 +125,62 @@ static void rooms(struct file cert, struct file list) {
     check(rpki_fault_sentence(RPKI_OK, NULL, 0, &count) == RPKI_OK && count > 0, "0 has a sentence");
 }
 
+/* what is told of octets that are read so: the fault, the octet and a text, which has this much room */
+static struct rpki_stop stop_of(const uint8_t *octets, size_t length, uint32_t is_list, uint32_t which,
+                                char *text, size_t room) {
+    struct rpki_stop stop = {7, 7};
+    uint64_t count = 7;
+    check(rpki_stop_text(octets, length, is_list, which, &stop, NULL, 0, &count) == RPKI_OK, "the text is counted");
+    uint64_t again = 7;
+    uint8_t *out = malloc(room > 0 ? room : 1);
+    memset(out, '.', room);
+    check(rpki_stop_text(octets, length, is_list, which, &stop, out, room, &again) == RPKI_OK && again == count,
+          "the count of a text doesn't depend on the room");
+    snprintf(text, 100, "%.*s", (int)room, (const char *)out);
+    check(count >= room || text[count] == '.', "nothing is written behind a text");
+    if (count < room) text[count] = 0;
+    free(out);
+    return stop;
+}
+
+/* where the reading of octets stops, by the form of a certificate (RFC 5280 4.1) and its lengths */
+static void stops(struct file cert, struct file list) {
+    char text[100];
+    struct rpki_stop it = stop_of(cert.octets, cert.length, 0, RPKI_PART_NAME, text, 90);
+    check(it.fault == RPKI_OK && it.octet == 0 && text[0] == 0, "a certificate that is read has no stop");
+    it = stop_of(list.octets, list.length, 7, RPKI_PART_WANTED, text, 90);
+    check(it.fault == RPKI_OK && it.octet == 0 && text[0] == 0, "a list that is read has no stop");
+    struct rpki_certificate read;
+    for (size_t length = 0; length < cert.length; length += length < 8 ? 1 : 97) {
+        uint8_t *octets = malloc(length > 0 ? length : 1);
+        memcpy(octets, cert.octets, length);
+        it = stop_of(octets, length, 0, RPKI_PART_NAME, text, 90);
+        check(it.fault == rpki_certificate_read(octets, length, &read) && it.octet == 0, "a cut certificate stops at 0");
+        check(strcmp(text, "the outer SEQUENCE") == 0, "its outer SEQUENCE is none");
+        free(octets);
+    }
+    it = stop_of(NULL, 0, 1, RPKI_PART_WANTED, text, 90);
+    check(is_decoding(it.fault) && it.octet == 0, "no octets are no list");
+    check(strcmp(text, "a SEQUENCE that ends within the file (RFC 5280 4.1, 5.1)") == 0, "a SEQUENCE is wanted");
+    /* 30 82 .. 30 82 .. a0 03 02 01 02, and then the serial number */
+    uint8_t *damaged = malloc(cert.length);
+    memcpy(damaged, cert.octets, cert.length);
+    check(damaged[13] == 2 && damaged[14] == 1, "the serial number is the INTEGER at 13");
+    damaged[15] = 0x80;
+    it = stop_of(damaged, cert.length, 0, RPKI_PART_NAME, text, 90);
+    check(it.fault == RPKI_DECODE_BAD_VALUE && it.octet == 13, "a negative serial number is none");
+    check(strcmp(text, "the serial number") == 0, "it is named");
+    it = stop_of(damaged, cert.length, 0, RPKI_PART_WANTED, text, 10);
+    check(it.octet == 13 && strcmp(text, "an INTEGER") == 0, "a text is cut");
+    it = stop_of(damaged, cert.length, 1, RPKI_PART_NAME, text, 90);
+    check(is_decoding(it.fault) && it.octet == 8 && strcmp(text, "the version") == 0, "a certificate is no list");
+    uint64_t count = 7;
+    check(rpki_stop_text(damaged, cert.length, 0, 2, &it, NULL, 0, &count) == RPKI_BAD_CALL && count == 0, "there is no text 2");
+    check(rpki_stop_text(cert.octets, cert.length, 0, UINT32_MAX, &it, NULL, 0, &count) == RPKI_BAD_CALL && count == 0,
+          "nor the last number");
+    free(damaged);
+}
+
 static struct rpki_strings strings(const uint8_t *octets, size_t length, const size_t *lengths, size_t count) {
     return (struct rpki_strings){octets, length, lengths, count};
 }
@@ -1636,6 +1692,7 @@ int main(int count, char **words) {
     cut_short(first, list);
     more(first);
     rooms(first, list);
+    stops(first, list);
     members(anchor);
     numbers();
     kinds(anchor, first, object);

@@ -114,6 +114,19 @@ static void print_answers(const uint8_t *octets, size_t length) {
         printf("of 2 and 3 revoked: %d, %d\n", answers[0], answers[1]);
 }
 
+/* Where the octets are no certificate. */
+static void print_stop(const uint8_t *octets, size_t length) {
+    struct rpki_stop stop;
+    uint8_t wanted[200];
+    uint64_t count;
+    uint32_t is_list = 0;
+    uint32_t answer = rpki_stop_text(octets, length, is_list, RPKI_PART_WANTED,
+                                     &stop, wanted, sizeof wanted, &count);
+    if (answer != RPKI_OK || stop.fault == RPKI_OK) return;
+    printf("reading stops at octet %d, where is wanted\n", (int)stop.octet);
+    printf("%.*s\n", (int)count, (const char *)wanted);
+}
+
 /* A locator says which of the strings is the trust anchor. */
 static void print_lines(struct rpki_strings strings, const uint8_t *locator,
                         size_t length) {
@@ -177,6 +190,7 @@ int main(void) {
     print_entries(list, length);
     print_issuer_length(list, length);
     print_answers(list, length);
+    print_stop(list, length);
     size_t lengths[] = {anchor, first, crl};
     struct rpki_strings strings = {octets, anchor + first + crl, lengths, 3};
     length = read_file("anchor.tal", locator, sizeof locator);

@@ -15,7 +15,7 @@ Calls; help(rpki.validate) says more of one:
 Exceptions. str(fault) is such as "member 2: certificate revoked (Revoked)":
 
     Fault                the base of all below: number, name, sentence, member, revocation_list
-    DecodeFault          the octets begin with no certificate, or no list
+    DecodeFault          the octets begin with no certificate, or no list: octet, field, wanted
     InspectionFault      the certificate doesn't meet the profile of its kind
     VerificationFault    it isn't valid at the moment, or not issued by the member above it
     RevocationFault      the lists don't show that it isn't revoked
@@ -120,6 +120,9 @@ __all__ = [
 
 # ---- faults
 
+# where reading stops: the octet, the name of the part there, and what is wanted
+_Stop = tuple[int, str, str]
+
 
 class Fault(Exception):
     """Why something is rejected.
@@ -132,6 +135,12 @@ class Fault(Exception):
         is a locator's or a list's.
     revocation_list: the place, among the lists that were given, of one that can't be read; else
         None.
+    octet: where the reading of a certificate or a list stops: what stands before this octet was
+        read, and from there on stands none of the part that has to come next. None of all faults
+        but a DecodeFault.
+    field: the name of that part, such as `the serial number`; else None.
+    wanted: what has to stand there, with the section that asks it, such as
+        `a Name (RFC 5280 4.1.2.4)`; else None.
 
     str() of it has place, sentence and name: `member 2: certificate revoked (Revoked)`. Without a
     place it begins with the sentence, and of a list that can't be read with `list 1: `.
@@ -142,22 +151,31 @@ class Fault(Exception):
     sentence: str
     member: int | None
     revocation_list: int | None
+    octet: int | None
+    field: str | None
+    wanted: str | None
 
     def __init__(
-        self, number: int, member: int | None = None, revocation_list: int | None = None
+        self,
+        number: int,
+        member: int | None = None,
+        revocation_list: int | None = None,
+        stop: _Stop | None = None,
     ) -> None:
         self.number = number
         self.name = raw.fault_name(number)
         self.sentence = raw.fault_sentence(number)
         self.member = member
         self.revocation_list = revocation_list
+        self.octet, self.field, self.wanted = stop or (None, None, None)
+        self._stop = stop
         places = [("member", member), ("list", revocation_list)]
         place = "".join(f"{what} {at}: " for what, at in places if at is not None)
         super().__init__(f"{place}{self.sentence} ({self.name})")
 
-    def __reduce__(self) -> tuple[type[Fault], tuple[int, int | None, int | None]]:
+    def __reduce__(self) -> tuple[type[Fault], tuple[int, int | None, int | None, _Stop | None]]:
         """Makes it anew of what it was made of, in another process too."""
-        return type(self), (self.number, self.member, self.revocation_list)
+        return type(self), (self.number, self.member, self.revocation_list, self._stop)
 
 
 class DecodeFault(Fault):
@@ -202,21 +220,52 @@ _FAULTS: dict[int, type[Fault]] = {
 }
 
 
-def _fault(number: int, member: int | None = None, revocation_list: int | None = None) -> Fault:
+def _fault(
+    number: int,
+    member: int | None = None,
+    revocation_list: int | None = None,
+    stop: _Stop | None = None,
+) -> Fault:
     """The exception of a fault."""
     kind = _FAULTS.get(number, _FAULTS.get(number // 100, Fault))
-    return kind(number, member, revocation_list)
+    return kind(number, member, revocation_list, stop)
 
 
-def _raise(fault: int, member: int | None = None, revocation_list: int | None = None) -> None:
-    """Raises the exception of a fault, where there is one."""
+def _stop(octets: bytes, is_list: bool) -> _Stop:
+    """Where the reading of octets stops that are no certificate, or no list."""
+    octet, field = raw.stop_text(octets, is_list, raw.PART_NAME)
+    return octet, field, raw.stop_text(octets, is_list, raw.PART_WANTED)[1]
+
+
+def _raise(
+    fault: int,
+    member: int | None = None,
+    revocation_list: int | None = None,
+    unread: tuple[bytes, bool] | None = None,
+) -> None:
+    """Raises the exception of a fault, where there is one: of reading these octets, or of another
+    kind. They are read as a list, or as a certificate."""
     if fault == raw.OK:
         return
     if fault == raw.MEMORY:
         raise MemoryError
     if fault == raw.BAD_CALL:
         raise ValueError("lengths or numbers of the call don't fit")
-    raise _fault(fault, member, revocation_list)
+    stop = _stop(*unread) if unread is not None and 100 <= fault < 300 else None
+    raise _fault(fault, member, revocation_list, stop)
+
+
+def _raise_at(fault: int, index: int, members: Sequence[bytes], lists: Sequence[bytes]) -> None:
+    """The same of a path of these members, or of one of these lists, which stand behind them."""
+    behind = index - len(members)
+    if fault // 100 == 7:
+        _raise(fault)
+    elif behind < 0:
+        _raise(fault, index, None, (members[index], False))
+    elif 100 <= fault < 300:
+        _raise(fault, None, behind, (lists[behind], True) if behind < len(lists) else None)
+    else:
+        _raise(fault, index)
 
 
 # ---- sets
@@ -380,7 +429,7 @@ class Certificate:
         try:
             self._read = raw.certificate(self.octets)
         except raw.Called as error:
-            _raise(error.fault)
+            _raise(error.fault, unread=(self.octets, False))
 
     def __repr__(self) -> str:
         return f"<rpki.Certificate {self.serial_number:X}>"
@@ -507,7 +556,7 @@ class RevocationList:
         try:
             self._read = raw.revocation_list(self.octets)
         except raw.Called as error:
-            _raise(error.fault)
+            _raise(error.fault, unread=(self.octets, True))
 
     def __repr__(self) -> str:
         return f"<rpki.RevocationList {self.number:X}>"
@@ -621,12 +670,7 @@ def validate(
     fault, index, held = raw.judge(asked)
     if fault == raw.BAD_CALL:
         raise ValueError(_why_no_path(len(all_members), Kind(last)))
-    if fault // 100 == 7:
-        _raise(fault)
-    elif index < len(all_members):
-        _raise(fault, index)
-    else:
-        _raise(fault, None, index - len(all_members))
+    _raise_at(fault, index, all_members, all_lists or ())
     if chain_names:
         _raise(*raw.names(all_members))
     return Resources(_ipv4(held[0]), _ipv6(held[1]), _as_numbers(held[2]))
@@ -791,16 +835,20 @@ _NO_CERTIFICATE = (
 )
 
 
-def _raise_issued(told: raw.Issued, members: int, no_call: str) -> None:
-    """Raises the exception of why nothing is issued below so many members, if there is one."""
+def _raise_issued(
+    told: raw.Issued,
+    issuers: Sequence[Octets | Certificate],
+    lists: Sequence[Octets | RevocationList] | None,
+    no_call: str,
+) -> None:
+    """Raises the exception of why nothing is issued by these, if there is one."""
     if told.fault == raw.BAD_CALL:
         raise ValueError(no_call)
     if told.fault == raw.BAD_URI:
         raise ValueError(f"the URI {raw.URIS[told.index]} isn't one")
-    of_list = 100 <= told.fault < 300 and told.index >= members
-    if of_list:
-        _raise(told.fault, None, told.index - members)
-    _raise(told.fault, told.index if told.fault // 100 != 7 else None)
+    # a list that can't be read stands behind the members, and so does what is issued
+    members = _all_octets(issuers, "issuers")
+    _raise_at(told.fault, told.index, members, _all_octets(lists or (), "lists"))
 
 
 def prepare(
@@ -855,7 +903,7 @@ def prepare(
         trims_resources,
     )
     told, octets = raw.prepare(asked)
-    _raise_issued(told, len(issuers), _NO_CERTIFICATE)
+    _raise_issued(told, issuers, lists, _NO_CERTIFICATE)
     return octets
 
 
@@ -884,7 +932,7 @@ def complete(
         _bytes(signature, "signature"),
     )
     told, octets = raw.complete(asked)
-    _raise_issued(told, len(issuers), _NO_CERTIFICATE)
+    _raise_issued(told, issuers, lists, _NO_CERTIFICATE)
     return Certificate(octets)
 
 
@@ -943,7 +991,7 @@ def prepare_list(
         _list_number(number or 0, "the number of a list"),
     )
     told, octets = raw.prepare_list(asked)
-    _raise_issued(told, len(issuers), _NO_LIST)
+    _raise_issued(told, issuers, lists, _NO_LIST)
     return octets
 
 
@@ -970,5 +1018,5 @@ def complete_list(
         _bytes(signature, "signature"),
     )
     told, octets = raw.complete_list(asked)
-    _raise_issued(told, len(issuers), _NO_LIST)
+    _raise_issued(told, issuers, lists, _NO_LIST)
     return RevocationList(octets)

@@ -15,6 +15,8 @@ BAD_URI = 802
 MISSING, INHERITED, LISTED = 0, 1, 2
 # enum rpki_ended
 WHOLE = 1
+# enum rpki_part_text
+PART_NAME, PART_WANTED = 0, 1
 # enum rpki_uri
 URIS = ("ca_issuer", "crl", "repository", "manifest", "signed_object", "notify")
 
@@ -65,6 +67,12 @@ class Entry(ctypes.Structure):
     """struct rpki_entry"""
 
     _fields_ = [("date", Time), ("serial", c_uint8 * 20)]
+
+
+class Stop(ctypes.Structure):
+    """struct rpki_stop"""
+
+    _fields_ = [("fault", c_uint32), ("octet", c_uint64)]
 
 
 class Strings(ctypes.Structure):
@@ -376,6 +384,15 @@ def is_revoked(octets: bytes, serial: bytes) -> bool:
     answer = (c_uint8 * 1)()
     call(lib.rpki_list_ask, *octets_of(octets), *octets_of(serial), answer, c_size_t(1))
     return bool(answer[0])
+
+
+def stop_text(octets: bytes, is_list: bool, which: int) -> tuple[int, str]:
+    """At which octet the reading of octets stops that are no certificate, or no list, and a text of
+    the part there."""
+    stop = Stop()
+    numbers = c_uint32(is_list), c_uint32(which)
+    text = bytes_of(lib.rpki_stop_text, *octets_of(octets), *numbers, ctypes.byref(stop))
+    return stop.octet, text.decode("ascii")
 
 
 Held = tuple[list[IpRange], list[IpRange], list[AsRange]]

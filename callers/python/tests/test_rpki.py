@@ -251,6 +251,7 @@ class Paths(unittest.TestCase):
     def test_faults_go_between_processes(self) -> None:
         faults = [rpki.VerificationFault(408, 2), rpki.DecodeFault(102, None, 1), rpki.Fault(700)]
         for it in faults:
+            self.assertEqual((it.octet, it.field, it.wanted), (None, None, None))
             for again in (pickle.loads(pickle.dumps(it)), copy.copy(it)):
                 self.assertEqual((type(again), str(again)), (type(it), str(it)))
                 self.assertEqual(vars(again), vars(it))
@@ -260,6 +261,32 @@ class Paths(unittest.TestCase):
             lists = [self.lists[0], self.members[0]]
             validate(self.members[:2], last=Kind.AUTHORITY, lists=lists, at=self.noon)
         self.assertEqual((caught.exception.member, caught.exception.revocation_list), (None, 1))
+        self.assertEqual((caught.exception.octet, caught.exception.field), (8, "the version"))
+
+    def test_where_reading_stops(self) -> None:
+        cert = octets("first.cer")
+        # 30 82 .. 30 82 .. a0 03 02 01 02, and then the serial number: 02 01 02
+        self.assertEqual(cert[13:16], b"\x02\x01\x02")
+        damaged = cert[:15] + b"\x80" + cert[16:]
+        read: list[tuple[type[Certificate] | type[RevocationList], bytes, int, str]] = [
+            (Certificate, damaged, 13, "the serial number"),
+            (Certificate, cert[:-1], 0, "the outer SEQUENCE"),
+            (Certificate, b"", 0, "the outer SEQUENCE"),
+            (RevocationList, cert, 8, "the version"),
+        ]
+        for kind, given, octet, field in read:
+            with self.assertRaises(rpki.DecodeFault) as caught:
+                kind(given)
+            fault = caught.exception
+            self.assertEqual((fault.octet, fault.field), (octet, field))
+            again = pickle.loads(pickle.dumps(fault))
+            self.assertEqual(vars(again), vars(fault))
+        with self.assertRaises(rpki.DecodeFault) as caught:
+            path = [self.members[0], damaged]
+            validate(path, last=Kind.AUTHORITY, lists=None, at=self.noon)
+        fault = caught.exception
+        wanted = "an INTEGER that isn't negative, of 20 octets at most (RFC 5280 4.1.2.2)"
+        self.assertEqual((fault.member, fault.octet, fault.wanted), (1, 13, wanted))
 
     def test_lists_are_asked_for(self) -> None:
         without: Any = validate

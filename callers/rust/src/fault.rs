@@ -67,39 +67,87 @@ pub enum Place {
     List(usize),
 }
 
+/// Where the reading of octets stops.
+#[derive(Clone, PartialEq, Eq, Hash)]
+struct Stop {
+    octet: usize,
+    field: String,
+    wanted: String,
+}
+
+impl Stop {
+    fn of(it: sys::Stop) -> Stop {
+        Stop {
+            octet: it.octet,
+            field: text(Ok(it.field)),
+            wanted: text(Ok(it.wanted)),
+        }
+    }
+}
+
 /// Why something is rejected. Displayed it has place, sentence and name: `member 2: certificate
 /// revoked (Revoked)`, or `list 1: truncated value (Truncated)`; without a place it begins with the
 /// sentence. Of `FaultKind::BadCall` it is a sentence alone.
-#[derive(Clone, Copy, PartialEq, Eq, Hash)]
+#[derive(Clone, PartialEq, Eq, Hash)]
 pub struct Fault {
     number: u32,
     place: Option<Place>,
+    stop: Option<Stop>,
 }
 
 impl Fault {
     pub(crate) fn new(number: u32) -> Fault {
+        Fault::at(number, None)
+    }
+
+    fn at(number: u32, place: Option<Place>) -> Fault {
         Fault {
             number,
-            place: None,
+            place,
+            stop: None,
         }
     }
 
-    pub(crate) fn of_path(number: u32, index: usize, members: usize) -> Fault {
-        let place = match index.checked_sub(members) {
-            _ if number == sys::MEMORY || number == sys::BAD_CALL || number / 100 == 7 => None,
-            None => Some(Place::Member(index)),
-            Some(list) => Some(Place::List(list)),
-        };
-        Fault { number, place }
+    // Of octets that are read as a certificate, or as a list.
+    pub(crate) fn of_reading(number: u32, octets: &[u8], is_list: bool) -> Fault {
+        Fault::new(number).with_stop(octets, is_list)
     }
 
-    // Of what is issued below so many members, or of one of them.
-    pub(crate) fn of_issued(number: u32, index: usize, members: usize) -> Fault {
+    // With where reading stops, if that is the fault.
+    fn with_stop(mut self, octets: &[u8], is_list: bool) -> Fault {
+        if self.kind() == FaultKind::Decode {
+            let stop = sys::stop(octets, is_list).unwrap_or_default();
+            self.stop = stop.map(Stop::of);
+        }
+        self
+    }
+
+    // Of a path of these members, or of one of these lists, which stand behind them.
+    pub(crate) fn of_path(number: u32, index: usize, members: &[&[u8]], lists: &[&[u8]]) -> Fault {
+        if number == sys::MEMORY || number == sys::BAD_CALL || number / 100 == 7 {
+            return Fault::new(number);
+        }
+        match index.checked_sub(members.len()) {
+            None => Fault::at(number, Some(Place::Member(index))).with_stop(members[index], false),
+            Some(list) => {
+                let octets = lists.get(list).copied().unwrap_or_default();
+                Fault::at(number, Some(Place::List(list))).with_stop(octets, true)
+            }
+        }
+    }
+
+    // Of what is issued below these members, of one of them, or of one of these lists.
+    pub(crate) fn of_issued(
+        number: u32,
+        index: usize,
+        members: &[&[u8]],
+        lists: &[&[u8]],
+    ) -> Fault {
         match number {
-            sys::BAD_URI => Fault::new(number),
+            sys::MEMORY | sys::BAD_CALL | sys::BAD_URI | 700..=799 => Fault::new(number),
             // a list that can't be read stands behind the members
-            100..=299 => Fault::of_path(number, index, members),
-            _ => Fault::of_path(number, index, usize::MAX),
+            100..=299 => Fault::of_path(number, index, members, lists),
+            _ => Fault::at(number, Some(Place::Member(index))),
         }
     }
 
@@ -108,7 +156,7 @@ impl Fault {
         let place = (100..600)
             .contains(&number)
             .then_some(Place::Member(anchor));
-        Fault { number, place }
+        Fault::at(number, place)
     }
 
     /// Returns the number, of `enum rpki_fault` of rpki.h. It tells the fault from all others, and
@@ -121,6 +169,23 @@ impl Fault {
     /// that can't be read there is none.
     pub fn place(&self) -> Option<Place> {
         self.place
+    }
+
+    /// Returns at which octet reading stops, of a fault of `FaultKind::Decode`: what stands before was
+    /// read, and from there on stands none of the part that has to come next.
+    pub fn octet(&self) -> Option<usize> {
+        self.stop.as_ref().map(|stop| stop.octet)
+    }
+
+    /// Returns the name of that part, such as `the serial number`.
+    pub fn field(&self) -> Option<&str> {
+        self.stop.as_ref().map(|stop| stop.field.as_str())
+    }
+
+    /// Returns what has to stand there, with the section that asks it, such as `a Name (RFC 5280
+    /// 4.1.2.4)`.
+    pub fn wanted(&self) -> Option<&str> {
+        self.stop.as_ref().map(|stop| stop.wanted.as_str())
     }
 
     /// Tells what it is about.

@@ -2,7 +2,7 @@
 use crate::{check_library, slices, sys, Fault, Moment};
 
 /// What became of one of the octets of a folder.
-#[derive(Clone, Copy, Debug, PartialEq, Eq, Hash)]
+#[derive(Clone, Debug, PartialEq, Eq, Hash)]
 pub enum Line {
     /// A certificate that no accepted CA signed, or that a bound kept from being judged.
     Unseen,

@@ -157,6 +157,12 @@ impl<'a> Issuer<'a> {
         }
     }
 
+    // A number and an index, of what is issued or of who issues.
+    fn fault(&self, (number, index): (u32, usize)) -> Fault {
+        let lists = self.lists.as_deref().unwrap_or_default();
+        Fault::of_issued(number, index, &self.path, lists)
+    }
+
     /// Prepares a certificate for its signature: returns what the issuer's key has to sign
     /// (RSASSA-PKCS1-v1_5 with SHA-256, RFC 7935). All is checked that its validators will check, but
     /// for the signature. Errs with the fault of a member of the path, or of the certificate behind
@@ -180,7 +186,7 @@ impl<'a> Issuer<'a> {
             kind: wanted.kind as u32,
             trims: wanted.trims_resources,
         };
-        sys::prepare(&asked).map_err(|it| Fault::of_issued(it.0, it.1, self.path.len()))
+        sys::prepare(&asked).map_err(|it| self.fault(it))
     }
 
     /// Completes what was prepared by its signature: returns the certificate, exactly where the
@@ -198,8 +204,7 @@ impl<'a> Issuer<'a> {
             signature,
             kind: kind as u32,
         };
-        let octets =
-            sys::complete(&asked).map_err(|it| Fault::of_issued(it.0, it.1, self.path.len()))?;
+        let octets = sys::complete(&asked).map_err(|it| self.fault(it))?;
         Certificate::read(&octets)
     }
     /// Prepares the issuer's next revocation list for its signature, or its first one: returns what
@@ -219,7 +224,7 @@ impl<'a> Issuer<'a> {
             next_update: wanted.next_update.0,
             number: wanted.number.unwrap_or_default(),
         };
-        sys::prepare_list(&asked).map_err(|it| Fault::of_issued(it.0, it.1, self.path.len()))
+        sys::prepare_list(&asked).map_err(|it| self.fault(it))
     }
 
     /// Completes what was prepared of a list by its signature: returns the list, exactly where the
@@ -235,8 +240,7 @@ impl<'a> Issuer<'a> {
             prepared,
             signature,
         };
-        let octets = sys::complete_list(&asked)
-            .map_err(|it| Fault::of_issued(it.0, it.1, self.path.len()))?;
+        let octets = sys::complete_list(&asked).map_err(|it| self.fault(it))?;
         RevocationList::read(&octets)
     }
 }

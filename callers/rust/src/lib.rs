@@ -182,7 +182,8 @@ impl Certificate {
     /// Reads the certificate that the octets begin with. What follows it is ignored.
     pub fn read(octets: &[u8]) -> Result<Certificate, Fault> {
         check_library();
-        let read = sys::certificate(octets).map_err(Fault::new)?;
+        let of_reading = |number| Fault::of_reading(number, octets, false);
+        let read = sys::certificate(octets).map_err(of_reading)?;
         Ok(Certificate {
             octets: octets.to_vec(),
             read,
@@ -305,7 +306,8 @@ impl RevocationList {
     /// Reads the list that the octets begin with. What follows it is ignored.
     pub fn read(octets: &[u8]) -> Result<RevocationList, Fault> {
         check_library();
-        let read = sys::list(octets).map_err(Fault::new)?;
+        let of_reading = |number| Fault::of_reading(number, octets, true);
+        let read = sys::list(octets).map_err(of_reading)?;
         Ok(RevocationList {
             octets: octets.to_vec(),
             read,
@@ -476,7 +478,10 @@ impl<'a> Path<'a> {
             strict: self.strict,
             now: now.0,
         };
-        let of_path = |(number, index)| Fault::of_path(number, index, self.members.len());
+        let of_path = |(number, index)| {
+            let lists = question.lists.unwrap_or_default();
+            Fault::of_path(number, index, &self.members, lists)
+        };
         let held = sys::judge(&question).map_err(of_path)?;
         if self.chain_names {
             sys::names(&self.members).map_err(of_path)?;

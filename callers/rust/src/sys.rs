@@ -1,6 +1,7 @@
 //! The calls of librpki as rpki.h declares them. All that knows the library's interface, and all that
 //! is unsafe, stands here: each function below hands over pointers with the lengths of their own
 //! slices, and what is written overlaps nothing else of the call.
+use std::cell::Cell;
 use std::mem::size_of;
 use std::ptr;
 
@@ -18,6 +19,9 @@ pub const LIST: u32 = 4;
 pub const NEITHER: u32 = 5;
 /// RPKI_WHOLE of rpki.h.
 pub const WHOLE: u32 = 1;
+/// enum rpki_part_text of rpki.h.
+const PART_NAME: u32 = 0;
+const PART_WANTED: u32 = 1;
 
 #[repr(C)]
 #[derive(Clone, Copy, Debug, Default, PartialEq, Eq)]
@@ -77,6 +81,13 @@ pub struct List {
 pub struct Entry {
     pub date: Time,
     pub serial: [u8; 20],
+}
+
+#[repr(C)]
+#[derive(Clone, Copy, Default)]
+struct CStop {
+    fault: u32,
+    octet: u64,
 }
 
 /// Strings of octets, as the library takes them.
@@ -286,6 +297,16 @@ extern "C" {
         answers: *mut u8,
         count: usize,
     ) -> u32;
+    fn rpki_stop_text(
+        octets: *const u8,
+        length: usize,
+        is_list: u32,
+        which: u32,
+        stop: *mut CStop,
+        out: *mut u8,
+        room: usize,
+        count: *mut u64,
+    ) -> u32;
     fn rpki_path_validate(question: *const CQuestion, room: *mut Room, out: *mut Verdict) -> u32;
     fn rpki_path_names(members: *const CStrings, place: *mut u64) -> u32;
     fn rpki_folder_judge(
@@ -404,6 +425,32 @@ pub fn is_revoked(octets: &[u8], serial: &[u8; 20]) -> Called<bool> {
     let (at, length) = (octets.as_ptr(), octets.len());
     let fault = unsafe { rpki_list_ask(at, length, serial.as_ptr(), 20, &mut answer, 1) };
     answered(fault, answer != 0)
+}
+
+/// Where the reading of octets stops, and the texts about the part there.
+pub struct Stop {
+    pub octet: usize,
+    pub field: Vec<u8>,
+    pub wanted: Vec<u8>,
+}
+
+/// Where the reading of octets stops as a certificate, or as a list; nowhere where they are one.
+pub fn stop(octets: &[u8], is_list: bool) -> Called<Option<Stop>> {
+    let (at, length) = (octets.as_ptr(), octets.len());
+    let stop = Cell::new(CStop::default());
+    let text = |which| {
+        all_of(|out, room, count| unsafe {
+            let is_list = is_list.into();
+            rpki_stop_text(at, length, is_list, which, stop.as_ptr(), out, room, count)
+        })
+    };
+    let (field, wanted) = (text(PART_NAME)?, text(PART_WANTED)?);
+    let CStop { fault, octet } = stop.get();
+    Ok((fault != OK).then_some(Stop {
+        octet: octet as usize,
+        field,
+        wanted,
+    }))
 }
 
 /// Octets that stand one behind the other, and their lengths.

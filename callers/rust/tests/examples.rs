@@ -96,12 +96,49 @@ fn other_octets_are_rejected() {
         shown,
         r#"Fault { number: 100, name: "Truncated", place: None }"#
     );
+    assert_eq!((fault.octet(), fault.field()), (Some(0), Some(OUTER)));
     let ee = Certificate::read(&octets("object.cer")).unwrap();
     assert!(ee.inspect(Kind::EndEntity, true).is_ok());
     assert!(ee.inspect(Kind::Detached, true).is_ok());
     let fault = ee.inspect(Kind::Authority, true).unwrap_err();
     assert_eq!(fault.kind(), FaultKind::Inspection);
     assert_eq!(fault.name(), "MissingBasicConstraints");
+    let nowhere = (fault.octet(), fault.field(), fault.wanted());
+    assert_eq!(nowhere, (None, None, None));
+}
+
+const OUTER: &str = "the outer SEQUENCE";
+const SERIAL: &str = "the serial number";
+
+#[test]
+fn where_reading_stops_is_told() {
+    let stop = |fault: Fault| (fault.octet().unwrap(), fault.field().unwrap().to_owned());
+    let cert = octets("first.cer");
+    // 30 82 .. 30 82 .. a0 03 02 01 02, and then the serial number: 02 01 02
+    assert_eq!(cert[13..16], [2, 1, 2]);
+    let mut damaged = cert.clone();
+    damaged[15] = 0x80;
+    let fault = Certificate::read(&damaged).unwrap_err();
+    let wanted = "an INTEGER that isn't negative, of 20 octets at most (RFC 5280 4.1.2.2)";
+    assert_eq!(fault.wanted(), Some(wanted));
+    assert_eq!(stop(fault), (13, SERIAL.to_owned()));
+    let cut = &cert[..cert.len() - 1];
+    let fault = Certificate::read(cut).unwrap_err();
+    assert_eq!(stop(fault), (0, OUTER.to_owned()));
+    // of a path, and of its lists
+    let (members, lists) = example();
+    let path = Path::new(
+        [&members[0], &damaged],
+        Kind::Authority,
+        Revocation::NotAsked,
+    );
+    let fault = rejected(&path, NOON, "BadValue", Some(Place::Member(1)));
+    assert_eq!(stop(fault), (13, SERIAL.to_owned()));
+    let asked = Revocation::by_lists([&lists[0], &members[0]]);
+    let path = Path::new(&members[..2], Kind::Authority, asked);
+    let fault = path.validate(at(NOON)).unwrap_err();
+    assert_eq!(fault.place(), Some(Place::List(1)));
+    assert_eq!(stop(fault), (8, "the version".to_owned()));
 }
 
 #[test]
@@ -204,7 +241,7 @@ fn folders_are_judged() {
     let it = judged(&names, |folder| folder);
     assert!(it.is_whole && it.anchor == 2);
     let accepted = |step, issuer| Line::Accepted { step, issuer };
-    let Line::Rejected { step: 2, fault } = it.lines[4] else {
+    let Line::Rejected { step: 2, fault } = it.lines[4].clone() else {
         panic!("{:?}", it.lines[4]);
     };
     assert_eq!(

@@ -11,6 +11,7 @@ pub mod IssuedTelling
 pub mod ListAnswers
 pub mod Questions
 pub mod SignaturePlaces
+pub mod StopTelling
 pub mod Strings
 pub mod Telling
 pub mod TimeParts

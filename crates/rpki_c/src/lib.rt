@@ -29,6 +29,7 @@ mod refusal;
 mod signatures;
 mod sorting;
 mod spans;
+mod stops;
 mod strings;
 mod telling;
 mod unissued;

@@ -1,0 +1,175 @@
+//! Where the reading of octets stops, for C.
+ghost use Rattle.std.specs.Prelude.{◌≡◌, ◌≢◌, ◌<◌, ◌↔◌, ◌==◌, not, false, true, Bool, ℕ, List, IsNone, IsErr, IfOk, IfSome};
+ghost use Rattle.rpki_files.specs.Misreads.{BeginsAsRead, IsMisread};
+ghost use Rattle.rpki_c.specs.StopTelling.{TellsStop, place_text, text_number};
+ghost use Rattle.rpki_c.specs.declared.stops.PartText.{PartText as texts};
+
+use crate::copying::put_octets;
+use crate::faults::{BAD_CALL, MEMORY, NONE, of_decoding};
+use bytes::Bytes;
+use rpki_files::{Misread, Place, decode_cert, decode_crl};
+use std::alloc::{AllocError, Global};
+
+/// Where the reading of octets stops.
+#[repr(C)]
+#[derive(Clone, Copy)]
+pub struct RpkiStop {
+    /// 0 where they are read; else the number of the fault.
+    pub fault: u32,
+    /// The octet at which reading stops.
+    pub octet: u64,
+}
+
+/// A text of the part at which reading stops.
+#[derive(Clone, Copy)]
+enum PartText {
+    Name,
+    Wanted,
+}
+
+// The text that the header numbers so.
+fn text_numbered(number: u32) -> Option<PartText>
+    ensures none { IsNone result ↔ 1 < number }
+    ensures text { IfSome result (λ which. number ≡ text_number which) }
+{
+    match number {
+        0 => Some(PartText::Name),
+        1 => Some(PartText::Wanted),
+        _ => None,
+    }
+}
+
+fn text_of(place: Place, which: PartText) -> &'static str
+    ensures { result.now ≡ place_text which place }
+{
+    match which {
+        PartText::Name => place.field,
+        PartText::Wanted => place.wanted,
+    }
+}
+
+// Why octets can't be read as a certificate, if they can't.
+fn certificate_unread(alloc: Global, octets: &Bytes) -> Option<Misread>
+    ensures begins { IsNone result → BeginsAsRead false octets.now }
+    ensures misread { IfSome result (IsMisread false octets.now) }
+{
+    match decode_cert(alloc, octets) {
+        Ok(cert) => {
+            drop(cert);
+            None
+        }
+        Err(why) => Some(why),
+    }
+}
+
+// Why octets can't be read as a list, if they can't.
+fn list_unread(alloc: Global, octets: &Bytes) -> Option<Misread>
+    ensures begins { IsNone result → BeginsAsRead true octets.now }
+    ensures misread { IfSome result (IsMisread true octets.now) }
+{
+    match decode_crl(alloc, octets) {
+        Ok(list) => {
+            drop(list);
+            None
+        }
+        Err(why) => Some(why),
+    }
+}
+
+// Why octets can't be read as a certificate, or as a list, if they can't.
+fn why_unread(alloc: Global, octets: &Bytes, is_list: bool) -> Option<Misread>
+    ensures begins { IsNone result → BeginsAsRead is_list octets.now }
+    ensures misread { IfSome result (IsMisread is_list octets.now) }
+{
+    if is_list {
+        list_unread(alloc, octets)
+    } else {
+        certificate_unread(alloc, octets)
+    }
+}
+
+// Tells where reading stops, and writes a text of the part there, whose octets it counts.
+fn put_stop(
+    why: Option<Misread>,
+    which: PartText,
+    stop: &mut RpkiStop,
+    out: &mut [u8],
+) -> Result<u64, AllocError>
+    ensures told { (is_list : Bool) (octets : List ℕ) → (IsNone why → BeginsAsRead is_list octets)
+        → IfSome why (IsMisread is_list octets) → IfOk result (λ count.
+        TellsStop is_list which octets stop.new out.old out.new count) }
+    ensures untouched { IsErr result → out.new ≡ out.old }
+{
+    match why {
+        None => {
+            *stop = RpkiStop {
+                fault: NONE,
+                octet: 0,
+            };
+            Ok(0)
+        }
+        Some(Misread::Stopped { fault, place }) => {
+            *stop = RpkiStop {
+                fault: of_decoding(&fault),
+                octet: place.octet as u64,
+            };
+            drop(fault);
+            Ok(put_octets(text_of(place, which).as_bytes(), out))
+        }
+        Some(Misread::Memory) => Err(AllocError),
+    }
+}
+
+// Tells so of octets that are read as a certificate, or as a list.
+fn told(
+    alloc: Global,
+    octets: &[u8],
+    is_list: bool,
+    which: PartText,
+    stop: &mut RpkiStop,
+    out: &mut [u8],
+) -> Result<u64, AllocError>
+    ensures told { IfOk result (λ count.
+        TellsStop is_list which octets.now stop.new out.old out.new count) }
+    ensures untouched { IsErr result → out.new ≡ out.old }
+{
+    let octets = Bytes::copy_from_slice(alloc, octets)?;
+    let why = why_unread(alloc, &octets, is_list);
+    drop(octets);
+    put_stop(why, which, stop, out)
+}
+
+/// Tells where the reading of octets stops that begin with no certificate, or, where `is_list`
+/// isn't 0, with no list: the fault and the octet, and a text of the part there, 0 its name, 1 what
+/// is wanted. Writes as many octets as there is room for, and in `count` how many there are; 0
+/// where they begin with one. Answers 0, or the number of a fault: 2 where `which` is another
+/// number.
+#[unsafe(no_mangle)]
+pub extern "C" fn rpki_stop_text(
+    alloc: Global,
+    octets: &[u8],
+    is_list: u32,
+    which: u32,
+    stop: &mut RpkiStop,
+    out: &mut [u8],
+    count: &mut u64,
+) -> u32
+    ensures bad_call { (result ≡ BAD_CALL) ↔ 1 < which }
+    ensures told { result ≡ NONE → (w : texts) × (which ≡ text_number w)
+        × TellsStop (not (is_list == 0)) w octets.now stop.new out.old out.new count.new }
+    ensures fault { result ≢ NONE → result ≢ BAD_CALL → result ≡ MEMORY }
+    ensures at_fault { result ≢ NONE → count.new ≡ 0 }
+    ensures untouched { result ≢ NONE → out.new ≡ out.old }
+{
+    *count = 0;
+    let Some(which) = text_numbered(which) else {
+        return BAD_CALL;
+    };
+    match told(alloc, octets, is_list != 0, which, stop, out) {
+        Ok(length) => {
+            *count = length;
+            NONE
+        }
+        Err(_) => MEMORY,
+    }
+}
