@@ -7,6 +7,7 @@ ghost use Rattle.std.specs.Fmt.{decimal};
 ghost use Rattle.rpki_verdicts.specs.PathAnswers.{reason_of};
 ghost use Rattle.rpki_verdicts.specs.Trees.{asked_of};
 ghost use Rattle.rpki_verdicts.specs.declared.unordered.TreeAnswer.TheVariants.{Walked};
+ghost use Rattle.rpki_answers.specs.ShownTexts.{left_text};
 ghost use Rattle.rpki_answers.specs.TreeTexts.{AreFileLines, IsAnswerText, IsFileLine, IsTreeText, SaysOfCertificate, SaysOfFile, SaysOfFront, SaysOfLine, accepted_text, behind_text, end_text, ended_text, file_line, further_text, name_text_at, rejection_text};
 ghost use Rattle.rpki_answers.specs.VerdictTexts.{locators_text, moment_line, no_locator_text};
 
@@ -127,13 +128,20 @@ fn print_front(page: &mut Page, tree: &Tree<'_, '_>, place: usize, file: &BareOb
     }
 }
 
+// That so many octets stand behind it.
+fn print_left(page: &mut Page, left: usize)
+    ensures { Appends page.old (codes ", after its end " ++ left_text left) page.new }
+{
+    page.text(", after its end ");
+    left_over(page, left);
+}
+
 // That so many octets stand behind it, where some do.
 fn print_behind(page: &mut Page, left: usize)
     ensures { Appends page.old (behind_text left) page.new }
 {
     if left > 0 {
-        page.text(", after its end ");
-        left_over(page, left);
+        print_left(page, left);
     }
 }
 
