@@ -6,4 +6,4 @@ pub returns-clause-said : goal.returns-clause-said
 returns-clause-said c =
     let said = c.in_ok-next.ensures.said in
     let put = then_put _ _ _ _ _ said.2 c.in_ok-left.ensures in
-    (_, (said.0, c.left-2.result, said.1, c.left-2.ensures, refl), put)
+    (_, (said.0, c.left.result, said.1, c.left.ensures, refl), put)
