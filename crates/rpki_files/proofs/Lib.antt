@@ -7,9 +7,9 @@ mod FlawReads
 mod FoundFlaws
 pub mod FoundPolicies
 pub mod NothingRead
+mod NumberedTimes
 mod PemLines
 mod KindsSeen
-mod SpelledTimes
 mod StopWalks
 mod StopsWithin
 mod ToldPlaces

@@ -15,7 +15,7 @@ use Rattle.rpki_files.specs.declared.flaws.VersionFlaw.TheVariants as version
 -- the text beside a number, or another one where it stands nowhere
 abbrev pub text_among : List (ℕ × List ℕ) → List ℕ → ℕ → List ℕ
 text_among [] other n = other
-text_among (row ∷ rows) other n = if n == row.0 then row.1 else text_among rows other n
+text_among (named ∷ more) other n = if n == named.0 then named.1 else text_among more other n
 
 -- values of the universal types of X.680, by their identifier octet
 abbrev pub universal_values : List (ℕ × List ℕ)

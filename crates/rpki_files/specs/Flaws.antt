@@ -87,7 +87,7 @@ pub record HasTwoDigits (m : Moment) : Type 0 where
   pub second : m.second < 100
 
 -- the numbers stand here as UTCTime or GeneralizedTime, to the second and with Z (X.690 11.7, 11.8)
-pub record IsSpelled (m : Moment) (b : List ℕ) : Type 0 where
+pub record HasNumbers (m : Moment) (b : List ℕ) : Type 0 where
   pub year : m.year < 10000
   pub digits : HasTwoDigits m
   pub encoded : IsUtcTime m b ⊎ IsGeneralizedTime m b
@@ -101,10 +101,10 @@ IsOut m time.Hour = 23 < m.hour
 IsOut m time.Minute = 59 < m.minute
 IsOut m time.Second = 59 < m.second
 
--- of a time that stands first: no numbers are spelled, or one of those is out
+-- of a time that stands first: it has no numbers, or one of them is out
 abbrev pub IsTimeFlaw : List ℕ → TimeFlaw → Type 0
-IsTimeFlaw octets time.Form = (m : Moment) → Means IsSpelled m octets → ⊥
-IsTimeFlaw octets f = (m : Moment) × Means IsSpelled m octets × IsOut m f
+IsTimeFlaw octets time.Form = (m : Moment) → Means HasNumbers m octets → ⊥
+IsTimeFlaw octets f = (m : Moment) × Means HasNumbers m octets × IsOut m f
 
 -- of the second of two times, behind one that exists
 abbrev pub IsSecondTimeFlaw : List ℕ → TimeFlaw → Type 0

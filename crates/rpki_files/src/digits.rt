@@ -1,10 +1,10 @@
-//! The numbers that a time spells.
+//! The numbers of a time.
 ghost use Rattle.std.specs.Prelude.{◌≡◌, ◌≤◌, ◌<◌, ◌+◌, ◌%◌, ◌/◌, ◌++◌, ℕ, List, if◌then◌else◌, nat_lt, IfNone, IfSome};
 ghost use Rattle.rpki_der.specs.Encoding.{Means};
 ghost use Rattle.rpki_der.specs.Place.{remaining};
 ghost use Rattle.rpki_der.specs.Times.{IsGeneralizedTime, Moment, after_year, two};
 ghost use Rattle.rpki_der.specs.Times.Reading.{full_year};
-ghost use Rattle.rpki_files.specs.Flaws.{HasTwoDigits, IsSpelled, numbered};
+ghost use Rattle.rpki_files.specs.Flaws.{HasTwoDigits, HasNumbers, numbered};
 
 use rpki_der::{Cursor, tag};
 
@@ -109,9 +109,9 @@ fn generalized(at: &Cursor<'_>) -> Option<TimeNumbers>
 }
 
 // The numbers of the time that stands next, whether there is such a time or not.
-pub(crate) fn spelled(at: &Cursor<'_>) -> Option<TimeNumbers>
-    ensures some { IfSome result (λ n. Means IsSpelled (numbered n) (remaining at.now)) }
-    ensures none { IfNone result ((m : Moment) → Means IsSpelled m (remaining at.now) → ⊥) }
+pub(crate) fn numbers_at(at: &Cursor<'_>) -> Option<TimeNumbers>
+    ensures some { IfSome result (λ n. Means HasNumbers (numbered n) (remaining at.now)) }
+    ensures none { IfNone result ((m : Moment) → Means HasNumbers m (remaining at.now) → ⊥) }
 {
     let mut ahead = at.fork();
     match ahead.take_value(tag::UTC_TIME) {

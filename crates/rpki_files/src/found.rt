@@ -12,7 +12,7 @@ ghost use Rattle.rpki_files.specs.declared.expected.Field.TheVariants as field;
 ghost use Rattle.rpki_files.specs.declared.flaws.ExtensionFlaw.TheVariants.{Critical, NotCritical};
 ghost use Rattle.rpki_files.specs.declared.flaws.Flaw.TheVariants as flaw;
 
-use crate::digits::{TimeNumbers, spelled};
+use crate::digits::{TimeNumbers, numbers_at};
 use crate::expected::{Field, Part};
 use crate::flaws::{ExtensionFlaw, Flaw, SerialFlaw, TimeFlaw, VersionFlaw};
 use crate::kinds::Kind;
@@ -235,7 +235,7 @@ fn out_of_range(n: TimeNumbers) -> Option<TimeFlaw>
 fn in_time(at: &Cursor<'_>) -> Option<TimeFlaw>
     ensures { IsFirstTrue (IsTimeFlaw (remaining at.now)) time_flaws result }
 {
-    match spelled(at) {
+    match numbers_at(at) {
         Some(numbers) => out_of_range(numbers),
         None => Some(TimeFlaw::Form),
     }

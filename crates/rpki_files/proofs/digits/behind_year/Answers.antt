@@ -1,6 +1,6 @@
 use Rattle.std.proofs.Common.{[], ◌∷◌, ◌++◌}
 use Rattle.rpki_der.specs.Times.{two}
-use Rattle.rpki_files.proofs.SpelledTimes.{none_anyway}
+use Rattle.rpki_files.proofs.NumberedTimes.{none_anyway}
 use Rattle.rpki_files.proofs.digits.behind_year.Goals as goal
 
 pub returns-in_err-hour-clause-none : goal.returns-in_err-hour-clause-none

@@ -4,7 +4,7 @@ use Rattle.rpki_der.specs.Place.{Place, remaining}
 use Rattle.rpki_der.specs.Tags.{GENERALIZED_TIME}
 use Rattle.rpki_der.specs.Times.{after_year, two}
 use Rattle.rpki_der.specs.Values.{IsEnc}
-use Rattle.rpki_files.proofs.SpelledTimes.{content_of, none_generalized}
+use Rattle.rpki_files.proofs.NumberedTimes.{content_of, none_generalized}
 use Rattle.rpki_files.proofs.digits.generalized.Goals as goal
 
 pub returns-in-Ok-clause-none : goal.returns-in-Ok-clause-none

@@ -4,7 +4,7 @@ use Rattle.rpki_der.specs.Place.{Place, remaining}
 use Rattle.rpki_der.specs.Times.{IsTime}
 use Rattle.rpki_files.specs.Flaws.{IsSecondTimeFlaw, time_flaws}
 use Rattle.rpki_files.proofs.FirstTrue.{none_true}
-use Rattle.rpki_files.proofs.SpelledTimes.{first_second}
+use Rattle.rpki_files.proofs.NumberedTimes.{first_second}
 use Rattle.rpki_files.proofs.found.in_second_time.Goals as goal
 
 pub returns-in-Ok : goal.returns-in-Ok

@@ -1,7 +1,7 @@
 use Rattle.std.proofs.Common.{inl, refl}
 use Rattle.rpki_der.specs.Place.{remaining}
 use Rattle.rpki_files.specs.Flaws.{numbered, time_flaws}
-use Rattle.rpki_files.proofs.SpelledTimes.{first_out}
+use Rattle.rpki_files.proofs.NumberedTimes.{first_out}
 use Rattle.rpki_files.proofs.found.in_time.Goals as goal
 
 pub returns-in-Some : goal.returns-in-Some

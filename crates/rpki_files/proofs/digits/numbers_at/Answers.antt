@@ -3,8 +3,8 @@ use Rattle.rpki_der.specs.Encoding.{Begins, Means}
 use Rattle.rpki_der.specs.Place.{Place, remaining}
 use Rattle.rpki_der.specs.Tags.{UTC_TIME}
 use Rattle.rpki_der.specs.Values.{IsEnc}
-use Rattle.rpki_files.proofs.SpelledTimes.{none_spelled, none_utc}
-use Rattle.rpki_files.proofs.digits.spelled.Goals as goal
+use Rattle.rpki_files.proofs.NumberedTimes.{none_numbered, none_utc}
+use Rattle.rpki_files.proofs.digits.numbers_at.Goals as goal
 
 pub returns-in-Ok-clause-none : goal.returns-in-Ok-clause-none
 returns-in-Ok-clause-none c =
@@ -14,6 +14,6 @@ returns-in-Ok-clause-none c =
 
 pub returns-in-Err-clause-none : goal.returns-in-Err-clause-none
 returns-in-Err-clause-none c =
-    none_spelled (remaining c.args.at.now) c.generalized.result
+    none_numbered (remaining c.args.at.now) c.generalized.result
     (λ content rest b. c.in-Err.ensures.answers.encoded.1 content rest (subst (λ (p : Place). Begins (IsEnc UTC_TIME) (remaining p) content rest) (sym c.fork-ahead.ensures.same) b))
     c.generalized.ensures.none

@@ -1,4 +1,4 @@
--- The numbers that a time spells are one moment's.
+-- The numbers of a time are one moment's.
 use Rattle.std.specs.Prelude.{IfNone}
 use Rattle.std.proofs.Common.{◌≡◌, ◌<◌, ℕ, ◌+◌, ◌%◌, ◌/◌, List, ◌∷◌, ◌++◌, Option, Some, None, arith, inl, inr, subst, sym, ◌∙◌}
 use Rattle.rpki_der.specs.Encoding.{Begins, Means}
@@ -8,7 +8,7 @@ use Rattle.rpki_der.specs.Values.{IsEnc}
 use Rattle.rpki_der.proofs.Formats.{IsFormat, of_enc, one_meant, same_enc, unambiguous}
 use Rattle.rpki_der.proofs.Moments.{time_format}
 use Rattle.rpki_der.proofs.RoundTrips.{begins_one}
-use Rattle.rpki_files.specs.Flaws.{HasTwoDigits, IsFirstTrue, IsOut, IsSecondTimeFlaw, IsSpelled, IsTimeFlaw}
+use Rattle.rpki_files.specs.Flaws.{HasTwoDigits, IsFirstTrue, IsOut, IsSecondTimeFlaw, HasNumbers, IsTimeFlaw}
 use Rattle.rpki_files.specs.declared.flaws.TimeFlaw.{TimeFlaw}
 use Rattle.rpki_files.specs.declared.flaws.TimeFlaw.TheVariants as time
 use Rattle.rpki_files.proofs.FirstTrue.{first_so}
@@ -28,8 +28,8 @@ one_behind m n year e =
     let second : m.second ≡ n.second = one_pair m.second n.second (cc) (cc) in
     λ i. record { year = year i; month = month i; day = day i; hour = hour i; minute = minute i; second = second i }
 
-spelled_one : (m n : Moment) (b : List ℕ) → IsSpelled m b → IsSpelled n b → m ≡ n
-spelled_one m n b p q =
+one_numbered : (m n : Moment) (b : List ℕ) → HasNumbers m b → HasNumbers n b → m ≡ n
+one_numbered m n b p q =
     elim p.encoded [
       | inl g ↦ elim q.encoded [
         | inl h ↦
@@ -50,12 +50,12 @@ spelled_one m n b p q =
       ]
     ]
 
-spelled_format : IsFormat IsSpelled
-spelled_format = record { value = λ m b s. elim s.encoded [ inl g ↦ of_enc g.2 | inr g ↦ of_enc g ]; one = spelled_one }
+numbers_format : IsFormat HasNumbers
+numbers_format = record { value = λ m b s. elim s.encoded [ inl g ↦ of_enc g.2 | inr g ↦ of_enc g ]; one = one_numbered }
 
--- ---- flaws of the numbers that are spelled
+-- ---- flaws of the numbers of a time
 
-module _ (octets : List ℕ) (m : Moment) (means : Means IsSpelled m octets) where
+module _ (octets : List ℕ) (m : Moment) (means : Means HasNumbers m octets) where
   out_told : (f : TimeFlaw) → IsOut m f → IsTimeFlaw octets f
   out_told time.Form out = absurd out
   out_told time.Month out = (m, means, out)
@@ -64,8 +64,8 @@ module _ (octets : List ℕ) (m : Moment) (means : Means IsSpelled m octets) whe
   out_told time.Minute out = (m, means, out)
   out_told time.Second out = (m, means, out)
 
-  same : (n : Moment) → Means IsSpelled n octets → n ≡ m
-  same n other = one_meant IsSpelled (unambiguous IsSpelled spelled_format) n m octets other means
+  same : (n : Moment) → Means HasNumbers n octets → n ≡ m
+  same n other = one_meant HasNumbers (unambiguous HasNumbers numbers_format) n m octets other means
 
   told_out : (f : TimeFlaw) → IsTimeFlaw octets f → IsOut m f
   told_out time.Form none = none m means
@@ -118,7 +118,7 @@ module _ (content octets : List ℕ) where
   -- that of a UTCTime is
   pub none_utc : {X : Type 0} (o : Option X) → Means (IsEnc UTC_TIME) content octets
       → IfNone o ((m : Moment) → HasTwoDigits m → content ≡ two (m.year % 100) ++ after_year m → ⊥)
-      → IfNone o ((m : Moment) → Means IsSpelled m octets → ⊥)
+      → IfNone o ((m : Moment) → Means HasNumbers m octets → ⊥)
   none_utc o means none =
       none_so _ _ o none
       (λ fails m (rest, s). elim s.encoded.encoded [
@@ -131,11 +131,11 @@ module _ (content octets : List ℕ) where
       ])
 
 -- neither form stands there
-pub none_spelled : {X : Type 0} (octets : List ℕ) (o : Option X)
+pub none_numbered : {X : Type 0} (octets : List ℕ) (o : Option X)
     → ((content rest : List ℕ) → Begins (IsEnc UTC_TIME) octets content rest → ⊥)
     → IfNone o ((m : Moment) → m.year < 10000 → HasTwoDigits m → Means IsGeneralizedTime m octets → ⊥)
-    → IfNone o ((m : Moment) → Means IsSpelled m octets → ⊥)
-none_spelled octets o no_utc none =
+    → IfNone o ((m : Moment) → Means HasNumbers m octets → ⊥)
+none_numbered octets o no_utc none =
     none_so _ _ o none
     (λ fails m (rest, s). elim s.encoded.encoded [
       | inl g ↦ no_utc _ rest (record { text = s.text; encoded = g.2; parts = s.parts })
