@@ -7,7 +7,6 @@ use Rattle.rpki_der.specs.declared.error.DecodeError.{DecodeError}
 use Rattle.rpki_der.specs.Place.{Place, remaining, ReadsFrontBy}
 use Rattle.rpki_der.specs.Tags.{SEQUENCE}
 use Rattle.rpki_der.specs.Values.{IsEnc}
-use Rattle.rpki_der.proofs.Formats.{unambiguous, one_meant, of_enc, same_enc}
 use Rattle.rpki_cert.specs.Certificates.{certificate_content_format, tbs_content_format, version_format}
 use Rattle.rpki_crl.specs.Lists.{certificate_list_content_format, certificate_list_format, list_content_format, list_format, version_2}
 use Rattle.rpki_der.specs.Skipping.{levels}
@@ -15,6 +14,7 @@ use Rattle.rpki_der.proofs.FormatLaws.{begins_so}
 use Rattle.rpki_parts.proofs.SignedFormats.{signed_parts}
 use Rattle.rpki_cert.proofs.CertificateFormats.{tbs_content_alone}
 use Rattle.rpki_crl.proofs.ListFormats.{list_content_alone}
+use Rattle.rpki_files.proofs.FlawReads.{one_content}
 use Rattle.rpki_files.specs.Contents.{BeginsWithCertificate, BeginsWithList, HasFirstInside}
 
 -- of a list it is the tag of its version
@@ -47,15 +47,10 @@ certificate_first octets (c, (rest, b)) =
       first_is = first.1;
     }
 
--- octets begin with one SEQUENCE at most
-pub one_content : (c d octets : List ℕ) → Means (IsEnc SEQUENCE) c octets → Means (IsEnc SEQUENCE) d octets → c ≡ d
-one_content c d octets m n =
-    one_meant (IsEnc SEQUENCE) (unambiguous (IsEnc SEQUENCE) (record { value = λ v b e. of_enc e; one = λ v w b p q. (same_enc p q).1 })) c d octets m n
-
 -- a reader that has gone in stands at the one content
 pub entered : (old new : Place) (r : Result Place DecodeError) → ReadsFrontBy remaining (IsEnc SEQUENCE) old r new → (content : List ℕ) → Means (IsEnc SEQUENCE) content (remaining old)
     → IsSomeAnd (result_ok r) (λ inside. remaining inside ≡ content)
-entered old new (Ok inside) a content m = one_content (remaining inside) content (remaining old) (remaining new, a) m
+entered old new (Ok inside) a content m = one_content SEQUENCE (remaining inside) content (remaining old) (remaining new, a) m
 entered old new (Err e) a content m = absurd (a.1 content m.0 m.1)
 
 -- and what it stands at is the content

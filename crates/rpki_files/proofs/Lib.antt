@@ -2,11 +2,16 @@
 mod ContentReads
 mod DerTexts
 mod FirstInside
+mod FirstTrue
+mod FlawReads
+mod FoundFlaws
 pub mod FoundPolicies
 pub mod NothingRead
+mod NumberedTimes
 mod PemLines
 mod KindsSeen
 mod StopWalks
 mod StopsWithin
+mod ToldPlaces
 mod Turns
 mod TwoAlgorithms

@@ -8,5 +8,7 @@ pub mod PolicyPresence
 pub mod FaultRules
 pub mod KnownKinds
 pub mod PartTexts
+pub mod Flaws
+pub mod FlawTexts
 pub mod FileSorts
 pub mod SortTexts

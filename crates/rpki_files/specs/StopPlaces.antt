@@ -1,7 +1,7 @@
 -- Where the reading of a file stops: at which part of a certificate or of a list, and at which octet
 -- of the file. What stands before that octet was read as the parts before; from there on no value of
 -- the part begins, or the one that begins may not stand there (RFC 5280 4.1, 5.1, RFC 6487 4, 5).
-use Rattle.std.specs.Prelude.{◌≡◌, ◌≢◌, ◌≤◌, ◌<◌, ◌⊎◌, ℕ, Bool, true, false, List, [], ◌∷◌, ◌++◌, Contains, length, map, slice_range, Result, Ok, Err}
+use Rattle.std.specs.Prelude.{◌≡◌, ◌≢◌, ◌≤◌, ◌<◌, ◌⊎◌, ℕ, Bool, true, false, List, [], ◌∷◌, ◌++◌, Contains, drop, length, map, slice_range, Result, Ok, Err}
 use Rattle.rpki_parts.specs.Algorithms.{Algorithm, algorithm_format}
 use Rattle.rpki_der.specs.BasicFormats.{serial_format, time_format}
 use Rattle.rpki_ext.specs.CertificateExtensions.{ExtensionFields}
@@ -23,6 +23,7 @@ use Rattle.rpki_der.specs.Skipping.{levels}
 use Rattle.rpki_der.specs.Tags.{CONTEXT_CONSTRUCTED, SEQUENCE}
 use Rattle.rpki_parts.specs.Validities.{validity_format}
 use Rattle.rpki_der.specs.Values.{IsEnc}
+use Rattle.rpki_files.specs.Flaws.{IsFirstFlaw}
 use Rattle.rpki_files.specs.KnownKinds.{HasContent, MayHaveFlag, known_kind}
 use Rattle.rpki_files.specs.PartTexts.{part_text}
 use Rattle.rpki_files.specs.declared.expected.Field.{Field}
@@ -318,6 +319,7 @@ pub record IsStopPlace (is_list : Bool) (octets : List ℕ) (place : ToldPlace) 
   pub stops : StopsAt is_list octets part_is place.octet
   pub field_is : place.field.now ≡ (part_text part_is).name
   pub wanted_is : place.wanted.now ≡ (part_text part_is).wanted
+  pub found_is : IsFirstFlaw is_list part_is (drop place.octet octets) place.found
 
 -- ---- between functions
 

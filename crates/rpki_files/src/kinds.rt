@@ -163,7 +163,7 @@ impl Kind {
 
     // Whether an extension of this kind may have this flag. In lists, and of resources, it isn't
     // tested.
-    fn may_be(self, is_list: bool, critical: bool) -> bool
+    pub(crate) fn may_be(self, is_list: bool, critical: bool) -> bool
         ensures { IsTrue result ↔ MayHaveFlag is_list self critical }
     {
         if is_list {
@@ -196,7 +196,7 @@ impl Kind {
         }
     }
 
-    fn take(self, alloc: Global, content: &mut Cursor<'_>) -> Result<(), DecodeError>
+    pub(crate) fn take(self, alloc: Global, content: &mut Cursor<'_>) -> Result<(), DecodeError>
         ensures { SaysWhether result (HasContent self (remaining content.old)) }
     {
         match self {

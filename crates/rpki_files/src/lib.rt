@@ -1,12 +1,15 @@
 //! Files of certificates, revocation lists and locators: the object that a file holds, in DER or
-//! PEM, what a certificate is, where reading stops, and what a fault means, with the standard's
-//! section.
+//! PEM, what a certificate is, where reading stops and what is found there, and what a fault means,
+//! with the standard's section.
 #![tactic(auto)]
 
 mod bare;
 mod contents;
+mod digits;
 mod expected;
 mod files;
+mod flaws;
+mod found;
 mod kinds;
 mod locators;
 mod places;
@@ -17,6 +20,7 @@ mod sorts;
 pub use bare::{BareObject, Front, read_bare_object};
 pub use contents::{Content, Form, looks_like};
 pub use files::{Object, read_object};
+pub use flaws::{ExtensionFlaw, Flaw, SerialFlaw, TimeFlaw, VersionFlaw};
 pub use locators::{looks_like_locator, read_locator};
 pub use places::{Place, place_of};
 pub use policies::extensions_in;

@@ -1,5 +1,5 @@
 //! Where the reading of a file stops.
-ghost use Rattle.std.specs.Prelude.{◌≡◌, ◌≢◌, ◌≤◌, ◌<◌, ◌↔◌, ◌++◌, ◌∷◌, ◌+◌, false, true, false, List, [], length, map, Contains, IfErr, IfOk, IsErr, IsTrue, MatchResult, OnOk};
+ghost use Rattle.std.specs.Prelude.{◌≡◌, ◌≢◌, ◌≤◌, ◌<◌, ◌↔◌, ◌++◌, ◌∷◌, ◌+◌, false, true, false, List, [], drop, length, map, Contains, IfErr, IfOk, IsErr, IsTrue, MatchResult, OnOk};
 ghost use Rattle.rpki_parts.specs.Algorithms.{Algorithm};
 ghost use Rattle.rpki_der.specs.declared.error.DecodeError.TheVariants as decoding;
 ghost use Rattle.rpki_der.specs.Extensions.{Extension, IsExtension};
@@ -10,11 +10,14 @@ ghost use Rattle.rpki_der.specs.Place.Reading.{Took};
 ghost use Rattle.rpki_der.specs.Values.{AreOctets};
 ghost use Rattle.rpki_crl.specs.RevokedEntries.{AreEntries, Entry, IsEntry, entry_format};
 ghost use Rattle.rpki_der.specs.Tags.{SEQUENCE};
+ghost use Rattle.rpki_files.specs.Flaws.{IsFirstFlaw};
 ghost use Rattle.rpki_files.specs.KnownKinds.{SaysWhether, known_kind};
 ghost use Rattle.rpki_files.specs.PartTexts.{part_text};
 ghost use Rattle.rpki_files.specs.StopPlaces.{AlgorithmsDiffer, AnswersWhether, AreComplete, AreFields, AreIncomplete, AreOfKinds, EncodesSome, HasAlgorithm, HasBoth, HasOther, HasTag, IsField, IsNext, IsSecond, IsStop, IsStopPlace, MayStand, MayStandAs, Opens, Passes, ReadsAlgorithm, ReadsEntries, ReadsExtensions, ReadsSigned, ReadsToExtensions, StopsAmong, StopsAmongElements, StopsAt, StopsAtAlgorithm, StopsAtEntries, StopsAtExtension, StopsAtExtensions, StopsBefore, StopsBeforeExtensions, StopsBehind, StopsInEntries, StopsInExtensions, StopsInSigned, StopsInside, extensions_tag, kind_of};
 
 use crate::expected::{Field, Part};
+use crate::flaws::Flaw;
+use crate::found::flaw_at;
 use crate::kinds::{Kind, without_value};
 use bytes::Bytes;
 use rpki_crl::CrlEntry;
@@ -24,13 +27,15 @@ use rpki_parts::comparing::equal_algorithms;
 use rpki_parts::{Name, PublicKey, RpkiSignatureAlgorithm, Validity};
 use std::alloc::{AllocError, Global};
 
-/// The part at which reading stops, the octet of the file at which it stops, and what is wanted
-/// there.
+/// The part at which reading stops, the octet of the file at which it stops, what is wanted there,
+/// and what is found.
 #[derive(Clone, Copy)]
 pub struct Place {
     pub field: &'static str,
     pub octet: usize,
     pub wanted: &'static str,
+    /// The first flaw of the octets from there on.
+    pub found: Option<Flaw>,
 }
 
 // Why a walk through the parts ends.
@@ -592,27 +597,39 @@ fn signature_at(alloc: Global, octets: &Bytes, is_list: bool) -> Result<usize, S
 }
 
 // What is told of a part.
-fn told(part: Part, octet: usize) -> Place
-    ensures octet { result.octet ≡ octet }
-    ensures field { result.field.now ≡ (part_text part).name }
-    ensures wanted { result.wanted.now ≡ (part_text part).wanted }
+fn told(
+    alloc: Global,
+    octets: &Bytes,
+    part: Part,
+    octet: usize,
+    is_list: bool,
+) -> Result<Place, AllocError>
+    requires { octet ≤ length octets.now }
+    ensures octet { IfOk result (λ place. place.octet ≡ octet) }
+    ensures field { IfOk result (λ place. place.field.now ≡ (part_text part).name) }
+    ensures wanted { IfOk result (λ place. place.wanted.now ≡ (part_text part).wanted) }
+    ensures found { IfOk result
+        (λ place. IsFirstFlaw is_list part (drop octet octets.now) place.found) }
 {
-    Place {
+    let found = flaw_at(alloc, part, octets, octet, is_list)?;
+    Ok(Place {
         field: part.name(),
         octet,
         wanted: part.wanted(),
-    }
+        found,
+    })
 }
 
 /// Tells where the reading of octets as a certificate, or as a list, stops: the first part that has
-/// not the form that it must have, or else the signature. Errs only where memory runs out.
+/// not the form that it must have, or else the signature. Tells what is wanted and what is found
+/// there. Errs only where memory runs out.
 pub fn place_of(alloc: Global, octets: &Bytes, is_list: bool) -> Result<Place, AllocError>
     ensures stops { IfOk result (IsStopPlace is_list octets.now) }
     ensures within { IfOk result (λ place. place.octet ≤ length octets.now) }
 {
     match signature_at(alloc, octets, is_list) {
-        Ok(octet) => Ok(told(Part::Signature, octet)),
-        Err(Stop::At(part, octet)) => Ok(told(part, octet)),
+        Ok(octet) => told(alloc, octets, Part::Signature, octet, is_list),
+        Err(Stop::At(part, octet)) => told(alloc, octets, part, octet, is_list),
         Err(Stop::Memory) => Err(AllocError),
     }
 }
