@@ -709,6 +709,8 @@ def try_out():
     fails('no name', prepare('ca', out=''), 'no such file or directory')
     fails('a folder that is missing', prepare('ca', out='none/made.tbs'),
           'rpki: none/made.tbs: no such file or directory')
+    fails('a long name', prepare('ca', out='none/' + 'n' * 200),
+          'rpki: none/' + 'n' * 200 + ': no such file or directory\n')
     fails('a folder', rpki('prepare', 'ca', *words_of(WANTED['ca'] | {'at': AT, 'out': '.'}),
                            '--force'), 'rpki: .: is a directory')
     done = subprocess.run([program, 'prepare', 'ca', *words_of(

@@ -1,8 +1,9 @@
 -- How runs end.
 use Rattle.std.specs.Bool.{MatchBool}
+use Rattle.std.specs.Io.KnownBytes.{Appends}
 use Rattle.std.specs.Prelude.{Option, Some, None, Result, Ok, Err, IfOk, IsOkAnd}
 use Rattle.std.specs.declared.vec.Vec.{Vec}
-use Rattle.std.proofs.Common.{◌≡◌, ◌==◌, ℕ, Bool, false, true, List, [], ◌∷◌, length, map, inl, inr, refl, subst, sym, ap, ◌∙◌}
+use Rattle.std.proofs.Common.{◌≡◌, ◌==◌, ◌++◌, ℕ, Bool, false, true, List, [], ◌∷◌, length, map, inl, inr, refl, subst, sym, ap, ◌∙◌}
 use Rattle.std.proofs.lemmas.Bool.{eq-eqb, false≢true}
 use Rattle.std.proofs.lemmas.List.{length-map}
 use Rattle.rpki.specs.RsaSignatures.{IsSignedByRsa}
@@ -21,6 +22,7 @@ use Rattle.rpki_command.specs.SoughtPaths.{with_sought}
 use Rattle.rpki_command.specs.Runs.{IsAnswer, IsAnswerAmong, IsAnswerBy, IsAnswerIn, IsAnswerOf, IsAnswerOfNamed, LineEnds, TaskEnds}
 use Rattle.rpki_arguments.specs.declared.arguments.Task.{Task}
 use Rattle.rpki_arguments.specs.declared.arguments.Task.TheVariants.{Show, Validate, Tree, Help, Version}
+use Rattle.rpki_command.proofs.WrittenTexts.{appends_both}
 use Rattle.rpki_command.specs.declared.ended.Ended.{Ended}
 use Rattle.rpki_answers.specs.declared.outcomes.Outcome.{Outcome}
 use Rattle.rpki_command.specs.declared.searching.SoughtNames.{SoughtNames}
@@ -36,68 +38,68 @@ no_misuse Version x d files lists h = cc
 
 -- neither does a path that is sought
 module _ (reads : Reads) (lists : Lists) (r : RequestFields) (now : Moment) (text : List ℕ) where
-  by_files : (q : RequestFields) → IsAnswer reads q now WrongUse text → ⊥
-  by_files q answer =
+  by_files : (q : RequestFields) (said : List ℕ) → IsAnswer reads q now WrongUse text said → ⊥
+  by_files q said answer =
       let its = answer.whole in
       no_misuse q.task (context IsSignedByRsa now q.strict) (demands_by q (locator_files its.locators)) (contents its.files) (contents its.lists) its.ends.1
 
-  by_found : (q : RequestFields) (found : Outcome) (are_all_read : Bool) → IsAnswer reads q now found text → MatchBool are_all_read (WrongUse ≡ found) (WrongUse ≡ Unread) → ⊥
-  by_found q found true answer is = by_files q (subst (λ (o : Outcome). IsAnswer reads q now o text) (sym is) answer)
-  by_found q found false answer is = cc
+  by_found : (q : RequestFields) (said : List ℕ) (found : Outcome) (are_all_read : Bool) → IsAnswer reads q now found text said → MatchBool are_all_read (WrongUse ≡ found) (WrongUse ≡ Unread) → ⊥
+  by_found q said found true answer is = by_files q said (subst (λ (o : Outcome). IsAnswer reads q now o text said) (sym is) answer)
+  by_found q said found false answer is = cc
 
-  by_sought : (q : RequestFields) (sought : Option SoughtNames) → IsAnswerBy reads q now sought WrongUse text → ⊥
-  by_sought q None h = let wrong : WrongUse ≡ Unread = h.0 in cc
-  by_sought q (Some sought) h = by_found (with_sought q sought) h.0 sought.are_all_read h.1 h.2
+  by_sought : (q : RequestFields) (said : List ℕ) (sought : Option SoughtNames) → IsAnswerBy reads q now sought WrongUse text said → ⊥
+  by_sought q said None h = let wrong : WrongUse ≡ Unread = h.0 in cc
+  by_sought q said (Some sought) h = by_found (with_sought q sought) said h.0 sought.are_all_read h.1 h.2
 
-  never_misuse : (folders : List (List ℕ)) → IsAnswerAmong folders reads lists r now WrongUse text → ⊥
-  never_misuse [] h = by_files (record r { files = h.0 }) h.2
-  never_misuse (folder ∷ folders) h = by_sought (with_files r h.names) h.sought h.answer
+  never_misuse : (folders : List (List ℕ)) (said : List ℕ) → IsAnswerAmong folders reads lists r now WrongUse text said → ⊥
+  never_misuse [] said h = by_files (record r { files = h.names }) h.of_files h.answer
+  never_misuse (folder ∷ folders) said h = by_sought (with_files r h.names) h.of_files h.sought h.answer
 
 module _ (reads : Reads) (lists : Lists) (tells : Moment → Type 0) (words : List (List ℕ)) (r : RequestFields) (line : IsCommandLine r words) where
   -- a text about the command
-  about_ends : (task : Task) → (AsksOfFiles task → ⊥) → TaskEnds task reads lists tells r Success (about_text task)
+  about_ends : (task : Task) → (AsksOfFiles task → ⊥) → TaskEnds task reads lists tells r Success (about_text task) []
   about_ends Show none = absurd (none (inl refl))
   about_ends Validate none = absurd (none (inr (inl refl)))
   about_ends Tree none = absurd (none (inr (inr refl)))
-  about_ends Help none = (refl, refl)
-  about_ends Version none = (refl, refl)
+  about_ends Help none = (refl, refl, refl)
+  about_ends Version none = (refl, refl, refl)
 
-  pub run_about : (AsksOfFiles r.task → ⊥) → LineEnds reads lists tells words Success (about_text r.task)
+  pub run_about : (AsksOfFiles r.task → ⊥) → LineEnds reads lists tells words Success (about_text r.task) []
   run_about none = (r, line, about_ends r.task none)
 
   -- the answer of files
-  answer_ends : (task : Task) → AsksOfFiles task → (now : Moment) (outcome : Outcome) (text : List ℕ) → IsMomentBy tells r.at now → IsAnswerOf reads lists r now outcome text → TaskEnds task reads lists tells r outcome text
-  answer_ends Show asks now outcome text moment answer = (now, moment, answer)
-  answer_ends Validate asks now outcome text moment answer = (now, moment, answer)
-  answer_ends Tree asks now outcome text moment answer = (now, moment, answer)
-  answer_ends Help (inl e) now outcome text moment answer = cc
-  answer_ends Help (inr (inl e)) now outcome text moment answer = cc
-  answer_ends Help (inr (inr e)) now outcome text moment answer = cc
-  answer_ends Version (inl e) now outcome text moment answer = cc
-  answer_ends Version (inr (inl e)) now outcome text moment answer = cc
-  answer_ends Version (inr (inr e)) now outcome text moment answer = cc
+  answer_ends : (task : Task) → AsksOfFiles task → (now : Moment) (outcome : Outcome) (text said : List ℕ) → IsMomentBy tells r.at now → IsAnswerOf reads lists r now outcome text said → TaskEnds task reads lists tells r outcome text said
+  answer_ends Show asks now outcome text said moment answer = (now, moment, answer)
+  answer_ends Validate asks now outcome text said moment answer = (now, moment, answer)
+  answer_ends Tree asks now outcome text said moment answer = (now, moment, answer)
+  answer_ends Help (inl e) now outcome text said moment answer = cc
+  answer_ends Help (inr (inl e)) now outcome text said moment answer = cc
+  answer_ends Help (inr (inr e)) now outcome text said moment answer = cc
+  answer_ends Version (inl e) now outcome text said moment answer = cc
+  answer_ends Version (inr (inl e)) now outcome text said moment answer = cc
+  answer_ends Version (inr (inr e)) now outcome text said moment answer = cc
 
   module _ (asks : AsksOfFiles r.task) (now : Moment) (moment : IsMomentBy tells r.at now) where
     -- is no wrong use
-    pub answer_is_use : (text : List ℕ) → IsAnswerOf reads lists r now WrongUse text → ⊥
-    answer_is_use text answer = never_misuse reads lists r now text r.folders answer
+    answer_is_use : (text said : List ℕ) → IsAnswerOf reads lists r now WrongUse text said → ⊥
+    answer_is_use text said answer = never_misuse reads lists r now text r.folders said answer
 
-    pub run_answer : (outcome : Outcome) (text : List ℕ) → IsAnswerOf reads lists r now outcome text → LineEnds reads lists tells words outcome text
-    run_answer Success text answer = (r, line, answer_ends r.task asks now Success text moment answer)
-    run_answer Rejection text answer = (r, line, answer_ends r.task asks now Rejection text moment answer)
-    run_answer WrongUse text answer = absurd (answer_is_use text answer)
-    run_answer Unread text answer = (r, line, answer_ends r.task asks now Unread text moment answer)
+    pub run_answer : (outcome : Outcome) (text said : List ℕ) → IsAnswerOf reads lists r now outcome text said → LineEnds reads lists tells words outcome text said
+    run_answer Success text said answer = (r, line, answer_ends r.task asks now Success text said moment answer)
+    run_answer Rejection text said answer = (r, line, answer_ends r.task asks now Rejection text said moment answer)
+    run_answer WrongUse text said answer = absurd (answer_is_use text said answer)
+    run_answer Unread text said answer = (r, line, answer_ends r.task asks now Unread text said moment answer)
 
 -- ---- an answer of files, or of a path that is sought
 
-module _ (reads : Reads) (lists : Lists) (r : RequestFields) (now : Moment) (outcome : Outcome) (text : List ℕ) where
+module _ (reads : Reads) (lists : Lists) (r : RequestFields) (now : Moment) (outcome : Outcome) (text said : List ℕ) where
   -- where there is no folder
-  pub of_named : (folders : List (List ℕ)) → folders ≡ [] → IsAnswerOfNamed reads lists r now outcome text → IsAnswerAmong folders reads lists r now outcome text
+  pub of_named : (folders : List (List ℕ)) → folders ≡ [] → IsAnswerOfNamed reads lists r now outcome text said → IsAnswerAmong folders reads lists r now outcome text said
   of_named [] e h = h
   of_named (folder ∷ folders) e h = absurd cc
 
   -- and where there are some
-  pub of_sought : (folders : List (List ℕ)) → (folders ≡ [] → ⊥) → IsAnswerIn reads lists r now outcome text → IsAnswerAmong folders reads lists r now outcome text
+  pub of_sought : (folders : List (List ℕ)) → (folders ≡ [] → ⊥) → IsAnswerIn reads lists r now outcome text said → IsAnswerAmong folders reads lists r now outcome text said
   of_sought [] some h = absurd (some refl)
   of_sought (folder ∷ folders) some h = h
 
@@ -107,10 +109,16 @@ some_names f names none is len some e =
     let empty : length names.items ≡ 0 = sym (length-map names.items f) ∙ ap length e in
     false≢true (sym some ∙ is ∙ eq-eqb names.len 0 (len ∙ empty))
 
--- what is written of an answer is written of it by another name
-pub so_answered : {T E : Type 0} (A B W : T → List ℕ → Type 0) (r : Result T E) → ((e : T) (text : List ℕ) → A e text → B e text) → IfOk r (λ e. (text : List ℕ) × A e text × W e text) → IfOk r (λ e. (text : List ℕ) × B e text × W e text)
-so_answered A B W (Ok e) f h = (h.0, f e h.0 h.1, h.2)
-so_answered A B W (Err e) f h = tt
+-- what is written and said of an answer is written and said of it by another name
+pub so_answered : {T E : Type 0} (A B : T → List ℕ → List ℕ → Type 0) (W : T → List ℕ → Type 0) (S : List ℕ → Type 0) (r : Result T E) → ((e : T) (text said : List ℕ) → A e text said → B e text said) → IfOk r (λ e. (text : List ℕ) × (said : List ℕ) × A e text said × W e text × S said) → IfOk r (λ e. (text : List ℕ) × (said : List ℕ) × B e text said × W e text × S said)
+so_answered A B W S (Ok e) f h = (h.0, h.1, f e h.0 h.1 h.2, h.3, h.4)
+so_answered A B W S (Err e) f h = tt
+
+-- and with what was said before
+pub so_said : {T E : Type 0} (A B : T → List ℕ → List ℕ → Type 0) (W : T → List ℕ → Type 0) (before between after : Option (List ℕ)) (first : List ℕ) (r : Result T E) → Appends before between first → ((e : T) (text said : List ℕ) → A e text said → B e text (first ++ said)) → IfOk r (λ e. (text : List ℕ) × (said : List ℕ) × A e text said × W e text × Appends between after said) → IfOk r (λ e. (text : List ℕ) × (said : List ℕ) × B e text said × W e text × Appends before after said)
+so_said A B W before between after first (Ok e) p f h =
+    (h.0, first ++ h.1, f e h.0 h.1 h.2, h.3, appends_both before between after first h.1 p h.4)
+so_said A B W before between after first (Err e) p f h = tt
 
 -- ---- what the status tells
 

@@ -1,10 +1,10 @@
 -- Lemmas of the command's proofs.
+mod EndedRequests
 mod EndedRuns
 mod ListedNames
 mod ListsAmong
+mod NamedFiles
 mod NamedObjects
 mod PemLines
-mod ReadFiles
-mod UnreadFiles
 mod WholeSources
 mod WrittenTexts

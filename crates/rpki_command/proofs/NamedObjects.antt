@@ -3,8 +3,10 @@ use Rattle.std.proofs.Common.{◌≡◌, ◌+◌, ◌<◌, ◌∷◌, ◌++◌, 
 use Rattle.std.proofs.lemmas.List.{get_or-map, length-map, map_more}
 use Rattle.std.proofs.lemmas.List.Elements.{AllZip-push}
 use Rattle.rpki_arguments.specs.CommandLines.{usual_size}
-use Rattle.rpki_command.specs.ReadFiles.{IsUnread, Reads}
-use Rattle.rpki_command.specs.RequestRuns.{AreObjectsNamed, HasUnread, IsObjectNamed}
+use Rattle.rpki_command.specs.ReadFiles.{Reads}
+use Rattle.rpki_command.specs.RequestRuns.{AreObjectsNamed, IsObjectNamed, IsUnreadOf}
+use Rattle.rpki_command.specs.UnreadFiles.{IsWhyUnread}
+use Rattle.rpki_command.specs.declared.inputs.Unreadable.{Unreadable}
 
 module _ {X : Type 0} (reads : Reads) (now : X → List ℕ) (names : List X) (i : ℕ) (d : X) (low : i < length names) where
   -- one more that was read
@@ -15,8 +17,8 @@ module _ {X : Type 0} (reads : Reads) (now : X → List ℕ) (names : List X) (i
       (AllZip-push (IsObjectNamed reads) (map now (take i names)) objects (now (get_or names i d)) octets are is))
 
   -- one that can't be read
-  pub one_unread : IsUnread reads usual_size (now (get_or names i d)) → HasUnread reads (map now names)
-  one_unread unread =
+  pub one_unread : (file : Unreadable) → file.name.now ≡ now (get_or names i d) → IsWhyUnread reads usual_size (now (get_or names i d)) file.why → IsUnreadOf reads (map now names) file
+  one_unread file named unread =
       let long = length-map names now in
       let below : i < length (map now names) = omega arith in
-      (now (get_or names i d), (i, below, get_or-map now names i d (now (get_or names i d)) low), unread)
+      rw (named) ((i, below, get_or-map now names i d (now (get_or names i d)) low), unread)

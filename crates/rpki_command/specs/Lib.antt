@@ -2,8 +2,9 @@
 pub mod AboutTexts
 pub mod ReadFiles
 pub mod UnreadFiles
-pub mod ListedFolders
+pub mod NamedFiles
 pub mod Messages
+pub mod ListedFolders
 pub mod Moments
 pub mod Outputs
 pub mod PemTexts

@@ -1,14 +1,16 @@
--- The files that stand for a name: where it is a folder's, those in it and below it (own; how a name
--- ends: RFC 6481 2.2).
+-- The files that stand for a name: where it is a folder's, those in it and below it; and what is said of
+-- folders (own; how a name ends: RFC 6481 2.2).
 use Rattle.std.specs.Cmp.Lexicographic.{slice_cmp}
 use Rattle.std.specs.List.{ends_with, filter}
 use Rattle.std.specs.List.Sorted.{IsPermutation, IsSorted}
 use Rattle.std.specs.Ordering.{nat_cmp}
-use Rattle.std.specs.Prelude.{◌≡◌, ◌||◌, ◌⊎◌, ℕ, zero, suc, Bool, true, List, [], ◌∷◌, ◌++◌, codes, nat_eq, Option, Some, None}
+use Rattle.std.specs.Prelude.{◌≡◌, ◌||◌, ◌⊎◌, ℕ, zero, suc, Bool, true, List, [], ◌∷◌, ◌++◌, codes, if◌then◌else◌, nat_eq, Option, Some, None}
 use Rattle.std.specs.Bool.{MatchBool}
 use Rattle.std.specs.Str.{IsUtf8}
 use Rattle.rpki_arguments.specs.declared.arguments.Task.{Task}
 use Rattle.rpki_arguments.specs.declared.arguments.Task.TheVariants.{Tree}
+use Rattle.rpki_command.specs.Messages.{passed_message}
+use Rattle.rpki_command.specs.UnreadFiles.{IsToldUnlisted}
 
 -- ---- a folder
 
@@ -38,40 +40,53 @@ is_folder_name name = ends_with nat_eq name (codes "/")
 abbrev pub is_file_name : List ℕ → Bool
 is_file_name name = ends_with nat_eq name (codes ".cer") || ends_with nat_eq name (codes ".crl")
 
+-- the path by which is opened what can't be looked at, since its path isn't text
+abbrev pub unseen_path : List ℕ → List ℕ
+unseen_path path = if is_file_name path then path else path ++ codes "/"
+
 -- it is that of a folder, a certificate or a revocation list
 abbrev pub is_taken : List ℕ → Bool
 is_taken name = is_folder_name name || is_file_name name
 
 -- these names stand for the name: those in its folder that are taken, sorted by their octets; or it
--- alone, where it is no folder's
-abbrev pub StandFor : Lists → List ℕ → List (List ℕ) → Type 0
-StandFor lists name its =
-    (IsUnlisted lists name × (its ≡ name ∷ []))
+-- alone, where it is no folder's, or the folder can't be listed, which may be said
+abbrev pub StandFor : Lists → List ℕ → List (List ℕ) → List ℕ → Type 0
+StandFor lists name its said =
+    (IsUnlisted lists name × (its ≡ name ∷ []) × ((said ≡ []) ⊎ IsToldUnlisted name said))
     ⊎ ((given : List (List ℕ)) × (sorted : List (List ℕ)) × lists name (Some given)
-    × IsPermutation given sorted × IsSorted (slice_cmp nat_cmp) sorted × (its ≡ filter is_taken sorted))
+    × IsPermutation given sorted × IsSorted (slice_cmp nat_cmp) sorted × (its ≡ filter is_taken sorted)
+    × (said ≡ []))
+
+-- the name stands for itself, and nothing is said
+abbrev pub StandsForItself : List ℕ → List (List ℕ) → List ℕ → Type 0
+StandsForItself name its said = (its ≡ name ∷ []) × (said ≡ [])
 
 -- ---- below it
 
--- for each of the names that the test gives stand its own, one after the other, and the others stay
-abbrev pub AreOpened : Lists → (List ℕ → Bool) → List (List ℕ) → List (List ℕ) → Type 0
-AreOpened lists opens [] all = all ≡ []
-AreOpened lists opens (name ∷ names) all =
-    (its : List (List ℕ)) × (more : List (List ℕ))
-    × MatchBool (opens name) (StandFor lists name its) (its ≡ name ∷ [])
-    × AreOpened lists opens names more × (all ≡ its ++ more)
+-- for each of the names that the test gives stand its own, one after the other, and the others stay;
+-- this is said of them
+abbrev pub AreOpened : Lists → (List ℕ → Bool) → List (List ℕ) → List (List ℕ) → List ℕ → Type 0
+AreOpened lists opens [] all said = (all ≡ []) × (said ≡ [])
+AreOpened lists opens (name ∷ names) all said =
+    (its : List (List ℕ)) × (more : List (List ℕ)) × (line : List ℕ) × (lines : List ℕ)
+    × MatchBool (opens name) (StandFor lists name its line) (StandsForItself name its line)
+    × AreOpened lists opens names more lines × (all ≡ its ++ more) × (said ≡ line ++ lines)
 
 -- the names given so many levels further down, where each level opens the folders of the one above
-unfoldable pub AreDown : Lists → ℕ → List (List ℕ) → List (List ℕ) → Type 0
-AreDown lists zero names all = all ≡ names
-AreDown lists (suc levels) names all =
-    (above : List (List ℕ)) × AreDown lists levels names above × AreOpened lists is_folder_name above all
+unfoldable pub AreDown : Lists → ℕ → List (List ℕ) → List (List ℕ) → List ℕ → Type 0
+AreDown lists zero names all said = (all ≡ names) × (said ≡ [])
+AreDown lists (suc levels) names all said =
+    (above : List (List ℕ)) × (so_far : List ℕ) × (lines : List ℕ) × AreDown lists levels names above so_far
+    × AreOpened lists is_folder_name above all lines × (said ≡ so_far ++ lines)
 
 -- ---- those of a request
 
 -- the files that stand for the names of a task: each name of a tree may be a folder's, which is opened
 -- 32 levels down, and a folder below these stays a name, which can't be read; of another task each
--- name is a file's
-abbrev pub AreFilesOf : Lists → Task → List (List ℕ) → List (List ℕ) → Type 0
-AreFilesOf lists Tree names files =
-    (first : List (List ℕ)) × AreOpened lists (λ _. true) names first × AreDown lists 32 first files
-AreFilesOf lists _ names files = files ≡ names
+-- name is a file's. Behind what is said of folders stands how many files in them were passed over
+abbrev pub AreFilesOf : Lists → Task → List (List ℕ) → List (List ℕ) → List ℕ → Type 0
+AreFilesOf lists Tree names files said =
+    (first : List (List ℕ)) × (of_first : List ℕ) × (below : List ℕ) × (passed : ℕ)
+    × AreOpened lists (λ _. true) names first of_first × AreDown lists 32 first files below
+    × (said ≡ of_first ++ below ++ passed_message passed)
+AreFilesOf lists _ names files said = (files ≡ names) × (said ≡ [])

@@ -1,7 +1,6 @@
 -- What a run says on standard error of words, of requests, of folders and of a search (own).
 use Rattle.std.specs.Fmt.{decimal}
-use Rattle.std.specs.Io.KnownBytes.{Appends}
-use Rattle.std.specs.Prelude.{ℕ, List, [], ◌++◌, ◌==◌, codes, if◌then◌else◌, Option}
+use Rattle.std.specs.Prelude.{◌≡◌, ℕ, List, [], ◌++◌, ◌==◌, codes, if◌then◌else◌}
 use Rattle.rpki.specs.Ended.{Ended}
 use Rattle.rpki.specs.Ended.TheVariants.{Whole, TooDeep, OutOfSteps}
 use Rattle.rpki_arguments.specs.Misuses.{IsMisuse}
@@ -18,19 +17,18 @@ use Rattle.rpki_verdicts.specs.Trees.{TreeFields}
 abbrev pub misuse_message : List ℕ → List ℕ
 misuse_message wrong = (codes "rpki: " ++ wrong ++ codes "\n") ++ usage_text
 
--- what was written since says what is wrong with words that are no command line: which is so, and
--- is the first word that is wrong, or why what they ask doesn't suit its task
-abbrev pub SaysLineMisuse : List (List ℕ) → Option (List ℕ) → Option (List ℕ) → Type 0
-SaysLineMisuse words before after =
-    (misuse : arguments.Misuse) × IsMisuse misuse words
-    × Appends before after (misuse_message (line.misuse_text misuse))
+-- this says what is wrong with words that are no command line: which is so, and is the first word that is
+-- wrong, or why what they ask doesn't suit its task
+abbrev pub SaysLineMisuse : List (List ℕ) → List ℕ → Type 0
+SaysLineMisuse words said =
+    (misuse : arguments.Misuse) × IsMisuse misuse words × (said ≡ misuse_message (line.misuse_text misuse))
 
--- and says one thing that is wrong with words that ask for nothing to be prepared or completed: which is
+-- and this one thing that is wrong with words that ask for nothing to be prepared or completed: which is
 -- so, and is the first word that is wrong, or why what they ask doesn't suit it
-abbrev pub SaysRequestMisuse : List (List ℕ) → Option (List ℕ) → Option (List ℕ) → Type 0
-SaysRequestMisuse words before after =
+abbrev pub SaysRequestMisuse : List (List ℕ) → List ℕ → Type 0
+SaysRequestMisuse words said =
     (misuse : requests.Misuse) × request.IsMisuse misuse words
-    × Appends before after (misuse_message (request.misuse_text misuse))
+    × (said ≡ misuse_message (request.misuse_text misuse))
 
 -- why a request gives nothing, in a line
 abbrev pub refusal_message : Refusal → List ℕ

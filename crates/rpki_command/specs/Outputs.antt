@@ -1,4 +1,5 @@
--- What a run puts out: a text on standard output, and files that it makes (own).
+-- What a run puts out: a text on standard output, what it says on standard error, and files that it
+-- makes (own).
 use Rattle.std.specs.Prelude.{◌≡◌, ℕ, List, [], ◌∷◌, ◌++◌, Bool, bytes_eq, codes, if◌then◌else◌, Option, Some, None}
 
 -- a file that is made: its name and its octets, and whether one that was there may be overwritten
@@ -9,19 +10,21 @@ pub record MadeFile : Type 0 where
 
 pub record Output : Type 0 where
   pub text : List ℕ
+  pub said : List ℕ
   pub files : List MadeFile
 
--- a text and no file
+-- a text, and no more
 abbrev pub only_text : List ℕ → Output
-only_text text = record { text = text; files = [] }
+only_text text = record { text = text; said = []; files = [] }
 
-abbrev pub nothing : Output
-nothing = only_text []
+-- what is said, and no more
+abbrev pub only_said : List ℕ → Output
+only_said said = record { text = []; said = said; files = [] }
 
--- octets in the file of this name, and nothing on standard output
+-- octets in the file of this name, and no more
 abbrev pub only_file : List ℕ → Bool → List ℕ → Output
 only_file name overwrites octets =
-    record { text = []; files = record { name = name; octets = octets; overwrites = overwrites } ∷ [] }
+    record { text = []; said = []; files = record { name = name; octets = octets; overwrites = overwrites } ∷ [] }
 
 -- octets on standard output, which `-` names too, or in the file that is named
 abbrev pub placed : List (List ℕ) → Bool → List ℕ → Output

@@ -1,8 +1,7 @@
 -- How a run ends that prepares or completes a certificate or a list, and what it puts out, by what
 -- reading files gives and by what a clock tells (own).
-use Rattle.std.specs.Io.KnownBytes.{Appends}
 use Rattle.std.specs.List.{AllZip, Contains}
-use Rattle.std.specs.Prelude.{◌≡◌, ◌⊎◌, ℕ, List, [], Option, Some, Bool, true, codes}
+use Rattle.std.specs.Prelude.{◌≡◌, ◌≢◌, ◌⊎◌, ℕ, List, [], ◌∷◌, Option, Some, Bool, true, IsFalse, bytes_eq, codes}
 use Rattle.rpki.specs.Times.{Moment}
 use Rattle.rpki_arguments.specs.CommandLines.{usual_size}
 use Rattle.rpki_files.specs.PemFiles.{IsObjectOf}
@@ -17,11 +16,15 @@ use Rattle.rpki_requests.specs.declared.refusals.Refusal.{Refusal}
 use Rattle.rpki_requests.specs.declared.words.Setting.{Setting}
 use Rattle.rpki_requests.specs.declared.words.Setting.TheVariants.{At, Crl, Issuer, Key, Out, Previous, Revoke}
 use Rattle.rpki_command.specs.AboutTexts.{usage_text}
-use Rattle.rpki_command.specs.Messages.{refusal_message}
+use Rattle.rpki_command.specs.Messages.{SaysRequestMisuse, refusal_message}
 use Rattle.rpki_command.specs.Moments.{IsMomentBy}
-use Rattle.rpki_command.specs.Outputs.{Output, nothing, only_text, placed}
+use Rattle.rpki_command.specs.Outputs.{Output, only_said, only_text, placed}
 use Rattle.rpki_command.specs.PemTexts.{IsPemText}
-use Rattle.rpki_command.specs.ReadFiles.{Reads, IsUnread}
+use Rattle.rpki_command.specs.ReadFiles.{Reads}
+use Rattle.rpki_command.specs.UnreadFiles.{IsLineAbout, IsWhyUnmade, IsWhyUnread, called, unmade_text, unread_text}
+use Rattle.rpki_command.specs.declared.files.Unread.TheVariants.{Memory}
+use Rattle.rpki_command.specs.declared.inputs.Unreadable.{Unreadable}
+use Rattle.rpki_command.specs.declared.requests.Unplaced.{Unplaced}
 use Rattle.rpki_answers.specs.declared.outcomes.Outcome.{Outcome}
 use Rattle.rpki_answers.specs.declared.outcomes.Outcome.TheVariants.{Success, Rejection, WrongUse, Unread}
 pub mod Views
@@ -46,19 +49,25 @@ pub record AreInputs (reads : Reads) (asked : AskedFields) (inputs : InputFields
   pub revoked_are : AreObjectsNamed reads (values_of Revoke asked.given) inputs.revoked
   pub files_are : AreObjectsNamed reads asked.files inputs.files
 
--- one of these files can't be read
-abbrev pub HasUnread : Reads → List (List ℕ) → Type 0
-HasUnread reads names = (name : List ℕ) × Contains names name × IsUnread reads usual_size name
+-- this is one of the files of these names, and can't be read for its reason
+abbrev pub IsUnreadOf : Reads → List (List ℕ) → Unreadable → Type 0
+IsUnreadOf reads names file =
+    Contains names file.name.now × IsWhyUnread reads usual_size file.name.now file.why
 
 -- one that an option names
-abbrev pub HasUnreadOf : Reads → AskedFields → Setting → Type 0
-HasUnreadOf reads asked setting = HasUnread reads (values_of setting asked.given)
+abbrev pub IsUnreadOption : Reads → AskedFields → Unreadable → Setting → Type 0
+IsUnreadOption reads asked file setting = IsUnreadOf reads (values_of setting asked.given) file
 
 -- one of a request
-abbrev pub HasUnreadInput : Reads → AskedFields → Type 0
-HasUnreadInput reads asked =
-    HasUnreadOf reads asked Issuer ⊎ (HasUnreadOf reads asked Crl ⊎ (HasUnreadOf reads asked Key
-    ⊎ (HasUnreadOf reads asked Previous ⊎ (HasUnreadOf reads asked Revoke ⊎ HasUnread reads asked.files))))
+abbrev pub IsUnreadInput : Reads → AskedFields → Unreadable → Type 0
+IsUnreadInput reads asked file =
+    IsUnreadOption reads asked file Issuer ⊎ (IsUnreadOption reads asked file Crl
+    ⊎ (IsUnreadOption reads asked file Key ⊎ (IsUnreadOption reads asked file Previous
+    ⊎ (IsUnreadOption reads asked file Revoke ⊎ IsUnreadOf reads asked.files file))))
+
+-- this is said of it
+abbrev pub IsLineOf : Unreadable → List ℕ → Type 0
+IsLineOf file said = (file.why ≢ Memory) × IsLineAbout (called file.name.now) (unread_text file.why) said
 
 -- ---- the moment
 
@@ -86,16 +95,40 @@ IsWritten true (Certificate octets) text = IsPemText (codes "CERTIFICATE") octet
 IsWritten true (RevocationList octets) text = IsPemText (codes "X509 CRL") octets text
 IsWritten _ given text = text ≡ octets_of given
 
--- with these files at this moment the request ends so: with what it gives, on standard output or in the
--- file that `--out` names; or with rejection and nothing
+-- what the request gives, with these files at this moment, as it is written
+abbrev pub GivesText : AskedFields → InputFields → Moment → List ℕ → Type 0
+GivesText asked inputs now text =
+    (given : Made) × Fulfils asked inputs now given × IsWritten asked.is_pem given text
+
+-- it gives nothing, and this is said: why, and what that says of the issuer's path is so
+abbrev pub GivesNothing : AskedFields → InputFields → Moment → List ℕ → Type 0
+GivesNothing asked inputs now said =
+    (why : Refusal) × ((given : Made) → Fulfils asked inputs now given → ⊥)
+    × TellsPath (context_of asked now) inputs.issuers inputs.lists why × (said ≡ refusal_message why)
+
+-- this is the file of the first of these names, and can't be made for its reason
+abbrev pub IsUnmadeOf : List (List ℕ) → Unplaced → Type 0
+IsUnmadeOf [] file = ⊥
+IsUnmadeOf (name ∷ more) file =
+    IsFalse (bytes_eq name (codes "-")) × (file.name.now ≡ name) × IsWhyUnmade name file.why
+
+-- putting a text where names say ends so: it stands there; or, as unread, nowhere, where its file can't be
+-- made, which is said
+abbrev pub PlaceEnds : List (List ℕ) → Bool → List ℕ → Outcome → Output → Type 0
+PlaceEnds names overwrites text Success output = output ≡ placed names overwrites text
+PlaceEnds names overwrites text Unread output =
+    (file : Unplaced) × (said : List ℕ) × IsUnmadeOf names file
+    × IsLineAbout (called file.name.now) (unmade_text file.why) said × (output ≡ only_said said)
+PlaceEnds names overwrites text _ output = ⊥
+
+-- with these files at this moment the request ends so: with rejection, or as putting out what it gives
+-- does, on standard output or into the file that `--out` names
 abbrev pub InputsEnd : AskedFields → InputFields → Moment → Outcome → Output → Type 0
-InputsEnd asked inputs now Success output =
-    (given : Made) × (text : List ℕ) × Fulfils asked inputs now given × IsWritten asked.is_pem given text
-    × (output ≡ placed (values_of Out asked.given) asked.overwrites text)
 InputsEnd asked inputs now Rejection output =
-    (output ≡ nothing) × ((given : Made) → Fulfils asked inputs now given → ⊥)
-InputsEnd asked inputs now Unread output = ⊥
-InputsEnd asked inputs now WrongUse output = ⊥
+    (said : List ℕ) × GivesNothing asked inputs now said × (output ≡ only_said said)
+InputsEnd asked inputs now outcome output =
+    (text : List ℕ) × GivesText asked inputs now text
+    × PlaceEnds (values_of Out asked.given) asked.overwrites text outcome output
 
 -- at a moment that may be asked, with the files as they are read, it ends so
 pub record ReadEnds (reads : Reads) (tells : Moment → Type 0) (asked : AskedFields) (outcome : Outcome) (output : Output) : Type 0 where
@@ -105,52 +138,34 @@ pub record ReadEnds (reads : Reads) (tells : Moment → Type 0) (asked : AskedFi
   pub inputs_are : AreInputs reads asked inputs
   pub ends : InputsEnd asked inputs now outcome output
 
--- `--at` has another value than a moment
-abbrev pub NamesNoMoment : List GivenFields → Type 0
-NamesNoMoment given = (named : Option Moment) → IsNamedMoment given named → ⊥
+-- `--at` has another value than a moment, and this is said: a reason that says nothing of the issuer's path
+abbrev pub HasNoMoment : List GivenFields → List ℕ → Type 0
+HasNoMoment given said =
+    (why : Refusal) × ((named : Option Moment) → IsNamedMoment given named → ⊥)
+    × IsPathless why × (said ≡ refusal_message why)
 
 -- a run that asks this ends so, and puts this out: as its files do; with rejection also where `--at`
--- names no moment; and as unread only where a file can't be read
+-- names no moment; and as unread also where a file can't be read, which is said of one
 abbrev pub AskedEnds : Reads → (Moment → Type 0) → AskedFields → Outcome → Output → Type 0
 AskedEnds reads tells asked Success output = ReadEnds reads tells asked Success output
 AskedEnds reads tells asked Rejection output =
-    ((output ≡ nothing) × NamesNoMoment asked.given) ⊎ ReadEnds reads tells asked Rejection output
-AskedEnds reads tells asked Unread output = (output ≡ nothing) × HasUnreadInput reads asked
+    ((said : List ℕ) × HasNoMoment asked.given said × (output ≡ only_said said))
+    ⊎ ReadEnds reads tells asked Rejection output
+AskedEnds reads tells asked Unread output =
+    ((file : Unreadable) × (said : List ℕ) × IsUnreadInput reads asked file × IsLineOf file said
+    × (output ≡ only_said said))
+    ⊎ ReadEnds reads tells asked Unread output
 AskedEnds reads tells asked WrongUse output = ⊥
-
--- ---- why it gives nothing
-
--- what was written since says why, and what it says of the issuer's path is so, with these files at this
--- moment
-abbrev pub SaysWhy : AskedFields → InputFields → Moment → Option (List ℕ) → Option (List ℕ) → Type 0
-SaysWhy asked inputs now before after =
-    (why : Refusal) × TellsPath (context_of asked now) inputs.issuers inputs.lists why
-    × Appends before after (refusal_message why)
-
--- it says why, and nothing of the issuer's path
-abbrev pub SaysPathless : Option (List ℕ) → Option (List ℕ) → Type 0
-SaysPathless before after =
-    (why : Refusal) × IsPathless why × Appends before after (refusal_message why)
-
--- it says why this gives nothing: by what its options are alone, or by the files as they are read, at a
--- moment that may be asked
-abbrev pub SaysRefusalOf : Reads → (Moment → Type 0) → AskedFields → Option (List ℕ) → Option (List ℕ) → Type 0
-SaysRefusalOf reads tells asked before after =
-    SaysPathless before after
-    ⊎ ((now : Moment) × (inputs : InputFields) × IsMomentAsked tells asked.given now
-    × AreInputs reads asked inputs × SaysWhy asked inputs now before after)
-
--- and so it says of what the words ask
-abbrev pub SaysRefusal : Reads → (Moment → Type 0) → List (List ℕ) → Option (List ℕ) → Option (List ℕ) → Type 0
-SaysRefusal reads tells words before after =
-    (asked : AskedFields) × IsRequestLine asked words × SaysRefusalOf reads tells asked before after
 
 -- ---- words
 
--- a run on these words, which don't ask how the command is used, ends so: with wrong use and nothing
--- exactly where they ask for nothing to be prepared or completed, else as what they ask does
+-- a run on these words, which don't ask how the command is used, ends so: with wrong use exactly where
+-- they ask for nothing to be prepared or completed, and then says what is wrong; else as what they ask
+-- does
 abbrev pub WordsEnd : Reads → (Moment → Type 0) → List (List ℕ) → Outcome → Output → Type 0
-WordsEnd reads tells words WrongUse output = ((asked : AskedFields) → IsRequestLine asked words → ⊥) × (output ≡ nothing)
+WordsEnd reads tells words WrongUse output =
+    ((asked : AskedFields) → IsRequestLine asked words → ⊥)
+    × ((said : List ℕ) × SaysRequestMisuse words said × (output ≡ only_said said))
 WordsEnd reads tells words outcome output =
     (asked : AskedFields) × IsRequestLine asked words × AskedEnds reads tells asked outcome output
 

@@ -1,7 +1,8 @@
 -- How a run of the command ends, and what it writes, by what reading files and listing folders gives and
 -- by what a clock tells (own).
-use Rattle.std.specs.Prelude.{◌≡◌, ◌≢◌, ◌⊎◌, ℕ, List, [], ◌∷◌, Option, Some, None, IsFalse, IsTrue}
+use Rattle.std.specs.Prelude.{◌≡◌, ◌≢◌, ◌⊎◌, ℕ, List, [], ◌∷◌, ◌++◌, Option, Some, None, IsFalse, IsTrue}
 use Rattle.std.specs.Bool.{MatchBool}
+use Rattle.std.specs.Io.KnownBytes.{Appends}
 use Rattle.rpki.specs.Times.{Moment}
 use Rattle.rpki_files.specs.Files.{FileFields}
 use Rattle.rpki_verdicts.specs.GivenLocators.{LocatorFields, locator_files}
@@ -10,10 +11,11 @@ use Rattle.rpki_answers.specs.AnswerTexts.{IsTextBy, IsJsonBy}
 use Rattle.rpki_arguments.specs.CommandLines.{RequestFields, with_files, IsCommandLine}
 use Rattle.rpki_command.specs.ListedFolders.{Lists, AreFilesOf}
 use Rattle.rpki_answers.specs.Outcomes.{EndsBy}
-use Rattle.rpki_command.specs.Messages.{SaysLineMisuse, SaysRequestMisuse}
+use Rattle.rpki_command.specs.Messages.{SaysLineMisuse}
 use Rattle.rpki_command.specs.Moments.{IsMomentBy}
-use Rattle.rpki_command.specs.Outputs.{Output}
-use Rattle.rpki_command.specs.ReadFiles.{Reads, AreRead}
+use Rattle.rpki_command.specs.Outputs.{MadeFile, Makes, Output}
+use Rattle.rpki_command.specs.NamedFiles.{AreRead}
+use Rattle.rpki_command.specs.ReadFiles.{Reads}
 use Rattle.rpki_command.specs.RequestRuns.{RequestEnds}
 use Rattle.rpki_requests.specs.RequestWords.{BeginsRequest}
 use Rattle.rpki_command.specs.SoughtPaths.{IsSearch, with_sought}
@@ -27,71 +29,81 @@ use Rattle.rpki_command.specs.declared.searching.SoughtNames.{SoughtNames}
 -- ---- what is asked of files
 
 -- the answer to a request at a moment, as if it weren't quiet, where reading files gives this: it is
--- that of those of its files, lists and locators that can be read
-pub record IsWholeAnswer (reads : Reads) (r : RequestFields) (now : Moment) (outcome : Outcome) (text : List ℕ) : Type 0 where
+-- that of those of its files, lists and locators that can be read; and what is said of the others
+pub record IsWholeAnswer (reads : Reads) (r : RequestFields) (now : Moment) (outcome : Outcome) (text said : List ℕ) : Type 0 where
   pub files : List FileFields
   pub lists : List FileFields
   pub locators : List LocatorFields
-  pub are_read : AreRead reads r files lists locators
+  pub are_read : AreRead reads r files lists locators said
   pub ends : EndsBy r now files lists (locator_files locators) outcome
   pub text_is : r.format ≡ Text → IsTextBy r.task outcome r now files lists locators text
   pub json_is : r.format ≢ Text → IsJsonBy r.task outcome r now files lists locators text
 
--- the answer: this one, of which a quiet run leaves the text out
-pub record IsAnswer (reads : Reads) (r : RequestFields) (now : Moment) (outcome : Outcome) (text : List ℕ) : Type 0 where
+-- the answer: this one, of which a quiet run leaves the text out, and not what is said
+pub record IsAnswer (reads : Reads) (r : RequestFields) (now : Moment) (outcome : Outcome) (text said : List ℕ) : Type 0 where
   pub told : List ℕ
-  pub whole : IsWholeAnswer reads r now outcome told
+  pub whole : IsWholeAnswer reads r now outcome told said
   pub quiet_is : IsTrue r.is_quiet → text ≡ []
   pub told_is : IsFalse r.is_quiet → text ≡ told
 
 -- the same, where listing folders gives this: it is that of the files that stand for the names of the
 -- request
-abbrev pub IsAnswerOfNamed : Reads → Lists → RequestFields → Moment → Outcome → List ℕ → Type 0
-IsAnswerOfNamed reads lists r now outcome text =
-    (names : List (List ℕ)) × AreFilesOf lists r.task r.files names
-    × IsAnswer reads (record r { files = names }) now outcome text
+pub record IsAnswerOfNamed (reads : Reads) (lists : Lists) (r : RequestFields) (now : Moment)
+    (outcome : Outcome) (text said : List ℕ) : Type 0 where
+  pub names : List (List ℕ)
+  pub of_folders : List ℕ
+  pub of_files : List ℕ
+  pub names_are : AreFilesOf lists r.task r.files names of_folders
+  pub answer : IsAnswer reads (record r { files = names }) now outcome text of_files
+  pub said_is : said ≡ of_folders ++ of_files
 
 -- the answer by what was sought: that to the same request of the files and the lists that were found,
 -- which ends as unread where another file couldn't be read; or none, where what is asked for couldn't be
-abbrev pub IsAnswerBy : Reads → RequestFields → Moment → Option SoughtNames → Outcome → List ℕ → Type 0
-IsAnswerBy reads r now None outcome text = (outcome ≡ Unread) × (text ≡ [])
-IsAnswerBy reads r now (Some sought) outcome text =
-    (found : Outcome) × IsAnswer reads (with_sought r sought) now found text
+abbrev pub IsAnswerBy : Reads → RequestFields → Moment → Option SoughtNames → Outcome → List ℕ → List ℕ → Type 0
+IsAnswerBy reads r now None outcome text said = (outcome ≡ Unread) × (text ≡ []) × (said ≡ [])
+IsAnswerBy reads r now (Some sought) outcome text said =
+    (found : Outcome) × IsAnswer reads (with_sought r sought) now found text said
     × MatchBool sought.are_all_read (outcome ≡ found) (outcome ≡ Unread)
 
 -- the answer where a path is sought in folders: among the request's file and those that stand for the
 -- folders' names
 pub record IsAnswerIn (reads : Reads) (lists : Lists) (r : RequestFields) (now : Moment)
-    (outcome : Outcome) (text : List ℕ) : Type 0 where
+    (outcome : Outcome) (text said : List ℕ) : Type 0 where
   pub names : List (List ℕ)
-  pub names_are : AreFilesOf lists Tree r.folders names
+  pub of_folders : List ℕ
+  pub names_are : AreFilesOf lists Tree r.folders names of_folders
   pub sought : Option SoughtNames
-  pub search : IsSearch reads (with_files r names) now sought
-  pub answer : IsAnswerBy reads (with_files r names) now sought outcome text
+  pub of_search : List ℕ
+  pub search : IsSearch reads (with_files r names) now sought of_search
+  pub of_files : List ℕ
+  pub answer : IsAnswerBy reads (with_files r names) now sought outcome text of_files
+  pub said_is : said ≡ of_folders ++ of_search ++ of_files
 
 -- the answer of files, which are sought where the request has folders
-abbrev pub IsAnswerAmong : List (List ℕ) → Reads → Lists → RequestFields → Moment → Outcome → List ℕ → Type 0
-IsAnswerAmong [] reads lists r now outcome text = IsAnswerOfNamed reads lists r now outcome text
-IsAnswerAmong (folder ∷ folders) reads lists r now outcome text = IsAnswerIn reads lists r now outcome text
+abbrev pub IsAnswerAmong : List (List ℕ) → Reads → Lists → RequestFields → Moment → Outcome → List ℕ → List ℕ → Type 0
+IsAnswerAmong [] reads lists r now outcome text said = IsAnswerOfNamed reads lists r now outcome text said
+IsAnswerAmong (folder ∷ folders) reads lists r now outcome text said = IsAnswerIn reads lists r now outcome text said
 
-abbrev pub IsAnswerOf : Reads → Lists → RequestFields → Moment → Outcome → List ℕ → Type 0
-IsAnswerOf reads lists r now outcome text = IsAnswerAmong r.folders reads lists r now outcome text
+abbrev pub IsAnswerOf : Reads → Lists → RequestFields → Moment → Outcome → List ℕ → List ℕ → Type 0
+IsAnswerOf reads lists r now outcome text said = IsAnswerAmong r.folders reads lists r now outcome text said
 
 -- ---- a command line
 
--- what is asked ends so, with this text: a text about the command, or the answer of files
-abbrev pub TaskEnds : Task → Reads → Lists → (Moment → Type 0) → RequestFields → Outcome → List ℕ → Type 0
-TaskEnds Help reads lists tells r outcome text = (outcome ≡ Success) × (text ≡ usage_text)
-TaskEnds Version reads lists tells r outcome text = (outcome ≡ Success) × (text ≡ version_text)
-TaskEnds _ reads lists tells r outcome text =
-    (now : Moment) × IsMomentBy tells r.at now × IsAnswerOf reads lists r now outcome text
+-- what is asked ends so, with this text, and this is said: a text about the command and nothing, or the
+-- answer of files
+abbrev pub TaskEnds : Task → Reads → Lists → (Moment → Type 0) → RequestFields → Outcome → List ℕ → List ℕ → Type 0
+TaskEnds Help reads lists tells r outcome text said = (outcome ≡ Success) × (text ≡ usage_text) × (said ≡ [])
+TaskEnds Version reads lists tells r outcome text said = (outcome ≡ Success) × (text ≡ version_text) × (said ≡ [])
+TaskEnds _ reads lists tells r outcome text said =
+    (now : Moment) × IsMomentBy tells r.at now × IsAnswerOf reads lists r now outcome text said
 
--- a run on these words ends so, with this text: with wrong use and none exactly where they are no
--- command line, else as what they ask does
-abbrev pub LineEnds : Reads → Lists → (Moment → Type 0) → List (List ℕ) → Outcome → List ℕ → Type 0
-LineEnds reads lists tells words WrongUse text = ((r : RequestFields) → IsCommandLine r words → ⊥) × (text ≡ [])
-LineEnds reads lists tells words outcome text =
-    (r : RequestFields) × IsCommandLine r words × TaskEnds r.task reads lists tells r outcome text
+-- a run on these words ends so, with this text, and this is said: with wrong use, none, and what is wrong
+-- exactly where they are no command line, else as what they ask does
+abbrev pub LineEnds : Reads → Lists → (Moment → Type 0) → List (List ℕ) → Outcome → List ℕ → List ℕ → Type 0
+LineEnds reads lists tells words WrongUse text said =
+    ((r : RequestFields) → IsCommandLine r words → ⊥) × (text ≡ []) × SaysLineMisuse words said
+LineEnds reads lists tells words outcome text said =
+    (r : RequestFields) × IsCommandLine r words × TaskEnds r.task reads lists tells r outcome text said
 
 -- ---- a run
 
@@ -100,16 +112,12 @@ LineEnds reads lists tells words outcome text =
 abbrev pub RunEnds : Reads → Lists → (Moment → Type 0) → List (List ℕ) → Outcome → Output → Type 0
 RunEnds reads lists tells words outcome output =
     (BeginsRequest words × RequestEnds reads tells words outcome output)
-    ⊎ ((BeginsRequest words → ⊥) × LineEnds reads lists tells words outcome output.text × (output.files ≡ []))
+    ⊎ ((BeginsRequest words → ⊥) × LineEnds reads lists tells words outcome output.text output.said
+    × (output.files ≡ []))
 
--- it ends so, whatever it puts out
-abbrev pub RunEndsAs : Reads → Lists → (Moment → Type 0) → List (List ℕ) → Outcome → Type 0
-RunEndsAs reads lists tells words outcome = (output : Output) × RunEnds reads lists tells words outcome output
-
--- ---- words that ask nothing
-
--- what was written since is what is said of them, by what they begin as
-abbrev pub SaysMisuse : List (List ℕ) → Option (List ℕ) → Option (List ℕ) → Type 0
-SaysMisuse words before after =
-    (BeginsRequest words × SaysRequestMisuse words before after)
-    ⊎ ((BeginsRequest words → ⊥) × SaysLineMisuse words before after)
+-- it ends so, and since then this was said, and these files were made
+abbrev pub RunEndsAs : Reads → Lists → (Moment → Type 0) → List (List ℕ) → Outcome → Option (List ℕ) → Option (List ℕ)
+    → Option (List MadeFile) → Option (List MadeFile) → Type 0
+RunEndsAs reads lists tells words outcome before after made_before made_after =
+    (output : Output) × RunEnds reads lists tells words outcome output
+    × Appends before after output.said × Makes made_before made_after output.files

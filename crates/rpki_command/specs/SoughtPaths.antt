@@ -1,5 +1,5 @@
 -- A path that is sought: what is read of the files among which it is, and which files it has (own).
-use Rattle.std.specs.Prelude.{◌≡◌, ◌⊎◌, ◌↔◌, ℕ, List, [], ◌∷◌, Option, Some, None, IsTrue}
+use Rattle.std.specs.Prelude.{◌≡◌, ◌⊎◌, ◌↔◌, ℕ, List, [], ◌∷◌, ◌++◌, Option, Some, None, IsTrue}
 use Rattle.rpki.specs.RsaSignatures.{IsSignedByRsa}
 use Rattle.rpki.specs.Times.{Moment}
 use Rattle.rpki.specs.Verification.{context}
@@ -12,7 +12,9 @@ use Rattle.rpki_verdicts.specs.Searches.{IsSoughtPath}
 use Rattle.rpki_verdicts.specs.Trees.{TreeFields}
 use Rattle.rpki_answers.specs.AnswerTexts.{tree_question_of}
 use Rattle.rpki_answers.specs.Outcomes.{AreAllRead}
-use Rattle.rpki_command.specs.ReadFiles.{Reads, AreRead}
+use Rattle.rpki_command.specs.Messages.{bound_message}
+use Rattle.rpki_command.specs.NamedFiles.{AreRead}
+use Rattle.rpki_command.specs.ReadFiles.{Reads}
 use Rattle.rpki_command.specs.declared.searching.SoughtNames.{SoughtNames}
 
 -- these are the names of those of the files that begin with lists, in their order
@@ -58,9 +60,19 @@ IsSearchOf r now files lists locators (Some sought) =
     × IsSought (tree_question_of r now files locators) sought
     × (IsTrue sought.are_all_read ↔ AreAllRead r files lists (locator_files locators))
 
-pub record IsSearch (reads : Reads) (r : RequestFields) (now : Moment) (sought : Option SoughtNames) : Type 0 where
+-- what is said of it: which bound it met, if it met one
+abbrev pub search_message : TreeFields → Option SoughtNames → List ℕ
+search_message q None = []
+search_message q (Some sought) = bound_message q sought.ended
+
+-- what a search gives, by what reading files gives, and what is said in it: why files can't be read, and
+-- which bound it met
+pub record IsSearch (reads : Reads) (r : RequestFields) (now : Moment) (sought : Option SoughtNames)
+    (said : List ℕ) : Type 0 where
   pub files : List FileFields
   pub lists : List FileFields
   pub locators : List LocatorFields
-  pub are_read : AreRead reads r files lists locators
+  pub of_files : List ℕ
+  pub are_read : AreRead reads r files lists locators of_files
   pub gives : IsSearchOf r now files lists locators sought
+  pub said_is : said ≡ of_files ++ search_message (tree_question_of r now files locators) sought

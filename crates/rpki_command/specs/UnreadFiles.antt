@@ -1,17 +1,14 @@
 -- Files that can't be read or made: why, and what is said of it (own).
 use Rattle.std.specs.Fmt.{decimal}
-use Rattle.std.specs.Io.KnownBytes.{Appends}
 use Rattle.std.specs.IoError.{error_kind}
-use Rattle.std.specs.Prelude.{◌≡◌, ℕ, List, ◌++◌, bytes_eq, codes, if◌then◌else◌, Option, Some, None, IfSome}
+use Rattle.std.specs.Prelude.{◌≡◌, ◌≢◌, ℕ, List, ◌++◌, bytes_eq, codes, if◌then◌else◌, Option, Some, None, IfSome}
 use Rattle.std.specs.Str.{IsUtf8}
 use Rattle.std.specs.declared.io.ErrorKind.{ErrorKind}
-use Rattle.std.specs.declared.io.ErrorKind.TheVariants.{IsADirectory, NotFound, PermissionDenied}
-use Rattle.rpki_arguments.specs.CommandLines.{usual_size}
+use Rattle.std.specs.declared.io.ErrorKind.TheVariants.{AlreadyExists, IsADirectory, NotFound, PermissionDenied}
 use Rattle.rpki_text.specs.Pages.{characters_text}
-use Rattle.rpki_command.specs.ReadFiles.{Reads, IsUnread}
+use Rattle.rpki_command.specs.ReadFiles.{Reads}
 use Rattle.rpki_command.specs.declared.files.Unread.{Unread}
 use Rattle.rpki_command.specs.declared.files.Unread.TheVariants as unread
-use Rattle.rpki_command.specs.declared.inputs.Unreadable.{Unreadable}
 use Rattle.rpki_command.specs.declared.making.Unmade.{Unmade}
 use Rattle.rpki_command.specs.declared.making.Unmade.TheVariants as unmade
 
@@ -25,10 +22,6 @@ IsWhyUnread reads most name (unread.TooLong limit) = (limit ≡ most) × reads n
 IsWhyUnread reads most name (unread.AboveLimit limit) = (limit ≡ most) × reads name most None
 IsWhyUnread reads most name (unread.Failed error) = reads name most None
 IsWhyUnread reads most name unread.Memory = Unit {0}
-
--- a file that can't be read is named, and why
-abbrev pub IsNamed : Reads → Unreadable → Type 0
-IsNamed reads file = IsWhyUnread reads usual_size file.name.now file.why
 
 -- why a source doesn't give its octets: it has more than so many, or it fails, or memory ran out
 abbrev pub IsWhyNotGiven : ℕ → Unread → Type 0
@@ -60,23 +53,37 @@ unread_text (unread.AboveLimit most) = Some (codes "more than " ++ (decimal most
 unread_text (unread.Failed error) = failure_text (error_kind error)
 unread_text unread.Memory = Some (codes "out of memory")
 
+-- and why it didn't make one, which may be there already
+abbrev pub making_text : ErrorKind → Option (List ℕ)
+making_text AlreadyExists = Some (codes "is there already (--force overwrites it)")
+making_text kind = failure_text kind
+
+abbrev pub unmade_text : Unmade → Option (List ℕ)
+unmade_text unmade.OtherName = Some (codes "a file whose name isn't UTF-8 can't be opened")
+unmade_text (unmade.Failed error) = making_text (error_kind error)
+
 -- what a file is called: `-` is standard input
 abbrev pub called : List ℕ → List ℕ
 called name = if bytes_eq name (codes "-") then codes "standard input" else characters_text name
 
--- that a file can't be read, and why, in a line
-abbrev pub unread_message : List ℕ → List ℕ → List ℕ
-unread_message name why = codes "rpki: " ++ (called name ++ (codes ": " ++ (why ++ codes "\n")))
+-- a file by what it is called, and why nothing came of it
+abbrev pub file_message : List ℕ → List ℕ → List ℕ
+file_message file why = codes "rpki: " ++ (file ++ (codes ": " ++ (why ++ codes "\n")))
 
--- what was written since says so
-abbrev pub SaysUnread : List ℕ → Unread → Option (List ℕ) → Option (List ℕ) → Type 0
-SaysUnread name why before after =
-    IfSome (unread_text why) (λ text. Appends before after (unread_message name text))
+-- the line says so, in these words, if there are some, or else in the system's
+abbrev pub IsLineAbout : List ℕ → Option (List ℕ) → List ℕ → Type 0
+IsLineAbout file words line =
+    (why : List ℕ) × IfSome words (λ said. why ≡ said) × (line ≡ file_message file why)
 
--- and says it of one file that can't be read
-pub record SaysOneUnread (reads : Reads) (before after : Option (List ℕ)) : Type 0 where
-  pub name : List ℕ
+-- the line says why the file of this name can't be read, where no more than so many octets are taken; and
+-- that is so
+pub record IsToldUnread (reads : Reads) (most : ℕ) (name line : List ℕ) : Type 0 where
   pub why : Unread
-  pub cannot : IsUnread reads usual_size name
-  pub because : IsWhyUnread reads usual_size name why
-  pub said : SaysUnread name why before after
+  pub because : IsWhyUnread reads most name why
+  pub known : why ≢ unread.Memory
+  pub line_is : IsLineAbout (called name) (unread_text why) line
+
+-- the line says why the folder of this name can't be listed, in these words
+abbrev pub IsToldUnlisted : List ℕ → List ℕ → Type 0
+IsToldUnlisted name line =
+    (why : Unread) × (why ≢ unread.Memory) × IsLineAbout (called name) (unread_text why) line

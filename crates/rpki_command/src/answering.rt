@@ -8,7 +8,7 @@ ghost use Rattle.rpki_arguments.specs.CommandLines.Views.{fields_of};
 ghost use Rattle.rpki_answers.specs.JsonAnswers.{IsJsonOfFiles, is_single};
 ghost use Rattle.rpki_answers.specs.JsonVerdicts.{IsJsonOfPath};
 ghost use Rattle.rpki_answers.specs.Outcomes.{IsOutcomeOfTree, AreAllRead, EndsBy, IsOutcomeOfShow, IsOutcomeOfValidate};
-ghost use Rattle.rpki_command.specs.ReadFiles.{AreGiven, AreNamed};
+ghost use Rattle.rpki_command.specs.NamedFiles.{AreGiven, AreNamed};
 ghost use Rattle.rpki_answers.specs.ShownTexts.{IsTextOfFiles};
 ghost use Rattle.rpki_answers.specs.VerdictTexts.{IsTextOfPath};
 ghost use Rattle.rpki_files.specs.Files.{FileFields, contents, file_names};

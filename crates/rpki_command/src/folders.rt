@@ -4,15 +4,17 @@ ghost use Rattle.std.specs.Cmp.Lexicographic.{slice_cmp};
 ghost use Rattle.std.specs.List.{filter};
 ghost use Rattle.std.specs.List.Sorted.{IsPermutation, IsSorted};
 ghost use Rattle.std.specs.Ordering.{nat_cmp};
-ghost use Rattle.std.specs.Prelude.{◌≡◌, ◌||◌, ◌++◌, ◌∷◌, [], Bool, List, ℕ, Some, map, IfOk, MatchOption, OnOk, true};
+ghost use Rattle.std.specs.Prelude.{◌≡◌, ◌||◌, ◌⊎◌, ◌++◌, ◌∷◌, [], Bool, List, ℕ, Ok, Some, map, IfOk, MatchOption, OnOk, true};
 ghost use Rattle.std.specs.Bool.{MatchBool};
 ghost use Rattle.std.specs.Io.KnownBytes.{Appends};
 ghost use Rattle.rpki_arguments.specs.CommandLines.Views.{fields_of, word_octets};
-ghost use Rattle.rpki_command.specs.ListedFolders.{AreDown, AreFilesOf, AreOpened, IsUnlisted, StandFor, is_folder_name, is_taken};
+ghost use Rattle.rpki_command.specs.ListedFolders.{AreDown, AreFilesOf, AreOpened, IsUnlisted, StandFor, StandsForItself, is_folder_name, is_taken};
 ghost use Rattle.rpki_command.specs.Messages.{passed_message};
+ghost use Rattle.rpki_command.specs.UnreadFiles.{IsToldUnlisted};
 
 use crate::files::{FileSource, Unread};
 use crate::reading::tell;
+use anyhow::{Result, anyhow};
 use rpki_arguments::{Request, Task};
 use std::alloc::{AllocError, Global};
 use std::io;
@@ -58,25 +60,27 @@ fn sorted(mut names: Vec<Vec<u8>>) -> Vec<Vec<u8>>
     names
 }
 
-// What the folder of a name has, unless it can't be listed or is none.
+// What the folder of a name has, unless it is none or can't be listed, which is said.
 fn listed<F: FileSource, E: Write>(
     alloc: Global,
     files: &F,
     err: &mut E,
     name: &[u8],
-) -> Result<Option<Vec<Vec<u8>>>, AllocError>
-    ensures { let lists = F.lists files.now in IfOk result (λ listed.
-        MatchOption listed (IsUnlisted lists name.now)
-        (λ given. lists name.now (Some (word_octets given.items)))) }
+) -> Result<Option<Vec<Vec<u8>>>>
+    ensures { let lists = F.lists files.now in IfOk result (λ listed. (said : List ℕ)
+        × MatchOption listed
+        (IsUnlisted lists name.now × ((said ≡ []) ⊎ IsToldUnlisted name.now said))
+        (λ given. lists name.now (Some (word_octets given.items)) × (said ≡ []))
+        × Appends (E.contents err.old) (E.contents err.new) said) }
 {
     let Ok(text) = str::from_utf8(name) else {
         return Ok(None);
     };
     match files.list_folder(alloc, text) {
         Ok(listed) => Ok(listed),
-        Err(Unread::Memory) => Err(AllocError),
+        Err(Unread::Memory) => Err(anyhow!("out of memory")),
         Err(why) => {
-            let _told = tell(err, name, &why);
+            tell(alloc, err, name, &why)?;
             drop(why);
             Ok(None)
         }
@@ -124,12 +128,17 @@ impl Names {
         files: &F,
         err: &mut E,
         name: Vec<u8>,
-    ) -> Result<(), AllocError>
-        ensures { OnOk result ((its : List (List ℕ)) × StandFor (F.lists files.now) name.items its
-            × (word_octets self.new.all.items ≡ word_octets self.old.all.items ++ its)) }
+    ) -> Result<()>
+        ensures { OnOk result ((its : List (List ℕ)) × (said : List ℕ)
+            × StandFor (F.lists files.now) name.items its said
+            × (word_octets self.new.all.items ≡ word_octets self.old.all.items ++ its)
+            × Appends (E.contents err.old) (E.contents err.new) said) }
     {
         match listed(alloc, files, err, name.as_slice())? {
-            Some(given) => self.push_taken(sorted(given)),
+            Some(given) => {
+                self.push_taken(sorted(given))?;
+                Ok(())
+            }
             None => {
                 self.push(name)?;
                 Ok(())
@@ -145,15 +154,18 @@ impl Names {
         err: &mut E,
         opens: bool,
         name: Vec<u8>,
-    ) -> Result<(), AllocError>
-        ensures { OnOk result ((its : List (List ℕ))
-            × MatchBool opens (StandFor (F.lists files.now) name.items its) (its ≡ name.items ∷ [])
-            × (word_octets self.new.all.items ≡ word_octets self.old.all.items ++ its)) }
+    ) -> Result<()>
+        ensures { OnOk result ((its : List (List ℕ)) × (said : List ℕ)
+            × MatchBool opens (StandFor (F.lists files.now) name.items its said)
+            (StandsForItself name.items its said)
+            × (word_octets self.new.all.items ≡ word_octets self.old.all.items ++ its)
+            × Appends (E.contents err.old) (E.contents err.new) said) }
     {
         if opens {
             return self.push_opened(alloc, files, err, name);
         }
-        self.push(name)
+        self.push(name)?;
+        Ok(())
     }
 }
 
@@ -164,10 +176,11 @@ fn level<F: FileSource, E: Write>(
     err: &mut E,
     names: Names,
     is_first: bool,
-) -> Result<Names, AllocError>
-    ensures { IfOk result (λ opened. AreOpened (F.lists files.now)
-        (λ name. is_first || is_folder_name name)
-        (word_octets names.all.items) (word_octets opened.all.items)) }
+) -> Result<Names>
+    ensures { IfOk result (λ opened. (said : List ℕ)
+        × AreOpened (F.lists files.now) (λ name. is_first || is_folder_name name)
+        (word_octets names.all.items) (word_octets opened.all.items) said
+        × Appends (E.contents err.old) (E.contents err.new) said) }
 {
     let Names { all, passed } = names;
     let mut opened = Names::new(alloc, passed);
@@ -184,9 +197,11 @@ fn opened_down<F: FileSource, E: Write>(
     files: &F,
     err: &mut E,
     names: Names,
-) -> Result<Names, AllocError>
-    ensures { IfOk result (λ opened. AreDown (F.lists files.now) 32
-        (word_octets names.all.items) (word_octets opened.all.items)) }
+) -> Result<Names>
+    ensures { IfOk result (λ opened. (said : List ℕ)
+        × AreDown (F.lists files.now) 32
+        (word_octets names.all.items) (word_octets opened.all.items) said
+        × Appends (E.contents err.old) (E.contents err.new) said) }
 {
     let mut opened = names;
     for _level in 0..LEVELS {
@@ -209,7 +224,9 @@ fn copied(alloc: Global, names: &[&[u8]]) -> Result<Vec<Vec<u8>>, AllocError>
 
 // Says how many files of folders were passed over.
 fn tell_passed<E: Write>(err: &mut E, passed: usize) -> io::Result<()>
-    ensures { OnOk result (Appends (E.contents err.old) (E.contents err.new) (passed_message passed)) }
+    ensures said { OnOk result
+        (Appends (E.contents err.old) (E.contents err.new) (passed_message passed)) }
+    ensures none { passed ≡ 0 → result ≡ Ok tt }
 {
     if passed == 0 {
         return Ok(());
@@ -220,16 +237,19 @@ fn tell_passed<E: Write>(err: &mut E, passed: usize) -> io::Result<()>
     )
 }
 
-/// Returns the names of the files that stand for names of which each may be a folder's. Errs only
-/// where memory runs out.
+/// Returns the names of the files that stand for names of which each may be a folder's. Says which
+/// folder can't be listed, and how many files are passed over. Errs only where memory runs out, or this
+/// can't be said.
 pub fn opened<F: FileSource, E: Write>(
     alloc: Global,
     files: &F,
     err: &mut E,
     names: &[&[u8]],
-) -> Result<Vec<Vec<u8>>, AllocError>
+) -> Result<Vec<Vec<u8>>>
     ensures { let names = map (λ name. name.now) names.now in
-        IfOk result (λ all. AreFilesOf (F.lists files.now) Task.Tree names (word_octets all.items)) }
+        IfOk result (λ all. (said : List ℕ)
+        × AreFilesOf (F.lists files.now) Task.Tree names (word_octets all.items) said
+        × Appends (E.contents err.old) (E.contents err.new) said) }
 {
     let given = Names {
         all: copied(alloc, names)?,
@@ -237,25 +257,29 @@ pub fn opened<F: FileSource, E: Write>(
     };
     let first = level(alloc, files, err, given, true)?;
     let Names { all, passed } = opened_down(alloc, files, err, first)?;
-    let _told = tell_passed(err, passed);
+    tell_passed(err, passed)?;
     Ok(all)
 }
 
 /// Returns the names of the files that the request is about: where it may name folders, those of the
-/// files in them and below them, and else its own. Errs only where memory runs out.
+/// files in them and below them, as [`opened`] does, and else its own.
 pub fn file_names<F: FileSource, E: Write>(
     alloc: Global,
     files: &F,
     err: &mut E,
     request: &Request<'_>,
-) -> Result<Vec<Vec<u8>>, AllocError>
+) -> Result<Vec<Vec<u8>>>
     ensures { let names = map (λ name. name.now) request.now.files.items in
-        IfOk result (λ all.
-        AreFilesOf (F.lists files.now) request.now.task names (word_octets all.items)) }
+        IfOk result (λ all. (said : List ℕ)
+        × AreFilesOf (F.lists files.now) request.now.task names (word_octets all.items) said
+        × Appends (E.contents err.old) (E.contents err.new) said) }
 {
     match request.task {
         Task::Tree => opened(alloc, files, err, &request.files),
-        Task::Show | Task::Validate | Task::Help | Task::Version => copied(alloc, &request.files),
+        Task::Show | Task::Validate | Task::Help | Task::Version => {
+            let names = copied(alloc, &request.files)?;
+            Ok(names)
+        }
     }
 }
 

@@ -3,10 +3,9 @@ ghost use Rattle.std.specs.Prelude.{◌≡◌, ◌≢◌, ◌∷◌, [], ◌++�
 ghost use Rattle.rpki_files.specs.Files.{contents};
 ghost use Rattle.rpki_requests.specs.RequestWords.{values_of};
 ghost use Rattle.rpki_requests.specs.RequestWords.Views.{asked_fields};
-ghost use Rattle.rpki_command.specs.ReadFiles.{IsUnread};
-ghost use Rattle.rpki_command.specs.RequestRuns.{AreInputs, AreObjectsNamed, HasUnread, HasUnreadInput, IsObjectNamed};
+ghost use Rattle.rpki_command.specs.RequestRuns.{AreInputs, AreObjectsNamed, IsObjectNamed, IsUnreadInput, IsUnreadOf};
 ghost use Rattle.rpki_command.specs.RequestRuns.Views.{input_fields};
-ghost use Rattle.rpki_command.specs.UnreadFiles.{IsNamed, IsWhyUnread};
+ghost use Rattle.rpki_command.specs.UnreadFiles.{IsWhyUnread};
 ghost use Rattle.rpki_arguments.specs.CommandLines.{usual_size};
 
 use crate::files::{FileSource, Unread};
@@ -91,7 +90,6 @@ fn push<'a>(all: &mut Vec<Object<'a>>, object: Object<'a>) -> Result<(), AllocEr
 }
 
 // Reads the file of this name and pushes its object.
-#[tactic(auto, using(crate::proofs::UnreadFiles::unread_of))]
 fn push_named<'a, F: FileSource>(
     alloc: Global,
     files: &F,
@@ -101,9 +99,8 @@ fn push_named<'a, F: FileSource>(
     ensures read { OnOk result ((octets : List ℕ)
         × IsObjectNamed (F.reads files.now) name.now octets
         × (contents all.new.items ≡ contents all.old.items ++ octets ∷ [])) }
-    ensures unread { IfErr result (λ e.
-        e.why ≢ Unread.Memory → IsUnread (F.reads files.now) usual_size name.now) }
-    ensures named { IfErr result (IsNamed (F.reads files.now)) }
+    ensures unread { IfErr result (λ e. e.why ≢ Unread.Memory
+        → (e.name.now ≡ name.now) × IsWhyUnread (F.reads files.now) usual_size name.now e.why) }
 {
     match object_named(alloc, files, name) {
         Ok(object) => match push(all, object) {
@@ -123,8 +120,7 @@ fn objects_named<'a, F: FileSource>(
     ensures objects { let names = map (λ name. name.now) names.now in IfOk result (λ all.
         AreObjectsNamed (F.reads files.now) names (contents all.items)) }
     ensures unread { let names = map (λ name. name.now) names.now in IfErr result (λ e.
-        e.why ≢ Unread.Memory → HasUnread (F.reads files.now) names) }
-    ensures named { IfErr result (IsNamed (F.reads files.now)) }
+        e.why ≢ Unread.Memory → IsUnreadOf (F.reads files.now) names e) }
 {
     let mut all = Vec::new(alloc);
     for name in names {
@@ -143,8 +139,7 @@ fn objects_of<'a, F: FileSource>(
     ensures objects { let names = values_of setting (asked_fields order.now).given in
         IfOk result (λ all. AreObjectsNamed (F.reads files.now) names (contents all.items)) }
     ensures unread { let names = values_of setting (asked_fields order.now).given in
-        IfErr result (λ e. e.why ≢ Unread.Memory → HasUnread (F.reads files.now) names) }
-    ensures named { IfErr result (IsNamed (F.reads files.now)) }
+        IfErr result (λ e. e.why ≢ Unread.Memory → IsUnreadOf (F.reads files.now) names e) }
 {
     let Ok(names) = order.values_of(alloc, setting) else {
         return Err(no_memory());
@@ -164,8 +159,7 @@ pub fn read_inputs<'a, F: FileSource>(
     ensures inputs { IfOk result (λ objects.
         AreInputs (F.reads files.now) (asked_fields order.now) (input_fields objects)) }
     ensures unread { IfErr result (λ e. e.why ≢ Unread.Memory
-        → HasUnreadInput (F.reads files.now) (asked_fields order.now)) }
-    ensures named { IfErr result (IsNamed (F.reads files.now)) }
+        → IsUnreadInput (F.reads files.now) (asked_fields order.now) e) }
 {
     let issuers = objects_of(alloc, files, order, Setting::Issuer)?;
     let lists = objects_of(alloc, files, order, Setting::Crl)?;

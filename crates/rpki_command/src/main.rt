@@ -64,9 +64,13 @@ fn settled(ended: Result<Ended>) -> Result<Outcome>
     Ok(outcome)
 }
 
-// Says why a run failed. Where this can't be told, the status still tells it.
-fn tell<E: Write>(err: &mut E, error: &Error) {
+// Says why a run failed, and ends so. Where this can't be said, the status still tells it.
+fn failed<E: Write>(err: &mut E, error: Error) -> ExitCode
+    ensures { exit_status result ≡ 3 }
+{
     let _told = writeln!(err, "rpki: {error:#}");
+    drop(error);
+    ExitCode::from(3)
 }
 
 // Runs the command on the words of a command line: writes what the files hold that they name, or
@@ -84,30 +88,26 @@ fn command<S: FileSource + MomentSource, M: FileMaker, O: Write, E: Write>(
     err: &mut E,
     words: &[Vec<u8>],
 ) -> ExitCode
-    ensures success { let words = word_octets words.now in exit_status result ≡ 0
-        → RunEndsAs (S.reads system.now) (S.lists system.now) (S.tells system.now) words Outcome.Success }
-    ensures rejection { let words = word_octets words.now in exit_status result ≡ 1
-        → RunEndsAs (S.reads system.now) (S.lists system.now) (S.tells system.now) words Outcome.Rejection }
-    ensures wrong_use { let words = word_octets words.now in exit_status result ≡ 2
-        → RunEndsAs (S.reads system.now) (S.lists system.now) (S.tells system.now) words Outcome.WrongUse }
+    ensures success { let words = word_octets words.now in
+        let Ends = RunEndsAs (S.reads system.now) (S.lists system.now) (S.tells system.now) words in
+        exit_status result ≡ 0 → Ends Outcome.Success (E.contents err.old) (E.contents err.new)
+        (M.made files.old) (M.made files.new) }
+    ensures rejection { let words = word_octets words.now in
+        let Ends = RunEndsAs (S.reads system.now) (S.lists system.now) (S.tells system.now) words in
+        exit_status result ≡ 1 → Ends Outcome.Rejection (E.contents err.old) (E.contents err.new)
+        (M.made files.old) (M.made files.new) }
+    ensures wrong_use { let words = word_octets words.now in
+        let Ends = RunEndsAs (S.reads system.now) (S.lists system.now) (S.tells system.now) words in
+        exit_status result ≡ 2 → Ends Outcome.WrongUse (E.contents err.old) (E.contents err.new)
+        (M.made files.old) (M.made files.new) }
     ensures no_other { exit_status result ≤ 3 }
 {
     let ended = settled(run(alloc, system, files, out, err, words));
-    if let Err(error) = &ended {
-        tell(err, error);
-    }
     let status = status_of(&ended);
-    drop(ended);
-    ExitCode::from(status)
-}
-
-// Ends where the words can't be read.
-fn wordless<E: Write>(err: &mut E, error: Error) -> ExitCode
-    ensures { exit_status result ≡ 3 }
-{
-    tell(err, &error);
-    drop(error);
-    ExitCode::from(3)
+    match ended {
+        Ok(_outcome) => ExitCode::from(status),
+        Err(error) => failed(err, error),
+    }
 }
 
 fn main(rt: HostRuntime) -> ExitCode {
@@ -120,6 +120,6 @@ fn main(rt: HostRuntime) -> ExitCode {
             drop(words);
             code
         }
-        Err(error) => wordless(&mut err, error),
+        Err(error) => failed(&mut err, error),
     }
 }

@@ -1,7 +1,7 @@
 //! Where files are made, and why one can't be.
-ghost use Rattle.std.specs.Prelude.{[], ◌∷◌, List, None, Option, IfErr, OnOk};
+ghost use Rattle.std.specs.Prelude.{◌≡◌, [], ◌∷◌, List, None, Option, IfErr, OnErr, OnOk};
 ghost use Rattle.rpki_command.specs.Outputs.{Makes};
-ghost use Rattle.rpki_command.specs.UnreadFiles.{IsWhyUnmade};
+ghost use Rattle.rpki_command.specs.UnreadFiles.{IsWhyUnmade, unmade_text};
 
 use crate::files::write_failure;
 use std::fs::OpenOptions;
@@ -17,15 +17,15 @@ pub enum Unmade {
 }
 
 impl fmt::Display for Unmade {
+    ghost output = { λ why. unmade_text why };
+
     fn fmt<W: fmt::Write>(&self, f: &mut fmt::Formatter<W>) -> fmt::Result {
         match self {
             Unmade::OtherName => f.write_str("a file whose name isn't UTF-8 can't be opened"),
-            Unmade::Failed(error) => {
-                if error.kind() == ErrorKind::AlreadyExists {
-                    return f.write_str("is there already (--force overwrites it)");
-                }
-                write_failure(f, error)
-            }
+            Unmade::Failed(error) => match error.kind() {
+                ErrorKind::AlreadyExists => f.write_str("is there already (--force overwrites it)"),
+                _ => write_failure(f, error),
+            },
         }
     }
 }
@@ -39,10 +39,11 @@ pub trait FileMaker {
     ghost made: { Self → Option (List MadeFile) } = { λ _. None };
 
     /// Makes the file of this name with these octets. One that is there is overwritten where that is
-    /// said, and is else in the way.
+    /// said, and is else in the way. Where it errs, none was made.
     fn make_file(&mut self, name: &str, octets: &[u8], overwrites: bool) -> io::Result<()>
-        ensures { OnOk result (Makes (made self.old) (made self.new)
-            (record { name = name.now; octets = octets.now; overwrites = overwrites } ∷ [])) };
+        ensures made { OnOk result (Makes (made self.old) (made self.new)
+            (record { name = name.now; octets = octets.now; overwrites = overwrites } ∷ [])) }
+        ensures unmade { OnErr result (made self.new ≡ made self.old) };
 }
 
 /// The system's files.
@@ -77,6 +78,7 @@ pub fn make_named<M: FileMaker>(
     overwrites: bool,
 ) -> Result<(), Unmade>
     ensures unmade { IfErr result (IsWhyUnmade name.now) }
+    ensures kept { OnErr result (M.made files.new ≡ M.made files.old) }
     ensures made { OnOk result (Makes (M.made files.old) (M.made files.new)
         (record { name = name.now; octets = octets.now; overwrites = overwrites } ∷ [])) }
 {

@@ -1,29 +1,44 @@
 //! The files that a request names, and what is said of those that can't be read.
-ghost use Rattle.std.specs.Prelude.{◌≡◌, [], ◌∷◌, ◌++◌, All, List, Some, map, IfErr, IfOk, MatchOption, OnOk};
+ghost use Rattle.std.specs.Io.KnownBytes.{Appends};
+ghost use Rattle.std.specs.Prelude.{◌≡◌, [], ◌∷◌, ◌++◌, All, List, ℕ, Some, map, IfErr, IfOk, MatchOption, OnOk};
 ghost use Rattle.rpki_arguments.specs.CommandLines.Views.{fields_of};
-ghost use Rattle.rpki_command.specs.ReadFiles.{AreFilesRead, AreObjectsRead, AreRead, IsUnread};
-ghost use Rattle.rpki_command.specs.UnreadFiles.{IsWhyUnread, SaysUnread};
+ghost use Rattle.rpki_command.specs.NamedFiles.{AreFilesRead, AreObjectsRead, AreRead};
+ghost use Rattle.rpki_command.specs.UnreadFiles.{IsLineAbout, IsToldUnread, IsWhyUnread, called, file_message};
 ghost use Rattle.rpki_verdicts.specs.GivenLocators.{LocatorFields, IsRead, locator_files};
 
 use crate::files::{FileSource, Unread};
+use anyhow::{Result, anyhow};
 use rpki_arguments::Request;
 use rpki_files::{BareObject, Object, read_bare_object, read_object};
 use rpki_text::Characters;
 use rpki_verdicts::GivenLocator;
 use std::alloc::{AllocError, Global};
+use std::fmt::Display;
 use std::io;
 use std::io::Write;
 
-/// Says why a file can't be read, in a line with its name.
-pub fn tell<E: Write>(err: &mut E, name: &[u8], why: &Unread) -> io::Result<()>
-    ensures { OnOk result
-        (SaysUnread name.now why.now (E.contents err.old) (E.contents err.new)) }
+// Writes what a file is called, and why nothing comes of it.
+fn put_line<E: Write>(err: &mut E, name: &[u8], why: &str) -> io::Result<()>
+    ensures { let message = file_message (called name.now) why.now in
+        OnOk result (Appends (E.contents err.old) (E.contents err.new) message) }
 {
     if name == b"-".as_slice() {
         return writeln!(err, "rpki: standard input: {why}");
     }
     let name = Characters(name);
     writeln!(err, "rpki: {name}: {why}")
+}
+
+/// Says in a line with a file's name why nothing comes of it. Errs where memory runs out or writing
+/// fails.
+pub fn tell<E: Write, W: Display>(alloc: Global, err: &mut E, name: &[u8], why: &W) -> Result<()>
+    ensures { OnOk result ((line : List ℕ) × IsLineAbout (called name.now) (W.output why.now) line
+        × Appends (E.contents err.old) (E.contents err.new) line) }
+{
+    let text = why.to_string(alloc)?;
+    put_line(err, name, &text)?;
+    drop(text);
+    Ok(())
 }
 
 /// Returns what the file of this name holds, or why it can't be read.
@@ -48,24 +63,23 @@ pub fn octets_by<'a, F: FileSource>(
 }
 
 // What a file of this name holds; where it can't be read, that is said, and there is nothing.
-#[tactic(auto, using(crate::proofs::UnreadFiles::unread_of))]
 fn octets_told<'a, F: FileSource, E: Write>(
     alloc: Global,
     files: &F,
     err: &mut E,
     name: &'a [u8],
     most: u64,
-) -> Result<Option<(&'a str, Vec<u8>)>, AllocError>
-    ensures { let reads = F.reads files.now in IfOk result (λ read.
-        MatchOption read (IsUnread reads most name.now)
-        (λ r. (r.0.now ≡ name.now) × reads name.now most (Some r.1.items))) }
+) -> Result<Option<(&'a str, Vec<u8>)>>
+    ensures { let reads = F.reads files.now in IfOk result (λ read. (said : List ℕ)
+        × MatchOption read (IsToldUnread reads most name.now said)
+        (λ r. (r.0.now ≡ name.now) × reads name.now most (Some r.1.items) × (said ≡ []))
+        × Appends (E.contents err.old) (E.contents err.new) said) }
 {
     match octets_by(alloc, files, name, most) {
         Ok(read) => Ok(Some(read)),
-        Err(Unread::Memory) => Err(AllocError),
+        Err(Unread::Memory) => Err(anyhow!("out of memory")),
         Err(why) => {
-            // (where this can't be told, the exit status still tells it)
-            let _told = tell(err, name, &why);
+            tell(alloc, err, name, &why)?;
             drop(why);
             Ok(None)
         }
@@ -110,10 +124,11 @@ fn push_file<'a, F: FileSource, E: Write, K: Kept<'a>>(
     all: &mut Vec<K>,
     name: &'a [u8],
     most: u64,
-) -> Result<(), AllocError>
-    ensures { OnOk result ((its : List K)
-        × AreObjectsRead (F.reads files.now) most (name.now ∷ []) (map K.fields its)
-        × (all.new.items ≡ all.old.items ++ its)) }
+) -> Result<()>
+    ensures { OnOk result ((its : List K) × (said : List ℕ)
+        × AreObjectsRead (F.reads files.now) most (name.now ∷ []) (map K.fields its) said
+        × (all.new.items ≡ all.old.items ++ its)
+        × Appends (E.contents err.old) (E.contents err.new) said) }
 {
     match octets_told(alloc, files, err, name, most)? {
         Some((text, octets)) => {
@@ -135,10 +150,11 @@ fn push_locator<'a, F: FileSource, E: Write>(
     name: &'a [u8],
     most: u64,
     strict: bool,
-) -> Result<(), AllocError>
-    ensures { OnOk result ((its : List LocatorFields)
-        × AreFilesRead (F.reads files.now) most (name.now ∷ []) (locator_files its)
-        × All (IsRead strict) its × (all.new.items ≡ all.old.items ++ its)) }
+) -> Result<()>
+    ensures { OnOk result ((its : List LocatorFields) × (said : List ℕ)
+        × AreFilesRead (F.reads files.now) most (name.now ∷ []) (locator_files its) said
+        × All (IsRead strict) its × (all.new.items ≡ all.old.items ++ its)
+        × Appends (E.contents err.old) (E.contents err.new) said) }
 {
     match octets_told(alloc, files, err, name, most)? {
         Some((text, octets)) => {
@@ -151,7 +167,7 @@ fn push_locator<'a, F: FileSource, E: Write>(
 }
 
 /// Reads the files of these names as locators, each of so many octets at most, and says of each
-/// that can't be read why. Errs only where memory runs out.
+/// that can't be read why. Errs only where memory runs out, or this can't be said.
 pub fn read_locators<'a, F: FileSource, E: Write>(
     alloc: Global,
     files: &F,
@@ -159,9 +175,11 @@ pub fn read_locators<'a, F: FileSource, E: Write>(
     names: &[&'a [u8]],
     most: u64,
     strict: bool,
-) -> Result<Vec<GivenLocator<'a>>, AllocError>
-    ensures files { let reads = F.reads files.now in IfOk result (λ all.
-        AreFilesRead reads most (map (λ name. name.now) names.now) (locator_files all.items)) }
+) -> Result<Vec<GivenLocator<'a>>>
+    ensures files { let names = map (λ name. name.now) names.now in
+        IfOk result (λ all. (said : List ℕ)
+        × AreFilesRead (F.reads files.now) most names (locator_files all.items) said
+        × Appends (E.contents err.old) (E.contents err.new) said) }
     ensures read { IfOk result (λ all. All (IsRead strict) all.items) }
 {
     let mut all = Vec::new(alloc);
@@ -172,16 +190,18 @@ pub fn read_locators<'a, F: FileSource, E: Write>(
 }
 
 /// Reads the files of these names, each of so many octets at most, and says of each that can't be
-/// read why. Errs only where memory runs out.
+/// read why. Errs only where memory runs out, or this can't be said.
 pub fn read_files<'a, F: FileSource, E: Write, K: Kept<'a>>(
     alloc: Global,
     files: &F,
     err: &mut E,
     names: &[&'a [u8]],
     most: u64,
-) -> Result<Vec<K>, AllocError>
-    ensures { let reads = F.reads files.now in IfOk result (λ all.
-        AreObjectsRead reads most (map (λ name. name.now) names.now) (map K.fields all.items)) }
+) -> Result<Vec<K>>
+    ensures { let names = map (λ name. name.now) names.now in
+        IfOk result (λ all. (said : List ℕ)
+        × AreObjectsRead (F.reads files.now) most names (map K.fields all.items) said
+        × Appends (E.contents err.old) (E.contents err.new) said) }
 {
     let mut all = Vec::new(alloc);
     let mut read = 0;
@@ -202,16 +222,17 @@ pub struct GivenFiles<'a, K> {
 }
 
 /// Reads the files, lists and locators that a request names, and says of each that can't be read why.
-/// Errs only where memory runs out.
+/// Errs only where memory runs out, or this can't be said.
 pub fn read_given<'a, F: FileSource, E: Write, K: Kept<'a>>(
     alloc: Global,
     files: &F,
     err: &mut E,
     request: &Request<'a>,
-) -> Result<GivenFiles<'a, K>, AllocError>
-    ensures { let request = fields_of request.now in IfOk result (λ given.
-        let all = map K.fields given.files.items in let lists = map K.fields given.lists.items in
-        AreRead (F.reads files.now) request all lists given.locators.items) }
+) -> Result<GivenFiles<'a, K>>
+    ensures { let request = fields_of request.now in IfOk result (λ given. (said : List ℕ)
+        × (let all = map K.fields given.files.items in let lists = map K.fields given.lists.items in
+        AreRead (F.reads files.now) request all lists given.locators.items said)
+        × Appends (E.contents err.old) (E.contents err.new) said) }
 {
     let most = request.max_size;
     let members = read_files(alloc, files, err, &request.files, most)?;

@@ -7,12 +7,11 @@ ghost use Rattle.rpki_requests.specs.Fulfilment.{Fulfils, context_of};
 ghost use Rattle.rpki_requests.specs.Refusals.{TellsPath};
 ghost use Rattle.rpki_requests.specs.RequestMisuses.{misuse_text};
 ghost use Rattle.rpki_requests.specs.RequestWords.Views.{asked_fields};
-ghost use Rattle.rpki_command.specs.Messages.{SaysRequestMisuse, misuse_message, refusal_message};
+ghost use Rattle.rpki_command.specs.Messages.{misuse_message, refusal_message};
 ghost use Rattle.rpki_command.specs.Outputs.{Makes, Output, placed};
 ghost use Rattle.rpki_command.specs.PemTexts.{IsPemText};
-ghost use Rattle.rpki_command.specs.RequestRuns.{AskedEnds, InputsEnd, IsWritten, RequestEnds, SaysRefusal, SaysRefusalOf, SaysWhy, WordsEnd};
+ghost use Rattle.rpki_command.specs.RequestRuns.{AskedEnds, InputsEnd, IsLineOf, IsUnmadeOf, IsWritten, PlaceEnds, RequestEnds, WordsEnd};
 ghost use Rattle.rpki_command.specs.RequestRuns.Views.{input_fields};
-ghost use Rattle.rpki_command.specs.UnreadFiles.{SaysOneUnread, SaysUnread};
 
 use crate::about::usage;
 use crate::clock::{MomentSource, moment};
@@ -22,14 +21,13 @@ use crate::inputs::{Objects, Unreadable, read_inputs};
 use crate::making::{FileMaker, Unmade, make_named};
 use crate::pem::pem_text;
 use crate::reading::tell;
-use anyhow::{Error, Result, anyhow};
+use anyhow::{Result, anyhow};
 use bytes::Bytes;
 use rpki::repository::x509::Time;
 use rpki_answers::Outcome;
 use rpki_requests::{
     Made, Misuse, Order, Refusal, Setting, asks_help, fulfil, named_moment, read_request,
 };
-use rpki_text::Characters;
 use std::alloc::{AllocError, Global};
 use std::io;
 use std::io::Write;
@@ -62,16 +60,14 @@ fn refuse<E: Write>(err: &mut E, refusal: &Refusal) -> Result<()>
 }
 
 // Says which file can't be read, and why, unless memory ran out.
-fn tell_unreadable<E: Write>(err: &mut E, unreadable: &Unreadable<'_>) -> Result<()>
-    ensures memory { OnOk result (unreadable.now.why ≢ Unread.Memory) }
-    ensures said { let file = unreadable.now in OnOk result
-        (SaysUnread file.name.now file.why (E.contents err.old) (E.contents err.new)) }
+fn tell_unreadable<E: Write>(alloc: Global, err: &mut E, file: &Unreadable<'_>) -> Result<()>
+    ensures { OnOk result ((said : List ℕ) × IsLineOf file.now said
+        × Appends (E.contents err.old) (E.contents err.new) said) }
 {
-    if let Unread::Memory = unreadable.why {
+    if let Unread::Memory = file.why {
         return Err(anyhow!("out of memory"));
     }
-    tell(err, unreadable.name, &unreadable.why)?;
-    Ok(())
+    tell(alloc, err, file.name, &file.why)
 }
 
 // A run that writes nothing.
@@ -130,26 +126,29 @@ fn text_of(
     Ok(written(alloc, made, order.is_pem)?)
 }
 
-// That a file can't be made, by its name.
-fn unmade(name: &[u8], why: &Unmade) -> Error {
-    let name = Characters(name);
-    anyhow!("{name}: {why}")
+/// A file that can't be made, by its name, and why.
+#[derive(Drop)]
+pub struct Unplaced<'a> {
+    pub name: &'a [u8],
+    pub why: Unmade,
 }
 
 // Puts a text into the file that is named, if one is, and else out, as where `-` is named. Errs where
 // that file can't be made.
-fn put<M: FileMaker, O: Write>(
+fn put<'a, M: FileMaker, O: Write>(
     files: &mut M,
     out: &mut O,
-    names: &[&[u8]],
+    names: &[&'a [u8]],
     overwrites: bool,
     text: &[u8],
-) -> Result<io::Result<()>>
+) -> Result<io::Result<()>, Unplaced<'a>>
     ensures written { let names = map (λ name. name.now) names.now in IfOk result (λ written.
         OnOk written (Appends (O.contents out.old) (O.contents out.new)
         (placed names overwrites text.now).text)) }
     ensures made { let names = map (λ name. name.now) names.now in IfOk result (λ _.
         Makes (M.made files.old) (M.made files.new) (placed names overwrites text.now).files) }
+    ensures unmade { IfErr result (IsUnmadeOf (map (λ name. name.now) names.now)) }
+    ensures kept { OnErr result (M.made files.new ≡ M.made files.old) }
     ensures unwritten { OnErr result (out.new ≡ out.old) }
 {
     let Some((name, _others)) = names.split_first() else {
@@ -160,12 +159,42 @@ fn put<M: FileMaker, O: Write>(
     }
     match make_named(files, *name, text, overwrites) {
         Ok(()) => Ok(Ok(())),
-        Err(why) => Err(unmade(*name, &why)),
+        Err(why) => Err(Unplaced { name: *name, why }),
     }
 }
 
-// Puts out what a request gives at a moment, or says why it gives nothing. Errs where a file can't be
-// made.
+// Puts a text so; where that file can't be made, it says why.
+fn place<M: FileMaker, O: Write, E: Write>(
+    alloc: Global,
+    files: &mut M,
+    out: &mut O,
+    err: &mut E,
+    names: &[&[u8]],
+    overwrites: bool,
+    text: &[u8],
+) -> Result<Ended>
+    ensures ended { let names = map (λ name. name.now) names.now in IfOk result (λ ended.
+        (output : Output) × PlaceEnds names overwrites text.now ended.outcome output
+        × OnOk ended.written (Appends (O.contents out.old) (O.contents out.new) output.text)
+        × Appends (E.contents err.old) (E.contents err.new) output.said
+        × Makes (M.made files.old) (M.made files.new) output.files) }
+    ensures unwritten { OnErr result (out.new ≡ out.old) }
+{
+    match put(files, out, names, overwrites, text) {
+        Ok(written) => Ok(Ended {
+            outcome: Outcome::Success,
+            written,
+        }),
+        Err(file) => {
+            tell(alloc, err, file.name, &file.why)?;
+            drop(file);
+            Ok(silent(Outcome::Unread))
+        }
+    }
+}
+
+// Puts out what a request gives at a moment, or says why it gives nothing, or why the file that it
+// names can't be made.
 fn answer_inputs<M: FileMaker, O: Write, E: Write>(
     alloc: Global,
     files: &mut M,
@@ -179,24 +208,17 @@ fn answer_inputs<M: FileMaker, O: Write, E: Write>(
         (output : Output)
         × InputsEnd (asked_fields order.now) inputs now ended.outcome output
         × OnOk ended.written (Appends (O.contents out.old) (O.contents out.new) output.text)
+        × Appends (E.contents err.old) (E.contents err.new) output.said
         × Makes (M.made files.old) (M.made files.new) output.files) }
-    ensures refused { let asked = asked_fields order.now in let inputs = input_fields objects.now in
-        IfOk result (λ ended. ended.outcome ≡ Outcome.Rejection
-        → SaysWhy asked inputs now (E.contents err.old) (E.contents err.new)) }
-    ensures read { IfOk result (λ ended. ended.outcome ≢ Outcome.Unread) }
     ensures unwritten { OnErr result (out.new ≡ out.old) }
 {
     let names = order.values_of(alloc, Setting::Out)?;
     match text_of(alloc, order, objects, now) {
         Ok(text) => {
-            let put = put(files, out, &names, order.overwrites, &text);
+            let ended = place(alloc, files, out, err, &names, order.overwrites, &text);
             drop(text);
             drop(names);
-            let written = put?;
-            Ok(Ended {
-                outcome: Outcome::Success,
-                written,
-            })
+            ended
         }
         Err(refusal) => {
             drop(names);
@@ -221,12 +243,8 @@ fn answer_order<S: FileSource + MomentSource, M: FileMaker, O: Write, E: Write>(
         (output : Output)
         × AskedEnds (S.reads system.now) (S.tells system.now) asked ended.outcome output
         × OnOk ended.written (Appends (O.contents out.old) (O.contents out.new) output.text)
+        × Appends (E.contents err.old) (E.contents err.new) output.said
         × Makes (M.made files.old) (M.made files.new) output.files) }
-    ensures refused { let says = SaysRefusalOf (S.reads system.now) (S.tells system.now) in
-        IfOk result (λ ended. ended.outcome ≡ Outcome.Rejection
-        → says (asked_fields order.now) (E.contents err.old) (E.contents err.new)) }
-    ensures unread { IfOk result (λ ended. ended.outcome ≡ Outcome.Unread
-        → SaysOneUnread (S.reads system.now) (E.contents err.old) (E.contents err.new)) }
     ensures unwritten { OnErr result (out.new ≡ out.old) }
 {
     let named = match named_moment(alloc, order, Setting::At) {
@@ -245,7 +263,7 @@ fn answer_order<S: FileSource + MomentSource, M: FileMaker, O: Write, E: Write>(
             ended
         }
         Err(unreadable) => {
-            tell_unreadable(err, &unreadable)?;
+            tell_unreadable(alloc, err, &unreadable)?;
             drop(unreadable);
             Ok(silent(Outcome::Unread))
         }
@@ -264,15 +282,8 @@ fn answer_words<S: FileSource + MomentSource, M: FileMaker, O: Write, E: Write>(
     ensures ended { let words = word_octets words.now in IfOk result (λ ended. (output : Output)
         × WordsEnd (S.reads system.now) (S.tells system.now) words ended.outcome output
         × OnOk ended.written (Appends (O.contents out.old) (O.contents out.new) output.text)
+        × Appends (E.contents err.old) (E.contents err.new) output.said
         × Makes (M.made files.old) (M.made files.new) output.files) }
-    ensures said { let words = word_octets words.now in
-        IfOk result (λ ended. ended.outcome ≡ Outcome.WrongUse
-        → SaysRequestMisuse words (E.contents err.old) (E.contents err.new)) }
-    ensures refused { let says = SaysRefusal (S.reads system.now) (S.tells system.now) in
-        IfOk result (λ ended. ended.outcome ≡ Outcome.Rejection
-        → says (word_octets words.now) (E.contents err.old) (E.contents err.new)) }
-    ensures unread { IfOk result (λ ended. ended.outcome ≡ Outcome.Unread
-        → SaysOneUnread (S.reads system.now) (E.contents err.old) (E.contents err.new)) }
     ensures unwritten { OnErr result (out.new ≡ out.old) }
 {
     match read_request(alloc, words) {
@@ -290,9 +301,9 @@ fn answer_words<S: FileSource + MomentSource, M: FileMaker, O: Write, E: Write>(
 
 /// Answers words that begin as a request does: puts out what is prepared or completed, of files as
 /// reading them gives them, at the moment that is named or else at the one that the clock tells. Of
-/// words that ask nothing it says what is wrong, and why a request gives nothing. Where words ask how
-/// the command is used it writes that. Errs where memory runs out, where the file to write can't be
-/// made, or where the clock or what says it fails, and has written nothing on standard output.
+/// words that ask nothing it says what is wrong, and why a request gives nothing, or why a file can't be
+/// read or made. Where words ask how the command is used it writes that. Errs where memory runs out, or
+/// where the clock or what says it fails, and has written nothing on standard output.
 pub fn run_request<S: FileSource + MomentSource, M: FileMaker, O: Write, E: Write>(
     alloc: Global,
     system: &S,
@@ -304,15 +315,8 @@ pub fn run_request<S: FileSource + MomentSource, M: FileMaker, O: Write, E: Writ
     ensures ended { let words = word_octets words.now in IfOk result (λ ended. (output : Output)
         × RequestEnds (S.reads system.now) (S.tells system.now) words ended.outcome output
         × OnOk ended.written (Appends (O.contents out.old) (O.contents out.new) output.text)
+        × Appends (E.contents err.old) (E.contents err.new) output.said
         × Makes (M.made files.old) (M.made files.new) output.files) }
-    ensures said { let words = word_octets words.now in
-        IfOk result (λ ended. ended.outcome ≡ Outcome.WrongUse
-        → SaysRequestMisuse words (E.contents err.old) (E.contents err.new)) }
-    ensures refused { let says = SaysRefusal (S.reads system.now) (S.tells system.now) in
-        IfOk result (λ ended. ended.outcome ≡ Outcome.Rejection
-        → says (word_octets words.now) (E.contents err.old) (E.contents err.new)) }
-    ensures unread { IfOk result (λ ended. ended.outcome ≡ Outcome.Unread
-        → SaysOneUnread (S.reads system.now) (E.contents err.old) (E.contents err.new)) }
     ensures unwritten { OnErr result (out.new ≡ out.old) }
 {
     if asks_help(words) {

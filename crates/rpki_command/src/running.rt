@@ -4,12 +4,9 @@ ghost use Rattle.std.specs.Io.KnownBytes.{Appends};
 ghost use Rattle.rpki_arguments.specs.CommandLines.Views.{fields_of, word_octets};
 ghost use Rattle.rpki_answers.specs.Outcomes.{AsksOfFiles};
 ghost use Rattle.rpki_arguments.specs.MisuseTexts.{misuse_text};
-ghost use Rattle.rpki_command.specs.Messages.{SaysLineMisuse, misuse_message};
+ghost use Rattle.rpki_command.specs.Messages.{misuse_message};
 ghost use Rattle.rpki_command.specs.Outputs.{Makes, Output};
-ghost use Rattle.rpki_command.specs.RequestRuns.{SaysRefusal};
-ghost use Rattle.rpki_command.specs.Runs.{IsAnswer, IsAnswerBy, IsAnswerIn, IsAnswerOf, IsAnswerOfNamed, IsWholeAnswer, LineEnds, RunEnds, SaysMisuse};
-ghost use Rattle.rpki_requests.specs.RequestWords.{BeginsRequest};
-ghost use Rattle.rpki_command.specs.UnreadFiles.{SaysOneUnread};
+ghost use Rattle.rpki_command.specs.Runs.{IsAnswer, IsAnswerBy, IsAnswerIn, IsAnswerOf, IsAnswerOfNamed, IsWholeAnswer, LineEnds, RunEnds};
 
 use crate::about::{text_about, usage};
 use crate::answering::{answer_objects, answer_tree, quieted};
@@ -27,8 +24,7 @@ use rpki_answers::{Answer, Outcome};
 use rpki_arguments::{Misuse, Request, Task, read_words};
 use rpki_files::{BareObject, Object};
 use rpki_requests::is_request;
-use std::alloc::{AllocError, Global};
-use std::io;
+use std::alloc::Global;
 use std::io::Write;
 
 // Says what is wrong of the command line, unless memory ran out.
@@ -53,10 +49,12 @@ fn objects_answered<F: FileSource, E: Write>(
     err: &mut E,
     request: &Request<'_>,
     now: Time,
-) -> Result<Answer, AllocError>
+) -> Result<Answer>
     requires { let task = request.now.task in (task ≡ Task.Show) ⊎ (task ≡ Task.Validate) }
-    ensures { let request = fields_of request.now in IfOk result (λ answer.
-        IsWholeAnswer (F.reads files.now) request now answer.outcome (string_bytes answer.text)) }
+    ensures { let request = fields_of request.now in IfOk result (λ answer. (said : List ℕ)
+        × IsWholeAnswer (F.reads files.now) request now
+        answer.outcome (string_bytes answer.text) said
+        × Appends (E.contents err.old) (E.contents err.new) said) }
 {
     let given: GivenFiles<'_, Object<'_>> = read_given(alloc, files, err, request)?;
     let answer = answer_objects(
@@ -78,10 +76,12 @@ fn tree_answered<F: FileSource, E: Write>(
     err: &mut E,
     request: &Request<'_>,
     now: Time,
-) -> Result<Answer, AllocError>
+) -> Result<Answer>
     requires { request.now.task ≡ Task.Tree }
-    ensures { let request = fields_of request.now in IfOk result (λ answer.
-        IsWholeAnswer (F.reads files.now) request now answer.outcome (string_bytes answer.text)) }
+    ensures { let request = fields_of request.now in IfOk result (λ answer. (said : List ℕ)
+        × IsWholeAnswer (F.reads files.now) request now
+        answer.outcome (string_bytes answer.text) said
+        × Appends (E.contents err.old) (E.contents err.new) said) }
 {
     let given: GivenFiles<'_, BareObject<'_>> = read_given(alloc, files, err, request)?;
     let answer = answer_tree(
@@ -103,10 +103,12 @@ fn whole_answered<F: FileSource, E: Write>(
     err: &mut E,
     request: &Request<'_>,
     now: Time,
-) -> Result<Answer, AllocError>
+) -> Result<Answer>
     requires { AsksOfFiles request.now.task }
-    ensures { let request = fields_of request.now in IfOk result (λ answer.
-        IsWholeAnswer (F.reads files.now) request now answer.outcome (string_bytes answer.text)) }
+    ensures { let request = fields_of request.now in IfOk result (λ answer. (said : List ℕ)
+        × IsWholeAnswer (F.reads files.now) request now
+        answer.outcome (string_bytes answer.text) said
+        × Appends (E.contents err.old) (E.contents err.new) said) }
 {
     match request.task {
         Task::Show | Task::Validate => objects_answered(alloc, files, err, request, now),
@@ -122,18 +124,19 @@ fn answered<F: FileSource, E: Write>(
     err: &mut E,
     request: &Request<'_>,
     now: Time,
-) -> Result<Answer, AllocError>
+) -> Result<Answer>
     requires { AsksOfFiles request.now.task }
-    ensures { let request = fields_of request.now in IfOk result (λ answer.
-        IsAnswer (F.reads files.now) request now answer.outcome (string_bytes answer.text)) }
+    ensures { let request = fields_of request.now in IfOk result (λ answer. (said : List ℕ)
+        × IsAnswer (F.reads files.now) request now answer.outcome (string_bytes answer.text) said
+        × Appends (E.contents err.old) (E.contents err.new) said) }
 {
     let answer = whole_answered(alloc, files, err, request, now)?;
     Ok(quieted(alloc, answer, request.quiet))
 }
 
 /// Answers at this moment what a request asks of files, as reading them gives them, and writes the
-/// answer; of each that can't be read it says why. Errs where memory runs out, and has written
-/// nothing.
+/// answer; of each that can't be read it says why. Errs where memory runs out or this can't be said,
+/// and has written no answer.
 pub fn answer<F: FileSource, O: Write, E: Write>(
     alloc: Global,
     files: &F,
@@ -141,12 +144,13 @@ pub fn answer<F: FileSource, O: Write, E: Write>(
     err: &mut E,
     request: &Request<'_>,
     now: Time,
-) -> Result<Ended, AllocError>
+) -> Result<Ended>
     requires { AsksOfFiles request.now.task }
     ensures answer { let request = fields_of request.now in
-        IfOk result (λ ended. (text : List ℕ)
-        × IsAnswer (F.reads files.now) request now ended.outcome text
-        × OnOk ended.written (Appends (O.contents out.old) (O.contents out.new) text)) }
+        IfOk result (λ ended. (text : List ℕ) × (said : List ℕ)
+        × IsAnswer (F.reads files.now) request now ended.outcome text said
+        × OnOk ended.written (Appends (O.contents out.old) (O.contents out.new) text)
+        × Appends (E.contents err.old) (E.contents err.new) said) }
     ensures unwritten { OnErr result (out.new ≡ out.old) }
 {
     let Answer { text, outcome } = answered(alloc, files, err, request, now)?;
@@ -163,12 +167,14 @@ fn answer_of_named<F: FileSource, O: Write, E: Write>(
     err: &mut E,
     request: Request<'_>,
     now: Time,
-) -> Result<Ended, AllocError>
+) -> Result<Ended>
     requires { AsksOfFiles request.task }
     ensures answer { let request = fields_of request.entry in
-        IfOk result (λ ended. (text : List ℕ)
-        × IsAnswerOfNamed (F.reads files.now) (F.lists files.now) request now ended.outcome text
-        × OnOk ended.written (Appends (O.contents out.old) (O.contents out.new) text)) }
+        IfOk result (λ ended. (text : List ℕ) × (said : List ℕ)
+        × IsAnswerOfNamed (F.reads files.now) (F.lists files.now) request now
+        ended.outcome text said
+        × OnOk ended.written (Appends (O.contents out.old) (O.contents out.new) text)
+        × Appends (E.contents err.old) (E.contents err.new) said) }
     ensures unwritten { OnErr result (out.new ≡ out.old) }
 {
     let names = file_names(alloc, files, err, &request)?;
@@ -186,12 +192,13 @@ fn answer_by<F: FileSource, O: Write, E: Write>(
     request: Request<'_>,
     now: Time,
     sought: &Option<SoughtNames>,
-) -> Result<Ended, AllocError>
+) -> Result<Ended>
     requires { AsksOfFiles request.task }
     ensures answer { let request = fields_of request.entry in
-        IfOk result (λ ended. (text : List ℕ)
-        × IsAnswerBy (F.reads files.now) request now sought.now ended.outcome text
-        × OnOk ended.written (Appends (O.contents out.old) (O.contents out.new) text)) }
+        IfOk result (λ ended. (text : List ℕ) × (said : List ℕ)
+        × IsAnswerBy (F.reads files.now) request now sought.now ended.outcome text said
+        × OnOk ended.written (Appends (O.contents out.old) (O.contents out.new) text)
+        × Appends (E.contents err.old) (E.contents err.new) said) }
     ensures unwritten { OnErr result (out.new ≡ out.old) }
 {
     let Some(sought) = sought else {
@@ -215,12 +222,13 @@ fn answer_in<F: FileSource, O: Write, E: Write>(
     err: &mut E,
     request: Request<'_>,
     now: Time,
-) -> Result<Ended, AllocError>
+) -> Result<Ended>
     requires { AsksOfFiles request.task }
     ensures answer { let request = fields_of request.entry in
-        IfOk result (λ ended. (text : List ℕ)
-        × IsAnswerIn (F.reads files.now) (F.lists files.now) request now ended.outcome text
-        × OnOk ended.written (Appends (O.contents out.old) (O.contents out.new) text)) }
+        IfOk result (λ ended. (text : List ℕ) × (said : List ℕ)
+        × IsAnswerIn (F.reads files.now) (F.lists files.now) request now ended.outcome text said
+        × OnOk ended.written (Appends (O.contents out.old) (O.contents out.new) text)
+        × Appends (E.contents err.old) (E.contents err.new) said) }
     ensures unwritten { OnErr result (out.new ≡ out.old) }
 {
     let names = opened(alloc, files, err, &request.folders)?;
@@ -237,12 +245,13 @@ fn answer_named<F: FileSource, O: Write, E: Write>(
     err: &mut E,
     request: Request<'_>,
     now: Time,
-) -> Result<Ended, AllocError>
+) -> Result<Ended>
     requires { AsksOfFiles request.task }
     ensures answer { let request = fields_of request.entry in
-        IfOk result (λ ended. (text : List ℕ)
-        × IsAnswerOf (F.reads files.now) (F.lists files.now) request now ended.outcome text
-        × OnOk ended.written (Appends (O.contents out.old) (O.contents out.new) text)) }
+        IfOk result (λ ended. (text : List ℕ) × (said : List ℕ)
+        × IsAnswerOf (F.reads files.now) (F.lists files.now) request now ended.outcome text said
+        × OnOk ended.written (Appends (O.contents out.old) (O.contents out.new) text)
+        × Appends (E.contents err.old) (E.contents err.new) said) }
     ensures unwritten { OnErr result (out.new ≡ out.old) }
 {
     if request.folders.is_empty() {
@@ -260,12 +269,11 @@ fn run_line<S: FileSource + MomentSource, O: Write, E: Write>(
     words: &[Vec<u8>],
 ) -> Result<Ended>
     ensures ended { let words = word_octets words.now in IfOk result (λ ended. (text : List ℕ)
+        × (said : List ℕ)
         × LineEnds (S.reads system.now) (S.lists system.now) (S.tells system.now) words
-        ended.outcome text
-        × OnOk ended.written (Appends (O.contents out.old) (O.contents out.new) text)) }
-    ensures said { let words = word_octets words.now in
-        IfOk result (λ ended. ended.outcome ≡ Outcome.WrongUse
-        → SaysLineMisuse words (E.contents err.old) (E.contents err.new)) }
+        ended.outcome text said
+        × OnOk ended.written (Appends (O.contents out.old) (O.contents out.new) text)
+        × Appends (E.contents err.old) (E.contents err.new) said) }
     ensures unwritten { OnErr result (out.new ≡ out.old) }
 {
     let request = match read_words(alloc, words) {
@@ -286,14 +294,14 @@ fn run_line<S: FileSource + MomentSource, O: Write, E: Write>(
         });
     }
     let now = moment(system, request.at)?;
-    Ok(answer_named(alloc, system, out, err, request, now)?)
+    answer_named(alloc, system, out, err, request, now)
 }
 
 /// Answers the words behind the program's name: puts out what they ask, of files and folders as
 /// reading and listing them gives them, at the moment that they name, or else at the one that the
 /// clock tells; or says what is wrong of them. Of a request to prepare or to complete something that
-/// gives nothing it says why. Errs where memory runs out, where a file can't be made, or where the
-/// clock or what says it fails, and has written nothing on standard output.
+/// gives nothing it says why, and why a file can't be read or made. Errs where memory runs out, or where
+/// the clock or what says it fails, and has written nothing on standard output.
 pub fn run<S: FileSource + MomentSource, M: FileMaker, O: Write, E: Write>(
     alloc: Global,
     system: &S,
@@ -306,17 +314,8 @@ pub fn run<S: FileSource + MomentSource, M: FileMaker, O: Write, E: Write>(
         × RunEnds (S.reads system.now) (S.lists system.now) (S.tells system.now) words
         ended.outcome output
         × OnOk ended.written (Appends (O.contents out.old) (O.contents out.new) output.text)
+        × Appends (E.contents err.old) (E.contents err.new) output.said
         × Makes (M.made files.old) (M.made files.new) output.files) }
-    ensures said { let words = word_octets words.now in
-        IfOk result (λ ended. ended.outcome ≡ Outcome.WrongUse
-        → SaysMisuse words (E.contents err.old) (E.contents err.new)) }
-    ensures refused { let says = SaysRefusal (S.reads system.now) (S.tells system.now) in
-        BeginsRequest (word_octets words.now)
-        → IfOk result (λ ended. ended.outcome ≡ Outcome.Rejection
-        → says (word_octets words.now) (E.contents err.old) (E.contents err.new)) }
-    ensures unread { BeginsRequest (word_octets words.now)
-        → IfOk result (λ ended. ended.outcome ≡ Outcome.Unread
-        → SaysOneUnread (S.reads system.now) (E.contents err.old) (E.contents err.new)) }
     ensures unwritten { OnErr result (out.new ≡ out.old) }
 {
     if is_request(words) {

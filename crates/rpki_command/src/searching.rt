@@ -1,5 +1,5 @@
 //! A path that is sought: the names of its files, and of the lists beside them.
-ghost use Rattle.std.specs.Prelude.{◌≡◌, ◌↔◌, ◌++◌, ◌∷◌, [], List, ℕ, map, IfOk, IsTrue, OnOk};
+ghost use Rattle.std.specs.Prelude.{◌≡◌, ◌↔◌, ◌++◌, ◌∷◌, [], List, ℕ, map, IfOk, IsTrue, Ok, OnOk};
 ghost use Rattle.std.specs.Io.KnownBytes.{Appends};
 ghost use Rattle.rpki.specs.RsaSignatures.{IsSignedByRsa};
 ghost use Rattle.rpki.specs.Verification.{context};
@@ -9,12 +9,13 @@ ghost use Rattle.rpki_verdicts.specs.Searches.{IsSoughtPath};
 ghost use Rattle.rpki_verdicts.specs.Trees.{asked_of};
 ghost use Rattle.rpki_answers.specs.AnswerTexts.{tree_question_of};
 ghost use Rattle.rpki_command.specs.Messages.{bound_message};
-ghost use Rattle.rpki_command.specs.ReadFiles.{AreGiven};
-ghost use Rattle.rpki_command.specs.SoughtPaths.{AreListNames, IsFirstRead, IsSearch, IsSearchOf, IsSought};
+ghost use Rattle.rpki_command.specs.NamedFiles.{AreGiven};
+ghost use Rattle.rpki_command.specs.SoughtPaths.{AreListNames, IsFirstRead, IsSearch, IsSearchOf, IsSought, search_message};
 
 use crate::answering::{are_all_read, are_read, tree_question};
 use crate::files::FileSource;
 use crate::reading::{GivenFiles, read_given};
+use anyhow::{Error, Result};
 use rpki::repository::folder::Ended;
 use rpki::repository::x509::Time;
 use rpki_arguments::Request;
@@ -110,8 +111,9 @@ fn tell_bound<E: Write>(
     question: &TreeQuestion<'_, '_>,
     ended: Ended,
 ) -> io::Result<()>
-    ensures { let message = bound_message (asked_of question.now) ended in
+    ensures said { let message = bound_message (asked_of question.now) ended in
         OnOk result (Appends (E.contents err.old) (E.contents err.new) message) }
+    ensures whole { ended ≡ Ended.Whole → result ≡ Ok tt }
 {
     match ended {
         Ended::Whole => Ok(()),
@@ -132,6 +134,27 @@ fn tell_bound<E: Write>(
     }
 }
 
+// The names and the end of `path_names`. Where the walk met a bound, that is said.
+fn path_told<E: Write>(
+    alloc: Global,
+    err: &mut E,
+    question: &TreeQuestion<'_, '_>,
+) -> Result<(Vec<Vec<u8>>, Ended)>
+    ensures path { let q = asked_of question.now in let x = context IsSignedByRsa q.at q.strict in
+        IfOk result (λ found. (path : List FileFields)
+        × ((file : FileFields) (more : List FileFields) → q.files ≡ file ∷ more
+        → IsSoughtPath x q file path found.1) × (word_octets found.0.items ≡ file_names path)) }
+    ensures said { IfOk result (λ found. Appends (E.contents err.old) (E.contents err.new)
+        (bound_message (asked_of question.now) found.1)) }
+{
+    let (names, ended) = path_names(alloc, question)?;
+    if let Err(error) = tell_bound(err, question, ended) {
+        drop(names);
+        return Err(Error::from(error));
+    }
+    Ok((names, ended))
+}
+
 // The path that is sought to the first of these files, and the lists among them, where all files could
 // be read or not. Where the search met a bound, it says so.
 fn sought_among<E: Write>(
@@ -142,23 +165,23 @@ fn sought_among<E: Write>(
     files: &[BareObject<'_>],
     locators: &[GivenLocator<'_>],
     are_all_read: bool,
-) -> Result<SoughtNames, AllocError>
+) -> Result<SoughtNames>
     ensures sought { IfOk result (IsSought
         (tree_question_of (fields_of request.now) now files.now locators.now)) }
     ensures read { IfOk result (λ sought. sought.are_all_read ≡ are_all_read) }
+    ensures said { let q = tree_question_of (fields_of request.now) now files.now locators.now in
+        IfOk result (λ sought.
+        Appends (E.contents err.old) (E.contents err.new) (bound_message q sought.ended)) }
 {
     let question = tree_question(request, now, files, locators);
     let lists = list_names(alloc, files)?;
-    match path_names(alloc, &question) {
-        Ok((files, ended)) => {
-            let _told = tell_bound(err, &question, ended);
-            Ok(SoughtNames {
-                files,
-                lists,
-                ended,
-                are_all_read,
-            })
-        }
+    match path_told(alloc, err, &question) {
+        Ok((files, ended)) => Ok(SoughtNames {
+            files,
+            lists,
+            ended,
+            are_all_read,
+        }),
         Err(error) => {
             drop(lists);
             Err(error)
@@ -188,10 +211,13 @@ fn sought_if_read<E: Write>(
     files: &[BareObject<'_>],
     lists: &[BareObject<'_>],
     locators: &[GivenLocator<'_>],
-) -> Result<Option<SoughtNames>, AllocError>
+) -> Result<Option<SoughtNames>>
     requires { AreGiven (fields_of request.now) files.now lists.now locators.now }
-    ensures { IfOk result
+    ensures gives { IfOk result
         (IsSearchOf (fields_of request.now) now files.now lists.now locators.now) }
+    ensures said { let q = tree_question_of (fields_of request.now) now files.now locators.now in
+        IfOk result (λ sought.
+        Appends (E.contents err.old) (E.contents err.new) (search_message q sought)) }
 {
     if !is_first_read(&request.files, files) || !are_read(&request.locators, locators.len()) {
         return Ok(None);
@@ -203,15 +229,18 @@ fn sought_if_read<E: Write>(
 
 /// Seeks the path to the first file of a request among the others, as reading them gives them. Of each
 /// that can't be read it says why, and gives none where that is the first file or a locator. Where it
-/// met a bound before it came to a valid path, it says so. Errs only where memory runs out.
+/// met a bound before it came to a valid path, it says so. Errs only where memory runs out, or this
+/// can't be said.
 pub fn names_sought<F: FileSource, E: Write>(
     alloc: Global,
     files: &F,
     err: &mut E,
     request: &Request<'_>,
     now: Time,
-) -> Result<Option<SoughtNames>, AllocError>
-    ensures { IfOk result (IsSearch (F.reads files.now) (fields_of request.now) now) }
+) -> Result<Option<SoughtNames>>
+    ensures { IfOk result (λ sought. (said : List ℕ)
+        × IsSearch (F.reads files.now) (fields_of request.now) now sought said
+        × Appends (E.contents err.old) (E.contents err.new) said) }
 {
     let given: GivenFiles<'_, BareObject<'_>> = read_given(alloc, files, err, request)?;
     let sought = sought_if_read(

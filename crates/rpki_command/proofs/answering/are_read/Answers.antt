@@ -1,7 +1,7 @@
 use Rattle.std.proofs.Common.{◌∙◌, sym, eq-eqb}
 use Rattle.std.proofs.lemmas.Bool.{eqb-true}
 use Rattle.std.proofs.lemmas.List.{length-map}
-use Rattle.rpki_command.proofs.ReadFiles.{all_read, as_many}
+use Rattle.rpki_command.proofs.NamedFiles.{all_read, as_many}
 use Rattle.rpki_command.proofs.answering.are_read.Goals as goal
 
 pub returns : goal.returns

@@ -1,8 +1,11 @@
-use Rattle.std.proofs.Common.{◌||◌}
+use Rattle.std.specs.Io.KnownBytes.{Appends}
+use Rattle.std.proofs.Common.{◌||◌, List, ℕ}
 use Rattle.rpki_arguments.specs.CommandLines.Views.{word_octets}
 use Rattle.rpki_command.specs.ListedFolders.{AreOpened, is_folder_name}
 use Rattle.rpki_command.proofs.folders.level.Given as goal
 
 abbrev pub invariant-loop-name : goal.invariant-loop-name
 invariant-loop-name g l =
-    AreOpened (g.F.FileSource.lists l.files) (λ name. l.is_first || is_folder_name name) (word_octets l.yielded) (word_octets l.opened.all.items)
+    (said : List ℕ)
+    × AreOpened (g.F.FileSource.lists l.files) (λ name. l.is_first || is_folder_name name) (word_octets l.yielded) (word_octets l.opened.all.items) said
+    × Appends (g.E.Write.contents l.initial.err) (g.E.Write.contents l.err) said

@@ -14,4 +14,6 @@ pub returns-in_err-push_named-clause-unread : goal.returns-in_err-push_named-cla
 returns-in_err-push_named-clause-unread g c =
     let is : c.from_residual.result ≡ Err c.in_err-push_named.field-0.0 = search rules in
     let reads = g.F.FileSource.reads c.args.files.now in
-    rw is (λ not_memory. one_unread reads (λ (name : Bor (List ℕ)). name.now) c.args.names.now c.loop-name.name-index _ c.loop-name-test.true (c.in_err-push_named.ensures.unread not_memory))
+    rw is (λ known.
+    let unread = c.in_err-push_named.ensures.unread known in
+    one_unread reads (λ (name : Bor (List ℕ)). name.now) c.args.names.now c.loop-name.name-index _ c.loop-name-test.true c.in_err-push_named.field-0.0 unread.0 unread.1)

@@ -1,10 +1,17 @@
 use Rattle.std.proofs.Common.{refl}
-use Rattle.rpki_command.specs.Outputs.{nothing}
+use Rattle.rpki_command.specs.Messages.{refusal_message}
+use Rattle.rpki_command.specs.Outputs.{only_said}
 use Rattle.rpki_command.proofs.WrittenTexts.{appends_none, makes_none}
 use Rattle.rpki_command.proofs.requests.answer_inputs.Goals as goal
 
 pub returns-in_ok-refuse-in-Err-clause-ended : goal.returns-in_ok-refuse-in-Err-clause-ended
 returns-in_ok-refuse-in-Err-clause-ended g c =
     let ended = c.silent.ensures in
-    let refused = c.in-Err.ensures.refused c.in_ok-refuse-in-Err.ensures.memory in
-    (nothing, rw ended.outcome (refl, refused), rw ended.written (appends_none (g.O.Write.contents c.args.out.now)), makes_none (g.M.FileMaker.made c.args.files.now))
+    let told = c.in_ok-refuse-in-Err.ensures in
+    let why = c.in-Err.refusal in (
+      only_said (refusal_message why),
+      rw ended.outcome (refusal_message why, (why, c.in-Err.ensures.refused told.memory, c.in-Err.ensures.told, refl), refl),
+      rw ended.written (appends_none (g.O.Write.contents c.args.out.now)),
+      told.said,
+      makes_none (g.M.FileMaker.made c.args.files.now),
+    )

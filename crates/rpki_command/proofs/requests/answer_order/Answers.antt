@@ -1,31 +1,56 @@
-use Rattle.std.proofs.Common.{refl, inl}
-use Rattle.rpki_arguments.specs.CommandLines.{usual_size}
-use Rattle.rpki_command.specs.Outputs.{nothing}
-use Rattle.rpki_command.proofs.UnreadFiles.{unread_of}
+use Rattle.std.proofs.Common.{refl, inl, rules}
+use Rattle.std.proofs.lemmas.Result.{IfOk-weaker}
+use Rattle.rpki_requests.specs.RequestWords.Views.{asked_fields}
+use Rattle.rpki_command.specs.Messages.{refusal_message}
+use Rattle.rpki_command.specs.Outputs.{only_said}
+use Rattle.rpki_command.specs.RequestRuns.{IsMomentAsked}
+use Rattle.rpki_command.specs.RequestRuns.Views.{input_fields}
+use Rattle.rpki_command.proofs.EndedRequests.{asked_ends}
 use Rattle.rpki_command.proofs.WrittenTexts.{appends_none, makes_none}
 use Rattle.rpki_command.proofs.requests.answer_order.Goals as goal
 
 pub returns-in-Err-clause-ended : goal.returns-in-Err-clause-ended
 returns-in-Err-clause-ended g c =
     let ended = c.silent.ensures in
-    let no_moment = c.in-Err.ensures.1 c.in_ok-refuse-in-Err.ensures.memory in
-    (nothing, rw ended.outcome (inl (refl, no_moment)), rw ended.written (appends_none (g.O.Write.contents c.args.out.now)), makes_none (g.M.FileMaker.made c.args.files.now))
+    let told = c.in_ok-refuse-in-Err.ensures in
+    let why = c.in-Err.refusal in (
+      only_said (refusal_message why),
+      rw ended.outcome (inl (refusal_message why, (why, c.in-Err.ensures.1 told.memory, c.in-Err.ensures.0, refl), refl)),
+      rw ended.written (appends_none (g.O.Write.contents c.args.out.now)),
+      told.said,
+      makes_none (g.M.FileMaker.made c.args.files.now),
+    )
+
+pub returns-in-Ok-read_inputs-clause-ended : goal.returns-in-Ok-read_inputs-clause-ended
+returns-in-Ok-read_inputs-clause-ended g c =
+    let reads = g.S.FileSource.reads c.args.system.now in
+    let tells = g.S.MomentSource.tells c.args.system.now in
+    let asked = asked_fields c.args.order.now in
+    let now_is : IsMomentAsked tells asked.given c.in_ok-now.now = search rules in
+    IfOk-weaker c.answer_inputs-ended.result _ _
+    (λ e its. (
+      its.0,
+      asked_ends reads tells asked e.outcome its.0 (record {
+        now = c.in_ok-now.now;
+        now_is = now_is;
+        inputs = input_fields c.in-Ok-read_inputs.objects;
+        inputs_are = c.in-Ok-read_inputs.ensures.inputs;
+        ends = its.1;
+      }),
+      its.2,
+      its.3,
+      its.4,
+    ))
+    c.answer_inputs-ended.ensures.ended
 
 pub returns-in_ok-tell_unreadable-in-Err-read_inputs-clause-ended : goal.returns-in_ok-tell_unreadable-in-Err-read_inputs-clause-ended
 returns-in_ok-tell_unreadable-in-Err-read_inputs-clause-ended g c =
     let ended = c.silent-in-Err-read_inputs.ensures in
-    let unread = c.in-Err-read_inputs.ensures.unread c.in_ok-tell_unreadable-in-Err-read_inputs.ensures.memory in
-    (nothing, rw ended.outcome (refl, unread), rw ended.written (appends_none (g.O.Write.contents c.args.out.now)), makes_none (g.M.FileMaker.made c.args.files.now))
-
-pub returns-in_ok-tell_unreadable-in-Err-read_inputs-clause-unread : goal.returns-in_ok-tell_unreadable-in-Err-read_inputs-clause-unread
-returns-in_ok-tell_unreadable-in-Err-read_inputs-clause-unread g c = λ unread.
-    let file = c.in-Err-read_inputs.unreadable in
-    let told = c.in_ok-tell_unreadable-in-Err-read_inputs.ensures in
-    let named = c.in-Err-read_inputs.ensures.named in
-    record {
-      name = file.name.now;
-      why = file.why;
-      cannot = unread_of (g.S.FileSource.reads c.args.system.now) usual_size file.name.now file.why named told.memory;
-      because = named;
-      said = told.said;
-    }
+    let (said, told, appended) = c.in_ok-tell_unreadable-in-Err-read_inputs.ensures in
+    let unread = c.in-Err-read_inputs.ensures.unread told.0 in (
+      only_said said,
+      rw ended.outcome (inl (c.in-Err-read_inputs.unreadable, said, unread, told, refl)),
+      rw ended.written (appends_none (g.O.Write.contents c.args.out.now)),
+      appended,
+      makes_none (g.M.FileMaker.made c.args.files.now),
+    )

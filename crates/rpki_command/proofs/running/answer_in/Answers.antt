@@ -1,32 +1,42 @@
 use Rattle.std.specs.Io.KnownBytes.{Appends}
 use Rattle.std.specs.Prelude.{OnOk}
-use Rattle.std.proofs.Common.{◌≡◌, subst}
+use Rattle.std.proofs.Common.{◌≡◌, ◌++◌, refl, subst}
 use Rattle.rpki_arguments.specs.CommandLines.{RequestFields, with_files}
 use Rattle.rpki_arguments.specs.CommandLines.Views.{fields_of, word_octets}
 use Rattle.rpki_arguments.specs.declared.arguments.Task.TheVariants.{Tree}
 use Rattle.rpki_command.specs.ListedFolders.{AreFilesOf}
 use Rattle.rpki_command.specs.Runs.{IsAnswerBy, IsAnswerIn}
 use Rattle.rpki_command.specs.SoughtPaths.{IsSearch}
-use Rattle.rpki_command.proofs.EndedRuns.{so_answered}
+use Rattle.rpki_command.proofs.EndedRuns.{so_said}
+use Rattle.rpki_command.proofs.WrittenTexts.{appends_both}
 use Rattle.rpki_command.proofs.running.answer_in.Goals as goal
 
 pub returns-clause-answer : goal.returns-clause-answer
 returns-clause-answer g c =
     let reads = g.F.FileSource.reads c.args.files.now in
     let lists = g.F.FileSource.lists c.args.files.now in
+    let contents = g.E.Write.contents in
     let r = fields_of c.args.request in
     let names = word_octets c.in_ok-names.names.items in
     let whole = fields_of c.in_ok-request.request in
     let sought = c.in_ok-sought.sought in
-    let among : AreFilesOf lists Tree r.folders names = rw c.deref.ensures.value at c.in_ok-names.ensures in
+    let (of_folders, opened, first) = c.in_ok-names.ensures in
+    let (of_search, search, second) = c.in_ok-sought.ensures in
+    let among : AreFilesOf lists Tree r.folders names of_folders = rw c.deref.ensures.value at opened in
     let same : whole ≡ with_files r names = rw c.deref-2.ensures.value at c.in_ok-request.ensures in
-    so_answered (λ e text. IsAnswerBy reads whole c.args.now sought e.outcome text) (λ e text. IsAnswerIn reads lists r c.args.now e.outcome text)
-    (λ e text. OnOk e.written (Appends (g.O.Write.contents c.args.out.now) (g.O.Write.contents c.answer_by.new.out) text)) c.answer_by.result
-    (λ e text h. record {
+    let both = appends_both (contents c.args.err.now) (contents c.opened.new.err) (contents c.names_sought.new.err) of_folders of_search first second in
+    so_said (λ e text said. IsAnswerBy reads whole c.args.now sought e.outcome text said) (λ e text said. IsAnswerIn reads lists r c.args.now e.outcome text said)
+    (λ e text. OnOk e.written (Appends (g.O.Write.contents c.args.out.now) (g.O.Write.contents c.answer_by.new.out) text))
+    (contents c.args.err.now) (contents c.names_sought.new.err) (contents c.answer_by.new.err) (of_folders ++ of_search) c.answer_by.result both
+    (λ e text said h. record {
       names = names;
+      of_folders = of_folders;
       names_are = among;
       sought = sought;
-      search = subst (λ (q : RequestFields). IsSearch reads q c.args.now sought) same c.in_ok-sought.ensures;
-      answer = subst (λ (q : RequestFields). IsAnswerBy reads q c.args.now sought e.outcome text) same h;
+      of_search = of_search;
+      search = subst (λ (q : RequestFields). IsSearch reads q c.args.now sought of_search) same search;
+      of_files = said;
+      answer = subst (λ (q : RequestFields). IsAnswerBy reads q c.args.now sought e.outcome text said) same h;
+      said_is = refl;
     })
     c.answer_by.ensures.answer

@@ -8,10 +8,14 @@ pub returns : goal.returns
 returns g c =
     let reads = g.F.FileSource.reads c.args.files.now in
     let whole = c.in_ok-answer.answer in
-    let its = c.quieted.ensures in
-    record {
-      told = string_bytes whole.text;
-      whole = subst (λ (o : Outcome). IsWholeAnswer reads (fields_of c.args.request.now) c.args.now o (string_bytes whole.text)) (sym its.outcome) c.in_ok-answer.ensures;
-      quiet_is = its.quiet;
-      told_is = λ loud. ap string_bytes (its.told loud);
-    }
+    let (said, answer, appended) = c.in_ok-answer.ensures in
+    let its = c.quieted.ensures in (
+      said,
+      record {
+        told = string_bytes whole.text;
+        whole = subst (λ (o : Outcome). IsWholeAnswer reads (fields_of c.args.request.now) c.args.now o (string_bytes whole.text) said) (sym its.outcome) answer;
+        quiet_is = its.quiet;
+        told_is = λ loud. ap string_bytes (its.told loud);
+      },
+      appended,
+    )

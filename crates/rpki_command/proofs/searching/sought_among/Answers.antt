@@ -1,3 +1,4 @@
+use Rattle.std.specs.Io.KnownBytes.{Appends}
 use Rattle.std.proofs.Common.{◌≡◌, ◌∷◌, List, subst}
 use Rattle.rpki.specs.RsaSignatures.{IsSignedByRsa}
 use Rattle.rpki.specs.Verification.{context}
@@ -6,6 +7,7 @@ use Rattle.rpki_files.specs.Files.{FileFields, file_names}
 use Rattle.rpki_verdicts.specs.Searches.{IsSoughtPath}
 use Rattle.rpki_verdicts.specs.Trees.{TreeFields}
 use Rattle.rpki_answers.specs.AnswerTexts.{tree_question_of}
+use Rattle.rpki_command.specs.Messages.{bound_message}
 use Rattle.rpki_command.proofs.searching.sought_among.Goals as goal
 
 pub returns-in-Ok-clause-sought : goal.returns-in-Ok-clause-sought
@@ -14,5 +16,9 @@ returns-in-Ok-clause-sought g c =
     let names = word_octets c.in-Ok.files.items in
     let found = subst (λ (p : TreeFields). (path : List FileFields)
     × ((file : FileFields) (more : List FileFields) → p.files ≡ file ∷ more → IsSoughtPath (context IsSignedByRsa p.at p.strict) p file path c.in-Ok.ended)
-    × (names ≡ file_names path)) c.tree_question-question.ensures c.in-Ok.ensures in
+    × (names ≡ file_names path)) c.tree_question-question.ensures c.in-Ok.ensures.path in
     record { path = found.0; path_is = found.1; files_are = found.2; lists_are = c.in_ok-lists.ensures }
+
+pub returns-in-Ok-clause-said : goal.returns-in-Ok-clause-said
+returns-in-Ok-clause-said g c =
+    subst (λ (p : TreeFields). Appends (g.E.Write.contents c.args.err.now) (g.E.Write.contents c.path_told.new.err) (bound_message p c.in-Ok.ended)) c.tree_question-question.ensures c.in-Ok.ensures.said

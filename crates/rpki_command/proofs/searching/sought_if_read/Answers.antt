@@ -3,8 +3,8 @@ use Rattle.std.proofs.lemmas.List.{length-map}
 use Rattle.rpki_verdicts.specs.GivenLocators.{locator_files}
 use Rattle.rpki_command.proofs.searching.sought_if_read.Goals as goal
 
-pub returns : goal.returns
-returns g c =
+pub returns-clause-gives : goal.returns-clause-gives
+returns-clause-gives g c =
     let names_are = c.deref-else-not-is_first_read.ensures.value in
     let first = c.is_first_read.ensures.0 c.if-not-is_first_read.false in
     let count = sym (length-map c.args.locators.now (λ locator. locator.file)) in
