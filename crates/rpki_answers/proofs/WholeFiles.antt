@@ -24,7 +24,7 @@ use Rattle.rpki_answers.specs.JsonFiles.{head_members, profiles_json, name_membe
 use Rattle.rpki_answers.specs.JsonKeys.{exponent_member, form_members, key_json}
 use Rattle.rpki_answers.specs.FactTexts.{fact_json}
 use Rattle.rpki_answers.specs.JsonNotes.{note_json, notes_json}
-use Rattle.rpki_answers.specs.JsonValues.{Pair}
+use Rattle.rpki_answers.specs.JsonValues.{Pair, found_member}
 use Rattle.rpki_text.specs.KeyTexts.{point_text}
 use Rattle.rpki_text.specs.Pages.{characters_text}
 use Rattle.rpki_answers.specs.declared.as_json.Shown.{Shown}
@@ -35,6 +35,7 @@ use Rattle.rpki_notes.specs.declared.note.Note.{Note}
 use Rattle.rpki_text.specs.declared.certificate.Answers.{Answers}
 use Rattle.rpki_text.specs.declared.certificate.Findings.{Findings}
 use Rattle.rpki_text.specs.declared.keys.KeyAnswer.{KeyAnswer}
+use Rattle.rpki_files.specs.declared.flaws.Flaw.{Flaw}
 use Rattle.rpki_files.specs.declared.places.Place.{Place}
 use Rattle.rpki_files.specs.declared.rules.Rule.{Rule}
 use Rattle.rpki_files.specs.declared.sorts.Sort.{Sort}
@@ -170,7 +171,11 @@ pub sort_whole : (sort : Option Sort) → AreWhole (sort_members sort)
 sort_whole None = none_whole
 sort_whole (Some s) = then_whole _ _ _ refl (then_whole _ _ _ refl none_whole)
 
+found_whole : (found : Option Flaw) → AreWhole (found_member found)
+found_whole None = none_whole
+found_whole (Some f) = then_whole _ _ _ refl none_whole
+
 pub rejection_whole : (file : Shown) (sort : Option Sort) (fault : List ℕ) (rule : Rule) (place : Place) → IsWhole (rejection_json file sort fault rule place)
 unfolding rejection_json
 rejection_whole file sort fault rule place =
-    object_whole _ (both_whole _ _ (head_whole file) (both_whole _ _ (sort_whole sort) (then_whole _ _ _ refl (then_whole _ _ _ refl (then_whole _ _ _ refl (then_whole _ _ _ refl (then_whole _ _ _ refl (then_whole _ _ _ refl none_whole))))))))
+    object_whole _ (both_whole _ _ (head_whole file) (both_whole _ _ (sort_whole sort) (then_whole _ _ _ refl (then_whole _ _ _ refl (then_whole _ _ _ refl (then_whole _ _ _ refl (then_whole _ _ _ refl (then_whole _ _ _ refl (both_whole _ _ (both_whole _ _ (found_whole place.found) none_whole) none_whole)))))))))

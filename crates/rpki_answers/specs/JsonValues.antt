@@ -1,6 +1,6 @@
 -- Values of JSON, and objects by their members. An object's members stand in the order of their
 -- names, so the order in which they are put in doesn't count.
-use Rattle.std.specs.Prelude.{◌≡◌, ◌==◌, if◌then◌else◌, ℕ, List, [], ◌∷◌, ◌++◌, map, codes, Option, Some, None, String}
+use Rattle.std.specs.Prelude.{◌≡◌, ◌==◌, if◌then◌else◌, ℕ, List, [], ◌∷◌, ◌++◌, map, option_map, codes, Option, Some, None, String}
 use Rattle.std.specs.declared.alloc.Global.{Global}
 use Rattle.serde_json.specs.Data.{Data, number, unsigned, string, array, object, Members, no_members, put}
 use Rattle.serde_json.specs.Find.{of_integer}
@@ -8,6 +8,8 @@ use Rattle.serde_json.specs.View.{view, items_of, members_view}
 use Rattle.serde_json.specs.declared.value.Value.{Value}
 use Rattle.rpki.specs.Times.{Moment}
 use Rattle.rpki.specs.Timestamps.{timestamp}
+use Rattle.rpki_files.specs.FlawTexts.{flaw_text}
+use Rattle.rpki_files.specs.declared.flaws.Flaw.{Flaw}
 use Rattle.rpki_files.specs.declared.places.Place.{Place}
 use Rattle.rpki_files.specs.declared.rules.Rule.{Rule}
 
@@ -91,10 +93,16 @@ rule_members rule = flattened (
     ∷ text_member (codes "standard") rule.section.now
     ∷ [])
 
--- the field at which reading stops, the octet at which that begins, and what is wanted there
+-- what is found where reading stops, where a flaw is told
+abbrev pub found_member : Option Flaw → List Pair
+found_member found = text_member_if_any (codes "found") (option_map flaw_text found)
+
+-- the field at which reading stops, the octet at which that begins, what is wanted there, and what is
+-- found
 abbrev pub place_members : Place → List Pair
 place_members place = flattened (
     text_member (codes "field") place.field.now
     ∷ member_of (codes "octet") (count_json place.octet)
     ∷ text_member (codes "wanted") place.wanted.now
+    ∷ found_member place.found
     ∷ [])

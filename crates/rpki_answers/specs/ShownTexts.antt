@@ -1,7 +1,7 @@
 -- What is shown of files.
 use Rattle.std.specs.Fmt.{decimal}
 use Rattle.std.specs.List.{concat, flat_map}
-use Rattle.std.specs.Prelude.{◌≡◌, ◌≢◌, ◌↔◌, ◌⊎◌, ℕ, Bool, IsTrue, IsFalse, ◌==◌, if◌then◌else◌, List, [], ◌∷◌, ◌++◌, map, codes, Option, Some, None}
+use Rattle.std.specs.Prelude.{◌≡◌, ◌≢◌, ◌↔◌, ◌⊎◌, ℕ, Bool, IsTrue, IsFalse, ◌==◌, if◌then◌else◌, List, [], ◌∷◌, ◌++◌, map, option_map, codes, Option, Some, None}
 use Rattle.hex.specs.Hex.{encode_lower}
 use Rattle.sha2.specs.Sha256.{sha256}
 use Rattle.rpki.specs.Certificates.{CertFields, TbsFields, IsCertificate}
@@ -23,7 +23,7 @@ use Rattle.rpki_files.specs.LocatorFiles.{IsWhyNoLocator, looks_like_locator}
 use Rattle.rpki_files.specs.SortTexts.{sort_rule}
 use Rattle.rpki_text.specs.KeyTexts.{IsLocatorKey, locator_key_text}
 use Rattle.rpki_text.specs.ListTexts.{list_text}
-use Rattle.rpki_text.specs.Pages.{line, line_feed, characters_text, colons_text, count_text, file_name_text}
+use Rattle.rpki_text.specs.Pages.{line, line_feed, line_if_any, characters_text, colons_text, count_text, file_name_text}
 use Rattle.rpki_answers.specs.FactTexts.{facts_lines}
 use Rattle.rpki_answers.specs.NoteLines.{notes_lines}
 use Rattle.rpki_answers.specs.RejectionDetails.{advice_line, sort_line}
@@ -34,7 +34,9 @@ use Rattle.rpki_notes.specs.Facts.{AreFacts, fact_view}
 use Rattle.rpki_notes.specs.Notes.{AreNotes}
 use Rattle.rpki_notes.specs.declared.fact.Fact.{Fact}
 use Rattle.rpki_notes.specs.declared.note.Note.{Note}
+use Rattle.rpki_files.specs.FlawTexts.{flaw_text}
 use Rattle.rpki_files.specs.StopPlaces.{IsStopPlace}
+use Rattle.rpki_files.specs.declared.flaws.Flaw.{Flaw}
 use Rattle.rpki_files.specs.declared.places.Place.{Place}
 use Rattle.rpki_files.specs.declared.rules.Rule.{Rule}
 use Rattle.rpki_files.specs.declared.sorts.Sort.{Sort}
@@ -153,8 +155,12 @@ pub record IsNoLocatorFileText (strict : Bool) (file : FileFields) (text : List 
 abbrev pub stop_text : List ℕ → ℕ → List ℕ
 stop_text field octet = field ++ (codes ", from octet " ++ decimal octet)
 
--- a file that begins with neither: its sort, its fault, where reading stops, what is wanted there,
--- what that means, what asks it, and what to do
+-- what is found there, where a flaw is told
+abbrev pub found_line : Option Flaw → List ℕ
+found_line found = line_if_any (codes "Found") (option_map flaw_text found)
+
+-- a file that begins with neither: its sort, its fault, where reading stops, what is wanted there and
+-- what is found, what that means, what asks it, and what to do
 unfoldable pub other_file_text : FileFields → Option Sort → List ℕ → Place → Rule → List ℕ
 other_file_text file sort fault place rule = concat (
     file_lines file
@@ -162,6 +168,7 @@ other_file_text file sort fault place rule = concat (
     ∷ line (codes "Fault") fault
     ∷ line (codes "Where") (stop_text place.field.now place.octet)
     ∷ line (codes "Wanted") place.wanted.now
+    ∷ found_line place.found
     ∷ line (codes "Why") rule.says.now
     ∷ line (codes "Standard") rule.section.now
     ∷ advice_line sort

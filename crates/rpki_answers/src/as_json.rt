@@ -5,7 +5,7 @@ ghost use Rattle.serde_json.specs.View.{view};
 ghost use Rattle.rpki.specs.Locators.{uri_text};
 ghost use Rattle.rpki_text.specs.Pages.{colons_text};
 ghost use Rattle.rpki_answers.specs.JsonFiles.{IsCertificateJson, IsLocatorJson, advice_members, answer_word, certificate_json, entry_json, head_members, key_members, list_json, location_json, locator_json, name_members, no_locator_file_json, overclaim_word, profiles_json, rejection_json, sort_members, type_word, uri_member, uri_members, usage_word};
-ghost use Rattle.rpki_answers.specs.JsonValues.{Puts, array_of, count_member_if_any, place_members, rule_members, text_member_if_any};
+ghost use Rattle.rpki_answers.specs.JsonValues.{Puts, array_of, count_member_if_any, found_member, place_members, rule_members, text_member_if_any};
 
 mod ascii;
 mod blocks;
@@ -32,7 +32,7 @@ use rpki::repository::tal::{Tal, TalError, TalUri};
 use rpki::repository::x509::{Serial, Time};
 use rpki::uri::{Https, Rsync};
 use rpki_files::rules::Rule;
-use rpki_files::{Place, Sort, describe};
+use rpki_files::{Flaw, Place, Sort, describe};
 use rpki_text::Page;
 use rpki_text::certificate::{Answers, Findings, findings_of};
 use rpki_text::keys::{KeyAnswer, answer_of_locator};
@@ -353,13 +353,26 @@ pub fn put_rule(out: &mut Members, rule: Rule) -> Result<(), AllocError>
     out.text("standard", rule.section)
 }
 
-// Puts in the field at which reading stops, the octet at which that begins, and what is wanted there.
+// Puts in what is found where reading stops, where a flaw is told.
+#[tactic(auto, unfolding(crate::specs::JsonValues::put_all))]
+fn put_found(out: &mut Members, found: Option<Flaw>) -> Result<(), AllocError>
+    ensures { OnOk result (Puts (found_member found) out.old out.new) }
+{
+    match found {
+        Some(flaw) => out.flaw("found", flaw),
+        None => Ok(()),
+    }
+}
+
+// Puts in the field at which reading stops, the octet at which that begins, what is wanted there, and
+// what is found.
 fn put_place(out: &mut Members, place: Place) -> Result<(), AllocError>
     ensures { OnOk result (Puts (place_members place) out.old out.new) }
 {
     out.text("field", place.field)?;
     out.value("octet", Value::from(place.octet as u64))?;
-    out.text("wanted", place.wanted)
+    out.text("wanted", place.wanted)?;
+    put_found(out, place.found)
 }
 
 // Puts in what a file is, and what to do.
@@ -385,7 +398,7 @@ pub fn put_sort(out: &mut Members, sort: Option<Sort>) -> Result<(), AllocError>
 }
 
 /// Makes the value of a file that is neither: its sort, the fault and its rule, the field at which
-/// reading stops, the octet at which that begins, and what is wanted there.
+/// reading stops, the octet at which that begins, what is wanted there, and what is found.
 pub fn rejected(alloc: Global, file: &Shown<'_>, it: &Rejection) -> Result<Value, AllocError>
     ensures { let why = string_bytes it.now.why in
         IfOk result (λ made.

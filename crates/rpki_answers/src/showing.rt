@@ -16,7 +16,7 @@ ghost use Rattle.rpki_notes.specs.Notes.{AreNotes};
 ghost use Rattle.rpki_answers.specs.Outcomes.{IsOutcomeOfShow};
 ghost use Rattle.rpki_text.specs.Pages.{Appends, AppendsSome, line};
 ghost use Rattle.rpki_answers.specs.RejectionDetails.{advice_line, sort_line};
-ghost use Rattle.rpki_answers.specs.ShownTexts.{IsCertificateFileText, IsFileText, IsFurtherText, IsListFileText, IsOtherFileText, IsRejection, IsTextOfFiles, IsToldAsList, IsToldRule, IsUnreadFileText, certificate_file_text, file_lines, left_line, left_text, list_file_text, stop_text};
+ghost use Rattle.rpki_answers.specs.ShownTexts.{IsCertificateFileText, IsFileText, IsFurtherText, IsListFileText, IsOtherFileText, IsRejection, IsTextOfFiles, IsToldAsList, IsToldRule, IsUnreadFileText, certificate_file_text, file_lines, found_line, left_line, left_text, list_file_text, stop_text};
 ghost use Rattle.rpki_answers.specs.VerdictTexts.{SaysOfEach};
 
 mod locators;
@@ -32,7 +32,7 @@ use rpki::repository::x509::Time;
 use rpki::repository::{Cert, Crl};
 use rpki_files::rules::{Rule, of_file};
 use rpki_files::{
-    Content, Form, Object, Place, Sort, describe, looks_like, looks_like_locator, place_of,
+    Content, Flaw, Form, Object, Place, Sort, describe, looks_like, looks_like_locator, place_of,
     read_locator,
 };
 use rpki_notes::{Fact, Note, facts_of, notes_of};
@@ -204,6 +204,16 @@ fn print_advice(page: &mut Page, sort: Option<Sort>)
     }
 }
 
+// What is found there, where a flaw is told.
+fn print_found(page: &mut Page, found: Option<Flaw>)
+    ensures { Appends page.old (found_line found) page.new }
+{
+    match found {
+        Some(flaw) => page.line_of("Found", &flaw),
+        None => {}
+    }
+}
+
 fn print_rejection(page: &mut Page, object: &Object<'_>, it: &Rejection)
     ensures { IsRejection object.now.octets it.now.sort it.now.rule it.now.place
         → AppendsSome (IsUnreadFileText object.now) page.old page.new }
@@ -213,6 +223,7 @@ fn print_rejection(page: &mut Page, object: &Object<'_>, it: &Rejection)
     page.line("Fault", it.why.as_str());
     page.line_of("Where", &Stop(it.place));
     page.line("Wanted", it.place.wanted);
+    print_found(page, it.place.found);
     page.line("Why", it.rule.says);
     page.line("Standard", it.rule.section);
     print_advice(page, it.sort);

@@ -5,6 +5,7 @@ ghost use Rattle.serde_json.specs.Data.{object, string};
 ghost use Rattle.serde_json.specs.View.{view, members_view};
 ghost use Rattle.rpki.specs.NameTexts.{name_text};
 ghost use Rattle.rpki.specs.Texts.{serial_text};
+ghost use Rattle.rpki_files.specs.FlawTexts.{flaw_text};
 ghost use Rattle.rpki_answers.specs.JsonValues.{Puts, member_of, moment_json, object_with, text_member};
 ghost use Rattle.rpki_text.specs.Pages.{Appends, characters_text, colons_text};
 ghost use Rattle.rpki.specs.Digits.{base64_of};
@@ -12,6 +13,7 @@ ghost use Rattle.rpki.specs.Digits.{base64_of};
 use base64::engine::general_purpose::STANDARD;
 use rpki::crypto::KeyIdentifier;
 use rpki::repository::x509::{Name, Serial, Time};
+use rpki_files::Flaw;
 use rpki_text::{Colons, Page, certificate, names};
 use serde_json::{Map, Value, put};
 use sha2::{Digest, Sha256};
@@ -106,6 +108,15 @@ impl Members {
     {
         let mut page = Page::new(self.alloc);
         page.value(&Colons(octets));
+        self.printed(key, page)
+    }
+
+    /// Puts in what is found where reading stops.
+    pub fn flaw(&mut self, key: &str, it: Flaw) -> Result<(), AllocError>
+        ensures { OnOk result (Puts (text_member key.now (flaw_text it)) self.old self.new) }
+    {
+        let mut page = Page::new(self.alloc);
+        page.value(&it);
         self.printed(key, page)
     }
 

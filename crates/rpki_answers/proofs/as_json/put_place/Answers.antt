@@ -4,7 +4,8 @@ use Rattle.rpki_answers.proofs.as_json.put_place.Goals as goal
 
 pub returns : goal.returns
 returns c =
-    IfOk-weaker c.text-2.result _ _ (λ _ last.
+    IfOk-weaker c.put_found.result _ _ (λ _ last.
     then_put _ _ _ _ _ c.in_ok-text.ensures
     (then_put _ _ _ _ _ (rw c.from.ensures at c.in_ok-value.ensures)
-    (last_put _ _ _ last))) c.text-2.ensures
+    (then_put _ _ _ _ _ c.in_ok-text-2.ensures
+    (last_put _ _ _ last)))) c.put_found.ensures

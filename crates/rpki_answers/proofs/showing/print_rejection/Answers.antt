@@ -18,7 +18,8 @@ returns c = λ rejection.
     (then_appended _ _ _ _ _ c.line.ensures
     (then_appended _ _ _ _ _ c.line_of.ensures
     (then_appended _ _ _ _ _ c.line-2.ensures
+    (then_appended _ _ _ _ _ c.print_found.ensures
     (then_appended _ _ _ _ _ c.line-3.ensures
     (then_appended _ _ _ _ _ c.line-4.ensures
-    (last_appended _ _ _ c.print_advice.ensures))))))) in
+    (last_appended _ _ _ c.print_advice.ensures)))))))) in
     such_appended (IsUnreadFileText file) old new text (record { why = c.as_str.result.now; sort = it.sort; rule = it.rule; place = it.place; rejection = rejection; text_is = refl }) appended
