@@ -6,6 +6,7 @@
 mod asking;
 mod blocks;
 mod copies;
+mod decoding;
 mod ends;
 mod extensions;
 mod folders;
@@ -39,6 +40,7 @@ fn told(alloc: Global, path: &str) -> Option<Told> {
         .or(paths::told(alloc, path))
         .or(issuing::told(alloc, path))
         .or(folders::told(alloc, path))
+        .or(decoding::told(alloc, path))
 }
 
 /// Makes the call of this public path, as `rpki_cert::Cert::take_from`, and prints `ok` or the name

@@ -6,6 +6,7 @@ use rpki_cert::{IssueCaError, RearrangeError, ValidationError, VerificationError
 use rpki_crl::{InvalidExtension, RevocationError};
 use rpki_der::{DecodeError, EncodeError, Field, Oid};
 use rpki_ext::InspectionError;
+use rpki_files::Misread;
 use rpki_lines::RunFault;
 use rpki_parts::{
     BadUri, InvalidName, SignatureVerificationError, SigningError, UriError, ValidityError,
@@ -231,4 +232,16 @@ fn of_paths(rt: HostRuntime) {
         LocatedError::OtherKey
             => "OtherKey: the trust anchor has another key than the locator";
     }
+}
+
+#[test]
+fn of_octets_that_cannot_be_read(rt: HostRuntime) {
+    let alloc = rt.alloc();
+    assert_told(
+        &rt,
+        alloc,
+        "Memory",
+        Misread::Memory,
+        "Memory: out of memory",
+    );
 }

@@ -7,6 +7,8 @@
 #[cfg(test)]
 mod counting;
 #[cfg(test)]
+mod decoding;
+#[cfg(test)]
 mod devices;
 #[cfg(test)]
 mod elsewhere;

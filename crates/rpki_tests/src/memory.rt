@@ -4,6 +4,7 @@ use rpki_blocks::IssueError;
 use rpki_cert::{IssueCaError, RearrangeError, ValidationError, VerificationError};
 use rpki_der::{DecodeError, EncodeError};
 use rpki_ext::InspectionError;
+use rpki_files::Misread;
 use rpki_lines::comparing::{copied_status, equal_statuses};
 use rpki_lines::{RunFault, Status};
 use rpki_parts::{SigningError, UriError};
@@ -30,6 +31,7 @@ fn of_certificates(rt: HostRuntime) {
     assert!(rt; !profile.is_memory());
     assert!(rt; RearrangeError::Memory.is_memory());
     assert!(rt; !RearrangeError::TooLong.is_memory());
+    assert!(rt; Misread::Memory.is_memory());
 }
 
 #[test]
