@@ -15,6 +15,8 @@
  *   - Of a folder each line is right. Each certificate is accepted to which a valid path leads that
  *     was looked at (crates/rpki_c/specs/FolderFates.antt).
  *   - What is written of a certificate's or list's fields is theirs.
+ *   - The octet and the part at which reading stops are those of
+ *     crates/rpki_files/specs/StopPlaces.antt.
  *   - What is to be signed is written exactly where only a signature is missing, and a certificate
  *     or list exactly where the issuer's key signed it (crates/rpki_c/specs/WantedAnswers.antt and
  *     ListAnswers.antt), unless memory runs out.
