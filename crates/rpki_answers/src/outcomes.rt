@@ -13,7 +13,7 @@ pub enum Outcome {
     Rejection,
     /// The command line has another form.
     WrongUse,
-    /// A file that is named can't be read.
+    /// A file that is named can't be read, or the one that is to be written can't be made.
     Unread,
 }
 

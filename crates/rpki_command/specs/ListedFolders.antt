@@ -16,19 +16,30 @@ use Rattle.rpki_command.specs.UnreadFiles.{IsToldUnlisted}
 
 -- what listing the folder of a name gives: the names of the files, folders and links in it, as they
 -- are opened, in any order, of which those of folders end in `/`; or nothing, since the name is no
--- folder's, or the folder can't be listed. A pipe, a socket, a device or a link to one isn't opened,
--- and has no name there. What has a name that isn't UTF-8 isn't looked at, whatever it is: the name
--- stands there as that of a file where it ends in `.cer` or `.crl`, and else as that of a folder
+-- folder's; or since the folder can't be listed. A pipe, a socket, a device or a link to one isn't
+-- opened, and has no name there. What has a name that isn't UTF-8 isn't looked at, whatever it is: the
+-- name stands there as that of a file where it ends in `.cer` or `.crl`, and else as that of a folder
+pub data Listing : Type 0 where
+  holds : List (List ℕ) → Listing
+  no_folder barred : Listing
+
 abbrev pub Lists : Type 1
-Lists = List ℕ → Option (List (List ℕ)) → Type 0
+Lists = List ℕ → Listing → Type 0
+
+-- the names, or that the name is no folder's
+abbrev pub listing_of : Option (List (List ℕ)) → Listing
+listing_of None = no_folder
+listing_of (Some names) = holds names
 
 -- of the system's folders a contract knows nothing
 abbrev pub SystemLists : Lists
 SystemLists name given = Unit {0}
 
--- the folder of this name can't be listed, or the name is none's
-abbrev pub IsUnlisted : Lists → List ℕ → Type 0
-IsUnlisted lists name = (IsUtf8 name → ⊥) ⊎ lists name None
+-- the folder of this name can't be listed, of which this is said; or the name is none's
+abbrev pub IsUnlisted : Lists → List ℕ → List ℕ → Type 0
+IsUnlisted lists name said =
+    (((IsUtf8 name → ⊥) ⊎ lists name no_folder) × (said ≡ []))
+    ⊎ (lists name barred × IsToldUnlisted name said)
 
 -- ---- the names in it
 
@@ -49,11 +60,11 @@ abbrev pub is_taken : List ℕ → Bool
 is_taken name = is_folder_name name || is_file_name name
 
 -- these names stand for the name: those in its folder that are taken, sorted by their octets; or it
--- alone, where it is no folder's, or the folder can't be listed, which may be said
+-- alone, where it is no folder's, or the folder can't be listed, which is said
 abbrev pub StandFor : Lists → List ℕ → List (List ℕ) → List ℕ → Type 0
 StandFor lists name its said =
-    (IsUnlisted lists name × (its ≡ name ∷ []) × ((said ≡ []) ⊎ IsToldUnlisted name said))
-    ⊎ ((given : List (List ℕ)) × (sorted : List (List ℕ)) × lists name (Some given)
+    (IsUnlisted lists name said × (its ≡ name ∷ []))
+    ⊎ ((given : List (List ℕ)) × (sorted : List (List ℕ)) × lists name (holds given)
     × IsPermutation given sorted × IsSorted (slice_cmp nat_cmp) sorted × (its ≡ filter is_taken sorted)
     × (said ≡ []))
 

@@ -8,9 +8,8 @@ ghost use Rattle.std.specs.Prelude.{◌≡◌, ◌||◌, ◌⊎◌, ◌++◌, �
 ghost use Rattle.std.specs.Bool.{MatchBool};
 ghost use Rattle.std.specs.Io.KnownBytes.{Appends};
 ghost use Rattle.rpki_arguments.specs.CommandLines.Views.{fields_of, word_octets};
-ghost use Rattle.rpki_command.specs.ListedFolders.{AreDown, AreFilesOf, AreOpened, IsUnlisted, StandFor, StandsForItself, is_folder_name, is_taken};
+ghost use Rattle.rpki_command.specs.ListedFolders.{AreDown, AreFilesOf, AreOpened, IsUnlisted, StandFor, StandsForItself, holds, is_folder_name, is_taken};
 ghost use Rattle.rpki_command.specs.Messages.{passed_message};
-ghost use Rattle.rpki_command.specs.UnreadFiles.{IsToldUnlisted};
 
 use crate::files::{FileSource, Unread};
 use crate::reading::tell;
@@ -68,9 +67,8 @@ fn listed<F: FileSource, E: Write>(
     name: &[u8],
 ) -> Result<Option<Vec<Vec<u8>>>>
     ensures { let lists = F.lists files.now in IfOk result (λ listed. (said : List ℕ)
-        × MatchOption listed
-        (IsUnlisted lists name.now × ((said ≡ []) ⊎ IsToldUnlisted name.now said))
-        (λ given. lists name.now (Some (word_octets given.items)) × (said ≡ []))
+        × MatchOption listed (IsUnlisted lists name.now said)
+        (λ given. lists name.now (holds (word_octets given.items)) × (said ≡ []))
         × Appends (E.contents err.old) (E.contents err.new) said) }
 {
     let Ok(text) = str::from_utf8(name) else {
