@@ -325,8 +325,9 @@ struct rpki_stop {
 
 /* Numbers the texts about the part at which reading stops. */
 enum rpki_part_text {
-    RPKI_PART_NAME = 0,  /* its name: "the issuer" */
-    RPKI_PART_WANTED = 1 /* what has to stand there, and by which section: "a Name (RFC 5280 ..)" */
+    RPKI_PART_NAME = 0,   /* its name: "the issuer" */
+    RPKI_PART_WANTED = 1, /* what has to stand there, and by which section: "a Name (RFC 5280 ..)" */
+    RPKI_PART_FOUND = 2   /* what is wrong of what stands there: "a negative number"; or no text */
 };
 
 /* Tells where the reading of octets stops that begin with no certificate, where `is_list` is 0, or

@@ -175,7 +175,13 @@ static void stops(struct file cert, struct file list) {
     it = stop_of(damaged, cert.length, 1, RPKI_PART_NAME, text, 90);
     check(is_decoding(it.fault) && it.octet == 8 && strcmp(text, "the version") == 0, "a certificate is no list");
     uint64_t count = 7;
-    check(rpki_stop_text(damaged, cert.length, 0, 2, &it, NULL, 0, &count) == RPKI_BAD_CALL && count == 0, "there is no text 2");
+    it = stop_of(damaged, cert.length, 0, RPKI_PART_FOUND, text, 90);
+    check(it.octet == 13 && strcmp(text, "a negative number") == 0, "it is told to be negative");
+    it = stop_of(cert.octets, cert.length, 0, RPKI_PART_FOUND, text, 90);
+    check(it.fault == RPKI_OK && text[0] == 0, "nothing is found of a certificate that is read");
+    it = stop_of(NULL, 0, 0, RPKI_PART_FOUND, text, 90);
+    check(strcmp(text, "nothing: the file ends there") == 0, "nothing stands where there are no octets");
+    check(rpki_stop_text(damaged, cert.length, 0, 3, &it, NULL, 0, &count) == RPKI_BAD_CALL && count == 0, "there is no text 3");
     check(rpki_stop_text(cert.octets, cert.length, 0, UINT32_MAX, &it, NULL, 0, &count) == RPKI_BAD_CALL && count == 0,
           "nor the last number");
     free(damaged);

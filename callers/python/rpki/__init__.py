@@ -15,7 +15,8 @@ Calls; help(rpki.validate) says more of one:
 Exceptions. str(fault) is such as "member 2: certificate revoked (Revoked)":
 
     Fault                the base of all below: number, name, sentence, member, revocation_list
-    DecodeFault          the octets begin with no certificate, or no list: octet, field, wanted
+    DecodeFault          the octets begin with no certificate, or no list: octet, field, wanted,
+                         found
     InspectionFault      the certificate doesn't meet the profile of its kind
     VerificationFault    it isn't valid at the moment, or not issued by the member above it
     RevocationFault      the lists don't show that it isn't revoked
@@ -120,8 +121,8 @@ __all__ = [
 
 # ---- faults
 
-# where reading stops: the octet, the name of the part there, and what is wanted
-_Stop = tuple[int, str, str]
+# where reading stops: the octet, the name of the part there, what is wanted, and what is found
+_Stop = tuple[int, str, str, str | None]
 
 
 class Fault(Exception):
@@ -141,6 +142,8 @@ class Fault(Exception):
     field: the name of that part, such as `the serial number`; else None.
     wanted: what has to stand there, with the section that asks it, such as
         `a Name (RFC 5280 4.1.2.4)`; else None.
+    found: what is wrong of what stands there, such as `a negative number`, where that is told; else
+        None.
 
     str() of it has place, sentence and name: `member 2: certificate revoked (Revoked)`. Without a
     place it begins with the sentence, and of a list that can't be read with `list 1: `.
@@ -154,6 +157,7 @@ class Fault(Exception):
     octet: int | None
     field: str | None
     wanted: str | None
+    found: str | None
 
     def __init__(
         self,
@@ -167,7 +171,7 @@ class Fault(Exception):
         self.sentence = raw.fault_sentence(number)
         self.member = member
         self.revocation_list = revocation_list
-        self.octet, self.field, self.wanted = stop or (None, None, None)
+        self.octet, self.field, self.wanted, self.found = stop or (None, None, None, None)
         self._stop = stop
         places = [("member", member), ("list", revocation_list)]
         place = "".join(f"{what} {at}: " for what, at in places if at is not None)
@@ -234,7 +238,10 @@ def _fault(
 def _stop(octets: bytes, is_list: bool) -> _Stop:
     """Where the reading of octets stops that are no certificate, or no list."""
     octet, field = raw.stop_text(octets, is_list, raw.PART_NAME)
-    return octet, field, raw.stop_text(octets, is_list, raw.PART_WANTED)[1]
+    wanted, found = (
+        raw.stop_text(octets, is_list, which)[1] for which in (raw.PART_WANTED, raw.PART_FOUND)
+    )
+    return octet, field, wanted, found or None
 
 
 def _raise(

@@ -16,7 +16,7 @@ MISSING, INHERITED, LISTED = 0, 1, 2
 # enum rpki_ended
 WHOLE = 1
 # enum rpki_part_text
-PART_NAME, PART_WANTED = 0, 1
+PART_NAME, PART_WANTED, PART_FOUND = 0, 1, 2
 # enum rpki_uri
 URIS = ("ca_issuer", "crl", "repository", "manifest", "signed_object", "notify")
 

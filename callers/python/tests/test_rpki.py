@@ -251,7 +251,7 @@ class Paths(unittest.TestCase):
     def test_faults_go_between_processes(self) -> None:
         faults = [rpki.VerificationFault(408, 2), rpki.DecodeFault(102, None, 1), rpki.Fault(700)]
         for it in faults:
-            self.assertEqual((it.octet, it.field, it.wanted), (None, None, None))
+            self.assertEqual((it.octet, it.field, it.wanted, it.found), (None, None, None, None))
             for again in (pickle.loads(pickle.dumps(it)), copy.copy(it)):
                 self.assertEqual((type(again), str(again)), (type(it), str(it)))
                 self.assertEqual(vars(again), vars(it))
@@ -287,6 +287,7 @@ class Paths(unittest.TestCase):
         fault = caught.exception
         wanted = "an INTEGER that isn't negative, of 20 octets at most (RFC 5280 4.1.2.2)"
         self.assertEqual((fault.member, fault.octet, fault.wanted), (1, 13, wanted))
+        self.assertEqual(fault.found, "a negative number")
 
     def test_lists_are_asked_for(self) -> None:
         without: Any = validate

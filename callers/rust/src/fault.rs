@@ -73,6 +73,7 @@ struct Stop {
     octet: usize,
     field: String,
     wanted: String,
+    found: String,
 }
 
 impl Stop {
@@ -81,6 +82,7 @@ impl Stop {
             octet: it.octet,
             field: text(Ok(it.field)),
             wanted: text(Ok(it.wanted)),
+            found: text(Ok(it.found)),
         }
     }
 }
@@ -186,6 +188,12 @@ impl Fault {
     /// 4.1.2.4)`.
     pub fn wanted(&self) -> Option<&str> {
         self.stop.as_ref().map(|stop| stop.wanted.as_str())
+    }
+
+    /// Returns what is wrong of what stands there, such as `a negative number`, where that is told.
+    pub fn found(&self) -> Option<&str> {
+        let found = self.stop.as_ref().map(|stop| stop.found.as_str());
+        found.filter(|text| !text.is_empty())
     }
 
     /// Tells what it is about.

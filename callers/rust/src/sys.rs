@@ -22,6 +22,7 @@ pub const WHOLE: u32 = 1;
 /// enum rpki_part_text of rpki.h.
 const PART_NAME: u32 = 0;
 const PART_WANTED: u32 = 1;
+const PART_FOUND: u32 = 2;
 
 #[repr(C)]
 #[derive(Clone, Copy, Debug, Default, PartialEq, Eq)]
@@ -432,6 +433,8 @@ pub struct Stop {
     pub octet: usize,
     pub field: Vec<u8>,
     pub wanted: Vec<u8>,
+    /// Empty where nothing is told.
+    pub found: Vec<u8>,
 }
 
 /// Where the reading of octets stops as a certificate, or as a list; nowhere where they are one.
@@ -445,11 +448,13 @@ pub fn stop(octets: &[u8], is_list: bool) -> Called<Option<Stop>> {
         })
     };
     let (field, wanted) = (text(PART_NAME)?, text(PART_WANTED)?);
+    let found = text(PART_FOUND)?;
     let CStop { fault, octet } = stop.get();
     Ok((fault != OK).then_some(Stop {
         octet: octet as usize,
         field,
         wanted,
+        found,
     }))
 }
 

@@ -103,8 +103,8 @@ fn other_octets_are_rejected() {
     let fault = ee.inspect(Kind::Authority, true).unwrap_err();
     assert_eq!(fault.kind(), FaultKind::Inspection);
     assert_eq!(fault.name(), "MissingBasicConstraints");
-    let nowhere = (fault.octet(), fault.field(), fault.wanted());
-    assert_eq!(nowhere, (None, None, None));
+    let nowhere = (fault.octet(), fault.field(), fault.wanted(), fault.found());
+    assert_eq!(nowhere, (None, None, None, None));
 }
 
 const OUTER: &str = "the outer SEQUENCE";
@@ -121,6 +121,7 @@ fn where_reading_stops_is_told() {
     let fault = Certificate::read(&damaged).unwrap_err();
     let wanted = "an INTEGER that isn't negative, of 20 octets at most (RFC 5280 4.1.2.2)";
     assert_eq!(fault.wanted(), Some(wanted));
+    assert_eq!(fault.found(), Some("a negative number"));
     assert_eq!(stop(fault), (13, SERIAL.to_owned()));
     let cut = &cert[..cert.len() - 1];
     let fault = Certificate::read(cut).unwrap_err();

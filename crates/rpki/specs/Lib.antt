@@ -127,9 +127,16 @@ pub use Rattle.rpki_crl.specs.declared.revocation_error.RevocationError
 pub use Rattle.rpki_files.specs.KnownKinds
 pub use Rattle.rpki_files.specs.PartTexts
 pub use Rattle.rpki_files.specs.Contents as FileContents
+pub use Rattle.rpki_files.specs.Flaws
+pub use Rattle.rpki_files.specs.FlawTexts
 pub use Rattle.rpki_files.specs.StopPlaces
 pub use Rattle.rpki_files.specs.Misreads
 pub use Rattle.rpki_files.specs.declared.decoding.Misread
+pub use Rattle.rpki_files.specs.declared.flaws.ExtensionFlaw
+pub use Rattle.rpki_files.specs.declared.flaws.Flaw
+pub use Rattle.rpki_files.specs.declared.flaws.SerialFlaw
+pub use Rattle.rpki_files.specs.declared.flaws.TimeFlaw
+pub use Rattle.rpki_files.specs.declared.flaws.VersionFlaw
 -- ---- issuing where the key is elsewhere
 pub use Rattle.rpki_issuing.specs.IssuingErrors
 pub use Rattle.rpki_issuing.specs.Roles

@@ -1,13 +1,15 @@
 -- What a caller is told of where the reading of octets stops (own).
-use Rattle.std.specs.Prelude.{◌≡◌, ◌⊎◌, ℕ, Bool, List}
+use Rattle.std.specs.Prelude.{◌≡◌, ◌⊎◌, ℕ, Bool, List, [], Option, Some, None}
 use Rattle.rpki_der.specs.declared.error.DecodeError.{DecodeError}
+use Rattle.rpki_files.specs.FlawTexts.{flaw_text}
 use Rattle.rpki_files.specs.Misreads.{BeginsAsRead, IsMisread}
 use Rattle.rpki_files.specs.declared.decoding.Misread.TheVariants.{Stopped}
+use Rattle.rpki_files.specs.declared.flaws.Flaw.{Flaw}
 use Rattle.rpki_files.specs.declared.places.Place.{Place}
 use Rattle.rpki_c.specs.FaultNumbers.{decode_number}
 use Rattle.rpki_c.specs.Writing.{IsWritten}
 use Rattle.rpki_c.specs.declared.stops.PartText.{PartText}
-use Rattle.rpki_c.specs.declared.stops.PartText.TheVariants.{Name, Wanted}
+use Rattle.rpki_c.specs.declared.stops.PartText.TheVariants.{Name, Wanted, Found}
 use Rattle.rpki_c.specs.declared.stops.RpkiStop.{RpkiStop}
 
 -- ---- texts
@@ -15,11 +17,18 @@ use Rattle.rpki_c.specs.declared.stops.RpkiStop.{RpkiStop}
 abbrev pub text_number : PartText → ℕ
 text_number Name = 0
 text_number Wanted = 1
+text_number Found = 2
+
+-- of what is found, where that is told
+abbrev pub found_text : Option Flaw → List ℕ
+found_text None = []
+found_text (Some flaw) = flaw_text flaw
 
 -- of the part at which reading stops
 abbrev pub place_text : PartText → Place → List ℕ
 place_text Name place = place.field.now
 place_text Wanted place = place.wanted.now
+place_text Found place = found_text place.found
 
 -- ---- stops
 

@@ -1,13 +1,14 @@
 //! Where the reading of octets stops, for C.
 ghost use Rattle.std.specs.Prelude.{◌≡◌, ◌≢◌, ◌<◌, ◌↔◌, ◌==◌, not, false, true, Bool, ℕ, List, IsNone, IsErr, IfOk, IfSome};
 ghost use Rattle.rpki_files.specs.Misreads.{BeginsAsRead, IsMisread};
-ghost use Rattle.rpki_c.specs.StopTelling.{TellsStop, place_text, text_number};
+ghost use Rattle.rpki_c.specs.StopTelling.{TellsStop, found_text, place_text, text_number};
+ghost use Rattle.rpki_c.specs.Writing.{IsWritten};
 ghost use Rattle.rpki_c.specs.declared.stops.PartText.{PartText as texts};
 
 use crate::copying::put_octets;
 use crate::faults::{BAD_CALL, MEMORY, NONE, of_decoding};
 use bytes::Bytes;
-use rpki_files::{Misread, Place, decode_cert, decode_crl};
+use rpki_files::{Flaw, Misread, Place, decode_cert, decode_crl};
 use std::alloc::{AllocError, Global};
 
 /// Where the reading of octets stops.
@@ -25,26 +26,47 @@ pub struct RpkiStop {
 enum PartText {
     Name,
     Wanted,
+    Found,
 }
 
 // The text that the header numbers so.
 fn text_numbered(number: u32) -> Option<PartText>
-    ensures none { IsNone result ↔ 1 < number }
+    ensures none { IsNone result ↔ 2 < number }
     ensures text { IfSome result (λ which. number ≡ text_number which) }
 {
     match number {
         0 => Some(PartText::Name),
         1 => Some(PartText::Wanted),
+        2 => Some(PartText::Found),
         _ => None,
     }
 }
 
-fn text_of(place: Place, which: PartText) -> &'static str
-    ensures { result.now ≡ place_text which place }
+// Writes what is found, where that is told.
+fn put_found(alloc: Global, found: Option<Flaw>, out: &mut [u8]) -> Result<u64, AllocError>
+    ensures written { IfOk result (IsWritten (found_text found) out.old out.new) }
+    ensures untouched { IsErr result → out.new ≡ out.old }
+{
+    match found {
+        Some(flaw) => {
+            let text = format!(in alloc; "{flaw}")?;
+            let count = put_octets(text.as_bytes(), out);
+            drop(text);
+            Ok(count)
+        }
+        None => Ok(put_octets(&[], out)),
+    }
+}
+
+// Writes a text of the part at which reading stops.
+fn put_text(alloc: Global, place: Place, which: PartText, out: &mut [u8]) -> Result<u64, AllocError>
+    ensures written { IfOk result (IsWritten (place_text which place) out.old out.new) }
+    ensures untouched { IsErr result → out.new ≡ out.old }
 {
     match which {
-        PartText::Name => place.field,
-        PartText::Wanted => place.wanted,
+        PartText::Name => Ok(put_octets(place.field.as_bytes(), out)),
+        PartText::Wanted => Ok(put_octets(place.wanted.as_bytes(), out)),
+        PartText::Found => put_found(alloc, place.found, out),
     }
 }
 
@@ -90,6 +112,7 @@ fn why_unread(alloc: Global, octets: &Bytes, is_list: bool) -> Option<Misread>
 
 // Tells where reading stops, and writes a text of the part there, whose octets it counts.
 fn put_stop(
+    alloc: Global,
     why: Option<Misread>,
     which: PartText,
     stop: &mut RpkiStop,
@@ -114,7 +137,7 @@ fn put_stop(
                 octet: place.octet as u64,
             };
             drop(fault);
-            Ok(put_octets(text_of(place, which).as_bytes(), out))
+            put_text(alloc, place, which, out)
         }
         Some(Misread::Memory) => Err(AllocError),
     }
@@ -136,12 +159,12 @@ fn told(
     let octets = Bytes::copy_from_slice(alloc, octets)?;
     let why = why_unread(alloc, &octets, is_list);
     drop(octets);
-    put_stop(why, which, stop, out)
+    put_stop(alloc, why, which, stop, out)
 }
 
 /// Tells where the reading of octets stops that begin with no certificate, or, where `is_list`
 /// isn't 0, with no list: the fault and the octet, and a text of the part there, 0 its name, 1 what
-/// is wanted. Writes as many octets as there is room for, and in `count` how many there are; 0
+/// is wanted, 2 what is found. Writes as many octets as there is room for, and in `count` how many there are; 0
 /// where they begin with one. Answers 0, or the number of a fault: 2 where `which` is another
 /// number.
 #[unsafe(no_mangle)]
@@ -154,7 +177,7 @@ pub extern "C" fn rpki_stop_text(
     out: &mut [u8],
     count: &mut u64,
 ) -> u32
-    ensures bad_call { (result ≡ BAD_CALL) ↔ 1 < which }
+    ensures bad_call { (result ≡ BAD_CALL) ↔ 2 < which }
     ensures told { result ≡ NONE → (w : texts) × (which ≡ text_number w)
         × TellsStop (not (is_list == 0)) w octets.now stop.new out.old out.new count.new }
     ensures fault { result ≢ NONE → result ≢ BAD_CALL → result ≡ MEMORY }
