@@ -9,8 +9,8 @@ length or content, dropped, exchanged or put in, what ends too early, and the fa
 With --cuts they are also the files of examples/, cut at each octet, once as they stand and once with
 the lengths mended of all values that are open there.
 
-Of each file the field and the octet have to be those of places.py, and a file that it reads has to
-be shown. Prints each difference, which fields were told how often, and `N passed, M failed`.
+Of each file the field and the octet have to be those of places.py, what is found there that of
+flaws.py, and a file that it reads has to be shown. Prints each difference, which fields were told how often, and `N passed, M failed`.
 """
 
 import argparse
@@ -24,6 +24,7 @@ from pathlib import Path
 
 import cases
 import faults
+import flaws
 import make
 import places
 import questions
@@ -155,7 +156,8 @@ def by_chance(count, seed):
 # ----------------------------------------------------------------- comparison ---
 
 def told_of(program, files):
-    """What the command tells of each of some files: a place, or None of what it shows."""
+    """What the command tells of each of some files: a place and what is found there, or None of what
+    it shows."""
     with tempfile.TemporaryDirectory() as room:
         names = [f'{number:04}' for number in range(len(files))]
         for name, octets in zip(names, files):
@@ -166,7 +168,8 @@ def told_of(program, files):
     said = [json.loads(line) for line in done.stdout.splitlines()]
     if done.returncode > 1 or [it['file'] for it in said] != names:
         raise SystemExit(f'{program}: status {done.returncode}, {done.stderr.decode()}')
-    return [places.Place(it['field'], it['octet']) if 'fault' in it else None for it in said]
+    return [(places.Place(it['field'], it['octet']), it.get('found')) if 'fault' in it else None
+            for it in said]
 
 
 def is_read(octets):
@@ -183,13 +186,16 @@ def is_read(octets):
 class Run:
     def __init__(self, options):
         self.program, self.save = str(Path(options.program).resolve()), options.save
-        self.fields, self.passed, self.failed = collections.Counter(), 0, 0
+        self.fields, self.found = collections.Counter(), collections.Counter()
+        self.passed, self.failed = 0, 0
 
     def compare(self, some):
         answers = told_of(self.program, [octets for _, octets in some])
         for (label, octets), answer in zip(some, answers):
-            wanted = places.place_of(octets)
-            self.fields[wanted.field if wanted else 'none: it is read'] += 1
+            place = places.place_of(octets)
+            wanted = place and (place, flaws.found_at(octets, place))
+            self.fields[place.field if place else 'none: it is read'] += 1
+            self.found[(wanted[1] or 'nothing is told') if wanted else 'it is read'] += 1
             if answer == wanted and is_read(octets) == (wanted is None):
                 self.passed += 1
                 continue
@@ -221,8 +227,9 @@ def main():
     if options.cuts:
         run.go(all_cuts())
     run.go(by_chance(options.count, options.seed))
-    for field, times in run.fields.most_common():
-        print(f'{times:7} {field}')
+    for counts in (run.fields, run.found):
+        for told, times in counts.most_common():
+            print(f'{times:7} {told}')
     return make.totals((run.passed, run.failed))
 
 
