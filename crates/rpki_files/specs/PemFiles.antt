@@ -61,7 +61,7 @@ IsUnendedPem file = IsUtf8 file × HasBeginLine file × ((digits : List ℕ) →
 abbrev pub IsSeveralPem : List ℕ → Type 0
 IsSeveralPem file = IsUtf8 file × BeginsAgain file
 
--- a text in which an object begins that has no octets
+-- a text in which an object begins, and which isn't in PEM
 abbrev pub IsDamagedPem : List ℕ → Type 0
 IsDamagedPem file = IsUtf8 file × HasBeginLine file × ((octets : List ℕ) → ¬ IsPemOf octets file)
 
