@@ -74,12 +74,12 @@ pub use Rattle.rpki_keys.specs.Curve
 pub use Rattle.rpki_keys.specs.KeyForms
 pub use Rattle.rpki_keys.specs.declared.form.KeyForm
 -- ---- trust anchor locators
-pub use Rattle.rpki_tal.specs.Digits
-pub use Rattle.rpki_tal.specs.Locators
-pub use Rattle.rpki_tal.specs.LocatorFaults
-pub use Rattle.rpki_tal.specs.TalErrors
-pub use Rattle.rpki_tal.specs.declared.tal_error.TalError
-pub use Rattle.rpki_tal.specs.declared.tal_uri.TalUri
+pub use Rattle.rpki_keys.specs.Digits
+pub use Rattle.rpki_keys.specs.Locators
+pub use Rattle.rpki_keys.specs.LocatorFaults
+pub use Rattle.rpki_keys.specs.TalErrors
+pub use Rattle.rpki_keys.specs.declared.tal.tal_error.TalError
+pub use Rattle.rpki_keys.specs.declared.tal.tal_uri.TalUri
 -- ---- extensions
 pub use Rattle.rpki_ext.specs.OnlyElements
 pub use Rattle.rpki_ext.specs.Contents
@@ -150,8 +150,8 @@ pub use Rattle.rpki_issuing.specs.declared.list_error.ListError
 pub use Rattle.rpki_issuing.specs.declared.next.NextListError
 pub use Rattle.rpki_issuing.specs.declared.role.Role
 -- ---- who answers for revocation
-pub use Rattle.rpki_revocation.specs.Asking
-pub use Rattle.rpki_revocation.specs.AskedLists
+pub use Rattle.rpki_path.specs.Asking
+pub use Rattle.rpki_path.specs.AskedLists
 -- ---- whole paths
 pub use Rattle.rpki_path.specs.FaultNames
 pub use Rattle.rpki_path.specs.Paths

@@ -1,2 +1,2 @@
 //! Base64 whose digits stand in lines.
-pub use rpki_tal::{octets_of, push_digits};
+pub use rpki_keys::tal::{octets_of, push_digits};

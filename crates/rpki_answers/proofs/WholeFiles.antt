@@ -30,8 +30,8 @@ use Rattle.rpki_text.specs.Pages.{characters_text}
 use Rattle.rpki_answers.specs.declared.as_json.Shown.{Shown}
 use Rattle.rpki_text.specs.declared.blocks.Family.{Family}
 use Rattle.rpki_text.specs.declared.blocks.Family.TheVariants.{V4, V6}
-use Rattle.rpki_notes.specs.declared.fact.Fact.{Fact}
-use Rattle.rpki_notes.specs.declared.note.Note.{Note}
+use Rattle.rpki_text.specs.declared.notes.fact.Fact.{Fact}
+use Rattle.rpki_text.specs.declared.notes.note.Note.{Note}
 use Rattle.rpki_text.specs.declared.certificate.Answers.{Answers}
 use Rattle.rpki_text.specs.declared.certificate.Findings.{Findings}
 use Rattle.rpki_text.specs.declared.keys.KeyAnswer.{KeyAnswer}

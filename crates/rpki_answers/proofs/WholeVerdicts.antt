@@ -16,7 +16,7 @@ use Rattle.rpki.specs.Verification.{ResourceFields}
 use Rattle.rpki_answers.specs.JsonDetails.{cause_members, details_members, member_details, order_member}
 use Rattle.rpki_answers.specs.JsonValues.{Pair}
 use Rattle.rpki_answers.specs.JsonVerdicts.{AreAcceptedMembers, AreAnswerMembers, IsLeftItem, IsNoteItem, IsOtherItem, left_items, left_json, names_json, note_items, fault_json, no_list_json, no_locator_items, no_locator_json, router_json, verdict_json, IsVerdictJson}
-use Rattle.rpki_notes.specs.declared.note.Note.{Note}
+use Rattle.rpki_text.specs.declared.notes.note.Note.{Note}
 use Rattle.rpki_text.specs.declared.keys.KeyAnswer.{KeyAnswer}
 use Rattle.rpki_answers.specs.VerdictTexts.{SaysOfEach}
 use Rattle.rpki_verdicts.specs.declared.path.Fault.{Fault}

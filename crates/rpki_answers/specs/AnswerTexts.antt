@@ -3,7 +3,7 @@ use Rattle.std.specs.Prelude.{◌≡◌, ◌*◌, ◌^◌, ◌-◌, min, unwrap_
 use Rattle.rpki.specs.RsaSignatures.{IsSignedByRsa}
 use Rattle.rpki.specs.Times.{Moment}
 use Rattle.rpki.specs.Verification.{context}
-use Rattle.rpki_arguments.specs.CommandLines.{RequestFields}
+use Rattle.rpki_text.specs.CommandLines.{RequestFields}
 use Rattle.rpki_files.specs.Files.{FileFields}
 use Rattle.rpki_verdicts.specs.GivenLocators.{LocatorFields}
 use Rattle.rpki_verdicts.specs.PathFiles.{QuestionFields}
@@ -14,9 +14,9 @@ use Rattle.rpki_answers.specs.JsonVerdicts.{IsJsonOfPath}
 use Rattle.rpki_answers.specs.ShownTexts.{IsTextOfFiles}
 use Rattle.rpki_answers.specs.TreeTexts.{IsAcceptingFinding, IsTreeFinding, IsTreeText}
 use Rattle.rpki_answers.specs.VerdictTexts.{IsTextOfPath}
-use Rattle.rpki_arguments.specs.declared.arguments.Format.{Format}
-use Rattle.rpki_arguments.specs.declared.arguments.Task.{Task}
-use Rattle.rpki_arguments.specs.declared.arguments.Task.TheVariants.{Show, Validate, Tree}
+use Rattle.rpki_text.specs.declared.command_line.arguments.Format.{Format}
+use Rattle.rpki_text.specs.declared.command_line.arguments.Task.{Task}
+use Rattle.rpki_text.specs.declared.command_line.arguments.Task.TheVariants.{Show, Validate, Tree}
 use Rattle.rpki_answers.specs.declared.outcomes.Outcome.{Outcome}
 use Rattle.rpki_answers.specs.declared.outcomes.Outcome.TheVariants.{Success, Rejection, Unread}
 use Rattle.rpki_answers.specs.declared.showing.Options.{Options}

@@ -4,9 +4,9 @@ use Rattle.std.specs.Prelude.{ℕ, Bool, List, map, codes, true, false, if◌the
 use Rattle.serde_json.specs.Data.{Data, string}
 use Rattle.rpki_text.specs.IdentifierTexts.{identifier_text}
 use Rattle.rpki_text.specs.Pages.{characters_text, line}
-use Rattle.rpki_notes.specs.declared.fact.Fact.{Fact}
-use Rattle.rpki_notes.specs.declared.fact.FactKind.{FactKind}
-use Rattle.rpki_notes.specs.declared.fact.FactKind.TheVariants as fact
+use Rattle.rpki_text.specs.declared.notes.fact.Fact.{Fact}
+use Rattle.rpki_text.specs.declared.notes.fact.FactKind.{FactKind}
+use Rattle.rpki_text.specs.declared.notes.fact.FactKind.TheVariants as fact
 use Rattle.rpki_answers.specs.JsonValues.{array_of, object_with}
 
 -- whether its octets are an identifier; those of others are a URI

@@ -9,15 +9,15 @@ use Rattle.rpki_files.specs.Contents.{BeginsBefore, BeginsWithEither}
 use Rattle.rpki_files.specs.FaultRules.{rule_of, tal_rule}
 use Rattle.rpki_files.specs.Files.{FileFields}
 use Rattle.rpki_files.specs.LocatorFiles.{IsWhyNoLocator}
-use Rattle.rpki_notes.specs.Facts.{AreFacts, fact_view}
-use Rattle.rpki_notes.specs.Notes.{AreNotes}
-use Rattle.rpki_notes.specs.declared.fact.Fact.{Fact}
-use Rattle.rpki_notes.specs.declared.note.Note.{Note}
+use Rattle.rpki_text.specs.Facts.{AreFacts, fact_view}
+use Rattle.rpki_text.specs.Notes.{AreNotes}
+use Rattle.rpki_text.specs.declared.notes.fact.Fact.{Fact}
+use Rattle.rpki_text.specs.declared.notes.note.Note.{Note}
 use Rattle.rpki_answers.specs.JsonFiles.{IsCertificateJson, IsLocatorJson, list_json, no_locator_file_json, rejection_json}
 use Rattle.rpki_answers.specs.JsonTexts.{values_text}
 use Rattle.rpki_answers.specs.ShownTexts.{IsRejection, SaysOfFile, SaysOfOther}
 use Rattle.rpki_answers.specs.VerdictTexts.{SaysOfEach}
-use Rattle.rpki_arguments.specs.declared.arguments.Format.{Format}
+use Rattle.rpki_text.specs.declared.command_line.arguments.Format.{Format}
 use Rattle.rpki_answers.specs.declared.as_json.Shown.{Shown}
 use Rattle.rpki_files.specs.declared.places.Place.{Place}
 use Rattle.rpki_files.specs.declared.rules.Rule.{Rule}

@@ -31,8 +31,8 @@ use Rattle.rpki_answers.specs.FactTexts.{facts_json}
 use Rattle.rpki_answers.specs.JsonValues.{Pair, count_json, moment_json, array_of, member_of, text_member, text_member_if_any, count_member_if_any, object_of, rule_members, place_members, flattened}
 use Rattle.rpki_text.specs.Pages.{characters_text, colons_text}
 use Rattle.rpki.specs.Digits.{base64_of}
-use Rattle.rpki_notes.specs.declared.fact.Fact.{Fact}
-use Rattle.rpki_notes.specs.declared.note.Note.{Note}
+use Rattle.rpki_text.specs.declared.notes.fact.Fact.{Fact}
+use Rattle.rpki_text.specs.declared.notes.note.Note.{Note}
 use Rattle.rpki_text.specs.declared.certificate.Answers.{Answers}
 use Rattle.rpki_text.specs.declared.certificate.Findings.{Findings}
 use Rattle.rpki_text.specs.declared.keys.KeyAnswer.{KeyAnswer}

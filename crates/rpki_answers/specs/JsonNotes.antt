@@ -2,8 +2,8 @@
 use Rattle.std.specs.Prelude.{List, [], ◌∷◌, map, codes}
 use Rattle.serde_json.specs.Data.{Data}
 use Rattle.rpki_answers.specs.JsonValues.{array_of, text_member, object_of, flattened}
-use Rattle.rpki_notes.specs.NoteTexts.{note_name, note_section, note_text}
-use Rattle.rpki_notes.specs.declared.note.Note.{Note}
+use Rattle.rpki_text.specs.NoteTexts.{note_name, note_section, note_text}
+use Rattle.rpki_text.specs.declared.notes.note.Note.{Note}
 
 -- a note: its word, its sentence, and the section that it breaks
 abbrev pub note_json : Note → Data

@@ -11,8 +11,8 @@ use Rattle.serde_json.specs.Data.{Data}
 use Rattle.serde_json.specs.Written.{compact_text, outline}
 use Rattle.rpki_text.specs.Pages.{line_feed}
 use Rattle.rpki_answers.specs.JsonValues.{array_of}
-use Rattle.rpki_arguments.specs.declared.arguments.Format.{Format}
-use Rattle.rpki_arguments.specs.declared.arguments.Format.TheVariants.{Json, JsonLines}
+use Rattle.rpki_text.specs.declared.command_line.arguments.Format.{Format}
+use Rattle.rpki_text.specs.declared.command_line.arguments.Format.TheVariants.{Json, JsonLines}
 
 -- ---- in ASCII (RFC 8259 7)
 

@@ -20,8 +20,8 @@ use Rattle.rpki_answers.specs.JsonValues.{Pair, array_of, count_json, count_memb
 use Rattle.rpki_answers.specs.JsonVerdicts.{no_locator_json, no_locators_json}
 use Rattle.rpki_answers.specs.TreeTexts.{SaysInOrder}
 use Rattle.rpki_answers.specs.VerdictTexts.{file_name_at}
-use Rattle.rpki_arguments.specs.declared.arguments.Format.{Format}
-use Rattle.rpki_arguments.specs.declared.arguments.Format.TheVariants.{JsonLines}
+use Rattle.rpki_text.specs.declared.command_line.arguments.Format.{Format}
+use Rattle.rpki_text.specs.declared.command_line.arguments.Format.TheVariants.{JsonLines}
 use Rattle.rpki_answers.specs.declared.trees.TreeFinding.{TreeFinding}
 use Rattle.rpki_answers.specs.declared.trees.TreeFinding.TheVariants.{NotALocator, Answered}
 

@@ -19,15 +19,15 @@ use Rattle.rpki_answers.specs.JsonDetails.{details_members}
 use Rattle.rpki_answers.specs.JsonKeys.{key_json}
 use Rattle.rpki_answers.specs.JsonNotes.{notes_json}
 use Rattle.rpki_answers.specs.JsonTexts.{value_text}
-use Rattle.rpki_notes.specs.Notes.{AreNotes}
-use Rattle.rpki_notes.specs.declared.note.Note.{Note}
+use Rattle.rpki_text.specs.Notes.{AreNotes}
+use Rattle.rpki_text.specs.declared.notes.note.Note.{Note}
 use Rattle.rpki_text.specs.KeyTexts.{IsKeyAnswer}
 use Rattle.rpki_text.specs.Pages.{colons_text}
 use Rattle.rpki_text.specs.declared.keys.KeyAnswer.{KeyAnswer}
 use Rattle.rpki_answers.specs.JsonValues.{Entries, Pair, Puts, Pushes, flattened, count_json, array_of, member_of, moment_json, text_member, text_member_if_any, object_of, rule_members}
 use Rattle.rpki_answers.specs.RejectionDetails.{AreDetails}
 use Rattle.rpki_answers.specs.VerdictTexts.{IsFinding, Leaves, SaysOfEach, file_name_at}
-use Rattle.rpki_arguments.specs.declared.arguments.Format.{Format}
+use Rattle.rpki_text.specs.declared.command_line.arguments.Format.{Format}
 use Rattle.rpki_answers.specs.declared.details.Details.{Details}
 use Rattle.rpki_answers.specs.declared.verdicts.Finding.{Finding}
 use Rattle.rpki_answers.specs.declared.verdicts.Finding.TheVariants.{NotALocator, NotAList, Decided}

@@ -1,8 +1,8 @@
 -- The lines of notes: what is taken of a certificate although a standard forbids it.
 use Rattle.std.specs.List.{flat_map}
 use Rattle.std.specs.Prelude.{ℕ, List, ◌++◌, codes}
-use Rattle.rpki_notes.specs.NoteTexts.{note_section, note_text}
-use Rattle.rpki_notes.specs.declared.note.Note.{Note}
+use Rattle.rpki_text.specs.NoteTexts.{note_section, note_text}
+use Rattle.rpki_text.specs.declared.notes.note.Note.{Note}
 use Rattle.rpki_text.specs.Pages.{line}
 
 -- a note: its sentence, and the section that it breaks

@@ -4,13 +4,13 @@ use Rattle.rpki.specs.RsaSignatures.{IsSignedByRsa}
 use Rattle.rpki.specs.Times.{Moment}
 use Rattle.rpki.specs.Judged.{Judged}
 use Rattle.rpki.specs.Verification.{Context, context}
-use Rattle.rpki_arguments.specs.declared.arguments.Task.{Task}
-use Rattle.rpki_arguments.specs.declared.arguments.Task.TheVariants.{Show, Validate, Tree}
+use Rattle.rpki_text.specs.declared.command_line.arguments.Task.{Task}
+use Rattle.rpki_text.specs.declared.command_line.arguments.Task.TheVariants.{Show, Validate, Tree}
 use Rattle.rpki_answers.specs.declared.outcomes.Outcome.{Outcome}
 use Rattle.rpki_answers.specs.declared.outcomes.Outcome.TheVariants.{Success, Rejection, WrongUse, Unread}
 use Rattle.rpki_verdicts.specs.declared.path.Verdict.TheVariants.{Accepted, Rejected}
 use Rattle.rpki_verdicts.specs.declared.path.Fault.{Fault}
-use Rattle.rpki_arguments.specs.CommandLines.{RequestFields}
+use Rattle.rpki_text.specs.CommandLines.{RequestFields}
 use Rattle.rpki_files.specs.Contents.{BeginsWithList, CanBeShown}
 use Rattle.rpki_files.specs.Files.{FileFields, file_names, contents}
 use Rattle.rpki_files.specs.LocatorFiles.{AreLocator}

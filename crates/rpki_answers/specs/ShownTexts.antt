@@ -30,10 +30,10 @@ use Rattle.rpki_answers.specs.RejectionDetails.{advice_line, sort_line}
 use Rattle.rpki_answers.specs.VerdictTexts.{SaysOfEach}
 use Rattle.rpki_text.specs.declared.certificate.Findings.{Findings}
 use Rattle.rpki_text.specs.declared.keys.KeyAnswer.{KeyAnswer}
-use Rattle.rpki_notes.specs.Facts.{AreFacts, fact_view}
-use Rattle.rpki_notes.specs.Notes.{AreNotes}
-use Rattle.rpki_notes.specs.declared.fact.Fact.{Fact}
-use Rattle.rpki_notes.specs.declared.note.Note.{Note}
+use Rattle.rpki_text.specs.Facts.{AreFacts, fact_view}
+use Rattle.rpki_text.specs.Notes.{AreNotes}
+use Rattle.rpki_text.specs.declared.notes.fact.Fact.{Fact}
+use Rattle.rpki_text.specs.declared.notes.note.Note.{Note}
 use Rattle.rpki_files.specs.FlawTexts.{flaw_text}
 use Rattle.rpki_files.specs.StopPlaces.{IsStopPlace}
 use Rattle.rpki_files.specs.declared.flaws.Flaw.{Flaw}

@@ -17,8 +17,8 @@ use Rattle.rpki.specs.Times.{Moment}
 use Rattle.rpki.specs.Verification.{Context, ResourceFields}
 use Rattle.rpki_answers.specs.NoteLines.{notes_lines}
 use Rattle.rpki_answers.specs.RejectionDetails.{AreDetails, details_text}
-use Rattle.rpki_notes.specs.Notes.{AreNotes}
-use Rattle.rpki_notes.specs.declared.note.Note.{Note}
+use Rattle.rpki_text.specs.Notes.{AreNotes}
+use Rattle.rpki_text.specs.declared.notes.note.Note.{Note}
 use Rattle.rpki_text.specs.BlockLines.{as_numbers_text, blocks_lines, resources_lines}
 use Rattle.rpki_text.specs.CertificateTexts.{certificate_kind_text}
 use Rattle.rpki_files.specs.Contents.{BeginsWithList}

@@ -4,7 +4,7 @@ ghost use Rattle.std.specs.Fmt.{WritesOnOk};
 ghost use Rattle.rpki_answers.specs.FactTexts.{fact_label, fact_text, facts_lines, is_identifier};
 ghost use Rattle.rpki_text.specs.Pages.{Appends, line};
 
-use rpki_notes::{Fact, FactKind};
+use rpki_text::notes::{Fact, FactKind};
 use rpki_text::{Characters, Identifier, Page, write_line};
 use std::fmt;
 

@@ -4,7 +4,7 @@ ghost use Rattle.std.specs.Fmt.{WritesOnOk};
 ghost use Rattle.rpki_answers.specs.NoteLines.{noted_text, notes_lines};
 ghost use Rattle.rpki_text.specs.Pages.{Appends};
 
-use rpki_notes::Note;
+use rpki_text::notes::Note;
 use rpki_text::{Page, write_line};
 use std::fmt;
 

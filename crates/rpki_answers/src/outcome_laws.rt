@@ -5,8 +5,8 @@ ghost use Rattle.rpki.specs.Times.{Moment};
 ghost use Rattle.rpki.specs.Verification.{context};
 ghost use Rattle.rpki_verdicts.specs.PathFiles.{Demands};
 ghost use Rattle.rpki_answers.specs.Outcomes.{IsOutcomeOf};
-ghost use Rattle.rpki_arguments.specs.declared.arguments.Task.{Task};
-ghost use Rattle.rpki_arguments.specs.declared.arguments.Task.TheVariants.{Tree};
+ghost use Rattle.rpki_text.specs.declared.command_line.arguments.Task.{Task};
+ghost use Rattle.rpki_text.specs.declared.command_line.arguments.Task.TheVariants.{Tree};
 ghost use Rattle.rpki_answers.specs.declared.outcomes.Outcome.{Outcome};
 
 use rpki_verdicts::one_answer;

@@ -11,8 +11,8 @@ ghost use Rattle.rpki_files.specs.FaultRules.{rule_of};
 ghost use Rattle.rpki_files.specs.Files.{contents};
 ghost use Rattle.rpki_files.specs.LocatorFiles.{IsWhyNoLocator};
 ghost use Rattle.rpki_files.specs.declared.sorts.Sort.TheVariants.{Version1};
-ghost use Rattle.rpki_notes.specs.Facts.{AreFacts, fact_view};
-ghost use Rattle.rpki_notes.specs.Notes.{AreNotes};
+ghost use Rattle.rpki_text.specs.Facts.{AreFacts, fact_view};
+ghost use Rattle.rpki_text.specs.Notes.{AreNotes};
 ghost use Rattle.rpki_answers.specs.Outcomes.{IsOutcomeOfShow};
 ghost use Rattle.rpki_text.specs.Pages.{Appends, AppendsSome, line};
 ghost use Rattle.rpki_answers.specs.RejectionDetails.{advice_line, sort_line};
@@ -35,7 +35,7 @@ use rpki_files::{
     Content, Flaw, Form, Object, Place, Sort, describe, looks_like, looks_like_locator, place_of,
     read_locator,
 };
-use rpki_notes::{Fact, Note, facts_of, notes_of};
+use rpki_text::notes::{Fact, Note, facts_of, notes_of};
 use rpki_text::{FileName, Page, certificate, list};
 use sha2::{Digest, Sha256};
 use std::alloc::{AllocError, Global};

@@ -14,7 +14,7 @@ ghost use Rattle.rpki_verdicts.specs.Trees.{asked_of};
 use crate::as_json;
 use crate::outcomes::{Answer, Outcome};
 use crate::tree_lines::tree_text;
-use rpki_arguments::Format;
+use rpki_text::command_line::Format;
 use rpki_verdicts::{Fault, Question, TreeAnswer, TreeQuestion, first_no_locator, judge_all};
 use std::alloc::{AllocError, Global};
 

@@ -13,8 +13,8 @@ ghost use Rattle.rpki_answers.specs.VerdictTexts.{IsAcceptedFinding, IsFinding, 
 use crate::as_json;
 use crate::outcomes::{Answer, Outcome};
 use crate::verdict_lines::verdict_text;
-use rpki_arguments::Format;
 use rpki_files::Object;
+use rpki_text::command_line::Format;
 use rpki_verdicts::{Fault, Question, Verdict, first_no_locator, judge};
 use std::alloc::{AllocError, Global};
 

@@ -5,9 +5,9 @@ use Rattle.rpki_cert.specs.Certificates.{TbsFields}
 use Rattle.rpki_ext.specs.Kinds.{Means}
 use Rattle.rpki_crl.specs.Lists.{CrlState, IsTbsCertList, ListFields}
 use Rattle.rpki_crl.specs.RevokedEntries.{Revoked}
-use Rattle.rpki_wanted.specs.WantedLists.{IsListPrepared, IsListWanted, WantedListFields}
-use Rattle.rpki_wanted.specs.declared.preparing.WantedError.{WantedError}
-use Rattle.rpki_wanted.specs.declared.preparing.WantedError.TheVariants.{Memory, NoList, NoRole, OtherOctets, Unready, UnreadyList, Unsigned, UnsignedList}
+use Rattle.rpki_issuing.specs.WantedLists.{IsListPrepared, IsListWanted, WantedListFields}
+use Rattle.rpki_issuing.specs.declared.wanted.preparing.WantedError.{WantedError}
+use Rattle.rpki_issuing.specs.declared.wanted.preparing.WantedError.TheVariants.{Memory, NoList, NoRole, OtherOctets, Unready, UnreadyList, Unsigned, UnsignedList}
 use Rattle.rpki_c.specs.ListAnswers.{AnswersBehind, AnswersListCompletedBelow, AnswersListFields, AnswersListNamed, AnswersListSigned, AsksList, CompletesList, GivesNoList, IsListNamed, fields_before}
 use Rattle.rpki_c.specs.WantedAnswers.{unfit_of}
 use Rattle.rpki_c.specs.WantedLists.{GivesList}

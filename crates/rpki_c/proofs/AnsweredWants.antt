@@ -2,12 +2,12 @@
 use Rattle.std.specs.Prelude.{ℕ, List, Option, Err}
 use Rattle.rpki_cert.specs.Certificates.{TbsFields}
 use Rattle.rpki_cert.specs.Verification.{ResourceFields}
-use Rattle.rpki_wanted.specs.PreparedOctets.{IsUncompleted, IsUnprepared}
-use Rattle.rpki_wanted.specs.declared.preparing.WantedError.{WantedError}
-use Rattle.rpki_wanted.specs.declared.preparing.WantedError.TheVariants as wanting
+use Rattle.rpki_issuing.specs.PreparedOctets.{IsUncompleted, IsUnprepared}
+use Rattle.rpki_issuing.specs.declared.wanted.preparing.WantedError.{WantedError}
+use Rattle.rpki_issuing.specs.declared.wanted.preparing.WantedError.TheVariants as wanting
 use Rattle.rpki_c.specs.WantedAnswers.{AnswersBelow, AnswersCompletedBelow, AnswersFields, AnswersNamed, AnswersSigned, AnswersValue, AsksFields, GivesValues, unfit_of}
-use Rattle.rpki_wanted.specs.Issuers.{IsNamed}
-use Rattle.rpki_wanted.specs.PreparedOctets.{IsToSign}
+use Rattle.rpki_issuing.specs.Issuers.{IsNamed}
+use Rattle.rpki_issuing.specs.PreparedOctets.{IsToSign}
 use Rattle.rpki_c.specs.declared.completing.CompletionTerms.{CompletionTerms}
 use Rattle.rpki_c.specs.declared.completing.RpkiCompletion.{RpkiCompletion}
 use Rattle.rpki_c.specs.declared.unissued.Unissued.{Unissued}

@@ -12,9 +12,9 @@ use Rattle.rpki_cert.specs.Certificates.{CertFields, IsCertificate}
 use Rattle.rpki_cert.specs.Verification.{Context, ResourceFields}
 use Rattle.rpki_cert.specs.declared.inspect.Kind.{Kind}
 use Rattle.rpki_cert.specs.declared.inspect.Kind.TheVariants.{Anchor, Authority, EndEntity, Detached, Router}
-use Rattle.rpki_revocation.specs.Asking.{RevocationChecks}
-use Rattle.rpki_revocation.specs.AskedLists.{by_lists}
-use Rattle.rpki_tal.specs.Locators.{NamedTal, TalFields}
+use Rattle.rpki_path.specs.Asking.{RevocationChecks}
+use Rattle.rpki_path.specs.AskedLists.{by_lists}
+use Rattle.rpki_keys.specs.Locators.{NamedTal, TalFields}
 use Rattle.rpki_path.specs.LocatedPaths.{BeginsWithKey, BeginsWithOtherKey}
 use Rattle.rpki_path.specs.Paths.{Candidate, candidate, Member, IsMember, Finds, IsFault, trust_anchor_demand}
 use Rattle.rpki_path.specs.declared.judging.Judged.{Judged}

@@ -18,9 +18,9 @@ use Rattle.rpki_crl.specs.declared.revocation_error.RevocationError.TheVariants 
 use Rattle.rpki_issuing.specs.NextLists.{next_list_error_name}
 use Rattle.rpki_issuing.specs.declared.next.NextListError.{NextListError}
 use Rattle.rpki_issuing.specs.declared.next.NextListError.TheVariants as next
-use Rattle.rpki_tal.specs.TalErrors.{tal_error_name}
-use Rattle.rpki_tal.specs.declared.tal_error.TalError.{TalError}
-use Rattle.rpki_tal.specs.declared.tal_error.TalError.TheVariants as tal
+use Rattle.rpki_keys.specs.TalErrors.{tal_error_name}
+use Rattle.rpki_keys.specs.declared.tal.tal_error.TalError.{TalError}
+use Rattle.rpki_keys.specs.declared.tal.tal_error.TalError.TheVariants as tal
 use Rattle.rpki_c.specs.FaultNumbers.{FaultFields, fault_fields, fault_rows, field_names, is_among, number_in, number_named, decode_number, inspection_number, verification_number, revocation_number, locator_number, next_list_number}
 use Rattle.rpki_c.specs.FaultTexts.{fault_numbered, name_told}
 use Rattle.rpki_c.specs.declared.faults.Fault.{Fault}

@@ -10,7 +10,7 @@ use Rattle.rpki_der.proofs.Formats.{one_meant}
 use Rattle.rpki_ext.specs.Kinds.{Means}
 use Rattle.rpki_cert.specs.Certificates.{CertFields, IsCertificate}
 use Rattle.rpki_crl.specs.Lists.{CrlState}
-use Rattle.rpki_tal.specs.Locators.{TalFields}
+use Rattle.rpki_keys.specs.Locators.{TalFields}
 use Rattle.rpki_path.specs.LocatedPaths.{BeginsWithKey}
 use Rattle.rpki_folder.specs.Folders.{FolderFields, with_cert, with_list, octets_at, BeginsNoCertificate}
 use Rattle.rpki_folder.specs.declared.folder.Added.{Added}

@@ -20,12 +20,12 @@ use Rattle.rpki_issuing.specs.declared.issuing_error.IssuingError.TheVariants as
 use Rattle.rpki_issuing.specs.declared.list_error.ListError.{ListError}
 use Rattle.rpki_issuing.specs.declared.list_error.ListError.TheVariants as listing
 use Rattle.rpki_issuing.specs.declared.next.NextListError.{NextListError}
-use Rattle.rpki_tal.specs.TalErrors.{tal_error_name}
-use Rattle.rpki_tal.specs.declared.tal_error.TalError.{TalError}
+use Rattle.rpki_keys.specs.TalErrors.{tal_error_name}
+use Rattle.rpki_keys.specs.declared.tal.tal_error.TalError.{TalError}
 use Rattle.rpki_path.specs.declared.path_fault.PathFault.{PathFault}
 use Rattle.rpki_path.specs.declared.path_fault.PathFault.TheVariants as path
-use Rattle.rpki_wanted.specs.declared.preparing.WantedError.{WantedError}
-use Rattle.rpki_wanted.specs.declared.preparing.WantedError.TheVariants as wanted
+use Rattle.rpki_issuing.specs.declared.wanted.preparing.WantedError.{WantedError}
+use Rattle.rpki_issuing.specs.declared.wanted.preparing.WantedError.TheVariants as wanted
 use Rattle.rpki_c.specs.declared.faults.Fault.{Fault}
 use Rattle.rpki_c.specs.declared.refusal.Refusal.{Refusal}
 use Rattle.rpki_c.specs.declared.refusal.Refusal.TheVariants as refusal

@@ -6,9 +6,9 @@ use Rattle.rpki_ext.specs.Kinds.{Means}
 use Rattle.rpki_cert.specs.Certificates.{CertFields, IsCertificate}
 use Rattle.rpki_cert.specs.Verification.{Context, ResourceFields}
 use Rattle.rpki_crl.specs.Lists.{CrlState, IsCertificateList}
-use Rattle.rpki_revocation.specs.Asking.{RevocationChecks}
-use Rattle.rpki_revocation.specs.AskedLists.{by_lists}
-use Rattle.rpki_tal.specs.Locators.{NamedTal, TalFields}
+use Rattle.rpki_path.specs.Asking.{RevocationChecks}
+use Rattle.rpki_path.specs.AskedLists.{by_lists}
+use Rattle.rpki_keys.specs.Locators.{NamedTal, TalFields}
 use Rattle.rpki_path.specs.LocatedPaths.{BeginsWithKey}
 use Rattle.rpki_path.specs.declared.path_fault.PathFault.{PathFault}
 use Rattle.rpki_folder.specs.Folders.{octets_at, BeginsNoCertificate}

@@ -2,8 +2,8 @@
 use Rattle.std.specs.Prelude.{◌≡◌, ◌≢◌, ◌⊎◌, ◌+◌, ◌<◌, ℕ, Bool, List, [], ◌∷◌, length, slice_index_or, Result, Ok, Err}
 use Rattle.rpki_parts.specs.Signatures.{Verifies}
 use Rattle.rpki_cert.specs.Verification.{Context, context}
-use Rattle.rpki_tal.specs.LocatorFaults.{RejectsTal}
-use Rattle.rpki_tal.specs.Locators.{NamedTal, IsLocator}
+use Rattle.rpki_keys.specs.LocatorFaults.{RejectsTal}
+use Rattle.rpki_keys.specs.Locators.{NamedTal, IsLocator}
 use Rattle.rpki_path.specs.Paths.{Finds, trust_anchor_demand}
 use Rattle.rpki_path.specs.declared.path_fault.PathFault.TheVariants.{Memory}
 use Rattle.rpki_folder.specs.Folders.{octets_at}

@@ -6,8 +6,8 @@ use Rattle.rpki_cert.specs.Certificates.{TbsFields}
 use Rattle.rpki_cert.specs.Verification.{ResourceFields}
 use Rattle.rpki_crl.specs.Lists.{CrlFields, CrlState, IsCertificateList, IsTbsCertList, ListFields}
 use Rattle.rpki_crl.specs.RevokedEntries.{Revoked}
-use Rattle.rpki_wanted.specs.Issuers.{IsOwnList}
-use Rattle.rpki_wanted.specs.WantedLists.{IsListCompleted, IsListPrepared, IsListWanted, WantedListFields}
+use Rattle.rpki_issuing.specs.Issuers.{IsOwnList}
+use Rattle.rpki_issuing.specs.WantedLists.{IsListCompleted, IsListPrepared, IsListWanted, WantedListFields}
 use Rattle.rpki_c.specs.Verdicts.{BeginsNoList}
 use Rattle.rpki_c.specs.WantedAnswers.{IsAuthorityOf, IsNoAuthority}
 use Rattle.rpki_c.specs.WantedLists.{GivesList, HasListCompletionTerms, HasListTerms, HasNoListCompletionTerms, HasNoListTerms, HaveDates}

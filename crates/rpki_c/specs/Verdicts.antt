@@ -6,10 +6,10 @@ use Rattle.rpki_der.specs.Place.{Rejects}
 use Rattle.rpki_parts.specs.Signatures.{Verifies}
 use Rattle.rpki_cert.specs.Verification.{Context, context}
 use Rattle.rpki_crl.specs.Lists.{CrlFields, CrlState, IsCertificateList}
-use Rattle.rpki_revocation.specs.Asking.{RevocationChecks, nobody}
-use Rattle.rpki_revocation.specs.AskedLists.{by_lists}
-use Rattle.rpki_tal.specs.LocatorFaults.{RejectsTal}
-use Rattle.rpki_tal.specs.Locators.{TalFields, IsLocator}
+use Rattle.rpki_path.specs.Asking.{RevocationChecks, nobody}
+use Rattle.rpki_path.specs.AskedLists.{by_lists}
+use Rattle.rpki_keys.specs.LocatorFaults.{RejectsTal}
+use Rattle.rpki_keys.specs.Locators.{TalFields, IsLocator}
 use Rattle.rpki_path.specs.GivenPaths.{PathStrings, CanEndIn, IsSplitAs}
 use Rattle.rpki_path.specs.Judging.{Judges, IsAcceptedWith}
 use Rattle.rpki_path.specs.LocatedPaths.{IsLocatorOf, BeginsWithOtherKey}

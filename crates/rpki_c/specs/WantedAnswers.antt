@@ -11,12 +11,12 @@ use Rattle.rpki_parts.specs.Keys.{KeyFields, IsPublicKey}
 use Rattle.rpki_parts.specs.Names.{IsName}
 use Rattle.rpki_parts.specs.Uris.{IsHttps, IsRsync}
 use Rattle.rpki_path.specs.declared.judging.Judged.{Judged}
-use Rattle.rpki_wanted.specs.AskedFields.{fields_asked, subject_asked}
-use Rattle.rpki_wanted.specs.Issuers.{IsNamed, fields_above}
-use Rattle.rpki_wanted.specs.PreparedOctets.{IsCompleted, IsPrepared, IsToSign, IsUncompleted, IsUnprepared}
-use Rattle.rpki_wanted.specs.declared.preparing.WantedError.{WantedError}
-use Rattle.rpki_wanted.specs.declared.preparing.WantedError.TheVariants as wanting
-use Rattle.rpki_wanted.specs.declared.wanted.Wanted.{Wanted}
+use Rattle.rpki_issuing.specs.AskedFields.{fields_asked, subject_asked}
+use Rattle.rpki_issuing.specs.Issuers.{IsNamed, fields_above}
+use Rattle.rpki_issuing.specs.PreparedOctets.{IsCompleted, IsPrepared, IsToSign, IsUncompleted, IsUnprepared}
+use Rattle.rpki_issuing.specs.declared.wanted.preparing.WantedError.{WantedError}
+use Rattle.rpki_issuing.specs.declared.wanted.preparing.WantedError.TheVariants as wanting
+use Rattle.rpki_issuing.specs.declared.wanted.wanted.Wanted.{Wanted}
 use Rattle.rpki_c.specs.Verdicts.{AnswersQuestion}
 use Rattle.rpki_c.specs.WantedQuestions.{GivesWanted, HasCompletionTerms, HasNoCompletionTerms, HasNoWantedTerms, HasWantedTerms, IsKeyGiven}
 use Rattle.rpki_c.specs.declared.certificates.CertUri.{CertUri}

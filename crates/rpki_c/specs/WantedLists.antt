@@ -4,7 +4,7 @@ use Rattle.std.specs.List.{AllByRecursion}
 use Rattle.std.specs.Prelude.{◌≡◌, ◌≢◌, ℕ, List, Option, Some, None, map}
 use Rattle.rpki_crl.specs.RevokedEntries.{Entry}
 use Rattle.rpki_der.specs.Times.{IsMoment}
-use Rattle.rpki_wanted.specs.WantedLists.{WantedListFields}
+use Rattle.rpki_issuing.specs.WantedLists.{WantedListFields}
 use Rattle.rpki_c.specs.Questions.{HasTerms}
 use Rattle.rpki_c.specs.TimeParts.{moment_of_parts}
 use Rattle.rpki_c.specs.declared.list_completing.RpkiListCompletion.{RpkiListCompletion}

@@ -8,10 +8,10 @@ use Rattle.rpki_blocks.specs.Unions.{IsUnion}
 use Rattle.rpki_der.specs.Times.{IsMoment}
 use Rattle.rpki_keys.specs.KeyForms.{IsUsableKey}
 use Rattle.rpki_parts.specs.Keys.{KeyFields, IsPublicKey}
-use Rattle.rpki_values.specs.ValueTexts.{IsAllowedSerial, IsHttpsText, IsRsyncText}
-use Rattle.rpki_wanted.specs.declared.wanted.Numbers.{Numbers}
-use Rattle.rpki_wanted.specs.declared.wanted.Places.{Places}
-use Rattle.rpki_wanted.specs.declared.wanted.Wanted.{Wanted}
+use Rattle.rpki_issuing.specs.ValueTexts.{IsAllowedSerial, IsHttpsText, IsRsyncText}
+use Rattle.rpki_issuing.specs.declared.wanted.wanted.Numbers.{Numbers}
+use Rattle.rpki_issuing.specs.declared.wanted.wanted.Places.{Places}
+use Rattle.rpki_issuing.specs.declared.wanted.wanted.Wanted.{Wanted}
 use Rattle.rpki_c.specs.Questions.{HasTerms, kind_number}
 use Rattle.rpki_c.specs.TimeParts.{moment_of_parts}
 use Rattle.rpki_c.specs.declared.completing.CompletionTerms.{CompletionTerms}

@@ -1,7 +1,7 @@
 //! Certificates that are completed by their signatures.
 ghost use Rattle.std.specs.Prelude.{◌≡◌, option_map, IfErr, IfOk, IsNone, IfSome};
 ghost use Rattle.rpki_c.specs.WantedAnswers.{AnswersCompletedBelow, AnswersCompletion, AnswersCompletionTerms, AnswersNamed, AnswersSigned};
-ghost use Rattle.rpki_wanted.specs.Issuers.{IsNamed};
+ghost use Rattle.rpki_issuing.specs.Issuers.{IsNamed};
 ghost use Rattle.rpki_c.specs.WantedQuestions.{HasCompletionTerms, HasNoCompletionTerms};
 ghost use Rattle.rpki_c.specs.declared.unissued.Unissued.TheVariants.{OtherName};
 
@@ -12,9 +12,9 @@ use crate::question::{RpkiQuestion, Terms, terms_of};
 use crate::unissued::Unissued;
 use bytes::Bytes;
 use rpki_cert::{Kind, ResourceCert, TbsCert};
+use rpki_issuing::wanted::issuers::is_named;
+use rpki_issuing::wanted::{complete_octets, read_tbs};
 use rpki_keys::is_usable;
-use rpki_wanted::issuers::is_named;
-use rpki_wanted::{complete_octets, read_tbs};
 use std::alloc::Global;
 
 /// What was prepared and signed.

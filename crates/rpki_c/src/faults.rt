@@ -12,8 +12,8 @@ ghost use Rattle.rpki_crl.specs.Revocation.{revocation_error_name};
 ghost use Rattle.rpki_crl.specs.declared.revocation_error.RevocationError.{RevocationError as revocations};
 ghost use Rattle.rpki_issuing.specs.NextLists.{next_list_error_name};
 ghost use Rattle.rpki_issuing.specs.declared.next.NextListError.{NextListError as next_lists};
-ghost use Rattle.rpki_tal.specs.TalErrors.{tal_error_name};
-ghost use Rattle.rpki_tal.specs.declared.tal_error.TalError.{TalError as locators};
+ghost use Rattle.rpki_keys.specs.TalErrors.{tal_error_name};
+ghost use Rattle.rpki_keys.specs.declared.tal.tal_error.TalError.{TalError as locators};
 ghost use Rattle.rpki_c.specs.FaultNumbers.{fault_fields, fault_rows, field_names, field_number, is_among as among, number_in, number_named, decode_number, inspection_number, verification_number, revocation_number, locator_number, path_number, refusal_number, issuing_number, list_number, next_list_number, wanted_number, unissued_number};
 ghost use Rattle.rpki_c.specs.FaultTexts.{name_told};
 
@@ -22,10 +22,10 @@ use crate::unissued::Unissued;
 use rpki_cert::{InspectionError, ValidationError, VerificationError};
 use rpki_crl::RevocationError;
 use rpki_der::{DecodeError, Field};
+use rpki_issuing::wanted::WantedError;
 use rpki_issuing::{IssuingError, ListError, NextListError};
+use rpki_keys::tal::TalError;
 use rpki_path::PathFault;
-use rpki_tal::TalError;
-use rpki_wanted::WantedError;
 
 /// No fault.
 pub(crate) const NONE: u32 = 0;

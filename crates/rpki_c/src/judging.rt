@@ -2,7 +2,7 @@
 ghost use Rattle.std.specs.Prelude.{◌≡◌, IfOk, IfErr, Err};
 ghost use Rattle.rpki_cert.specs.Verification.{context};
 ghost use Rattle.rpki_path.specs.Judging.{Judges};
-ghost use Rattle.rpki_revocation.specs.AskedLists.{by_lists};
+ghost use Rattle.rpki_path.specs.AskedLists.{by_lists};
 ghost use Rattle.rpki_keys.specs.RsaSignatures.{IsSignedByRsa};
 ghost use Rattle.rpki_c.specs.Answered.{AnswersSaid, AnswersSaidMembers, AnswersSaidQuestion};
 ghost use Rattle.rpki_c.specs.Verdicts.{AreStringsOf, DontAddUp, IsUncalled, AnswersListed, AnswersWith, AnswersTrusted, AnswersPath, AnswersStrings, AnswersMembers, AnswersQuestion};
@@ -17,8 +17,8 @@ use bytes::Bytes;
 use rpki_crl::Crl;
 use rpki_keys::RsaVerifier;
 use rpki_parts::Verifier;
+use rpki_path::revocation::{GivenLists, NobodyAsked};
 use rpki_path::{GivenPath, Judged, Member, PathError, judge};
-use rpki_revocation::{GivenLists, NobodyAsked};
 use std::alloc::Global;
 
 /// Cuts the caller's octets into the strings of these lengths.

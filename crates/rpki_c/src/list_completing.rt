@@ -11,7 +11,7 @@ use bytes::Bytes;
 use rpki_cert::{ResourceCert, TbsCert};
 use rpki_crl::{RevokedCertificates, TbsCertList};
 use rpki_der::Cursor;
-use rpki_wanted::complete_list_octets;
+use rpki_issuing::wanted::complete_list_octets;
 use std::alloc::Global;
 
 /// What was prepared of a list, and signed.

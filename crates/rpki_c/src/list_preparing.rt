@@ -3,7 +3,7 @@ ghost use Rattle.std.specs.Prelude.{◌≡◌, ◌⊎◌, option_map, IfErr, IfO
 ghost use Rattle.rpki_ext.specs.Kinds.{Means};
 ghost use Rattle.rpki_crl.specs.Lists.{IsCertificateList};
 ghost use Rattle.rpki_c.specs.ListAnswers.{AnswersBehind, AnswersListBelow, AnswersListFields, AnswersListTerms, AnswersWantedList, BeginsWithOwn, IsNoPrevious, IsPreviousOf};
-ghost use Rattle.rpki_wanted.specs.Issuers.{IsOwnList};
+ghost use Rattle.rpki_issuing.specs.Issuers.{IsOwnList};
 ghost use Rattle.rpki_c.specs.Verdicts.{BeginsNoList};
 ghost use Rattle.rpki_c.specs.declared.unissued.Unissued.TheVariants.{Memory, OtherList};
 
@@ -14,8 +14,8 @@ use crate::wanted_list::{ListTerms, RpkiWantedList, list_given, list_terms_of};
 use bytes::Bytes;
 use rpki_cert::ResourceCert;
 use rpki_crl::{Crl, RevokedCertificates, TbsCertList};
-use rpki_wanted::issuers::is_own;
-use rpki_wanted::{list_fields, prepare_list_octets};
+use rpki_issuing::wanted::issuers::is_own;
+use rpki_issuing::wanted::{list_fields, prepare_list_octets};
 use std::alloc::Global;
 
 // The list that the octets begin with.

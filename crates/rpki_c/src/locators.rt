@@ -1,12 +1,12 @@
 //! Whether a trust anchor has a locator's key.
 ghost use Rattle.std.specs.Prelude.{◌≡◌, ℕ, Bool, List, OnOk, IfErr};
-ghost use Rattle.rpki_tal.specs.Locators.{IsLocator};
+ghost use Rattle.rpki_keys.specs.Locators.{IsLocator};
 ghost use Rattle.rpki_path.specs.LocatedPaths.{IsLocatorOf};
 ghost use Rattle.rpki_c.specs.Verdicts.{IsUntrusted};
 
 use crate::refusal::Refusal;
+use rpki_keys::tal::Tal;
 use rpki_path::{Member, PathError, has_locator_key};
-use rpki_tal::Tal;
 use std::alloc::Global;
 
 // Errs where the trust anchor has another key than the locator.

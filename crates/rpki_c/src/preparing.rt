@@ -8,8 +8,8 @@ use crate::values::values_of;
 use crate::wanted::{RpkiWanted, WantedTerms, wanted_terms_of};
 use bytes::Bytes;
 use rpki_cert::{ResourceCert, TbsCert};
-use rpki_wanted::issuers::above;
-use rpki_wanted::{WantedError, fields, prepare_octets};
+use rpki_issuing::wanted::issuers::above;
+use rpki_issuing::wanted::{WantedError, fields, prepare_octets};
 use std::alloc::Global;
 
 /// Returns why nothing is prepared or completed.

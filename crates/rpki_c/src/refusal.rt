@@ -2,8 +2,8 @@
 ghost use Rattle.rpki_c.specs.declared.refusal.Refusal.TheVariants as refusal;
 
 use rpki_der::DecodeError;
+use rpki_keys::tal::TalError;
 use rpki_path::PathError;
-use rpki_tal::TalError;
 use std::alloc::AllocError;
 
 /// Why a path isn't accepted, or isn't judged at all.

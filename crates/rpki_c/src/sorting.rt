@@ -15,7 +15,7 @@ use rpki_cert::{Cert, Said, laws};
 use rpki_crl::Crl;
 use rpki_der::DecodeError;
 use rpki_folder::{Added, Folder};
-use rpki_tal::Tal;
+use rpki_keys::tal::Tal;
 use std::alloc::{AllocError, Global};
 
 // What octets begin with.

@@ -3,7 +3,7 @@ ghost use Rattle.rpki_c.specs.declared.unissued.Unissued.TheVariants as unissued
 
 use crate::certificates::CertUri;
 use crate::refusal::Refusal;
-use rpki_wanted::WantedError;
+use rpki_issuing::wanted::WantedError;
 use std::alloc::AllocError;
 
 /// Why no certificate and no revocation list is prepared or completed.

@@ -4,7 +4,7 @@ ghost use Rattle.std.specs.Prelude.{◌≡◌, ◌≢◌, ◌⊎◌, ◌<◌, �
 ghost use Rattle.rpki_blocks.specs.Sets.{Block as Span, between};
 ghost use Rattle.rpki_blocks.specs.Unions.{IsUnion};
 ghost use Rattle.rpki_parts.specs.Keys.{IsPublicKey};
-ghost use Rattle.rpki_values.specs.ValueTexts.{IsHttpsText, IsRsyncText};
+ghost use Rattle.rpki_issuing.specs.ValueTexts.{IsHttpsText, IsRsyncText};
 ghost use Rattle.rpki_c.specs.WantedAnswers.{AnswersValue, GivesValues, IsNoKey, IsNoText, uri_wanted};
 ghost use Rattle.rpki_c.specs.WantedQuestions.{AreGiven, AreOrdered, GivesNumbers, GivesPlaces, GivesWanted, IsKeyGiven, IsUriGiven, as_span, first_v4, last_v4, v4_span, v6_span};
 ghost use Rattle.rpki_c.specs.declared.certificates.CertUri.TheVariants.{Notify};
@@ -17,10 +17,10 @@ use crate::unissued::Unissued;
 use crate::wanted::{RpkiUris, RpkiWanted, WantedTerms};
 use bytes::Bytes;
 use rpki_blocks::{Addr, AsBlock, Asn, Block, BlocksBuilder, Bound, IpBlock, Resources};
+use rpki_issuing::values::{Textual, serial_of};
+use rpki_issuing::wanted::{Numbers, Places, Wanted};
 use rpki_keys::is_usable;
 use rpki_parts::{Https, PublicKey, Rsync};
-use rpki_values::{Textual, serial_of};
-use rpki_wanted::{Numbers, Places, Wanted};
 use std::alloc::{AllocError, Global};
 
 // How ranges of a kind of numbers stand in the caller's memory.

@@ -1,7 +1,7 @@
 //! The walk over a folder's strings, below the trust anchor among them.
 ghost use Rattle.std.specs.Prelude.{◌≡◌, ◌<◌, [], length, Err, IfOk, IfErr};
 ghost use Rattle.rpki_cert.specs.Verification.{context};
-ghost use Rattle.rpki_revocation.specs.AskedLists.{by_lists};
+ghost use Rattle.rpki_path.specs.AskedLists.{by_lists};
 ghost use Rattle.rpki_keys.specs.RsaSignatures.{IsSignedByRsa};
 ghost use Rattle.rpki_folder.specs.KeptLines.{AreLines};
 ghost use Rattle.rpki_folder.specs.Walks.{at_anchor, IsWhyNone};
@@ -19,8 +19,8 @@ use bytes::Bytes;
 use rpki_cert::laws;
 use rpki_folder::{AllAdmitted, Ended, Lines, Walk, WalkError};
 use rpki_keys::RsaVerifier;
+use rpki_keys::tal::Tal;
 use rpki_path::{LocatedError, Member, PathError};
-use rpki_tal::Tal;
 use std::alloc::Global;
 
 /// What became of a folder's strings.

@@ -11,7 +11,7 @@ use crate::question::{RpkiQuestion, Terms, terms_of};
 use crate::unissued::Unissued;
 use rpki_crl::CrlEntry;
 use rpki_der::{Serial, Time};
-use rpki_wanted::WantedList;
+use rpki_issuing::wanted::WantedList;
 use std::alloc::{AllocError, Global};
 
 /// A revocation list that is wanted.

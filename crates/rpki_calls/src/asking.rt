@@ -1,12 +1,12 @@
 //! Where a call begins and ends, and what it answered.
 
 use rpki_cert::{IssueCaError, ValidationError, VerificationError};
-use rpki_cert_tests::samples;
 use rpki_der::{Cursor, DecodeError, EncodeError};
 use rpki_folder::WalkError;
 use rpki_issuing::{CheckedError, IssuingError, ListError, NextListError};
 use rpki_parts::SigningError;
 use rpki_path::{PathError, PathFault};
+use rpki_tests::samples;
 use std::alloc::{AllocError, Global};
 use std::process::ExitCode;
 

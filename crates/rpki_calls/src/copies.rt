@@ -8,7 +8,6 @@ use rpki_blocks::comparing::{
 use rpki_blocks::{Addr, AsBlock, Asn, Overclaim, Prefix};
 use rpki_cert::Kind;
 use rpki_cert::comparing::copied_kind;
-use rpki_cert_tests::samples;
 use rpki_crl::CrlEntry;
 use rpki_crl::comparing::copied_entry;
 use rpki_der::comparing::{copied_field, copied_serial, copied_time};
@@ -21,6 +20,7 @@ use rpki_parts::comparing::{
     copied_algorithm, copied_format, copied_key_identifier, copied_validity,
 };
 use rpki_parts::{KeyIdentifier, PublicKeyFormat, RpkiSignatureAlgorithm, Validity};
+use rpki_tests::samples;
 use std::alloc::Global;
 
 fn of_numbers(path: &str, day: Time) -> Option<&'static str> {

@@ -3,9 +3,9 @@
 use crate::asking::{Fault, Told, begin, called, end};
 use crate::inputs::{ANCHOR, LIST};
 use bytes::Bytes;
-use rpki_cert_tests::samples::{self, shared};
 use rpki_der::Serial;
 use rpki_files::{Misread, decode_cert, decode_crl};
+use rpki_tests::samples::{self, shared};
 use std::alloc::Global;
 
 impl Fault for Misread {

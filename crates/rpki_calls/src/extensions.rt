@@ -2,9 +2,9 @@
 
 use crate::asking::{Told, called, ended, vector};
 use rpki_blocks::{Asn, Overclaim};
-use rpki_cert_tests::samples::{self, rsa};
 use rpki_der::Cursor;
 use rpki_ext::{Extensions, KeyUsage};
+use rpki_tests::samples::{self, rsa};
 use std::alloc::Global;
 
 fn bare() -> Extensions {

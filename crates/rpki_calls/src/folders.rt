@@ -6,14 +6,14 @@ use crate::making::authority;
 use crate::stores::list_by;
 use bytes::Bytes;
 use rpki_cert::{Cert, KeyUsage, ResourceCert, Said, TbsCert};
-use rpki_cert_tests::samples::{self, rsa, shared};
 use rpki_crl::Crl;
 use rpki_folder::{
     Accepted, Added, AllAdmitted, Bounds, Ended, Folder, Found, Line, Lines, Visitor, Walk,
 };
+use rpki_keys::tal::Tal;
 use rpki_parts::StandIn;
 use rpki_path::{Member, PathFault};
-use rpki_tal::Tal;
+use rpki_tests::samples::{self, rsa, shared};
 use std::alloc::{AllocError, Global};
 
 // ---- what is added

@@ -1,10 +1,10 @@
 //! Certificates and lists that another program made, and what they are read as.
 
 use rpki_cert::{Cert, ResourceCert};
-use rpki_cert_tests::samples::{self, shared};
 use rpki_crl::Crl;
 use rpki_der::Time;
 use rpki_parts::TalInfo;
+use rpki_tests::samples::{self, shared};
 use std::alloc::Global;
 use std::rc::Rc;
 

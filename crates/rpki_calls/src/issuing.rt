@@ -6,7 +6,6 @@ use crate::inputs::{ANCHOR, anchor, certificate, new_year};
 use crate::making::authority;
 use crate::stores::list_by;
 use rpki_cert::{Cert, ResourceCert, TbsCert};
-use rpki_cert_tests::samples::{self, day, rsa, written};
 use rpki_crl::{Crl, CrlEntry, RevokedCertificates, TbsCertList};
 use rpki_der::{Serial, Time};
 use rpki_issuing::{
@@ -14,6 +13,7 @@ use rpki_issuing::{
     prepare, prepare_list,
 };
 use rpki_parts::{RpkiSignatureAlgorithm, Signature, SignedData, Signer, StandIn};
+use rpki_tests::samples::{self, day, rsa, written};
 use std::alloc::Global;
 
 // What the anchor's key signs.

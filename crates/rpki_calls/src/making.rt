@@ -6,10 +6,10 @@ use crate::asking::{Told, begin, called, ended};
 use crate::inputs::{NUMBERS, anchor, new_year};
 use rpki_blocks::{AsBlock, AsBlocks, Asn};
 use rpki_cert::{IssueCaError, KeyUsage, ResourceCert, TbsCert, issue_ca, round_trip};
-use rpki_cert_tests::samples::{self, rsa};
 use rpki_der::Time;
 use rpki_parts::{PublicKey, StandIn};
 use rpki_path::issuing::issue_below;
+use rpki_tests::samples::{self, rsa};
 use std::alloc::Global;
 
 /// The data of an authority with the key `a` under the anchor, which lists AS5 to AS20.

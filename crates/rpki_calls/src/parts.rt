@@ -1,8 +1,8 @@
 //! Names and signed data.
 
 use crate::asking::{Told, called};
-use rpki_cert_tests::samples::{self, rsa};
 use rpki_parts::{Name, RpkiSignatureAlgorithm, Signature, SignedData, Signer, StandIn};
+use rpki_tests::samples::{self, rsa};
 use std::alloc::Global;
 
 // The CommonName of the identifier of the key of the bits `abc`.

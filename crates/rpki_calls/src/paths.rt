@@ -5,12 +5,12 @@ use crate::inputs::{ANCHOR, FIRST, NUMBERS, SECOND, anchor, locator, new_year};
 use bytes::Bytes;
 use rpki_blocks::Asn;
 use rpki_cert::{Kind, ResourceCert};
-use rpki_cert_tests::samples::{router, shared, signed};
 use rpki_der::{Serial, Time};
 use rpki_lines::{Watched, program};
 use rpki_parts::StandIn;
+use rpki_path::revocation::NobodyAsked;
 use rpki_path::{GivenPath, Member, Role, Validator, judge, validate_router};
-use rpki_revocation::NobodyAsked;
+use rpki_tests::samples::{router, shared, signed};
 use std::alloc::Global;
 use std::process::ExitCode;
 

@@ -3,7 +3,7 @@
 use crate::asking::{Told, begin, ended};
 use rpki_blocks::{Addr, AsBlock, Asn, IpBlock};
 use rpki_cert::TbsCert;
-use rpki_cert_tests::samples;
+use rpki_tests::samples;
 use std::alloc::{AllocError, Global};
 
 // Two blocks that touch neither each other nor anything else.

@@ -1,12 +1,12 @@
 //! Entries, lists that are made, tables of serials, and lists under their URIs.
 
 use crate::asking::{Told, begin, called, end, ended, read, vector, written_digits};
-use rpki_cert_tests::samples::{day, rsa, shared, uri};
 use rpki_crl::{
     Crl, CrlEntry, CrlStore, InvalidExtension, RevokedCertificates, TbsCertList, round_trip,
 };
 use rpki_der::{Cursor, Oid, Serial};
 use rpki_parts::{RpkiSignatureAlgorithm, Rsync, StandIn};
+use rpki_tests::samples::{day, rsa, shared, uri};
 use std::alloc::Global;
 
 // One entry, as it stands in a list.

@@ -13,15 +13,15 @@ use Rattle.rpki_files.specs.Files.{contents}
 use Rattle.rpki_verdicts.specs.GivenLocators.{locator_files}
 use Rattle.rpki_verdicts.specs.PathFiles.{Demands}
 use Rattle.rpki_command.specs.AboutTexts.{about_text}
-use Rattle.rpki_arguments.specs.CommandLines.{RequestFields, with_files, IsCommandLine}
+use Rattle.rpki_text.specs.CommandLines.{RequestFields, with_files, IsCommandLine}
 use Rattle.rpki_answers.specs.Outcomes.{AsksOfFiles, IsOutcomeOf, demands_by, run_status}
 use Rattle.rpki_command.specs.ListedFolders.{Lists}
 use Rattle.rpki_command.specs.ReadFiles.{Reads}
 use Rattle.rpki_command.specs.Moments.{IsMomentBy}
 use Rattle.rpki_command.specs.SoughtPaths.{with_sought}
 use Rattle.rpki_command.specs.Runs.{IsAnswer, IsAnswerAmong, IsAnswerBy, IsAnswerIn, IsAnswerOf, IsAnswerOfNamed, LineEnds, TaskEnds}
-use Rattle.rpki_arguments.specs.declared.arguments.Task.{Task}
-use Rattle.rpki_arguments.specs.declared.arguments.Task.TheVariants.{Show, Validate, Tree, Help, Version}
+use Rattle.rpki_text.specs.declared.command_line.arguments.Task.{Task}
+use Rattle.rpki_text.specs.declared.command_line.arguments.Task.TheVariants.{Show, Validate, Tree, Help, Version}
 use Rattle.rpki_command.proofs.WrittenTexts.{appends_both}
 use Rattle.rpki_command.specs.declared.ended.Ended.{Ended}
 use Rattle.rpki_answers.specs.declared.outcomes.Outcome.{Outcome}

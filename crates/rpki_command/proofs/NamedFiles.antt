@@ -3,7 +3,7 @@ use Rattle.std.proofs.Common.{◌≡◌, ◌+◌, ◌<◌, ◌≤◌, ◌∷◌,
 use Rattle.std.proofs.lemmas.List.{append-nil, length-map, map_more}
 use Rattle.rpki_files.specs.Files.{FileFields, file_names}
 use Rattle.rpki_verdicts.specs.GivenLocators.{LocatorFields, locator_files}
-use Rattle.rpki_arguments.specs.CommandLines.{RequestFields}
+use Rattle.rpki_text.specs.CommandLines.{RequestFields}
 use Rattle.rpki_command.specs.ReadFiles.{Reads, IsFileRead, IsObjectRead}
 use Rattle.rpki_command.specs.NamedFiles.{AreReadOf, AreFilesRead, AreObjectsRead, AreNamed, AreRead, AreGiven}
 use Rattle.rpki_command.specs.UnreadFiles.{IsToldUnread}

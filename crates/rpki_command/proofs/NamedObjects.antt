@@ -2,7 +2,7 @@
 use Rattle.std.proofs.Common.{◌≡◌, ◌+◌, ◌<◌, ◌∷◌, ◌++◌, ℕ, List, [], length, take, get_or, map, sym, subst, arith}
 use Rattle.std.proofs.lemmas.List.{get_or-map, length-map, map_more}
 use Rattle.std.proofs.lemmas.List.Elements.{AllZip-push}
-use Rattle.rpki_arguments.specs.CommandLines.{usual_size}
+use Rattle.rpki_text.specs.CommandLines.{usual_size}
 use Rattle.rpki_command.specs.ReadFiles.{Reads}
 use Rattle.rpki_command.specs.RequestRuns.{AreObjectsNamed, IsObjectNamed, IsUnreadOf}
 use Rattle.rpki_command.specs.UnreadFiles.{IsWhyUnread}

@@ -7,8 +7,8 @@ use Rattle.std.specs.Ordering.{nat_cmp}
 use Rattle.std.specs.Prelude.{◌≡◌, ◌||◌, ◌⊎◌, ℕ, zero, suc, Bool, true, List, [], ◌∷◌, ◌++◌, codes, if◌then◌else◌, nat_eq, Option, Some, None}
 use Rattle.std.specs.Bool.{MatchBool}
 use Rattle.std.specs.Str.{IsUtf8}
-use Rattle.rpki_arguments.specs.declared.arguments.Task.{Task}
-use Rattle.rpki_arguments.specs.declared.arguments.Task.TheVariants.{Tree}
+use Rattle.rpki_text.specs.declared.command_line.arguments.Task.{Task}
+use Rattle.rpki_text.specs.declared.command_line.arguments.Task.TheVariants.{Tree}
 use Rattle.rpki_command.specs.Messages.{passed_message}
 use Rattle.rpki_command.specs.UnreadFiles.{IsToldUnlisted}
 

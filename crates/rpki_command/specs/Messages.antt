@@ -3,9 +3,9 @@ use Rattle.std.specs.Fmt.{decimal}
 use Rattle.std.specs.Prelude.{◌≡◌, ℕ, List, [], ◌++◌, ◌==◌, codes, if◌then◌else◌}
 use Rattle.rpki.specs.Ended.{Ended}
 use Rattle.rpki.specs.Ended.TheVariants.{Whole, TooDeep, OutOfSteps}
-use Rattle.rpki_arguments.specs.Misuses.{IsMisuse}
-use Rattle.rpki_arguments.specs.MisuseTexts as line
-use Rattle.rpki_arguments.specs.declared.arguments.Misuse as arguments
+use Rattle.rpki_text.specs.Misuses.{IsMisuse}
+use Rattle.rpki_text.specs.MisuseTexts as line
+use Rattle.rpki_text.specs.declared.command_line.arguments.Misuse as arguments
 use Rattle.rpki_command.specs.AboutTexts.{usage_text}
 use Rattle.rpki_requests.specs.Refusals.{refusal_text}
 use Rattle.rpki_requests.specs.RequestMisuses as request

@@ -1,6 +1,6 @@
 -- What is read of the files that a request names, and what is said of those that can't be read (own).
 use Rattle.std.specs.Prelude.{◌≡◌, ◌⊎◌, ℕ, All, List, [], ◌∷◌, ◌++◌}
-use Rattle.rpki_arguments.specs.CommandLines.{RequestFields}
+use Rattle.rpki_text.specs.CommandLines.{RequestFields}
 use Rattle.rpki_files.specs.Files.{FileFields}
 use Rattle.rpki_verdicts.specs.GivenLocators.{LocatorFields, IsRead, locator_files}
 use Rattle.rpki_command.specs.ReadFiles.{Reads, IsFileRead, IsObjectRead}

@@ -8,7 +8,7 @@ use Rattle.rpki_files.specs.Files.{FileFields}
 use Rattle.rpki_verdicts.specs.GivenLocators.{LocatorFields, locator_files}
 use Rattle.rpki_command.specs.AboutTexts.{usage_text, version_text}
 use Rattle.rpki_answers.specs.AnswerTexts.{IsTextBy, IsJsonBy}
-use Rattle.rpki_arguments.specs.CommandLines.{RequestFields, with_files, IsCommandLine}
+use Rattle.rpki_text.specs.CommandLines.{RequestFields, with_files, IsCommandLine}
 use Rattle.rpki_command.specs.ListedFolders.{Lists, AreFilesOf}
 use Rattle.rpki_answers.specs.Outcomes.{EndsBy}
 use Rattle.rpki_command.specs.Messages.{SaysLineMisuse}
@@ -19,9 +19,9 @@ use Rattle.rpki_command.specs.ReadFiles.{Reads}
 use Rattle.rpki_command.specs.RequestRuns.{RequestEnds}
 use Rattle.rpki_requests.specs.RequestWords.{BeginsRequest}
 use Rattle.rpki_command.specs.SoughtPaths.{IsSearch, with_sought}
-use Rattle.rpki_arguments.specs.declared.arguments.Format.TheVariants.{Text}
-use Rattle.rpki_arguments.specs.declared.arguments.Task.{Task}
-use Rattle.rpki_arguments.specs.declared.arguments.Task.TheVariants.{Tree, Help, Version}
+use Rattle.rpki_text.specs.declared.command_line.arguments.Format.TheVariants.{Text}
+use Rattle.rpki_text.specs.declared.command_line.arguments.Task.{Task}
+use Rattle.rpki_text.specs.declared.command_line.arguments.Task.TheVariants.{Tree, Help, Version}
 use Rattle.rpki_answers.specs.declared.outcomes.Outcome.{Outcome}
 use Rattle.rpki_answers.specs.declared.outcomes.Outcome.TheVariants.{Success, WrongUse, Unread}
 use Rattle.rpki_command.specs.declared.searching.SoughtNames.{SoughtNames}

@@ -3,7 +3,7 @@ ghost use Rattle.std.specs.Prelude.{◌≡◌, IfSome, MatchOption};
 ghost use Rattle.rpki_command.specs.AboutTexts.{about_text, usage_text};
 ghost use Rattle.rpki_answers.specs.Outcomes.{AsksOfFiles};
 
-use rpki_arguments::Task;
+use rpki_text::command_line::Task;
 
 const USAGE: &str = "usage: rpki show [--all] [OPTION].. FILE..
        rpki validate [--tal FILE].. [--crl FILE].. [--no-names] [OPTION].. ANCHOR [CA].. [LAST]

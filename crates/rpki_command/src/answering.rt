@@ -4,7 +4,7 @@ ghost use Rattle.std.specs.Bool.{MatchBool};
 ghost use Rattle.rpki.specs.RsaSignatures.{IsSignedByRsa};
 ghost use Rattle.rpki.specs.Verification.{context};
 ghost use Rattle.rpki_answers.specs.AnswerTexts.{IsJsonBy, IsTextBy, IsTreeJsonBy, IsTreeTextBy, options_of, question_of, tree_question_of};
-ghost use Rattle.rpki_arguments.specs.CommandLines.Views.{fields_of};
+ghost use Rattle.rpki_text.specs.CommandLines.Views.{fields_of};
 ghost use Rattle.rpki_answers.specs.JsonAnswers.{IsJsonOfFiles, is_single};
 ghost use Rattle.rpki_answers.specs.JsonVerdicts.{IsJsonOfPath};
 ghost use Rattle.rpki_answers.specs.Outcomes.{IsOutcomeOfTree, AreAllRead, EndsBy, IsOutcomeOfShow, IsOutcomeOfValidate};
@@ -18,8 +18,8 @@ ghost use Rattle.rpki_verdicts.specs.Trees.{asked_of};
 
 use rpki::repository::x509::Time;
 use rpki_answers::{Answer, Options, Outcome, answer_files, shown, treed, validated};
-use rpki_arguments::{Format, Request, Task};
 use rpki_files::{BareObject, Object};
+use rpki_text::command_line::{Format, Request, Task};
 use rpki_verdicts::{GivenLocator, Question, TreeQuestion};
 use std::alloc::{AllocError, Global};
 

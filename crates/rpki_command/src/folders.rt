@@ -7,14 +7,14 @@ ghost use Rattle.std.specs.Ordering.{nat_cmp};
 ghost use Rattle.std.specs.Prelude.{◌≡◌, ◌||◌, ◌⊎◌, ◌++◌, ◌∷◌, [], Bool, List, ℕ, Ok, Some, map, IfOk, MatchOption, OnOk, true};
 ghost use Rattle.std.specs.Bool.{MatchBool};
 ghost use Rattle.std.specs.Io.KnownBytes.{Appends};
-ghost use Rattle.rpki_arguments.specs.CommandLines.Views.{fields_of, word_octets};
+ghost use Rattle.rpki_text.specs.CommandLines.Views.{fields_of, word_octets};
 ghost use Rattle.rpki_command.specs.ListedFolders.{AreDown, AreFilesOf, AreOpened, IsUnlisted, StandFor, StandsForItself, holds, is_folder_name, is_taken};
 ghost use Rattle.rpki_command.specs.Messages.{passed_message};
 
 use crate::files::{FileSource, Unread};
 use crate::reading::tell;
 use anyhow::{Result, anyhow};
-use rpki_arguments::{Request, Task};
+use rpki_text::command_line::{Request, Task};
 use std::alloc::{AllocError, Global};
 use std::io;
 use std::io::Write;

@@ -6,7 +6,7 @@ ghost use Rattle.rpki_requests.specs.RequestWords.Views.{asked_fields};
 ghost use Rattle.rpki_command.specs.RequestRuns.{AreInputs, AreObjectsNamed, IsObjectNamed, IsUnreadInput, IsUnreadOf};
 ghost use Rattle.rpki_command.specs.RequestRuns.Views.{input_fields};
 ghost use Rattle.rpki_command.specs.UnreadFiles.{IsWhyUnread};
-ghost use Rattle.rpki_arguments.specs.CommandLines.{usual_size};
+ghost use Rattle.rpki_text.specs.CommandLines.{usual_size};
 
 use crate::files::{FileSource, Unread};
 use crate::reading::octets_by;

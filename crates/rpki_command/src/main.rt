@@ -6,7 +6,7 @@
 ghost use Rattle.std.specs.Prelude.{◌≡◌, ◌≢◌, ◌↔◌, ◌⊎◌, ◌≤◌, IfOk, IsErr, IsErrAnd, IsOkAnd};
 ghost use Rattle.std.specs.IoError.{error_kind};
 ghost use Rattle.std.specs.Process.{exit_status};
-ghost use Rattle.rpki_arguments.specs.CommandLines.Views.{word_octets};
+ghost use Rattle.rpki_text.specs.CommandLines.Views.{word_octets};
 ghost use Rattle.rpki_command.specs.Runs.{RunEndsAs};
 
 mod about;

@@ -51,7 +51,7 @@ fn push_mark(text: &mut Vec<u8>, word: &str, label: &str) -> Result<(), AllocErr
 }
 
 /// Returns octets in PEM, under a label.
-#[tactic(auto, unfolding(rpki_tal::specs::Digits::base64_of))]
+#[tactic(auto, unfolding(rpki_keys::specs::Digits::base64_of))]
 pub fn pem_text(alloc: Global, label: &str, octets: &[u8]) -> Result<Vec<u8>, AllocError>
     ensures { IfOk result (λ text. IsPemText label.now octets.now text.items) }
 {

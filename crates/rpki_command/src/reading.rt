@@ -1,16 +1,16 @@
 //! The files that a request names, and what is said of those that can't be read.
 ghost use Rattle.std.specs.Io.KnownBytes.{Appends};
 ghost use Rattle.std.specs.Prelude.{◌≡◌, [], ◌∷◌, ◌++◌, All, List, ℕ, Some, map, IfErr, IfOk, MatchOption, OnOk};
-ghost use Rattle.rpki_arguments.specs.CommandLines.Views.{fields_of};
+ghost use Rattle.rpki_text.specs.CommandLines.Views.{fields_of};
 ghost use Rattle.rpki_command.specs.NamedFiles.{AreFilesRead, AreObjectsRead, AreRead};
 ghost use Rattle.rpki_command.specs.UnreadFiles.{IsLineAbout, IsToldUnread, IsWhyUnread, called, file_message};
 ghost use Rattle.rpki_verdicts.specs.GivenLocators.{LocatorFields, IsRead, locator_files};
 
 use crate::files::{FileSource, Unread};
 use anyhow::{Result, anyhow};
-use rpki_arguments::Request;
 use rpki_files::{BareObject, Object, read_bare_object, read_object};
 use rpki_text::Characters;
+use rpki_text::command_line::Request;
 use rpki_verdicts::GivenLocator;
 use std::alloc::{AllocError, Global};
 use std::fmt::Display;

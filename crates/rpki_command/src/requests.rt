@@ -2,7 +2,7 @@
 //! to what it puts out.
 ghost use Rattle.std.specs.Prelude.{◌≡◌, ◌≢◌, List, ℕ, map, IfErr, IfOk, IsFalse, IsTrue, OnErr, OnOk, Ok};
 ghost use Rattle.std.specs.Io.KnownBytes.{Appends};
-ghost use Rattle.rpki_arguments.specs.CommandLines.Views.{word_octets};
+ghost use Rattle.rpki_text.specs.CommandLines.Views.{word_octets};
 ghost use Rattle.rpki_requests.specs.Fulfilment.{Fulfils, context_of};
 ghost use Rattle.rpki_requests.specs.Refusals.{TellsPath};
 ghost use Rattle.rpki_requests.specs.RequestMisuses.{misuse_text};

@@ -1,9 +1,9 @@
 //! A run of the command: from its words, over files and a clock, to what it puts out.
 ghost use Rattle.std.specs.Prelude.{◌≡◌, ◌≢◌, ◌⊎◌, List, ℕ, IfOk, OnErr, OnOk, string_bytes};
 ghost use Rattle.std.specs.Io.KnownBytes.{Appends};
-ghost use Rattle.rpki_arguments.specs.CommandLines.Views.{fields_of, word_octets};
+ghost use Rattle.rpki_text.specs.CommandLines.Views.{fields_of, word_octets};
 ghost use Rattle.rpki_answers.specs.Outcomes.{AsksOfFiles};
-ghost use Rattle.rpki_arguments.specs.MisuseTexts.{misuse_text};
+ghost use Rattle.rpki_text.specs.MisuseTexts.{misuse_text};
 ghost use Rattle.rpki_command.specs.Messages.{misuse_message};
 ghost use Rattle.rpki_command.specs.Outputs.{Makes, Output};
 ghost use Rattle.rpki_command.specs.Runs.{IsAnswer, IsAnswerBy, IsAnswerIn, IsAnswerOf, IsAnswerOfNamed, IsWholeAnswer, LineEnds, RunEnds};
@@ -21,9 +21,9 @@ use crate::searching::{SoughtNames, names_sought};
 use anyhow::{Result, anyhow};
 use rpki::repository::x509::Time;
 use rpki_answers::{Answer, Outcome};
-use rpki_arguments::{Misuse, Request, Task, read_words};
 use rpki_files::{BareObject, Object};
 use rpki_requests::is_request;
+use rpki_text::command_line::{Misuse, Request, Task, read_words};
 use std::alloc::Global;
 use std::io::Write;
 

@@ -3,7 +3,7 @@ ghost use Rattle.std.specs.Prelude.{◌≡◌, ◌↔◌, ◌++◌, ◌∷◌, [
 ghost use Rattle.std.specs.Io.KnownBytes.{Appends};
 ghost use Rattle.rpki.specs.RsaSignatures.{IsSignedByRsa};
 ghost use Rattle.rpki.specs.Verification.{context};
-ghost use Rattle.rpki_arguments.specs.CommandLines.Views.{fields_of, word_octets};
+ghost use Rattle.rpki_text.specs.CommandLines.Views.{fields_of, word_octets};
 ghost use Rattle.rpki_files.specs.Files.{FileFields, file_names};
 ghost use Rattle.rpki_verdicts.specs.Searches.{IsSoughtPath};
 ghost use Rattle.rpki_verdicts.specs.Trees.{asked_of};
@@ -18,8 +18,8 @@ use crate::reading::{GivenFiles, read_given};
 use anyhow::{Error, Result};
 use rpki::repository::folder::Ended;
 use rpki::repository::x509::Time;
-use rpki_arguments::Request;
 use rpki_files::BareObject;
+use rpki_text::command_line::Request;
 use rpki_verdicts::{GivenLocator, Sought, TreeQuestion, seek};
 use std::alloc::{AllocError, Global};
 use std::io;

@@ -12,7 +12,7 @@ use Rattle.std.proofs.lemmas.Iterator.Consumers.{YieldsList-at}
 use Rattle.std.proofs.lemmas.Iterator.Splits.{YieldsList-from_lines}
 use Rattle.std.proofs.lemmas.List.{drop-drop, flat_map_more}
 use denote.Param.Members.{Mut}
-use Rattle.rpki_tal.specs.Digits.{without_white_space}
+use Rattle.rpki_keys.specs.Digits.{without_white_space}
 use Rattle.rpki_files.specs.PemFiles.{HasBase64, is_begin_line, is_end_line, lines_behind_begin}
 
 -- an element that passes, where none before it does, is the first

@@ -12,8 +12,8 @@ use Rattle.rpki_parts.specs.declared.key.PublicKeyFormat.{PublicKeyFormat}
 use Rattle.rpki_parts.specs.declared.key.PublicKeyFormat.TheVariants.{Rsa, EcdsaP256}
 use Rattle.rpki_crl.specs.declared.revocation_error.RevocationError.{RevocationError}
 use Rattle.rpki_crl.specs.declared.revocation_error.RevocationError.TheVariants as revocation
-use Rattle.rpki_tal.specs.declared.tal_error.TalError.{TalError}
-use Rattle.rpki_tal.specs.declared.tal_error.TalError.TheVariants as tal
+use Rattle.rpki_keys.specs.declared.tal.tal_error.TalError.{TalError}
+use Rattle.rpki_keys.specs.declared.tal.tal_error.TalError.TheVariants as tal
 use Rattle.rpki_cert.specs.declared.verification_error.VerificationError.{VerificationError}
 use Rattle.rpki_cert.specs.declared.verification_error.VerificationError.TheVariants as verification
 use Rattle.rpki_files.specs.PolicyPresence.{HasPolicies}

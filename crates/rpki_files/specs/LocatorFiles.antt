@@ -1,10 +1,10 @@
 -- Files that are trust anchor locators (RFC 8630 2.2), and those that look like one.
 use Rattle.std.specs.List.{starts_with}
 use Rattle.std.specs.Prelude.{◌≢◌, ◌||◌, ℕ, nat_eq, Bool, List, codes, Result, Ok, Err}
-use Rattle.rpki_tal.specs.LocatorFaults.{IsTalFault}
-use Rattle.rpki_tal.specs.Locators.{IsLocator, NamedTal, TalFields}
-use Rattle.rpki_tal.specs.declared.tal_error.TalError.{TalError}
-use Rattle.rpki_tal.specs.declared.tal_error.TalError.TheVariants.{Memory}
+use Rattle.rpki_keys.specs.LocatorFaults.{IsTalFault}
+use Rattle.rpki_keys.specs.Locators.{IsLocator, NamedTal, TalFields}
+use Rattle.rpki_keys.specs.declared.tal.tal_error.TalError.{TalError}
+use Rattle.rpki_keys.specs.declared.tal.tal_error.TalError.TheVariants.{Memory}
 
 -- the octets are a locator, as strictly as is asked
 abbrev pub AreLocator : Bool → List ℕ → Type 0

@@ -4,7 +4,7 @@ use Rattle.std.specs.Prelude.{◌≡◌, ◌⊎◌, ◌||◌, ℕ, nat_eq, Bool,
 use Rattle.std.specs.Str.{IsUtf8}
 use Rattle.std.specs.Str.Lines.{lines}
 use Rattle.base64.specs.GeneralPurpose.{IsBytes}
-use Rattle.rpki_tal.specs.Digits.{base64_of, without_white_space}
+use Rattle.rpki_keys.specs.Digits.{base64_of, without_white_space}
 
 -- U+FEFF in UTF-8 (RFC 3629 6), which some editors write at the head of a text
 abbrev pub byte_order_mark : List ℕ

@@ -12,7 +12,7 @@ use crate::sorts::{Sort, sort_of};
 use bytes::Bytes;
 use rpki_cert::Cert;
 use rpki_crl::Crl;
-use rpki_tal::{octets_of, push_digits};
+use rpki_keys::tal::{octets_of, push_digits};
 use std::alloc::{AllocError, Global};
 use std::marker::Model;
 

@@ -2,7 +2,7 @@
 ghost use Rattle.std.specs.Prelude.{◌≡◌, IfOk};
 ghost use Rattle.rpki_files.specs.LocatorFiles.{IsReadAs, looks_like_locator};
 
-use rpki_tal::{Tal, TalError};
+use rpki_keys::tal::{Tal, TalError};
 use std::alloc::{AllocError, Global};
 
 /// Reads octets as a locator of this name, strictly or not, or finds why they are none. Errs only

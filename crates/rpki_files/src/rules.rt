@@ -7,8 +7,8 @@ use bytes::Bytes;
 use rpki_cert::{InspectionError, VerificationError};
 use rpki_crl::RevocationError;
 use rpki_der::{DecodeError, Field};
+use rpki_keys::tal::TalError;
 use rpki_parts::PublicKeyFormat;
-use rpki_tal::TalError;
 
 /// A sentence, and the section that asks it.
 #[derive(Clone, Copy)]

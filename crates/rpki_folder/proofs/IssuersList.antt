@@ -10,9 +10,9 @@ use Rattle.rpki_crl.specs.Lists.{CrlState}
 use Rattle.rpki_crl.specs.Revocation.{NamesIssuer, revocation_checks}
 use Rattle.rpki_crl.specs.declared.revocation_error.RevocationError.{RevocationError}
 use Rattle.rpki_crl.specs.declared.revocation_error.RevocationError.TheVariants.{NoCrl, WrongKeyId, BadSignature, Stale, Revoked}
-use Rattle.rpki_revocation.specs.AskedLists.{IsFor, HasBegun, IsEligible, IsLatest, by_lists}
-use Rattle.rpki_revocation.specs.AskedLists.Steps.{HaveNone}
-use Rattle.rpki_revocation.proofs.AskedList.{unfit, no_list, bad_signature, not_begun, stale, revoked, unrevoked}
+use Rattle.rpki_path.specs.AskedLists.{IsFor, HasBegun, IsEligible, IsLatest, by_lists}
+use Rattle.rpki_path.specs.AskedLists.Steps.{HaveNone}
+use Rattle.rpki_path.proofs.AskedList.{unfit, no_list, bad_signature, not_begun, stale, revoked, unrevoked}
 use Rattle.rpki_folder.specs.KeyTables.{signer_of, list_places}
 use Rattle.rpki_folder.specs.IssuerLists.{ArePicked, IsCurrent, CanBeAsked, IsBelow, IssuerFields, AreIssuers, IsLatestOf, FailsBy, IsAnswered}
 use Rattle.rpki_folder.proofs.PickedLists.{picked_through, none_has, first_picked, latest_of_all, none_of_all}

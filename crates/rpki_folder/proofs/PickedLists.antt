@@ -5,8 +5,8 @@ use Rattle.rpki_der.specs.Sequences.{IsFirstWith}
 use Rattle.rpki_cert.specs.Certificates.{CertFields}
 use Rattle.rpki_cert.proofs.Checks.{all_map}
 use Rattle.rpki_crl.specs.Lists.{CrlState}
-use Rattle.rpki_revocation.specs.AskedLists.{Supersedes, IsLatest}
-use Rattle.rpki_revocation.specs.AskedLists.Steps.{HaveNone}
+use Rattle.rpki_path.specs.AskedLists.{Supersedes, IsLatest}
+use Rattle.rpki_path.specs.AskedLists.Steps.{HaveNone}
 use Rattle.rpki_folder.specs.IssuerLists.{ArePicked, IsLatestOf}
 
 module _ {X : Type 0} (P : X → Type 0) where

@@ -2,7 +2,7 @@
 use Rattle.std.proofs.Common.{◌≡◌, ℕ, List, [], ◌∷◌, ◌++◌, map, refl, sym, ap, subst, ◌∙◌}
 use Rattle.rpki_cert.specs.Verification.{Context}
 use Rattle.rpki_cert.specs.declared.inspect.Kind.TheVariants.{Authority}
-use Rattle.rpki_revocation.specs.Asking.{RevocationChecks}
+use Rattle.rpki_path.specs.Asking.{RevocationChecks}
 use Rattle.rpki_path.specs.Paths.{Candidate, candidate}
 use Rattle.rpki_folder.specs.Folders.{octets_at, cas_at}
 use Rattle.rpki_cert.specs.SaidKinds.{BeginsWithKind}

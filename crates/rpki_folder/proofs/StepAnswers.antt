@@ -6,8 +6,8 @@ use Rattle.std.proofs.lemmas.List.{get_or_default, take-append-le, take_all, len
 use Rattle.rpki_der.specs.Values.{IsUnambiguous}
 use Rattle.rpki_cert.specs.Certificates.{IsCertificate}
 use Rattle.rpki_cert.specs.Verification.{Context, ResourceFields}
-use Rattle.rpki_revocation.specs.Asking.{RevocationChecks}
-use Rattle.rpki_tal.specs.Locators.{NamedTal}
+use Rattle.rpki_path.specs.Asking.{RevocationChecks}
+use Rattle.rpki_keys.specs.Locators.{NamedTal}
 use Rattle.rpki_path.specs.declared.located.LocatedError.{LocatedError}
 use Rattle.rpki_path.specs.declared.located.LocatedError.TheVariants.{OtherKey, Path as path}
 use Rattle.rpki_path.specs.declared.path_fault.PathFault.{PathFault}

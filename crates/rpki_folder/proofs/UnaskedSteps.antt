@@ -7,7 +7,7 @@ use Rattle.rpki_cert.specs.Verification.{Context, ResourceFields}
 use Rattle.rpki_cert.specs.declared.inspect.Kind.{Kind}
 use Rattle.rpki_crl.specs.Revocation.{revocation_checks}
 use Rattle.rpki_crl.specs.declared.revocation_error.RevocationError.{RevocationError}
-use Rattle.rpki_revocation.specs.Asking.{RevocationChecks, nobody, IsUnrevokedBy}
+use Rattle.rpki_path.specs.Asking.{RevocationChecks, nobody, IsUnrevokedBy}
 use Rattle.rpki_path.specs.declared.path_fault.PathFault.TheVariants.{Revocation}
 use Rattle.rpki_path.specs.Paths.{Finds}
 use Rattle.rpki_path.specs.Paths.Steps.{IsIssuedBy, demand_under}

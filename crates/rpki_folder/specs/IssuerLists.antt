@@ -11,8 +11,8 @@ use Rattle.rpki_crl.specs.Lists.{CrlState}
 use Rattle.rpki_crl.specs.Revocation.{NamesIssuer, revocation_checks}
 use Rattle.rpki_crl.specs.declared.revocation_error.RevocationError.{RevocationError}
 use Rattle.rpki_crl.specs.declared.revocation_error.RevocationError.TheVariants.{Stale, Revoked}
-use Rattle.rpki_revocation.specs.AskedLists.{HasBegun, IsEligible, Revokes, IsLatest, by_lists}
-use Rattle.rpki_revocation.specs.AskedLists.Steps.{HaveNone}
+use Rattle.rpki_path.specs.AskedLists.{HasBegun, IsEligible, Revokes, IsLatest, by_lists}
+use Rattle.rpki_path.specs.AskedLists.Steps.{HaveNone}
 
 -- the second list has those elements of the first that have P, in their order
 abbrev pub ArePicked : {X : Type 0} → (X → Type 0) → List X → List X → Type 0

@@ -3,7 +3,7 @@ use Rattle.std.specs.Prelude.{◌≡◌, ◌+◌, ℕ, List, [], ◌∷◌, ◌+
 use Rattle.std.specs.List.{AllByRecursion}
 use Rattle.std.proofs.Common.{sym, subst}
 use Rattle.rpki_cert.specs.Verification.{Context}
-use Rattle.rpki_revocation.specs.Asking.{RevocationChecks}
+use Rattle.rpki_path.specs.Asking.{RevocationChecks}
 use Rattle.rpki_folder.specs.Folders.{octets_at}
 use Rattle.rpki_folder.specs.Walks.{Root, members_at, IsRightOf, IsReached, Told, Tells, Covers, AreAdmitted}
 use Rattle.rpki_folder.specs.declared.walk_error.WalkError.{WalkError}

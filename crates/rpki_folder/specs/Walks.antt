@@ -5,8 +5,8 @@ use Rattle.std.specs.List.{AllByRecursion}
 use Rattle.rpki_cert.specs.Verification.{Context, ResourceFields}
 use Rattle.rpki_cert.specs.declared.inspect.Kind.{Kind}
 use Rattle.rpki_cert.specs.declared.inspect.Kind.TheVariants.{Router}
-use Rattle.rpki_revocation.specs.Asking.{RevocationChecks}
-use Rattle.rpki_tal.specs.Locators.{NamedTal}
+use Rattle.rpki_path.specs.Asking.{RevocationChecks}
+use Rattle.rpki_keys.specs.Locators.{NamedTal}
 use Rattle.rpki_path.specs.declared.judging.Judged.{Judged}
 use Rattle.rpki_path.specs.declared.located.LocatedError.{LocatedError}
 use Rattle.rpki_path.specs.declared.path_fault.PathFault.{PathFault}

@@ -1,7 +1,7 @@
 //! The path that leads to one certificate of a folder.
 ghost use Rattle.std.specs.Prelude.{◌≡◌, [], IfOk, IfErr};
 ghost use Rattle.rpki_cert.specs.Verification.{context};
-ghost use Rattle.rpki_revocation.specs.AskedLists.{by_lists};
+ghost use Rattle.rpki_path.specs.AskedLists.{by_lists};
 ghost use Rattle.rpki_folder.specs.Searches.{IsSought, IsFound};
 ghost use Rattle.rpki_folder.specs.Walks.{at_anchor, IsValidAnchor, IsWhyNone};
 
@@ -11,9 +11,9 @@ use crate::visitor::{Accepted, Visitor};
 use crate::walk::Walk;
 use crate::walk_error::WalkError;
 use rpki_ext::beside;
+use rpki_keys::tal::Tal;
 use rpki_parts::Verifier;
 use rpki_path::{Judged, Member, PathFault};
-use rpki_tal::Tal;
 use std::alloc::{AllocError, Global};
 
 /// A valid path to a certificate of a folder.

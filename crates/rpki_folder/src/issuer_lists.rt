@@ -2,8 +2,8 @@
 ghost use Rattle.std.specs.Prelude.{◌≡◌, ◌<◌, ◌↔◌, ◌++◌, ◌∷◌, [], List, Bool, length, map, slice_index_or, IsTrue, IfOk, IfSome, option_copied};
 ghost use Rattle.rpki_cert.specs.Verification.{context, IsSignedBy};
 ghost use Rattle.rpki_crl.specs.Lists.{CrlState};
-ghost use Rattle.rpki_revocation.specs.AskedLists.{Supersedes};
-ghost use Rattle.rpki_revocation.specs.AskedLists.Steps.{IsLatestIfAny};
+ghost use Rattle.rpki_path.specs.AskedLists.{Supersedes};
+ghost use Rattle.rpki_path.specs.AskedLists.Steps.{IsLatestIfAny};
 ghost use Rattle.rpki_folder.specs.KeyTables.{list_places};
 ghost use Rattle.rpki_folder.specs.IssuerLists.{IsCurrent, FailsWithout, AreIssuers, IsAnswered};
 
@@ -11,12 +11,12 @@ use rpki_cert::{Cert, ResourceCert};
 use rpki_crl::{Crl, RevocationError};
 use rpki_der::Time;
 use rpki_parts::Verifier;
-use rpki_revocation::{has_begun, supersedes};
+use rpki_path::revocation::{has_begun, supersedes};
 use std::alloc::{AllocError, Global};
 use std::marker::Model;
 
 /// What is kept of given lists for one issuer, so that each of them is verified once, and not once
-/// for each certificate below the issuer. It answers of these as [`rpki_revocation::GivenLists`] of
+/// for each certificate below the issuer. It answers of these as [`rpki_path::revocation::GivenLists`] of
 /// all lists does.
 #[derive(Drop)]
 pub(crate) struct IssuerLists<'l> {

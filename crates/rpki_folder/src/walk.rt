@@ -9,8 +9,8 @@ ghost use Rattle.rpki_path.specs.declared.judging.Judged.{Judged};
 ghost use Rattle.rpki_path.specs.declared.path_fault.PathFault.{PathFault as Fault};
 ghost use Rattle.rpki_path.specs.declared.path_fault.PathFault.TheVariants.{Memory};
 ghost use Rattle.rpki_cert.specs.Verification.{context};
-ghost use Rattle.rpki_revocation.specs.Asking.{nobody};
-ghost use Rattle.rpki_revocation.specs.AskedLists.{by_lists};
+ghost use Rattle.rpki_path.specs.Asking.{nobody};
+ghost use Rattle.rpki_path.specs.AskedLists.{by_lists};
 ghost use Rattle.rpki_path.specs.Paths.{Finds};
 ghost use Rattle.rpki_path.specs.Paths.Steps.{kind_of, IsIssuedBy, demand_under};
 ghost use Rattle.rpki_path.specs.Routers.{IsRouterUnder, router_demand};
@@ -28,10 +28,10 @@ use crate::walk_error::WalkError;
 use rpki_cert::{Cert, Kind, ResourceCert, laws};
 use rpki_der::Time;
 use rpki_ext::beside;
+use rpki_keys::tal::Tal;
 use rpki_parts::{TalInfo, Verifier};
+use rpki_path::revocation::NobodyAsked;
 use rpki_path::{LocatedError, Member, PathError, PathFault, Role, Validator, has_locator_key};
-use rpki_revocation::NobodyAsked;
-use rpki_tal::Tal;
 use std::alloc::{AllocError, Global};
 use std::rc::Rc;
 
@@ -41,7 +41,7 @@ pub struct Walk<'w, A, V> {
     /// Where memory comes from.
     pub alloc: Global,
     /// The certificates and the lists, which are asked for revocation
-    /// ([`rpki_revocation::GivenLists`]).
+    /// ([`rpki_path::revocation::GivenLists`]).
     pub folder: &'w Folder,
     /// Which certificates are let in.
     pub admission: &'w A,

@@ -4,3 +4,10 @@ pub mod Readiness
 pub mod NextLists
 pub mod ListReadiness
 pub mod CheckedSigners
+pub mod OnlyValues
+pub mod ValueTexts
+pub mod BlockTexts
+pub mod AskedFields
+pub mod Issuers
+pub mod PreparedOctets
+pub mod WantedLists

@@ -13,6 +13,8 @@ mod next;
 mod prepared;
 mod prepared_list;
 mod role;
+pub mod values;
+pub mod wanted;
 
 pub use checked::{Checked, CheckedError};
 pub use completing::complete;

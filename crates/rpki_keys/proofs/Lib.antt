@@ -7,3 +7,15 @@ pub mod Sizes
 pub mod RsaKeyReads
 pub mod OneForm
 pub mod UsableForms
+pub mod Values
+pub mod Corners
+pub mod Steps
+pub mod Estimates
+pub mod Products
+pub mod Forms
+pub mod Exponents
+mod KeysRead
+mod LinesRead
+mod OneLocator
+mod SectionsRead
+mod DigitsRead

@@ -1,7 +1,7 @@
 -- What is compared says what is verified.
 use Rattle.std.proofs.Common.{◌≡◌, ℕ, ◌*◌, ◌%◌, ◌^◌, ◌<◌, ◌≤◌, ◌↔◌, Bool, IsTrue, List, length, refl, sym, ap, ◌∙◌, arith}
 use Rattle.std.proofs.Math.Nat.{mod-lt, le_of_lt, le_trans}
-use Rattle.rsa_numbers.specs.Limbs.{place}
+use Rattle.rpki_keys.specs.Limbs.{place}
 use Rattle.rpki_der.specs.Values.{AreOctets}
 use Rattle.rpki_keys.specs.Octets.{os2ip, i2osp}
 use Rattle.rpki_keys.specs.RsaSignatures.{IsValidSignature, IsRsaSignature, emsa_pkcs1_v1_5}

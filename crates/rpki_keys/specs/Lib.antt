@@ -5,3 +5,10 @@ pub mod Moduli
 pub mod Curve
 pub mod KeyForms
 pub mod RsaNumbers
+pub mod Limbs
+pub mod Columns
+pub mod Digits
+pub mod Locators
+pub mod LocatorFaults
+pub mod TalErrors
+pub mod Sections

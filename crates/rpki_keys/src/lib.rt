@@ -10,8 +10,10 @@ mod encoding;
 mod form;
 mod key;
 pub mod laws;
+pub mod numbers;
 mod octets;
 mod rsa;
+pub mod tal;
 mod verifier;
 mod verifying;
 

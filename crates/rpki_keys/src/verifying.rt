@@ -1,14 +1,14 @@
 //! The verification of a signature.
 ghost use Rattle.std.specs.Prelude.{◌≡◌, ◌<◌, ◌↔◌, IsTrue, MatchOption, length};
-ghost use Rattle.rsa_numbers.specs.Limbs.{limbs_value};
+ghost use Rattle.rpki_keys.specs.Limbs.{limbs_value};
 ghost use Rattle.rpki_keys.specs.Octets.{os2ip};
 ghost use Rattle.rpki_keys.specs.RsaKeys.{IsRpkiSize};
 ghost use Rattle.rpki_keys.specs.RsaSignatures.{IsRsaSignature, IsValidSignature};
 
 use crate::encoding::encode;
 use crate::key::modulus;
+use crate::numbers::{is_equal, is_less, power};
 use crate::octets::read;
-use rsa_numbers::{is_equal, is_less, power};
 
 // A number of 2048 bits, the lowest limb first.
 type Number = [u64; 32];

@@ -8,7 +8,7 @@ use Rattle.rpki_der.specs.ErrorNames.{decode_error_name}
 use Rattle.rpki_der.specs.Place.{Rejects}
 use Rattle.rpki_cert.specs.Verification.{ResourceFields}
 use Rattle.rpki_crl.specs.RevokedEntries.{IsRevoked, IsRevokedCertificates, Revoked}
-use Rattle.rpki_revocation.specs.Asking.{nobody}
+use Rattle.rpki_path.specs.Asking.{nobody}
 use Rattle.rpki_lines.specs.declared.running.Status.{Status}
 use Rattle.rpki_lines.specs.declared.running.Status.TheVariants as status
 use Rattle.rpki_lines.specs.declared.report.Report.{Report}

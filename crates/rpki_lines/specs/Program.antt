@@ -7,7 +7,7 @@ use Rattle.rpki_parts.specs.Signatures.{IsStandInSignature}
 use Rattle.rpki_ext.specs.Inspection.{inspection_error_name}
 use Rattle.rpki_cert.specs.Verification.{Context, context, verification_error_name}
 use Rattle.rpki_crl.specs.RevokedEntries.{Revoked, IsRevoked, IsRevokedCertificates}
-use Rattle.rpki_revocation.specs.Asking.{nobody}
+use Rattle.rpki_path.specs.Asking.{nobody}
 use Rattle.rpki_path.specs.declared.path_fault.PathError.{PathError}
 use Rattle.rpki_path.specs.declared.path_fault.PathFault.{PathFault}
 use Rattle.rpki_path.specs.declared.path_fault.PathFault.TheVariants.{Decode, Inspect, Verify, Revocation, Memory}

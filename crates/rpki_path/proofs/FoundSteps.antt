@@ -15,7 +15,7 @@ use Rattle.rpki_cert.specs.declared.verification_error.VerificationError.{Verifi
 use Rattle.rpki_cert.specs.declared.verification_error.VerificationError.TheVariants as verification
 use Rattle.rpki_crl.specs.Revocation.{revocation_checks}
 use Rattle.rpki_crl.specs.declared.revocation_error.RevocationError.{RevocationError}
-use Rattle.rpki_revocation.specs.Asking.{RevocationChecks}
+use Rattle.rpki_path.specs.Asking.{RevocationChecks}
 use Rattle.rpki_path.specs.FaultNames.{of_decoding, of_verification, of_validation}
 use Rattle.rpki_path.specs.declared.path_fault.PathFault.{PathFault}
 use Rattle.rpki_path.specs.declared.path_fault.PathFault.TheVariants.{Decode, Inspect, Verify, Revocation, Memory}

@@ -3,7 +3,7 @@ use Rattle.std.proofs.Common.{Result, Ok, Err, IfOk, IfErr, ℕ, List}
 use Rattle.rpki_der.specs.Values.{IsUnambiguous}
 use Rattle.rpki_cert.specs.Certificates.{IsCertificate}
 use Rattle.rpki_cert.specs.Verification.{Context, ResourceFields}
-use Rattle.rpki_revocation.specs.Asking.{RevocationChecks, nobody}
+use Rattle.rpki_path.specs.Asking.{RevocationChecks, nobody}
 use Rattle.rpki_path.specs.Paths.{Candidate, IsAccepted, IsFault, IsUnasked, Validates}
 use Rattle.rpki_path.specs.declared.path_fault.PathError.{PathError}
 use Rattle.rpki_path.proofs.Rejections.{no_valid_path, unasked}

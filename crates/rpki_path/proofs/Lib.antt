@@ -11,3 +11,6 @@ pub mod Verdicts
 pub mod ChainedNames
 pub mod UnchainedNames
 pub mod LocatedPaths
+mod ListOrder
+pub mod LatestLists
+pub mod AskedList

@@ -13,7 +13,7 @@ use Rattle.rpki_cert.specs.declared.inspect.Kind.{Kind}
 use Rattle.rpki_cert.specs.declared.verification_error.VerificationError.{VerificationError}
 use Rattle.rpki_crl.specs.Revocation.{revocation_checks}
 use Rattle.rpki_crl.specs.declared.revocation_error.RevocationError.{RevocationError}
-use Rattle.rpki_revocation.specs.Asking.{RevocationChecks, nobody, IsUnrevokedBy}
+use Rattle.rpki_path.specs.Asking.{RevocationChecks, nobody, IsUnrevokedBy}
 use Rattle.rpki_der.proofs.Formats.{one_meant}
 use Rattle.rpki_path.specs.declared.path_fault.PathFault.{PathFault}
 use Rattle.rpki_path.specs.declared.path_fault.PathFault.TheVariants.{Decode, Inspect, Verify, Revocation, Memory}

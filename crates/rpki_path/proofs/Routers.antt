@@ -13,7 +13,7 @@ use Rattle.rpki_cert.specs.declared.validation_error.ValidationError.{Validation
 use Rattle.rpki_cert.specs.declared.validation_error.ValidationError.TheVariants.{Inspection, Verification}
 use Rattle.rpki_crl.specs.Revocation.{revocation_checks}
 use Rattle.rpki_crl.specs.declared.revocation_error.RevocationError.{RevocationError}
-use Rattle.rpki_revocation.specs.Asking.{RevocationChecks, nobody}
+use Rattle.rpki_path.specs.Asking.{RevocationChecks, nobody}
 use Rattle.rpki_path.specs.FaultNames.{of_validation}
 use Rattle.rpki_path.specs.Paths.{UnlessMemory, Finds, IsUnasked}
 use Rattle.rpki_path.specs.Routers.{BeginsWithRouter, router_demand}

@@ -11,7 +11,7 @@ use Rattle.rpki_ext.specs.Kinds.{Means}
 use Rattle.rpki_cert.specs.Certificates.{CertFields, IsCertificate}
 use Rattle.rpki_cert.specs.Verification.{Context, ResourceFields}
 use Rattle.rpki_cert.specs.declared.inspect.Kind.TheVariants.{Router}
-use Rattle.rpki_revocation.specs.Asking.{RevocationChecks}
+use Rattle.rpki_path.specs.Asking.{RevocationChecks}
 use Rattle.rpki_path.specs.declared.path_fault.PathError.{PathError}
 use Rattle.rpki_path.specs.declared.path_fault.PathFault.{PathFault}
 use Rattle.rpki_path.specs.declared.path_fault.PathFault.TheVariants.{Decode, Inspect, Verify, Revocation, Memory}

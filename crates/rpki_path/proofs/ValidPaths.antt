@@ -12,7 +12,7 @@ use Rattle.rpki_cert.specs.declared.inspect.Kind.{Kind}
 use Rattle.rpki_cert.specs.declared.verification_error.VerificationError.{VerificationError}
 use Rattle.rpki_cert.specs.declared.verification_error.VerificationError.TheVariants.{NotYetValid, Expired, InheritedV4, InheritedV6, InheritedAs, MissingKeyId, WrongKeyId, MissingIssuerUri, BadSignature, OverclaimV4, OverclaimV6, OverclaimAs, Memory}
 use Rattle.rpki_crl.specs.declared.revocation_error.RevocationError.{RevocationError}
-use Rattle.rpki_revocation.specs.Asking.{RevocationChecks, IsUnrevokedBy}
+use Rattle.rpki_path.specs.Asking.{RevocationChecks, IsUnrevokedBy}
 use Rattle.rpki_cert.proofs.Checks.{all_map}
 use Rattle.rpki_path.specs.Paths.{Member, Path, member, longer, last, certificate_at, NumberKind, v4_addresses, v6_addresses, system_numbers, kind_resources, Holds, HeldAt, CheckBelow, IsValidPath, Candidate, candidate, IsMember, HasHeld, IsAccepted}
 use Rattle.rpki_path.specs.Paths.Steps.{IsTrustAnchor, IsIssuedBy}

@@ -9,7 +9,7 @@ use Rattle.rpki_cert.specs.Certificates.{CertFields, IsCertificate}
 use Rattle.rpki_cert.specs.Verification.{Context, ResourceFields, CheckUnder, router_checks}
 use Rattle.rpki_cert.specs.declared.verification_error.VerificationError.{VerificationError}
 use Rattle.rpki_cert.proofs.Checks.{all_map}
-use Rattle.rpki_revocation.specs.Asking.{RevocationChecks, IsUnrevokedBy}
+use Rattle.rpki_path.specs.Asking.{RevocationChecks, IsUnrevokedBy}
 use Rattle.rpki_path.specs.declared.judging.Judged.{Judged}
 use Rattle.rpki_path.specs.declared.path_fault.PathError.{PathError}
 use Rattle.rpki_path.specs.GivenPaths.{PathStrings, router_count, string_count}

@@ -5,3 +5,5 @@ pub mod GivenPaths
 pub mod Judging
 pub mod NameChains
 pub mod LocatedPaths
+pub mod Asking
+pub mod AskedLists

@@ -4,8 +4,8 @@ use Rattle.std.specs.Prelude.{◌≡◌, ◌≢◌, ℕ, Bool, List, Result, Ok,
 use Rattle.rpki_ext.specs.Kinds.{Means}
 use Rattle.rpki_cert.specs.Certificates.{CertFields, IsCertificate}
 use Rattle.rpki_cert.specs.Verification.{Context, ResourceFields}
-use Rattle.rpki_revocation.specs.Asking.{RevocationChecks}
-use Rattle.rpki_tal.specs.Locators.{IsLocator, NamedTal, TalFields}
+use Rattle.rpki_path.specs.Asking.{RevocationChecks}
+use Rattle.rpki_keys.specs.Locators.{IsLocator, NamedTal, TalFields}
 use Rattle.rpki_path.specs.declared.located.LocatedError.{LocatedError}
 use Rattle.rpki_path.specs.declared.located.LocatedError.TheVariants.{OtherKey, Path as path}
 use Rattle.rpki_path.specs.declared.path_fault.PathFault.TheVariants.{Memory}

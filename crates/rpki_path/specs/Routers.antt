@@ -6,7 +6,7 @@ use Rattle.rpki_cert.specs.Profiles.{MeetsProfile}
 use Rattle.rpki_cert.specs.Verification.{Context, ResourceFields, CheckUnder, IsVerified, router_checks}
 use Rattle.rpki_cert.specs.declared.inspect.Kind.TheVariants.{Router}
 use Rattle.rpki_crl.specs.Stores.{Stored}
-use Rattle.rpki_revocation.specs.Asking.{RevocationChecks, nobody, by_uri, IsUnrevokedBy}
+use Rattle.rpki_path.specs.Asking.{RevocationChecks, nobody, by_uri, IsUnrevokedBy}
 use Rattle.rpki_path.specs.Paths.{Demand}
 
 -- a router's certificate that is valid below the issuer, and unrevoked there by who is asked

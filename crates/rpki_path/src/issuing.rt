@@ -10,7 +10,7 @@ ghost use Rattle.rpki_cert.specs.Profiles.{MeetsProfile};
 ghost use Rattle.rpki_cert.specs.Verification.{context, CheckUnder, IsVerified, issued_checks};
 ghost use Rattle.rpki_cert.specs.declared.inspect.Kind.TheVariants.{Authority};
 ghost use Rattle.rpki_crl.specs.Stores.{Stored};
-ghost use Rattle.rpki_revocation.specs.Asking.{IsUnrevokedBy};
+ghost use Rattle.rpki_path.specs.Asking.{IsUnrevokedBy};
 ghost use Rattle.rpki_path.specs.Paths.{Path, member, longer, HasHeld, IsValidPath};
 ghost use Rattle.rpki_path.specs.Routers.{by_uri_if_any};
 

@@ -8,12 +8,12 @@ ghost use Rattle.rpki_path.specs.declared.path_fault.PathFault.TheVariants.{Memo
 
 use crate::given::{GivenPath, Last};
 use crate::path_fault::{PathError, PathFault};
+use crate::revocation::RevocationSource;
 use crate::validator::{Validator, placed};
 use rpki_cert::{Cert, ResourceCert, laws};
 use rpki_der::Time;
 use rpki_ext::beside;
 use rpki_parts::{TalInfo, Verifier};
-use rpki_revocation::RevocationSource;
 use std::alloc::Global;
 use std::rc::Rc;
 

@@ -7,14 +7,14 @@ ghost use Rattle.rpki_cert.specs.Validation.{IsValidBelow};
 ghost use Rattle.rpki_cert.specs.Verification.{HeldCheck, ResourceFields, context};
 ghost use Rattle.rpki_cert.specs.declared.inspect.Kind.{Kind};
 ghost use Rattle.rpki_cert.specs.declared.verification_error.VerificationError.{VerificationError};
-ghost use Rattle.rpki_revocation.specs.Asking.{IsUnrevokedBy};
+ghost use Rattle.rpki_path.specs.Asking.{IsUnrevokedBy};
 ghost use Rattle.rpki_path.specs.NameChains.{IsNamedBelow, IsSelfNamed, NamesChain};
 ghost use Rattle.rpki_path.specs.Paths.{Member, member, longer, certificate_at, candidate, HasHeld, IsValidPath, IsAccepted};
 ghost use Rattle.rpki_path.specs.Paths.{Path, last, NumberKind, greatest_number, Holds, HeldAt, Candidate, IsPathOf, PassesMore};
 
+use crate::revocation::RevocationSource;
 use rpki_cert::laws;
 use rpki_parts::Verifier;
-use rpki_revocation::RevocationSource;
 
 /// Says that strings begin with the members of at most one path.
 pub fn one_path()

@@ -9,6 +9,7 @@ mod located;
 mod members;
 mod names;
 mod path_fault;
+pub mod revocation;
 mod router;
 mod validating;
 mod validator;

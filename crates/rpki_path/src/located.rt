@@ -2,7 +2,7 @@
 ghost use Rattle.std.specs.Prelude.{◌≡◌, ◌↔◌, Ok, Err, IsTrue, IsFalse, IfOk, IfErr};
 ghost use Rattle.std.proofs.Common.{rc_value};
 ghost use Rattle.rpki_cert.specs.Verification.{context};
-ghost use Rattle.rpki_revocation.specs.Asking.{by_uri};
+ghost use Rattle.rpki_path.specs.Asking.{by_uri};
 ghost use Rattle.rpki_path.specs.LocatedPaths.{BeginsWithKey, BeginsWithOtherKey, IsLocatedFault, IsOutOfMemory, ValidatesFrom, located_error_name};
 ghost use Rattle.rpki_path.specs.Paths.{candidates, IsAccepted};
 ghost use Rattle.rpki_path.specs.Paths.Steps.{IsUnread};
@@ -10,15 +10,15 @@ ghost use Rattle.rpki_path.specs.declared.path_fault.PathFault.TheVariants.{Memo
 
 use crate::members::Member;
 use crate::path_fault::{PathError, PathFault};
+use crate::revocation::RevocationSource;
 use crate::validating::{Leaf, walked};
 use crate::validator::{Validator, placed};
 use bytes::Bytes;
 use rpki_cert::{ResourceCert, laws};
 use rpki_crl::CrlStore;
 use rpki_der::Time;
+use rpki_keys::tal::Tal;
 use rpki_parts::{TalInfo, Verifier};
-use rpki_revocation::RevocationSource;
-use rpki_tal::Tal;
 use std::alloc::Global;
 use std::rc::Rc;
 use thiserror::Error;

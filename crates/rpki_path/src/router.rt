@@ -1,19 +1,19 @@
 //! Routers' certificates, below the last member of a path (RFC 8209 3.3).
 ghost use Rattle.std.specs.Prelude.{OnOk, IfErr, IfNone, option_map};
 ghost use Rattle.rpki_cert.specs.Verification.{context};
-ghost use Rattle.rpki_revocation.specs.Asking.{RevocationChecks};
+ghost use Rattle.rpki_path.specs.Asking.{RevocationChecks};
 ghost use Rattle.rpki_path.specs.Paths.{UnlessMemory, Finds, IsUnasked};
 ghost use Rattle.rpki_path.specs.Routers.{BeginsWithRouter, by_uri_if_any, router_demand};
 
 use crate::members::Member;
 use crate::path_fault::PathFault;
+use crate::revocation::{NobodyAsked, RevocationSource};
 use crate::validator::Validator;
 use bytes::Bytes;
 use rpki_cert::{ResourceCert, laws};
 use rpki_crl::CrlStore;
 use rpki_der::Time;
 use rpki_parts::Verifier;
-use rpki_revocation::{NobodyAsked, RevocationSource};
 use std::alloc::Global;
 
 // Whether the octets begin with a router's certificate that is valid below the issuer.

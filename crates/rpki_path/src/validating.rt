@@ -3,20 +3,20 @@
 ghost use Rattle.std.specs.Prelude.{◌≡◌, Ok, Err, IfOk, IfErr};
 ghost use Rattle.std.proofs.Common.{rc_value};
 ghost use Rattle.rpki_cert.specs.Verification.{context};
-ghost use Rattle.rpki_revocation.specs.Asking.{nobody, by_uri};
+ghost use Rattle.rpki_path.specs.Asking.{nobody, by_uri};
 ghost use Rattle.rpki_path.specs.declared.path_fault.PathFault.TheVariants.{Memory};
 ghost use Rattle.rpki_path.specs.Paths.{candidates, IsAccepted, IsFault, IsUnasked, Validates};
 
 use crate::given::Last;
 use crate::members::Member;
 use crate::path_fault::{PathError, PathFault};
+use crate::revocation::{NobodyAsked, RevocationSource};
 use crate::validator::{Validator, placed};
 use bytes::Bytes;
 use rpki_cert::{ResourceCert, laws};
 use rpki_crl::CrlStore;
 use rpki_der::Time;
 use rpki_parts::{TalInfo, Verifier};
-use rpki_revocation::{NobodyAsked, RevocationSource};
 use std::alloc::Global;
 use std::rc::Rc;
 

@@ -14,11 +14,11 @@ ghost use Rattle.rpki_path.specs.Routers.{IsRouterUnder, router_demand};
 use crate::given::Last;
 use crate::members::Member;
 use crate::path_fault::{PathError, PathFault};
+use crate::revocation::RevocationSource;
 use rpki_cert::{Cert, ResourceCert, ValidationError};
 use rpki_der::Time;
 use rpki_ext::beside;
 use rpki_parts::{TalInfo, Verifier};
-use rpki_revocation::RevocationSource;
 use std::alloc::Global;
 use std::rc::Rc;
 

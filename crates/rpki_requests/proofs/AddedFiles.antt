@@ -4,8 +4,8 @@ use Rattle.std.specs.declared.vec.Vec.{Vec}
 use Rattle.std.proofs.Common.{◌≡◌, ℕ, ◌+◌, ◌<◌, List, [], ◌∷◌, ◌++◌, length, get_or, take, sym, ap, ◌∙◌}
 use Rattle.std.proofs.lemmas.List.{map-append}
 use Rattle.std.proofs.lemmas.List.Sums.{fold_push}
-use Rattle.rpki_arguments.specs.CommandLines.Views.{word_octets}
-use Rattle.rpki_arguments.proofs.WordByWord.{words_more}
+use Rattle.rpki_text.specs.CommandLines.Views.{word_octets}
+use Rattle.rpki_text.proofs.WordByWord.{words_more}
 use Rattle.rpki_requests.specs.RequestWords.{AskedFields, RequestPart, file, with_part}
 
 -- one more of them

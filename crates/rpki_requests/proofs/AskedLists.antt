@@ -6,9 +6,9 @@ use Rattle.rpki.specs.Lists.{CrlFields, CrlState, IsTbsCertList, ListFields}
 use Rattle.rpki.specs.RevokedEntries.{Revoked}
 use Rattle.rpki.specs.Times.{Moment}
 use Rattle.rpki.specs.Verification.{ResourceFields}
-use Rattle.rpki_values.specs.OnlyValues.{IsOnly}
+use Rattle.rpki_issuing.specs.OnlyValues.{IsOnly}
 use Rattle.rpki_verdicts.specs.PathAnswers.{HoldSame}
-use Rattle.rpki_wanted.specs.WantedLists.{IsListWanted, WantedListFields}
+use Rattle.rpki_issuing.specs.WantedLists.{IsListWanted, WantedListFields}
 use Rattle.rpki_requests.specs.Fulfilment.{AsksList, CompletesAs, CompletesBelow, CompletesListBelow, GivesToSign, PreparesListBelow}
 use Rattle.rpki_requests.specs.OptionValues.{GivesList}
 use Rattle.rpki_requests.specs.RequestFiles.{AreOneIssuer, InputFields, IsPreviousOf}

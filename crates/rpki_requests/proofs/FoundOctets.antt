@@ -4,7 +4,7 @@ use Rattle.std.proofs.lemmas.List.{append-nil, nil_from_length}
 use Rattle.rpki.specs.Encoding.{Means}
 use Rattle.rpki.specs.Values.{IsUnambiguous}
 use Rattle.rpki_files.specs.Contents.{BeginsBefore}
-use Rattle.rpki_wanted.proofs.WholeOctets.{none_whole, whole_is}
+use Rattle.rpki_issuing.proofs.WholeOctets.{none_whole, whole_is}
 
 -- what they begin with, with nothing behind it, they are
 pub found_whole : {V : Type 0} (encodes : V → List ℕ → Type 0) (octets : List ℕ) (v : V) (left : ℕ) → BeginsBefore encodes octets v left → left ≡ 0 → encodes v octets

@@ -3,12 +3,12 @@ use Rattle.std.specs.Prelude.{Option, Some, None}
 use Rattle.std.proofs.Common.{◌≡◌, ℕ, List}
 use Rattle.rpki.specs.Resources.{Resources}
 use Rattle.rpki.specs.Times.{Moment}
-use Rattle.rpki_values.specs.BlockTexts.{AreListed, IsAddressesText, IsAsText}
-use Rattle.rpki_values.specs.OnlyValues.{IsOnly}
-use Rattle.rpki_values.specs.ValueTexts.{IsSerialText, IsRsyncText, IsHttpsText}
-use Rattle.rpki_values.specs.declared.families.Family.TheVariants.{V4, V6}
-use Rattle.rpki_wanted.specs.declared.wanted.Numbers.{Numbers}
-use Rattle.rpki_wanted.specs.declared.wanted.Places.{Places}
+use Rattle.rpki_issuing.specs.BlockTexts.{AreListed, IsAddressesText, IsAsText}
+use Rattle.rpki_issuing.specs.OnlyValues.{IsOnly}
+use Rattle.rpki_issuing.specs.ValueTexts.{IsSerialText, IsRsyncText, IsHttpsText}
+use Rattle.rpki_issuing.specs.declared.values.families.Family.TheVariants.{V4, V6}
+use Rattle.rpki_issuing.specs.declared.wanted.wanted.Numbers.{Numbers}
+use Rattle.rpki_issuing.specs.declared.wanted.wanted.Places.{Places}
 use Rattle.rpki_requests.specs.OptionValues.{GivesNumbers, GivesPlaces, GivesWanted, IsMomentSaid, SaysAtMostOnce, SaysOnce}
 use Rattle.rpki_requests.specs.RequestWords.{GivenFields, values_of}
 use Rattle.rpki_requests.specs.declared.words.Setting.TheVariants.{Serial, From, Until, Ipv4, Ipv6, AsNumbers, Repository, Manifest, Notify, Object, IssuerUri, CrlUri}

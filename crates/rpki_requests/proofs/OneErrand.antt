@@ -3,8 +3,8 @@ use Rattle.std.specs.Prelude.{codes, Option, Some, None, cond, map, fold}
 use Rattle.std.specs.Str.{bytes_eq}
 use Rattle.std.proofs.Common.{◌≡◌, ◌⊎◌, ℕ, List, [], ◌∷◌, ◌++◌, drop, get_or, inl, inr, refl, sym, ap, ◌∙◌, subst}
 use Rattle.std.proofs.lemmas.List.Sums.{fold-append}
-use Rattle.rpki_arguments.specs.WordParts.{AddsParts, AreInOrder, words_before, words_behind}
-use Rattle.rpki_arguments.proofs.PartsOfWords.{one_list}
+use Rattle.rpki_text.specs.WordParts.{AddsParts, AreInOrder, words_before, words_behind}
+use Rattle.rpki_text.proofs.PartsOfWords.{one_list}
 use Rattle.rpki_requests.specs.declared.words.Errand.{Errand}
 use Rattle.rpki_requests.specs.declared.words.Errand.TheVariants.{Authority, EndEntity, Detached, Router, Anchor, RevocationList, Completion}
 use Rattle.rpki_requests.specs.declared.words.Misuse.{Misuse}

@@ -7,15 +7,15 @@ use Rattle.rpki.specs.Kind.{Kind}
 use Rattle.rpki.specs.Names.{IsName}
 use Rattle.rpki.specs.Times.{Moment}
 use Rattle.rpki.specs.Verification.{ResourceFields}
-use Rattle.rpki_values.specs.OnlyValues.{IsOnly}
+use Rattle.rpki_issuing.specs.OnlyValues.{IsOnly}
 use Rattle.rpki_cert.proofs.SaidOnce.{says_one}
-use Rattle.rpki_wanted.specs.AskedFields.{fields_asked, subject_asked}
-use Rattle.rpki_wanted.specs.PreparedOctets.{IsCompleted}
-use Rattle.rpki_wanted.specs.declared.wanted.Wanted.{Wanted}
+use Rattle.rpki_issuing.specs.AskedFields.{fields_asked, subject_asked}
+use Rattle.rpki_issuing.specs.PreparedOctets.{IsCompleted}
+use Rattle.rpki_issuing.specs.declared.wanted.wanted.Wanted.{Wanted}
 use Rattle.rpki_requests.specs.Fulfilment.{AsksFields}
 use Rattle.rpki_requests.specs.OptionValues.{GivesWanted}
 use Rattle.rpki_requests.specs.RequestFiles.{IsCompletedAs, IsKeyFile}
-use Rattle.rpki_wanted.specs.Issuers.{fields_above}
+use Rattle.rpki_issuing.specs.Issuers.{fields_above}
 use Rattle.rpki_requests.specs.RequestWords.{AskedFields}
 
 -- ---- what is prepared

@@ -15,11 +15,11 @@ use Rattle.rpki.specs.Verification.{Check, CheckUnder, Context, IsVerified, Reso
 use Rattle.rpki.specs.VerificationError.{VerificationError}
 use Rattle.rpki.specs.VerificationError.TheVariants.{NotYetValid, Expired, InheritedV4, InheritedV6, InheritedAs, MissingKeyId, WrongKeyId, MissingIssuerUri, BadSignature, OverclaimV4, OverclaimV6, OverclaimAs, Memory}
 use Rattle.rpki_verdicts.specs.PathAnswers.{HoldSame}
-use Rattle.rpki_wanted.specs.AskedFields.{fields_asked, issuer_name}
-use Rattle.rpki_wanted.specs.PreparedOctets.{IsCompleted, IsPrepared, issuer_in}
+use Rattle.rpki_issuing.specs.AskedFields.{fields_asked, issuer_name}
+use Rattle.rpki_issuing.specs.PreparedOctets.{IsCompleted, IsPrepared, issuer_in}
 use Rattle.rpki_requests.specs.Fulfilment.{CompletesBelow, PreparesBelow}
 use Rattle.rpki_requests.specs.RequestFiles.{AreOneIssuer}
-use Rattle.rpki_wanted.specs.Issuers.{fields_above}
+use Rattle.rpki_issuing.specs.Issuers.{fields_above}
 use Rattle.rpki_requests.specs.RequestWords.{AskedFields}
 
 -- ---- checks

@@ -1,7 +1,7 @@
 -- Answers that are the only ones, joined.
 use Rattle.std.specs.Prelude.{Result, Ok, Err, IfOk, IfErr}
 use Rattle.std.proofs.Common.{◌≡◌, ◌≢◌, ◌⊎◌, inl, inr, subst}
-use Rattle.rpki_values.specs.OnlyValues.{IsOnly}
+use Rattle.rpki_issuing.specs.OnlyValues.{IsOnly}
 use Rattle.rpki_requests.specs.Refusals.{AnswersOnly, AnswersOnlyBy, IsPathless}
 use Rattle.rpki_requests.specs.declared.refusals.Refusal.{Refusal}
 use Rattle.rpki_requests.specs.declared.refusals.Refusal.TheVariants.{Memory}

@@ -2,8 +2,8 @@
 use Rattle.std.specs.List.{AllZip}
 use Rattle.std.proofs.Common.{◌≡◌, ℕ, zero, suc, ◌+◌, ◌<◌, List, [], ◌∷◌, ◌++◌, length, get_or, map, take, sym, subst, arith}
 use Rattle.rpki_crl.proofs.Loops.{taken_more}
-use Rattle.rpki_values.specs.OnlyValues.{IsOnly}
-use Rattle.rpki_values.proofs.ZippedTexts.{only_more}
+use Rattle.rpki_issuing.specs.OnlyValues.{IsOnly}
+use Rattle.rpki_issuing.proofs.ZippedTexts.{only_more}
 
 module _ {T V : Type 0} (R : V → List ℕ → Type 0) (octets : T → List ℕ) (things : List T) where
   -- those of the things so far

@@ -11,14 +11,14 @@ use Rattle.rpki.specs.RevokedEntries.Views.{entry_of}
 use Rattle.rpki_crl.specs.declared.entry.CrlEntry.{CrlEntry}
 use Rattle.rpki.specs.Times.{Moment}
 use Rattle.rpki.specs.Values.{IsUnambiguous}
-use Rattle.rpki_values.specs.OnlyValues.{IsOnly}
-use Rattle.rpki_values.specs.ValueTexts.{IsSerialText}
+use Rattle.rpki_issuing.specs.OnlyValues.{IsOnly}
+use Rattle.rpki_issuing.specs.ValueTexts.{IsSerialText}
 use Rattle.rpki_requests.specs.OptionValues.{GivesEntries, GivesList, IsMomentSaid, SaysAtMostOnce, SaysOnce, given_alone, revoked_at}
 use Rattle.rpki_requests.specs.RequestFiles.{IsOwnListIn, IsPreviousOf, IsRevokedFile}
-use Rattle.rpki_wanted.specs.Issuers.{IsOwnList}
+use Rattle.rpki_issuing.specs.Issuers.{IsOwnList}
 use Rattle.rpki_requests.specs.RequestWords.{GivenFields, values_of}
 use Rattle.rpki_requests.specs.declared.words.Setting.TheVariants.{Number, NextUpdate, Serial}
-use Rattle.rpki_wanted.proofs.WholeOctets.{whole_only}
+use Rattle.rpki_issuing.proofs.WholeOctets.{whole_only}
 
 -- ---- the list before
 

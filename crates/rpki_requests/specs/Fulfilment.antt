@@ -11,11 +11,11 @@ use Rattle.rpki.specs.RevokedEntries.{Revoked}
 use Rattle.rpki.specs.RsaSignatures.{IsSignedByRsa}
 use Rattle.rpki.specs.Times.{Moment}
 use Rattle.rpki.specs.Verification.{Context, ResourceFields, context}
-use Rattle.rpki_wanted.specs.AskedFields.{fields_asked, subject_asked}
-use Rattle.rpki_wanted.specs.Issuers.{IsNamed, fields_above}
-use Rattle.rpki_wanted.specs.PreparedOctets.{IsCompleted, IsPrepared, IsToSign}
-use Rattle.rpki_wanted.specs.WantedLists.{IsListCompleted, IsListPrepared, IsListWanted, WantedListFields}
-use Rattle.rpki_wanted.specs.declared.wanted.Wanted.{Wanted}
+use Rattle.rpki_issuing.specs.AskedFields.{fields_asked, subject_asked}
+use Rattle.rpki_issuing.specs.Issuers.{IsNamed, fields_above}
+use Rattle.rpki_issuing.specs.PreparedOctets.{IsCompleted, IsPrepared, IsToSign}
+use Rattle.rpki_issuing.specs.WantedLists.{IsListCompleted, IsListPrepared, IsListWanted, WantedListFields}
+use Rattle.rpki_issuing.specs.declared.wanted.wanted.Wanted.{Wanted}
 use Rattle.rpki_requests.specs.OptionValues.{GivesList, GivesWanted}
 use Rattle.rpki_requests.specs.RequestFiles.{InputFields, IsCompletedAs, IsIssuerOf, IsKeyFile, IsPreviousOf}
 use Rattle.rpki_requests.specs.RequestWords.{AskedFields}

@@ -6,13 +6,13 @@ use Rattle.rpki.specs.Certificates.{TbsFields}
 use Rattle.rpki.specs.RevokedEntries.{Entry}
 use Rattle.rpki.specs.Times.{Moment, IsMoment}
 use Rattle.rpki_text.specs.MomentTexts.{IsMomentText}
-use Rattle.rpki_values.specs.BlockTexts.{AreListed, IsAddressesText, IsAsText}
-use Rattle.rpki_values.specs.ValueTexts.{IsSerialText, IsRsyncText, IsHttpsText}
-use Rattle.rpki_values.specs.declared.families.Family.TheVariants.{V4, V6}
-use Rattle.rpki_wanted.specs.declared.wanted.Numbers.{Numbers}
-use Rattle.rpki_wanted.specs.declared.wanted.Places.{Places}
-use Rattle.rpki_wanted.specs.declared.wanted.Wanted.{Wanted}
-use Rattle.rpki_wanted.specs.WantedLists.{WantedListFields}
+use Rattle.rpki_issuing.specs.BlockTexts.{AreListed, IsAddressesText, IsAsText}
+use Rattle.rpki_issuing.specs.ValueTexts.{IsSerialText, IsRsyncText, IsHttpsText}
+use Rattle.rpki_issuing.specs.declared.values.families.Family.TheVariants.{V4, V6}
+use Rattle.rpki_issuing.specs.declared.wanted.wanted.Numbers.{Numbers}
+use Rattle.rpki_issuing.specs.declared.wanted.wanted.Places.{Places}
+use Rattle.rpki_issuing.specs.declared.wanted.wanted.Wanted.{Wanted}
+use Rattle.rpki_issuing.specs.WantedLists.{WantedListFields}
 use Rattle.rpki_requests.specs.RequestFiles.{IsRevokedFile}
 use Rattle.rpki_requests.specs.RequestWords.{GivenFields, values_of}
 use Rattle.rpki_requests.specs.declared.words.Setting.TheVariants.{Serial, From, Until, Ipv4, Ipv6, AsNumbers, Repository, Manifest, Notify, Object, IssuerUri, CrlUri, Number, NextUpdate}

@@ -13,12 +13,12 @@ use Rattle.rpki.specs.Judged.{Judged}
 use Rattle.rpki.specs.ValidationError.TheVariants.{Inspection, Verification}
 use Rattle.rpki.specs.Verification.{Context, verification_error_name}
 use Rattle.rpki_files.specs.FaultRules.{RuleFields, inspection_rule, key_rule, name_rule, revocation_rule, rule_of, verification_rule}
-use Rattle.rpki_values.specs.OnlyValues.{IsOnly}
+use Rattle.rpki_issuing.specs.OnlyValues.{IsOnly}
 use Rattle.rpki_verdicts.specs.PathAnswers.{IsVerdictBy}
 use Rattle.rpki_verdicts.specs.declared.path.Fault.{Fault}
 use Rattle.rpki_verdicts.specs.declared.path.Verdict.TheVariants as verdict
-use Rattle.rpki_wanted.specs.declared.preparing.WantedError.{WantedError}
-use Rattle.rpki_wanted.specs.declared.preparing.WantedError.TheVariants as wanted
+use Rattle.rpki_issuing.specs.declared.wanted.preparing.WantedError.{WantedError}
+use Rattle.rpki_issuing.specs.declared.wanted.preparing.WantedError.TheVariants as wanted
 use Rattle.rpki_requests.specs.RequestFiles.{IsNoAuthority, IsNoListAt, chained}
 use Rattle.rpki_requests.specs.RequestWords.{setting_name}
 use Rattle.rpki_requests.specs.declared.refusals.Refusal.{Refusal}

@@ -14,7 +14,7 @@ use Rattle.rpki.specs.SaidKinds.{SaysAuthority, SaysKind}
 use Rattle.rpki_verdicts.specs.PathFiles.{Demands}
 use Rattle.rpki_verdicts.specs.PathAnswers.{HoldSame, IsVerdictBy}
 use Rattle.rpki_verdicts.specs.declared.path.Verdict.TheVariants.{Accepted}
-use Rattle.rpki_wanted.specs.Issuers.{IsOwnList}
+use Rattle.rpki_issuing.specs.Issuers.{IsOwnList}
 
 -- the octets of the objects of the files that a request names: those of the issuer's path, the
 -- lists that it is judged with, those of the subject's key, of the list before, of what is revoked,

@@ -2,7 +2,7 @@
 -- them, of the first word that is wrong, or of what they ask; and what is said of it (own).
 use Rattle.std.specs.Prelude.{◌≡◌, ◌≢◌, ◌≤◌, ◌⊎◌, ℕ, List, [], ◌∷◌, ◌++◌, length, map, fold, true, false, codes}
 use Rattle.rpki_text.specs.Pages.{characters_text}
-use Rattle.rpki_arguments.specs.WordParts.{AreInOrder, IsFirstWrong, IsOption, Joins, words_before, words_behind}
+use Rattle.rpki_text.specs.WordParts.{AreInOrder, IsFirstWrong, IsOption, Joins, words_before, words_behind}
 use Rattle.rpki_requests.specs.RequestWords.{AskedFields, IsRequestPart, RequestPart, demand, errand_words, file, files_wanted, only_errand, setting_name, switch_name, takes, values_of, with_part}
 use Rattle.rpki_requests.specs.declared.words.Demand.{Demand}
 use Rattle.rpki_requests.specs.declared.words.Demand.TheVariants.{Never, AtMostOnce, Once, AtLeastOnce}

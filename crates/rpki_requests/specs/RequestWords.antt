@@ -2,7 +2,7 @@
 -- or completed, and what they ask (own). A word is the octets that the system has.
 use Rattle.std.specs.Prelude.{◌≡◌, ◌≤◌, ◌⊎◌, ℕ, List, [], ◌∷◌, ◌++◌, length, map, filter, Contains, Bool, true, false, fold, codes}
 use Rattle.std.specs.Str.{bytes_eq}
-use Rattle.rpki_arguments.specs.WordParts.{IsOption, GivesValue, AreInOrder, words_before, words_behind}
+use Rattle.rpki_text.specs.WordParts.{IsOption, GivesValue, AreInOrder, words_before, words_behind}
 use Rattle.rpki_requests.specs.declared.words.Demand.{Demand}
 use Rattle.rpki_requests.specs.declared.words.Demand.TheVariants.{Never, AtMostOnce, Once, AnyNumber, AtLeastOnce}
 use Rattle.rpki_requests.specs.declared.words.Errand.{Errand}

@@ -8,7 +8,7 @@ ghost use Rattle.rpki_requests.specs.RequestFiles.{IsCompletedAs, IsIssuerOf, Is
 ghost use Rattle.rpki_requests.specs.RequestWords.Views.{asked_fields};
 ghost use Rattle.rpki_requests.specs.Refusals.{AnswersOnly, IsPathless, TellsPath};
 ghost use Rattle.rpki_requests.specs.declared.refusals.Refusal.TheVariants.{Memory};
-ghost use Rattle.rpki_wanted.specs.declared.preparing.WantedError.TheVariants as wanting;
+ghost use Rattle.rpki_issuing.specs.declared.wanted.preparing.WantedError.TheVariants as wanting;
 
 use crate::issuers::issuer_of;
 use crate::keys::{subject_key, to_sign};
@@ -22,8 +22,8 @@ use rpki::repository::cert::{Kind, ResourceCert, TbsCert, said_kind};
 use rpki::repository::crl::{RevokedCertificates, TbsCertList};
 use rpki::repository::x509::Time;
 use rpki_files::Object;
-use rpki_wanted::issuers::{above, is_named};
-use rpki_wanted::{
+use rpki_issuing::wanted::issuers::{above, is_named};
+use rpki_issuing::wanted::{
     WantedError, complete_list_octets, complete_octets, fields, prepare_list_octets, prepare_octets,
 };
 use std::alloc::Global;

@@ -6,7 +6,7 @@ ghost use Rattle.rpki.specs.Keys.{IsPublicKey};
 ghost use Rattle.rpki_files.specs.Files.{contents};
 ghost use Rattle.rpki_requests.specs.Refusals.{AnswersOnly, IsPathless};
 ghost use Rattle.rpki_requests.specs.RequestFiles.{IsKeyFile};
-ghost use Rattle.rpki_wanted.specs.PreparedOctets.{IsToSign};
+ghost use Rattle.rpki_issuing.specs.PreparedOctets.{IsToSign};
 
 use crate::refusals::Refusal;
 use bytes::Bytes;

@@ -4,8 +4,8 @@ ghost use Rattle.std.specs.Prelude.{◌≡◌, ◌↔◌, ◌≤◌, ◌++◌, �
 ghost use Rattle.rpki.specs.Certificates.{CertFields, IsCertificate};
 ghost use Rattle.rpki.specs.Lists.{CrlFields, IsCertificateList, IsTbsCertList};
 ghost use Rattle.rpki_files.specs.Files.{contents};
-ghost use Rattle.rpki_values.specs.OnlyValues.{Finds};
-ghost use Rattle.rpki_values.specs.ValueTexts.{IsSerialText};
+ghost use Rattle.rpki_issuing.specs.OnlyValues.{Finds};
+ghost use Rattle.rpki_issuing.specs.ValueTexts.{IsSerialText};
 ghost use Rattle.rpki_requests.specs.Fulfilment.{AsksList};
 ghost use Rattle.rpki_requests.specs.OptionValues.{GivesEntries, GivesList, given_alone, revoked_at};
 ghost use Rattle.rpki_requests.specs.Refusals.{AnswersOnly, AnswersOnlyBy, IsPathless};
@@ -26,9 +26,9 @@ use rpki::repository::cert::{Cert, ResourceCert, TbsCert};
 use rpki::repository::crl::{CrlEntry, RevokedCertificates, TbsCertList};
 use rpki::repository::x509::{Serial, Time};
 use rpki_files::Object;
-use rpki_values::Textual;
-use rpki_wanted::issuers::is_own;
-use rpki_wanted::{WantedList, list_fields};
+use rpki_issuing::values::Textual;
+use rpki_issuing::wanted::issuers::is_own;
+use rpki_issuing::wanted::{WantedList, list_fields};
 use std::alloc::{AllocError, Global};
 
 // The list that the file is, if it is one, and nothing behind it.

@@ -10,8 +10,8 @@ use rpki::crypto::PublicKeyFormat;
 use rpki::repository::error::ValidationError;
 use rpki::repository::issuing::{IssuingError, ListError, NextListError};
 use rpki_files::rules::{Rule, of_inspection, of_key, of_name, of_revocation, of_verification};
+use rpki_issuing::wanted::WantedError;
 use rpki_verdicts::Fault;
-use rpki_wanted::WantedError;
 use std::alloc::AllocError;
 use std::fmt;
 

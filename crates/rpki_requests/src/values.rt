@@ -1,6 +1,6 @@
 //! The values of options: those of the certificate that is wanted, and the moment.
 ghost use Rattle.std.specs.Prelude.{◌≡◌, ◌≢◌, ◌≤◌, ◌⊎◌, length, option_map, Ok, Err, IfErr, IfOk};
-ghost use Rattle.rpki_values.specs.BlockTexts.{AreListed};
+ghost use Rattle.rpki_issuing.specs.BlockTexts.{AreListed};
 ghost use Rattle.rpki_requests.specs.OptionValues.{GivesNumbers, GivesPlaces, GivesWanted, IsMomentSaid, SaysAtMostOnce, SaysOnce, given_alone};
 ghost use Rattle.rpki_requests.specs.Refusals.{AnswersOnly, IsPathless};
 ghost use Rattle.rpki_requests.specs.RequestWords.{values_of};
@@ -12,9 +12,9 @@ use crate::words::{Order, Setting};
 use rpki::repository::resources::{Bound, Resources};
 use rpki::repository::x509::{Serial, Time};
 use rpki::uri::{Https, Rsync};
+use rpki_issuing::values::{AsTexts, BlockText, Textual, V4Texts, V6Texts, listed};
+use rpki_issuing::wanted::{Numbers, Places, Wanted};
 use rpki_text::moments;
-use rpki_values::{AsTexts, BlockText, Textual, V4Texts, V6Texts, listed};
-use rpki_wanted::{Numbers, Places, Wanted};
 use std::alloc::Global;
 
 // The one value that an option is given, if it is given one.

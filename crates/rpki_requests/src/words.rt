@@ -1,14 +1,14 @@
 //! Which words ask for a certificate or a revocation list to be prepared, or to be completed.
 ghost use Rattle.std.specs.Prelude.{◌≡◌, ◌≢◌, ◌↔◌, ◌==◌, ℕ, List, [], ◌∷◌, ◌++◌, codes, count_by, filter, Contains, length, map, fold, position, IfErr, IfNone, IfOk, IfSome, IsTrue, MatchOption, OnOk, Some};
 ghost use Rattle.std.specs.Fmt.{WritesOnOk};
-ghost use Rattle.rpki_arguments.specs.CommandLines.Views.{word_octets};
-ghost use Rattle.rpki_arguments.specs.WordParts.{AddsPart, AddsParts, AreInOrder, BeginsNoPart, IsFirstWrong, Joins};
+ghost use Rattle.rpki_text.specs.CommandLines.Views.{word_octets};
+ghost use Rattle.rpki_text.specs.WordParts.{AddsPart, AddsParts, AreInOrder, BeginsNoPart, IsFirstWrong, Joins};
 ghost use Rattle.rpki_requests.specs.RequestMisuses.{HasWrongCount, IsMisuse, IsNoErrand, IsReason, IsWrongCount, IsWrongFirst, misuse_text};
 ghost use Rattle.rpki_requests.specs.RequestWords.{AskedFields, AsksHelp, BeginsRequest, IsRequestLine, IsRequestPart, Meets, RequestPart, Suits, demand, errand_words, file, files_wanted, is_same, of_authorities, of_certificates, of_issued, of_lists, only_errand, option, setting_name, switch, switch_name, takes, values_of, with_part};
 ghost use Rattle.rpki_requests.specs.RequestWords.Views.{asked_fields, given_fields};
 
-use rpki_arguments::parts::{around_dashes, is, is_option};
 use rpki_text::Characters;
+use rpki_text::command_line::parts::{around_dashes, is, is_option};
 use std::alloc::{AllocError, Global};
 use std::fmt;
 

@@ -1,13 +1,13 @@
 //! How often the verdict on a path asks for a signature.
 
 use crate::lists;
+use crate::samples::{self, day, rsa};
 use bytes::Bytes;
 use rpki_cert::{KeyUsage, Kind, TbsCert};
-use rpki_cert_tests::samples::{self, day, rsa};
 use rpki_crl::Crl;
 use rpki_parts::{PublicKey, RpkiSignatureAlgorithm, StandIn, Verifier};
+use rpki_path::revocation::GivenLists;
 use rpki_path::{GivenPath, Member, judge};
-use rpki_revocation::GivenLists;
 use std::alloc::Global;
 use std::cell::Cell;
 use std::process::Abort;

@@ -2,8 +2,8 @@
 //! 5.1).
 
 use crate::lists::TWO;
+use crate::samples;
 use bytes::Bytes;
-use rpki_cert_tests::samples;
 use rpki_der::Serial;
 use rpki_files::{Misread, decode_cert, decode_crl};
 use std::alloc::Global;

@@ -1,9 +1,9 @@
 //! Certificates and lists whose signatures come from elsewhere: prepared, signed, completed.
 
 use crate::lists::data;
+use crate::samples::{self, day, rsa};
 use rpki_blocks::{AsBlock, Asn};
 use rpki_cert::{Cert, KeyUsage, Overclaim, ResourceCert, TbsCert, ValidationError};
-use rpki_cert_tests::samples::{self, day, rsa};
 use rpki_crl::{Crl, CrlEntry, RevokedCertificates, TbsCertList};
 use rpki_der::{Serial, Time};
 use rpki_issuing::{

@@ -3,9 +3,9 @@
 use crate::counting::Counting;
 use crate::lists;
 use crate::located::{OF_ANCHOR, OF_OTHER, locator};
+use crate::samples::{self, day, rsa};
 use bytes::Bytes;
 use rpki_cert::{Cert, Said};
-use rpki_cert_tests::samples::{self, day, rsa};
 use rpki_crl::{Crl, RevocationError};
 use rpki_folder::{Added, AllAdmitted, Bounds, Ended, Folder, Found, Line, Lines, Walk, WalkError};
 use rpki_parts::StandIn;

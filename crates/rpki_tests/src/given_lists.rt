@@ -1,12 +1,12 @@
 //! Lists as they are given: which of them is asked, whatever order they come in.
 
 use crate::lists;
+use crate::samples::{self, day, rsa};
 use rpki_cert::{Cert, ResourceCert};
-use rpki_cert_tests::samples::{self, day, rsa};
 use rpki_crl::{Crl, RevocationError};
 use rpki_der::Serial;
 use rpki_parts::StandIn;
-use rpki_revocation::{GivenLists, RevocationSource};
+use rpki_path::revocation::{GivenLists, RevocationSource};
 use std::alloc::Global;
 use std::process::Abort;
 

@@ -1,11 +1,11 @@
 //! Authorities are issued under an anchor, and lists are verified under it.
 
+use crate::samples::{self, Refusal, Refusing, day, rsa};
 use rpki_blocks::{AsBlock, Asn};
 use rpki_cert::{
     IssueCaError, KeyUsage, Overclaim, ResourceCert, TbsCert, ValidationError, VerificationError,
     issue_ca,
 };
-use rpki_cert_tests::samples::{self, Refusal, Refusing, day, rsa};
 use rpki_crl::{Crl, CrlEntry, TbsCertList};
 use rpki_parts::{SigningError, StandIn};
 use std::alloc::Global;

@@ -1,13 +1,13 @@
 //! The verdict on paths: each kind of last member, and a caller's own answer for revocation.
 
+use crate::samples::{self, day};
 use bytes::Bytes;
 use rpki_cert::{Cert, InspectionError, Kind, ResourceCert};
-use rpki_cert_tests::samples::{self, day};
 use rpki_crl::RevocationError;
 use rpki_der::{Serial, Time};
 use rpki_parts::{StandIn, Verifier};
+use rpki_path::revocation::{NobodyAsked, RevocationSource};
 use rpki_path::{GivenPath, Judged, Member, PathError, PathFault, judge};
-use rpki_revocation::{NobodyAsked, RevocationSource};
 use std::alloc::Global;
 use std::process::Abort;
 

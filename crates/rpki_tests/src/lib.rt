@@ -1,9 +1,11 @@
-//! Tests that cross the layers, and that no line of questions and answers can ask: calls of
-//! revocation lists and paths with a caller's signer, verifier, reader or writer, issuing, and the
-//! texts of all errors. Those of certificates and of the crates below them stand in
-//! `rpki_cert_tests`.
+//! Tests that no line of questions and answers can ask: calls with a caller's signer, verifier,
+//! reader or writer, several calls of one value, what stands after a refusal, and the texts of all
+//! errors. Those of certificates and of the crates below them stand in `certificates`; what tests are
+//! made of in `samples`, which the programs of test vectors use too.
 #![tactic(auto)]
 
+#[cfg(test)]
+mod certificates;
 #[cfg(test)]
 mod counting;
 #[cfg(test)]
@@ -40,6 +42,7 @@ mod paths;
 mod real_signatures;
 #[cfg(test)]
 mod routers;
+pub mod samples;
 #[cfg(test)]
 mod shared;
 #[cfg(test)]

@@ -1,6 +1,6 @@
 //! Revocation lists that are made, and entries that are added to them.
 
-use rpki_cert_tests::samples;
+use crate::samples;
 use rpki_crl::{Crl, CrlEntry, TbsCertList};
 use rpki_der::Serial;
 use rpki_parts::{RpkiSignatureAlgorithm, StandIn};

@@ -1,12 +1,12 @@
 //! Paths below the trust anchor of a locator.
 
+use crate::samples::{anchor_octets, day};
 use bytes::Bytes;
 use rpki_cert::{Cert, ResourceCert};
-use rpki_cert_tests::samples::{anchor_octets, day};
 use rpki_crl::CrlStore;
+use rpki_keys::tal::Tal;
 use rpki_parts::StandIn;
 use rpki_path::{LocatedError, Member, has_locator_key, validate_located};
-use rpki_tal::Tal;
 use std::alloc::Global;
 use std::process::Abort;
 

@@ -1,6 +1,6 @@
 //! The texts of names: the examples of RFC 4514 4 as far as types go, and the cases of RFC 4514 2.
 
-use rpki_cert_tests::samples;
+use crate::samples;
 use rpki_parts::Name;
 use std::alloc::Global;
 use std::process::Abort;

@@ -1,8 +1,8 @@
 //! Names that chain, certificate by certificate.
 
+use crate::samples::{anchor_octets, bare, day, rsa, set_places, signed, valid_anchor};
 use bytes::Bytes;
 use rpki_cert::{Cert, KeyUsage, ResourceCert};
-use rpki_cert_tests::samples::{anchor_octets, bare, day, rsa, set_places, signed, valid_anchor};
 use rpki_parts::Name;
 use rpki_path::{is_self_named, names_chain};
 use std::alloc::Global;

@@ -1,9 +1,9 @@
 //! Whole paths: long ones, and with a verifier of a caller's own.
 
+use crate::samples::{self, day};
 use bytes::Bytes;
 use rpki_blocks::Asn;
 use rpki_cert::{ResourceCert, VerificationError};
-use rpki_cert_tests::samples::{self, day};
 use rpki_parts::{PublicKey, RpkiSignatureAlgorithm, StandIn, TalInfo, Verifier};
 use rpki_path::{Leaf, PathError, PathFault, validate_path};
 use std::alloc::{AllocError, Global};

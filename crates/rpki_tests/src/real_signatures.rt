@@ -5,8 +5,8 @@
 //! (`encode_tbs`, `encode_list`). The private keys are lost.
 
 use crate::elsewhere::{fault, list_fault};
+use crate::samples::{self, day, shared};
 use rpki_cert::{Cert, KeyUsage, ResourceCert, TbsCert};
-use rpki_cert_tests::samples::{self, day, shared};
 use rpki_crl::{Crl, CrlEntry, RevokedCertificates, TbsCertList};
 use rpki_der::{Serial, Time};
 use rpki_issuing::{

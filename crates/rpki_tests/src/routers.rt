@@ -1,9 +1,9 @@
 //! Routers' certificates below the last member of a path, with and without revocation lists.
 
 use crate::lists;
+use crate::samples::{self, day, rsa};
 use bytes::Bytes;
 use rpki_cert::{InspectionError, VerificationError};
-use rpki_cert_tests::samples::{self, day, rsa};
 use rpki_crl::{CrlStore, RevocationError};
 use rpki_der::Serial;
 use rpki_parts::StandIn;

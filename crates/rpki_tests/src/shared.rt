@@ -1,8 +1,8 @@
 //! Octets that are shared: what is read of them keeps what it needs of their buffer.
 
+use crate::samples;
 use bytes::Bytes;
 use rpki_cert::Cert;
-use rpki_cert_tests::samples;
 use rpki_der::{Cursor, DecodeError};
 use std::alloc::Global;
 use std::process::Abort;

@@ -7,3 +7,11 @@ pub mod BlockLines
 pub mod ListTexts
 pub mod KeyTexts
 pub mod CertificateTexts
+pub mod Notes
+pub mod NoteTexts
+pub mod FaultSearch
+pub mod Facts
+pub mod WordParts
+pub mod CommandLines
+pub mod Misuses
+pub mod MisuseTexts

@@ -3,6 +3,7 @@
 
 pub mod blocks;
 pub mod certificate;
+pub mod command_line;
 mod identifiers;
 pub mod keys;
 pub mod laws;
@@ -10,6 +11,7 @@ mod lines;
 pub mod list;
 pub mod moments;
 pub mod names;
+pub mod notes;
 mod page;
 
 pub use identifiers::Identifier;

@@ -4,9 +4,9 @@ use crate::paths::{named, refused};
 use crate::words::{Words, moment};
 use bytes::Bytes;
 use rpki_folder::{AllAdmitted, Bounds, Ended, Folder, Line, Lines, Walk, WalkError};
+use rpki_keys::tal::Tal;
 use rpki_parts::{StandIn, Verifier};
 use rpki_path::{LocatedError, Member};
-use rpki_tal::Tal;
 use std::alloc::AllocError;
 
 // Adds the octets of the words from a place on.

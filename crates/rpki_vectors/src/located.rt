@@ -6,9 +6,9 @@ use crate::words::{Words, moment};
 use bytes::Bytes;
 use rpki_cert::ResourceCert;
 use rpki_der::Time;
+use rpki_keys::tal::Tal;
 use rpki_parts::StandIn;
 use rpki_path::{LocatedError, Member, has_locator_key, validate_located};
-use rpki_tal::Tal;
 
 // Whether the trust anchor has the locator's key; `none` where no certificate is read.
 fn has_key(out: &mut Answer, tal: &Tal, anchor: &Bytes) {

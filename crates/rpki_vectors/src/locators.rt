@@ -3,8 +3,8 @@ use crate::answer::Answer;
 use crate::parts::public_key;
 use crate::words::Words;
 use rpki_der::{DecodeError, EncodeError};
+use rpki_keys::tal::{Tal, TalError, TalUri, octets_of, push_digits};
 use rpki_parts::PublicKey;
-use rpki_tal::{Tal, TalError, TalUri, octets_of, push_digits};
 
 fn uris(out: &mut Answer, tal: &Tal) {
     for uri in tal.uris() {

@@ -4,7 +4,7 @@ use Rattle.std.proofs.lemmas.List.{take_all}
 use Rattle.rpki.specs.Encoding.{Means}
 use Rattle.rpki.specs.Lists.{CrlState, IsCertificateList}
 use Rattle.rpki_files.specs.Contents.{BeginsWithList}
-use Rattle.rpki_revocation.proofs.LatestLists.{gone_over}
+use Rattle.rpki_path.proofs.LatestLists.{gone_over}
 use Rattle.rpki_verdicts.specs.PathFiles.{AreListsOf}
 
 -- a further file that begins with none

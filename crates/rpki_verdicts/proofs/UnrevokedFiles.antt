@@ -16,7 +16,7 @@ use Rattle.rpki.specs.Lists.{CrlState, IsCertificateList}
 use Rattle.rpki.specs.Paths.{Member, Path, Candidate, candidate, IsMember, IsValidPath, IsAccepted}
 use Rattle.rpki.specs.Routers.{IsRouterUnder}
 use Rattle.rpki.specs.Verification.{Context, ResourceFields}
-use Rattle.rpki_revocation.proofs.AskedList.{left_by_asked}
+use Rattle.rpki_path.proofs.AskedList.{left_by_asked}
 use Rattle.rpki_verdicts.specs.PathFiles.{IsGivenBy, AreListsOf}
 use Rattle.rpki_verdicts.specs.UnrevokedMembers.{IsGivenAmong, IsUnrevokedBelow, AreUnrevokedBelow, AreUnrevoked}
 

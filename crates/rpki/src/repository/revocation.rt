@@ -1,2 +1,2 @@
 //! Who answers for the revocation of certificates (RFC 6487 7.2).
-pub use rpki_revocation::{GivenLists, NobodyAsked, RevocationSource, has_begun, supersedes};
+pub use rpki_path::revocation::{GivenLists, NobodyAsked, RevocationSource, has_begun, supersedes};

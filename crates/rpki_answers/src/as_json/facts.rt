@@ -6,8 +6,8 @@ ghost use Rattle.rpki_answers.specs.FactTexts.{fact_json, fact_text, fact_word, 
 
 use crate::as_json::objects::{object_of, value_of};
 use crate::facts::Told;
-use rpki_notes::{Fact, FactKind};
 use rpki_text::Page;
+use rpki_text::notes::{Fact, FactKind};
 use serde_json::Value;
 use std::alloc::{AllocError, Global};
 

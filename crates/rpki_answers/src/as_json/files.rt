@@ -19,10 +19,10 @@ use crate::showing::{Remarks, rejection_of};
 use rpki::der::DecodeError;
 use rpki::repository::tal::{Tal, TalError};
 use rpki::repository::{Cert, Crl};
-use rpki_arguments::Format;
 use rpki_files::rules::of_tal;
 use rpki_files::{Content, Object, looks_like_locator, read_locator};
-use rpki_notes::{facts_of, notes_of};
+use rpki_text::command_line::Format;
+use rpki_text::notes::{facts_of, notes_of};
 use serde_json::Value;
 use std::alloc::{AllocError, Global};
 

@@ -4,7 +4,7 @@ ghost use Rattle.serde_json.specs.View.{view};
 ghost use Rattle.rpki_answers.specs.JsonNotes.{note_json, notes_json};
 
 use crate::as_json::objects::Members;
-use rpki_notes::Note;
+use rpki_text::notes::Note;
 use serde_json::Value;
 use std::alloc::{AllocError, Global};
 

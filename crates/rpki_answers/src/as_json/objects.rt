@@ -138,7 +138,7 @@ impl Members {
     }
 
     /// Puts in the SHA-256 of octets, in base64.
-    #[tactic(auto, unfolding(rpki_tal::specs::Digits::base64_of))]
+    #[tactic(auto, unfolding(rpki_keys::specs::Digits::base64_of))]
     pub fn hash(&mut self, key: &str, of: &[u8]) -> Result<(), AllocError>
         ensures { OnOk result
             (Puts (text_member key.now (base64_of (sha256 of.now))) self.old self.new) }

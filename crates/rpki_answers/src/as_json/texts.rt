@@ -8,8 +8,8 @@ ghost use Rattle.rpki_answers.specs.JsonValues.{array_of};
 ghost use Rattle.rpki_text.specs.Pages.{Appends};
 
 use crate::as_json::ascii::ended_ascii;
-use rpki_arguments::Format;
 use rpki_text::Page;
+use rpki_text::command_line::Format;
 use serde_json::Value;
 use std::alloc::{AllocError, Global};
 

@@ -1,6 +1,6 @@
 use Rattle.std.proofs.Common.{◌∙◌, sym}
 use Rattle.std.proofs.lemmas.Result.{IfOk-weaker}
-use Rattle.rpki_arguments.specs.CommandLines.Views.{word_octets}
+use Rattle.rpki_text.specs.CommandLines.Views.{word_octets}
 use Rattle.rpki_answers.specs.declared.outcomes.Outcome.{Outcome}
 use Rattle.rpki_command.specs.Runs.{RunEndsAs}
 use Rattle.rpki_command.proofs.EndedRuns.{told_misuse, told_rejection, told_success}

@@ -3,7 +3,7 @@ use Rattle.std.specs.Prelude.{◌≡◌, ◌≢◌, ℕ, List, Option, None, Som
 use Rattle.rpki_cert.specs.Verification.{Context, ResourceFields}
 use Rattle.rpki_cert.specs.declared.inspect.Kind.{Kind}
 use Rattle.rpki_cert.specs.declared.inspect.Kind.TheVariants.{Authority, Router}
-use Rattle.rpki_revocation.specs.Asking.{RevocationChecks}
+use Rattle.rpki_path.specs.Asking.{RevocationChecks}
 use Rattle.rpki_path.specs.declared.judging.Judged.{Judged}
 use Rattle.rpki_path.specs.declared.path_fault.PathFault.{PathFault}
 use Rattle.rpki_path.specs.declared.path_fault.PathFault.TheVariants.{Memory}

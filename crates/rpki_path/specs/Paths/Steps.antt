@@ -7,7 +7,7 @@ use Rattle.rpki_cert.specs.Validation.{IsValidTrustAnchor, IsValidBelow}
 use Rattle.rpki_cert.specs.Verification.{Context, CheckUnder, issued_checks, ResourceFields}
 use Rattle.rpki_cert.specs.declared.inspect.Kind.{Kind}
 use Rattle.rpki_cert.specs.declared.inspect.Kind.TheVariants.{Authority, EndEntity, Detached}
-use Rattle.rpki_revocation.specs.Asking.{RevocationChecks, IsUnrevokedBy}
+use Rattle.rpki_path.specs.Asking.{RevocationChecks, IsUnrevokedBy}
 use Rattle.rpki_path.specs.declared.path_fault.PathFault.{PathFault}
 use Rattle.rpki_path.specs.declared.path_fault.PathFault.TheVariants.{Decode, Memory}
 use Rattle.rpki_path.specs.declared.validator.Role.{Role}

@@ -2,7 +2,7 @@ use Rattle.std.specs.Prelude.{Err, option_map}
 use Rattle.std.proofs.Common.{◌≡◌, Bor, Option, rules, subst, sym}
 use Rattle.rpki_crl.specs.Lists.{CrlState, ListFields}
 use Rattle.rpki_crl.specs.RevokedEntries.{Revoked}
-use Rattle.rpki_wanted.specs.WantedLists.{IsListWanted}
+use Rattle.rpki_issuing.specs.WantedLists.{IsListWanted}
 use Rattle.rpki_c.proofs.AnsweredLists.{before_lent, ungiven_fields, unwanted_fields}
 use Rattle.rpki_c.proofs.list_preparing.fields_behind.Goals as goal
 

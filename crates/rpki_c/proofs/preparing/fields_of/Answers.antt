@@ -4,10 +4,10 @@ use Rattle.rpki_cert.specs.Certificates.{TbsFields}
 use Rattle.rpki_cert.specs.Verification.{ResourceFields}
 use Rattle.rpki_parts.specs.Keys.{KeyFields}
 use Rattle.rpki_parts.specs.Names.{IsName}
-use Rattle.rpki_wanted.specs.AskedFields.{fields_asked}
-use Rattle.rpki_wanted.specs.declared.wanted.Wanted.{Wanted}
+use Rattle.rpki_issuing.specs.AskedFields.{fields_asked}
+use Rattle.rpki_issuing.specs.declared.wanted.wanted.Wanted.{Wanted}
 use Rattle.rpki_c.specs.WantedAnswers.{GivesValues, subject_of}
-use Rattle.rpki_wanted.specs.Issuers.{fields_above}
+use Rattle.rpki_issuing.specs.Issuers.{fields_above}
 use Rattle.rpki_c.proofs.AnsweredWants.{value_fields}
 use Rattle.rpki_c.proofs.WantedValues.{when_ok, when_err}
 use Rattle.rpki_c.proofs.preparing.fields_of.Goals as goal

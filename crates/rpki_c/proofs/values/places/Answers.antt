@@ -1,4 +1,4 @@
-use Rattle.rpki_values.specs.ValueTexts.{IsHttpsText, IsRsyncText}
+use Rattle.rpki_issuing.specs.ValueTexts.{IsHttpsText, IsRsyncText}
 use Rattle.rpki_c.specs.WantedQuestions.{GivesPlaces, IsUriGiven}
 use Rattle.rpki_c.proofs.WantedValues.{Pair, both_given, when_err, when_ok}
 use Rattle.rpki_c.proofs.values.places.Goals as goal

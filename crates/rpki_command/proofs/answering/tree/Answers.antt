@@ -1,7 +1,7 @@
 use Rattle.std.specs.Bool.{MatchBool}
 use Rattle.std.specs.Prelude.{All}
 use Rattle.std.proofs.Common.{◌≡◌, ◌∙◌, Bool, true, false, ℕ, List, string_bytes, sym, ap, subst}
-use Rattle.rpki_arguments.specs.CommandLines.Views.{fields_of}
+use Rattle.rpki_text.specs.CommandLines.Views.{fields_of}
 use Rattle.rpki_verdicts.specs.GivenLocators.{IsRead}
 use Rattle.rpki_verdicts.specs.Trees.{TreeFields}
 use Rattle.rpki_answers.specs.AnswerTexts.{IsTreeBy, tree_question_of}

@@ -3,7 +3,7 @@ use Rattle.std.specs.Bool.{MatchBool}
 use Rattle.std.proofs.lemmas.Iterator.Adapters.{YieldsList-from_vec}
 use Rattle.std.proofs.lemmas.Iterator.Consumers.{YieldsList-end}
 use Rattle.std.proofs.lemmas.List.{map-append}
-use Rattle.rpki_arguments.specs.CommandLines.Views.{word_octets}
+use Rattle.rpki_text.specs.CommandLines.Views.{word_octets}
 use Rattle.rpki_command.specs.ListedFolders.{AreOpened, StandFor, StandsForItself, is_folder_name}
 use Rattle.rpki_command.proofs.ListedNames.{opened_more}
 use Rattle.rpki_command.proofs.WrittenTexts.{appends_both}

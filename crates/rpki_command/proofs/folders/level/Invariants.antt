@@ -1,6 +1,6 @@
 use Rattle.std.specs.Io.KnownBytes.{Appends}
 use Rattle.std.proofs.Common.{◌||◌, List, ℕ}
-use Rattle.rpki_arguments.specs.CommandLines.Views.{word_octets}
+use Rattle.rpki_text.specs.CommandLines.Views.{word_octets}
 use Rattle.rpki_command.specs.ListedFolders.{AreOpened, is_folder_name}
 use Rattle.rpki_command.proofs.folders.level.Given as goal
 

@@ -2,7 +2,7 @@ use Rattle.std.specs.Prelude.{◌≢◌, ◌⊎◌, Option, Some, None, MatchOpt
 use Rattle.std.specs.Str.{IsUtf8}
 use Rattle.std.specs.declared.vec.Vec.{Vec}
 use Rattle.std.proofs.Common.{◌≡◌, [], List, ℕ, inl, inr, refl, rules}
-use Rattle.rpki_arguments.specs.CommandLines.Views.{word_octets}
+use Rattle.rpki_text.specs.CommandLines.Views.{word_octets}
 use Rattle.rpki_command.specs.ListedFolders.{IsUnlisted, Lists, barred, holds, listing_of, no_folder}
 use Rattle.rpki_command.specs.declared.files.Unread.TheVariants.{Memory}
 use Rattle.rpki_command.proofs.WrittenTexts.{appends_none}

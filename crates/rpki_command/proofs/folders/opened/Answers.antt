@@ -1,5 +1,5 @@
 use Rattle.std.proofs.Common.{◌++◌, List, ℕ, refl, subst, true}
-use Rattle.rpki_arguments.specs.CommandLines.Views.{word_octets}
+use Rattle.rpki_text.specs.CommandLines.Views.{word_octets}
 use Rattle.rpki_command.specs.ListedFolders.{AreOpened}
 use Rattle.rpki_command.specs.Messages.{passed_message}
 use Rattle.rpki_command.proofs.WrittenTexts.{appends_both}

@@ -1,5 +1,5 @@
 use Rattle.std.proofs.Common.{◌≡◌, ◌++◌, [], ℕ, rules, subst}
-use Rattle.rpki_arguments.specs.CommandLines.Views.{word_octets}
+use Rattle.rpki_text.specs.CommandLines.Views.{word_octets}
 use Rattle.rpki_command.specs.ListedFolders.{AreDown}
 use Rattle.rpki_command.proofs.ListedNames.{down_none, down_more}
 use Rattle.rpki_command.proofs.WrittenTexts.{appends_both, appends_none}

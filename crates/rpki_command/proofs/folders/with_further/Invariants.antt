@@ -1,5 +1,5 @@
 use Rattle.std.proofs.Common.{◌≡◌, ◌++◌, take}
-use Rattle.rpki_arguments.specs.CommandLines.Views.{fields_of, word_octets}
+use Rattle.rpki_text.specs.CommandLines.Views.{fields_of, word_octets}
 use Rattle.rpki_command.proofs.folders.with_further.Given as goal
 
 abbrev pub invariant-loop-name : goal.invariant-loop-name

@@ -1,9 +1,9 @@
 use Rattle.std.specs.Io.KnownBytes.{Appends}
 use Rattle.std.specs.Prelude.{OnOk}
 use Rattle.std.proofs.Common.{◌≡◌, ◌++◌, refl, subst}
-use Rattle.rpki_arguments.specs.CommandLines.{RequestFields, with_files}
-use Rattle.rpki_arguments.specs.CommandLines.Views.{fields_of, word_octets}
-use Rattle.rpki_arguments.specs.declared.arguments.Task.TheVariants.{Tree}
+use Rattle.rpki_text.specs.CommandLines.{RequestFields, with_files}
+use Rattle.rpki_text.specs.CommandLines.Views.{fields_of, word_octets}
+use Rattle.rpki_text.specs.declared.command_line.arguments.Task.TheVariants.{Tree}
 use Rattle.rpki_command.specs.ListedFolders.{AreFilesOf}
 use Rattle.rpki_command.specs.Runs.{IsAnswerBy, IsAnswerIn}
 use Rattle.rpki_command.specs.SoughtPaths.{IsSearch}

@@ -1,6 +1,6 @@
 use Rattle.std.specs.Io.KnownBytes.{Appends}
 use Rattle.std.specs.Prelude.{OnOk}
-use Rattle.rpki_arguments.specs.CommandLines.Views.{fields_of}
+use Rattle.rpki_text.specs.CommandLines.Views.{fields_of}
 use Rattle.rpki_command.specs.Runs.{IsAnswerIn, IsAnswerOf}
 use Rattle.rpki_command.proofs.EndedRuns.{of_sought, so_answered, some_names}
 use Rattle.rpki_command.proofs.running.answer_named.Goals as goal

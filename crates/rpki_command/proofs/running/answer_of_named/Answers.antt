@@ -1,8 +1,8 @@
 use Rattle.std.specs.Io.KnownBytes.{Appends}
 use Rattle.std.specs.Prelude.{OnOk}
 use Rattle.std.proofs.Common.{◌≡◌, refl, subst}
-use Rattle.rpki_arguments.specs.CommandLines.{RequestFields}
-use Rattle.rpki_arguments.specs.CommandLines.Views.{fields_of, word_octets}
+use Rattle.rpki_text.specs.CommandLines.{RequestFields}
+use Rattle.rpki_text.specs.CommandLines.Views.{fields_of, word_octets}
 use Rattle.rpki_command.specs.Runs.{IsAnswer, IsAnswerOfNamed}
 use Rattle.rpki_command.proofs.EndedRuns.{so_said}
 use Rattle.rpki_command.proofs.running.answer_of_named.Goals as goal

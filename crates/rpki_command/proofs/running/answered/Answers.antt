@@ -1,5 +1,5 @@
 use Rattle.std.proofs.Common.{string_bytes, subst, sym, ap}
-use Rattle.rpki_arguments.specs.CommandLines.Views.{fields_of}
+use Rattle.rpki_text.specs.CommandLines.Views.{fields_of}
 use Rattle.rpki_command.specs.Runs.{IsWholeAnswer}
 use Rattle.rpki_answers.specs.declared.outcomes.Outcome.{Outcome}
 use Rattle.rpki_command.proofs.running.answered.Goals as goal

@@ -1,5 +1,5 @@
 use Rattle.std.proofs.lemmas.List.{map-id}
-use Rattle.rpki_arguments.specs.CommandLines.Views.{fields_of}
+use Rattle.rpki_text.specs.CommandLines.Views.{fields_of}
 use Rattle.rpki_command.proofs.NamedFiles.{are_given}
 use Rattle.rpki_command.proofs.running.objects_answered.Goals as goal
 

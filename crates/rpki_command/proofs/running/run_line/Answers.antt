@@ -1,7 +1,7 @@
 use Rattle.std.proofs.Common.{[], refl}
 use Rattle.std.proofs.lemmas.Result.{IfOk-weaker}
-use Rattle.rpki_arguments.specs.CommandLines.Views.{fields_of, word_octets}
-use Rattle.rpki_arguments.specs.MisuseTexts.{misuse_text}
+use Rattle.rpki_text.specs.CommandLines.Views.{fields_of, word_octets}
+use Rattle.rpki_text.specs.MisuseTexts.{misuse_text}
 use Rattle.rpki_command.specs.AboutTexts.{about_text}
 use Rattle.rpki_command.specs.Messages.{misuse_message}
 use Rattle.rpki_command.proofs.EndedRuns.{run_about, run_answer}

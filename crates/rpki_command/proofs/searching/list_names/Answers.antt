@@ -1,6 +1,6 @@
 use Rattle.std.proofs.Common.{◌++◌, ◌∷◌, [], List, ℕ, take, sym, subst}
 use Rattle.std.proofs.lemmas.List.{take_all}
-use Rattle.rpki_arguments.specs.CommandLines.Views.{word_octets}
+use Rattle.rpki_text.specs.CommandLines.Views.{word_octets}
 use Rattle.rpki_files.specs.Files.{FileFields}
 use Rattle.rpki_command.specs.SoughtPaths.{AreListNames}
 use Rattle.rpki_command.proofs.ListsAmong.{gone_over, lists_more}

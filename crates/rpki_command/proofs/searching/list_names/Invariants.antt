@@ -1,5 +1,5 @@
 use Rattle.std.proofs.Common.{take}
-use Rattle.rpki_arguments.specs.CommandLines.Views.{word_octets}
+use Rattle.rpki_text.specs.CommandLines.Views.{word_octets}
 use Rattle.rpki_command.specs.SoughtPaths.{AreListNames}
 use Rattle.rpki_command.proofs.searching.list_names.Given as goal
 

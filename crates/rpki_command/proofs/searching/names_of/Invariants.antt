@@ -1,5 +1,5 @@
 use Rattle.std.proofs.Common.{◌≡◌, map, take}
-use Rattle.rpki_arguments.specs.CommandLines.Views.{word_octets}
+use Rattle.rpki_text.specs.CommandLines.Views.{word_octets}
 use Rattle.rpki_files.specs.Files.{file_names}
 use Rattle.rpki_command.proofs.searching.names_of.Given as goal
 

@@ -1,6 +1,6 @@
 use Rattle.std.proofs.Common.{◌++◌, refl}
 use Rattle.std.proofs.lemmas.List.{map-id}
-use Rattle.rpki_arguments.specs.CommandLines.Views.{fields_of}
+use Rattle.rpki_text.specs.CommandLines.Views.{fields_of}
 use Rattle.rpki_answers.specs.AnswerTexts.{tree_question_of}
 use Rattle.rpki_command.specs.SoughtPaths.{search_message}
 use Rattle.rpki_command.proofs.NamedFiles.{are_given}

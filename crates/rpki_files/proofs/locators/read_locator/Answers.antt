@@ -1,8 +1,8 @@
 use Rattle.std.proofs.Common.{◌≢◌, ℕ, List, Bool, refl, sym, ◌∙◌}
 use Rattle.std.proofs.lemmas.Bool.{false≢true}
-use Rattle.rpki_tal.specs.LocatorFaults.{RejectsTal}
-use Rattle.rpki_tal.specs.declared.tal_error.TalError.{TalError}
-use Rattle.rpki_tal.specs.declared.tal_error.TalError.TheVariants.{NoText, BadUri, NoUri, NoKey, BadKey, Memory}
+use Rattle.rpki_keys.specs.LocatorFaults.{RejectsTal}
+use Rattle.rpki_keys.specs.declared.tal.tal_error.TalError.{TalError}
+use Rattle.rpki_keys.specs.declared.tal.tal_error.TalError.TheVariants.{NoText, BadUri, NoUri, NoKey, BadKey, Memory}
 use Rattle.rpki_files.specs.LocatorFiles.{AreLocator}
 use Rattle.rpki_files.proofs.locators.read_locator.Goals as goal
 

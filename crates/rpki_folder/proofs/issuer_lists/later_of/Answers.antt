@@ -1,7 +1,7 @@
 use Rattle.std.specs.Prelude.{option_copied}
 use Rattle.std.proofs.Common.{refl}
 use Rattle.std.proofs.lemmas.Bool.{false≢true}
-use Rattle.rpki_revocation.proofs.LatestLists.{kept_next, kept_same}
+use Rattle.rpki_path.proofs.LatestLists.{kept_next, kept_same}
 use Rattle.rpki_folder.proofs.issuer_lists.later_of.Goals as goal
 
 pub returns-then-goes_first : goal.returns-then-goes_first

@@ -2,7 +2,7 @@ use Rattle.std.specs.Prelude.{List, option_copied}
 use Rattle.std.proofs.Common.{◌≡◌, ◌+◌, suc, map, take, sym, subst, arith}
 use Rattle.rpki_crl.proofs.Loops.{taken_more}
 use Rattle.rpki_crl.specs.Lists.{CrlState}
-use Rattle.rpki_revocation.specs.AskedLists.Steps.{IsLatestIfAny}
+use Rattle.rpki_path.specs.AskedLists.Steps.{IsLatestIfAny}
 use Rattle.rpki_folder.proofs.issuer_lists.latest.Goals as goal
 
 pub loop-list-preserved : goal.loop-list-preserved

@@ -1,6 +1,6 @@
 use Rattle.std.specs.Prelude.{option_copied}
 use Rattle.std.proofs.Common.{map, take}
-use Rattle.rpki_revocation.specs.AskedLists.Steps.{IsLatestIfAny}
+use Rattle.rpki_path.specs.AskedLists.Steps.{IsLatestIfAny}
 use Rattle.rpki_folder.proofs.issuer_lists.latest.Given as goal
 
 abbrev pub invariant-loop-list : goal.invariant-loop-list

@@ -1,5 +1,5 @@
 use Rattle.rpki_cert.specs.Verification.{context}
-use Rattle.rpki_revocation.specs.AskedLists.{by_lists}
+use Rattle.rpki_path.specs.AskedLists.{by_lists}
 use Rattle.rpki_folder.proofs.Renamed.{reached_there}
 use Rattle.rpki_folder.proofs.laws.blind_to_order.Goals as goal
 

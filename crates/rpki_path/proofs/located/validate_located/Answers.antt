@@ -1,6 +1,6 @@
 use Rattle.std.proofs.Common.{rules, ◌≡◌, Err, ℕ, List, subst}
 use Rattle.rpki_cert.specs.Verification.{context}
-use Rattle.rpki_revocation.specs.Asking.{by_uri}
+use Rattle.rpki_path.specs.Asking.{by_uri}
 use Rattle.rpki_path.specs.LocatedPaths.{ValidatesFrom}
 use Rattle.rpki_path.specs.Paths.{candidates}
 use Rattle.rpki_path.specs.Paths.Steps.{IsUnread}

@@ -1,5 +1,5 @@
 use Rattle.rpki_cert.specs.Verification.{context}
-use Rattle.rpki_revocation.specs.Asking.{nobody, by_uri}
+use Rattle.rpki_path.specs.Asking.{nobody, by_uri}
 use Rattle.rpki_path.proofs.Routers.{no_router_at, no_router_asked}
 use Rattle.rpki_path.proofs.router.validate_router.Goals as goal
 

@@ -1,6 +1,6 @@
 use Rattle.std.proofs.Common.{ℕ, List, rc_value, subst}
 use Rattle.rpki_cert.specs.Verification.{context}
-use Rattle.rpki_revocation.specs.Asking.{nobody}
+use Rattle.rpki_path.specs.Asking.{nobody}
 use Rattle.rpki_path.specs.Paths.{candidates, Validates}
 use Rattle.rpki_path.proofs.Headlines.{headline, never_asked}
 use Rattle.rpki_path.proofs.validating.validate_path.Goals as goal

@@ -1,6 +1,6 @@
 use Rattle.std.proofs.Common.{ℕ, List, rc_value, subst}
 use Rattle.rpki_cert.specs.Verification.{context}
-use Rattle.rpki_revocation.specs.Asking.{by_uri}
+use Rattle.rpki_path.specs.Asking.{by_uri}
 use Rattle.rpki_path.specs.Paths.{candidates, Validates}
 use Rattle.rpki_path.proofs.Headlines.{headline}
 use Rattle.rpki_path.proofs.validating.validate_path_with.Goals as goal

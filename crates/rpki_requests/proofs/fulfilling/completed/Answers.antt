@@ -2,7 +2,7 @@ use Rattle.std.specs.Prelude.{option_map}
 use Rattle.std.proofs.Common.{◌≡◌, ℕ, List, [], ◌∷◌, Bor, Option, rules, sym, subst, ◌∙◌}
 use Rattle.rpki.specs.Verification.{ResourceFields}
 use Rattle.rpki_files.specs.Files.{contents}
-use Rattle.rpki_wanted.proofs.SameRoles.{on_ok, on_err}
+use Rattle.rpki_issuing.proofs.SameRoles.{on_ok, on_err}
 use Rattle.rpki_requests.specs.Fulfilment.{CompletesAs}
 use Rattle.rpki_requests.specs.RequestFiles.{AreOneIssuer}
 use Rattle.rpki_requests.specs.RequestWords.Views.{asked_fields}

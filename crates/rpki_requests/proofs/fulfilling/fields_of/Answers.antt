@@ -3,7 +3,7 @@ use Rattle.std.proofs.Common.{Bor, Option, ap, ◌∙◌}
 use Rattle.rpki.specs.Certificates.{TbsFields}
 use Rattle.rpki.specs.Verification.{ResourceFields}
 use Rattle.rpki_files.specs.Files.{contents}
-use Rattle.rpki_wanted.specs.AskedFields.{fields_asked}
+use Rattle.rpki_issuing.specs.AskedFields.{fields_asked}
 use Rattle.rpki_requests.specs.OptionValues.{GivesWanted}
 use Rattle.rpki_requests.specs.RequestFiles.{IsKeyFile}
 use Rattle.rpki_requests.specs.RequestWords.Views.{asked_fields}

@@ -2,8 +2,8 @@ use Rattle.std.proofs.Common.{ap, subst, sym, ◌∙◌}
 use Rattle.std.proofs.lemmas.Bool.{false≢true}
 use Rattle.rpki.specs.Lists.{IsTbsCertList, ListFields}
 use Rattle.rpki.specs.RevokedEntries.{Revoked}
-use Rattle.rpki_wanted.specs.WantedLists.{IsListCompleted}
-use Rattle.rpki_wanted.proofs.WholeOctets.{whole_only}
+use Rattle.rpki_issuing.specs.WantedLists.{IsListCompleted}
+use Rattle.rpki_issuing.proofs.WholeOctets.{whole_only}
 use Rattle.rpki_requests.proofs.fulfilling.list_completed_below.Goals as goal
 
 pub returns-then-not-is_list_named-clause-refused : goal.returns-then-not-is_list_named-clause-refused

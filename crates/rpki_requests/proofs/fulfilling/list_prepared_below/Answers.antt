@@ -2,7 +2,7 @@ use Rattle.std.specs.Prelude.{Err}
 use Rattle.std.proofs.Common.{◌≡◌, rules, subst}
 use Rattle.rpki.specs.Lists.{ListFields}
 use Rattle.rpki.specs.RevokedEntries.{Revoked}
-use Rattle.rpki_wanted.specs.WantedLists.{IsListPrepared}
+use Rattle.rpki_issuing.specs.WantedLists.{IsListPrepared}
 use Rattle.rpki_requests.proofs.fulfilling.list_prepared_below.Goals as goal
 
 pub returns-in_err-list-clause-refused : goal.returns-in_err-list-clause-refused

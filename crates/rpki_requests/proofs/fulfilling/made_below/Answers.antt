@@ -3,7 +3,7 @@ use Rattle.std.proofs.Common.{◌≡◌, ℕ, List, Bor, rules, sym, subst}
 use Rattle.rpki.specs.Lists.{IsTbsCertList, ListFields}
 use Rattle.rpki.specs.RevokedEntries.{Revoked}
 use Rattle.rpki.specs.Verification.{ResourceFields}
-use Rattle.rpki_values.specs.OnlyValues.{IsOnly}
+use Rattle.rpki_issuing.specs.OnlyValues.{IsOnly}
 use Rattle.rpki_requests.specs.Fulfilment.{CompletesAs, CompletesListBelow}
 use Rattle.rpki_requests.specs.RequestWords.Views.{asked_fields}
 use Rattle.rpki_requests.proofs.AskedLists.{none_as_certificate, none_as_list, none_without}

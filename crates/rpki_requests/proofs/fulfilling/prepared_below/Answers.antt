@@ -2,7 +2,7 @@ use Rattle.std.specs.Prelude.{Err, option_map}
 use Rattle.std.proofs.Common.{◌≡◌, Bor, rules, subst}
 use Rattle.rpki.specs.Certificates.{TbsFields}
 use Rattle.rpki.specs.Verification.{ResourceFields}
-use Rattle.rpki_wanted.specs.PreparedOctets.{IsPrepared}
+use Rattle.rpki_issuing.specs.PreparedOctets.{IsPrepared}
 use Rattle.rpki_requests.proofs.fulfilling.prepared_below.Goals as goal
 
 pub returns-in_err-tbs-clause-refused : goal.returns-in_err-tbs-clause-refused

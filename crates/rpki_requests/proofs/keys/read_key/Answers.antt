@@ -2,7 +2,7 @@ use Rattle.std.proofs.Common.{rules}
 use Rattle.rpki.specs.Keys.{IsPublicKey, public_key_format}
 use Rattle.rpki_der.proofs.FormatAnswers.{alone_means}
 use Rattle.rpki_parts.proofs.PartFormats.{public_key_alone}
-use Rattle.rpki_wanted.proofs.WholeOctets.{whole_only}
+use Rattle.rpki_issuing.proofs.WholeOctets.{whole_only}
 use Rattle.rpki_requests.proofs.keys.read_key.Goals as goal
 
 pub returns-in-Ok : goal.returns-in-Ok

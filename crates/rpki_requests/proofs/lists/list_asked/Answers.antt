@@ -4,8 +4,8 @@ use Rattle.rpki.specs.Certificates.{TbsFields}
 use Rattle.rpki.specs.Lists.{CrlState, ListFields}
 use Rattle.rpki.specs.RevokedEntries.{Revoked}
 use Rattle.rpki_files.specs.Files.{contents}
-use Rattle.rpki_values.specs.OnlyValues.{IsOnly}
-use Rattle.rpki_wanted.specs.WantedLists.{IsListWanted}
+use Rattle.rpki_issuing.specs.OnlyValues.{IsOnly}
+use Rattle.rpki_issuing.specs.WantedLists.{IsListWanted}
 use Rattle.rpki_requests.specs.OptionValues.{GivesList}
 use Rattle.rpki_requests.specs.RequestFiles.{IsPreviousOf}
 use Rattle.rpki_requests.specs.RequestWords.Views.{asked_fields}

@@ -2,7 +2,7 @@ use Rattle.std.proofs.Common.{sym, ◌∙◌}
 use Rattle.std.proofs.lemmas.Bool.{false≢true}
 use Rattle.rpki.specs.Lists.{IsTbsCertList}
 use Rattle.rpki.specs.Place.{remaining}
-use Rattle.rpki_wanted.proofs.WholeOctets.{none_whole, unread_whole, whole_is, whole_only}
+use Rattle.rpki_issuing.proofs.WholeOctets.{none_whole, unread_whole, whole_is, whole_only}
 use Rattle.rpki_requests.proofs.lists.list_to_sign.Goals as goal
 
 pub returns-then-is_empty : goal.returns-then-is_empty

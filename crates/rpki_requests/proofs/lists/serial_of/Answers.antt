@@ -1,7 +1,7 @@
 use Rattle.std.proofs.Common.{◌≡◌, ℕ, sym, ap, subst, ◌∙◌}
 use Rattle.std.proofs.lemmas.Bool.{false≢true}
 use Rattle.rpki.specs.Certificates.{TbsFields}
-use Rattle.rpki_values.specs.OnlyValues.{IsOnly}
+use Rattle.rpki_issuing.specs.OnlyValues.{IsOnly}
 use Rattle.rpki_requests.specs.RequestFiles.{IsRevokedFile}
 use Rattle.rpki_requests.proofs.RevokedFiles.{revoked_is, revoked_not}
 use Rattle.rpki_requests.proofs.lists.serial_of.Goals as goal

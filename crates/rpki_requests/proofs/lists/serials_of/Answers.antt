@@ -3,8 +3,8 @@ use Rattle.std.proofs.Common.{◌≡◌, ◌+◌, ◌<◌, ◌≤◌, ◌++◌, 
 use Rattle.std.proofs.lemmas.List.{take_all}
 use Rattle.std.proofs.lemmas.Result.{err_from_is_err_and}
 use Rattle.rpki_files.specs.Files.{FileFields}
-use Rattle.rpki_values.specs.OnlyValues.{IsOnly}
-use Rattle.rpki_values.proofs.ZippedTexts.{only_none}
+use Rattle.rpki_issuing.specs.OnlyValues.{IsOnly}
+use Rattle.rpki_issuing.proofs.ZippedTexts.{only_none}
 use Rattle.rpki_requests.specs.RequestFiles.{IsRevokedFile}
 use Rattle.rpki_requests.proofs.PlaceByPlace.{AreOnlySoFar, none_there, one_on}
 use Rattle.rpki_requests.proofs.lists.serials_of.Goals as goal

@@ -1,9 +1,9 @@
 use Rattle.std.proofs.Common.{◌≡◌, ◌+◌, ◌≤◌, ◌++◌, ◌∷◌, [], ℕ, List, Bor, length, map, take, get_or, rules, sym, subst}
 use Rattle.std.specs.List.{AllZip}
 use Rattle.std.proofs.lemmas.List.{take_all}
-use Rattle.rpki_values.specs.OnlyValues.{IsOnly}
-use Rattle.rpki_values.specs.ValueTexts.{IsSerialText}
-use Rattle.rpki_values.proofs.ZippedTexts.{take_more, only_more, only_none, none_at}
+use Rattle.rpki_issuing.specs.OnlyValues.{IsOnly}
+use Rattle.rpki_issuing.specs.ValueTexts.{IsSerialText}
+use Rattle.rpki_issuing.proofs.ZippedTexts.{take_more, only_more, only_none, none_at}
 use Rattle.rpki_requests.proofs.lists.serials_said.Goals as goal
 
 pub loop-text-init : goal.loop-text-init

@@ -1,7 +1,7 @@
 use Rattle.std.proofs.Common.{ℕ, List, take, map}
 use Rattle.std.specs.List.{AllZip}
-use Rattle.rpki_values.specs.OnlyValues.{IsOnly}
-use Rattle.rpki_values.specs.ValueTexts.{IsSerialText}
+use Rattle.rpki_issuing.specs.OnlyValues.{IsOnly}
+use Rattle.rpki_issuing.specs.ValueTexts.{IsSerialText}
 use Rattle.rpki_requests.proofs.lists.serials_said.Given as goal
 
 -- of the texts so far these are the only ones

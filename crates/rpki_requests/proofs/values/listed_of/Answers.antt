@@ -1,8 +1,8 @@
 use Rattle.std.specs.Prelude.{map}
 use Rattle.std.proofs.Common.{◌≡◌, ℕ, List, Bor, sym, ap, subst, ◌∙◌}
 use Rattle.rpki.specs.Resources.{Resources}
-use Rattle.rpki_values.specs.BlockTexts.{AreListed}
-use Rattle.rpki_values.specs.OnlyValues.{IsOnly}
+use Rattle.rpki_issuing.specs.BlockTexts.{AreListed}
+use Rattle.rpki_issuing.specs.OnlyValues.{IsOnly}
 use Rattle.rpki_requests.specs.RequestWords.{values_of}
 use Rattle.rpki_requests.specs.RequestWords.Views.{given_fields}
 use Rattle.rpki_requests.proofs.values.listed_of.Goals as goal

@@ -1,6 +1,6 @@
 use Rattle.std.specs.Prelude.{fold, map}
 use Rattle.std.proofs.Common.{◌≡◌, take}
-use Rattle.rpki_arguments.specs.CommandLines.Views.{word_octets}
+use Rattle.rpki_text.specs.CommandLines.Views.{word_octets}
 use Rattle.rpki_requests.specs.RequestWords.{file, with_part}
 use Rattle.rpki_requests.specs.RequestWords.Views.{asked_fields}
 use Rattle.rpki_requests.proofs.words.add_files.Given as goal

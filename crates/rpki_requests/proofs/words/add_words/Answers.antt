@@ -1,6 +1,6 @@
 use Rattle.std.specs.Prelude.{None}
 use Rattle.std.proofs.Common.{rules, ◌≡◌, Err, refl}
-use Rattle.rpki_arguments.proofs.WordByWord.{value_added, word_added, word_rejected, option_awaits, value_awaited, word_wrong, option_wrong}
+use Rattle.rpki_text.proofs.WordByWord.{value_added, word_added, word_rejected, option_awaits, value_awaited, word_wrong, option_wrong}
 use Rattle.rpki_requests.specs.RequestMisuses.{IsWrongFirst}
 use Rattle.rpki_requests.specs.RequestWords.{option, with_part}
 use Rattle.rpki_requests.specs.RequestWords.Views.{asked_fields}

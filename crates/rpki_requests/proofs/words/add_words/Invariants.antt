@@ -1,6 +1,6 @@
 use Rattle.std.proofs.Common.{take}
-use Rattle.rpki_arguments.specs.CommandLines.Views.{word_octets}
-use Rattle.rpki_arguments.proofs.WordByWord.{AreAdded}
+use Rattle.rpki_text.specs.CommandLines.Views.{word_octets}
+use Rattle.rpki_text.proofs.WordByWord.{AreAdded}
 use Rattle.rpki_requests.specs.RequestWords.{with_part}
 use Rattle.rpki_requests.specs.RequestWords.Views.{asked_fields}
 use Rattle.rpki_requests.proofs.RequestParts.{request_grammar}

@@ -1,6 +1,6 @@
 use Rattle.std.proofs.Common.{rules, ◌≡◌, ◌∷◌, ◌∙◌, [], List, ℕ, ap, codes, inl, inr, sym}
 use Rattle.std.proofs.lemmas.Bool.{true≢false}
-use Rattle.rpki_arguments.specs.CommandLines.Views.{word_octets}
+use Rattle.rpki_text.specs.CommandLines.Views.{word_octets}
 use Rattle.rpki_requests.proofs.words.errand_of.Goals as goal
 
 pub returns-then-not-is-clause-told : goal.returns-then-not-is-clause-told

@@ -2,8 +2,8 @@ use Rattle.std.specs.Prelude.{Contains}
 use Rattle.std.specs.declared.vec.Vec.{Vec}
 use Rattle.std.proofs.Common.{◌≡◌, ◌<◌, ◌≤◌, ℕ, List, length, get_or, refl, sym, ◌∙◌, arith, below_more}
 use Rattle.std.proofs.lemmas.Bool.{false≢true}
-use Rattle.rpki_arguments.specs.CommandLines.Views.{word_octets}
-use Rattle.rpki_arguments.proofs.WordByWord.{octets_at, octets_length}
+use Rattle.rpki_text.specs.CommandLines.Views.{word_octets}
+use Rattle.rpki_text.proofs.WordByWord.{octets_at, octets_length}
 use Rattle.rpki_requests.proofs.words.has_word.Goals as goal
 
 module _ {Z : Type 0} (words : List (Vec ℕ Z)) (i : ℕ) (text : List ℕ) where

@@ -1,6 +1,6 @@
 use Rattle.std.proofs.Common.{rules, ◌≡◌, ◌∷◌, ◌∙◌, inl, inr, sym}
 use Rattle.std.proofs.lemmas.Bool.{true≢false}
-use Rattle.rpki_arguments.specs.CommandLines.Views.{word_octets}
+use Rattle.rpki_text.specs.CommandLines.Views.{word_octets}
 use Rattle.rpki_requests.proofs.OneErrand.{first_is}
 use Rattle.rpki_requests.proofs.words.is_request.Goals as goal
 

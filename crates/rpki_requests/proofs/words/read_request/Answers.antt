@@ -1,7 +1,7 @@
 use Rattle.std.specs.Prelude.{fold, map}
 use Rattle.std.proofs.Common.{rules, ◌≡◌, ◌∙◌, ℕ, List, Err, ap, inl, inr, sym, subst}
-use Rattle.rpki_arguments.specs.CommandLines.Views.{word_octets}
-use Rattle.rpki_arguments.specs.WordParts.{AddsParts, AreInOrder, IsFirstWrong}
+use Rattle.rpki_text.specs.CommandLines.Views.{word_octets}
+use Rattle.rpki_text.specs.WordParts.{AddsParts, AreInOrder, IsFirstWrong}
 use Rattle.rpki_requests.specs.RequestMisuses.{IsWrongFirst}
 use Rattle.rpki_requests.specs.RequestWords.{AskedFields, IsRequestPart, file, only_errand, with_part}
 use Rattle.rpki_requests.specs.RequestWords.Views.{asked_fields}

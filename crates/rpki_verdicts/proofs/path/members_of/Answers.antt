@@ -1,6 +1,6 @@
 use Rattle.std.proofs.Common.{◌++◌, ◌∷◌, [], ℕ, List, take, sym, ap, ◌∙◌}
 use Rattle.rpki_files.specs.Files.{contents}
-use Rattle.rpki_revocation.proofs.LatestLists.{gone_over}
+use Rattle.rpki_path.proofs.LatestLists.{gone_over}
 use Rattle.rpki_verdicts.proofs.MappedItems.{mapped_low, mapped_there}
 use Rattle.rpki_verdicts.proofs.path.members_of.Goals as goal
 

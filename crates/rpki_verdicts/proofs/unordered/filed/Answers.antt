@@ -1,7 +1,7 @@
 use Rattle.std.proofs.Common.{List, map, take, sym, subst}
 use Rattle.std.proofs.lemmas.List.{take_all}
 use Rattle.rpki_files.specs.Files.{FileFields}
-use Rattle.rpki_revocation.proofs.LatestLists.{gone_over}
+use Rattle.rpki_path.proofs.LatestLists.{gone_over}
 use Rattle.rpki_verdicts.specs.Trees.{IsFolderOf}
 use Rattle.rpki_verdicts.proofs.unordered.filed.Goals as goal
 

@@ -4,7 +4,7 @@ use Rattle.std.proofs.lemmas.List.{map-append}
 use Rattle.std.proofs.lemmas.Result.{IfOk-weaker}
 use Rattle.serde_json.specs.Data.{Data, object}
 use Rattle.serde_json.specs.View.{view}
-use Rattle.rpki_arguments.specs.declared.arguments.Format.TheVariants.{JsonLines}
+use Rattle.rpki_text.specs.declared.command_line.arguments.Format.TheVariants.{JsonLines}
 use Rattle.rpki_cert.proofs.Reordering.{all_append}
 use Rattle.rpki_answers.specs.JsonTexts.{values_text}
 use Rattle.rpki_answers.specs.JsonValues.{object_of}

@@ -1,6 +1,6 @@
 use Rattle.std.specs.List.{filter}
 use Rattle.std.proofs.Common.{◌≡◌, ◌++◌}
-use Rattle.rpki_arguments.specs.CommandLines.Views.{word_octets}
+use Rattle.rpki_text.specs.CommandLines.Views.{word_octets}
 use Rattle.rpki_command.specs.ListedFolders.{is_taken}
 use Rattle.rpki_command.proofs.folders.Names.push_taken.Given as goal
 

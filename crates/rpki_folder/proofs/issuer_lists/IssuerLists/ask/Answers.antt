@@ -1,6 +1,6 @@
 use Rattle.std.proofs.Common.{◌≡◌, List, [], ◌∷◌, map, refl, sym, ap, ◌∙◌, inl}
 use Rattle.rpki_crl.specs.Lists.{CrlState}
-use Rattle.rpki_revocation.specs.AskedLists.Steps.{HaveNone}
+use Rattle.rpki_path.specs.AskedLists.Steps.{HaveNone}
 use Rattle.rpki_folder.specs.IssuerLists.{IssuerFields}
 use Rattle.rpki_folder.proofs.issuer_lists.IssuerLists.ask.Goals as goal
 

@@ -5,7 +5,7 @@ use Rattle.std.proofs.lemmas.List.{append-nil, length-append, take_more, take_al
 use Rattle.std.proofs.lemmas.List.Elements.{Contains-get_or}
 use Rattle.rpki_cert.specs.Certificates.{TbsFields, CertFields}
 use Rattle.rpki_cert.specs.Verification.{context, ResourceFields}
-use Rattle.rpki_revocation.specs.AskedLists.{by_lists}
+use Rattle.rpki_path.specs.AskedLists.{by_lists}
 use Rattle.rpki_folder.specs.Folders.{octets_at, ArePlacesOf}
 use Rattle.rpki_folder.specs.Walks.{Told, told, AreUsedUp, TellsBelow}
 use Rattle.rpki_folder.specs.Walks.Steps.{IsOutcome}

@@ -1,6 +1,6 @@
 use Rattle.std.proofs.Common.{◌≡◌, ◌+◌, ◌*◌, List, ◌++◌, length, take}
 use Rattle.rpki_cert.specs.Verification.{context}
-use Rattle.rpki_revocation.specs.AskedLists.{by_lists}
+use Rattle.rpki_path.specs.AskedLists.{by_lists}
 use Rattle.rpki_folder.specs.Walks.{Told}
 use Rattle.rpki_folder.specs.declared.bounds.Ended.TheVariants.{OutOfSteps}
 use Rattle.rpki_folder.proofs.Descent.{SoFar}

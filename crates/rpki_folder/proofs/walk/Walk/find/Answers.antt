@@ -1,7 +1,7 @@
 use Rattle.std.specs.Prelude.{Option, None, Some}
 use Rattle.std.proofs.Common.{refl, sym, subst, ◌∙◌}
 use Rattle.rpki_cert.specs.Verification.{context}
-use Rattle.rpki_revocation.specs.AskedLists.{by_lists}
+use Rattle.rpki_path.specs.AskedLists.{by_lists}
 use Rattle.rpki_folder.specs.Searches.{IsSought}
 use Rattle.rpki_folder.specs.Walks.{at_anchor}
 use Rattle.rpki_folder.specs.declared.find.FoundPath.{FoundPath}

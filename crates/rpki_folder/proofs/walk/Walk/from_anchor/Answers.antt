@@ -1,6 +1,6 @@
 use Rattle.std.proofs.Common.{[], arith}
 use Rattle.rpki_cert.specs.Verification.{context}
-use Rattle.rpki_revocation.specs.AskedLists.{by_lists}
+use Rattle.rpki_path.specs.AskedLists.{by_lists}
 use Rattle.rpki_folder.specs.Walks.{at_anchor, AreUsedUp, IsTooDeep, IsComplete}
 use Rattle.rpki_folder.proofs.Descent.{if_err}
 use Rattle.rpki_folder.proofs.walk.Walk.from_anchor.Goals as goal

@@ -3,7 +3,7 @@ use Rattle.rpki_parts.specs.Conditions.{IsFirstFalse}
 use Rattle.rpki_cert.specs.Certificates.{CertFields}
 use Rattle.rpki_cert.specs.Verification.{context, IsVerified}
 use Rattle.rpki_crl.specs.Revocation.{revocation_checks}
-use Rattle.rpki_revocation.specs.AskedLists.{by_lists}
+use Rattle.rpki_path.specs.AskedLists.{by_lists}
 use Rattle.rpki_path.specs.declared.path_fault.PathFault.TheVariants.{Revocation}
 use Rattle.rpki_path.specs.Paths.Steps.{kind_of}
 use Rattle.rpki_folder.specs.Folders.{octets_at}

@@ -2,7 +2,7 @@ use Rattle.std.proofs.Common.{rules, ◌≡◌, Err}
 use Rattle.rpki_parts.specs.Conditions.{IsFirstFalse}
 use Rattle.rpki_cert.specs.Verification.{context, IsVerified}
 use Rattle.rpki_crl.specs.Revocation.{revocation_checks}
-use Rattle.rpki_revocation.specs.AskedLists.{by_lists}
+use Rattle.rpki_path.specs.AskedLists.{by_lists}
 use Rattle.rpki_path.specs.declared.path_fault.PathFault.TheVariants.{Revocation}
 use Rattle.rpki_folder.specs.Folders.{octets_at}
 use Rattle.rpki_folder.proofs.IssuersList.{as_all}

@@ -1,6 +1,6 @@
 use Rattle.std.proofs.Common.{Err, refl}
 use Rattle.rpki_cert.specs.Verification.{context}
-use Rattle.rpki_revocation.specs.AskedLists.{by_lists}
+use Rattle.rpki_path.specs.AskedLists.{by_lists}
 use Rattle.rpki_folder.specs.Folders.{octets_at}
 use Rattle.rpki_folder.proofs.StepAnswers.{member_rejected}
 use Rattle.rpki_folder.proofs.walk.Walk.tell_member.Goals as goal

@@ -1,6 +1,6 @@
 use Rattle.std.proofs.Common.{◌≡◌, ℕ, List, IfErr, subst, ◌∙◌}
 use Rattle.rpki_cert.specs.Verification.{context}
-use Rattle.rpki_revocation.specs.Asking.{nobody}
+use Rattle.rpki_path.specs.Asking.{nobody}
 use Rattle.rpki_path.specs.Paths.{Finds}
 use Rattle.rpki_path.specs.Paths.Steps.{kind_of, demand_under}
 use Rattle.rpki_folder.specs.Folders.{octets_at}

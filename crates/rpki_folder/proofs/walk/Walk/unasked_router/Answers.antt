@@ -2,7 +2,7 @@ use Rattle.std.proofs.Common.{◌≡◌, ℕ, List, IfOk, IfErr, subst, ◌∙�
 use Rattle.rpki_ext.specs.Kinds.{Means}
 use Rattle.rpki_cert.specs.Certificates.{IsCertificate}
 use Rattle.rpki_cert.specs.Verification.{context}
-use Rattle.rpki_revocation.specs.Asking.{nobody}
+use Rattle.rpki_path.specs.Asking.{nobody}
 use Rattle.rpki_path.specs.Paths.{Finds}
 use Rattle.rpki_path.specs.Routers.{router_demand}
 use Rattle.rpki_folder.specs.Folders.{octets_at}

@@ -1,6 +1,6 @@
 use Rattle.std.proofs.Common.{rules, ◌≡◌, Err, rc_value}
 use Rattle.rpki_cert.specs.Verification.{context}
-use Rattle.rpki_revocation.specs.AskedLists.{by_lists}
+use Rattle.rpki_path.specs.AskedLists.{by_lists}
 use Rattle.rpki_path.specs.LocatedPaths.{BeginsWithKey}
 use Rattle.rpki_folder.proofs.StepAnswers.{unread_top, anchor_leads, anchor_wrong}
 use Rattle.rpki_folder.proofs.walk.Walk.validated_anchor.Goals as goal

@@ -1,7 +1,0 @@
-use Rattle.std.proofs.Common.{◌≡◌, take}
-use Rattle.rpki_arguments.specs.CommandLines.{with_files}
-use Rattle.rpki_arguments.specs.CommandLines.Views.{word_octets, fields_of}
-use Rattle.rpki_arguments.proofs.arguments.add_files.Given as goal
-
-abbrev pub invariant-loop-word : goal.invariant-loop-word
-invariant-loop-word l = fields_of l.request ≡ with_files (fields_of l.fn.request) (word_octets (take l.word-index l.words))

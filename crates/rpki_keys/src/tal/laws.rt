@@ -1,0 +1,15 @@
+//! What follows from the definitions of locators alone. Each law is the contract of an empty
+//! function.
+ghost use Rattle.std.specs.Prelude.{◌≡◌, ℕ, List, Bool, true, false};
+ghost use Rattle.rpki_keys.specs.Locators.{IsLocator, TalFields};
+
+/// Says that a file is at most one locator: it names one sequence of URIs, and one key.
+pub fn unambiguous()
+    ensures { (strict other : Bool) (t u : TalFields) (file : List ℕ)
+        → IsLocator strict t file → IsLocator other u file → t ≡ u }
+{}
+
+/// Says that what is a locator strictly is that locator leniently.
+pub fn lenient()
+    ensures { (t : TalFields) (file : List ℕ) → IsLocator true t file → IsLocator false t file }
+{}

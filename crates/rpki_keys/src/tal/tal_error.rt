@@ -1,0 +1,66 @@
+//! Why a file isn't a locator.
+use std::alloc::AllocError;
+use thiserror::Error;
+
+/// Why a file isn't a locator: what is wrong first, from its beginning on.
+#[derive(Debug, Drop, Error)]
+pub enum TalError {
+    /// The file, which was read strictly, isn't UTF-8.
+    #[error("not UTF-8 text")]
+    NoText,
+    /// A line of the URI section is neither an rsync nor an https URI.
+    #[error("bad URI")]
+    BadUri,
+    /// The URI section is empty.
+    #[error("no URI")]
+    NoUri,
+    /// The file ends before the empty line behind the URIs.
+    #[error("no key")]
+    NoKey,
+    /// What follows the empty line isn't a public key in base64.
+    #[error("bad key")]
+    BadKey,
+    #[error("out of memory")]
+    Memory,
+}
+
+impl TalError {
+    ghost use Rattle.std.specs.Prelude.{◌≡◌, ◌↔◌, IsTrue};
+    ghost use Rattle.rpki_keys.specs.TalErrors.{tal_error_name};
+    ghost use Rattle.rpki_keys.specs.declared.tal.tal_error.TalError.TheVariants.{Memory};
+
+    /// Returns the variant's name.
+    pub fn name(&self) -> &'static str
+        ensures { result.now ≡ tal_error_name self.now }
+    {
+        match self {
+            TalError::NoText => "NoText",
+            TalError::BadUri => "BadUri",
+            TalError::NoUri => "NoUri",
+            TalError::NoKey => "NoKey",
+            TalError::BadKey => "BadKey",
+            TalError::Memory => "Memory",
+        }
+    }
+
+    /// Tells whether memory ran out.
+    pub fn is_memory(&self) -> bool
+        ensures { IsTrue result ↔ self.now ≡ Memory }
+    {
+        match self {
+            TalError::Memory => true,
+            _ => false,
+        }
+    }
+}
+
+impl From<AllocError> for TalError {
+    ghost use Rattle.std.specs.Prelude.{◌≡◌};
+    ghost use Rattle.rpki_keys.specs.declared.tal.tal_error.TalError.TheVariants.{Memory};
+
+    ghost from_gives = { λ _ e. e ≡ Memory };
+
+    fn from(_error: AllocError) -> TalError {
+        TalError::Memory
+    }
+}

@@ -1,0 +1,86 @@
+-- Lists as a caller gives them: which of them is asked of a certificate below its issuer, and what
+-- (RFC 6487 5, 7.2, RFC 5280 6.3.3).
+use Rattle.std.specs.Prelude.{◌≡◌, ◌⊎◌, ◌↔◌, ◌<◌, List, ◌∷◌, ◌++◌, Some}
+use Rattle.std.specs.List.{AllByRecursion}
+use Rattle.rpki_der.specs.Sequences.{IsFirstWith}
+use Rattle.rpki_der.specs.Times.{Moment, second_number}
+use Rattle.rpki_parts.specs.Signatures.{Verifies}
+use Rattle.rpki_parts.specs.ValidAt.{IsNotAfter}
+use Rattle.rpki_cert.specs.Certificates.{TbsFields, CertFields}
+use Rattle.rpki_cert.specs.Verification.{Context, IsSignedBy}
+use Rattle.rpki_crl.specs.Lists.{CrlFields, CrlState}
+use Rattle.rpki_crl.specs.RevokedEntries.{IsRevoked}
+use Rattle.rpki_crl.specs.Revocation.{ListCheck, RevocationCheck}
+use Rattle.rpki_crl.specs.declared.revocation_error.RevocationError.{RevocationError}
+use Rattle.rpki_crl.specs.declared.revocation_error.RevocationError.TheVariants.{Stale}
+use Rattle.rpki_path.specs.Asking.{RevocationChecks}
+pub mod Steps
+
+-- ---- one list and one certificate
+
+-- the certificate names the key that signs it, and the list names that key (RFC 5280 5.2.1)
+abbrev pub IsFor : CertFields → CrlState → Type 0
+IsFor c l = c.fields.extensions.authority_key_identifier ≡ Some l.list.fields.extensions.authority_key_identifier
+
+-- the time of the list has begun: its thisUpdate is neither after the moment nor after its own
+-- nextUpdate (RFC 5280 5.1.2.4, 5.1.2.5, 6.3.3)
+abbrev pub HasBegun : Moment → CrlFields → Type 0
+HasBegun now list = IsNotAfter list.fields.this_update now × IsNotAfter list.fields.this_update list.fields.next_update
+
+-- the list can be asked of the certificate below the issuer: it is for the certificate, the
+-- issuer's key signed it, and its time has begun
+abbrev pub IsEligible : Verifies → Moment → TbsFields → CertFields → CrlState → Type 0
+IsEligible verifies now issuer c l = IsFor c l × IsSignedBy verifies issuer.key l.list.signed_data × HasBegun now l.list
+
+-- the list has the serial number of the certificate
+abbrev pub Revokes : CertFields → CrlState → Type 0
+Revokes c l = IsRevoked c.fields.serial l.list.fields.revoked.entries
+
+-- ---- which list takes the place of which
+
+-- of two lists of one number, which RFC 5280 5.2.3 forbids: it revokes the certificate and the other
+-- doesn't; or both do or both don't, and it is of a later moment (own: a list that revokes the
+-- certificate is never hidden)
+abbrev pub SupersedesEqual : CertFields → CrlState → CrlState → Type 0
+SupersedesEqual c l other =
+    (Revokes c l × (Revokes c other → ⊥))
+    ⊎ ((Revokes c l ↔ Revokes c other) × (second_number other.list.fields.this_update < second_number l.list.fields.this_update))
+
+-- the list takes the place of the other: it has the greater number (RFC 6487 5), or as told of
+-- equal numbers
+abbrev pub Supersedes : CertFields → CrlState → CrlState → Type 0
+Supersedes c l other =
+    (other.list.fields.extensions.crl_number < l.list.fields.extensions.crl_number)
+    ⊎ ((l.list.fields.extensions.crl_number ≡ other.list.fields.extensions.crl_number) × SupersedesEqual c l other)
+
+-- of the lists with P the latest for the certificate: it supersedes each that was given before it,
+-- and none that was given after it supersedes it
+pub record IsLatest (P : CrlState → Type 0) (c : CertFields) (lists : List CrlState) (l : CrlState) : Type 0 where
+  pub before : List CrlState
+  pub after : List CrlState
+  pub is : lists ≡ before ++ l ∷ after
+  pub has : P l
+  pub over_earlier : AllByRecursion (λ other. P other → Supersedes c l other) before
+  pub over_later : AllByRecursion (λ other. P other → Supersedes c other l → ⊥) after
+
+-- ---- which list is asked, and what
+
+-- The list that is asked of the certificate below its issuer: of those that are eligible the latest;
+-- where none is, the first that is for the certificate, which then fails a check (own).
+abbrev pub IsAskedOf : Context → List CrlState → TbsFields → CertFields → CrlState → Type 0
+IsAskedOf x lists issuer c l =
+    let P = IsEligible x.verifies x.now issuer c in
+    IsLatest P c lists l ⊎ (AllByRecursion (λ other. P other → ⊥) lists × IsFirstWith (IsFor c) l lists)
+
+-- the checks of a certificate with the lists that were given: those of the list that is asked of it,
+-- whose time has also to have begun
+abbrev pub by_lists : Context → List CrlState → RevocationChecks
+by_lists x lists issuer c Stale =
+    ((l : CrlState) → IsAskedOf x lists issuer c l → HasBegun x.now l.list) × RevocationCheck x issuer c.fields.serial (IsAskedOf x lists issuer c) Stale
+by_lists x lists issuer c e = RevocationCheck x issuer c.fields.serial (IsAskedOf x lists issuer c) e
+
+-- the list leaves the certificate below the issuer unrevoked: it names the issuer's key, that key
+-- signed it, its time has begun and its next update isn't due, and it doesn't have the serial number
+pub record LeavesUnrevoked (x : Context) (issuer : TbsFields) (c : CertFields) (list : CrlFields) : Type 0 where
+  pub begun : HasBegun x.now list
+  pub checks : (e : RevocationError) → ListCheck x issuer c.fields.serial list e

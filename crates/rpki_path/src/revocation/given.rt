@@ -1,0 +1,270 @@
+//! Lists as a caller gives them, of which the issuer's latest is asked.
+ghost use Rattle.std.specs.Prelude.{◌≡◌, ◌<◌, ◌↔◌, ◌++◌, ◌∷◌, [], List, IsTrue, IfSome, option_copied};
+ghost use Rattle.std.specs.Ordering.{MatchOrdering};
+ghost use Rattle.rpki_der.specs.Times.{second_number};
+ghost use Rattle.rpki_parts.specs.Conditions.{IsFirstFalse};
+ghost use Rattle.rpki_cert.specs.Verification.{context, IsSignedBy};
+ghost use Rattle.rpki_crl.specs.Lists.{CrlState};
+ghost use Rattle.rpki_crl.specs.Revocation.{revocation_checks};
+ghost use Rattle.rpki_path.specs.AskedLists.{IsFor, HasBegun, IsEligible, Revokes, SupersedesEqual, Supersedes, by_lists};
+ghost use Rattle.rpki_path.specs.AskedLists.Steps.{HaveNone, IsLatestIfAny, IsFirstIfAny};
+
+use crate::revocation::source::RevocationSource;
+use rpki_cert::{Cert, ResourceCert};
+use rpki_crl::{Crl, RevocationError};
+use rpki_der::Time;
+use rpki_parts::Verifier;
+use std::cmp::Ordering;
+use std::marker::Model;
+
+/// Revocation lists as a caller gives them, in any order and of any issuers. Of a certificate below
+/// its issuer the issuer's latest list is asked: of the lists that name the key that signed the
+/// certificate, that the issuer's key signed, and that aren't from after the moment or from after
+/// their own next update, the one with the greatest number (RFC 6487 5). Of lists of one number,
+/// which RFC 5280 5.2.3 forbids, one that revokes the certificate goes first, then the later one,
+/// then the one that was given first (own). A list that another key signed, or whose time hasn't
+/// begun, hides none. Where there is no such list, the first that names the key is asked, and fails
+/// a check: `BadSignature`, or `Stale` where its time hasn't begun; where none names it, the answer
+/// is `NoCrl`.
+///
+/// A list is looked up in its table where its serial numbers are cached ([`Crl::cache_serials`]),
+/// and else walked. Each signature is verified at most once a question. Asking takes no memory.
+#[derive(Drop)]
+pub struct GivenLists<'l> {
+    lists: &'l [Crl],
+}
+
+impl<'l> Model for GivenLists<'l> {
+    ghost use Rattle.std.specs.Prelude.{List};
+    ghost use Rattle.rpki_crl.specs.Lists.{CrlState};
+
+    ghost Value = { List CrlState };
+
+    ghost view = { λ given. given.lists.now };
+}
+
+impl<'l> GivenLists<'l> {
+    /// Makes a source of these lists.
+    pub fn new(lists: &'l [Crl]) -> GivenLists<'l>
+        ensures { result ≡ lists.now }
+    {
+        GivenLists { lists }
+    }
+}
+
+// Whether the list names the key that the certificate names as the one that signs it.
+fn is_for(list: &Crl, cert: &Cert) -> bool
+    ensures { IsTrue result ↔ IsFor cert.now list.now }
+{
+    let named = *list.as_cert_list().authority_key_identifier();
+    cert.as_tbs().authority_key_identifier() == Some(named)
+}
+
+/// Tells whether the time of the list has begun: its thisUpdate is neither after the moment nor after
+/// its own nextUpdate (RFC 5280 5.1.2.4, 5.1.2.5, 6.3.3).
+pub fn has_begun(list: &Crl, now: Time) -> bool
+    ensures { IsTrue result ↔ HasBegun now list.now.list }
+{
+    let made = list.as_cert_list().this_update();
+    made <= now && made <= list.as_cert_list().next_update()
+}
+
+// Whether the issuer's key signed the list.
+fn is_signed_by<V: Verifier>(list: &Crl, issuer: &ResourceCert, verifier: &V) -> bool
+    ensures { let key = issuer.now.cert.fields.key in
+        IsTrue result ↔ IsSignedBy (V.verifies verifier.now) key list.now.list.signed_data }
+{
+    let key = issuer.as_cert().as_tbs().subject_public_key_info();
+    list.verify_signature(key, verifier).is_ok()
+}
+
+// Whether the list has the serial number of the certificate.
+fn revokes(list: &Crl, cert: &Cert) -> bool
+    ensures { IsTrue result ↔ Revokes cert.now list.now }
+{
+    list.contains(cert.as_tbs().serial_number())
+}
+
+// How the numbers of two lists compare.
+fn by_number(list: &Crl, other: &Crl) -> Ordering
+    ensures { let number = list.now.list.fields.extensions.crl_number in
+        let others = other.now.list.fields.extensions.crl_number in
+        MatchOrdering result (number < others) (number ≡ others) (others < number) }
+{
+    let number = list.as_cert_list().crl_number();
+    number.cmp(&other.as_cert_list().crl_number())
+}
+
+// Whether a list is of a later moment than another one.
+fn is_later(list: &Crl, other: &Crl) -> bool
+    ensures { let moment = list.now.list.fields.this_update in
+        let others = other.now.list.fields.this_update in
+        IsTrue result ↔ second_number others < second_number moment }
+{
+    list.as_cert_list().this_update() > other.as_cert_list().this_update()
+}
+
+// Whether a list takes the place of another one of the same number: one that revokes the
+// certificate goes first, and then the later one.
+fn supersedes_equal(list: &Crl, kept: &Crl, cert: &Cert) -> bool
+    ensures { IsTrue result ↔ SupersedesEqual cert.now list.now kept.now }
+{
+    let revoked = revokes(list, cert);
+    if revoked != revokes(kept, cert) {
+        return revoked;
+    }
+    is_later(list, kept)
+}
+
+/// Tells whether a list takes the place of another one of the same issuer, where it is asked of the
+/// certificate: the greater number supersedes (RFC 6487 5). Two different lists never have one number
+/// (RFC 5280 5.2.3); where they do, neither may hide that the other revokes the certificate.
+pub fn supersedes(list: &Crl, kept: &Crl, cert: &Cert) -> bool
+    ensures { IsTrue result ↔ Supersedes cert.now list.now kept.now }
+{
+    match by_number(list, kept) {
+        Ordering::Less => false,
+        Ordering::Equal => supersedes_equal(list, kept, cert),
+        Ordering::Greater => true,
+    }
+}
+
+// Whether the list takes the place of the one that is kept, if one is.
+fn goes_first(list: &Crl, kept: Option<&Crl>, cert: &Cert) -> bool
+    ensures { let goes = Supersedes cert.now list.now in
+        IsTrue result ↔ IfSome (option_copied kept.entry) goes }
+{
+    match kept {
+        Some(kept) => supersedes(list, kept, cert),
+        None => true,
+    }
+}
+
+// Whether the list is eligible, and takes the place of the one that is kept, if one is. The
+// signature is verified last, as that takes longest.
+fn is_next<V: Verifier>(
+    list: &Crl,
+    kept: Option<&Crl>,
+    cert: &Cert,
+    issuer: &ResourceCert,
+    now: Time,
+    verifier: &V,
+) -> bool
+    ensures { let verifies = V.verifies verifier.now in
+        IsTrue result ↔ (IsEligible verifies now issuer.now.cert.fields cert.now list.now
+        × IfSome (option_copied kept.entry) (Supersedes cert.now list.now)) }
+{
+    is_for(list, cert)
+        && has_begun(list, now)
+        && goes_first(list, kept, cert)
+        && is_signed_by(list, issuer, verifier)
+}
+
+// The latest of the lists that were seen and this one, where that of those is kept.
+fn later_of<'l, V: Verifier>(
+    kept: Option<&'l Crl>,
+    list: &'l Crl,
+    cert: &Cert,
+    issuer: &ResourceCert,
+    now: Time,
+    verifier: &V,
+) -> Option<&'l Crl>
+    ensures { let verifies = V.verifies verifier.now in
+        let eligible = IsEligible verifies now issuer.now.cert.fields cert.now in
+        (seen : List CrlState) → IsLatestIfAny eligible cert.now seen (option_copied kept.entry)
+        → IsLatestIfAny eligible cert.now (seen ++ list.now ∷ []) (option_copied result) }
+{
+    if is_next(list, kept, cert, issuer, now, verifier) {
+        Some(list)
+    } else {
+        kept
+    }
+}
+
+// The latest of the eligible lists.
+fn latest<'l, V: Verifier>(
+    lists: &'l [Crl],
+    cert: &Cert,
+    issuer: &ResourceCert,
+    now: Time,
+    verifier: &V,
+) -> Option<&'l Crl>
+    ensures { let verifies = V.verifies verifier.now in
+        let eligible = IsEligible verifies now issuer.now.cert.fields cert.now in
+        IsLatestIfAny eligible cert.now lists.now (option_copied result) }
+{
+    let mut kept: Option<&'l Crl> = None;
+    for list in lists {
+        kept = later_of(kept, list, cert, issuer, now, verifier);
+    }
+    kept
+}
+
+// The first list for the certificate, whoever signed it.
+fn first<'l>(lists: &'l [Crl], cert: &Cert) -> Option<&'l Crl>
+    ensures { IsFirstIfAny (IsFor cert.now) lists.now (option_copied result) }
+{
+    for list in lists {
+        if is_for(list, cert) {
+            return Some(list);
+        }
+    }
+    None
+}
+
+// Why the certificate isn't found unrevoked where no list is eligible. A list for it whose time has
+// begun isn't signed by the issuer then, so no signature is verified twice.
+fn why_none<V: Verifier>(
+    lists: &[Crl],
+    cert: &Cert,
+    issuer: &ResourceCert,
+    strict: bool,
+    now: Time,
+    verifier: &V,
+) -> RevocationError
+    requires { let verifies = V.verifies verifier.now in
+        HaveNone (IsEligible verifies now issuer.now.cert.fields cert.now) lists.now }
+    ensures { let x = context (V.verifies verifier.now) now strict in
+        let checks = by_lists x lists.now issuer.now.cert.fields cert.now in
+        IsFirstFalse checks revocation_checks result }
+{
+    let Some(list) = first(lists, cert) else {
+        return RevocationError::NoCrl;
+    };
+    if list.verify_issuer_claim(issuer, strict).is_err() {
+        return RevocationError::WrongKeyId;
+    }
+    if has_begun(list, now) || !is_signed_by(list, issuer, verifier) {
+        return RevocationError::BadSignature;
+    }
+    RevocationError::Stale
+}
+
+impl<'l> RevocationSource for GivenLists<'l> {
+    ghost use Rattle.rpki_path.specs.AskedLists.{by_lists};
+
+    ghost asks = { λ lists x. by_lists x lists };
+
+    fn ask<V: Verifier>(
+        &self,
+        cert: &Cert,
+        issuer: &ResourceCert,
+        strict: bool,
+        now: Time,
+        verifier: &V,
+    ) -> Result<(), RevocationError> {
+        let Some(list) = latest(self.lists, cert, issuer, now, verifier) else {
+            return Err(why_none(self.lists, cert, issuer, strict, now, verifier));
+        };
+        if list.verify_issuer_claim(issuer, strict).is_err() {
+            return Err(RevocationError::WrongKeyId);
+        }
+        if list.as_cert_list().is_stale(now) {
+            return Err(RevocationError::Stale);
+        }
+        if revokes(list, cert) {
+            return Err(RevocationError::Revoked);
+        }
+        Ok(())
+    }
+}

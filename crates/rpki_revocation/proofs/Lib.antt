@@ -1,3 +1,0 @@
-mod ListOrder
-pub mod LatestLists
-pub mod AskedList

@@ -1,7 +1,0 @@
-use Rattle.std.proofs.Common.{take}
-use Rattle.rpki_revocation.specs.AskedLists.{IsFor}
-use Rattle.rpki_revocation.specs.AskedLists.Steps.{HaveNone}
-use Rattle.rpki_revocation.proofs.given.first.Given as goal
-
-abbrev pub invariant-loop-list : goal.invariant-loop-list
-invariant-loop-list l = HaveNone (IsFor l.cert) (take l.list-index l.lists)

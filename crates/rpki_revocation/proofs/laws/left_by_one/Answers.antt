@@ -1,6 +1,0 @@
-use Rattle.rpki_cert.specs.Verification.{context}
-use Rattle.rpki_revocation.proofs.AskedList.{left_by_asked}
-use Rattle.rpki_revocation.proofs.laws.left_by_one.Goals as goal
-
-pub returns : goal.returns
-returns g c = λ v now strict lists issuer cert h. left_by_asked (context (g.V.Verifier.verifies v) now strict) lists issuer cert h

@@ -1,9 +1,0 @@
-//! Who answers for revocation: whether the certificates of a path are revoked (RFC 6487 7.2).
-#![tactic(auto)]
-
-mod given;
-pub mod laws;
-mod source;
-
-pub use given::{GivenLists, has_begun, supersedes};
-pub use source::{NobodyAsked, RevocationSource};

@@ -1,9 +1,0 @@
-use Rattle.std.proofs.Common.{rules}
-use Rattle.rpki_tal.specs.Locators.{IsComment}
-use Rattle.rpki_tal.proofs.SectionsRead.{comment_follows}
-use Rattle.rpki_tal.proofs.sections.behind_comments.Goals as goal
-
-pub loop-line-preserved : goal.loop-line-preserved
-loop-line-preserved c =
-    let comment : IsComment c.first_line.result.0.now = search rules in
-    comment_follows _ _ _ c.first_line.result.0.now c.loop-line.invariant c.first_line.ensures.lines comment

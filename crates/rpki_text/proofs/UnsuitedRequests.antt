@@ -1,0 +1,59 @@
+-- A request that doesn't suit its task, by the reason that is told.
+use Rattle.std.proofs.Common.{◌≡◌, ◌≢◌, ℕ, inl, inr, List, [], ◌∷◌, refl, sym, ◌∙◌, subst}
+use Rattle.std.proofs.lemmas.Bool.{false≢true}
+use Rattle.rpki_text.specs.declared.command_line.arguments.Misuse.{Misuse}
+use Rattle.rpki_text.specs.declared.command_line.arguments.Misuse.TheVariants.{Unknown, NoFile, OneFile, ListsIn, NoLocator, NoLocatorIn, BoundsIn, InputIn}
+use Rattle.rpki_text.specs.declared.command_line.arguments.Task.{Task}
+use Rattle.rpki_text.specs.declared.command_line.arguments.Task.TheVariants.{Show, Validate, Tree, Help, Version}
+use Rattle.rpki_text.specs.CommandLines.{RequestFields, AsksNoBounds, AsksSearch, Suits, SuitsFolders}
+use Rattle.rpki_text.specs.Misuses.{IsExtra, IsReason, SeeksPath}
+
+-- the task wants files
+some_files : (task : Task) (r : RequestFields) → task ≢ Help → task ≢ Version → Suits task r → r.files ≢ []
+some_files Show r no_help no_version suits = suits.0
+some_files Validate r no_help no_version suits = suits.0
+some_files Tree r no_help no_version suits = suits.0
+some_files Help r no_help no_version suits = absurd (no_help refl)
+some_files Version r no_help no_version suits = absurd (no_version refl)
+
+-- a path that is sought wants more
+asks_search : (folders : List (List ℕ)) (r : RequestFields) → folders ≢ [] → SuitsFolders folders r → AsksSearch r
+asks_search [] r some suits = absurd (some refl)
+asks_search (folder ∷ folders) r some suits = suits
+
+sought : (task : Task) (r : RequestFields) → SeeksPath task r → Suits task r → AsksSearch r
+sought task r seeks suits = asks_search r.folders r seeks.1 (subst (λ (t : Task). Suits t r) seeks.0 suits).2
+
+-- one that isn't has no bounds
+asks_no_bounds : (folders : List (List ℕ)) (r : RequestFields) → folders ≡ [] → SuitsFolders folders r → AsksNoBounds r
+asks_no_bounds [] r none suits = suits
+asks_no_bounds (folder ∷ folders) r none suits = absurd cc
+
+-- an option is given that the task doesn't take
+extra_unsuited : (task : Task) (name : List ℕ) (r : RequestFields) → IsExtra task name r → Suits task r → ⊥
+extra_unsuited Show name r (inl given) suits = given.1 suits.1.0
+extra_unsuited Show name r (inr (inl given)) suits = given.1 suits.1.1
+extra_unsuited Show name r (inr (inr (inl given))) suits = given.1 suits.1.2
+extra_unsuited Show name r (inr (inr (inr (inl given)))) suits = false≢true (sym given.1 ∙ suits.1.3)
+extra_unsuited Show name r (inr (inr (inr (inr (inl given))))) suits = given.1 suits.1.4.0
+extra_unsuited Show name r (inr (inr (inr (inr (inr given))))) suits = given.1 suits.1.4.1
+extra_unsuited Validate name r given suits = false≢true (sym suits.1 ∙ given.1)
+extra_unsuited Tree name r (inl given) suits = given.1 suits.1.0
+extra_unsuited Tree name r (inr (inl given)) suits = given.1 suits.1.1
+extra_unsuited Tree name r (inr (inr (inl given))) suits = false≢true (sym given.1 ∙ suits.1.2)
+extra_unsuited Tree name r (inr (inr (inr given))) suits = false≢true (sym suits.1.3 ∙ given.1)
+extra_unsuited Help name r given suits = given
+extra_unsuited Version name r given suits = given
+
+-- the reason that is told
+pub reason_unsuited : (misuse : Misuse) (task : Task) (r : RequestFields) → IsReason misuse task r → Suits task r → ⊥
+reason_unsuited (Unknown name) task r extra suits = extra_unsuited task name.now r extra suits
+reason_unsuited NoFile task r (no_help, no_version, none) suits = some_files task r no_help no_version suits none
+reason_unsuited OneFile task r (seeks, not_one) suits = not_one (sought task r seeks suits).0
+reason_unsuited ListsIn task r (seeks, some) suits = some (sought task r seeks suits).1
+reason_unsuited NoLocator task r (is, none) suits = (subst (λ (t : Task). Suits t r) is suits).1.4 none
+reason_unsuited NoLocatorIn task r (seeks, none) suits = (sought task r seeks suits).2 none
+reason_unsuited BoundsIn task r (is, none, bounds) suits =
+    bounds (asks_no_bounds r.folders r none (subst (λ (t : Task). Suits t r) is suits).2)
+reason_unsuited InputIn task r (seeks, reads) suits = (sought task r seeks suits).3 reads
+reason_unsuited _ task r reason suits = absurd reason

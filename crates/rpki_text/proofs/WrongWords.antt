@@ -1,0 +1,109 @@
+-- The first wrong word of a command line: how it is found, and that there are no parts then.
+use Rattle.std.specs.Prelude.{Some, codes}
+use Rattle.std.specs.declared.vec.Vec.{Vec}
+use Rattle.std.proofs.Common.{◌≡◌, ℕ, ◌+◌, ◌<◌, List, [], ◌∷◌, ◌++◌, length, get_or, take, drop, refl, ap, ◌∙◌, subst, inl, inr}
+use Rattle.rpki_text.specs.declared.command_line.arguments.Format.{Format}
+use Rattle.rpki_text.specs.declared.command_line.arguments.Misuse.{Misuse}
+use Rattle.rpki_text.specs.declared.command_line.arguments.Misuse.TheVariants.{Unknown, NoValue, NoMoment, NoSize, NoNumber, NoFormat}
+use Rattle.rpki_text.specs.declared.command_line.arguments.Setting.{Setting}
+use Rattle.rpki_text.specs.declared.command_line.arguments.Setting.TheVariants.{At, MaxSize}
+use Rattle.rpki_text.specs.CommandLines.{IsFormatName, IsPart, LinePart, lenient, json, quiet, all, no_names, help, AreParts, RequestFields, setting_name, with_part}
+use Rattle.rpki_text.specs.CommandLines.Steps.{IsOptionName, IsSetPart, IsSwitch}
+use Rattle.rpki_text.specs.CommandLines.Views.{word_octets}
+use Rattle.rpki_text.specs.Misuses.{BeginsWith, IsBound, IsNoNumber, IsUnknownOption, IsWrongFirst, NamesFormat}
+use Rattle.rpki_text.specs.Misuses.Steps.{TellsValue, TellsWord}
+use Rattle.rpki_text.specs.WordParts.{BeginsNoPart, IsFirstWrong, IsOption, Joins}
+use Rattle.rpki_text.proofs.CommandParts.{line_grammar, line_clear, no_option}
+use Rattle.rpki_text.proofs.PartsOfWords.{none_behind, value_missing, no_value, no_joined}
+use Rattle.rpki_text.proofs.WordByWord.{AreAdded, value_split}
+
+-- ---- a word
+
+-- an option that there isn't
+pub unknown_option : (word : List ℕ) → IsOption word → ((setting : Setting) → IsOptionName setting word → ⊥) → ((setting : Setting) (value : List ℕ) → Joins (setting_name setting) value word → ⊥) → ((part : LinePart) → IsSwitch part word → ⊥) → IsUnknownOption word
+unknown_option word is_option unnamed unjoined no_switch =
+    (is_option, (λ part is. no_option word is_option unnamed unjoined no_switch part (word ∷ []) [] [] is refl), unnamed, unjoined)
+
+-- what is told of an option and its value is told of a word that joins them
+pub word_joined : (misuse : Misuse) (setting : Setting) (value word : List ℕ) → Joins (setting_name setting) value word → TellsValue misuse setting value → TellsWord misuse word
+word_joined misuse setting value word joins tells rest =
+    tells (word ∷ rest) (word ∷ [], rest, inr (ap (λ (w : List ℕ). w ∷ []) joins), refl)
+
+-- ---- words of the command line, by their places
+
+module _ {Z : Type 0} (words : List (Vec ℕ Z)) (i : ℕ) (word : Vec ℕ Z) (low : i < length words) (there : word ≡ get_or words i word) (old new : RequestFields) (text : List ℕ) (text_is : text ≡ word.items) (misuse : Misuse) where
+  -- the word is no value of the option before it
+  pub value_wrong : (setting : Setting) → AreAdded line_grammar with_part (word_octets (take i words)) old new (Some setting) → TellsValue misuse setting text → IsFirstWrong IsPart IsWrongFirst misuse (word_octets words)
+  value_wrong setting so_far tells = record {
+    parts = so_far.added.0;
+    before = so_far.front;
+    behind = setting_name setting ∷ text ∷ word_octets (drop (i + 1) words);
+    parts_are = so_far.added.1;
+    wrong = tells (setting_name setting ∷ text ∷ word_octets (drop (i + 1) words)) (setting_name setting ∷ text ∷ [], word_octets (drop (i + 1) words), inl refl, refl);
+    words_are = value_split line_grammar with_part line_clear words i word low there old new text text_is setting so_far;
+  }
+
+-- ---- words with a wrong one are no parts
+
+-- an option that takes no value is a part by itself
+switch_part : (part : LinePart) (word : List ℕ) → IsSwitch part word → IsPart part (word ∷ [])
+switch_part lenient word is = ap (λ (w : List ℕ). w ∷ []) is
+switch_part json word (inl is) = inl (ap (λ (w : List ℕ). w ∷ []) is)
+switch_part json word (inr is) = inr (ap (λ (w : List ℕ). w ∷ []) is)
+switch_part quiet word (inl is) = inl (ap (λ (w : List ℕ). w ∷ []) is)
+switch_part quiet word (inr is) = inr (ap (λ (w : List ℕ). w ∷ []) is)
+switch_part all word is = ap (λ (w : List ℕ). w ∷ []) is
+switch_part no_names word is = ap (λ (w : List ℕ). w ∷ []) is
+switch_part help word (inl is) = inl (ap (λ (w : List ℕ). w ∷ []) is)
+switch_part help word (inr is) = inr (ap (λ (w : List ℕ). w ∷ []) is)
+switch_part _ word is = absurd is
+
+-- an option that there isn't begins no part
+no_unknown : (word : List ℕ) → IsUnknownOption word → BeginsNoPart IsPart (word ∷ [])
+no_unknown word unknown = no_option word unknown.0 unknown.2 unknown.3 (λ part is. unknown.1 part (switch_part part word is))
+
+-- a bound that is no number is no part
+no_bound : (setting : Setting) (value : List ℕ) → IsBound setting → IsNoNumber value → (part : LinePart) → IsSetPart setting value part → ⊥
+no_bound setting value (inl is) none part set =
+    let its = subst (λ (s : Setting). IsSetPart s value part) is set in
+    none its.0 its.2
+no_bound setting value (inr is) none part set =
+    let its = subst (λ (s : Setting). IsSetPart s value part) is set in
+    none its.0 its.2
+
+-- a format that is none is no part
+no_format : (setting : Setting) (value : List ℕ) → NamesFormat setting → ((f : Format) → IsFormatName f value → ⊥) → (part : LinePart) → IsSetPart setting value part → ⊥
+no_format setting value (inl is) none part set =
+    let its = subst (λ (s : Setting). IsSetPart s value part) is set in
+    none its.0 its.2
+no_format setting value (inr is) none part set =
+    let its = subst (λ (s : Setting). IsSetPart s value part) is set in
+    none its.0 its.2
+
+module _ (parts others : List LinePart) (before behind words : List (List ℕ)) (parts_are : AreParts parts before) (words_are : words ≡ before ++ behind) (are : AreParts others words) where
+  -- those behind the parts begin with an option and what isn't its value
+  no_setting : (setting : Setting) (value : List ℕ) → BeginsWith setting value behind → ((part : LinePart) → IsSetPart setting value part → ⊥) → ⊥
+  no_setting setting value (front, rest, inl gives, is) none =
+      none_behind line_grammar line_clear parts others before (value ∷ []) rest words (setting_name setting) parts_are (no_value line_grammar line_clear setting value none)
+      (words_are ∙ ap (λ (l : List (List ℕ)). before ++ l) (is ∙ ap (λ (l : List (List ℕ)). l ++ rest) gives)) are
+  no_setting setting value (front, rest, inr gives, is) none =
+      let word = setting_name setting ++ codes "=" ++ value in
+      none_behind line_grammar line_clear parts others before [] rest words word parts_are (no_joined line_grammar line_clear setting value none word refl)
+      (words_are ∙ ap (λ (l : List (List ℕ)). before ++ l) (is ∙ ap (λ (l : List (List ℕ)). l ++ rest) gives)) are
+
+  -- they begin with what is told
+  no_first : (misuse : Misuse) → IsWrongFirst misuse behind → ⊥
+  no_first (Unknown word) (rest, is, unknown) =
+      none_behind line_grammar line_clear parts others before [] rest words word.now parts_are (no_unknown word.now unknown) (words_are ∙ ap (λ (l : List (List ℕ)). before ++ l) is) are
+  no_first (NoValue setting) is =
+      value_missing line_grammar line_clear parts others before words setting parts_are (words_are ∙ ap (λ (l : List (List ℕ)). before ++ l) is) are
+  no_first (NoMoment text) (begins, none) = no_setting At text.now begins (λ part set. none set.0 set.2 set.3)
+  no_first (NoSize text) (begins, none) = no_setting MaxSize text.now begins (λ part set. none set.0 set.2)
+  no_first (NoNumber setting text) (bound, begins, none) = no_setting setting text.now begins (no_bound setting text.now bound none)
+  no_first (NoFormat text) (setting, names, begins, none) = no_setting setting text.now begins (no_format setting text.now names none)
+  no_first _ wrong = absurd wrong
+
+-- what is told of the first wrong word is told of no parts
+pub wrong_no_parts : (misuse : Misuse) (words : List (List ℕ)) → IsFirstWrong IsPart IsWrongFirst misuse words → (parts : List LinePart) → AreParts parts words → ⊥
+wrong_no_parts misuse words wrong parts are =
+    no_first wrong.parts parts wrong.before wrong.behind words wrong.parts_are wrong.words_are are misuse wrong.wrong

@@ -1,0 +1,11 @@
+use Rattle.std.proofs.Common.{refl}
+use Rattle.rpki_text.specs.CommandLines.{output}
+use Rattle.rpki_text.proofs.command_line.arguments.add_format.Goals as goal
+
+pub returns-in-Some-clause-added : goal.returns-in-Some-clause-added
+returns-in-Some-clause-added c =
+    let format = c.in-Some.format in
+    (output format, (format, refl, c.in-Some.ensures.named), refl)
+
+pub returns-in-None-clause-told : goal.returns-in-None-clause-told
+returns-in-None-clause-told c = λ setting names words begins. (setting, names, begins, c.in-None.ensures.unknown)

@@ -1,0 +1,21 @@
+use Rattle.std.proofs.Common.{rules, refl}
+use Rattle.rpki_text.specs.CommandLines.{lenient, json, quiet, all, no_names, help}
+use Rattle.rpki_text.proofs.command_line.arguments.switch.Goals as goal
+
+pub returns-then-is-clause-added : goal.returns-then-is-clause-added
+returns-then-is-clause-added c = (lenient, search rules, refl)
+
+pub returns-then-is-2-clause-added : goal.returns-then-is-2-clause-added
+returns-then-is-2-clause-added c = (json, search rules, refl)
+
+pub returns-then-is-4-clause-added : goal.returns-then-is-4-clause-added
+returns-then-is-4-clause-added c = (quiet, search rules, refl)
+
+pub returns-then-is-6-clause-added : goal.returns-then-is-6-clause-added
+returns-then-is-6-clause-added c = (all, search rules, refl)
+
+pub returns-then-is-7-clause-added : goal.returns-then-is-7-clause-added
+returns-then-is-7-clause-added c = (no_names, search rules, refl)
+
+pub returns-then-is-8-clause-added : goal.returns-then-is-8-clause-added
+returns-then-is-8-clause-added c = (help, search rules, refl)

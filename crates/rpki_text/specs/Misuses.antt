@@ -1,0 +1,119 @@
+-- What is told of words that are no command line: something that is wrong with them, of the first
+-- word that is wrong, or of what they ask (own).
+use Rattle.std.specs.Prelude.{◌≡◌, ◌≢◌, ◌⊎◌, ℕ, List, [], ◌∷◌, ◌++◌, length, None, true, false, codes}
+use Rattle.rpki_der.specs.Times.{Moment, IsMoment}
+use Rattle.rpki_text.specs.MomentTexts.{IsMomentText}
+use Rattle.rpki_text.specs.declared.command_line.arguments.Format.{Format}
+use Rattle.rpki_text.specs.declared.command_line.arguments.Misuse.{Misuse}
+use Rattle.rpki_text.specs.declared.command_line.arguments.Misuse.TheVariants.{NoTask, Unknown, NoValue, NoMoment, NoSize, NoNumber, NoFormat, NoFile, OneFile, ListsIn, NoLocator, NoLocatorIn, BoundsIn, InputIn}
+use Rattle.rpki_text.specs.declared.command_line.arguments.Setting.{Setting}
+use Rattle.rpki_text.specs.declared.command_line.arguments.Setting.TheVariants.{Depth, StepCount, At, MaxSize, Output, ShortOutput}
+use Rattle.rpki_text.specs.declared.command_line.arguments.Task.{Task}
+use Rattle.rpki_text.specs.declared.command_line.arguments.Task.TheVariants.{Show, Validate, Tree, Help, Version}
+use Rattle.rpki_text.specs.CommandLines.{IsFormatName, IsNumberText, IsPart, IsTaskName, LinePart, AreParts, RequestFields, only_task, setting_name, with_files, with_parts, AsksNoBounds, ReadsInput}
+use Rattle.rpki_text.specs.WordParts.{IsFirstWrong, IsOption, GivesValue, Joins, words_before, words_behind}
+pub mod Steps
+
+-- ---- a word behind the task
+
+-- the word is an option that there isn't: it is no part by itself, and neither the name of an
+-- option that takes a value nor such a name joined to one
+abbrev pub IsUnknownOption : List ℕ → Type 0
+IsUnknownOption word =
+    IsOption word × ((part : LinePart) → IsPart part (word ∷ []) → ⊥)
+    × ((setting : Setting) → word ≡ setting_name setting → ⊥)
+    × ((setting : Setting) (value : List ℕ) → Joins (setting_name setting) value word → ⊥)
+
+-- the words begin with this option and this value, as the next word or behind `=`
+abbrev pub BeginsWith : Setting → List ℕ → List (List ℕ) → Type 0
+BeginsWith setting value words =
+    (front : List (List ℕ)) × (rest : List (List ℕ)) × GivesValue (setting_name setting) value front
+    × (words ≡ front ++ rest)
+
+-- the option bounds a walk, by a number
+abbrev pub IsBound : Setting → Type 0
+IsBound setting = (setting ≡ Depth) ⊎ (setting ≡ StepCount)
+
+-- the option names the format of what is printed, by either of its names
+abbrev pub NamesFormat : Setting → Type 0
+NamesFormat setting = (setting ≡ Output) ⊎ (setting ≡ ShortOutput)
+
+-- no number has this text
+abbrev pub IsNoNumber : List ℕ → Type 0
+IsNoNumber text = (n : ℕ) → IsNumberText n text → ⊥
+
+-- the words begin with what is told: with an option that there isn't, with one whose value is
+-- missing, or with one and a value that is no moment, no number or no format
+abbrev pub IsWrongFirst : Misuse → List (List ℕ) → Type 0
+IsWrongFirst (Unknown word) words =
+    (rest : List (List ℕ)) × (words ≡ word.now ∷ rest) × IsUnknownOption word.now
+IsWrongFirst (NoValue setting) words = words ≡ setting_name setting ∷ []
+IsWrongFirst (NoMoment text) words =
+    BeginsWith At text.now words × ((m : Moment) → IsMoment m → IsMomentText m text.now → ⊥)
+IsWrongFirst (NoSize text) words = BeginsWith MaxSize text.now words × IsNoNumber text.now
+IsWrongFirst (NoNumber setting text) words =
+    IsBound setting × BeginsWith setting text.now words × IsNoNumber text.now
+IsWrongFirst (NoFormat text) words =
+    (setting : Setting) × NamesFormat setting × BeginsWith setting text.now words
+    × ((f : Format) → IsFormatName f text.now → ⊥)
+IsWrongFirst _ words = ⊥
+
+-- ---- what is asked
+
+-- an option of this name is given, and the task doesn't take it
+abbrev pub IsExtra : Task → List ℕ → RequestFields → Type 0
+IsExtra Show name r =
+    ((name ≡ codes "--crl") × (r.lists ≢ []))
+    ⊎ (((name ≡ codes "--tal") × (r.locators ≢ []))
+    ⊎ (((name ≡ codes "--in") × (r.folders ≢ []))
+    ⊎ (((name ≡ codes "--no-names") × (r.names ≡ false))
+    ⊎ (((name ≡ codes "--depth") × (r.depth ≢ None))
+    ⊎ ((name ≡ codes "--steps") × (r.steps ≢ None))))))
+IsExtra Validate name r = (name ≡ codes "--all") × (r.all_entries ≡ true)
+IsExtra Tree name r =
+    ((name ≡ codes "--crl") × (r.lists ≢ []))
+    ⊎ (((name ≡ codes "--in") × (r.folders ≢ []))
+    ⊎ (((name ≡ codes "--no-names") × (r.names ≡ false))
+    ⊎ ((name ≡ codes "--all") × (r.all_entries ≡ true))))
+IsExtra _ name r = ⊥
+
+-- a path is to be sought in folders
+abbrev pub SeeksPath : Task → RequestFields → Type 0
+SeeksPath task r = (task ≡ Validate) × (r.folders ≢ [])
+
+-- what is told is a reason why this doesn't suit the task
+abbrev pub IsReason : Misuse → Task → RequestFields → Type 0
+IsReason (Unknown name) task r = IsExtra task name.now r
+IsReason NoFile task r = (task ≢ Help) × (task ≢ Version) × (r.files ≡ [])
+IsReason OneFile task r = SeeksPath task r × (length r.files ≢ 1)
+IsReason ListsIn task r = SeeksPath task r × (r.lists ≢ [])
+IsReason NoLocator task r = (task ≡ Tree) × (r.locators ≡ [])
+IsReason NoLocatorIn task r = SeeksPath task r × (r.locators ≡ [])
+IsReason BoundsIn task r = (task ≡ Validate) × (r.folders ≡ []) × (AsksNoBounds r → ⊥)
+IsReason InputIn task r = SeeksPath task r × ReadsInput r
+IsReason _ task r = ⊥
+
+-- the words behind the task are parts, and what they ask doesn't suit its task, as is told
+pub record IsUnsuited (misuse : Misuse) (task : Task) (words : List (List ℕ)) : Type 0 where
+  pub parts : List LinePart
+  pub parts_are : AreParts parts (words_before words)
+  pub r : RequestFields
+  pub asks : r ≡ with_files (with_parts (only_task task) parts) (words_behind words)
+  pub reason : IsReason misuse r.task r
+
+-- ---- all words
+
+-- no task has this name, as is told
+abbrev pub IsUnknownTask : Misuse → List ℕ → Type 0
+IsUnknownTask (Unknown word) name =
+    (word.now ≡ name) × ((task : Task) → IsTaskName task name → ⊥)
+IsUnknownTask _ name = ⊥
+
+-- what is told of the words is so: there are none; or the first names no task; or it names one, and
+-- of those behind it the first that is wrong is told, or why what they ask doesn't suit its task
+abbrev pub IsMisuse : Misuse → List (List ℕ) → Type 0
+IsMisuse misuse [] = misuse ≡ NoTask
+IsMisuse misuse (first ∷ rest) =
+    IsUnknownTask misuse first
+    ⊎ ((task : Task) × IsTaskName task first
+    × (IsFirstWrong IsPart IsWrongFirst misuse (words_before rest) ⊎ IsUnsuited misuse task rest))

@@ -1,0 +1,45 @@
+-- What is said of a note: its word, its sentence, and the section of the standard that it breaks.
+use Rattle.std.specs.Prelude.{ℕ, List, codes}
+use Rattle.rpki_text.specs.declared.notes.note.Note.{Note}
+use Rattle.rpki_text.specs.declared.notes.note.Note.TheVariants as note
+
+-- its word
+abbrev pub note_name : Note → List ℕ
+note_name note.SerialZero = codes "SerialZero"
+note_name note.SerialLong = codes "SerialLong"
+note_name note.IssuerForm = codes "IssuerForm"
+note_name note.SubjectForm = codes "SubjectForm"
+note_name note.EndEntityNotify = codes "EndEntityNotify"
+note_name note.IpNotCritical = codes "IpNotCritical"
+note_name note.AsNotCritical = codes "AsNotCritical"
+note_name note.IpForm = codes "IpForm"
+note_name note.AsForm = codes "AsForm"
+note_name note.OctetsBehind = codes "OctetsBehind"
+
+-- its sentence
+abbrev pub note_text : Note → List ℕ
+note_text note.SerialZero = codes "the serial number is 0"
+note_text note.SerialLong = codes "the serial number takes more than 20 octets"
+note_text note.IssuerForm =
+    codes "the issuer's name isn't a CommonName, with a serialNumber at most, in PrintableStrings"
+note_text note.SubjectForm =
+    codes "the subject's name isn't a CommonName, with a serialNumber at most, in PrintableStrings"
+note_text note.EndEntityNotify = codes "an end entity names a notification file"
+note_text note.IpNotCritical = codes "IP resources aren't critical"
+note_text note.AsNotCritical = codes "AS resources aren't critical"
+note_text note.IpForm = codes "IP resources aren't sorted, merged and written in the shortest form"
+note_text note.AsForm = codes "AS resources aren't sorted, merged and written in the shortest form"
+note_text note.OctetsBehind = codes "an extension holds octets behind its value"
+
+-- its section
+abbrev pub note_section : Note → List ℕ
+note_section note.SerialZero = codes "RFC 6487 4.2"
+note_section note.SerialLong = codes "RFC 5280 4.1.2.2"
+note_section note.IssuerForm = codes "RFC 6487 4.4"
+note_section note.SubjectForm = codes "RFC 6487 4.5"
+note_section note.EndEntityNotify = codes "RFC 6487 4.8.8.2"
+note_section note.IpNotCritical = codes "RFC 6487 4.8.10"
+note_section note.AsNotCritical = codes "RFC 6487 4.8.11"
+note_section note.IpForm = codes "RFC 3779 2.2.3"
+note_section note.AsForm = codes "RFC 3779 3.2.3"
+note_section note.OctetsBehind = codes "RFC 5280 4.2"

@@ -1,0 +1,137 @@
+//! A walk over the extensions of a certificate, as they stand.
+ghost use Rattle.std.specs.Prelude.{◌≡◌, ◌↔◌, List, IsTrue, bytes_eq, true};
+ghost use Rattle.std.specs.List.{list_any};
+ghost use Rattle.rpki_der.specs.Extensions.{Extension, IsExtension};
+ghost use Rattle.rpki_der.specs.Extensions.Views.{extension_view};
+ghost use Rattle.rpki_ext.specs.Kinds.{is_of};
+ghost use Rattle.rpki_der.specs.Place.{remaining};
+ghost use Rattle.rpki_der.specs.Sequences.{AreEncodings};
+ghost use Rattle.rpki_der.specs.Values.{IsValue};
+ghost use Rattle.rpki_text.specs.FaultSearch.{HasFault, sought_names, is_named};
+ghost use Rattle.rpki_text.specs.Notes.{HaveExtensions, HaveOne};
+
+use bytes::Bytes;
+use rpki_der::{Cursor, oid, take_extension};
+use rpki_ext::is_known;
+use rpki_files::extensions_in;
+
+/// The kinds of extensions that are looked at.
+#[derive(Clone, Copy)]
+pub(crate) enum Kinds {
+    Addresses,
+    Systems,
+    Known,
+}
+
+/// What may be wrong with an extension.
+#[derive(Clone, Copy)]
+pub(crate) enum Fault {
+    NotCritical,
+    OtherContent,
+    NotOneValue,
+}
+
+// The identifiers of IP resources in both modes (RFC 3779 2.2.1, RFC 8360 4.2.2.1).
+const ADDRESSES: [&[u8]; 2] = [oid::PE_IP_ADDR_BLOCK, oid::PE_IP_ADDR_BLOCK_V2];
+
+// Those of AS resources (RFC 3779 3.2.1, RFC 8360 4.2.2.3).
+const SYSTEMS: [&[u8]; 2] = [oid::PE_AUTONOMOUS_SYS_IDS, oid::PE_AUTONOMOUS_SYS_IDS_V2];
+
+// Whether the identifier is one of these.
+fn is_one_of(identifier: &[u8], ids: &[&[u8]]) -> bool
+    ensures { result ≡ list_any (λ id. bytes_eq identifier.now id.now) ids.now }
+{
+    ids.iter().any(|id| identifier == *id)
+}
+
+impl Kinds {
+    // Whether an extension with this identifier is of one of the kinds.
+    fn have(self, identifier: &[u8]) -> bool
+        ensures { result ≡ is_named self identifier.now }
+    {
+        match self {
+            Kinds::Addresses => is_one_of(identifier, &ADDRESSES),
+            Kinds::Systems => is_one_of(identifier, &SYSTEMS),
+            Kinds::Known => is_known(identifier),
+        }
+    }
+}
+
+// Whether the octets are one value.
+fn is_one_value(octets: &Cursor<'_>) -> bool
+    ensures { IsTrue result ↔ IsValue (remaining octets.now) }
+{
+    let [tag, ..] = octets.rest() else {
+        return false;
+    };
+    let mut rest = octets.fork();
+    match rest.take_value(*tag) {
+        Ok(_) => rest.is_empty(),
+        Err(error) => {
+            drop(error);
+            false
+        }
+    }
+}
+
+impl Fault {
+    // Whether an extension with this flag and content has the fault, where another content is
+    // written of it.
+    fn is_in(self, written: &[u8], critical: bool, content: &Cursor<'_>) -> bool
+        ensures { (x : Extension) → x.critical ≡ critical → x.content ≡ remaining content.now
+            → (IsTrue result ↔ HasFault self written.now x) }
+    {
+        match self {
+            Fault::NotCritical => !critical,
+            Fault::OtherContent => content.rest() != written,
+            Fault::NotOneValue => !is_one_value(content),
+        }
+    }
+}
+
+// Whether an extension of this identifier, flag and content is of the kinds and has the fault.
+fn is_found(
+    kinds: Kinds,
+    fault: Fault,
+    written: &[u8],
+    extension: (&[u8], bool, Cursor<'_>),
+) -> bool
+    ensures { let x = extension_view extension.entry in
+        IsTrue result ↔ ((is_of (sought_names kinds) x ≡ true) × HasFault fault written.now x) }
+{
+    let (identifier, critical, content) = extension;
+    kinds.have(identifier) && fault.is_in(written, critical, &content)
+}
+
+// Whether one of the extensions in the sequence is of these kinds and has the fault.
+fn is_among(elements: &Cursor<'_>, kinds: Kinds, fault: Fault, written: &[u8]) -> bool
+    ensures { (xs : List Extension) → AreEncodings IsExtension xs (remaining elements.now)
+        → (IsTrue result ↔ HaveOne (sought_names kinds) (HasFault fault written.now) xs) }
+{
+    let mut rest = elements.fork();
+    while !rest.is_empty() {
+        let extension = match take_extension(&mut rest) {
+            Ok(extension) => extension,
+            Err(error) => {
+                drop(error);
+                return false;
+            }
+        };
+        if is_found(kinds, fault, written, extension) {
+            return true;
+        }
+    }
+    false
+}
+
+/// Tells whether one of the extensions of a certificate is of these kinds and has the fault, where
+/// this content is written of it. The octets begin with the certificate.
+pub(crate) fn has_one(octets: &Bytes, kinds: Kinds, fault: Fault, written: &[u8]) -> bool
+    ensures { (xs : List Extension) → HaveExtensions xs octets.now
+        → (IsTrue result ↔ HaveOne (sought_names kinds) (HasFault fault written.now) xs) }
+{
+    match extensions_in(octets) {
+        Some(elements) => is_among(&elements, kinds, fault, written),
+        None => false,
+    }
+}

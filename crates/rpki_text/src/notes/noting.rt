@@ -1,0 +1,145 @@
+//! The notes of a certificate.
+ghost use Rattle.std.specs.Prelude.{◌≡◌, ◌↔◌, ◌≤◌, ◌^◌, ◌++◌, ◌∷◌, List, [], length, if◌then◌else◌, IfOk, OnOk, IsTrue};
+ghost use Rattle.std.specs.Int.Digits.{number_from_digits};
+ghost use Rattle.rpki_cert.specs.Certificates.{IsCertificate};
+ghost use Rattle.rpki_der.specs.Encoding.{Means};
+ghost use Rattle.rpki_der.specs.Extensions.{Extension};
+ghost use Rattle.rpki_text.specs.Notes.{AreNotes, Breaks, HaveExtensions, IsEndEntityWithNotify, HasOtherIssuer, HasOtherSubject};
+
+use crate::notes::canonical;
+use crate::notes::finding::{Fault, Kinds, has_one};
+use crate::notes::note::Note;
+use bytes::Bytes;
+use rpki_cert::{Cert, KeyUsage, TbsCert};
+use rpki_der::Serial;
+use rpki_files::Object;
+use std::alloc::{AllocError, Global};
+
+// Every note, in the order in which they are told.
+const NOTES: [Note; 10] = [
+    Note::SerialZero,
+    Note::SerialLong,
+    Note::IssuerForm,
+    Note::SubjectForm,
+    Note::EndEntityNotify,
+    Note::IpNotCritical,
+    Note::AsNotCritical,
+    Note::IpForm,
+    Note::AsForm,
+    Note::OctetsBehind,
+];
+
+fn is_zero(serial: Serial) -> bool
+    ensures { IsTrue result ↔ (serial ≡ 0) }
+{
+    serial == Serial::from(0u64)
+}
+
+// Whether 20 octets are a number whose INTEGER takes an octet more.
+fn begins_high(octets: &[u8]) -> bool
+    requires { length octets.now ≡ 20 }
+    ensures { IsTrue result ↔ (2 ^ 159 ≤ number_from_digits 256 octets.now) }
+{
+    octets[0] >= 0x80
+}
+
+// Whether the INTEGER of the number has more than 20 octets.
+fn is_long(serial: Serial) -> bool
+    ensures { IsTrue result ↔ (2 ^ 159 ≤ serial) }
+{
+    begins_high(&serial.octets())
+}
+
+fn has_other_issuer(tbs: &TbsCert) -> bool
+    ensures { IsTrue result ↔ HasOtherIssuer tbs.now }
+{
+    tbs.issuer().inspect_rpki(true).is_err()
+}
+
+fn has_other_subject(tbs: &TbsCert) -> bool
+    ensures { IsTrue result ↔ HasOtherSubject tbs.now }
+{
+    tbs.extended_key_usage().is_none() && tbs.subject().inspect_rpki(true).is_err()
+}
+
+fn is_end_entity_with_notify(tbs: &TbsCert) -> bool
+    ensures { IsTrue result ↔ IsEndEntityWithNotify tbs.now }
+{
+    match tbs.key_usage() {
+        KeyUsage::Ca => false,
+        KeyUsage::Ee => tbs.rpki_notify().is_some(),
+    }
+}
+
+// Whether the certificate that the octets begin with, which has these fields, breaks the rule of a
+// note.
+fn is_note(alloc: Global, octets: &Bytes, tbs: &TbsCert, note: Note) -> Result<bool, AllocError>
+    ensures { IfOk result (λ yes. (xs : List Extension) → HaveExtensions xs octets.now
+        → (IsTrue yes ↔ Breaks note tbs.now xs)) }
+{
+    Ok(match note {
+        Note::SerialZero => is_zero(tbs.serial_number()),
+        Note::SerialLong => is_long(tbs.serial_number()),
+        Note::IssuerForm => has_other_issuer(tbs),
+        Note::SubjectForm => has_other_subject(tbs),
+        Note::EndEntityNotify => is_end_entity_with_notify(tbs),
+        Note::IpNotCritical => has_one(octets, Kinds::Addresses, Fault::NotCritical, &[]),
+        Note::AsNotCritical => has_one(octets, Kinds::Systems, Fault::NotCritical, &[]),
+        Note::IpForm => {
+            let content = canonical::addresses(alloc, tbs)?;
+            has_one(
+                octets,
+                Kinds::Addresses,
+                Fault::OtherContent,
+                content.as_bytes(),
+            )
+        }
+        Note::AsForm => {
+            let content = canonical::systems(alloc, tbs)?;
+            has_one(
+                octets,
+                Kinds::Systems,
+                Fault::OtherContent,
+                content.as_bytes(),
+            )
+        }
+        Note::OctetsBehind => has_one(octets, Kinds::Known, Fault::NotOneValue, &[]),
+    })
+}
+
+// Adds a note that is one.
+fn put(notes: &mut Vec<Note>, note: Note, is_one: bool) -> Result<(), AllocError>
+    ensures { OnOk result (notes.new.items
+        ≡ (if is_one then notes.old.items ++ note ∷ [] else notes.old.items)) }
+{
+    if is_one {
+        notes.push(note)?;
+    }
+    Ok(())
+}
+
+// The notes of the certificate that the octets begin with.
+fn of_certificate(alloc: Global, octets: &Bytes, cert: &Cert) -> Result<Vec<Note>, AllocError>
+    requires { Means IsCertificate cert.now octets.now }
+    ensures { IfOk result (λ notes. AreNotes octets.now notes.items) }
+{
+    let mut notes = Vec::new(alloc);
+    for note in NOTES {
+        let is_one = is_note(alloc, octets, cert.as_tbs(), note)?;
+        put(&mut notes, note, is_one)?;
+    }
+    Ok(notes)
+}
+
+/// Returns what is taken of the certificate that a file begins with although a standard forbids it:
+/// exactly the notes whose rules it breaks, in the order of [`Note`]. There are none where the file
+/// begins with no certificate. Takes time linear in the octets. Errs where memory runs out, which it
+/// does too where resources take 2^32 octets or more to write.
+pub fn notes_of(alloc: Global, object: &Object<'_>) -> Result<Vec<Note>, AllocError>
+    ensures { IfOk result (λ notes. AreNotes object.now.octets notes.items) }
+{
+    match object.certificate() {
+        Some((cert, _)) => of_certificate(alloc, object.octets(), cert),
+        None => Ok(Vec::new(alloc)),
+    }
+}

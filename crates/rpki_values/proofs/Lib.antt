@@ -1,3 +1,0 @@
-pub mod OnlyParts
-pub mod ZippedTexts
-pub mod PrefixesRead

@@ -1,7 +1,0 @@
-use Rattle.std.specs.Prelude.{codes}
-use Rattle.rpki_values.proofs.ZippedTexts.{one_word}
-use Rattle.rpki_values.proofs.listing.inherits.Goals as goal
-
-pub returns-in-len1 : goal.returns-in-len1
-returns-in-len1 c =
-    one_word c.args.texts.now _ (codes "inherit") c.eq.result c.in-len1.len_at_least c.in-len1.len_below (rw c.as_slice.ensures at c.eq.ensures)

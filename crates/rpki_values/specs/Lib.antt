@@ -1,4 +1,0 @@
--- The definitions that the contracts of values cite.
-pub mod OnlyValues
-pub mod ValueTexts
-pub mod BlockTexts

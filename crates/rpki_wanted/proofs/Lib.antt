@@ -1,6 +1,0 @@
-pub mod RouterNames
-pub mod SameRoles
-pub mod SignedLists
-mod ToldFaults
-pub mod WantedEntries
-pub mod WholeOctets
