@@ -26,20 +26,20 @@ def main():
     crate, told = None, []
 
     def sized(match):
-        name, space, told_size, other, lower = match.groups()
-        size = lines_of(lower or crate, name)
+        name, space, told_size = match.groups()
+        size = lines_of(crate, name)
         if size is None:
             told.append(f"{crate} {name}: no such file")
             return match.group(0)
         if size == int(told_size):
             return match.group(0)
         told.append(f"{crate} {name}: {told_size}, has {size}")
-        return f"{name}{space}{size}{other or ''}"
+        return f"{name}{space}{size}"
 
     def of_crate(match):
         nonlocal crate
         crate = match.group(1)
-        return re.sub(r"\b([A-Z]\w+(?:/\w+)?)(\s+)(\d+)(\s+of\s+`(\w+)`)?", sized, match.group(0))
+        return re.sub(r"\b([A-Z]\w+(?:/\w+)?)(\s+)(\d+)\b", sized, match.group(0))
 
     made = re.sub(r"- `(\w+)`:(?:(?!\n- `).)*", of_crate, text[start:end], flags=re.S)
     for line in told:
