@@ -50,6 +50,10 @@ pub(crate) fn append_value(
     out.extend_from_slice(tail)
 }
 
+// Up to so many octets are brought forward without `rotate_left`, which zeroes 4 KiB at each call.
+// Nearly every head is that short.
+const FEW: usize = 32;
+
 // Puts what stands behind the first `end` octets before what stands from `start` to there.
 pub(crate) fn bring_forward(out: &mut Vec<u8>, start: usize, end: usize)
     requires order { start ≤ end }
@@ -57,7 +61,15 @@ pub(crate) fn bring_forward(out: &mut Vec<u8>, start: usize, end: usize)
     ensures { out.new.items ≡ take start out.old.items
         ++ (drop end out.old.items ++ slice_range out.old.items start end) }
 {
-    out[start..].rotate_left(end - start);
+    let len = out.len() - end;
+    if len > FEW {
+        out[start..].rotate_left(end - start);
+        return;
+    }
+    let mut head = [0; FEW];
+    head[..len].copy_from_slice(&out[end..]);
+    out.copy_within(start..end, start + len);
+    out[start..start + len].copy_from_slice(&head[..len]);
 }
 
 /// Makes what stands behind the first `start` octets the content of a value with this identifier
