@@ -15,6 +15,7 @@ use std::alloc::AllocError;
 pub const MAX_LEN: usize = 0xFFFF_FFFF;
 
 // The identifier octet and the shortest length octets.
+#[inline(always)]
 pub(crate) fn put_head(out: &mut Vec<u8>, tag: u8, len: u32) -> Result<(), AllocError>
     ensures ok { OnOk result (out.new.items ≡ out.old.items ++ (tag ∷ length_octets len)) }
     ensures err { OnErr result (out.new.items ≡ out.old.items) }
@@ -35,6 +36,7 @@ pub(crate) fn put_head(out: &mut Vec<u8>, tag: u8, len: u32) -> Result<(), Alloc
 
 // The value whose content is the head and the tail, or a part of it where memory runs out.
 #[tactic(auto, unfolding(crate::specs::Values::enc))]
+#[inline(always)]
 pub(crate) fn append_value(
     out: &mut Vec<u8>,
     tag: u8,
@@ -50,6 +52,10 @@ pub(crate) fn append_value(
     out.extend_from_slice(tail)
 }
 
+// Up to so many octets are brought forward without `rotate_left`, which zeroes 4 KiB at each call.
+// Nearly every head is that short.
+const FEW: usize = 32;
+
 // Puts what stands behind the first `end` octets before what stands from `start` to there.
 pub(crate) fn bring_forward(out: &mut Vec<u8>, start: usize, end: usize)
     requires order { start ≤ end }
@@ -57,7 +63,20 @@ pub(crate) fn bring_forward(out: &mut Vec<u8>, start: usize, end: usize)
     ensures { out.new.items ≡ take start out.old.items
         ++ (drop end out.old.items ++ slice_range out.old.items start end) }
 {
-    out[start..].rotate_left(end - start);
+    let len = out.len() - end;
+    if len > FEW {
+        out[start..].rotate_left(end - start);
+    } else if len == 2 {
+        let mut head = [0; 2];
+        head.copy_from_slice(&out[end..]);
+        out.copy_within(start..end, start + 2);
+        out[start..start + 2].copy_from_slice(&head);
+    } else {
+        let mut head = [0; FEW];
+        head[..len].copy_from_slice(&out[end..]);
+        out.copy_within(start..end, start + len);
+        out[start..start + len].copy_from_slice(&head[..len]);
+    }
 }
 
 /// Makes what stands behind the first `start` octets the content of a value with this identifier
