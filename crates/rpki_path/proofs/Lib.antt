@@ -14,3 +14,5 @@ pub mod LocatedPaths
 mod ListOrder
 pub mod LatestLists
 pub mod AskedList
+pub mod SameLists
+pub mod AskedAlike
