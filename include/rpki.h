@@ -362,11 +362,12 @@ enum rpki_trust { RPKI_ASK_LOCATOR = 0, RPKI_AS_GIVEN = 1 };
  *   - It has begun: it is neither from after the moment nor from after its own next update. A list
  *     from the future, or one whose two times are exchanged, supersedes none.
  *   - Of these it is the one with the greatest number (RFC 6487 5). Of several with one number,
- *     which RFC 5280 5.2.3 forbids, one that revokes the member goes first, then the later one,
- *     then the one that was given first.
+ *     which RFC 5280 5.2.3 forbids, one that revokes the member goes first, then the one of the
+ *     later this update, then the one of the later next update. So their order decides nothing.
  * That list has to be current (its next update isn't before the moment), and not to have the
- * member's serial number. Where no list is such, the first that names the key rejects the member;
- * where none names it, the fault is RPKI_REVOCATION_NO_CRL. */
+ * member's serial number. Where none of them is of its issuer and has begun, the member is rejected:
+ * by RPKI_REVOCATION_BAD_SIGNATURE where one that names the key isn't signed by it, by
+ * RPKI_REVOCATION_STALE where all are, and by RPKI_REVOCATION_NO_CRL where none names it. */
 struct rpki_question {
     size_t size;                 /* is sizeof(struct rpki_question) */
     struct rpki_strings members; /* are certificates, the anchor first */

@@ -3,8 +3,8 @@ trust anchor of a locator (RFC 6487 7.2, RFC 8630 3), by going over all paths.
 
 A list is chosen for each certificate as docs/DECISIONS.md has it: of those that name the issuer's
 key, that this key signed and that have begun, the one with the greatest number; of equal numbers
-one that revokes the certificate, else the later one, else the first. Where none is such, it is the
-first that names the key, which then fails.
+one that revokes the certificate, else the one of the later thisUpdate, else of the later
+nextUpdate. Where none is such, all that name the key are asked, and one of them fails.
 """
 
 from refusals import Refusal, RevocationError
@@ -38,14 +38,9 @@ def has_begun(tbs, now):
     return tbs.this_update <= now and tbs.this_update <= tbs.next_update
 
 
-def supersedes(one, other, serial):
-    """Whether one list takes another's place for a serial number."""
-    if one.tbs.crl_number != other.tbs.crl_number:
-        return one.tbs.crl_number > other.tbs.crl_number
-    revokes = one.contains(serial), other.contains(serial)
-    if revokes[0] != revokes[1]:
-        return revokes[0]
-    return one.tbs.this_update > other.tbs.this_update
+def rank(crl, serial):
+    """What a list is chosen by for a serial number: the greatest is."""
+    return crl.tbs.crl_number, crl.contains(serial), crl.tbs.this_update, crl.tbs.next_update
 
 
 def is_signed(crl, issuer, verifier):
@@ -53,29 +48,28 @@ def is_signed(crl, issuer, verifier):
     return verifier(issuer.cert.tbs.key, signed.algorithm, signed.data, signed.signature)
 
 
-def asked_list(lists, cert, issuer, now, verifier):
-    """The list that is asked of a certificate below its issuer, or None."""
+def asked_lists(lists, cert, issuer, now, verifier):
+    """The lists that are asked of a certificate below its issuer."""
     named = [it for it in lists
              if it.tbs.authority_key_identifier == cert.tbs.authority_key_identifier]
-    latest = None
-    for it in named:
-        if has_begun(it.tbs, now) and is_signed(it, issuer, verifier):
-            if latest is None or supersedes(it, latest, cert.tbs.serial):
-                latest = it
-    return latest or (named[0] if named else None)
+    eligible = [it for it in named if has_begun(it.tbs, now) and is_signed(it, issuer, verifier)]
+    if not eligible:
+        return named
+    return [max(eligible, key=lambda it: rank(it, cert.tbs.serial))]
 
 
 def check_lists(lists, cert, issuer, now, verifier):
     """Errs unless the lists find the certificate unrevoked."""
-    crl = asked_list(lists, cert, issuer, now, verifier)
-    checks = [('NoCrl', lambda: crl is not None),
-              ('WrongKeyId', lambda: crl.tbs.authority_key_identifier ==
+    asked = asked_lists(lists, cert, issuer, now, verifier)
+    if not asked:
+        raise RevocationError('NoCrl')
+    checks = [('WrongKeyId', lambda crl: crl.tbs.authority_key_identifier ==
                issuer.cert.tbs.subject_key_identifier),
-              ('BadSignature', lambda: is_signed(crl, issuer, verifier)),
-              ('Stale', lambda: has_begun(crl.tbs, now) and not crl.tbs.is_stale(now)),
-              ('Revoked', lambda: not crl.contains(cert.tbs.serial))]
+              ('BadSignature', lambda crl: is_signed(crl, issuer, verifier)),
+              ('Stale', lambda crl: has_begun(crl.tbs, now) and not crl.tbs.is_stale(now)),
+              ('Revoked', lambda crl: not crl.contains(cert.tbs.serial))]
     for name, holds in checks:
-        if not holds():
+        if not all(map(holds, asked)):
             raise RevocationError(name)
 
 

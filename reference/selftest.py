@@ -854,6 +854,7 @@ def folders_of_files():
     revoking = worked.crl(8, key=worked.K2, crl_number=13).octets()
     older = worked.crl(8, key=worked.K2, crl_number=11).octets()
     foreign = worked.crl(99, key=worked.K2, signer=worked.K3).octets()
+    due = worked.crl(99, key=worked.K2, next_update=(2023, 6, 1, 0, 0, 0)).octets()
 
     def accepted(*strings, depth=8):
         found = folders.accepted(strings, worked.K1, True, worked.NOW, depth=depth)
@@ -867,6 +868,9 @@ def folders_of_files():
     yield 'a foreign list', accepted(anchor, first, second, lists[0], foreign), [(0, [1])]
     yield 'a later list revokes', accepted(anchor, first, second, *lists, revoking), [(0, [1])]
     yield 'an older list revokes', accepted(anchor, first, second, *lists, older), [(0, [1, 2])]
+    yield 'a list that is due', accepted(anchor, first, second, lists[0], due), [(0, [1])]
+    yield 'one beside it', accepted(anchor, first, second, lists[0], due, lists[1]), [(0, [1, 2])]
+    yield 'one before it', accepted(anchor, first, second, *lists, due), [(0, [1, 2])]
     yield 'a renewal with less', accepted(anchor, renewed, second, *lists), [(0, [1])]
     yield 'a renewal beside', accepted(anchor, renewed, first, second, *lists), [(0, [1, 2, 3])]
     yield 'a circle', accepted(anchor, first, second, circle, *lists), [(0, [1, 2, 3])]

@@ -425,6 +425,7 @@ def twins(ta, ca):
     yield 'revoking.crl', revocation_list(ta, 7, [(0x6f01, '231213120054Z')])
     yield 'later.crl', revocation_list(ta, 7, begin='250101000000Z')
     yield 'stale.crl', revocation_list(ta, 7, begin='230101000000Z', end='250101000000Z')
+    yield 'plain_stale.crl', revocation_list(ta, 7, end='250101000000Z')
 
 
 def sharing(ta, ca, leaf):

@@ -3,6 +3,7 @@ use Rattle.std.specs.Prelude.{Bool, true, false, Contains, bytes_eq, if◌then�
 use Rattle.std.proofs.Common.{◌≡◌, ◌+◌, ◌<◌, ℕ, zero, suc, List, [], ◌∷◌, ◌++◌, length, take, drop, get_or, refl, sym, ap, subst, ◌∙◌, inl, inr, append_assoc, arith}
 use Rattle.std.proofs.Math.Seq.{drop-append_seam}
 use Rattle.std.proofs.lemmas.List.{append-nil, length-append, take_more}
+use Rattle.std.proofs.lemmas.List.Elements.{Contains-append_right}
 use Rattle.std.proofs.lemmas.Slice.Eq.{bytes_eq-Decides}
 use Rattle.rpki_crl.specs.Lists.{CrlState}
 use Rattle.rpki_folder.specs.KeyTables.{with_place, signer_of, list_places_from, list_places}
@@ -73,8 +74,17 @@ at_more lists places i l low inside is =
     ∙ ap (λ (ls : List CrlState). lists_at lists (take i places) ++ ls) (one_at lists (get_or places i 0) l inside is)
 
 -- the one in front
-pub at_first : (lists : List CrlState) (p : ℕ) (places : List ℕ) (l : CrlState) → p < length lists → l ≡ get_or lists p l → lists_at lists (p ∷ places) ≡ l ∷ lists_at lists places
+at_first : (lists : List CrlState) (p : ℕ) (places : List ℕ) (l : CrlState) → p < length lists → l ≡ get_or lists p l → lists_at lists (p ∷ places) ≡ l ∷ lists_at lists places
 at_first lists p places l low is = ap (λ (ls : List CrlState). ls ++ lists_at lists places) (one_at lists p l low is)
+
+-- the list at one of the places
+pub at_one : (lists : List CrlState) (places : List ℕ) (p : ℕ) (l : CrlState) → Contains places p → p < length lists → l ≡ get_or lists p l → Contains (lists_at lists places) l
+at_one lists [] p l at low is = absurd (omega (arith, at.1))
+at_one lists (q ∷ places) p l (zero, at, same) low is =
+    subst (λ (n : ℕ). Contains (lists_at lists (n ∷ places)) l) (sym same)
+    (subst (λ (ls : List CrlState). Contains ls l) (sym (at_first lists p places l low is)) (0, omega arith, refl))
+at_one lists (q ∷ places) p l (suc k, at, same) low is =
+    Contains-append_right (take 1 (drop q lists)) (lists_at lists places) l (at_one lists places p l (k, omega (arith, at), same) low is)
 
 module _ (key : List ℕ) where
   abbrev pub Names : CrlState → Type 0

@@ -1,13 +1,26 @@
 -- The elements of a list that are picked, in their order, and the latest of them.
-use Rattle.std.specs.List.{AllByRecursion}
-use Rattle.std.proofs.Common.{◌≡◌, List, [], ◌∷◌, ◌++◌, refl, ap, subst, inl, inr}
-use Rattle.rpki_der.specs.Sequences.{IsFirstWith}
+use Rattle.std.specs.Prelude.{Contains}
+use Rattle.std.proofs.Common.{◌≡◌, ◌⊎◌, zero, suc, List, [], ◌∷◌, ◌++◌, refl, sym, ap, subst, inl, inr, arith}
 use Rattle.rpki_cert.specs.Certificates.{CertFields}
-use Rattle.rpki_cert.proofs.Checks.{all_map}
 use Rattle.rpki_crl.specs.Lists.{CrlState}
-use Rattle.rpki_path.specs.AskedLists.{Supersedes, IsLatest}
-use Rattle.rpki_path.specs.AskedLists.Steps.{HaveNone}
+use Rattle.rpki_path.specs.AskedLists.{HaveNone, IsLatest}
 use Rattle.rpki_folder.specs.IssuerLists.{ArePicked, IsLatestOf}
+
+-- ---- one element of a list
+
+module _ {X : Type 0} where
+  pub in_none : (x : X) → Contains [] x → ⊥
+  in_none x at = absurd (omega (arith, at.1))
+
+  in_front : (y : X) (xs : List X) (x : X) → y ≡ x → Contains (y ∷ xs) x
+  in_front y xs x same = (0, omega arith, same)
+
+  further : (y : X) (xs : List X) (x : X) → Contains xs x → Contains (y ∷ xs) x
+  further y xs x at = (suc at.0, omega (arith, at.1), at.2)
+
+  first_or_further : (y : X) (xs : List X) (x : X) → Contains (y ∷ xs) x → (y ≡ x) ⊎ Contains xs x
+  first_or_further y xs x (zero, low, same) = inl same
+  first_or_further y xs x (suc k, low, is) = inr (k, omega (arith, low), is)
 
 module _ {X : Type 0} (P : X → Type 0) where
   -- ---- one element more
@@ -24,73 +37,33 @@ module _ {X : Type 0} (P : X → Type 0) where
 
   -- ---- one of those that are picked
 
-  record Split (xs before : List X) (x : X) (after : List X) : Type 0 where
-    front : List X
-    back : List X
-    is : xs ≡ front ++ x ∷ back
-    has : P x
-    first : ArePicked P front before
-    further : ArePicked P back after
+  picked_further : (y : X) (xs : List X) (x : X) → Contains xs x × P x → Contains (y ∷ xs) x × P x
+  picked_further y xs x (at, p) = (further y xs x at, p)
 
-  never_empty : {A : Type 0} (before : List X) (x : X) (after : List X) → before ++ x ∷ after ≡ [] → A
-  never_empty [] x after is = absurd cc
-  never_empty (y ∷ before) x after is = absurd cc
+  -- it is one of all, and has P
+  pub one_of_all : (xs picked : List X) → ArePicked P xs picked → (x : X) → Contains picked x → Contains xs x × P x
+  one_of_all [] picked is x at = absurd (in_none x (subst (λ (l : List X). Contains l x) is at))
+  one_of_all (y ∷ xs) picked (inl (rest, p, is, h)) x at =
+      elim (first_or_further y rest x (subst (λ (l : List X). Contains l x) is at)) [
+        | inl same ↦ (in_front y xs x same, subst P same p)
+        | inr more ↦ picked_further y xs x (one_of_all xs rest h x more)
+      ]
+  one_of_all (y ∷ xs) picked (inr (not, h)) x at = picked_further y xs x (one_of_all xs picked h x at)
 
-  one_later : (y : X) (xs before : List X) (x : X) (after : List X) → (P y → ⊥) → Split xs before x after → Split (y ∷ xs) before x after
-  one_later y xs before x after not s = record {
-    front = y ∷ s.front;
-    back = s.back;
-    is = ap (λ (l : List X). y ∷ l) s.is;
-    has = s.has;
-    first = inr (not, s.first);
-    further = s.further;
-  }
-
-  split : (xs before : List X) (x : X) (after : List X) → ArePicked P xs (before ++ x ∷ after) → Split xs before x after
-  split [] before x after is = never_empty before x after is
-  split (y ∷ xs) [] x after (inl (rest, p, is, h)) =
-      let same : y ≡ x = cc is in
-      let others : rest ≡ after = cc is in
-      record {
-        front = [];
-        back = xs;
-        is = ap (λ (z : X). z ∷ xs) same;
-        has = subst P same p;
-        first = refl;
-        further = subst (λ (l : List X). ArePicked P xs l) others h;
-      }
-  split (y ∷ xs) (b ∷ before) x after (inl (rest, p, is, h)) =
-      let same : b ≡ y = cc is in
-      let others : rest ≡ before ++ x ∷ after = cc is in
-      let s = split xs before x after (subst (λ (l : List X). ArePicked P xs l) others h) in
-      record {
-        front = y ∷ s.front;
-        back = s.back;
-        is = ap (λ (l : List X). y ∷ l) s.is;
-        has = s.has;
-        first = inl (before, p, ap (λ (z : X). z ∷ before) same, s.first);
-        further = s.further;
-      }
-  split (y ∷ xs) [] x after (inr (not, h)) = one_later y xs [] x after not (split xs [] x after h)
-  split (y ∷ xs) (b ∷ before) x after (inr (not, h)) = one_later y xs (b ∷ before) x after not (split xs (b ∷ before) x after h)
-
-  -- what those that are picked have, each element with P has
-  pub within : (Q : X → Type 0) (xs picked : List X) → ArePicked P xs picked → AllByRecursion Q picked → AllByRecursion (λ y. P y → Q y) xs
-  within Q [] picked is all = tt
-  within Q (y ∷ xs) picked (inl (rest, p, is, h)) all =
-      let has : AllByRecursion Q (y ∷ rest) = subst (λ (l : List X). AllByRecursion Q l) is all in
-      ((λ q. has.0), within Q xs rest h has.1)
-  within Q (y ∷ xs) picked (inr (not, h)) all = ((λ q. absurd (not q)), within Q xs picked h all)
-
-  -- where none is picked, none has P
-  pub none_has : (xs : List X) → ArePicked P xs [] → AllByRecursion (λ y. P y → ⊥) xs
-  none_has xs h = within (λ y. ⊥) xs [] h tt
-
-  -- the first that is picked is the first with P
-  pub first_picked : (xs : List X) (x : X) (more : List X) → ArePicked P xs (x ∷ more) → IsFirstWith P x xs
-  first_picked xs x more h =
-      let s = split xs [] x more h in
-      record { before = s.front; after = s.back; is = s.is; has = s.has; none_before = none_has s.front s.first }
+  -- one of all that has P is one of them
+  pub one_of_picked : (xs picked : List X) → ArePicked P xs picked → (x : X) → Contains xs x → P x → Contains picked x
+  one_of_picked [] picked is x at p = absurd (in_none x at)
+  one_of_picked (y ∷ xs) picked (inl (rest, q, is, h)) x at p = subst (λ (l : List X). Contains l x) (sym is) (
+      elim (first_or_further y xs x at) [
+        | inl same ↦ in_front y rest x same
+        | inr more ↦ further y rest x (one_of_picked xs rest h x more p)
+      ]
+      )
+  one_of_picked (y ∷ xs) picked (inr (not, h)) x at p =
+      elim (first_or_further y xs x at) [
+        | inl same ↦ absurd (not (subst P (sym same) p))
+        | inr more ↦ one_of_picked xs picked h x more p
+      ]
 
 -- of those that were picked some are picked
 module _ {X : Type 0} (P Q : X → Type 0) where
@@ -112,20 +85,13 @@ module _ (P E : CrlState → Type 0) (c : CertFields) (lists picked : List CrlSt
   -- the latest of those that are picked is the latest of all
   pub latest_of_all : (l : CrlState) → (P l → E l) → IsLatestOf c picked l → IsLatest E c lists l
   latest_of_all l fits h =
-      let s = split P lists h.before l h.after (subst (λ (ls : List CrlState). ArePicked P lists ls) h.is are) in
-      let Over = λ (o : CrlState). Unit {0} → Supersedes c l o in
-      let Under = λ (o : CrlState). Unit {0} → Supersedes c o l → ⊥ in
+      let one = one_of_all P lists picked are l h.inside in
       record {
-        before = s.front;
-        after = s.back;
-        is = s.is;
-        has = fits s.has;
-        over_earlier = all_map (λ o. P o → Over o) (λ o. E o → Supersedes c l o) s.front (λ o f e. f (meets o e) tt) (within P Over s.front h.before s.first h.over_earlier);
-        over_later = all_map (λ o. P o → Under o) (λ o. E o → Supersedes c o l → ⊥) s.back (λ o f e. f (meets o e) tt) (within P Under s.back h.after s.further h.over_later);
+        inside = one.0;
+        has = fits one.1;
+        stays = λ other at e. h.stays other (one_of_picked P lists picked are other at (meets other e)) tt;
       }
 
   -- where none is picked, none is eligible
   pub none_of_all : picked ≡ [] → HaveNone E lists
-  none_of_all is =
-      let none = none_has P lists (subst (λ (ls : List CrlState). ArePicked P lists ls) is are) in
-      all_map (λ o. P o → ⊥) (λ o. E o → ⊥) lists (λ o not e. not (meets o e)) none
+  none_of_all is other at e = in_none other (subst (λ (ls : List CrlState). Contains ls other) is (one_of_picked P lists picked are other at (meets other e)))

@@ -11,8 +11,7 @@ use Rattle.rpki_crl.specs.Lists.{CrlState}
 use Rattle.rpki_crl.specs.Revocation.{NamesIssuer, revocation_checks}
 use Rattle.rpki_crl.specs.declared.revocation_error.RevocationError.{RevocationError}
 use Rattle.rpki_crl.specs.declared.revocation_error.RevocationError.TheVariants.{Stale, Revoked}
-use Rattle.rpki_path.specs.AskedLists.{HasBegun, IsEligible, Revokes, IsLatest, by_lists}
-use Rattle.rpki_path.specs.AskedLists.Steps.{HaveNone}
+use Rattle.rpki_path.specs.AskedLists.{HasBegun, IsEligible, Revokes, HaveNone, IsLatest, by_lists}
 
 -- the second list has those elements of the first that have P, in their order
 abbrev pub ArePicked : {X : Type 0} → (X → Type 0) → List X → List X → Type 0
@@ -54,7 +53,7 @@ pub record AreIssuers (x : Context) (lists : List CrlState) (issuer : TbsFields)
 
 -- ---- one certificate
 
--- of these lists the one that is asked of the certificate
+-- of these lists a latest one for the certificate, which is asked of it
 abbrev pub IsLatestOf : CertFields → List CrlState → CrlState → Type 0
 IsLatestOf c lists l = IsLatest (λ _. Unit {0}) c lists l
 

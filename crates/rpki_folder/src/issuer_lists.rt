@@ -78,12 +78,14 @@ fn why_none<V: Verifier>(
     ensures { (strict : Bool) → let x = context (V.verifies verifier.now) now strict in
         FailsWithout x lists.now issuer.now.cert.fields result }
 {
-    let Some(&place) = places.first() else {
+    if places.is_empty() {
         return RevocationError::NoCrl;
-    };
-    let list = list_at(lists, place);
-    if has_begun(list, now) || !is_signed_by(list, issuer, verifier) {
-        return RevocationError::BadSignature;
+    }
+    for &place in places {
+        let list = list_at(lists, place);
+        if has_begun(list, now) || !is_signed_by(list, issuer, verifier) {
+            return RevocationError::BadSignature;
+        }
     }
     RevocationError::Stale
 }

@@ -18,3 +18,5 @@ pub mod LocatedPaths
 mod ListOrder
 pub mod LatestLists
 pub mod AskedList
+pub mod SameLists
+pub mod AskedAlike

@@ -1,8 +1,6 @@
 -- Lists as a caller gives them: which of them is asked of a certificate below its issuer, and what
--- (RFC 6487 5, 7.2, RFC 5280 6.3.3).
-use Rattle.std.specs.Prelude.{◌≡◌, ◌⊎◌, ◌↔◌, ◌<◌, List, ◌∷◌, ◌++◌, Some}
-use Rattle.std.specs.List.{AllByRecursion}
-use Rattle.rpki_der.specs.Sequences.{IsFirstWith}
+-- (RFC 6487 5, 7.2, RFC 5280 6.3.3). Their order says nothing.
+use Rattle.std.specs.Prelude.{◌≡◌, ◌⊎◌, ◌↔◌, ◌<◌, List, Some, Contains}
 use Rattle.rpki_der.specs.Times.{Moment, second_number}
 use Rattle.rpki_parts.specs.Signatures.{Verifies}
 use Rattle.rpki_parts.specs.ValidAt.{IsNotAfter}
@@ -38,13 +36,20 @@ Revokes c l = IsRevoked c.fields.serial l.list.fields.revoked.entries
 
 -- ---- which list takes the place of which
 
+-- its thisUpdate is later than the other's; or they are equal, and its nextUpdate is later
+abbrev pub IsLater : CrlState → CrlState → Type 0
+IsLater l other =
+    (second_number other.list.fields.this_update < second_number l.list.fields.this_update)
+    ⊎ ((second_number l.list.fields.this_update ≡ second_number other.list.fields.this_update)
+    × (second_number other.list.fields.next_update < second_number l.list.fields.next_update))
+
 -- of two lists of one number, which RFC 5280 5.2.3 forbids: it revokes the certificate and the other
--- doesn't; or both do or both don't, and it is of a later moment (own: a list that revokes the
--- certificate is never hidden)
+-- doesn't; or both do or both don't, and it is later (own: a list that revokes the certificate is
+-- never hidden)
 abbrev pub SupersedesEqual : CertFields → CrlState → CrlState → Type 0
 SupersedesEqual c l other =
     (Revokes c l × (Revokes c other → ⊥))
-    ⊎ ((Revokes c l ↔ Revokes c other) × (second_number other.list.fields.this_update < second_number l.list.fields.this_update))
+    ⊎ ((Revokes c l ↔ Revokes c other) × IsLater l other)
 
 -- the list takes the place of the other: it has the greater number (RFC 6487 5), or as told of
 -- equal numbers
@@ -53,27 +58,32 @@ Supersedes c l other =
     (other.list.fields.extensions.crl_number < l.list.fields.extensions.crl_number)
     ⊎ ((l.list.fields.extensions.crl_number ≡ other.list.fields.extensions.crl_number) × SupersedesEqual c l other)
 
--- of the lists with P the latest for the certificate: it supersedes each that was given before it,
--- and none that was given after it supersedes it
+-- no list has P
+abbrev pub HaveNone : (CrlState → Type 0) → List CrlState → Type 0
+HaveNone P lists = (l : CrlState) → Contains lists l → P l → ⊥
+
+-- of the lists with P a latest one for the certificate: none of them takes its place. Where there
+-- are several, they agree in all that is asked
 pub record IsLatest (P : CrlState → Type 0) (c : CertFields) (lists : List CrlState) (l : CrlState) : Type 0 where
-  pub before : List CrlState
-  pub after : List CrlState
-  pub is : lists ≡ before ++ l ∷ after
+  pub inside : Contains lists l
   pub has : P l
-  pub over_earlier : AllByRecursion (λ other. P other → Supersedes c l other) before
-  pub over_later : AllByRecursion (λ other. P other → Supersedes c other l → ⊥) after
+  pub stays : (other : CrlState) → Contains lists other → P other → Supersedes c other l → ⊥
+
+-- these are the same lists, in whatever order, and however often each is given
+abbrev pub AreSameLists : List CrlState → List CrlState → Type 0
+AreSameLists lists others = (l : CrlState) → Contains lists l ↔ Contains others l
 
 -- ---- which list is asked, and what
 
--- The list that is asked of the certificate below its issuer: of those that are eligible the latest;
--- where none is, the first that is for the certificate, which then fails a check (own).
+-- The list is asked of the certificate below the issuer: of those that are eligible the latest;
+-- where none is, each that is for the certificate, one of which then fails a check (own).
 abbrev pub IsAskedOf : Context → List CrlState → TbsFields → CertFields → CrlState → Type 0
 IsAskedOf x lists issuer c l =
     let P = IsEligible x.verifies x.now issuer c in
-    IsLatest P c lists l ⊎ (AllByRecursion (λ other. P other → ⊥) lists × IsFirstWith (IsFor c) l lists)
+    IsLatest P c lists l ⊎ (HaveNone P lists × Contains lists l × IsFor c l)
 
--- the checks of a certificate with the lists that were given: those of the list that is asked of it,
--- whose time has also to have begun
+-- the checks of a certificate with the lists that were given: those of the lists that are asked of
+-- it, whose time has also to have begun
 abbrev pub by_lists : Context → List CrlState → RevocationChecks
 by_lists x lists issuer c Stale =
     ((l : CrlState) → IsAskedOf x lists issuer c l → HasBegun x.now l.list) × RevocationCheck x issuer c.fields.serial (IsAskedOf x lists issuer c) Stale

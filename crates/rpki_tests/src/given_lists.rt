@@ -128,6 +128,24 @@ fn of_one_number_the_one_that_revokes_is_asked(rt: HostRuntime) {
 }
 
 #[test]
+fn of_one_number_and_begin_the_one_that_is_due_later_is_asked(rt: HostRuntime) {
+    let alloc = rt.alloc();
+    let stale = plain(&rt, alloc, 7, 2019, 2023);
+    let current = plain(&rt, alloc, 7, 2019, 2029);
+    both_answer(&rt, alloc, stale, current, Ok(()));
+    let stale = list(&rt, alloc, 7, 2019, 2023, b"abc");
+    let current = list(&rt, alloc, 7, 2019, 2029, b"abc");
+    both_answer(&rt, alloc, stale, current, Err(RevocationError::Revoked));
+    // The one that revokes goes first all the same, and so does the one that begins later.
+    let revoking = list(&rt, alloc, 7, 2019, 2023, b"abc");
+    let current = plain(&rt, alloc, 7, 2019, 2029);
+    both_answer(&rt, alloc, revoking, current, Err(RevocationError::Stale));
+    let later = plain(&rt, alloc, 7, 2020, 2023);
+    let longer = plain(&rt, alloc, 7, 2019, 2029);
+    both_answer(&rt, alloc, later, longer, Err(RevocationError::Stale));
+}
+
+#[test]
 fn a_stale_list_supersedes_and_rejects(rt: HostRuntime) {
     let alloc = rt.alloc();
     let older = plain(&rt, alloc, 1, 2019, 2029);
@@ -151,4 +169,18 @@ fn a_list_that_cannot_be_asked_says_why(rt: HostRuntime) {
     alone(&rt, alloc, future, RevocationError::Stale);
     let foreign = list(&rt, alloc, 2, 2025, 2029, b"ab");
     alone(&rt, alloc, foreign, RevocationError::BadSignature);
+}
+
+#[test]
+fn of_lists_that_cannot_be_asked_each_has_to_be_signed(rt: HostRuntime) {
+    let alloc = rt.alloc();
+    let future = plain(&rt, alloc, 1, 2025, 2029);
+    let foreign = list(&rt, alloc, 2, 2019, 2029, b"ab");
+    both_answer(&rt, alloc, future, foreign, Err(RevocationError::BadSignature));
+    let future = plain(&rt, alloc, 1, 2025, 2029);
+    let foreign = list(&rt, alloc, 2, 2026, 2029, b"ab");
+    both_answer(&rt, alloc, future, foreign, Err(RevocationError::BadSignature));
+    let future = plain(&rt, alloc, 1, 2025, 2029);
+    let other = list(&rt, alloc, 2, 2026, 2029, b"abc");
+    both_answer(&rt, alloc, future, other, Err(RevocationError::Stale));
 }

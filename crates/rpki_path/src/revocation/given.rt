@@ -6,8 +6,8 @@ ghost use Rattle.rpki_parts.specs.Conditions.{IsFirstFalse};
 ghost use Rattle.rpki_cert.specs.Verification.{context, IsSignedBy};
 ghost use Rattle.rpki_crl.specs.Lists.{CrlState};
 ghost use Rattle.rpki_crl.specs.Revocation.{revocation_checks};
-ghost use Rattle.rpki_path.specs.AskedLists.{IsFor, HasBegun, IsEligible, Revokes, SupersedesEqual, Supersedes, by_lists};
-ghost use Rattle.rpki_path.specs.AskedLists.Steps.{HaveNone, IsLatestIfAny, IsFirstIfAny};
+ghost use Rattle.rpki_path.specs.AskedLists.{IsFor, HasBegun, IsEligible, Revokes, HaveNone, IsLater, SupersedesEqual, Supersedes, by_lists};
+ghost use Rattle.rpki_path.specs.AskedLists.Steps.{IsLatestIfAny, IsOneIfAny, EachHas};
 
 use crate::revocation::source::RevocationSource;
 use rpki_cert::{Cert, ResourceCert};
@@ -21,11 +21,12 @@ use std::marker::Model;
 /// its issuer the issuer's latest list is asked: of the lists that name the key that signed the
 /// certificate, that the issuer's key signed, and that aren't from after the moment or from after
 /// their own next update, the one with the greatest number (RFC 6487 5). Of lists of one number,
-/// which RFC 5280 5.2.3 forbids, one that revokes the certificate goes first, then the later one,
-/// then the one that was given first (own). A list that another key signed, or whose time hasn't
-/// begun, hides none. Where there is no such list, the first that names the key is asked, and fails
-/// a check: `BadSignature`, or `Stale` where its time hasn't begun; where none names it, the answer
-/// is `NoCrl`.
+/// which RFC 5280 5.2.3 forbids, one that revokes the certificate goes first, then the one of the
+/// later thisUpdate, then the one of the later nextUpdate (own). A list that another key signed, or
+/// whose time hasn't begun, hides none. Where there is no such list, each that names the key is
+/// asked, and one fails a check: `BadSignature` where another key signed one of them, else `Stale`,
+/// as their time hasn't begun; where none names it, the answer is `NoCrl`. The answer is the same
+/// for every order of the lists ([`crate::revocation::laws::blind_to_order`]).
 ///
 /// A list is looked up in its table where its serial numbers are cached ([`Crl::cache_serials`]),
 /// and else walked. Each signature is verified at most once a question. Asking takes no memory.
@@ -95,13 +96,35 @@ fn by_number(list: &Crl, other: &Crl) -> Ordering
     number.cmp(&other.as_cert_list().crl_number())
 }
 
-// Whether a list is of a later moment than another one.
-fn is_later(list: &Crl, other: &Crl) -> bool
-    ensures { let moment = list.now.list.fields.this_update in
-        let others = other.now.list.fields.this_update in
+// How the moments of thisUpdate of two lists compare.
+fn by_this_update(list: &Crl, other: &Crl) -> Ordering
+    ensures { let moment = second_number list.now.list.fields.this_update in
+        let others = second_number other.now.list.fields.this_update in
+        MatchOrdering result (moment < others) (moment ≡ others) (others < moment) }
+{
+    let moment = list.as_cert_list().this_update();
+    moment.cmp(&other.as_cert_list().this_update())
+}
+
+// Whether the nextUpdate of a list is later than that of another one.
+fn is_due_later(list: &Crl, other: &Crl) -> bool
+    ensures { let moment = list.now.list.fields.next_update in
+        let others = other.now.list.fields.next_update in
         IsTrue result ↔ second_number others < second_number moment }
 {
-    list.as_cert_list().this_update() > other.as_cert_list().this_update()
+    list.as_cert_list().next_update() > other.as_cert_list().next_update()
+}
+
+// Whether a list is later than another one: by its thisUpdate, and where these are equal, by its
+// nextUpdate.
+fn is_later(list: &Crl, other: &Crl) -> bool
+    ensures { IsTrue result ↔ IsLater list.now other.now }
+{
+    match by_this_update(list, other) {
+        Ordering::Less => false,
+        Ordering::Equal => is_due_later(list, other),
+        Ordering::Greater => true,
+    }
 }
 
 // Whether a list takes the place of another one of the same number: one that revokes the
@@ -200,9 +223,9 @@ fn latest<'l, V: Verifier>(
     kept
 }
 
-// The first list for the certificate, whoever signed it.
-fn first<'l>(lists: &'l [Crl], cert: &Cert) -> Option<&'l Crl>
-    ensures { IsFirstIfAny (IsFor cert.now) lists.now (option_copied result) }
+// A list for the certificate, whoever signed it.
+fn one_for<'l>(lists: &'l [Crl], cert: &Cert) -> Option<&'l Crl>
+    ensures { IsOneIfAny (IsFor cert.now) lists.now (option_copied result) }
 {
     for list in lists {
         if is_for(list, cert) {
@@ -212,8 +235,50 @@ fn first<'l>(lists: &'l [Crl], cert: &Cert) -> Option<&'l Crl>
     None
 }
 
-// Why the certificate isn't found unrevoked where no list is eligible. A list for it whose time has
-// begun isn't signed by the issuer then, so no signature is verified twice.
+// Whether the issuer's key signed a list that isn't eligible, if that is for the certificate. One
+// whose time has begun isn't signed then, so no signature is verified twice.
+fn is_signed_if_for<V: Verifier>(
+    list: &Crl,
+    cert: &Cert,
+    issuer: &ResourceCert,
+    now: Time,
+    verifier: &V,
+) -> bool
+    requires { let verifies = V.verifies verifier.now in
+        IsEligible verifies now issuer.now.cert.fields cert.now list.now → ⊥ }
+    ensures { let key = issuer.now.cert.fields.key in
+        let signed = IsSignedBy (V.verifies verifier.now) key list.now.list.signed_data in
+        IsTrue result ↔ (IsFor cert.now list.now → signed) }
+{
+    if !is_for(list, cert) {
+        return true;
+    }
+    !has_begun(list, now) && is_signed_by(list, issuer, verifier)
+}
+
+// Whether the issuer's key signed each list for the certificate, where none is eligible.
+fn are_signed<V: Verifier>(
+    lists: &[Crl],
+    cert: &Cert,
+    issuer: &ResourceCert,
+    now: Time,
+    verifier: &V,
+) -> bool
+    requires { let verifies = V.verifies verifier.now in
+        HaveNone (IsEligible verifies now issuer.now.cert.fields cert.now) lists.now }
+    ensures { let key = issuer.now.cert.fields.key in
+        IsTrue result ↔ EachHas (IsFor cert.now)
+        (λ l. IsSignedBy (V.verifies verifier.now) key l.list.signed_data) lists.now }
+{
+    for list in lists {
+        if !is_signed_if_for(list, cert, issuer, now, verifier) {
+            return false;
+        }
+    }
+    true
+}
+
+// Why the certificate isn't found unrevoked where no list is eligible.
 fn why_none<V: Verifier>(
     lists: &[Crl],
     cert: &Cert,
@@ -228,13 +293,13 @@ fn why_none<V: Verifier>(
         let checks = by_lists x lists.now issuer.now.cert.fields cert.now in
         IsFirstFalse checks revocation_checks result }
 {
-    let Some(list) = first(lists, cert) else {
+    let Some(list) = one_for(lists, cert) else {
         return RevocationError::NoCrl;
     };
     if list.verify_issuer_claim(issuer, strict).is_err() {
         return RevocationError::WrongKeyId;
     }
-    if has_begun(list, now) || !is_signed_by(list, issuer, verifier) {
+    if !are_signed(lists, cert, issuer, now, verifier) {
         return RevocationError::BadSignature;
     }
     RevocationError::Stale

@@ -1,5 +1,6 @@
 use Rattle.std.specs.Prelude.{List, option_copied}
-use Rattle.std.proofs.Common.{◌≡◌, ◌+◌, suc, map, take, sym, subst, arith}
+use Rattle.std.proofs.Common.{◌≡◌, ◌+◌, suc, map, take, sym, ap, subst, arith}
+use Rattle.std.proofs.lemmas.List.{take_all}
 use Rattle.rpki_crl.proofs.Loops.{taken_more}
 use Rattle.rpki_crl.specs.Lists.{CrlState}
 use Rattle.rpki_path.specs.AskedLists.Steps.{IsLatestIfAny}
@@ -12,3 +13,8 @@ loop-list-preserved c =
     let next : i + 1 ≡ suc i = omega arith in
     let gone = taken_more (λ r. r.now) lists i (i + 1) c.list-item.result next c.loop-list-test.true c.list-item.is in
     subst (λ (seen : List CrlState). IsLatestIfAny (λ _. Unit {0}) c.args.cert.now seen (option_copied c.later_of-kept.result)) (sym gone) (c.later_of-kept.ensures (map (λ r. r.now) (take i lists)) c.loop-list.invariant)
+
+pub returns : goal.returns
+returns c =
+    let all = ap (λ rs. map (λ r. r.now) rs) (take_all c.loop-list.list-index c.args.lists.now c.loop-list-test.false) in
+    subst (λ (seen : List CrlState). IsLatestIfAny (λ _. Unit {0}) c.args.cert.now seen (option_copied c.loop-list.kept)) all c.loop-list.invariant

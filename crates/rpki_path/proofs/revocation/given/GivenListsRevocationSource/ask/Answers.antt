@@ -1,4 +1,4 @@
-use Rattle.std.proofs.Common.{◌<◌, ◌≤◌, List, refl, subst, inl, arith}
+use Rattle.std.proofs.Common.{◌<◌, ◌≤◌, List, refl, subst, arith}
 use Rattle.std.proofs.lemmas.Bool.{false≢true}
 use Rattle.rpki_der.specs.Times.{second_number}
 use Rattle.rpki_parts.specs.Conditions.{IsFirstFalse}
@@ -24,7 +24,7 @@ returns-then-is_stale g c =
     let latest = subst (λ (lists : List CrlState). IsLatest (IsEligible x.verifies x.now issuer cert) cert lists list) c.self.view_is c.in-Some.ensures in
     let names = c.verify_issuer_claim.ensures.ok.0 c.if-is_err.ensures.negation in
     let due = subst (λ (f : ListFields Revoked). second_number f.next_update < second_number c.args.now) c.as_cert_list.ensures (c.if-is_stale.ensures.0 refl) in
-    stale x c.args.self.now issuer cert list (inl latest) names latest.has.1 (λ lasts. omega (arith, due, lasts))
+    stale x c.args.self.now issuer cert list latest names (λ lasts. omega (arith, due, lasts))
 
 pub returns-then-revokes : goal.returns-then-revokes
 returns-then-revokes g c =
@@ -35,7 +35,7 @@ returns-then-revokes g c =
     let latest = subst (λ (lists : List CrlState). IsLatest (IsEligible x.verifies x.now issuer cert) cert lists list) c.self.view_is c.in-Some.ensures in
     let names = c.verify_issuer_claim.ensures.ok.0 c.if-is_err.ensures.negation in
     let lasts = subst (λ (f : ListFields Revoked). second_number c.args.now ≤ second_number f.next_update) c.as_cert_list.ensures (not_after (λ due. false≢true (c.if-is_stale.ensures.1 due))) in
-    revoked x c.args.self.now issuer cert list (inl latest) names latest.has.1 latest.has.2 lasts (c.if-revokes.ensures.0 refl)
+    revoked x c.args.self.now issuer cert list latest names lasts (c.if-revokes.ensures.0 refl)
 
 pub returns : goal.returns
 returns g c =
@@ -46,4 +46,4 @@ returns g c =
     let latest = subst (λ (lists : List CrlState). IsLatest (IsEligible x.verifies x.now issuer cert) cert lists list) c.self.view_is c.in-Some.ensures in
     let names = c.verify_issuer_claim.ensures.ok.0 c.if-is_err.ensures.negation in
     let lasts = subst (λ (f : ListFields Revoked). second_number c.args.now ≤ second_number f.next_update) c.as_cert_list.ensures (not_after (λ due. false≢true (c.if-is_stale.ensures.1 due))) in
-    unrevoked x c.args.self.now issuer cert list (inl latest) names latest.has.1 latest.has.2 lasts (λ has. false≢true (c.if-revokes.ensures.1 has))
+    unrevoked x c.args.self.now issuer cert list latest names lasts (λ has. false≢true (c.if-revokes.ensures.1 has))
