@@ -21,8 +21,6 @@ mod folder;
 #[cfg(test)]
 mod given_lists;
 #[cfg(test)]
-mod inspection;
-#[cfg(test)]
 mod issuing;
 #[cfg(test)]
 mod judging;
@@ -42,6 +40,8 @@ mod paths;
 mod real_signatures;
 #[cfg(test)]
 mod routers;
+#[cfg(test)]
+mod rows;
 pub mod samples;
 #[cfg(test)]
 mod shared;
