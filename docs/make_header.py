@@ -1,19 +1,22 @@
 #!/usr/bin/env python3
-"""Writes the numbers of parts and faults in include/rpki.h, from the tables of crates/rpki_files.
+"""Writes what callers read of the tables of faults in crates/rpki_files: the numbers of parts and
+faults in include/rpki.h, and the names of faults in the documentation of callers/rust.
 
-    docs/make_header.py            writes the header
-    docs/make_header.py --check    writes nothing, and exits with 1 where it isn't up to date
+    docs/make_header.py            writes both
+    docs/make_header.py --check    writes nothing, and exits with 1 where one isn't up to date
 
-A comment that stands above a number, or behind it, stays with the number. Plain Python 3, standard
-library alone.
+A comment that stands above a number of the header, or behind it, stays with the number. Plain
+Python 3, standard library alone.
 """
 import re
 import sys
+import textwrap
 from pathlib import Path
 
 ROOT = Path(__file__).resolve().parent.parent
 TABLES = ROOT / "crates" / "rpki_files" / "src" / "faults.rt"
 HEADER = ROOT / "include" / "rpki.h"
+CRATE = ROOT / "callers" / "rust" / "src" / "fault.rs"
 PREFIXES = {
     "GENERAL": "",
     "READING": "DECODE_",
@@ -23,6 +26,14 @@ PREFIXES = {
     "PATH": "",
     "LOCATOR": "LOCATOR_",
     "ISSUING": "ISSUING_",
+}
+
+# The kinds of the crate whose names are those of one table.
+KINDS = {
+    "Decode": "READING",
+    "Inspection": "INSPECTION",
+    "Verification": "VERIFICATION",
+    "Revocation": "REVOCATION",
 }
 
 
@@ -96,13 +107,30 @@ def aligned(lines):
     return told
 
 
+def documented(crate, kind, names):
+    """The crate's source with these names in the last paragraph above a kind."""
+    above = re.search(rf"((?:    ///.*\n)*)    {kind},\n", crate)
+    paragraphs = re.sub(r"    /// ?", "", above.group(1)).split("\n\n")
+    listed = ", ".join(f"`{name}`" for name in names[:-1]) + f" or `{names[-1]}`"
+    joined = " ".join(paragraphs[-1].split())
+    paragraphs[-1] = re.sub(r"Its name is (`\w+`(, | or )?)+\.", f"Its name is {listed}.", joined)
+    paragraphs[-1] = "\n".join(textwrap.wrap(paragraphs[-1], 92)) + "\n"
+    lines = "\n\n".join(paragraphs).split("\n")[:-1]
+    told = "".join(f"    /// {line}".rstrip() + "\n" for line in lines)
+    return crate[: above.start(1)] + told + crate[above.end(1) :]
+
+
 def main():
-    text, before = TABLES.read_text(), HEADER.read_text()
-    after = enum(before, "rpki_field", list(parts(text)))
-    after = enum(after, "rpki_fault", sorted(faults(text)))
+    text, header, crate = TABLES.read_text(), HEADER.read_text(), CRATE.read_text()
+    made = enum(header, "rpki_field", list(parts(text)))
+    made = enum(made, "rpki_fault", sorted(faults(text)))
+    told = crate
+    for kind, table in KINDS.items():
+        told = documented(told, kind, re.findall(r'^    \d+ "(\w+)"', rows(text, table), re.M))
     if sys.argv[1:] == ["--check"]:
-        return 0 if after == before else 1
-    HEADER.write_text(after)
+        return 0 if (made, told) == (header, crate) else 1
+    HEADER.write_text(made)
+    CRATE.write_text(told)
     return 0
 
 

@@ -8,7 +8,6 @@ use Rattle.rpki_der.specs.ErrorNames.{decode_error_name}
 use Rattle.rpki_der.specs.declared.error.Field.{Field}
 use Rattle.rpki_der.specs.declared.error.Field.TheVariants as field
 use Rattle.rpki_der.specs.declared.error.DecodeError.{DecodeError}
-use Rattle.rpki_der.specs.declared.error.DecodeError.TheVariants as decoding
 use Rattle.rpki_ext.specs.Inspection.{inspection_error_name}
 use Rattle.rpki_ext.specs.declared.inspection.InspectionError.{InspectionError}
 use Rattle.rpki_cert.specs.Verification.{verification_error_name}
@@ -79,85 +78,85 @@ general_rows =
 unfoldable pub reading_rows : List FaultFields
 reading_rows =
     fault 100 "Truncated" "truncated value"
-        "it doesn't begin with a certificate of the profile" "RFC 6487 4" ∷
+    "it doesn't begin with a certificate of the profile" "RFC 6487 4" ∷
     fault 101 "BadLength" "bad length"
-        "it doesn't begin with a certificate of the profile" "RFC 6487 4" ∷
+    "it doesn't begin with a certificate of the profile" "RFC 6487 4" ∷
     fault 102 "BadTag" "unexpected identifier"
-        "it doesn't begin with a certificate of the profile" "RFC 6487 4" ∷
+    "it doesn't begin with a certificate of the profile" "RFC 6487 4" ∷
     fault 103 "BadValue" "bad value"
-        "it doesn't begin with a certificate of the profile" "RFC 6487 4" ∷
+    "it doesn't begin with a certificate of the profile" "RFC 6487 4" ∷
     fault 104 "Trailing" "trailing octets"
-        "it doesn't begin with a certificate of the profile" "RFC 6487 4" ∷
+    "it doesn't begin with a certificate of the profile" "RFC 6487 4" ∷
     fault 105 "TooDeep" "values nested too deep"
-        "it doesn't begin with a certificate of the profile" "RFC 6487 4" ∷
+    "it doesn't begin with a certificate of the profile" "RFC 6487 4" ∷
     fault 106 "AlgorithmMismatch" "signature algorithm mismatch"
-        "it doesn't begin with a certificate of the profile" "RFC 6487 4" ∷
+    "it doesn't begin with a certificate of the profile" "RFC 6487 4" ∷
     fault 107 "UnexpectedCritical" "unexpected critical extension"
-        "an unknown extension is critical" "RFC 6487 4.8" ∷
+    "an unknown extension is critical" "RFC 6487 4.8" ∷
     fault 108 "InvalidExtension" "invalid extension"
-        "it doesn't begin with a certificate of the profile" "RFC 6487 4" ∷
+    "it doesn't begin with a certificate of the profile" "RFC 6487 4" ∷
     part_fault 120 "Missing" "missing " "" "an extension that must be there is missing" "" ∷
     part_fault 140 "Duplicate" "duplicate " "" "an extension stands twice" "RFC 5280 4.2" ∷
     part_fault 160 "Critical" "" " is critical" "an extension that must not be critical is" "" ∷
     part_fault 180 "NotCritical" "" " is not critical"
-        "an extension that must be critical isn't" "" ∷
+    "an extension that must be critical isn't" "" ∷
     part_fault 200 "WrongResources" "wrong identifier of " ""
-        "the resources stand under identifiers that its policy doesn't have" "RFC 8360 4.2" ∷ []
+    "the resources stand under identifiers that its policy doesn't have" "RFC 8360 4.2" ∷ []
 
 -- why a certificate doesn't meet its profile
 unfoldable pub inspection_rows : List FaultFields
 inspection_rows =
     fault 300 "AlgorithmMismatch" "signature algorithm mismatch"
-        "the signature algorithm inside what is signed isn't that of the signature" "RFC 5280 4.1.1.2" ∷
+    "the signature algorithm inside what is signed isn't that of the signature" "RFC 5280 4.1.1.2" ∷
     fault 301 "Issuer" "invalid issuer" "the issuer's name has another form" "RFC 6487 4.4" ∷
     fault 302 "Subject" "invalid subject" "the subject's name has another form" "RFC 6487 4.5" ∷
     fault 303 "KeyAlgorithm" "invalid key algorithm"
-        "the key has another algorithm" "RFC 6487 4.7" ∷
+    "the key has another algorithm" "RFC 6487 4.7" ∷
     fault 304 "SubjectKeyIdentifier" "subject key identifier mismatch"
-        "the subject key identifier isn't the SHA-1 hash of the key" "RFC 6487 4.8.2" ∷
+    "the subject key identifier isn't the SHA-1 hash of the key" "RFC 6487 4.8.2" ∷
     fault 305 "ExtendedKeyUsagePresent" "extended key usage present"
-        "Extended Key Usage must be absent" "RFC 6487 4.8.5" ∷
+    "Extended Key Usage must be absent" "RFC 6487 4.8.5" ∷
     fault 306 "CaFlagFalse" "CA flag is false"
-        "Basic Constraints don't say that it is a CA" "RFC 6487 4.8.1" ∷
+    "Basic Constraints don't say that it is a CA" "RFC 6487 4.8.1" ∷
     fault 307 "MissingBasicConstraints" "missing basic constraints"
-        "Basic Constraints are missing" "RFC 6487 4.8.1" ∷
+    "Basic Constraints are missing" "RFC 6487 4.8.1" ∷
     fault 308 "KeyUsage" "wrong key usage" "the key usage is another" "RFC 6487 4.8.4" ∷
     fault 309 "MissingCaRepository" "missing CA repository"
-        "the URI of the repository is missing" "RFC 6487 4.8.8.1" ∷
+    "the URI of the repository is missing" "RFC 6487 4.8.8.1" ∷
     fault 310 "MissingManifest" "missing manifest"
-        "the URI of the manifest is missing" "RFC 6487 4.8.8.1" ∷
+    "the URI of the manifest is missing" "RFC 6487 4.8.8.1" ∷
     fault 311 "ManifestNotChild" "manifest outside the repository"
-        "the manifest stands outside the repository" "RFC 6487 4.8.8.1" ∷
+    "the manifest stands outside the repository" "RFC 6487 4.8.8.1" ∷
     fault 312 "SignedObjectPresent" "signed object present"
-        "the URI of a signed object must be absent" "RFC 6487 4.8.8.1" ∷
+    "the URI of a signed object must be absent" "RFC 6487 4.8.8.1" ∷
     fault 313 "AuthorityKeyIdentifier" "authority key identifier mismatch"
-        "the authority key identifier of a trust anchor is another key's" "RFC 6487 4.8.3" ∷
+    "the authority key identifier of a trust anchor is another key's" "RFC 6487 4.8.3" ∷
     fault 314 "CrlUriPresent" "CRL URI present"
-        "the URI of a revocation list must be absent" "RFC 6487 4.8.6" ∷
+    "the URI of a revocation list must be absent" "RFC 6487 4.8.6" ∷
     fault 315 "CaIssuerPresent" "CA issuer present"
-        "the URI of the issuer's certificate must be absent" "RFC 6487 4.8.7" ∷
+    "the URI of the issuer's certificate must be absent" "RFC 6487 4.8.7" ∷
     fault 316 "MissingCrlUri" "missing CRL URI"
-        "the URI of the issuer's revocation list is missing" "RFC 6487 4.8.6" ∷
+    "the URI of the issuer's revocation list is missing" "RFC 6487 4.8.6" ∷
     fault 317 "BasicConstraintsPresent" "basic constraints present"
-        "Basic Constraints must be absent" "RFC 6487 4.8.1" ∷
+    "Basic Constraints must be absent" "RFC 6487 4.8.1" ∷
     fault 318 "CaRepositoryPresent" "CA repository present"
-        "the URI of a repository must be absent" "RFC 6487 4.8.8.2" ∷
+    "the URI of a repository must be absent" "RFC 6487 4.8.8.2" ∷
     fault 319 "ManifestPresent" "manifest present"
-        "the URI of a manifest must be absent" "RFC 6487 4.8.8.2" ∷
+    "the URI of a manifest must be absent" "RFC 6487 4.8.8.2" ∷
     fault 320 "MissingSignedObject" "missing signed object"
-        "the URI of the signed object is missing" "RFC 6487 4.8.8.2" ∷
+    "the URI of the signed object is missing" "RFC 6487 4.8.8.2" ∷
     fault 321 "MissingExtendedKeyUsage" "missing extended key usage"
-        "Extended Key Usage is missing" "RFC 8209 3.1.3.2" ∷
+    "Extended Key Usage is missing" "RFC 8209 3.1.3.2" ∷
     fault 322 "MissingRouterPurpose" "missing router purpose"
-        "Extended Key Usage doesn't name the purpose of routers" "RFC 8209 3.1.3.2" ∷
+    "Extended Key Usage doesn't name the purpose of routers" "RFC 8209 3.1.3.2" ∷
     fault 323 "SubjectInformationPresent" "subject information access present"
-        "Subject Information Access must be absent" "RFC 8209 3.1.3.3" ∷
+    "Subject Information Access must be absent" "RFC 8209 3.1.3.3" ∷
     fault 324 "IpResourcesPresent" "IP resources present"
-        "IP resources must be absent" "RFC 8209 3.1.3.4" ∷
+    "IP resources must be absent" "RFC 8209 3.1.3.4" ∷
     fault 325 "MissingAsResources" "missing AS resources"
-        "AS resources are missing" "RFC 8209 3.1.3.5" ∷
+    "AS resources are missing" "RFC 8209 3.1.3.5" ∷
     fault 326 "InheritedAsResources" "inherited AS resources"
-        "AS resources must not be inherited" "RFC 8209 3.1.3.5" ∷ []
+    "AS resources must not be inherited" "RFC 8209 3.1.3.5" ∷ []
 
 -- why a certificate isn't that of its issuer, at this moment
 unfoldable pub verification_rows : List FaultFields
@@ -165,57 +164,57 @@ verification_rows =
     fault 400 "NotYetValid" "certificate not yet valid" "it isn't valid yet" "RFC 6487 4.6" ∷
     fault 401 "Expired" "certificate expired" "it has expired" "RFC 6487 4.6" ∷
     fault 402 "InheritedV4" "inherited IPv4 resources"
-        "a trust anchor inherits IPv4 addresses" "RFC 8630 2.3" ∷
+    "a trust anchor inherits IPv4 addresses" "RFC 8630 2.3" ∷
     fault 403 "InheritedV6" "inherited IPv6 resources"
-        "a trust anchor inherits IPv6 addresses" "RFC 8630 2.3" ∷
+    "a trust anchor inherits IPv6 addresses" "RFC 8630 2.3" ∷
     fault 404 "InheritedAs" "inherited AS resources"
-        "a trust anchor inherits AS numbers" "RFC 8630 2.3" ∷
+    "a trust anchor inherits AS numbers" "RFC 8630 2.3" ∷
     fault 405 "MissingKeyId" "missing authority key identifier"
-        "the authority key identifier is missing" "RFC 6487 4.8.3" ∷
+    "the authority key identifier is missing" "RFC 6487 4.8.3" ∷
     fault 406 "WrongKeyId" "wrong authority key identifier"
-        "the authority key identifier isn't that of the certificate above" "RFC 6487 4.8.3" ∷
+    "the authority key identifier isn't that of the certificate above" "RFC 6487 4.8.3" ∷
     fault 407 "MissingIssuerUri" "missing URI of the issuer's certificate"
-        "the URI of the issuer's certificate is missing" "RFC 6487 4.8.7" ∷
+    "the URI of the issuer's certificate is missing" "RFC 6487 4.8.7" ∷
     fault 408 "BadSignature" "bad signature"
-        "the signature isn't that of the key above" "RFC 6487 7.2" ∷
+    "the signature isn't that of the key above" "RFC 6487 7.2" ∷
     fault 409 "OverclaimV4" "overclaimed IPv4 resources"
-        "it lists IPv4 addresses that its issuer doesn't hold" "RFC 6487 7.2" ∷
+    "it lists IPv4 addresses that its issuer doesn't hold" "RFC 6487 7.2" ∷
     fault 410 "OverclaimV6" "overclaimed IPv6 resources"
-        "it lists IPv6 addresses that its issuer doesn't hold" "RFC 6487 7.2" ∷
+    "it lists IPv6 addresses that its issuer doesn't hold" "RFC 6487 7.2" ∷
     fault 411 "OverclaimAs" "overclaimed AS resources"
-        "it lists AS numbers that its issuer doesn't hold" "RFC 6487 7.2" ∷ []
+    "it lists AS numbers that its issuer doesn't hold" "RFC 6487 7.2" ∷ []
 
 -- why a certificate isn't shown to be unrevoked
 unfoldable pub revocation_rows : List FaultFields
 revocation_rows =
     fault 500 "NoCrl" "missing revocation list"
-        "its issuer's list isn't among those given" "RFC 6487 7.2" ∷
+    "its issuer's list isn't among those given" "RFC 6487 7.2" ∷
     fault 501 "WrongKeyId" "wrong authority key identifier of the revocation list"
-        "the list that is asked names another key than its issuer's" "RFC 6487 5" ∷
+    "the list that is asked names another key than its issuer's" "RFC 6487 5" ∷
     fault 502 "BadSignature" "bad signature of the revocation list"
-        "the signature of its issuer's list isn't that of the issuer's key" "RFC 6487 5" ∷
+    "the signature of its issuer's list isn't that of the issuer's key" "RFC 6487 5" ∷
     fault 503 "Stale" "stale revocation list"
-        "its issuer's list isn't current" "RFC 5280 5.1.2.4, 5.1.2.5" ∷
+    "its issuer's list isn't current" "RFC 5280 5.1.2.4, 5.1.2.5" ∷
     fault 504 "Revoked" "certificate revoked" "its issuer has revoked it" "RFC 6487 7.2" ∷ []
 
 -- why a path's names or its trust anchor aren't those that are asked
 unfoldable pub path_rows : List FaultFields
 path_rows =
     fault 600 "OtherName" "the issuer isn't the subject of the certificate above"
-        "its issuer isn't the subject of the certificate above" "RFC 6487 7.2" ∷
+    "its issuer isn't the subject of the certificate above" "RFC 6487 7.2" ∷
     fault 601 "OtherKey" "the trust anchor's key isn't the locator's"
-        "its key is that of no locator that was given" "RFC 8630 3" ∷ []
+    "its key is that of no locator that was given" "RFC 8630 3" ∷ []
 
 -- why a file isn't a locator
 unfoldable pub locator_rows : List FaultFields
 locator_rows =
     fault 700 "NoText" "not UTF-8 text" "the locator isn't UTF-8" "RFC 8630 2.2" ∷
     fault 701 "BadUri" "bad URI"
-        "a line of the locator's URIs is no rsync or https URI" "RFC 8630 2.2" ∷
+    "a line of the locator's URIs is no rsync or https URI" "RFC 8630 2.2" ∷
     fault 702 "NoUri" "no URI" "the locator has no URI" "RFC 8630 2.2" ∷
     fault 703 "NoKey" "no key" "no empty line stands behind the locator's URIs" "RFC 8630 2.2" ∷
     fault 704 "BadKey" "bad key"
-        "what stands behind the locator's empty line is no key in base64" "RFC 8630 2.2" ∷ []
+    "what stands behind the locator's empty line is no key in base64" "RFC 8630 2.2" ∷ []
 
 -- why no certificate and no list is issued
 unfoldable pub issuing_rows : List FaultFields

@@ -1,5 +1,5 @@
-use Rattle.std.proofs.Common.{◌≡◌, Bor, Option, bytes_eq, option_copied, ap, ◌∙◌}
-use Rattle.rpki_files.specs.FaultRows.{FaultFields, fault_fields, general_rows, row_in, rows_of}
+use Rattle.std.proofs.Common.{Bor, Option, bytes_eq, option_copied, ap, ◌∙◌}
+use Rattle.rpki_files.specs.FaultRows.{FaultFields, general_rows, row_in, rows_of}
 use Rattle.rpki_files.specs.declared.faults.Fault.{Fault}
 use Rattle.rpki_files.proofs.FaultTables.{found_row, named_row, seen}
 use Rattle.rpki_files.proofs.faults.named.Goals as goal

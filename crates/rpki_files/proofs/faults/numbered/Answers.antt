@@ -1,5 +1,5 @@
-use Rattle.std.proofs.Common.{◌≡◌, ℕ, ◌/◌, ◌==◌, find, option_copied, ap, ◌∙◌}
-use Rattle.rpki_files.specs.FaultRows.{FaultFields, kind_of_hundreds, rows_of}
+use Rattle.std.proofs.Common.{◌==◌, find, option_copied, ap, ◌∙◌}
+use Rattle.rpki_files.specs.FaultRows.{FaultFields, rows_of}
 use Rattle.rpki_files.specs.declared.faults.FaultKind.{FaultKind}
 use Rattle.rpki_files.proofs.FaultTables.{found_row}
 use Rattle.rpki_files.proofs.faults.numbered.Goals as goal

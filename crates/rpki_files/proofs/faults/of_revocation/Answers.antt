@@ -1,4 +1,4 @@
-use Rattle.std.proofs.Common.{◌≡◌, ◌/◌, ap, ◌∙◌}
+use Rattle.std.proofs.Common.{◌/◌, ap, ◌∙◌}
 use Rattle.rpki_files.specs.FaultRows.{FaultFields, row_named}
 use Rattle.rpki_files.specs.declared.faults.FaultKind.TheVariants as kind
 use Rattle.rpki_files.proofs.FaultTables.{revocations}
