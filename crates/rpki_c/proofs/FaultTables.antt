@@ -20,7 +20,7 @@ use Rattle.rpki_issuing.specs.declared.next.NextListError.TheVariants as next
 use Rattle.rpki_keys.specs.TalErrors.{tal_error_name}
 use Rattle.rpki_keys.specs.declared.tal.tal_error.TalError.{TalError}
 use Rattle.rpki_keys.specs.declared.tal.tal_error.TalError.TheVariants as tal
-use Rattle.rpki_files.specs.FaultRows.{general_rows, inspection_rows, issuing_rows, locator_rows, part_rows, reading_rows, revocation_rows, row_named, verification_rows}
+use Rattle.rpki_files.specs.FaultTable.{general_faults, inspection_faults, issuing_faults, locator_faults, part_table, reading_faults, revocation_faults, fault_named, verification_faults}
 use Rattle.rpki_c.specs.FaultNumbers.{decode_number, inspection_number, verification_number, revocation_number, locator_number, next_list_number}
 use Rattle.rpki_c.specs.FaultTexts.{name_told}
 
@@ -31,7 +31,7 @@ memory_or_more (suc zero) added great none = inl (refl, none refl)
 memory_or_more (suc (suc n)) added great none = inr (great (λ is. omega (arith, is)))
 
 pub decoding_told : (e : DecodeError) → name_told (decode_number e) ≡ Some (decode_error_name e)
-unfolding row_named general_rows reading_rows part_rows
+unfolding fault_named general_faults reading_faults part_table
 decoding_told (decoding.Missing field.BasicConstraints) = refl
 decoding_told (decoding.Duplicate field.BasicConstraints) = refl
 decoding_told (decoding.Critical field.BasicConstraints) = refl
@@ -40,32 +40,32 @@ decoding_told (decoding.WrongResources field.BasicConstraints) = refl
 decoding_told _ = refl
 
 pub inspections : (e : InspectionError) → name_told (inspection_number e) ≡ Some (inspection_error_name e)
-unfolding row_named general_rows inspection_rows
+unfolding fault_named general_faults inspection_faults
 inspections inspection.AlgorithmMismatch = refl
 inspections _ = refl
 
 pub verifications : (e : VerificationError) → name_told (verification_number e) ≡ Some (verification_error_name e)
-unfolding row_named general_rows verification_rows
+unfolding fault_named general_faults verification_faults
 verifications verification.Memory = refl
 verifications _ = refl
 
 pub revocations : (e : RevocationError) → name_told (revocation_number e) ≡ Some (revocation_error_name e)
-unfolding row_named general_rows revocation_rows
+unfolding fault_named general_faults revocation_faults
 revocations revocation.NoCrl = refl
 revocations _ = refl
 
 pub locators : (e : TalError) → name_told (locator_number e) ≡ Some (tal_error_name e)
-unfolding row_named general_rows locator_rows
+unfolding fault_named general_faults locator_faults
 locators tal.Memory = refl
 locators _ = refl
 
 pub next_lists : (e : NextListError) → name_told (next_list_number e) ≡ Some (next_list_error_name e)
-unfolding row_named general_rows issuing_rows
+unfolding fault_named general_faults issuing_faults
 next_lists next.Memory = refl
 next_lists _ = refl
 
 -- there is no list that is 0
 pub next_lists_are_faults : (e : NextListError) → next_list_number e ≢ 0
-unfolding row_named general_rows issuing_rows
+unfolding fault_named general_faults issuing_faults
 next_lists_are_faults next.Memory = λ is. omega (arith, is)
 next_lists_are_faults _ = λ is. omega (arith, is)

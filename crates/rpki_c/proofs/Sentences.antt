@@ -5,7 +5,7 @@ use Rattle.std.proofs.Math.Seq.{take-nil, drop-nil}
 use Rattle.std.proofs.lemmas.Bool.{and_parts}
 use Rattle.std.proofs.lemmas.Bool.Decides.{Decides-ltb}
 use Rattle.std.proofs.lemmas.List.{length-append, append_assoc}
-use Rattle.rpki_files.specs.FaultRows.{FaultFields, PartFields, fault_numbered, general_rows, inspection_rows, issuing_rows, kind_of_hundreds, locator_rows, part_numbered, part_rows, path_rows, reading_rows, revocation_rows, rows_of, verification_rows}
+use Rattle.rpki_files.specs.FaultTable.{FaultFields, PartFields, fault_numbered, general_faults, inspection_faults, issuing_faults, kind_of_hundreds, locator_faults, part_numbered, part_table, path_faults, reading_faults, revocation_faults, table_of, verification_faults}
 use Rattle.rpki_files.specs.declared.faults.FaultKind.{FaultKind}
 use Rattle.rpki_files.specs.declared.faults.FaultKind.TheVariants as kind
 use Rattle.rpki_c.specs.FaultTexts.{first_number, has_part, part_name, told_if, told_of}
@@ -47,12 +47,12 @@ has_short_name it = nat_lt (length it.name) 1000
 abbrev is_short : FaultFields → Bool
 is_short it = nat_lt (length it.before + length it.behind) 1000
 
-names_are_short : list_all has_short_name part_rows ≡ true
-unfolding part_rows
+names_are_short : list_all has_short_name part_table ≡ true
+unfolding part_table
 names_are_short = refl
 
-faults_are_short : (of : FaultKind) → list_all is_short (rows_of of) ≡ true
-unfolding general_rows reading_rows inspection_rows verification_rows revocation_rows path_rows locator_rows issuing_rows
+faults_are_short : (of : FaultKind) → list_all is_short (table_of of) ≡ true
+unfolding general_faults reading_faults inspection_faults verification_faults revocation_faults path_faults locator_faults issuing_faults
 faults_are_short kind.General = refl
 faults_are_short _ = refl
 
@@ -64,12 +64,12 @@ part_is_short n = there (has_part n)
     named (Some it) short = short
 
     there : (b : Bool) → IfSome (cond b (option_map (λ (it : PartFields). it.name) (part_numbered (n % 20))) (Some [])) (λ part. nat_lt (length part) 1000 ≡ true)
-    there true = named (part_numbered (n % 20)) (got_passes has_short_name part_rows (n % 20) names_are_short)
+    there true = named (part_numbered (n % 20)) (got_passes has_short_name part_table (n % 20) names_are_short)
     there false = refl
 
 -- a sentence has fewer than 2^32 octets
 pub sentence_is_short : (n : ℕ) → IfSome (told_of n) (λ it. length it.sentence < 2 ^ 32)
-sentence_is_short n = here (part_name n) (fault_numbered (first_number n)) (part_is_short n) (found_passes (λ (it : FaultFields). it.number == first_number n) is_short (rows_of (kind_of_hundreds (first_number n / 100))) (faults_are_short (kind_of_hundreds (first_number n / 100))))
+sentence_is_short n = here (part_name n) (fault_numbered (first_number n)) (part_is_short n) (found_passes (λ (it : FaultFields). it.number == first_number n) is_short (table_of (kind_of_hundreds (first_number n / 100))) (faults_are_short (kind_of_hundreds (first_number n / 100))))
   where
     here : (part : Option (List ℕ)) (line : Option FaultFields) → IfSome part (λ name. nat_lt (length name) 1000 ≡ true) → IfSome line (λ it. is_short it ≡ true) → IfSome (told_if part line) (λ it. length it.sentence < 2 ^ 32)
     here None line a b = tt

@@ -1,4 +1,4 @@
--- The number that callers in C are told of each fault: that of its row (own).
+-- The number that callers in C are told of each fault: that of its line in the table (own).
 use Rattle.std.specs.Prelude.{ℕ, ◌+◌}
 use Rattle.rpki_der.specs.declared.error.DecodeError.{DecodeError}
 use Rattle.rpki_der.specs.declared.error.DecodeError.TheVariants as decoding
@@ -6,7 +6,7 @@ use Rattle.rpki_ext.specs.declared.inspection.InspectionError.{InspectionError}
 use Rattle.rpki_cert.specs.declared.validation_error.ValidationError.TheVariants as validation
 use Rattle.rpki_cert.specs.declared.verification_error.VerificationError.{VerificationError}
 use Rattle.rpki_crl.specs.declared.revocation_error.RevocationError.{RevocationError}
-use Rattle.rpki_files.specs.FaultRows.{field_number, inspection_row, locator_row, reading_row, revocation_row, row_named, verification_row}
+use Rattle.rpki_files.specs.FaultTable.{field_number, inspection_fault, locator_fault, reading_fault, revocation_fault, fault_named, verification_fault}
 use Rattle.rpki_files.specs.declared.faults.FaultKind.TheVariants as kind
 use Rattle.rpki_issuing.specs.NextLists.{next_list_error_name}
 use Rattle.rpki_issuing.specs.declared.issuing_error.IssuingError.{IssuingError}
@@ -24,7 +24,7 @@ use Rattle.rpki_c.specs.declared.refusal.Refusal.TheVariants as refusal
 use Rattle.rpki_c.specs.declared.unissued.Unissued.{Unissued}
 use Rattle.rpki_c.specs.declared.unissued.Unissued.TheVariants as unissued
 
--- ---- faults that have a row
+-- ---- faults of the table
 
 -- the number of the part that a fault of reading speaks of, and 0 where it speaks of none
 abbrev pub part_added : DecodeError → ℕ
@@ -37,27 +37,27 @@ part_added e = 0
 
 -- faults of reading
 abbrev pub decode_number : DecodeError → ℕ
-decode_number e = (reading_row e).number + part_added e
+decode_number e = (reading_fault e).number + part_added e
 
 -- faults of inspection
 abbrev pub inspection_number : InspectionError → ℕ
-inspection_number e = (inspection_row e).number
+inspection_number e = (inspection_fault e).number
 
 -- faults of verification
 abbrev pub verification_number : VerificationError → ℕ
-verification_number e = (verification_row e).number
+verification_number e = (verification_fault e).number
 
 -- faults of revocation
 abbrev pub revocation_number : RevocationError → ℕ
-revocation_number e = (revocation_row e).number
+revocation_number e = (revocation_fault e).number
 
 -- faults of a locator
 abbrev pub locator_number : TalError → ℕ
-locator_number e = (locator_row e).number
+locator_number e = (locator_fault e).number
 
 -- why no such list follows another
 abbrev pub next_list_number : NextListError → ℕ
-next_list_number e = (row_named kind.Issuing (next_list_error_name e)).number
+next_list_number e = (fault_named kind.Issuing (next_list_error_name e)).number
 
 -- ---- the library's own
 

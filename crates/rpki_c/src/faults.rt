@@ -1,4 +1,4 @@
-//! The numbers of faults as callers know them: those of their rows.
+//! The numbers of faults as callers know them: those of the table of faults.
 ghost use Rattle.std.specs.Prelude.{◌≡◌, ◌≢◌, ◌↔◌, ◌<◌, ◌≤◌};
 ghost use Rattle.rpki_der.specs.ErrorNames.{decode_error_name};
 ghost use Rattle.rpki_der.specs.declared.error.DecodeError.{DecodeError as decodings};

@@ -1,6 +1,6 @@
 //! What callers are told of a fault's number: the fault's name and its sentence.
 ghost use Rattle.std.specs.Prelude.{◌≡◌, ◌≢◌, ◌<◌, ◌^◌, length, option_map};
-ghost use Rattle.rpki_files.specs.FaultRows.{fault_fields};
+ghost use Rattle.rpki_files.specs.FaultTable.{fault_fields};
 ghost use Rattle.rpki_c.specs.FaultTexts.{TellsText, first_number as first, has_part as parted, name_told, part_name as name_of_part, sentence_told, told_of, told_fields};
 ghost use Rattle.rpki_c.specs.Writing.{IsWritten};
 

@@ -1,4 +1,4 @@
--- What each fault means, and the section of the standard that it breaks: what its row says, and what
+-- What each fault means, and the section of the standard that it breaks: what its line says, and what
 -- is said of one that has several meanings.
 use Prim.Native.String.{String}
 use Rattle.std.specs.Prelude.{◌≡◌, ◌↔◌, ◌==◌, ℕ, List, Bool, true, false, if◌then◌else◌, IsTrue, codes}
@@ -11,7 +11,7 @@ use Rattle.rpki_parts.specs.declared.key.PublicKeyFormat.TheVariants.{Rsa, Ecdsa
 use Rattle.rpki_crl.specs.declared.revocation_error.RevocationError.{RevocationError}
 use Rattle.rpki_keys.specs.declared.tal.tal_error.TalError.{TalError}
 use Rattle.rpki_cert.specs.declared.verification_error.VerificationError.{VerificationError}
-use Rattle.rpki_files.specs.FaultRows.{FaultFields, field_number, inspection_row, locator_row, part_numbered, reading_row, revocation_row, row_named, section_in, verification_row}
+use Rattle.rpki_files.specs.FaultTable.{FaultFields, field_number, inspection_fault, locator_fault, part_numbered, reading_fault, revocation_fault, fault_named, section_in, verification_fault}
 use Rattle.rpki_files.specs.declared.faults.FaultKind.TheVariants as kind
 use Rattle.rpki_files.specs.PolicyPresence.{HasPolicies}
 use Rattle.rpki_files.specs.declared.rules.Rule.{Rule}
@@ -29,27 +29,27 @@ rule says section = record { says = codes says; section = codes section }
 abbrev pub rule_of : Rule → RuleFields
 rule_of r = record { says = r.says.now; section = r.section.now }
 
--- what a fault's row says
-abbrev pub row_rule : FaultFields → RuleFields
-row_rule it = record { says = it.says; section = it.section }
+-- what a fault's line says
+abbrev pub fault_rule : FaultFields → RuleFields
+fault_rule it = record { says = it.says; section = it.section }
 
 -- where memory ran out
 abbrev pub no_memory : RuleFields
-no_memory = row_rule (row_named kind.General (codes "Memory"))
+no_memory = fault_rule (fault_named kind.General (codes "Memory"))
 
 -- ---- faults of certificates
 
 -- of one of any kind, of a CA, an end entity or a router
 abbrev pub inspection_rule : InspectionError → RuleFields
-inspection_rule e = row_rule (inspection_row e)
+inspection_rule e = fault_rule (inspection_fault e)
 
 -- of a trust anchor, or below an issuer
 abbrev pub verification_rule : VerificationError → RuleFields
-verification_rule e = row_rule (verification_row e)
+verification_rule e = fault_rule (verification_fault e)
 
 -- of the list that is asked
 abbrev pub revocation_rule : RevocationError → RuleFields
-revocation_rule e = row_rule (revocation_row e)
+revocation_rule e = fault_rule (revocation_fault e)
 
 -- ---- a key that can't be used
 
@@ -62,11 +62,11 @@ key_rule EcdsaP256 = rule "its key isn't an uncompressed point on the curve P-25
 
 -- a trust anchor whose key no locator has that is given
 abbrev pub other_key : RuleFields
-other_key = row_rule (row_named kind.Path (codes "OtherKey"))
+other_key = fault_rule (fault_named kind.Path (codes "OtherKey"))
 
 -- of a file that is given as a locator, and is none
 abbrev pub tal_rule : TalError → RuleFields
-tal_rule e = row_rule (locator_row e)
+tal_rule e = fault_rule (locator_fault e)
 
 -- ---- names that don't chain
 
@@ -74,7 +74,7 @@ tal_rule e = row_rule (locator_row e)
 abbrev pub name_rule : ℕ → RuleFields
 name_rule place =
     if place == 0 then rule "the trust anchor's issuer isn't its subject" "RFC 8630 2.3"
-    else row_rule (row_named kind.Path (codes "OtherName"))
+    else fault_rule (fault_named kind.Path (codes "OtherName"))
 
 -- ---- faults of reading
 
@@ -92,11 +92,11 @@ no_policies = rule "Certificate Policies are missing" "RFC 6487 4.8.9"
 
 -- of octets that should begin with a certificate, and have Certificate Policies or don't
 abbrev pub reading_rule : DecodeError → Bool → RuleFields
-reading_rule (decoding.Missing field) policies = field_rule field (reading_row (decoding.Missing field))
-reading_rule (decoding.Critical field) policies = field_rule field (reading_row (decoding.Critical field))
-reading_rule (decoding.NotCritical field) policies = field_rule field (reading_row (decoding.NotCritical field))
+reading_rule (decoding.Missing field) policies = field_rule field (reading_fault (decoding.Missing field))
+reading_rule (decoding.Critical field) policies = field_rule field (reading_fault (decoding.Critical field))
+reading_rule (decoding.NotCritical field) policies = field_rule field (reading_fault (decoding.NotCritical field))
 reading_rule (decoding.WrongResources field) false = no_policies
-reading_rule e policies = row_rule (reading_row e)
+reading_rule e policies = fault_rule (reading_fault e)
 
 -- octets that don't begin with a list
 abbrev pub no_list : RuleFields

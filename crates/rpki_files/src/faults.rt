@@ -1,4 +1,4 @@
-//! Faults: a table, where each has one row with its number, its name in the library, what the library
+//! Faults: a table, where each has one line with its number, its name in the library, what the library
 //! prints of it, and for a person what it means and the section that it breaks. The numbers are those
 //! of `include/rpki.h`; none gets another meaning.
 ghost use Rattle.std.specs.Prelude.{◌≡◌, ◌≢◌, ◌↔◌, ◌<◌, ◌≤◌, ◌/◌, ◌==◌, bytes_eq, find, is_some, map, option_copied, option_map, slice_get, true};
@@ -14,7 +14,7 @@ ghost use Rattle.rpki_crl.specs.Revocation.{revocation_error_name};
 ghost use Rattle.rpki_crl.specs.declared.revocation_error.RevocationError.{RevocationError as revocations};
 ghost use Rattle.rpki_keys.specs.TalErrors.{tal_error_name};
 ghost use Rattle.rpki_keys.specs.declared.tal.tal_error.TalError.{TalError as locators};
-ghost use Rattle.rpki_files.specs.FaultRows.{IsRowOf, fault_fields, fault_numbered, field_number, inspection_row, kind_of_hundreds, locator_row, part_fields, part_numbered, part_rows, reading_row, revocation_row, row_in, row_named, rows_of, verification_row};
+ghost use Rattle.rpki_files.specs.FaultTable.{IsFaultOf, fault_fields, fault_numbered, field_number, inspection_fault, kind_of_hundreds, locator_fault, part_fields, part_numbered, part_table, reading_fault, revocation_fault, or_no_fault, fault_named, table_of, verification_fault};
 
 use rpki_cert::{InspectionError, VerificationError};
 use rpki_crl::RevocationError;
@@ -62,7 +62,7 @@ pub enum FaultKind {
     Issuing,
 }
 
-// Faults, each in a row: the number, the name, and what is printed, or its two texts; then, if there
+// Faults, each in a line: the number, the name, and what is printed, or its two texts; then, if there
 // is one, the sentence with its section.
 macro_rules! table {
     ($(
@@ -244,7 +244,7 @@ const ISSUING: &[Fault] = &table! {
     811 "UpdateOrder" "the next update is before this one",
 };
 
-// The row of no fault.
+// That there is no fault.
 const NO_FAULT: Fault = Fault {
     number: 0,
     name: "None",
@@ -254,7 +254,7 @@ const NO_FAULT: Fault = Fault {
     section: "",
 };
 
-// Parts, each in a row: the name and the section.
+// Parts, each in a line: the name and the section.
 macro_rules! parts {
     ($($name:literal $section:literal,)*) => {
         [$(Part { name: $name, section: $section }),*]
@@ -279,9 +279,9 @@ const PARTS: &[Part] = &parts! {
 };
 
 /// Returns the faults of a kind.
-#[tactic(auto, unfolding(crate::specs::FaultRows::general_rows, crate::specs::FaultRows::reading_rows, crate::specs::FaultRows::inspection_rows, crate::specs::FaultRows::verification_rows, crate::specs::FaultRows::revocation_rows, crate::specs::FaultRows::path_rows, crate::specs::FaultRows::locator_rows, crate::specs::FaultRows::issuing_rows))]
+#[tactic(auto, unfolding(crate::specs::FaultTable::general_faults, crate::specs::FaultTable::reading_faults, crate::specs::FaultTable::inspection_faults, crate::specs::FaultTable::verification_faults, crate::specs::FaultTable::revocation_faults, crate::specs::FaultTable::path_faults, crate::specs::FaultTable::locator_faults, crate::specs::FaultTable::issuing_faults))]
 pub fn faults_of(kind: FaultKind) -> &'static [Fault]
-    ensures { map fault_fields result.now ≡ rows_of kind }
+    ensures { map fault_fields result.now ≡ table_of kind }
 {
     match kind {
         FaultKind::General => GENERAL,
@@ -296,9 +296,9 @@ pub fn faults_of(kind: FaultKind) -> &'static [Fault]
 }
 
 /// Returns the table of parts, by their numbers.
-#[tactic(auto, unfolding(crate::specs::FaultRows::part_rows))]
+#[tactic(auto, unfolding(crate::specs::FaultTable::part_table))]
 pub fn all_parts() -> &'static [Part]
-    ensures { map part_fields result.now ≡ part_rows }
+    ensures { map part_fields result.now ≡ part_table }
 {
     PARTS
 }
@@ -351,9 +351,9 @@ fn named_in<'a>(faults: &'a [Fault], name: &str) -> Option<&'a Fault>
     faults.iter().find(|fault| fault.name == name)
 }
 
-// The fault, or the row of no fault.
-fn row(found: Option<&'static Fault>) -> &'static Fault
-    ensures { fault_fields result.now ≡ row_in (option_map fault_fields (option_copied found.entry)) }
+// The fault, or that there is none.
+fn or_none(found: Option<&'static Fault>) -> &'static Fault
+    ensures { fault_fields result.now ≡ or_no_fault (option_map fault_fields (option_copied found.entry)) }
 {
     match found {
         Some(fault) => fault,
@@ -363,15 +363,15 @@ fn row(found: Option<&'static Fault>) -> &'static Fault
 
 /// Finds the fault of a kind, or of none, that has this name.
 pub fn named(kind: FaultKind, name: &str) -> &'static Fault
-    ensures { fault_fields result.now ≡ row_named kind name.now }
+    ensures { fault_fields result.now ≡ fault_named kind name.now }
 {
     let general = named_in(faults_of(FaultKind::General), name);
-    row(general.or(named_in(faults_of(kind), name)))
+    or_none(general.or(named_in(faults_of(kind), name)))
 }
 
-/// Finds the row of a fault of reading.
+/// Finds what is told of a fault of reading.
 pub fn of_reading(error: &DecodeError) -> &'static Fault
-    ensures row { fault_fields result.now ≡ reading_row error.now }
+    ensures fault { fault_fields result.now ≡ reading_fault error.now }
     ensures memory { result.now.number ≡ 1 ↔ error.now ≡ decoding.Memory }
     ensures great { result.now.number ≢ 1 → 100 ≤ result.now.number }
     ensures small { result.now.number ≤ 200 }
@@ -379,33 +379,33 @@ pub fn of_reading(error: &DecodeError) -> &'static Fault
     named(FaultKind::Reading, error.name())
 }
 
-/// Finds the row of a fault of inspection.
+/// Finds what is told of a fault of inspection.
 pub fn of_inspection(error: InspectionError) -> &'static Fault
-    ensures row { fault_fields result.now ≡ inspection_row error }
+    ensures fault { fault_fields result.now ≡ inspection_fault error }
     ensures hundreds { (result.now.number / 100) ≡ 3 }
 {
     named(FaultKind::Inspection, error.name())
 }
 
-/// Finds the row of a fault of verification.
+/// Finds what is told of a fault of verification.
 pub fn of_verification(error: &VerificationError) -> &'static Fault
-    ensures row { fault_fields result.now ≡ verification_row error.now }
+    ensures fault { fault_fields result.now ≡ verification_fault error.now }
     ensures hundreds { result.now.number ≢ 1 → (result.now.number / 100) ≡ 4 }
 {
     named(FaultKind::Verification, error.name())
 }
 
-/// Finds the row of a fault of revocation.
+/// Finds what is told of a fault of revocation.
 pub fn of_revocation(error: &RevocationError) -> &'static Fault
-    ensures row { fault_fields result.now ≡ revocation_row error.now }
+    ensures fault { fault_fields result.now ≡ revocation_fault error.now }
     ensures hundreds { (result.now.number / 100) ≡ 5 }
 {
     named(FaultKind::Revocation, error.name())
 }
 
-/// Finds the row of a fault of a locator.
+/// Finds what is told of a fault of a locator.
 pub fn of_locator(error: &TalError) -> &'static Fault
-    ensures row { fault_fields result.now ≡ locator_row error.now }
+    ensures fault { fault_fields result.now ≡ locator_fault error.now }
     ensures hundreds { result.now.number ≢ 1 → (result.now.number / 100) ≡ 7 }
 {
     named(FaultKind::Locator, error.name())
@@ -419,13 +419,13 @@ pub fn part_number(field: Field) -> u32
     field as u32
 }
 
-/// Says that each fault has a row of its name, which is found by its number too.
-pub fn rows_are_found()
-    ensures reading { (e : decodings) → IsRowOf (decode_error_name e) (reading_row e) }
-    ensures inspection { (e : inspections) → IsRowOf (inspection_error_name e) (inspection_row e) }
+/// Says that each fault is in the table under its name, and found by its number too.
+pub fn faults_are_found()
+    ensures reading { (e : decodings) → IsFaultOf (decode_error_name e) (reading_fault e) }
+    ensures inspection { (e : inspections) → IsFaultOf (inspection_error_name e) (inspection_fault e) }
     ensures verification { (e : verifications)
-        → IsRowOf (verification_error_name e) (verification_row e) }
-    ensures revocation { (e : revocations) → IsRowOf (revocation_error_name e) (revocation_row e) }
-    ensures locator { (e : locators) → IsRowOf (tal_error_name e) (locator_row e) }
+        → IsFaultOf (verification_error_name e) (verification_fault e) }
+    ensures revocation { (e : revocations) → IsFaultOf (revocation_error_name e) (revocation_fault e) }
+    ensures locator { (e : locators) → IsFaultOf (tal_error_name e) (locator_fault e) }
     ensures part { (field : fields) → is_some (part_numbered (field_number field)) ≡ true }
 {}

@@ -1,7 +1,7 @@
 //! What a fault means for a person, and the section of the standard that it breaks.
 ghost use Rattle.std.specs.Prelude.{◌≡◌};
-ghost use Rattle.rpki_files.specs.FaultRows.{fault_fields};
-ghost use Rattle.rpki_files.specs.FaultRules.{IsFileRule, IsReadingRule, field_section, inspection_rule, key_rule, list_rule, name_rule, no_memory, other_key, reading_rule, revocation_rule, row_rule, rule_of, tal_rule, verification_rule};
+ghost use Rattle.rpki_files.specs.FaultTable.{fault_fields};
+ghost use Rattle.rpki_files.specs.FaultRules.{IsFileRule, IsReadingRule, field_section, inspection_rule, key_rule, list_rule, name_rule, no_memory, other_key, reading_rule, revocation_rule, fault_rule, rule_of, tal_rule, verification_rule};
 
 use crate::faults::{self, Fault, FaultKind, numbered_part, part_number};
 use crate::policies::has_policies;
@@ -38,7 +38,7 @@ fn meaning(says: &'static str, section: &'static str) -> Rule
 }
 
 fn rule_in(fault: &Fault) -> Rule
-    ensures { rule_of result ≡ row_rule (fault_fields fault.now) }
+    ensures { rule_of result ≡ fault_rule (fault_fields fault.now) }
 {
     meaning(fault.says, fault.section)
 }
@@ -127,12 +127,12 @@ fn of_certificate(fault: &DecodeError, policies: bool) -> Rule
     if !policies && matches!(fault, DecodeError::WrongResources(_)) {
         return meaning("Certificate Policies are missing", "RFC 6487 4.8.9");
     }
-    let row = faults::of_reading(fault);
+    let told = faults::of_reading(fault);
     match fault {
         DecodeError::Missing(field)
         | DecodeError::Critical(field)
-        | DecodeError::NotCritical(field) => meaning(row.says, section_of(*field)),
-        _ => rule_in(row),
+        | DecodeError::NotCritical(field) => meaning(told.says, section_of(*field)),
+        _ => rule_in(told),
     }
 }
 

@@ -1,4 +1,4 @@
-//! The names and the texts of errors that have no row.
+//! The names and the texts of errors that aren't in the table of faults.
 
 use bytes::Bytes;
 use rpki_blocks::{Inherited, IssueError};

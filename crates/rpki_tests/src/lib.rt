@@ -17,6 +17,8 @@ mod elsewhere;
 #[cfg(test)]
 mod errors;
 #[cfg(test)]
+mod faults;
+#[cfg(test)]
 mod folder;
 #[cfg(test)]
 mod given_lists;
@@ -40,8 +42,6 @@ mod paths;
 mod real_signatures;
 #[cfg(test)]
 mod routers;
-#[cfg(test)]
-mod rows;
 pub mod samples;
 #[cfg(test)]
 mod shared;

@@ -1,5 +1,5 @@
 use Rattle.std.proofs.Common.{List, ℕ, Option, Some, None, ap, ◌∙◌}
-use Rattle.rpki_files.specs.FaultRows.{fault_numbered}
+use Rattle.rpki_files.specs.FaultTable.{fault_numbered}
 use Rattle.rpki_c.specs.FaultTexts.{first_number, told_if}
 use Rattle.rpki_c.proofs.telling.fault_told.Goals as goal
 

@@ -1,4 +1,4 @@
--- Faults: a table, where each has one row with its number, its name in the library, what the library
+-- Faults: a table, where each has one line with its number, its name in the library, what the library
 -- prints of it, and for a person what it means and the section that it breaks. The hundreds of a
 -- number say what the fault is about; no number gets another meaning (own).
 use Prim.Native.String.{String}
@@ -24,7 +24,7 @@ use Rattle.rpki_files.specs.declared.faults.Part.{Part}
 -- ---- the table
 
 -- a fault; what is printed of it may have the name of a part of a certificate or list between two
--- texts, and it may be a part's section that it breaks, which isn't in the row
+-- texts, and it may be a part's section that it breaks, which isn't in its line
 pub record FaultFields : Type 0 where
   pub number : ℕ
   pub name : List ℕ
@@ -68,15 +68,15 @@ unsaid number name text = fault number name text "" ""
 -- no text has the identifier that a fault names
 
 -- those of no kind
-unfoldable pub general_rows : List FaultFields
-general_rows =
+unfoldable pub general_faults : List FaultFields
+general_faults =
     unsaid 0 "None" "no fault" ∷
     fault 1 "Memory" "out of memory" "out of memory" "no section" ∷
     unsaid 2 "BadCall" "lengths or numbers of the call don't fit" ∷ []
 
 -- why octets can't be read; what is said of them is said of a certificate
-unfoldable pub reading_rows : List FaultFields
-reading_rows =
+unfoldable pub reading_faults : List FaultFields
+reading_faults =
     fault 100 "Truncated" "truncated value"
     "it doesn't begin with a certificate of the profile" "RFC 6487 4" ∷
     fault 101 "BadLength" "bad length"
@@ -104,8 +104,8 @@ reading_rows =
     "the resources stand under identifiers that its policy doesn't have" "RFC 8360 4.2" ∷ []
 
 -- why a certificate doesn't meet its profile
-unfoldable pub inspection_rows : List FaultFields
-inspection_rows =
+unfoldable pub inspection_faults : List FaultFields
+inspection_faults =
     fault 300 "AlgorithmMismatch" "signature algorithm mismatch"
     "the signature algorithm inside what is signed isn't that of the signature" "RFC 5280 4.1.1.2" ∷
     fault 301 "Issuer" "invalid issuer" "the issuer's name has another form" "RFC 6487 4.4" ∷
@@ -159,8 +159,8 @@ inspection_rows =
     "AS resources must not be inherited" "RFC 8209 3.1.3.5" ∷ []
 
 -- why a certificate isn't that of its issuer, at this moment
-unfoldable pub verification_rows : List FaultFields
-verification_rows =
+unfoldable pub verification_faults : List FaultFields
+verification_faults =
     fault 400 "NotYetValid" "certificate not yet valid" "it isn't valid yet" "RFC 6487 4.6" ∷
     fault 401 "Expired" "certificate expired" "it has expired" "RFC 6487 4.6" ∷
     fault 402 "InheritedV4" "inherited IPv4 resources"
@@ -185,8 +185,8 @@ verification_rows =
     "it lists AS numbers that its issuer doesn't hold" "RFC 6487 7.2" ∷ []
 
 -- why a certificate isn't shown to be unrevoked
-unfoldable pub revocation_rows : List FaultFields
-revocation_rows =
+unfoldable pub revocation_faults : List FaultFields
+revocation_faults =
     fault 500 "NoCrl" "missing revocation list"
     "its issuer's list isn't among those given" "RFC 6487 7.2" ∷
     fault 501 "WrongKeyId" "wrong authority key identifier of the revocation list"
@@ -198,16 +198,16 @@ revocation_rows =
     fault 504 "Revoked" "certificate revoked" "its issuer has revoked it" "RFC 6487 7.2" ∷ []
 
 -- why a path's names or its trust anchor aren't those that are asked
-unfoldable pub path_rows : List FaultFields
-path_rows =
+unfoldable pub path_faults : List FaultFields
+path_faults =
     fault 600 "OtherName" "the issuer isn't the subject of the certificate above"
     "its issuer isn't the subject of the certificate above" "RFC 6487 7.2" ∷
     fault 601 "OtherKey" "the trust anchor's key isn't the locator's"
     "its key is that of no locator that was given" "RFC 8630 3" ∷ []
 
 -- why a file isn't a locator
-unfoldable pub locator_rows : List FaultFields
-locator_rows =
+unfoldable pub locator_faults : List FaultFields
+locator_faults =
     fault 700 "NoText" "not UTF-8 text" "the locator isn't UTF-8" "RFC 8630 2.2" ∷
     fault 701 "BadUri" "bad URI"
     "a line of the locator's URIs is no rsync or https URI" "RFC 8630 2.2" ∷
@@ -217,8 +217,8 @@ locator_rows =
     "what stands behind the locator's empty line is no key in base64" "RFC 8630 2.2" ∷ []
 
 -- why no certificate and no list is issued
-unfoldable pub issuing_rows : List FaultFields
-issuing_rows =
+unfoldable pub issuing_faults : List FaultFields
+issuing_faults =
     unsaid 800 "NoKey" "no public key" ∷
     unsaid 801 "UnusedKey" "a key that the RPKI doesn't use" ∷
     unsaid 802 "BadUri" "bad URI" ∷
@@ -232,15 +232,15 @@ issuing_rows =
     unsaid 810 "LongNumber" "the number is too long" ∷
     unsaid 811 "UpdateOrder" "the next update is before this one" ∷ []
 
-abbrev pub rows_of : FaultKind → List FaultFields
-rows_of kind.General = general_rows
-rows_of kind.Reading = reading_rows
-rows_of kind.Inspection = inspection_rows
-rows_of kind.Verification = verification_rows
-rows_of kind.Revocation = revocation_rows
-rows_of kind.Path = path_rows
-rows_of kind.Locator = locator_rows
-rows_of kind.Issuing = issuing_rows
+abbrev pub table_of : FaultKind → List FaultFields
+table_of kind.General = general_faults
+table_of kind.Reading = reading_faults
+table_of kind.Inspection = inspection_faults
+table_of kind.Verification = verification_faults
+table_of kind.Revocation = revocation_faults
+table_of kind.Path = path_faults
+table_of kind.Locator = locator_faults
+table_of kind.Issuing = issuing_faults
 
 -- a part of a certificate or list, and the section that asks for it
 pub record PartFields : Type 0 where
@@ -255,8 +255,8 @@ abbrev pub part : String → String → PartFields
 part name section = record { name = codes name; section = codes section }
 
 -- all parts, by their numbers
-unfoldable pub part_rows : List PartFields
-part_rows =
+unfoldable pub part_table : List PartFields
+part_table =
     part "BasicConstraints" "RFC 6487 4.8.1" ∷
     part "SubjectKeyIdentifier" "RFC 6487 4.8.2" ∷
     part "AuthorityKeyIdentifier" "RFC 6487 4.8.3" ∷
@@ -271,40 +271,40 @@ part_rows =
     part "Resources" "RFC 6487 4.8.10" ∷
     part "CrlNumber" "RFC 6487 5" ∷ []
 
--- ---- from a fault to its row
+-- ---- from a fault to its line
 
--- the row, and that of no fault where there is none
-abbrev pub row_in : Option FaultFields → FaultFields
-row_in None = unsaid 0 "None" "no fault"
-row_in (Some it) = it
+-- the fault, or that there is none
+abbrev pub or_no_fault : Option FaultFields → FaultFields
+or_no_fault None = unsaid 0 "None" "no fault"
+or_no_fault (Some it) = it
 
--- the first among these rows that has this name
+-- the first among these that has this name
 abbrev pub first_named : List ℕ → List FaultFields → Option FaultFields
-first_named name rows = find (λ (it : FaultFields). bytes_eq it.name name) rows
+first_named name faults = find (λ (it : FaultFields). bytes_eq it.name name) faults
 
--- the row of the kind that has this name; one of no kind comes first
-unfoldable pub row_named : FaultKind → List ℕ → FaultFields
-row_named of name = row_in (option_or (first_named name general_rows) (first_named name (rows_of of)))
+-- the fault of the kind that has this name; one of no kind comes first
+unfoldable pub fault_named : FaultKind → List ℕ → FaultFields
+fault_named of name = or_no_fault (option_or (first_named name general_faults) (first_named name (table_of of)))
 
 -- of a fault of reading
-abbrev pub reading_row : DecodeError → FaultFields
-reading_row e = row_named kind.Reading (decode_error_name e)
+abbrev pub reading_fault : DecodeError → FaultFields
+reading_fault e = fault_named kind.Reading (decode_error_name e)
 
 -- of a fault of inspection
-abbrev pub inspection_row : InspectionError → FaultFields
-inspection_row e = row_named kind.Inspection (inspection_error_name e)
+abbrev pub inspection_fault : InspectionError → FaultFields
+inspection_fault e = fault_named kind.Inspection (inspection_error_name e)
 
 -- of a fault of verification
-abbrev pub verification_row : VerificationError → FaultFields
-verification_row e = row_named kind.Verification (verification_error_name e)
+abbrev pub verification_fault : VerificationError → FaultFields
+verification_fault e = fault_named kind.Verification (verification_error_name e)
 
 -- of a fault of revocation
-abbrev pub revocation_row : RevocationError → FaultFields
-revocation_row e = row_named kind.Revocation (revocation_error_name e)
+abbrev pub revocation_fault : RevocationError → FaultFields
+revocation_fault e = fault_named kind.Revocation (revocation_error_name e)
 
 -- of a fault of a locator
-abbrev pub locator_row : TalError → FaultFields
-locator_row e = row_named kind.Locator (tal_error_name e)
+abbrev pub locator_fault : TalError → FaultFields
+locator_fault e = fault_named kind.Locator (tal_error_name e)
 
 -- the part's number, which is its place in the table
 abbrev pub field_number : Field → ℕ
@@ -322,7 +322,7 @@ field_number field.AsResources = 10
 field_number field.Resources = 11
 field_number field.CrlNumber = 12
 
--- ---- from a number to its row
+-- ---- from a number to its line
 
 -- the kind of a fault with so many hundreds
 abbrev pub kind_of_hundreds : ℕ → FaultKind
@@ -337,20 +337,20 @@ kind_of_hundreds hundreds =
     else if hundreds == 8 then kind.Issuing
     else kind.General
 
--- the row that has the number, and None where none has it
+-- the fault that has the number, and None where none has it
 abbrev pub fault_numbered : ℕ → Option FaultFields
 fault_numbered number =
-    find (λ (it : FaultFields). it.number == number) (rows_of (kind_of_hundreds (number / 100)))
+    find (λ (it : FaultFields). it.number == number) (table_of (kind_of_hundreds (number / 100)))
 
 abbrev pub part_numbered : ℕ → Option PartFields
-part_numbered number = slice_get part_rows number
+part_numbered number = slice_get part_table number
 
 -- the section of a part
 abbrev pub section_in : Option PartFields → List ℕ
 section_in None = []
 section_in (Some it) = it.section
 
--- the row of a fault with this name, which is found by its number too
-pub record IsRowOf (name : List ℕ) (row : FaultFields) : Type 0 where
-  pub name_is : row.name ≡ name
-  pub numbered : fault_numbered row.number ≡ Some row
+-- it is a fault with this name, and the one that is found by its number
+pub record IsFaultOf (name : List ℕ) (it : FaultFields) : Type 0 where
+  pub name_is : it.name ≡ name
+  pub numbered : fault_numbered it.number ≡ Some it

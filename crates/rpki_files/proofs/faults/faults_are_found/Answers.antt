@@ -1,5 +1,5 @@
 use Rattle.rpki_files.proofs.FaultTables.{readings, inspections, verifications, revocations, locators, parts}
-use Rattle.rpki_files.proofs.faults.rows_are_found.Goals as goal
+use Rattle.rpki_files.proofs.faults.faults_are_found.Goals as goal
 
 pub returns : goal.returns
 returns c =

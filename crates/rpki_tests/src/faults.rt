@@ -1,4 +1,4 @@
-//! That faults have the names of their rows, and print the texts of these.
+//! That faults have the names and print the texts that stand in their table.
 
 use crate::errors::assert_told;
 use rpki_cert::VerificationError;
@@ -15,20 +15,20 @@ use std::alloc::{AllocError, Global};
 use std::fmt::Display;
 use std::process::Abort;
 
-// That a fault has the row's name, and prints its text, with the name of the part that it speaks of
-// between its halves; and that the row is the one of its number.
-fn assert_row<E: Display + Drop>(
+// That a fault has the name of its line and prints its text, with the name of the part that it
+// speaks of between the halves; and that the line is found by its number.
+fn assert_fault<E: Display + Drop>(
     rt: &impl Abort,
     alloc: Global,
     name: &str,
     error: E,
-    row: &Fault,
+    told: &Fault,
     part: &str,
 ) {
-    let wanted = format!(in alloc; "{}: {}{part}{}", row.name, row.before, row.behind)
+    let wanted = format!(in alloc; "{}: {}{part}{}", told.name, told.before, told.behind)
         .expect(rt, "memory");
     assert_told(rt, alloc, name, error, wanted.as_str());
-    assert!(rt; matches!(numbered(row.number), Some(found) if found.name == row.name));
+    assert!(rt; matches!(numbered(told.number), Some(found) if found.name == told.name));
 }
 
 #[test]
@@ -44,8 +44,8 @@ fn of_values_that_are_read(rt: HostRuntime) {
         DecodeError::Memory,
     ];
     for fault in faults {
-        let row = of_reading(&fault);
-        assert_row(&rt, rt.alloc(), fault.name(), fault, row, "");
+        let told = of_reading(&fault);
+        assert_fault(&rt, rt.alloc(), fault.name(), fault, told, "");
     }
 }
 
@@ -59,8 +59,8 @@ fn of_fields_that_are_read(rt: HostRuntime) {
         (DecodeError::WrongResources(Field::IpResources), "IpResources"),
     ];
     for (fault, part) in faults {
-        let row = of_reading(&fault);
-        assert_row(&rt, rt.alloc(), fault.name(), fault, row, part);
+        let told = of_reading(&fault);
+        assert_fault(&rt, rt.alloc(), fault.name(), fault, told, part);
     }
 }
 
@@ -93,7 +93,7 @@ fn of_parts(rt: HostRuntime) {
 #[test]
 fn of_certificates(rt: HostRuntime) {
     for fault in [InspectionError::AlgorithmMismatch, InspectionError::InheritedAsResources] {
-        assert_row(&rt, rt.alloc(), fault.name(), fault, of_inspection(fault), "");
+        assert_fault(&rt, rt.alloc(), fault.name(), fault, of_inspection(fault), "");
     }
     let faults = [
         VerificationError::from(ValidityError::NotYetValid),
@@ -111,8 +111,8 @@ fn of_certificates(rt: HostRuntime) {
         VerificationError::from(AllocError),
     ];
     for fault in faults {
-        let row = of_verification(&fault);
-        assert_row(&rt, rt.alloc(), fault.name(), fault, row, "");
+        let told = of_verification(&fault);
+        assert_fault(&rt, rt.alloc(), fault.name(), fault, told, "");
     }
 }
 
@@ -126,11 +126,11 @@ fn of_lists_and_locators(rt: HostRuntime) {
         RevocationError::Revoked,
     ];
     for fault in faults {
-        let row = of_revocation(&fault);
-        assert_row(&rt, rt.alloc(), fault.name(), fault, row, "");
+        let told = of_revocation(&fault);
+        assert_fault(&rt, rt.alloc(), fault.name(), fault, told, "");
     }
     for fault in [TalError::NoText, TalError::NoUri, TalError::Memory] {
-        let row = of_locator(&fault);
-        assert_row(&rt, rt.alloc(), fault.name(), fault, row, "");
+        let told = of_locator(&fault);
+        assert_fault(&rt, rt.alloc(), fault.name(), fault, told, "");
     }
 }
