@@ -1,5 +1,5 @@
--- What each fault means, and the section of the standard that it breaks: what its line says, and what
--- is said of one that has several meanings.
+-- What each fault means, and the section of the standard that it breaks: what its line says, and
+-- what is said of one that has several meanings.
 use Prim.Native.String.{String}
 use Rattle.std.specs.Prelude.{◌≡◌, ◌↔◌, ◌==◌, ℕ, List, Bool, true, false, if◌then◌else◌, IsTrue, codes}
 use Rattle.rpki_der.specs.declared.error.DecodeError.{DecodeError}
@@ -92,9 +92,12 @@ no_policies = rule "Certificate Policies are missing" "RFC 6487 4.8.9"
 
 -- of octets that should begin with a certificate, and have Certificate Policies or don't
 abbrev pub reading_rule : DecodeError → Bool → RuleFields
-reading_rule (decoding.Missing field) policies = field_rule field (reading_fault (decoding.Missing field))
-reading_rule (decoding.Critical field) policies = field_rule field (reading_fault (decoding.Critical field))
-reading_rule (decoding.NotCritical field) policies = field_rule field (reading_fault (decoding.NotCritical field))
+reading_rule (decoding.Missing field) policies =
+    field_rule field (reading_fault (decoding.Missing field))
+reading_rule (decoding.Critical field) policies =
+    field_rule field (reading_fault (decoding.Critical field))
+reading_rule (decoding.NotCritical field) policies =
+    field_rule field (reading_fault (decoding.NotCritical field))
 reading_rule (decoding.WrongResources field) false = no_policies
 reading_rule e policies = fault_rule (reading_fault e)
 

@@ -1,6 +1,6 @@
--- Faults: a table, where each has one line with its number, its name in the library, what the library
--- prints of it, and for a person what it means and the section that it breaks. The hundreds of a
--- number say what the fault is about; no number gets another meaning (own).
+-- Faults: a table, where each has one line with its number, its name in the library, what the
+-- library prints of it, and for a person what it means and the section that it breaks. The hundreds
+-- of a number say what the fault is about; no number gets another meaning (own).
 use Prim.Native.String.{String}
 use Rattle.std.specs.Prelude.{◌≡◌, ℕ, ◌/◌, ◌==◌, if◌then◌else◌, List, [], ◌∷◌, Option, Some, None, codes, bytes_eq, find, slice_get}
 use Rattle.std.specs.Option.{option_or}
@@ -65,7 +65,7 @@ fault number name text says section = part_fault number name text "" says sectio
 abbrev pub unsaid : ℕ → String → String → FaultFields
 unsaid number name text = fault number name text "" ""
 
--- no text has the identifier that a fault names
+-- What is printed has no identifier that a fault names.
 
 -- those of no kind
 unfoldable pub general_faults : List FaultFields
@@ -284,7 +284,8 @@ first_named name faults = find (λ (it : FaultFields). bytes_eq it.name name) fa
 
 -- the fault of the kind that has this name; one of no kind comes first
 unfoldable pub fault_named : FaultKind → List ℕ → FaultFields
-fault_named of name = or_no_fault (option_or (first_named name general_faults) (first_named name (table_of of)))
+fault_named of name =
+    or_no_fault (option_or (first_named name general_faults) (first_named name (table_of of)))
 
 -- of a fault of reading
 abbrev pub reading_fault : DecodeError → FaultFields

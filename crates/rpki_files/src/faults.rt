@@ -1,6 +1,6 @@
-//! Faults: a table, where each has one line with its number, its name in the library, what the library
-//! prints of it, and for a person what it means and the section that it breaks. The numbers are those
-//! of `include/rpki.h`; none gets another meaning.
+//! Faults: a table, where each has one line with its number, its name in the library, what the
+//! library prints of it, and for a person what it means and the section that it breaks. The numbers
+//! are those of `include/rpki.h`; none gets another meaning.
 ghost use Rattle.std.specs.Prelude.{◌≡◌, ◌≢◌, ◌↔◌, ◌<◌, ◌≤◌, ◌/◌, ◌==◌, bytes_eq, find, is_some, map, option_copied, option_map, slice_get, true};
 ghost use Rattle.rpki_der.specs.ErrorNames.{decode_error_name};
 ghost use Rattle.rpki_der.specs.declared.error.DecodeError.{DecodeError as decodings};
@@ -21,9 +21,9 @@ use rpki_crl::RevocationError;
 use rpki_der::{DecodeError, Field};
 use rpki_keys::tal::TalError;
 
-/// Has what is told of a fault. If it speaks of a part of a certificate or list, the part's number is
-/// added to its number, the part's name stands between two texts, and where no section stands here
-/// it is the part's.
+/// Has what is told of a fault. If it speaks of a part of a certificate or list, the part's number
+/// is added to its number, the part's name stands between two texts, and where no section stands
+/// here it is the part's.
 #[derive(Clone, Copy)]
 pub struct Fault {
     pub number: u32,
@@ -62,8 +62,8 @@ pub enum FaultKind {
     Issuing,
 }
 
-// Faults, each in a line: the number, the name, and what is printed, or its two texts; then, if there
-// is one, the sentence with its section.
+// Faults, each in a line: the number, the name, and what is printed, or its two texts; then, if
+// there is one, the sentence with its section.
 macro_rules! table {
     ($(
         $number:literal $name:literal $before:literal $($behind:literal)?
@@ -353,7 +353,8 @@ fn named_in<'a>(faults: &'a [Fault], name: &str) -> Option<&'a Fault>
 
 // The fault, or that there is none.
 fn or_none(found: Option<&'static Fault>) -> &'static Fault
-    ensures { fault_fields result.now ≡ or_no_fault (option_map fault_fields (option_copied found.entry)) }
+    ensures { fault_fields result.now
+        ≡ or_no_fault (option_map fault_fields (option_copied found.entry)) }
 {
     match found {
         Some(fault) => fault,
@@ -422,10 +423,12 @@ pub fn part_number(field: Field) -> u32
 /// Says that each fault is in the table under its name, and found by its number too.
 pub fn faults_are_found()
     ensures reading { (e : decodings) → IsFaultOf (decode_error_name e) (reading_fault e) }
-    ensures inspection { (e : inspections) → IsFaultOf (inspection_error_name e) (inspection_fault e) }
+    ensures inspection { (e : inspections)
+        → IsFaultOf (inspection_error_name e) (inspection_fault e) }
     ensures verification { (e : verifications)
         → IsFaultOf (verification_error_name e) (verification_fault e) }
-    ensures revocation { (e : revocations) → IsFaultOf (revocation_error_name e) (revocation_fault e) }
+    ensures revocation { (e : revocations)
+        → IsFaultOf (revocation_error_name e) (revocation_fault e) }
     ensures locator { (e : locators) → IsFaultOf (tal_error_name e) (locator_fault e) }
     ensures part { (field : fields) → is_some (part_numbered (field_number field)) ≡ true }
 {}

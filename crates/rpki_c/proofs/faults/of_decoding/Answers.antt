@@ -11,20 +11,20 @@ returns c =
     let added = c.part_added.ensures in
     let none = λ memory. added.number ∙ ap part_added (told.memory.0 memory) in
     elim (memory_or_more c.of_reading.result.now.number c.part_added.result told.great none) [
-      inl one ↦
-      record {
-        number = omega (arith, number, added.number);
-        memory = ((λ is. told.memory.0 one.0), (λ is. omega (arith, one.0, one.1)));
-        fault = λ is. omega (arith, is, one.0);
-        no_bad_call = λ is. omega (arith, is, one.0, one.1);
-        small = omega (arith, one.0, one.1);
-      }
+      | inl one ↦
+          record {
+            number = omega (arith, number, added.number);
+            memory = ((λ is. told.memory.0 one.0), (λ is. omega (arith, one.0, one.1)));
+            fault = λ is. omega (arith, is, one.0);
+            no_bad_call = λ is. omega (arith, is, one.0, one.1);
+            small = omega (arith, one.0, one.1);
+          }
       | inr more ↦
-      record {
-        number = omega (arith, number, added.number);
-        memory = ((λ is. absurd (omega (arith, is, more))), (λ is. absurd (omega (arith, told.memory.1 is, more))));
-        fault = λ is. omega (arith, is, more);
-        no_bad_call = λ is. omega (arith, is, more);
-        small = omega (arith, told.small, added.small);
-      }
+          record {
+            number = omega (arith, number, added.number);
+            memory = ((λ is. absurd (omega (arith, is, more))), (λ is. absurd (omega (arith, told.memory.1 is, more))));
+            fault = λ is. omega (arith, is, more);
+            no_bad_call = λ is. omega (arith, is, more);
+            small = omega (arith, told.small, added.small);
+          }
     ]
