@@ -1,6 +1,6 @@
 -- What callers in C are told of a fault's number: the fault's name and its sentence (own).
-use Rattle.std.specs.Prelude.{◌≡◌, ℕ, ◌-◌, ◌%◌, ◌==◌, ◌++◌, ◌&&◌, Bool, if◌then◌else◌, nat_le, nat_lt, List, [], Option, Some, None, find, option_map, slice_get}
-use Rattle.rpki_c.specs.FaultNumbers.{FaultFields, fault_rows, field_names}
+use Rattle.std.specs.Prelude.{◌≡◌, ℕ, ◌-◌, ◌%◌, ◌++◌, ◌&&◌, Bool, if◌then◌else◌, nat_le, nat_lt, List, [], Option, Some, None, option_map}
+use Rattle.rpki_files.specs.FaultTable.{FaultFields, PartFields, fault_numbered, part_numbered}
 use Rattle.rpki_c.specs.Writing.{IsWritten}
 
 -- what is told of a fault
@@ -25,10 +25,9 @@ abbrev pub first_number : ℕ → ℕ
 first_number number = if has_part number then number - number % 20 else number
 
 abbrev pub part_name : ℕ → Option (List ℕ)
-part_name number = if has_part number then slice_get field_names (number % 20) else Some []
-
-abbrev pub fault_numbered : ℕ → Option FaultFields
-fault_numbered number = find (λ (it : FaultFields). it.number == number) fault_rows
+part_name number =
+    if has_part number then option_map (λ (it : PartFields). it.name) (part_numbered (number % 20))
+    else Some []
 
 -- of the fault that has the number, and None where none has it
 abbrev pub told_of : ℕ → Option ToldFields

@@ -1,11 +1,12 @@
 //! What callers are told of a fault's number: the fault's name and its sentence.
-ghost use Rattle.std.specs.Prelude.{◌≡◌, ◌≢◌, ◌<◌, ◌^◌, ◌==◌, length, find, option_copied, option_map, slice_get};
-ghost use Rattle.rpki_c.specs.FaultNumbers.{fault_fields};
+ghost use Rattle.std.specs.Prelude.{◌≡◌, ◌≢◌, ◌<◌, ◌^◌, length, option_map};
+ghost use Rattle.rpki_files.specs.FaultTable.{fault_fields};
 ghost use Rattle.rpki_c.specs.FaultTexts.{TellsText, first_number as first, has_part as parted, name_told, part_name as name_of_part, sentence_told, told_of, told_fields};
 ghost use Rattle.rpki_c.specs.Writing.{IsWritten};
 
 use crate::copying::{put_behind, put_octets};
-use crate::faults::{BAD_CALL, Fault, NONE, all_faults, all_field_names};
+use crate::faults::{BAD_CALL, NONE};
+use rpki_files::faults::{Fault, numbered, numbered_part};
 
 // Whether faults with this number speak of a part.
 fn has_part(number: u32) -> bool
@@ -25,27 +26,15 @@ fn first_number(number: u32) -> u32
     }
 }
 
-fn name_at(names: &[&'static str], place: u32) -> Option<&'static str>
-    ensures { result ≡ slice_get names.now place }
-{
-    names.get(place as usize).copied()
-}
-
 // The name of the part that faults with this number speak of, and an empty one where there is none.
 fn part_name(number: u32) -> Option<&'static str>
     ensures { option_map (λ name. name.now) result ≡ name_of_part number }
 {
     if has_part(number) {
-        name_at(all_field_names(), number % 20)
+        numbered_part(number % 20).map(|part| part.name)
     } else {
         Some("")
     }
-}
-
-fn fault_in(faults: &[Fault], number: u32) -> Option<&Fault>
-    ensures { option_copied result ≡ find (λ it. it.number == number) faults.now }
-{
-    faults.iter().find(|fault| fault.number == number)
 }
 
 // The fault that has the number, and the name of the part that it speaks of, or an empty one.
@@ -53,7 +42,7 @@ fn fault_told(number: u32) -> Option<(&'static Fault, &'static str)>
     ensures { option_map (λ it. told_fields (fault_fields it.0.now) it.1.now) result ≡ told_of number }
 {
     let part = part_name(number)?;
-    let fault = fault_in(all_faults(), first_number(number))?;
+    let fault = numbered(first_number(number))?;
     Some((fault, part))
 }
 

@@ -1,6 +1,7 @@
 -- Lemmas of the proofs about files.
 mod ContentReads
 mod DerTexts
+mod FaultTables
 mod FirstInside
 mod FirstTrue
 mod FlawReads

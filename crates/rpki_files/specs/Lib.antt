@@ -6,6 +6,7 @@ pub mod LocatorFiles
 pub mod StopPlaces
 pub mod Misreads
 pub mod PolicyPresence
+pub mod FaultTable
 pub mod FaultRules
 pub mod KnownKinds
 pub mod PartTexts

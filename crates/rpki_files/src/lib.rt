@@ -8,6 +8,7 @@ mod contents;
 mod decoding;
 mod digits;
 mod expected;
+pub mod faults;
 mod files;
 mod flaws;
 mod found;

@@ -1,10 +1,10 @@
-//! The names and the texts of all errors but the faults of inspection.
+//! The names and the texts of errors that aren't in the table of faults.
 
 use bytes::Bytes;
 use rpki_blocks::{Inherited, IssueError};
 use rpki_cert::{IssueCaError, RearrangeError, ValidationError, VerificationError};
 use rpki_crl::{InvalidExtension, RevocationError};
-use rpki_der::{DecodeError, EncodeError, Field, Oid};
+use rpki_der::{DecodeError, EncodeError, Oid};
 use rpki_ext::InspectionError;
 use rpki_files::Misread;
 use rpki_lines::RunFault;
@@ -45,33 +45,6 @@ fn identifier(rt: &impl Abort) -> Oid {
 }
 
 #[test]
-fn of_values_that_are_read(rt: HostRuntime) {
-    assert_all_told! { rt:
-        DecodeError::Truncated => "Truncated: truncated value";
-        DecodeError::BadLength => "BadLength: bad length";
-        DecodeError::BadTag => "BadTag: unexpected identifier";
-        DecodeError::BadValue => "BadValue: bad value";
-        DecodeError::Trailing => "Trailing: trailing octets";
-        DecodeError::TooDeep => "TooDeep: values nested too deep";
-        DecodeError::Memory => "Memory: out of memory";
-    }
-}
-
-#[test]
-fn of_fields_that_are_read(rt: HostRuntime) {
-    assert_all_told! { rt:
-        DecodeError::Missing(Field::Resources) => "Missing: missing Resources";
-        DecodeError::Duplicate(Field::KeyUsage) => "Duplicate: duplicate KeyUsage";
-        DecodeError::Critical(Field::CrlNumber) => "Critical: CrlNumber is critical";
-        DecodeError::NotCritical(Field::BasicConstraints)
-            => "NotCritical: BasicConstraints is not critical";
-        DecodeError::WrongResources(Field::IpResources)
-            => "WrongResources: wrong identifier of IpResources";
-        DecodeError::AlgorithmMismatch => "AlgorithmMismatch: signature algorithm mismatch";
-    }
-}
-
-#[test]
 fn of_extensions_that_are_read(rt: HostRuntime) {
     let invalid = InvalidExtension::new(identifier(&rt));
     assert_eq!(rt; invalid.oid().as_bytes(), b"\x55\x1d\x63".as_slice());
@@ -84,37 +57,6 @@ fn of_extensions_that_are_read(rt: HostRuntime) {
             => "InvalidExtension: invalid extension 551d63";
         invalid => "InvalidExtension: invalid extension 551d63";
     }
-}
-
-// The names of parts, as faults print them.
-const FIELDS: &str = "BasicConstraints SubjectKeyIdentifier AuthorityKeyIdentifier KeyUsage \
-                      ExtendedKeyUsage CrlDistributionPoints AuthorityInformationAccess \
-                      SubjectInformationAccess CertificatePolicies IpResources AsResources \
-                      Resources CrlNumber";
-
-#[test]
-fn of_parts(rt: HostRuntime) {
-    let fields = [
-        Field::BasicConstraints,
-        Field::SubjectKeyIdentifier,
-        Field::AuthorityKeyIdentifier,
-        Field::KeyUsage,
-        Field::ExtendedKeyUsage,
-        Field::CrlDistributionPoints,
-        Field::AuthorityInformationAccess,
-        Field::SubjectInformationAccess,
-        Field::CertificatePolicies,
-        Field::IpResources,
-        Field::AsResources,
-        Field::Resources,
-        Field::CrlNumber,
-    ];
-    let mut names = FIELDS.split_whitespace();
-    for field in fields {
-        let shown = format!(in rt.alloc(); "{field:?}").expect(&rt, "memory");
-        assert!(rt; names.next() == Some(shown.as_str()));
-    }
-    assert!(rt; names.next().is_none());
 }
 
 #[test]
@@ -146,29 +88,8 @@ fn of_parts_of_certificates(rt: HostRuntime) {
 }
 
 #[test]
-fn of_verification(rt: HostRuntime) {
+fn of_validation(rt: HostRuntime) {
     assert_all_told! { rt:
-        VerificationError::from(ValidityError::NotYetValid)
-            => "NotYetValid: certificate not yet valid";
-        VerificationError::from(ValidityError::Expired) => "Expired: certificate expired";
-        VerificationError::MissingKeyId => "MissingKeyId: missing authority key identifier";
-        VerificationError::WrongKeyId => "WrongKeyId: wrong authority key identifier";
-        VerificationError::MissingIssuerUri
-            => "MissingIssuerUri: missing URI of the issuer's certificate";
-        VerificationError::from(SignatureVerificationError) => "BadSignature: bad signature";
-        VerificationError::from(AllocError) => "Memory: out of memory";
-    }
-}
-
-#[test]
-fn of_resources(rt: HostRuntime) {
-    assert_all_told! { rt:
-        VerificationError::InheritedV4 => "InheritedV4: inherited IPv4 resources";
-        VerificationError::InheritedV6 => "InheritedV6: inherited IPv6 resources";
-        VerificationError::InheritedAs => "InheritedAs: inherited AS resources";
-        VerificationError::OverclaimV4 => "OverclaimV4: overclaimed IPv4 resources";
-        VerificationError::OverclaimV6 => "OverclaimV6: overclaimed IPv6 resources";
-        VerificationError::OverclaimAs => "OverclaimAs: overclaimed AS resources";
         ValidationError::from(InspectionError::Issuer) => "Inspection: invalid issuer";
         ValidationError::from(VerificationError::Expired)
             => "Verification: certificate expired";
@@ -196,14 +117,8 @@ fn of_issuing_and_rearranging(rt: HostRuntime) {
 }
 
 #[test]
-fn of_revocation_and_runs(rt: HostRuntime) {
+fn of_runs(rt: HostRuntime) {
     assert_all_told! { rt:
-        RevocationError::NoCrl => "NoCrl: missing revocation list";
-        RevocationError::WrongKeyId
-            => "WrongKeyId: wrong authority key identifier of the revocation list";
-        RevocationError::BadSignature => "BadSignature: bad signature of the revocation list";
-        RevocationError::Stale => "Stale: stale revocation list";
-        RevocationError::Revoked => "Revoked: certificate revoked";
         RunFault::Read => "Read: the input couldn't be read";
         RunFault::Write => "Write: the output couldn't be written";
         RunFault::Memory => "Memory: out of memory";

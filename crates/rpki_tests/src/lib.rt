@@ -17,11 +17,11 @@ mod elsewhere;
 #[cfg(test)]
 mod errors;
 #[cfg(test)]
+mod faults;
+#[cfg(test)]
 mod folder;
 #[cfg(test)]
 mod given_lists;
-#[cfg(test)]
-mod inspection;
 #[cfg(test)]
 mod issuing;
 #[cfg(test)]

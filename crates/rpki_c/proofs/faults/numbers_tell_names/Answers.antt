@@ -5,9 +5,9 @@ pub returns : goal.returns
 returns c =
     record {
       decoding = decoding_told;
-      inspection = λ e. (inspections e).1;
-      verification = λ e. (verifications e).1;
-      revocation = λ e. (revocations e).1;
-      locator = λ e. (locators e).1;
-      next_list = λ e. (next_lists e).1;
+      inspection = inspections;
+      verification = verifications;
+      revocation = revocations;
+      locator = locators;
+      next_list = next_lists;
     }

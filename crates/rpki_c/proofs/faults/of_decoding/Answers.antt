@@ -1,22 +1,30 @@
-use Rattle.std.proofs.Common.{◌≡◌, List, ℕ, ◌/◌, arith, sym, subst, ap, ◌∙◌}
-use Rattle.rpki_c.specs.FaultNumbers.{decode_number, number_named}
-use Rattle.rpki_c.proofs.FaultTables.{plain_decoding}
+use Rattle.std.proofs.Common.{◌≡◌, ◌≤◌, ap, ◌∙◌, arith}
+use Rattle.rpki_files.specs.FaultTable.{FaultFields}
+use Rattle.rpki_c.specs.FaultNumbers.{part_added}
+use Rattle.rpki_c.proofs.FaultTables.{memory_or_more}
 use Rattle.rpki_c.proofs.faults.of_decoding.Goals as goal
 
-pub named-requires : goal.named-requires
-named-requires c =
-    let plain = plain_decoding c.args.error.now c.in_default.not-Memory c.in_default.not-Missing c.in_default.not-Duplicate c.in_default.not-Critical c.in_default.not-NotCritical c.in_default.not-WrongResources in
-    λ other. subst (λ (name : List ℕ). (number_named 1 name / 100) ≡ 1) (sym c.name.ensures) plain.1
-
-pub returns-in_default : goal.returns-in_default
-returns-in_default c =
-    let plain = plain_decoding c.args.error.now c.in_default.not-Memory c.in_default.not-Missing c.in_default.not-Duplicate c.in_default.not-Critical c.in_default.not-NotCritical c.in_default.not-WrongResources in
-    let is : c.named.result ≡ decode_number c.args.error.now = c.named.ensures.number ∙ ap (number_named 1) c.name.ensures ∙ sym plain.0 in
-    let hundreds : (c.named.result / 100) ≡ 1 = subst (λ (n : ℕ). (n / 100) ≡ 1) (sym (is ∙ plain.0)) plain.1 in
-    record {
-      number = is;
-      memory = ((λ memory. absurd (omega arith)), (λ memory. absurd (c.in_default.not-Memory memory)));
-      fault = λ none. omega arith;
-      no_bad_call = λ bad_call. omega arith;
-      small = omega arith;
-    }
+pub returns : goal.returns
+returns c =
+    let told = c.of_reading.ensures in
+    let number = ap (λ (it : FaultFields). it.number) told.fault in
+    let added = c.part_added.ensures in
+    let none = λ memory. added.number ∙ ap part_added (told.memory.0 memory) in
+    elim (memory_or_more c.of_reading.result.now.number c.part_added.result told.great none) [
+      | inl one ↦
+          record {
+            number = omega (arith, number, added.number);
+            memory = ((λ is. told.memory.0 one.0), (λ is. omega (arith, one.0, one.1)));
+            fault = λ is. omega (arith, is, one.0);
+            no_bad_call = λ is. omega (arith, is, one.0, one.1);
+            small = omega (arith, one.0, one.1);
+          }
+      | inr more ↦
+          record {
+            number = omega (arith, number, added.number);
+            memory = ((λ is. absurd (omega (arith, is, more))), (λ is. absurd (omega (arith, told.memory.1 is, more))));
+            fault = λ is. omega (arith, is, more);
+            no_bad_call = λ is. omega (arith, is, more);
+            small = omega (arith, told.small, added.small);
+          }
+    ]

@@ -1,7 +1,10 @@
-use Rattle.std.proofs.Common.{◌≡◌, ◌≢◌, List, ℕ, ◌/◌, sym, subst}
-use Rattle.rpki_c.specs.FaultNumbers.{number_named}
-use Rattle.rpki_c.proofs.FaultTables.{next_lists}
+use Rattle.std.proofs.Common.{◌≡◌, ◌≢◌, ℕ, ap, ◌∙◌, subst, sym}
+use Rattle.rpki_files.specs.FaultTable.{FaultFields, fault_named}
+use Rattle.rpki_files.specs.declared.faults.FaultKind.TheVariants as kind
+use Rattle.rpki_c.proofs.FaultTables.{next_lists_are_faults}
 use Rattle.rpki_c.proofs.faults.of_next_list.Goals as goal
 
-pub named-requires : goal.named-requires
-named-requires c = subst (λ (name : List ℕ). number_named 8 name ≢ 1 → (number_named 8 name / 100) ≡ 8) (sym c.name.ensures) (next_lists c.args.error.now).0
+pub returns : goal.returns
+returns c =
+    let is = ap (λ (it : FaultFields). it.number) (c.named.ensures ∙ ap (fault_named kind.Issuing) c.name.ensures) in
+    record { number = is; fault = subst (λ (n : ℕ). n ≢ 0) (sym is) (next_lists_are_faults c.args.error.now) }

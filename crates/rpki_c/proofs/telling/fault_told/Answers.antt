@@ -1,6 +1,6 @@
 use Rattle.std.proofs.Common.{List, ℕ, Option, Some, None, ap, ◌∙◌}
-use Rattle.rpki_c.specs.FaultTexts.{fault_numbered, first_number, told_if}
-use Rattle.rpki_c.proofs.FaultTables.{fault_found}
+use Rattle.rpki_files.specs.FaultTable.{fault_numbered}
+use Rattle.rpki_c.specs.FaultTexts.{first_number, told_if}
 use Rattle.rpki_c.proofs.telling.fault_told.Goals as goal
 
 pub returns-in_err-part : goal.returns-in_err-part
@@ -9,11 +9,9 @@ returns-in_err-part c =
 
 pub returns-in_err-fault : goal.returns-in_err-fault
 returns-in_err-fault c =
-    let found = fault_found c.all_faults.result.now c.all_faults.ensures c.first_number.result None c.in_err-fault.ensures in
     rw c.from_residual-in_err-fault.ensures
-    (ap (told_if (Some c.in_ok-part.part.now)) (found ∙ ap fault_numbered c.first_number.ensures) ∙ ap (λ (part : Option (List ℕ)). told_if part (fault_numbered (first_number c.args.number))) c.in_ok-part.ensures)
+    (ap (told_if (Some c.in_ok-part.part.now)) (c.in_err-fault.ensures ∙ ap fault_numbered c.first_number.ensures) ∙ ap (λ (part : Option (List ℕ)). told_if part (fault_numbered (first_number c.args.number))) c.in_ok-part.ensures)
 
 pub returns : goal.returns
 returns c =
-    let found = fault_found c.all_faults.result.now c.all_faults.ensures c.first_number.result (Some c.in_ok-fault.fault.now) c.in_ok-fault.ensures in
-    ap (told_if (Some c.in_ok-part.part.now)) (found ∙ ap fault_numbered c.first_number.ensures) ∙ ap (λ (part : Option (List ℕ)). told_if part (fault_numbered (first_number c.args.number))) c.in_ok-part.ensures
+    ap (told_if (Some c.in_ok-part.part.now)) (c.in_ok-fault.ensures ∙ ap fault_numbered c.first_number.ensures) ∙ ap (λ (part : Option (List ℕ)). told_if part (fault_numbered (first_number c.args.number))) c.in_ok-part.ensures

@@ -1,0 +1,136 @@
+//! That faults have the names and print the texts that stand in their table.
+
+use crate::errors::assert_told;
+use rpki_cert::VerificationError;
+use rpki_crl::RevocationError;
+use rpki_der::{DecodeError, Field};
+use rpki_ext::InspectionError;
+use rpki_files::faults::{
+    Fault, numbered, numbered_part, of_inspection, of_locator, of_reading, of_revocation,
+    of_verification, part_number,
+};
+use rpki_keys::tal::TalError;
+use rpki_parts::{SignatureVerificationError, ValidityError};
+use std::alloc::{AllocError, Global};
+use std::fmt::Display;
+use std::process::Abort;
+
+// That a fault has the name of its line and prints its text, with the name of the part that it
+// speaks of between the halves; and that the line is found by its number.
+fn assert_fault<E: Display + Drop>(
+    rt: &impl Abort,
+    alloc: Global,
+    name: &str,
+    error: E,
+    told: &Fault,
+    part: &str,
+) {
+    let wanted = format!(in alloc; "{}: {}{part}{}", told.name, told.before, told.behind)
+        .expect(rt, "memory");
+    assert_told(rt, alloc, name, error, wanted.as_str());
+    assert!(rt; matches!(numbered(told.number), Some(found) if found.name == told.name));
+}
+
+#[test]
+fn of_values_that_are_read(rt: HostRuntime) {
+    let faults = [
+        DecodeError::Truncated,
+        DecodeError::BadLength,
+        DecodeError::BadTag,
+        DecodeError::BadValue,
+        DecodeError::Trailing,
+        DecodeError::TooDeep,
+        DecodeError::AlgorithmMismatch,
+        DecodeError::Memory,
+    ];
+    for fault in faults {
+        let told = of_reading(&fault);
+        assert_fault(&rt, rt.alloc(), fault.name(), fault, told, "");
+    }
+}
+
+#[test]
+fn of_fields_that_are_read(rt: HostRuntime) {
+    let faults = [
+        (DecodeError::Missing(Field::Resources), "Resources"),
+        (DecodeError::Duplicate(Field::KeyUsage), "KeyUsage"),
+        (DecodeError::Critical(Field::CrlNumber), "CrlNumber"),
+        (DecodeError::NotCritical(Field::BasicConstraints), "BasicConstraints"),
+        (DecodeError::WrongResources(Field::IpResources), "IpResources"),
+    ];
+    for (fault, part) in faults {
+        let told = of_reading(&fault);
+        assert_fault(&rt, rt.alloc(), fault.name(), fault, told, part);
+    }
+}
+
+const FIELDS: [Field; 13] = [
+    Field::BasicConstraints,
+    Field::SubjectKeyIdentifier,
+    Field::AuthorityKeyIdentifier,
+    Field::KeyUsage,
+    Field::ExtendedKeyUsage,
+    Field::CrlDistributionPoints,
+    Field::AuthorityInformationAccess,
+    Field::SubjectInformationAccess,
+    Field::CertificatePolicies,
+    Field::IpResources,
+    Field::AsResources,
+    Field::Resources,
+    Field::CrlNumber,
+];
+
+#[test]
+fn of_parts(rt: HostRuntime) {
+    for field in FIELDS {
+        let shown = format!(in rt.alloc(); "{field:?}").expect(&rt, "memory");
+        let part = numbered_part(part_number(field));
+        assert!(rt; matches!(part, Some(part) if part.name == shown.as_str()));
+    }
+}
+
+// The texts of all others are compared where the sources are (tests/callers).
+#[test]
+fn of_certificates(rt: HostRuntime) {
+    for fault in [InspectionError::AlgorithmMismatch, InspectionError::InheritedAsResources] {
+        assert_fault(&rt, rt.alloc(), fault.name(), fault, of_inspection(fault), "");
+    }
+    let faults = [
+        VerificationError::from(ValidityError::NotYetValid),
+        VerificationError::from(ValidityError::Expired),
+        VerificationError::InheritedV4,
+        VerificationError::InheritedV6,
+        VerificationError::InheritedAs,
+        VerificationError::MissingKeyId,
+        VerificationError::WrongKeyId,
+        VerificationError::MissingIssuerUri,
+        VerificationError::from(SignatureVerificationError),
+        VerificationError::OverclaimV4,
+        VerificationError::OverclaimV6,
+        VerificationError::OverclaimAs,
+        VerificationError::from(AllocError),
+    ];
+    for fault in faults {
+        let told = of_verification(&fault);
+        assert_fault(&rt, rt.alloc(), fault.name(), fault, told, "");
+    }
+}
+
+#[test]
+fn of_lists_and_locators(rt: HostRuntime) {
+    let faults = [
+        RevocationError::NoCrl,
+        RevocationError::WrongKeyId,
+        RevocationError::BadSignature,
+        RevocationError::Stale,
+        RevocationError::Revoked,
+    ];
+    for fault in faults {
+        let told = of_revocation(&fault);
+        assert_fault(&rt, rt.alloc(), fault.name(), fault, told, "");
+    }
+    for fault in [TalError::NoText, TalError::NoUri, TalError::Memory] {
+        let told = of_locator(&fault);
+        assert_fault(&rt, rt.alloc(), fault.name(), fault, told, "");
+    }
+}

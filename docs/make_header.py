@@ -1,0 +1,138 @@
+#!/usr/bin/env python3
+"""Writes what callers read of the tables of faults in crates/rpki_files: the numbers of parts and
+faults in include/rpki.h, and the names of faults in the documentation of callers/rust.
+
+    docs/make_header.py            writes both
+    docs/make_header.py --check    writes nothing, and exits with 1 where one isn't up to date
+
+A comment that stands above a number of the header, or behind it, stays with the number. Plain
+Python 3, standard library alone.
+"""
+import re
+import sys
+import textwrap
+from pathlib import Path
+
+ROOT = Path(__file__).resolve().parent.parent
+TABLES = ROOT / "crates" / "rpki_files" / "src" / "faults.rt"
+HEADER = ROOT / "include" / "rpki.h"
+CRATE = ROOT / "callers" / "rust" / "src" / "fault.rs"
+PREFIXES = {
+    "GENERAL": "",
+    "READING": "DECODE_",
+    "INSPECTION": "INSPECTION_",
+    "VERIFICATION": "VERIFICATION_",
+    "REVOCATION": "REVOCATION_",
+    "PATH": "",
+    "LOCATOR": "LOCATOR_",
+    "ISSUING": "ISSUING_",
+}
+
+# The kinds of the crate whose names are those of one table.
+KINDS = {
+    "Decode": "READING",
+    "Inspection": "INSPECTION",
+    "Verification": "VERIFICATION",
+    "Revocation": "REVOCATION",
+}
+
+
+def upper(name):
+    """BadSignature as BAD_SIGNATURE."""
+    return re.sub(r"([a-z0-9])([A-Z])", r"\1_\2", name).upper()
+
+
+def rows(text, table):
+    """The rows of a table of the source."""
+    found = re.search(rf"const {table}: .*? = &\w+! {{\n(.*?)\n}};", text, re.S)
+    if not found:
+        sys.exit(f"docs/make_header.py: {TABLES.name} has no table {table}")
+    return found.group(1)
+
+
+def faults(text):
+    """The number and the name of each fault."""
+    for table, prefix in PREFIXES.items():
+        for number, name in re.findall(r'^    (\d+) "(\w+)"', rows(text, table), re.M):
+            yield int(number), "RPKI_OK" if number == "0" else f"RPKI_{prefix}{upper(name)}"
+
+
+def parts(text):
+    """The number and the name of each part."""
+    for number, name in enumerate(re.findall(r'^    "(\w+)"', rows(text, "PARTS"), re.M)):
+        yield number, f"RPKI_FIELD_{upper(name)}"
+
+
+def comments(body):
+    """What stands above each number of an enum, and what stands behind it."""
+    above, behind, lines = {}, {}, []
+    for line in body.split("\n"):
+        item = re.match(r"    RPKI_\w+ = (\d+),?(?: +(/\*.*\*/))?$", line)
+        if not item:
+            lines.append(line)
+            continue
+        above[int(item.group(1))] = lines
+        behind[int(item.group(1))] = item.group(2)
+        lines = []
+    return above, behind
+
+
+def enum(header, name, items):
+    """The header with these numbers in the enum."""
+    begin = header.index(f"enum {name} {{\n") + len(f"enum {name} {{\n")
+    end = header.index("\n};", begin)
+    above, behind = comments(header[begin:end])
+    lines = []
+    for place, (number, item) in enumerate(items):
+        lines += [(line, None) for line in above.get(number, [])]
+        comma = "," if place + 1 < len(items) else ""
+        lines.append((f"    {item} = {number}{comma}", behind.get(number)))
+    return header[:begin] + "\n".join(aligned(lines)) + header[end:]
+
+
+def aligned(lines):
+    """Lines, with the comments behind neighbours below each other."""
+    told = []
+    for place, (line, comment) in enumerate(lines):
+        if not comment:
+            told.append(line)
+            continue
+        first = last = place
+        while first > 0 and lines[first - 1][1]:
+            first -= 1
+        while last + 1 < len(lines) and lines[last + 1][1]:
+            last += 1
+        width = max(len(it) for it, _ in lines[first : last + 1])
+        told.append(f"{line:<{width}} {comment}")
+    return told
+
+
+def documented(crate, kind, names):
+    """The crate's source with these names in the last paragraph above a kind."""
+    above = re.search(rf"((?:    ///.*\n)*)    {kind},\n", crate)
+    paragraphs = re.sub(r"    /// ?", "", above.group(1)).split("\n\n")
+    listed = ", ".join(f"`{name}`" for name in names[:-1]) + f" or `{names[-1]}`"
+    joined = " ".join(paragraphs[-1].split())
+    paragraphs[-1] = re.sub(r"Its name is (`\w+`(, | or )?)+\.", f"Its name is {listed}.", joined)
+    paragraphs[-1] = "\n".join(textwrap.wrap(paragraphs[-1], 92)) + "\n"
+    lines = "\n\n".join(paragraphs).split("\n")[:-1]
+    told = "".join(f"    /// {line}".rstrip() + "\n" for line in lines)
+    return crate[: above.start(1)] + told + crate[above.end(1) :]
+
+
+def main():
+    text, header, crate = TABLES.read_text(), HEADER.read_text(), CRATE.read_text()
+    made = enum(header, "rpki_field", list(parts(text)))
+    made = enum(made, "rpki_fault", sorted(faults(text)))
+    told = crate
+    for kind, table in KINDS.items():
+        told = documented(told, kind, re.findall(r'^    \d+ "(\w+)"', rows(text, table), re.M))
+    if sys.argv[1:] == ["--check"]:
+        return 0 if (made, told) == (header, crate) else 1
+    HEADER.write_text(made)
+    CRATE.write_text(told)
+    return 0
+
+
+if __name__ == "__main__":
+    sys.exit(main())
