@@ -3,7 +3,6 @@ use Rattle.std.proofs.Common.{◌≡◌, ◌≢◌, ◌≤◌, ◌⊎◌, inl, i
 use Rattle.rpki_der.specs.ErrorNames.{decode_error_name}
 use Rattle.rpki_der.specs.declared.error.DecodeError.{DecodeError}
 use Rattle.rpki_der.specs.declared.error.DecodeError.TheVariants as decoding
-use Rattle.rpki_der.specs.declared.error.Field.{Field}
 use Rattle.rpki_der.specs.declared.error.Field.TheVariants as field
 use Rattle.rpki_ext.specs.Inspection.{inspection_error_name}
 use Rattle.rpki_ext.specs.declared.inspection.InspectionError.{InspectionError}

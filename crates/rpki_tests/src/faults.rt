@@ -25,8 +25,9 @@ fn assert_fault<E: Display + Drop>(
     told: &Fault,
     part: &str,
 ) {
-    let wanted = format!(in alloc; "{}: {}{part}{}", told.name, told.before, told.behind)
-        .expect(rt, "memory");
+    let wanted = format!(in alloc; "{}: {}{part}{}", told.name, told.before, told.behind).expect(
+        rt, "memory",
+    );
     assert_told(rt, alloc, name, error, wanted.as_str());
     assert!(rt; matches!(numbered(told.number), Some(found) if found.name == told.name));
 }
@@ -55,8 +56,14 @@ fn of_fields_that_are_read(rt: HostRuntime) {
         (DecodeError::Missing(Field::Resources), "Resources"),
         (DecodeError::Duplicate(Field::KeyUsage), "KeyUsage"),
         (DecodeError::Critical(Field::CrlNumber), "CrlNumber"),
-        (DecodeError::NotCritical(Field::BasicConstraints), "BasicConstraints"),
-        (DecodeError::WrongResources(Field::IpResources), "IpResources"),
+        (
+            DecodeError::NotCritical(Field::BasicConstraints),
+            "BasicConstraints",
+        ),
+        (
+            DecodeError::WrongResources(Field::IpResources),
+            "IpResources",
+        ),
     ];
     for (fault, part) in faults {
         let told = of_reading(&fault);
@@ -92,8 +99,18 @@ fn of_parts(rt: HostRuntime) {
 // The texts of all others are compared where the sources are (tests/callers).
 #[test]
 fn of_certificates(rt: HostRuntime) {
-    for fault in [InspectionError::AlgorithmMismatch, InspectionError::InheritedAsResources] {
-        assert_fault(&rt, rt.alloc(), fault.name(), fault, of_inspection(fault), "");
+    for fault in [
+        InspectionError::AlgorithmMismatch,
+        InspectionError::InheritedAsResources,
+    ] {
+        assert_fault(
+            &rt,
+            rt.alloc(),
+            fault.name(),
+            fault,
+            of_inspection(fault),
+            "",
+        );
     }
     let faults = [
         VerificationError::from(ValidityError::NotYetValid),

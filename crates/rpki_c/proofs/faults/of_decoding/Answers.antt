@@ -1,4 +1,4 @@
-use Rattle.std.proofs.Common.{◌≡◌, ◌≤◌, ap, ◌∙◌, arith}
+use Rattle.std.proofs.Common.{◌≡◌, inl, inr, ap, ◌∙◌, arith}
 use Rattle.rpki_files.specs.FaultTable.{FaultFields}
 use Rattle.rpki_c.specs.FaultNumbers.{part_added}
 use Rattle.rpki_c.proofs.FaultTables.{memory_or_more}
@@ -9,7 +9,7 @@ returns c =
     let told = c.of_reading.ensures in
     let number = ap (λ (it : FaultFields). it.number) told.fault in
     let added = c.part_added.ensures in
-    let none = λ memory. added.number ∙ ap part_added (told.memory.0 memory) in
+    let none = λ (memory : c.of_reading.result.now.number ≡ 1). added.number ∙ ap part_added (told.memory.0 memory) in
     elim (memory_or_more c.of_reading.result.now.number c.part_added.result told.great none) [
       | inl one ↦
           record {

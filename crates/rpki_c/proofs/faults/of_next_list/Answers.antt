@@ -1,4 +1,4 @@
-use Rattle.std.proofs.Common.{◌≡◌, ◌≢◌, ℕ, ap, ◌∙◌, subst, sym}
+use Rattle.std.proofs.Common.{◌≢◌, ℕ, ap, ◌∙◌, subst, sym}
 use Rattle.rpki_files.specs.FaultTable.{FaultFields, fault_named}
 use Rattle.rpki_files.specs.declared.faults.FaultKind.TheVariants as kind
 use Rattle.rpki_c.proofs.FaultTables.{next_lists_are_faults}

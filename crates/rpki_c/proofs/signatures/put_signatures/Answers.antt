@@ -1,5 +1,5 @@
 use Rattle.std.specs.List.{concat}
-use Rattle.std.proofs.Common.{◌≡◌, ◌≢◌, ◌<◌, ◌≤◌, ◌+◌, ◌-◌, ◌++◌, ◌∙◌, false, ℕ, List, [], drop, get_or, length, min, refl, sym, ap, subst, inl, inr, arith}
+use Rattle.std.proofs.Common.{◌≡◌, ◌≢◌, ◌<◌, ◌≤◌, ◌+◌, ◌-◌, ◌++◌, ◌∙◌, ℕ, List, [], drop, get_or, length, min, refl, sym, ap, subst, inl, inr, arith}
 use Rattle.std.proofs.lemmas.List.{get_or_default}
 use Rattle.rpki_c.specs.Answered.{IsUnasked, octets_above}
 use Rattle.rpki_c.specs.SignaturePlaces.{AreSignaturesPut, StandsAt, TellsSignature}

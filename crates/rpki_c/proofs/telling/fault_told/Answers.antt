@@ -1,4 +1,4 @@
-use Rattle.std.proofs.Common.{List, ℕ, Option, Some, None, ap, ◌∙◌}
+use Rattle.std.proofs.Common.{List, ℕ, Option, Some, ap, ◌∙◌}
 use Rattle.rpki_files.specs.FaultTable.{fault_numbered}
 use Rattle.rpki_c.specs.FaultTexts.{first_number, told_if}
 use Rattle.rpki_c.proofs.telling.fault_told.Goals as goal
