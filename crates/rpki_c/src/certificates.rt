@@ -134,6 +134,7 @@ pub extern "C" fn rpki_certificate_read(
 ) -> u32
     ensures read { result ≡ NONE → (c : CertFields) × Means IsCertificate c octets.now
         × TellsCertificate c.fields out.new }
+    ensures untouched { result ≢ NONE → out.new ≡ out.old }
     ensures unread { result ≢ NONE → result ≢ MEMORY → BeginsNoCertificate octets.now }
 {
     match decoded(alloc, octets) {

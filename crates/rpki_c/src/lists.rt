@@ -1,5 +1,6 @@
 //! Revocation lists for C.
-ghost use Rattle.std.specs.Prelude.{◌≡◌, ◌≢◌, ◌≤◌, ◌*◌, ◌^◌, ◌↔◌, ◌++◌, ◌∷◌, [], length, IsTrue, IsNone, OnOk, IfOk, IfErr, IfSome};
+ghost use Rattle.std.specs.Int.Digits.{number_from_digits};
+ghost use Rattle.std.specs.Prelude.{◌≡◌, ◌≢◌, ◌≤◌, ◌+◌, ◌*◌, ◌^◌, ◌↔◌, ◌++◌, ◌∷◌, [], length, IsTrue, IsNone, OnOk, IfOk, IfErr, IfSome};
 ghost use Rattle.std.specs.List.{AllZip};
 ghost use Rattle.rpki_der.specs.Place.{MeansOrMemoryBy};
 ghost use Rattle.rpki_ext.specs.Kinds.{Means};
@@ -90,6 +91,7 @@ fn decoded(alloc: Global, octets: &[u8]) -> Result<Crl, u32>
 pub extern "C" fn rpki_list_read(alloc: Global, octets: &[u8], out: &mut RpkiList) -> u32
     ensures read { result ≡ NONE → (l : CrlFields) × Means IsCertificateList l octets.now
         × TellsList l.fields out.new }
+    ensures untouched { result ≢ NONE → out.new ≡ out.old }
     ensures unread { result ≢ NONE → result ≢ MEMORY → BeginsNoList octets.now }
 {
     match decoded(alloc, octets) {
@@ -178,13 +180,24 @@ pub extern "C" fn rpki_list_issuer(
     }
 }
 
-// The serial number at this place.
-fn serial_at(serials: &[u8], at: usize) -> Option<Serial>
-    ensures { IfSome result (λ s. s ≡ serial_in serials.now at) }
+/// The number of 20 octets, of which the first is the greatest.
+pub(crate) fn number_of(octets: &[u8; 20]) -> Serial
+    ensures { result ≡ number_from_digits 256 octets.now }
 {
-    let from = at.checked_mul(20)?;
-    let to = from.checked_add(20)?;
-    Serial::from_slice(serials.get(from..to)?)
+    match Serial::from_slice(octets) {
+        Some(number) => number,
+        None => unreachable!(),
+    }
+}
+
+// The serial number at this place.
+fn serial_at(serials: &[u8], at: usize) -> Serial
+    requires { 20 * at + 20 ≤ length serials.now }
+    ensures { result ≡ serial_in serials.now at }
+{
+    let mut octets = [0; 20];
+    octets.copy_from_slice(&serials[20 * at..20 * at + 20]);
+    number_of(&octets)
 }
 
 // Whether there are 20 octets for each answer.
@@ -201,18 +214,13 @@ fn answer_of(list: &Crl, serial: Serial) -> u8
     if list.contains(serial) { 1 } else { 0 }
 }
 
-fn put_answers(list: &Crl, serials: &[u8], answers: &mut [u8]) -> u32
-    ensures answers { result ≡ NONE
-        → AreTold list.now.list.fields.revoked.entries serials.now answers.new }
-    ensures fault { result ≢ NONE → result ≡ BAD_CALL }
+fn put_answers(list: &Crl, serials: &[u8], answers: &mut [u8])
+    requires { length serials.now ≡ 20 * length answers.old }
+    ensures { AreTold list.now.list.fields.revoked.entries serials.now answers.new }
 {
     for at in 0..answers.len() {
-        match serial_at(serials, at) {
-            Some(serial) => answers[at] = answer_of(list, serial),
-            None => return BAD_CALL,
-        }
+        answers[at] = answer_of(list, serial_at(serials, at));
     }
-    NONE
 }
 
 // The list that the octets begin with, with its serial numbers in a table where several are asked
@@ -246,9 +254,10 @@ pub extern "C" fn rpki_list_ask(
     serials: &[u8],
     answers: &mut [u8],
 ) -> u32
-    ensures bad_call { (length serials.now ≢ 20 * length answers.old) → result ≡ BAD_CALL }
+    ensures bad_call { (result ≡ BAD_CALL) ↔ (length serials.now ≢ 20 * length answers.old) }
     ensures answers { result ≡ NONE → (l : CrlFields) × Means IsCertificateList l octets.now
         × AreTold l.fields.revoked.entries serials.now answers.new }
+    ensures untouched { result ≢ NONE → answers.new ≡ answers.old }
     ensures unread { result ≢ NONE → result ≢ MEMORY → result ≢ BAD_CALL → BeginsNoList octets.now }
 {
     if !add_up(serials, answers) {
@@ -256,9 +265,9 @@ pub extern "C" fn rpki_list_ask(
     }
     match list_for(alloc, octets, answers.len()) {
         Ok(list) => {
-            let answer = put_answers(&list, serials, answers);
+            put_answers(&list, serials, answers);
             drop(list);
-            answer
+            NONE
         }
         Err(fault) => fault,
     }

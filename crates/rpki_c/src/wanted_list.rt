@@ -1,11 +1,10 @@
 //! What a caller wants of a revocation list, by octets, lengths and numbers.
-ghost use Rattle.std.specs.Int.Digits.{number_from_digits};
 ghost use Rattle.std.specs.Prelude.{◌≡◌, [], map, IfErr, IfOk, IfSome, IsFalse, IsNone, IsTrue, MatchOption};
 ghost use Rattle.rpki_crl.specs.RevokedEntries.Views.{entry_of};
 ghost use Rattle.rpki_c.specs.ListAnswers.{GivesNoList};
 ghost use Rattle.rpki_c.specs.WantedLists.{GivesList, HasDate, HasListTerms, HasNoListTerms, HaveDates, IsNumberChosen, given_entry};
 
-use crate::lists::RpkiEntry;
+use crate::lists::{RpkiEntry, number_of};
 use crate::moments::{RpkiTime, moment_of};
 use crate::question::{RpkiQuestion, Terms, terms_of};
 use crate::unissued::Unissued;
@@ -59,16 +58,6 @@ pub(crate) fn list_terms_of(list: &RpkiWantedList<'_>) -> Option<ListTerms>
         this_update: moment_of(&list.this_update)?,
         next_update: moment_of(&list.next_update)?,
     })
-}
-
-// The number of 20 octets, of which the first is the greatest.
-fn number_of(octets: &[u8; 20]) -> Serial
-    ensures { result ≡ number_from_digits 256 octets.now }
-{
-    match Serial::from_slice(octets) {
-        Some(number) => number,
-        None => unreachable!(),
-    }
 }
 
 // The number that is chosen, if one is.
