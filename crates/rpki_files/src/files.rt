@@ -99,6 +99,7 @@ impl<'a> Object<'a> {
     }
 
     /// Returns whether the octets are a revocation list, behind which none stands.
+    #[tactic(auto, using(crate::proofs::FoundOctets::some_or_none))]
     pub fn is_list(&self) -> bool
         ensures { IsTrue result ↔ IsList self.now.octets }
     {
