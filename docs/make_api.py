@@ -35,7 +35,7 @@ class Source:
         self.lines = path.read_text().split("\n")
         self.cited = {}
         for crate, module, names in re.findall(
-            r"ghost use Rattle\.(rpki_\w+|rsa_\w+)\.specs\.([\w.]+)\.\{([^}]*)\}", "\n".join(self.lines)
+            r"ghost use Rattle\.(rpki_\w+)\.specs\.([\w.]+)\.\{([^}]*)\}", "\n".join(self.lines)
         ):
             for name in names.split(","):
                 known, _, here = name.strip().partition(" as ")
@@ -93,23 +93,24 @@ class Source:
         return taken
 
 
-def sources(crate):
-    return [Source(path) for path in sorted((CRATES / crate / "src").rglob("*.rt"))]
-
-
 class Library:
-    """The items of one library by name, and the calls of its types."""
+    """The items of one library by name, each with its module, and the calls of its types."""
 
     def __init__(self, crate):
         self.crate = crate
         self.items, self.calls, self.modules, self.gives, self.promised = {}, {}, {}, {}, {}
-        for source in sources(crate):
-            self.read(source)
-        root = (CRATES / crate / "src" / "lib.rt").read_text()
-        self.handed = {public: (lower, name) for lower, name, public in uses(root)}
+        folder = CRATES / crate / "src"
+        for path in sorted(folder.rglob("*.rt")):
+            self.read(Source(path), "::".join(path.relative_to(folder).with_suffix("").parts))
+        self.handed = {public: (lower, name) for lower, name, public in uses((folder / "lib.rt").read_text())}
 
-    def read(self, source):
-        module = source.path.stem
+    def item(self, path):
+        """The item of a path inside the library; its modules may be those that hand it on."""
+        modules, name = re.fullmatch(r"((?:\w+::)*)(\w+)", path).groups()
+        inside = [found for found in self.items.get(name, []) if f"{found[0]}::".startswith(modules)]
+        return inside[0][1:] if inside else None
+
+    def read(self, source, module):
         owner = None
         for at, line in enumerate(source.lines):
             if line.startswith("impl"):
@@ -128,7 +129,7 @@ class Library:
                 continue
             indent, kind, name = found.groups()
             if not indent:
-                self.items[name] = (kind, source, at)
+                self.items.setdefault(name, []).append((module, kind, source, at))
                 self.modules.setdefault(module, []).append((kind, name, source, at))
             elif owner and kind in ("fn", "const"):
                 self.calls.setdefault(owner, []).append((kind, name, source, at))
@@ -145,7 +146,7 @@ def library(crate):
 
 def declared(crate, name):
     """The library that declares what this one hands on under a name, and its name there."""
-    while name not in library(crate).items and name in library(crate).handed:
+    while library(crate).item(name) is None and name in library(crate).handed:
         crate, name = library(crate).handed[name]
     return crate, name
 
@@ -199,9 +200,10 @@ def entry(page, title, source, at, code, level):
 
 def of_item(page, crate, name, public):
     lib = library(crate)
-    if name not in lib.items:
+    if lib.item(name) is None:
         return None
-    kind, source, at = lib.items[name]
+    kind, source, at = lib.item(name)
+    name = name.rpartition("::")[2]
     code = source.signature(at) if kind == "fn" else shown(source, kind, at)
     out = entry(page, f"`{public}`", source, at, code, 2)
     gives = [f"`{what}`" for what in lib.gives.get(name, [])]
@@ -234,12 +236,12 @@ def of_module(page, crate, module, public):
 
 
 def uses(text):
-    """The names that a file hands on of libraries: crate, name, public name."""
-    for crate, rest in re.findall(r"pub use (rpki_\w+|rsa_\w+)::([^;]+);", text):
+    """The names that a file hands on of libraries: crate, path inside it, public name."""
+    for crate, modules, rest in re.findall(r"pub use (rpki_\w+)::((?:\w+::)*)([^;]+);", text):
         for part in re.sub(r"[{}]", "", rest).split(","):
             name, _, public = part.strip().partition(" as ")
             if name:
-                yield crate, name, public or name
+                yield crate, modules + name, public or name
 
 
 def homes():

@@ -4,7 +4,9 @@
     docs/sizes.py            writes the lines of each file of definitions behind its name
     docs/sizes.py --check    writes nothing, and exits with 1 where a size is another
 
-Both tell the names behind which a size stands and that no file has; the check exits with 1 then.
+Both tell the names behind which a size stands and that no file has. Both tell which crates of
+crates.txt the table of crates lacks, and which crates and modules it has that aren't there. The check
+exits with 1 then. Plain Python 3, standard library alone.
 """
 import re
 import sys
@@ -19,27 +21,42 @@ def lines_of(crate, name):
     return len(path.read_text().splitlines()) if path.exists() else None
 
 
+def wrong_rows(text):
+    """What the table of crates has otherwise than crates.txt and the files of src/."""
+    crates = re.findall(r"^(\w+)(?: staticlib)?:", (ROOT / "crates.txt").read_text(), flags=re.M)
+    rows = re.findall(r"^\| `(\w+)` \| .* \| (.*) \|$", text, flags=re.M)
+    for crate in sorted(set(crates) ^ {name for name, _ in rows}):
+        yield f"{crate}: in crates.txt or in the table of crates, and not in both"
+    for crate, cell in rows:
+        files = (ROOT / "crates" / crate / "src").rglob("*.rt")
+        modules = {path.stem for path in files} | set(crates)
+        for name in re.findall(r"`([a-z]\w*)`", cell):
+            if name not in modules:
+                yield f"{crate} {name}: no such module"
+
+
 def main():
     text = PAGE.read_text()
+    layers = text[text.index("## Layers"):text.index("## A crate")]
     start = text.index("## What has to be believed")
     end = text.index("The other files compute", start)
-    crate, told = None, []
+    crate, told = None, list(wrong_rows(layers))
 
     def sized(match):
-        name, space, told_size, other, lower = match.groups()
-        size = lines_of(lower or crate, name)
+        name, space, told_size = match.groups()
+        size = lines_of(crate, name)
         if size is None:
             told.append(f"{crate} {name}: no such file")
             return match.group(0)
         if size == int(told_size):
             return match.group(0)
         told.append(f"{crate} {name}: {told_size}, has {size}")
-        return f"{name}{space}{size}{other or ''}"
+        return f"{name}{space}{size}"
 
     def of_crate(match):
         nonlocal crate
         crate = match.group(1)
-        return re.sub(r"\b([A-Z]\w+(?:/\w+)?)(\s+)(\d+)(\s+of\s+`(\w+)`)?", sized, match.group(0))
+        return re.sub(r"\b([A-Z]\w+(?:/\w+)?)(\s+)(\d+)\b", sized, match.group(0))
 
     made = re.sub(r"- `(\w+)`:(?:(?!\n- `).)*", of_crate, text[start:end], flags=re.S)
     for line in told:

@@ -9,7 +9,7 @@
  *   - A path is accepted exactly where its members are a valid path, by the definitions of
  *     crates/rpki_path/specs (Judging.antt, Paths.antt), and its anchor has the locator's key where
  *     that is asked, unless memory runs out.
- *   - The list that is asked of a member is that of crates/rpki_revocation/specs/AskedLists.antt,
+ *   - The list that is asked of a member is that of crates/rpki_path/specs/AskedLists.antt,
  *     whatever the order of the lists.
  *   - The fault of a rejected path is that of the first wrong member, whose place is the index.
  *   - Of a folder each line is right. Each certificate is accepted to which a valid path leads that

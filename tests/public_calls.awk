@@ -1,23 +1,27 @@
-# Prints the path of each public call of the files that may answer out of memory, as
-# CRATE::TYPE::CALL or CRATE::MODULE::CALL, one a line: its signature names an allocator, a vector
-# that it appends to, the error of a request that was refused, or one of those of a walk down a path
-# or a folder, which has the allocator; or it hands back what could not be stored. So do the calls of
-# public types that sign, or are told what a walk finds. First come the lib.rt of the crates, whose
-# public modules are parts of the paths.
+# Prints the path of each public call of the files that may answer out of memory, one a line, as a
+# caller writes it: CRATE::TYPE::CALL or CRATE::CALL, with the public modules that it stands in
+# behind the crate. The calls of other modules are handed on by the module around them.
+#
+# A call may answer out of memory where its signature names an allocator, a vector that it appends
+# to, the error of a request that was refused, or one of those of a walk down a path or a folder,
+# which has the allocator; or where it hands back what could not be stored. So do the calls of
+# public types that sign, or are told what a walk finds.
 
-# The crate of a file, and its module.
-function crate_of(file,    parts, n) {
-    n = split(file, parts, "/")
-    while (n > 1 && parts[n] != "src")
-        n--
-    return parts[n - 1]
+# The crate of a file.
+function crate_of(file) {
+    sub(/\/src\/.*/, "", file)
+    sub(/.*\//, "", file)
+    return file
 }
 
-function module_of(file,    name) {
-    name = file
-    sub(/.*\//, "", name)
-    sub(/\.rt$/, "", name)
-    return name
+# The modules of a file, with :: behind each: none of lib.rt.
+function modules_of(file) {
+    sub(/.*\/src\//, "", file)
+    sub(/\.rt$/, "", file)
+    if (file == "lib")
+        return ""
+    gsub(/\//, "::", file)
+    return file "::"
 }
 
 # What stands behind a list of parameters in angle brackets, which may have such lists inside it.
@@ -48,13 +52,22 @@ function asks(text) {
         text ~ /, (PathFault|WalkError)>/
 }
 
-function tell(file, type, name,    path) {
-    path = crate_of(file) "::"
-    if (type != "")
-        path = path type "::"
-    else if ((crate_of(file), module_of(file)) in is_public)
-        path = path module_of(file) "::"
-    print path name
+function keep(type, name) {
+    crates[++count] = crate_of(FILENAME)
+    modules[count] = modules_of(FILENAME)
+    names[count] = (type == "" ? "" : type "::") name
+}
+
+# The crate with those of the modules that are public.
+function public_path(crate, modules,    count, parts, path, inside, i) {
+    path = crate "::"
+    count = split(modules, parts, "::")
+    for (i = 1; i < count; i++) {
+        inside = inside parts[i] "::"
+        if ((crate, inside) in is_public)
+            path = path parts[i] "::"
+    }
+    return path
 }
 
 FNR == 1 { type = ""; signature = ""; is_trait = 0 }
@@ -62,7 +75,7 @@ FNR == 1 { type = ""; signature = ""; is_trait = 0 }
 /^pub mod / {
     name = $3
     sub(/;.*/, "", name)
-    is_public[crate_of(FILENAME), name] = 1
+    is_public[crate_of(FILENAME), modules_of(FILENAME) name "::"] = 1
 }
 
 /^pub struct / {
@@ -88,14 +101,19 @@ FNR == 1 { type = ""; signature = ""; is_trait = 0 }
 signature != "" {
     if ($0 ~ /^ *(requires|ensures|\{)/ || $0 ~ /^ *#/) {
         if (asks(signature))
-            tell(FILENAME, type, name)
+            keep(type, name)
         signature = ""
     } else {
         signature = signature $0
         if ($0 ~ /\{ *$/) {
             if (asks(signature))
-                tell(FILENAME, type, name)
+                keep(type, name)
             signature = ""
         }
     }
+}
+
+END {
+    for (i = 1; i <= count; i++)
+        print public_path(crates[i], modules[i]) names[i]
 }

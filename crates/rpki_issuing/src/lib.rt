@@ -1,5 +1,6 @@
 //! Issuing where the key is elsewhere: what is to be signed is prepared, and what comes back is
-//! completed once it verifies.
+//! completed once it verifies. Beside it, the values that a person gives as texts (`values`), and
+//! certificates and lists made of such values, as octets (`wanted`).
 #![tactic(auto)]
 
 mod any_signature;

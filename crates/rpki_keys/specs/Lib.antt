@@ -1,3 +1,6 @@
+-- The definitions that the contracts of keys and locators cite.
+
+-- ---- keys, and signatures by them
 pub mod Octets
 pub mod RsaKeys
 pub mod RsaSignatures
@@ -5,8 +8,10 @@ pub mod Moduli
 pub mod Curve
 pub mod KeyForms
 pub mod RsaNumbers
+-- ---- numbers of many limbs
 pub mod Limbs
 pub mod Columns
+-- ---- trust anchor locators
 pub mod Digits
 pub mod Locators
 pub mod LocatorFaults

@@ -1,3 +1,6 @@
+-- Lemmas of the proofs about paths.
+
+-- ---- whole paths
 pub mod FoundSteps
 pub mod LongerPaths
 pub mod ValidPaths
@@ -11,6 +14,7 @@ pub mod Verdicts
 pub mod ChainedNames
 pub mod UnchainedNames
 pub mod LocatedPaths
+-- ---- who answers for revocation
 mod ListOrder
 pub mod LatestLists
 pub mod AskedList

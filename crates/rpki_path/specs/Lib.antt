@@ -1,3 +1,6 @@
+-- The definitions that the contracts of paths cite.
+
+-- ---- whole paths
 pub mod FaultNames
 pub mod Paths
 pub mod Routers
@@ -5,5 +8,6 @@ pub mod GivenPaths
 pub mod Judging
 pub mod NameChains
 pub mod LocatedPaths
+-- ---- who answers for revocation
 pub mod Asking
 pub mod AskedLists

@@ -1,4 +1,5 @@
-//! Whole paths.
+//! Whole paths, from a trust anchor down to a last member (RFC 6487 7.2), and who answers for
+//! revocation along them (`revocation`).
 #![tactic(auto)]
 
 mod given;

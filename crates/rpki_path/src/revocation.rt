@@ -1,4 +1,6 @@
 //! Who answers for revocation: whether the certificates of a path are revoked (RFC 6487 7.2).
+//! A store of lists does, or lists as they were given (`GivenLists`), or nobody (`NobodyAsked`), or
+//! a source of the caller's own.
 
 mod given;
 pub mod laws;

@@ -1,14 +1,18 @@
--- Lemmas of the proofs of printing.
+-- Lemmas of the proofs about texts for a person.
+
+-- ---- certificates and lists as text
 mod CharacterTexts
 mod DigitPlaces
 pub mod OneMoment
 mod WrittenLines
+-- ---- notes and facts
 mod LongSerials
 mod OneValues
 mod Walks
 mod Gathered
 mod Written
 mod Told
+-- ---- the command line
 mod AddedParts
 mod AroundDashes
 mod CommandParts

@@ -1,4 +1,6 @@
--- The definitions that the contracts of printing cite.
+-- The definitions that the contracts of texts for a person cite.
+
+-- ---- certificates and lists as text
 pub mod MomentTexts
 pub mod Pages
 pub mod IdentifierTexts
@@ -7,10 +9,12 @@ pub mod BlockLines
 pub mod ListTexts
 pub mod KeyTexts
 pub mod CertificateTexts
+-- ---- notes and facts
 pub mod Notes
 pub mod NoteTexts
 pub mod FaultSearch
 pub mod Facts
+-- ---- the command line
 pub mod WordParts
 pub mod CommandLines
 pub mod Misuses

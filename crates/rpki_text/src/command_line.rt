@@ -1,4 +1,6 @@
-//! The command line of the command for people: which words ask what, and what is said of others.
+//! The command line of the command for people: what its words ask, or what is wrong with them, said
+//! in a line. Only words are read here, never a file: what a command line asks is known before
+//! anything is opened.
 
 mod arguments;
 pub mod parts;

@@ -1,4 +1,5 @@
-//! Certificates and revocation lists as text for a person: lines of labels and values.
+//! Texts for a person: certificates and revocation lists as lines of labels and values, notes on
+//! what a standard forbids (`notes`), and what the words of the command line ask (`command_line`).
 #![tactic(auto)]
 
 pub mod blocks;
