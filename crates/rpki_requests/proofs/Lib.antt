@@ -11,6 +11,7 @@ mod OneFields
 mod OneIssuers
 mod OnlyAnswers
 mod PlaceByPlace
+pub mod RefusalCases
 mod RequestParts
 mod RevokedFiles
 mod Settings
