@@ -143,6 +143,13 @@ as_misuse Ends (Ok WrongUse) ends told = ends
 as_misuse Ends (Ok Unread) ends told = cc
 as_misuse Ends (Err why) ends told = cc
 
+as_unread : {F : Type 0} (Ends : Outcome → Type 0) (settled : Result Outcome F) → IfOk settled Ends → (outcome : Outcome) → settled ≡ Ok outcome → run_status settled ≡ 3 → Ends Unread
+as_unread Ends (Ok Success) ends outcome is told = cc
+as_unread Ends (Ok Rejection) ends outcome is told = cc
+as_unread Ends (Ok WrongUse) ends outcome is told = cc
+as_unread Ends (Ok Unread) ends outcome is told = ends
+as_unread Ends (Err why) ends outcome is told = absurd cc
+
 module _ {E F : Type 0} (Ends : Outcome → Type 0) where
   settled_ends : (ran : Result Ended E) (settled : Result Outcome F) → IfOk ran (λ e. Ends e.outcome) → IfOk settled (λ outcome. IsOkAnd ran (λ e. outcome ≡ e.outcome)) → IfOk settled Ends
   settled_ends (Ok e) (Ok outcome) ends same = subst (λ (o : Outcome). Ends o) (sym same) ends
@@ -160,3 +167,7 @@ module _ {E F : Type 0} (Ends : Outcome → Type 0) where
   -- where it is 1
   pub told_rejection : (ran : Result Ended E) (settled : Result Outcome F) → IfOk ran (λ e. Ends e.outcome) → IfOk settled (λ outcome. IsOkAnd ran (λ e. outcome ≡ e.outcome)) → run_status settled ≡ 1 → Ends Rejection
   told_rejection ran settled ends same told = as_rejection Ends settled (settled_ends ran settled ends same) told
+
+  -- where it is 3, and the run hasn't failed
+  pub told_unread : (ran : Result Ended E) (settled : Result Outcome F) → IfOk ran (λ e. Ends e.outcome) → IfOk settled (λ outcome. IsOkAnd ran (λ e. outcome ≡ e.outcome)) → (outcome : Outcome) → settled ≡ Ok outcome → run_status settled ≡ 3 → Ends Unread
+  told_unread ran settled ends same outcome is told = as_unread Ends settled (settled_ends ran settled ends same) outcome is told

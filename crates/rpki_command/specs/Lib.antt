@@ -4,6 +4,7 @@ pub mod ReadFiles
 pub mod UnreadFiles
 pub mod NamedFiles
 pub mod Messages
+pub mod Failures
 pub mod ListedFolders
 pub mod Moments
 pub mod Outputs

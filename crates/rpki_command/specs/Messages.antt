@@ -39,6 +39,12 @@ abbrev pub passed_message : ℕ → List ℕ
 passed_message passed =
     if passed == 0 then [] else codes "rpki: passed over in folders: " ++ (decimal passed ++ codes " files whose names end neither in .cer nor in .crl\n")
 
+-- how many of how many files were read, over the line before; the line ends with the last file
+abbrev pub progress_message : ℕ → ℕ → List ℕ
+progress_message read of =
+    let end = if read == of then codes " files read\n" else codes " files read" in
+    codes "\rrpki: " ++ (decimal read ++ (codes " of " ++ (decimal of ++ end)))
+
 -- where a search met a bound, that not every path was looked at, with the number and the option that
 -- sets it, in a line; and else nothing
 abbrev pub bound_message : TreeFields → Ended → List ℕ

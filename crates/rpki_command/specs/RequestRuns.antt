@@ -7,12 +7,14 @@ use Rattle.rpki_text.specs.CommandLines.{usual_size}
 use Rattle.rpki_files.specs.PemFiles.{IsObjectOf}
 use Rattle.rpki_requests.specs.Fulfilment.{Fulfils, context_of}
 use Rattle.rpki_requests.specs.OptionValues.{IsMomentSaid, SaysAtMostOnce}
-use Rattle.rpki_requests.specs.Refusals.{IsPathless, TellsPath}
+use Rattle.rpki_requests.specs.Refusals.{TellsPath}
 use Rattle.rpki_requests.specs.RequestFiles.{InputFields}
 use Rattle.rpki_requests.specs.RequestWords.{AskedFields, AsksHelp, GivenFields, IsRequestLine, values_of}
+use Rattle.rpki_requests.specs.ToldRefusals.{IsSoOf}
 use Rattle.rpki_requests.specs.declared.fulfilling.Made.{Made}
 use Rattle.rpki_requests.specs.declared.fulfilling.Made.TheVariants.{ToSign, Certificate, RevocationList}
 use Rattle.rpki_requests.specs.declared.refusals.Refusal.{Refusal}
+use Rattle.rpki_requests.specs.declared.refusals.Refusal.TheVariants.{Value}
 use Rattle.rpki_requests.specs.declared.words.Setting.{Setting}
 use Rattle.rpki_requests.specs.declared.words.Setting.TheVariants.{At, Crl, Issuer, Key, Out, Previous, Revoke}
 use Rattle.rpki_command.specs.AboutTexts.{usage_text}
@@ -100,11 +102,13 @@ abbrev pub GivesText : AskedFields → InputFields → Moment → List ℕ → T
 GivesText asked inputs now text =
     (given : Made) × Fulfils asked inputs now given × IsWritten asked.is_pem given text
 
--- it gives nothing, and this is said: why, and what that says of the issuer's path is so
+-- it gives nothing, and this is said: why, and what that says of the issuer's path, and of a
+-- certificate's options and key, is so
 abbrev pub GivesNothing : AskedFields → InputFields → Moment → List ℕ → Type 0
 GivesNothing asked inputs now said =
     (why : Refusal) × ((given : Made) → Fulfils asked inputs now given → ⊥)
-    × TellsPath (context_of asked now) inputs.issuers inputs.lists why × (said ≡ refusal_message why)
+    × TellsPath (context_of asked now) inputs.issuers inputs.lists why × IsSoOf asked inputs why
+    × (said ≡ refusal_message why)
 
 -- this is the file of the first of these names, and can't be made for its reason
 abbrev pub IsUnmadeOf : List (List ℕ) → Unplaced → Type 0
@@ -138,11 +142,10 @@ pub record ReadEnds (reads : Reads) (tells : Moment → Type 0) (asked : AskedFi
   pub inputs_are : AreInputs reads asked inputs
   pub ends : InputsEnd asked inputs now outcome output
 
--- `--at` has another value than a moment, and this is said: a reason that says nothing of the issuer's path
+-- `--at` has another value than a moment, and this is said
 abbrev pub HasNoMoment : List GivenFields → List ℕ → Type 0
 HasNoMoment given said =
-    (why : Refusal) × ((named : Option Moment) → IsNamedMoment given named → ⊥)
-    × IsPathless why × (said ≡ refusal_message why)
+    ((named : Option Moment) → IsNamedMoment given named → ⊥) × (said ≡ refusal_message (Value At))
 
 -- a run that asks this ends so, and puts this out: as its files do; with rejection also where `--at`
 -- names no moment; and as unread also where a file can't be read, which is said of one

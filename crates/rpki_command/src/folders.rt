@@ -1,14 +1,14 @@
 //! The files that stand for the names of a request: where a name is a folder's, those in it and below
 //! it.
 ghost use Rattle.std.specs.Cmp.Lexicographic.{slice_cmp};
-ghost use Rattle.std.specs.List.{filter};
+ghost use Rattle.std.specs.List.{count_by, filter};
 ghost use Rattle.std.specs.List.Sorted.{IsPermutation, IsSorted};
 ghost use Rattle.std.specs.Ordering.{nat_cmp};
-ghost use Rattle.std.specs.Prelude.{◌≡◌, ◌||◌, ◌⊎◌, ◌++◌, ◌∷◌, [], Bool, List, ℕ, Ok, Some, map, IfOk, MatchOption, OnOk, true};
+ghost use Rattle.std.specs.Prelude.{◌≡◌, ◌||◌, ◌⊎◌, ◌+◌, ◌++◌, ◌∷◌, [], Bool, List, ℕ, Ok, Some, map, IfOk, MatchOption, OnOk, true};
 ghost use Rattle.std.specs.Bool.{MatchBool};
 ghost use Rattle.std.specs.Io.KnownBytes.{Appends};
 ghost use Rattle.rpki_text.specs.CommandLines.Views.{fields_of, word_octets};
-ghost use Rattle.rpki_command.specs.ListedFolders.{AreDown, AreFilesOf, AreOpened, IsUnlisted, StandFor, StandsForItself, holds, is_folder_name, is_taken};
+ghost use Rattle.rpki_command.specs.ListedFolders.{AreDown, AreFilesOf, AreOpened, IsUnlisted, StandFor, StandsForItself, holds, is_folder_name, is_passed, is_taken, told_count};
 ghost use Rattle.rpki_command.specs.Messages.{passed_message};
 
 use crate::files::{FileSource, Unread};
@@ -85,86 +85,81 @@ fn listed<F: FileSource, E: Write>(
     }
 }
 
-impl Names {
-    fn new(alloc: Global, passed: usize) -> Names
-        ensures none { word_octets result.all.items ≡ [] }
-        ensures passed { result.passed ≡ passed }
-    {
-        Names {
-            all: Vec::new(alloc),
-            passed,
+/// Adds a name. Errs only where memory runs out.
+pub fn push(all: &mut Vec<Vec<u8>>, name: Vec<u8>) -> Result<(), AllocError>
+    ensures { OnOk result
+        (word_octets all.new.items ≡ word_octets all.old.items ++ name.items ∷ []) }
+{
+    all.push(name)?;
+    Ok(())
+}
+
+// Adds those of the names that are taken. Returns how many others there are.
+fn push_taken(all: &mut Vec<Vec<u8>>, names: Vec<Vec<u8>>) -> Result<usize, AllocError>
+    ensures taken { OnOk result (word_octets all.new.items
+        ≡ word_octets all.old.items ++ filter is_taken (word_octets names.items)) }
+    ensures passed { IfOk result (λ passed.
+        passed ≡ told_count (count_by is_passed (word_octets names.items))) }
+{
+    let mut passed = 0usize;
+    for name in names {
+        if is_taken(name.as_slice()) {
+            push(all, name)?;
+        } else {
+            passed = passed.saturating_add(1);
         }
     }
+    Ok(passed)
+}
 
-    fn push(&mut self, name: Vec<u8>) -> Result<(), AllocError>
-        ensures { OnOk result
-            (word_octets self.new.all.items ≡ word_octets self.old.all.items ++ name.items ∷ []) }
-    {
-        self.all.push(name)?;
-        Ok(())
-    }
-
-    // Adds those of the names that are taken, and counts the others.
-    fn push_taken(&mut self, names: Vec<Vec<u8>>) -> Result<(), AllocError>
-        ensures { OnOk result (word_octets self.new.all.items
-            ≡ word_octets self.old.all.items ++ filter is_taken (word_octets names.items)) }
-    {
-        for name in names {
-            if is_taken(name.as_slice()) {
-                self.push(name)?;
-            } else {
-                self.passed = self.passed.saturating_add(1);
-            }
+// Adds what stands for a name. Returns how many files are passed over.
+fn push_opened<F: FileSource, E: Write>(
+    alloc: Global,
+    files: &F,
+    err: &mut E,
+    all: &mut Vec<Vec<u8>>,
+    name: Vec<u8>,
+) -> Result<usize>
+    ensures { IfOk result (λ told. (its : List (List ℕ)) × (passed : ℕ) × (said : List ℕ)
+        × StandFor (F.lists files.now) name.items its passed said
+        × (word_octets all.new.items ≡ word_octets all.old.items ++ its)
+        × (told ≡ told_count passed)
+        × Appends (E.contents err.old) (E.contents err.new) said) }
+{
+    match listed(alloc, files, err, name.as_slice())? {
+        Some(given) => {
+            let passed = push_taken(all, sorted(given))?;
+            Ok(passed)
         }
-        Ok(())
-    }
-
-    // Adds what stands for a name.
-    fn push_opened<F: FileSource, E: Write>(
-        &mut self,
-        alloc: Global,
-        files: &F,
-        err: &mut E,
-        name: Vec<u8>,
-    ) -> Result<()>
-        ensures { OnOk result ((its : List (List ℕ)) × (said : List ℕ)
-            × StandFor (F.lists files.now) name.items its said
-            × (word_octets self.new.all.items ≡ word_octets self.old.all.items ++ its)
-            × Appends (E.contents err.old) (E.contents err.new) said) }
-    {
-        match listed(alloc, files, err, name.as_slice())? {
-            Some(given) => {
-                self.push_taken(sorted(given))?;
-                Ok(())
-            }
-            None => {
-                self.push(name)?;
-                Ok(())
-            }
+        None => {
+            push(all, name)?;
+            Ok(0)
         }
     }
+}
 
-    // Adds what stands for a name, where it is to be opened, and else the name.
-    fn push_name<F: FileSource, E: Write>(
-        &mut self,
-        alloc: Global,
-        files: &F,
-        err: &mut E,
-        opens: bool,
-        name: Vec<u8>,
-    ) -> Result<()>
-        ensures { OnOk result ((its : List (List ℕ)) × (said : List ℕ)
-            × MatchBool opens (StandFor (F.lists files.now) name.items its said)
-            (StandsForItself name.items its said)
-            × (word_octets self.new.all.items ≡ word_octets self.old.all.items ++ its)
-            × Appends (E.contents err.old) (E.contents err.new) said) }
-    {
-        if opens {
-            return self.push_opened(alloc, files, err, name);
-        }
-        self.push(name)?;
-        Ok(())
+// Adds what stands for a name, where it is to be opened, and else the name. Returns how many files
+// are passed over.
+fn push_name<F: FileSource, E: Write>(
+    alloc: Global,
+    files: &F,
+    err: &mut E,
+    all: &mut Vec<Vec<u8>>,
+    opens: bool,
+    name: Vec<u8>,
+) -> Result<usize>
+    ensures { IfOk result (λ told. (its : List (List ℕ)) × (passed : ℕ) × (said : List ℕ)
+        × MatchBool opens (StandFor (F.lists files.now) name.items its passed said)
+        (StandsForItself name.items its passed said)
+        × (word_octets all.new.items ≡ word_octets all.old.items ++ its)
+        × (told ≡ told_count passed)
+        × Appends (E.contents err.old) (E.contents err.new) said) }
+{
+    if opens {
+        return push_opened(alloc, files, err, all, name);
     }
+    push(all, name)?;
+    Ok(0)
 }
 
 // Opens the folders among the names; at first each name may be one.
@@ -175,18 +170,24 @@ fn level<F: FileSource, E: Write>(
     names: Names,
     is_first: bool,
 ) -> Result<Names>
-    ensures { IfOk result (λ opened. (said : List ℕ)
+    ensures { IfOk result (λ opened. (passed : ℕ) × (said : List ℕ)
         × AreOpened (F.lists files.now) (λ name. is_first || is_folder_name name)
-        (word_octets names.all.items) (word_octets opened.all.items) said
+        (word_octets names.all.items) (word_octets opened.all.items) passed said
+        × (opened.passed ≡ told_count (names.passed + passed))
         × Appends (E.contents err.old) (E.contents err.new) said) }
 {
     let Names { all, passed } = names;
-    let mut opened = Names::new(alloc, passed);
+    let mut opened = Vec::new(alloc);
+    let mut count = passed;
     for name in all {
         let opens = may_be_folder(name.as_slice(), is_first);
-        opened.push_name(alloc, files, err, opens, name)?;
+        let further = push_name(alloc, files, err, &mut opened, opens, name)?;
+        count = count.saturating_add(further);
     }
-    Ok(opened)
+    Ok(Names {
+        all: opened,
+        passed: count,
+    })
 }
 
 // Opens the folders among the names, and those in them.
@@ -196,9 +197,10 @@ fn opened_down<F: FileSource, E: Write>(
     err: &mut E,
     names: Names,
 ) -> Result<Names>
-    ensures { IfOk result (λ opened. (said : List ℕ)
+    ensures { IfOk result (λ opened. (passed : ℕ) × (said : List ℕ)
         × AreDown (F.lists files.now) 32
-        (word_octets names.all.items) (word_octets opened.all.items) said
+        (word_octets names.all.items) (word_octets opened.all.items) passed said
+        × (opened.passed ≡ told_count (names.passed + passed))
         × Appends (E.contents err.old) (E.contents err.new) said) }
 {
     let mut opened = names;

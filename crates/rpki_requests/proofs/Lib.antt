@@ -10,6 +10,7 @@ mod OneFields
 mod OneIssuers
 mod OnlyAnswers
 mod PlaceByPlace
+pub mod RefusalCases
 mod RequestParts
 mod RevokedFiles
 mod Settings

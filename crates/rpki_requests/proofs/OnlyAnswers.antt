@@ -7,22 +7,27 @@ use Rattle.rpki_requests.specs.declared.refusals.Refusal.{Refusal}
 use Rattle.rpki_requests.specs.declared.refusals.Refusal.TheVariants.{Memory}
 
 -- what an answer says once it is known
-pub when_ok : {A : Type 0} (Is : A → Type 0) (r : Result A Refusal) (a : A) → r ≡ Ok a → AnswersOnly Is r → IsOnly Is a
-when_ok {A = A} Is r a is only = subst (λ (s : Result A Refusal). AnswersOnly Is s) is only
+pub when_ok : {A : Type 0} (MayBe : Refusal → Type 0) (Is : A → Type 0) (r : Result A Refusal) (a : A) → r ≡ Ok a → AnswersOnly MayBe Is r → IsOnly Is a
+when_ok {A = A} MayBe Is r a is only = subst (λ (s : Result A Refusal). AnswersOnly MayBe Is s) is only
 
-pub when_err : {A : Type 0} (Is : A → Type 0) (r : Result A Refusal) (why : Refusal) → r ≡ Err why → AnswersOnly Is r → IsPathless why × (why ≢ Memory → (a : A) → Is a → ⊥)
-when_err {A = A} Is r why is only = subst (λ (s : Result A Refusal). AnswersOnly Is s) is only
+pub when_err : {A : Type 0} (MayBe : Refusal → Type 0) (Is : A → Type 0) (r : Result A Refusal) (why : Refusal) → r ≡ Err why → AnswersOnly MayBe Is r → MayBe why × (why ≢ Memory → (a : A) → Is a → ⊥)
+when_err {A = A} MayBe Is r why is only = subst (λ (s : Result A Refusal). AnswersOnly MayBe Is s) is only
 
 -- two answers that are the only ones are the only two
-pub both_only : {A B : Type 0} (IsA : A → Type 0) (IsB : B → Type 0) (first : Result A Refusal) (second : Result B Refusal) (r : Result (A × B) Refusal) → IfOk r (λ p. (first ≡ Ok p.0) × (second ≡ Ok p.1)) → IfErr r (λ why. (first ≡ Err why) ⊎ (second ≡ Err why)) → AnswersOnly IsA first → AnswersOnly IsB second → AnswersOnly (λ (p : A × B). IsA p.0 × IsB p.1) r
-both_only {A = A} {B = B} IsA IsB first second (Ok p) are why a b =
-    let one = when_ok IsA first p.0 are.0 a in
-    let other = when_ok IsB second p.1 are.1 b in
+pub both_only : {A B : Type 0} (MayBe : Refusal → Type 0) (IsA : A → Type 0) (IsB : B → Type 0) (first : Result A Refusal) (second : Result B Refusal) (r : Result (A × B) Refusal) → IfOk r (λ p. (first ≡ Ok p.0) × (second ≡ Ok p.1)) → IfErr r (λ why. (first ≡ Err why) ⊎ (second ≡ Err why)) → AnswersOnly MayBe IsA first → AnswersOnly MayBe IsB second → AnswersOnly MayBe (λ (p : A × B). IsA p.0 × IsB p.1) r
+both_only {A = A} {B = B} MayBe IsA IsB first second (Ok p) are why a b =
+    let one = when_ok MayBe IsA first p.0 are.0 a in
+    let other = when_ok MayBe IsB second p.1 are.1 b in
     ((one.0, other.0), λ q h. λ i. (one.1 q.0 h.0 i, other.1 q.1 h.1 i))
-both_only {A = A} {B = B} IsA IsB first second (Err why) are (inl is) a b =
-    let none = when_err IsA first why is a in (none.0, λ not q h. none.1 not q.0 h.0)
-both_only {A = A} {B = B} IsA IsB first second (Err why) are (inr is) a b =
-    let none = when_err IsB second why is b in (none.0, λ not q h. none.1 not q.1 h.1)
+both_only {A = A} {B = B} MayBe IsA IsB first second (Err why) are (inl is) a b =
+    let none = when_err MayBe IsA first why is a in (none.0, λ not q h. none.1 not q.0 h.0)
+both_only {A = A} {B = B} MayBe IsA IsB first second (Err why) are (inr is) a b =
+    let none = when_err MayBe IsB second why is b in (none.0, λ not q h. none.1 not q.1 h.1)
+
+-- and what may be told in place of it
+pub may_be : {A : Type 0} (MayBe Other : Refusal → Type 0) (Is : A → Type 0) (r : Result A Refusal) → ((why : Refusal) → MayBe why → Other why) → AnswersOnly MayBe Is r → AnswersOnly Other Is r
+may_be MayBe Other Is (Ok a) also answers = answers
+may_be MayBe Other Is (Err why) also answers = (also why answers.0, answers.1)
 
 -- the same of answers that are seen by views
 pub both_only_by : {X Y A B : Type 0} (view : X → A) (look : Y → B) (IsA : A → Type 0) (IsB : B → Type 0) (first : Result X Refusal) (second : Result Y Refusal) (r : Result (X × Y) Refusal) → IfOk r (λ p. (first ≡ Ok p.0) × (second ≡ Ok p.1)) → IfErr r (λ why. (first ≡ Err why) ⊎ (second ≡ Err why)) → AnswersOnlyBy view IsA first → AnswersOnlyBy look IsB second → AnswersOnlyBy (λ (p : X × Y). (view p.0, look p.1)) (λ (p : A × B). IsA p.0 × IsB p.1) r

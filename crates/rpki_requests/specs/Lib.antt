@@ -5,3 +5,4 @@ pub mod OptionValues
 pub mod RequestFiles
 pub mod Fulfilment
 pub mod Refusals
+pub mod ToldRefusals

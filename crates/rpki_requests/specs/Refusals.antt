@@ -33,11 +33,12 @@ IsPathless NoAuthority = ⊥
 IsPathless (OtherCrl place) = ⊥
 IsPathless _ = Unit {0}
 
--- the answer is the only one of which it is so; or, unless memory ran out, it is so of none, and no
--- issuer is in question
-abbrev pub AnswersOnly : {V : Type 0} → (V → Type 0) → Result V Refusal → Type 0
-AnswersOnly {V} Is (Ok v) = IsOnly Is v
-AnswersOnly {V} Is (Err why) = IsPathless why × (why ≢ Memory → (v : V) → Is v → ⊥)
+-- the answer is the only one of which it is so; or it is a refusal that may be told, and unless
+-- memory ran out, it is so of none
+abbrev pub AnswersOnly : {V : Type 0} → (Refusal → Type 0) → (V → Type 0) → Result V Refusal
+    → Type 0
+AnswersOnly {V} MayBe Is (Ok v) = IsOnly Is v
+AnswersOnly {V} MayBe Is (Err why) = MayBe why × (why ≢ Memory → (v : V) → Is v → ⊥)
 
 -- the same of an answer that is seen by view
 abbrev pub AnswersOnlyBy : {X V : Type 0} → (X → V) → (V → Type 0) → Result X Refusal → Type 0

@@ -7,6 +7,8 @@ ghost use Rattle.rpki_requests.specs.Fulfilment.{AsksFields, Completes, Complete
 ghost use Rattle.rpki_requests.specs.RequestFiles.{IsCompletedAs, IsIssuerOf, IsOnlyIssuer};
 ghost use Rattle.rpki_requests.specs.RequestWords.Views.{asked_fields};
 ghost use Rattle.rpki_requests.specs.Refusals.{AnswersOnly, IsPathless, TellsPath};
+ghost use Rattle.rpki_requests.specs.RequestWords.{GivenFields};
+ghost use Rattle.rpki_requests.specs.ToldRefusals.{IsOfPath, IsSo, IsSoOf};
 ghost use Rattle.rpki_requests.specs.declared.refusals.Refusal.TheVariants.{Memory};
 ghost use Rattle.rpki_issuing.specs.declared.wanted.preparing.WantedError.TheVariants as wanting;
 
@@ -73,6 +75,7 @@ pub enum Made {
 pub(crate) fn unfit(error: WantedError) -> Refusal
     ensures memory { result ≢ Memory → error ≢ wanting.Memory }
     ensures pathless { IsPathless result }
+    ensures so { (given : List GivenFields) (keys : List (List ℕ)) → IsSo given keys result }
 {
     match error {
         WantedError::Memory => Refusal::Memory,
@@ -89,7 +92,9 @@ fn fields_of(
     issuer: Option<&ResourceCert>,
 ) -> Result<TbsCert, Refusal>
     ensures { let issuer = option_map (λ r. r.now) issuer.entry in
-        AnswersOnly (AsksFields kind (asked_fields order.now) (contents keys.now) issuer) result }
+        let asked = asked_fields order.now in let keys = contents keys.now in
+        AnswersOnly (λ why. IsPathless why × IsSo asked.given keys why)
+        (AsksFields kind asked keys issuer) result }
 {
     let wanted = wanted(alloc, order);
     let key = subject_key(alloc, keys);
@@ -123,6 +128,8 @@ fn prepared_below(
         IfErr result (λ why. why ≢ Memory → (octets : List ℕ)
         → PreparesBelow kind asked (contents keys.now) at issuer octets → ⊥) }
     ensures pathless { IfErr result IsPathless }
+    ensures so { let asked = asked_fields order.now in
+        IfErr result (IsSo asked.given (contents keys.now)) }
 {
     let tbs = fields_of(alloc, order, kind, keys, issuer)?;
     let octets = prepare_octets(alloc, &tbs, kind, issuer, order.strict, at);
@@ -149,6 +156,7 @@ fn issuer_asked(
         → IsIssuerOf x inputs.now.issuers inputs.now.lists issuer → ⊥) }
     ensures told { let x = context_of (asked_fields order.now) at in
         IfErr result (TellsPath x inputs.now.issuers inputs.now.lists) }
+    ensures of_path { IfErr result IsOfPath }
 {
     issuer_of(alloc, inputs.issuers, inputs.lists, order.strict, at)
 }
@@ -168,6 +176,8 @@ fn prepared(
         → GivesToSign (Prepares kind asked inputs.now at) given → ⊥) }
     ensures told { let x = context_of (asked_fields order.now) at in
         IfErr result (TellsPath x inputs.now.issuers inputs.now.lists) }
+    ensures so { let asked = asked_fields order.now in
+        IfErr result (IsSo asked.given inputs.now.keys) }
 {
     let issuer = issuer_asked(alloc, order, inputs, at)?;
     let octets = prepared_below(alloc, order, kind, inputs.keys, issuer.as_ref(), at);
@@ -392,6 +402,7 @@ pub fn fulfil(
         → Fulfils (asked_fields order.now) inputs.now at given → ⊥) }
     ensures told { let x = context_of (asked_fields order.now) at in
         IfErr result (TellsPath x inputs.now.issuers inputs.now.lists) }
+    ensures so { IfErr result (IsSoOf (asked_fields order.now) inputs.now) }
 {
     match order.errand {
         Errand::Authority => prepared(alloc, order, Kind::Authority, inputs, at),

@@ -7,6 +7,7 @@ ghost use Rattle.rpki_files.specs.Files.{contents};
 ghost use Rattle.rpki.specs.SaidKinds.{SaysAuthority};
 ghost use Rattle.rpki_requests.specs.Refusals.{TellsPath};
 ghost use Rattle.rpki_requests.specs.RequestFiles.{IsIssuerOf, IsNoAuthority, IsNoListAt, IsOnlyIssuer, IsOnlyPathIssuer, IsPathIssuer};
+ghost use Rattle.rpki_requests.specs.ToldRefusals.{IsOfPath};
 ghost use Rattle.rpki_requests.specs.declared.refusals.Refusal.TheVariants.{Memory, NoAuthority};
 
 use crate::refusals::Refusal;
@@ -67,6 +68,7 @@ fn issuer_of_path(
         → IsPathIssuer x (contents files.now) (contents lists.now) issuer → ⊥) }
     ensures told { let x = context IsSignedByRsa at strict in
         IfErr result (TellsPath x (contents files.now) (contents lists.now)) }
+    ensures of_path { IfErr result IsOfPath }
 {
     // Called for what they ensure alone.
     one_answer();
@@ -107,6 +109,7 @@ pub(crate) fn issuer_of(
         → IsIssuerOf x (contents files.now) (contents lists.now) issuer → ⊥) }
     ensures told { let x = context IsSignedByRsa at strict in
         IfErr result (TellsPath x (contents files.now) (contents lists.now)) }
+    ensures of_path { IfErr result IsOfPath }
 {
     if let Some(place) = first_no_list(lists) {
         return Err(Refusal::OtherCrl(place));

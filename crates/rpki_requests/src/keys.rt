@@ -5,6 +5,7 @@ ghost use Rattle.rpki.specs.KeyForms.{IsUsableKey};
 ghost use Rattle.rpki.specs.Keys.{IsPublicKey};
 ghost use Rattle.rpki_files.specs.Files.{contents};
 ghost use Rattle.rpki_requests.specs.Refusals.{AnswersOnly, IsPathless};
+ghost use Rattle.rpki_requests.specs.ToldRefusals.{IsKeyFault, IsUnreadKey};
 ghost use Rattle.rpki_requests.specs.RequestFiles.{IsKeyFile};
 ghost use Rattle.rpki_issuing.specs.PreparedOctets.{IsToSign};
 
@@ -21,8 +22,8 @@ use std::alloc::Global;
 // The key, if the RPKI uses it.
 fn used(key: PublicKey) -> Result<PublicKey, Refusal>
     ensures used { IfOk result (λ k. (k ≡ key) × IsUsableKey key) }
-    ensures unused { IfErr result (λ _. IsUsableKey key → ⊥) }
-    ensures pathless { IfErr result IsPathless }
+    ensures unused { IfErr result (λ why.
+        (why ≡ Refusal.UnusedKey key.format) × (IsUsableKey key → ⊥)) }
 {
     if is_usable(&key) {
         return Ok(key);
@@ -34,7 +35,7 @@ fn used(key: PublicKey) -> Result<PublicKey, Refusal>
 
 // The key that the octets are.
 fn read_key(alloc: Global, octets: &Bytes) -> Result<PublicKey, Refusal>
-    ensures { AnswersOnly (λ key. IsPublicKey key octets.now) result }
+    ensures { AnswersOnly IsUnreadKey (λ key. IsPublicKey key octets.now) result }
 {
     match PublicKey::from_bytes(alloc, octets.clone()?) {
         Ok(key) => Ok(key),
@@ -52,7 +53,8 @@ fn read_key(alloc: Global, octets: &Bytes) -> Result<PublicKey, Refusal>
 
 /// Returns the key that the one file is, which has to be one that the RPKI uses.
 pub(crate) fn subject_key(alloc: Global, files: &[Object<'_>]) -> Result<PublicKey, Refusal>
-    ensures { AnswersOnly (IsKeyFile (contents files.now)) result }
+    ensures { let files = contents files.now in
+        AnswersOnly (IsKeyFault files) (IsKeyFile files) result }
 {
     if files.len() != 1 {
         return Err(Refusal::NoKey);
@@ -63,7 +65,7 @@ pub(crate) fn subject_key(alloc: Global, files: &[Object<'_>]) -> Result<PublicK
 
 // The fields of the TBSCertificate that the octets are.
 fn read_data(alloc: Global, octets: &Bytes) -> Result<TbsCert, Refusal>
-    ensures { AnswersOnly (λ f. IsTbsCertificate f octets.now) result }
+    ensures { AnswersOnly IsPathless (λ f. IsTbsCertificate f octets.now) result }
 {
     laws::certificates::unambiguous();
     let mut cursor = Cursor::new(octets);
@@ -89,7 +91,7 @@ fn read_data(alloc: Global, octets: &Bytes) -> Result<TbsCert, Refusal>
 
 /// Returns the fields of what is to be signed, whose key has to be one that the RPKI uses.
 pub(crate) fn to_sign(alloc: Global, octets: &Bytes) -> Result<TbsCert, Refusal>
-    ensures { AnswersOnly (λ f. IsToSign f octets.now) result }
+    ensures { AnswersOnly IsPathless (λ f. IsToSign f octets.now) result }
 {
     let tbs = read_data(alloc, octets)?;
     let key = tbs.subject_public_key_info();

@@ -232,7 +232,7 @@ fn wanted_list(
     at: Time,
 ) -> Result<WantedList, Refusal>
     ensures { let given = (asked_fields order.now).given in
-        AnswersOnly (GivesList given (contents files.now) issuer.now at) result }
+        AnswersOnly IsPathless (GivesList given (contents files.now) issuer.now at) result }
 {
     let number = match at_most_once::<Serial>(alloc, order, Setting::Number) {
         Ok(number) => number,
@@ -259,8 +259,8 @@ pub(crate) fn list_asked(
     issuer: &ResourceCert,
     at: Time,
 ) -> Result<TbsCertList<RevokedCertificates>, Refusal>
-    ensures { AnswersOnly (AsksList (asked_fields order.now) inputs.now at issuer.now.cert.fields)
-        result }
+    ensures { AnswersOnly IsPathless
+        (AsksList (asked_fields order.now) inputs.now at issuer.now.cert.fields) result }
 {
     let previous = match previous_of(inputs.previous, issuer, order.strict) {
         Ok(previous) => previous,

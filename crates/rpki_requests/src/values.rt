@@ -2,7 +2,8 @@
 ghost use Rattle.std.specs.Prelude.{◌≡◌, ◌≢◌, ◌≤◌, ◌⊎◌, length, option_map, Ok, Err, IfErr, IfOk};
 ghost use Rattle.rpki_issuing.specs.BlockTexts.{AreListed};
 ghost use Rattle.rpki_requests.specs.OptionValues.{GivesNumbers, GivesPlaces, GivesWanted, IsMomentSaid, SaysAtMostOnce, SaysOnce, given_alone};
-ghost use Rattle.rpki_requests.specs.Refusals.{AnswersOnly, IsPathless};
+ghost use Rattle.rpki_requests.specs.Refusals.{AnswersOnly};
+ghost use Rattle.rpki_requests.specs.ToldRefusals.{IsOption, IsValueOf};
 ghost use Rattle.rpki_requests.specs.RequestWords.{values_of};
 ghost use Rattle.rpki_requests.specs.RequestWords.Views.{asked_fields};
 ghost use Rattle.rpki_requests.specs.declared.refusals.Refusal.TheVariants.{Memory};
@@ -27,7 +28,7 @@ fn value_of<'a>(
         IfOk result (λ text. texts ≡ given_alone (option_map (λ t. t.now) text)) }
     ensures several { let texts = values_of setting (asked_fields order.now).given in
         IfErr result (λ why. why ≢ Memory → 2 ≤ length texts) }
-    ensures pathless { IfErr result IsPathless }
+    ensures told { IfErr result (IsValueOf setting) }
 {
     let texts = order.values_of(alloc, setting)?;
     let found = match texts.as_slice() {
@@ -46,7 +47,7 @@ pub(crate) fn at_most_once<T: Textual>(
     setting: Setting,
 ) -> Result<Option<T>, Refusal>
     ensures { let texts = values_of setting (asked_fields order.now).given in
-        AnswersOnly (SaysAtMostOnce T.is_text texts) result }
+        AnswersOnly (IsValueOf setting) (SaysAtMostOnce T.is_text texts) result }
 {
     let Some(text) = value_of(alloc, order, setting)? else {
         return Ok(None);
@@ -60,7 +61,7 @@ pub(crate) fn at_most_once<T: Textual>(
 // What the one value of an option says.
 fn once<T: Textual>(alloc: Global, order: &Order<'_>, setting: Setting) -> Result<T, Refusal>
     ensures { let texts = values_of setting (asked_fields order.now).given in
-        AnswersOnly (SaysOnce T.is_text texts) result }
+        AnswersOnly (IsValueOf setting) (SaysOnce T.is_text texts) result }
 {
     match at_most_once::<T>(alloc, order, setting)? {
         Some(value) => Ok(value),
@@ -75,7 +76,7 @@ pub fn named_moment(
     setting: Setting,
 ) -> Result<Option<Time>, Refusal>
     ensures { let texts = values_of setting (asked_fields order.now).given in
-        AnswersOnly (SaysAtMostOnce IsMomentSaid texts) result }
+        AnswersOnly (IsValueOf setting) (SaysAtMostOnce IsMomentSaid texts) result }
 {
     let Some(text) = value_of(alloc, order, setting)? else {
         return Ok(None);
@@ -89,7 +90,7 @@ pub fn named_moment(
 // The moment that an option names.
 pub(crate) fn moment(alloc: Global, order: &Order<'_>, setting: Setting) -> Result<Time, Refusal>
     ensures { let texts = values_of setting (asked_fields order.now).given in
-        AnswersOnly (SaysOnce IsMomentSaid texts) result }
+        AnswersOnly (IsValueOf setting) (SaysOnce IsMomentSaid texts) result }
 {
     match named_moment(alloc, order, setting) {
         Ok(Some(moment)) => Ok(moment),
@@ -105,7 +106,7 @@ fn listed_of<B: Bound, T: BlockText<B>>(
     setting: Setting,
 ) -> Result<Resources<B>, Refusal>
     ensures { let texts = values_of setting (asked_fields order.now).given in
-        AnswersOnly (λ r. AreListed T.is_text r texts) result }
+        AnswersOnly (IsValueOf setting) (λ r. AreListed T.is_text r texts) result }
 {
     let texts = order.values_of(alloc, setting)?;
     let found = listed::<B, T>(alloc, &texts);
@@ -141,7 +142,8 @@ pub(crate) fn both<A: Drop, B: Drop>(
 
 // What is listed of each kind of numbers.
 fn numbers(alloc: Global, order: &Order<'_>) -> Result<Numbers, Refusal>
-    ensures { AnswersOnly (GivesNumbers (asked_fields order.now).given) result }
+    ensures { let given = (asked_fields order.now).given in
+        AnswersOnly (IsOption given) (GivesNumbers given) result }
 {
     let v4 = listed_of::<_, V4Texts>(alloc, order, Setting::Ipv4);
     let v6 = listed_of::<_, V6Texts>(alloc, order, Setting::Ipv6);
@@ -159,7 +161,8 @@ fn numbers(alloc: Global, order: &Order<'_>) -> Result<Numbers, Refusal>
 
 // The URIs.
 fn places(alloc: Global, order: &Order<'_>) -> Result<Places, Refusal>
-    ensures { AnswersOnly (GivesPlaces (asked_fields order.now).given) result }
+    ensures { let given = (asked_fields order.now).given in
+        AnswersOnly (IsOption given) (GivesPlaces given) result }
 {
     let repository = at_most_once::<Rsync>(alloc, order, Setting::Repository);
     let manifest = at_most_once::<Rsync>(alloc, order, Setting::Manifest);
@@ -193,7 +196,8 @@ fn places(alloc: Global, order: &Order<'_>) -> Result<Places, Refusal>
 
 /// Returns what the options of a request want of a certificate.
 pub(crate) fn wanted(alloc: Global, order: &Order<'_>) -> Result<Wanted, Refusal>
-    ensures { AnswersOnly (GivesWanted (asked_fields order.now).given) result }
+    ensures { let given = (asked_fields order.now).given in
+        AnswersOnly (IsOption given) (GivesWanted given) result }
 {
     let serial = match once::<Serial>(alloc, order, Setting::Serial) {
         Ok(serial) => serial,

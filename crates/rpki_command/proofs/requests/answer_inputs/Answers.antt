@@ -10,7 +10,7 @@ returns-in_ok-refuse-in-Err-clause-ended g c =
     let told = c.in_ok-refuse-in-Err.ensures in
     let why = c.in-Err.refusal in (
       only_said (refusal_message why),
-      rw ended.outcome (refusal_message why, (why, c.in-Err.ensures.refused told.memory, c.in-Err.ensures.told, refl), refl),
+      rw ended.outcome (refusal_message why, (why, c.in-Err.ensures.refused told.memory, c.in-Err.ensures.told, c.in-Err.ensures.so, refl), refl),
       rw ended.written (appends_none (g.O.Write.contents c.args.out.now)),
       told.said,
       makes_none (g.M.FileMaker.made c.args.files.now),

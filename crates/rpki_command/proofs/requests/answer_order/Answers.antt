@@ -1,6 +1,8 @@
-use Rattle.std.proofs.Common.{refl, inl, rules}
+use Rattle.std.proofs.Common.{ap, refl, inl, rules}
 use Rattle.std.proofs.lemmas.Result.{IfOk-weaker}
 use Rattle.rpki_requests.specs.RequestWords.Views.{asked_fields}
+use Rattle.rpki_requests.specs.declared.words.Setting.TheVariants.{At}
+use Rattle.rpki_requests.proofs.RefusalCases.{value_is}
 use Rattle.rpki_command.specs.Messages.{refusal_message}
 use Rattle.rpki_command.specs.Outputs.{only_said}
 use Rattle.rpki_command.specs.RequestRuns.{IsMomentAsked}
@@ -15,7 +17,7 @@ returns-in-Err-clause-ended g c =
     let told = c.in_ok-refuse-in-Err.ensures in
     let why = c.in-Err.refusal in (
       only_said (refusal_message why),
-      rw ended.outcome (inl (refusal_message why, (why, c.in-Err.ensures.1 told.memory, c.in-Err.ensures.0, refl), refl)),
+      rw ended.outcome (inl (refusal_message why, (c.in-Err.ensures.1 told.memory, ap refusal_message (value_is At why told.memory c.in-Err.ensures.0)), refl)),
       rw ended.written (appends_none (g.O.Write.contents c.args.out.now)),
       told.said,
       makes_none (g.M.FileMaker.made c.args.files.now),

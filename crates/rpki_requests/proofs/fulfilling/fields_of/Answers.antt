@@ -8,7 +8,11 @@ use Rattle.rpki_requests.specs.OptionValues.{GivesWanted}
 use Rattle.rpki_requests.specs.RequestFiles.{IsKeyFile}
 use Rattle.rpki_requests.specs.RequestWords.Views.{asked_fields}
 use Rattle.rpki_requests.proofs.OneFields.{Says, asks_only, asks_none}
-use Rattle.rpki_requests.proofs.OnlyAnswers.{both_only, when_ok, when_err}
+use Rattle.rpki_requests.proofs.OnlyAnswers.{both_only, may_be, when_ok, when_err}
+use Rattle.rpki_requests.specs.Refusals.{IsPathless}
+use Rattle.rpki_requests.specs.ToldRefusals.{IsKeyFault, IsOption, IsSo}
+use Rattle.rpki_requests.specs.declared.refusals.Refusal.{Refusal}
+use Rattle.rpki_requests.proofs.RefusalCases.{key_so, option_so}
 use Rattle.rpki_requests.proofs.fulfilling.fields_of.Goals as goal
 
 pub returns-in-Some : goal.returns-in-Some
@@ -16,8 +20,11 @@ returns-in-Some c =
     let asked = asked_fields c.args.order.now in
     let keys = contents c.args.keys.now in
     let issuer = option_map (λ (r : Bor ResourceFields). r.now) c.args.issuer in
-    let says = both_only (GivesWanted asked.given) (IsKeyFile keys) c.wanted-wanted.result c.subject_key-key.result c.both.result c.both.ensures.both c.both.ensures.refused c.wanted-wanted.ensures c.subject_key-key.ensures in
-    let only = when_ok (Says asked keys) c.both.result (c.in-Ok.wanted, c.in-Ok.key) c.in-Ok.is says in
+    let MayBe : Refusal → Type 0 = λ why. IsPathless why × IsSo asked.given keys why in
+    let first = may_be (IsOption asked.given) MayBe (GivesWanted asked.given) c.wanted-wanted.result (option_so asked.given keys) c.wanted-wanted.ensures in
+    let second = may_be (IsKeyFault keys) MayBe (IsKeyFile keys) c.subject_key-key.result (key_so asked.given keys) c.subject_key-key.ensures in
+    let says = both_only MayBe (GivesWanted asked.given) (IsKeyFile keys) c.wanted-wanted.result c.subject_key-key.result c.both.result c.both.ensures.both c.both.ensures.refused first second in
+    let only = when_ok MayBe (Says asked keys) c.both.result (c.in-Ok.wanted, c.in-Ok.key) c.in-Ok.is says in
     let made = rw c.in-Some.is at c.in_ok-tbs-in-Ok.ensures in
     let above = ap (λ (above : Option TbsFields). fields_asked c.args.kind asked.trims c.in-Ok.wanted above c.in-Ok.key) c.above.ensures in
     asks_only c.args.kind asked keys issuer c.in-Ok.wanted c.in-Ok.key only c.in-Some.tbs c.subject.result.now (made ∙ above) c.subject.ensures c.as_bytes-octets.ensures.valid
@@ -27,15 +34,21 @@ returns-in-None c =
     let asked = asked_fields c.args.order.now in
     let keys = contents c.args.keys.now in
     let issuer = option_map (λ (r : Bor ResourceFields). r.now) c.args.issuer in
-    let says = both_only (GivesWanted asked.given) (IsKeyFile keys) c.wanted-wanted.result c.subject_key-key.result c.both.result c.both.ensures.both c.both.ensures.refused c.wanted-wanted.ensures c.subject_key-key.ensures in
-    let only = when_ok (Says asked keys) c.both.result (c.in-Ok.wanted, c.in-Ok.key) c.in-Ok.is says in
+    let MayBe : Refusal → Type 0 = λ why. IsPathless why × IsSo asked.given keys why in
+    let first = may_be (IsOption asked.given) MayBe (GivesWanted asked.given) c.wanted-wanted.result (option_so asked.given keys) c.wanted-wanted.ensures in
+    let second = may_be (IsKeyFault keys) MayBe (IsKeyFile keys) c.subject_key-key.result (key_so asked.given keys) c.subject_key-key.ensures in
+    let says = both_only MayBe (GivesWanted asked.given) (IsKeyFile keys) c.wanted-wanted.result c.subject_key-key.result c.both.result c.both.ensures.both c.both.ensures.refused first second in
+    let only = when_ok MayBe (Says asked keys) c.both.result (c.in-Ok.wanted, c.in-Ok.key) c.in-Ok.is says in
     let unnamed = rw c.in-None.is at c.in_ok-tbs-in-Ok.ensures in
-    (tt, λ not. asks_none c.args.kind asked keys issuer c.in-Ok.wanted c.in-Ok.key only unnamed)
+    ((tt, tt), λ not. asks_none c.args.kind asked keys issuer c.in-Ok.wanted c.in-Ok.key only unnamed)
 
 pub returns-in-Err : goal.returns-in-Err
 returns-in-Err c =
     let asked = asked_fields c.args.order.now in
     let keys = contents c.args.keys.now in
-    let says = both_only (GivesWanted asked.given) (IsKeyFile keys) c.wanted-wanted.result c.subject_key-key.result c.both.result c.both.ensures.both c.both.ensures.refused c.wanted-wanted.ensures c.subject_key-key.ensures in
-    let none = when_err (Says asked keys) c.both.result c.in-Err.why c.in-Err.is says in
+    let MayBe : Refusal → Type 0 = λ why. IsPathless why × IsSo asked.given keys why in
+    let first = may_be (IsOption asked.given) MayBe (GivesWanted asked.given) c.wanted-wanted.result (option_so asked.given keys) c.wanted-wanted.ensures in
+    let second = may_be (IsKeyFault keys) MayBe (IsKeyFile keys) c.subject_key-key.result (key_so asked.given keys) c.subject_key-key.ensures in
+    let says = both_only MayBe (GivesWanted asked.given) (IsKeyFile keys) c.wanted-wanted.result c.subject_key-key.result c.both.result c.both.ensures.both c.both.ensures.refused first second in
+    let none = when_err MayBe (Says asked keys) c.both.result c.in-Err.why c.in-Err.is says in
     (none.0, λ not f h. none.1 not (h.wanted, h.key) (h.wanted_is, h.key_is))

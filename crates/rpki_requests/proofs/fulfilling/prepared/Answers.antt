@@ -7,6 +7,8 @@ use Rattle.rpki_requests.specs.RequestFiles.{AreOneIssuer}
 use Rattle.rpki_requests.specs.RequestWords.Views.{asked_fields}
 use Rattle.rpki_requests.proofs.AskedLists.{none_to_sign}
 use Rattle.rpki_requests.proofs.OneIssuers.{prepares_moved}
+use Rattle.rpki_requests.specs.ToldRefusals.{IsSo}
+use Rattle.rpki_requests.proofs.RefusalCases.{path_so}
 use Rattle.rpki_requests.proofs.fulfilling.prepared.Goals as goal
 
 pub returns-in_err-issuer-clause-refused : goal.returns-in_err-issuer-clause-refused
@@ -37,3 +39,14 @@ returns-in_err-octets-clause-refused c =
     let one = subst (λ (o : Option ResourceFields). AreOneIssuer p.issuer o) (sym c.as_ref.ensures.value) (c.in_ok-issuer.ensures.only p.issuer p.issuer_is) in
     c.in_err-octets.ensures.refused not octets (prepares_moved asked c.args.at c.args.kind (contents c.inputs.inside.keys.now) octets p.issuer c.as_ref.result one
     (subst (λ (l : List (List ℕ)). PreparesBelow c.args.kind asked l c.args.at p.issuer octets) (sym keys) p.prepares))))
+
+pub returns-in_err-issuer-clause-so : goal.returns-in_err-issuer-clause-so
+returns-in_err-issuer-clause-so c =
+    let same : c.from_residual.result ≡ Err c.in_err-issuer.field-0.0 = search rules in
+    rw same (path_so (asked_fields c.args.order.now).given c.args.inputs.now.keys c.in_err-issuer.field-0.0 c.in_err-issuer.ensures.of_path)
+
+pub returns-in_err-octets-clause-so : goal.returns-in_err-octets-clause-so
+returns-in_err-octets-clause-so c =
+    let keys : contents c.inputs.inside.keys.now ≡ c.args.inputs.now.keys = search rules in
+    let same : c.from_residual-in_err-octets.result ≡ Err c.in_err-octets.field-0.0 = search rules in
+    rw same (subst (λ (l : List (List ℕ)). IsSo (asked_fields c.args.order.now).given l c.in_err-octets.field-0.0) keys c.in_err-octets.ensures.so)

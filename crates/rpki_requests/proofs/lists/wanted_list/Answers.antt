@@ -3,13 +3,15 @@ use Rattle.std.proofs.Common.{◌≡◌, rules}
 use Rattle.rpki_files.specs.Files.{contents}
 use Rattle.rpki_requests.specs.RequestWords.Views.{given_fields}
 use Rattle.rpki_requests.proofs.RevokedFiles.{list_ok}
+use Rattle.rpki_requests.specs.declared.words.Setting.TheVariants.{Number, NextUpdate}
+use Rattle.rpki_requests.proofs.RefusalCases.{value_pathless}
 use Rattle.rpki_requests.proofs.lists.wanted_list.Goals as goal
 
 pub returns-in-Err : goal.returns-in-Err
-returns-in-Err c = (c.in-Err.ensures.0, λ not w h. c.in-Err.ensures.1 not w.number h.number_is)
+returns-in-Err c = (value_pathless Number c.in-Err.why c.in-Err.ensures.0, λ not w h. c.in-Err.ensures.1 not w.number h.number_is)
 
 pub returns-in-Err-moment : goal.returns-in-Err-moment
-returns-in-Err-moment c = (c.in-Err-moment.ensures.0, λ not w h. c.in-Err-moment.ensures.1 not w.next_update h.next_update_is)
+returns-in-Err-moment c = (value_pathless NextUpdate c.in-Err-moment.why c.in-Err-moment.ensures.0, λ not w h. c.in-Err-moment.ensures.1 not w.next_update h.next_update_is)
 
 pub returns-in_err-revoked : goal.returns-in_err-revoked
 returns-in_err-revoked c =

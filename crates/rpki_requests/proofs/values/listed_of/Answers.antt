@@ -1,5 +1,5 @@
 use Rattle.std.specs.Prelude.{map}
-use Rattle.std.proofs.Common.{◌≡◌, ℕ, List, Bor, sym, ap, subst, ◌∙◌}
+use Rattle.std.proofs.Common.{◌≡◌, ℕ, List, Bor, refl, sym, ap, subst, ◌∙◌}
 use Rattle.rpki.specs.Resources.{Resources}
 use Rattle.rpki_issuing.specs.BlockTexts.{AreListed}
 use Rattle.rpki_issuing.specs.OnlyValues.{IsOnly}
@@ -18,4 +18,4 @@ returns-in-None g c =
     let texts : map (λ (t : Bor (List ℕ)). t.now) c.deref.result.now ≡ values_of c.args.setting (map given_fields c.args.order.now.given.items) =
     ap (λ (l : List (Bor (List ℕ))). map (λ (t : Bor (List ℕ)). t.now) l) c.deref.ensures.value ∙ c.in_ok-texts.ensures in
     let none = rw c.in-None.is at c.in_ok-resources.ensures in
-    (tt, λ not v h. none v (subst (λ (l : List (List ℕ)). AreListed g.T.BlockText.is_text v l) (sym texts) h))
+    (refl, λ not v h. none v (subst (λ (l : List (List ℕ)). AreListed g.T.BlockText.is_text v l) (sym texts) h))
