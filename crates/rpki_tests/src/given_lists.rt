@@ -176,10 +176,22 @@ fn of_lists_that_cannot_be_asked_each_has_to_be_signed(rt: HostRuntime) {
     let alloc = rt.alloc();
     let future = plain(&rt, alloc, 1, 2025, 2029);
     let foreign = list(&rt, alloc, 2, 2019, 2029, b"ab");
-    both_answer(&rt, alloc, future, foreign, Err(RevocationError::BadSignature));
+    both_answer(
+        &rt,
+        alloc,
+        future,
+        foreign,
+        Err(RevocationError::BadSignature),
+    );
     let future = plain(&rt, alloc, 1, 2025, 2029);
     let foreign = list(&rt, alloc, 2, 2026, 2029, b"ab");
-    both_answer(&rt, alloc, future, foreign, Err(RevocationError::BadSignature));
+    both_answer(
+        &rt,
+        alloc,
+        future,
+        foreign,
+        Err(RevocationError::BadSignature),
+    );
     let future = plain(&rt, alloc, 1, 2025, 2029);
     let other = list(&rt, alloc, 2, 2026, 2029, b"abc");
     both_answer(&rt, alloc, future, other, Err(RevocationError::Stale));
