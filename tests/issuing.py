@@ -570,6 +570,9 @@ def make_lists():
     octets[-1] ^= 1
     Path('damaged.crl').write_bytes(octets)
     Path('cut.crl').write_bytes(Path('next.crl').read_bytes()[:300])
+    # two lists in one file, and an octet behind one
+    Path('behind.crl').write_bytes(Path('first.crl').read_bytes() + Path('next.crl').read_bytes())
+    Path('zero.crl').write_bytes(Path('first.crl').read_bytes() + b'\0')
 
 
 LISTS_REFUSED = [
@@ -578,6 +581,10 @@ LISTS_REFUSED = [
      'file 1 of --crl is no revocation list'),
     ({'issuer': ['anchor.cer', 'ca.cer'], 'crl': ['ca.cer', 'first.crl']},
      'file 0 of --crl is no revocation list'),
+    ({'issuer': ['anchor.cer', 'ca.cer'], 'crl': ['first.crl', 'behind.crl'], 'at': '2026-06-02'},
+     'file 1 of --crl is no revocation list, or octets stand behind it: give each list in a file'),
+    ({'issuer': ['anchor.cer', 'ca.cer'], 'crl': ['zero.crl']},
+     'file 0 of --crl is no revocation list, or octets stand behind it'),
     ({'previous': 'last.crl'}, 'the number of the list has more than 20 octets'),
     ({'previous': 'last.crl', 'number': GREATEST}, "the number isn't greater"),
     ({'next-update': '2026-06-30T23:59:60Z'}, '--next-update'),
@@ -665,6 +672,8 @@ def try_list_signatures():
     refuses('when it is stale', 'Stale: ', at='2026-07-02')
     is_refused('complete with a list that is none', complete(ANCHOR, '--crl', 'cut.crl'),
                'file 0 of --crl is no revocation list')
+    is_refused('complete with two lists in one file', complete(ANCHOR, '--crl', 'behind.crl'),
+               'file 0 of --crl is no revocation list, or octets stand behind it')
     for what, octets in [('cut', prepared[:-1]), ('with an octet behind it', prepared + b'\0'),
                          ('a whole list', Path('made.crl').read_bytes())]:
         signed(octets)

@@ -8,7 +8,7 @@ use Rattle.rpki.specs.Ended.TheVariants.{Whole, TooDeep, OutOfSteps}
 use Rattle.rpki.specs.Line.{Line}
 use Rattle.rpki.specs.Line.TheVariants as line
 use Rattle.rpki.specs.Times.{Moment}
-use Rattle.rpki_files.specs.Contents.{BeginsWithCertificate, BeginsWithEither, BeginsWithList, StandBehind}
+use Rattle.rpki_files.specs.Contents.{BeginsWithCertificate, IsList, StandBehind}
 use Rattle.rpki_verdicts.specs.Reasons.{ReasonFields, IsReason}
 use Rattle.rpki_files.specs.Files.{FileFields}
 use Rattle.rpki_verdicts.specs.PathAnswers.{reason_of}
@@ -69,15 +69,17 @@ AreCertificateMembers tree place file pairs =
 
 -- ---- files
 
--- what is said of what a file begins with, where the next certificate stands at this place, and one
--- behind it at the next
+-- what is said of whether a file begins with a certificate, or is a list, where the next certificate
+-- stands at this place, and one behind it at the next
 abbrev pub AreFrontMembers : Tree → ℕ → ℕ → FileFields → List Pair → Type 0
 AreFrontMembers tree place next file pairs =
     (BeginsWithCertificate file.octets × AreCertificateMembers tree place file pairs × (next ≡ place + 1))
-    ⊎ ((BeginsWithList file.octets × (pairs ≡ text_member (codes "verdict") (codes "list")) × (next ≡ place))
-    ⊎ ((BeginsWithEither file.octets → ⊥) × (pairs ≡ text_member (codes "verdict") (codes "neither")) × (next ≡ place)))
+    ⊎ ((IsList file.octets × (pairs ≡ text_member (codes "verdict") (codes "list")) × (next ≡ place))
+    ⊎ ((BeginsWithCertificate file.octets → ⊥) × (IsList file.octets → ⊥)
+    × (pairs ≡ text_member (codes "verdict") (codes "neither")) × (next ≡ place)))
 
--- what is said of a file: of what it begins with, and how many octets stand behind that, where some do
+-- what is said of a file: that, and how many octets stand behind the certificate or the list that it
+-- begins with, where some do
 abbrev pub AreFileMembers : Tree → ℕ → ℕ → FileFields → List Pair → Type 0
 AreFileMembers tree place next file pairs =
     (front : List Pair) × (left : ℕ) × AreFrontMembers tree place next file front × StandBehind file.octets left

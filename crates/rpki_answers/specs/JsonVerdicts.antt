@@ -10,7 +10,7 @@ use Rattle.rpki.specs.Judged.{Judged}
 use Rattle.rpki.specs.Locators.{NamedTal}
 use Rattle.rpki.specs.TalError.{TalError}
 use Rattle.rpki.specs.Verification.{Context, ResourceFields}
-use Rattle.rpki_files.specs.Contents.{BeginsWithList}
+use Rattle.rpki_files.specs.Contents.{IsList}
 use Rattle.rpki_files.specs.Files.{FileFields}
 use Rattle.rpki_verdicts.specs.GivenLocators.{LocatorFields}
 use Rattle.rpki_verdicts.specs.PathFiles.{QuestionFields, IsAnchorLocator}
@@ -64,10 +64,10 @@ no_locators_json locators = array_of (flat_map (λ l. no_locator_items l.file.na
 abbrev pub tal_members : Option LocatorFields → List Pair
 tal_members found = text_member_if_any (codes "tal") (option_map (λ l. l.file.name) found)
 
--- of a file given as a list, its name where it begins with none
+-- of a file given as a list, its name where it is none
 abbrev pub IsOtherItem : FileFields → List Data → Type 0
 IsOtherItem file items =
-    (BeginsWithList file.octets × (items ≡ [])) ⊎ ((BeginsWithList file.octets → ⊥) × (items ≡ string file.name ∷ []))
+    (IsList file.octets × (items ≡ [])) ⊎ ((IsList file.octets → ⊥) × (items ≡ string file.name ∷ []))
 
 -- how many octets of a file stand behind what it begins with
 abbrev pub left_json : List ℕ → ℕ → Data

@@ -11,7 +11,7 @@ use Rattle.rpki_answers.specs.declared.outcomes.Outcome.TheVariants.{Success, Re
 use Rattle.rpki_verdicts.specs.declared.path.Verdict.TheVariants.{Accepted, Rejected}
 use Rattle.rpki_verdicts.specs.declared.path.Fault.{Fault}
 use Rattle.rpki_text.specs.CommandLines.{RequestFields}
-use Rattle.rpki_files.specs.Contents.{BeginsWithList, CanBeShown}
+use Rattle.rpki_files.specs.Contents.{CanBeShown, IsList}
 use Rattle.rpki_files.specs.Files.{FileFields, file_names, contents}
 use Rattle.rpki_files.specs.LocatorFiles.{AreLocator}
 use Rattle.rpki_verdicts.specs.PathAnswers.{IsVerdictBy}
@@ -36,9 +36,9 @@ IsOutcomeOfShow strict files Success = All (CanBeShown strict) files
 IsOutcomeOfShow strict files Rejection = All (CanBeShown strict) files → ⊥
 IsOutcomeOfShow strict files _ = ⊥
 
--- each file given as a locator is one, and each given as a list begins with one
+-- each file given as a locator is one, and each given as a list is one
 abbrev pub AreAsGiven : Context → Demands → List (List ℕ) → Type 0
-AreAsGiven x d lists = All (AreLocator x.strict) d.locators × All BeginsWithList lists
+AreAsGiven x d lists = All (AreLocator x.strict) d.locators × All IsList lists
 
 -- of a path that is to be validated: success where it is accepted, so that its trust anchor is that of
 -- one of the locators, by the files given as lists no member is revoked, and names chain where that is

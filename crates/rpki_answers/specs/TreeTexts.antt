@@ -10,7 +10,7 @@ use Rattle.rpki.specs.Ended.TheVariants.{Whole, TooDeep, OutOfSteps}
 use Rattle.rpki.specs.Line.{Line}
 use Rattle.rpki.specs.Line.TheVariants as line
 use Rattle.rpki.specs.Verification.{Context}
-use Rattle.rpki_files.specs.Contents.{BeginsWithCertificate, BeginsWithEither, BeginsWithList, StandBehind}
+use Rattle.rpki_files.specs.Contents.{BeginsWithCertificate, IsList, StandBehind}
 use Rattle.rpki_verdicts.specs.Reasons.{ReasonFields, IsReason}
 use Rattle.rpki_files.specs.Files.{FileFields}
 use Rattle.rpki_files.specs.LocatorFiles.{AreLocator}
@@ -22,7 +22,7 @@ use Rattle.rpki_verdicts.specs.declared.unordered.Tree.{Tree}
 use Rattle.rpki_verdicts.specs.declared.unordered.TreeAnswer.{TreeAnswer}
 use Rattle.rpki_verdicts.specs.declared.unordered.TreeAnswer.TheVariants.{NoAnchor, WrongAnchor, Walked}
 use Rattle.rpki_answers.specs.ShownTexts.{left_text}
-use Rattle.rpki_answers.specs.VerdictTexts.{locators_text, moment_line, no_locator_text}
+use Rattle.rpki_answers.specs.VerdictTexts.{behind_list_text, locators_text, moment_line, no_locator_text}
 use Rattle.rpki_answers.specs.declared.trees.TreeFinding.{TreeFinding}
 use Rattle.rpki_answers.specs.declared.trees.TreeFinding.TheVariants.{NotALocator, Answered}
 
@@ -60,23 +60,35 @@ SaysOfCertificate tree place file said =
 
 -- ---- files
 
--- what is said of what a file begins with, where the next certificate stands at this place, and one
--- behind it at the next
-abbrev pub SaysOfFront : Tree → ℕ → ℕ → FileFields → List ℕ → Type 0
-SaysOfFront tree place next file said =
-    (BeginsWithCertificate file.octets × SaysOfCertificate tree place file said × (next ≡ place + 1))
-    ⊎ ((BeginsWithList file.octets × (said ≡ codes "revocation list") × (next ≡ place))
-    ⊎ ((BeginsWithEither file.octets → ⊥) × (said ≡ codes "neither a certificate nor a list") × (next ≡ place)))
-
--- that so many octets stand behind it, where some do
+-- that so many octets stand behind a certificate, where some do
 abbrev pub behind_text : ℕ → List ℕ
 behind_text left = if left == 0 then [] else (codes ", after its end " ++ left_text left)
 
--- what is said of a file: of what it begins with, and of what stands behind that
+-- of one that begins with a certificate
+abbrev pub SaysOfBegun : Tree → ℕ → FileFields → ℕ → List ℕ → Type 0
+SaysOfBegun tree place file left said =
+    (of_it : List ℕ) × SaysOfCertificate tree place file of_it × (said ≡ of_it ++ behind_text left)
+
+-- why a file is neither, where it begins with a list and so many octets stand behind that
+abbrev pub since_text : ℕ → List ℕ
+since_text left = if left == 0 then [] else behind_list_text left
+
+abbrev pub neither_text : ℕ → List ℕ
+neither_text left = codes "neither a certificate nor a list" ++ since_text left
+
+-- what is said of a file, where so many octets stand behind the certificate or the list that it begins
+-- with, the next certificate stands at this place, and one behind it at the next: a file is a list only
+-- where none stand behind it
+abbrev pub SaysOfFront : Tree → ℕ → ℕ → FileFields → ℕ → List ℕ → Type 0
+SaysOfFront tree place next file left said =
+    (BeginsWithCertificate file.octets × SaysOfBegun tree place file left said × (next ≡ place + 1))
+    ⊎ ((IsList file.octets × (said ≡ codes "revocation list") × (next ≡ place))
+    ⊎ ((BeginsWithCertificate file.octets → ⊥) × (IsList file.octets → ⊥)
+    × (said ≡ neither_text left) × (next ≡ place)))
+
 abbrev pub SaysOfFile : Tree → ℕ → ℕ → FileFields → List ℕ → Type 0
 SaysOfFile tree place next file said =
-    (front : List ℕ) × (left : ℕ) × SaysOfFront tree place next file front × StandBehind file.octets left
-    × (said ≡ front ++ behind_text left)
+    (left : ℕ) × StandBehind file.octets left × SaysOfFront tree place next file left said
 
 -- a line: the file's name, and what is said of it
 abbrev pub file_line : List ℕ → List ℕ → List ℕ

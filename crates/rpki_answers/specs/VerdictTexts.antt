@@ -21,7 +21,7 @@ use Rattle.rpki_text.specs.Notes.{AreNotes}
 use Rattle.rpki_text.specs.declared.notes.note.Note.{Note}
 use Rattle.rpki_text.specs.BlockLines.{as_numbers_text, blocks_lines, resources_lines}
 use Rattle.rpki_text.specs.CertificateTexts.{certificate_kind_text}
-use Rattle.rpki_files.specs.Contents.{BeginsWithList}
+use Rattle.rpki_files.specs.Contents.{IsList}
 use Rattle.rpki_files.specs.Files.{FileFields, contents}
 use Rattle.rpki.specs.SaidKinds.{IsKindOf}
 use Rattle.rpki_files.specs.LocatorFiles.{AreLocator}
@@ -94,10 +94,21 @@ IsMemberPart strict file text = IsMemberText strict file text ⊎ IsOtherText fi
 
 -- ---- files given as lists
 
--- its name where it is none, and else how many octets stand behind the list
+-- why a file is none that begins with one, where so many octets stand behind that
+abbrev pub behind_list_text : ℕ → List ℕ
+behind_list_text left =
+    codes ", since " ++ (count_text left (codes " octet stands") (codes " octets stand") ++ codes " behind its list")
+
+-- such a file, and what to do
+abbrev pub part_list_text : List ℕ → ℕ → List ℕ
+part_list_text name left =
+    file_name_text name
+    ++ (behind_list_text left ++ codes ": is it two lists in one file? give each in a file of its own")
+
+-- the line of a file that is none: its name, and why, where it begins with one
 abbrev pub list_part : List ℕ → Option ℕ → List ℕ
 list_part name None = line (codes "Not a list") (file_name_text name)
-list_part name (Some left) = after_line name left
+list_part name (Some left) = if left == 0 then [] else line (codes "Not a list") (part_list_text name left)
 
 abbrev pub IsListPart : FileFields → List ℕ → Type 0
 IsListPart file text = (left : Option ℕ) × Leaves IsCertificateList file.octets left × (text ≡ list_part file.name left)
@@ -266,9 +277,9 @@ IsDecision x question verdict =
 abbrev pub IsFinding : Context → QuestionFields → Finding → Type 0
 IsFinding x question (NotALocator fault) = IsNoLocator x.strict (locator_octets question.locators) fault
 IsFinding x question NotAList =
-    All (AreLocator x.strict) (locator_octets question.locators) × (All BeginsWithList (contents question.lists) → ⊥)
+    All (AreLocator x.strict) (locator_octets question.locators) × (All IsList (contents question.lists) → ⊥)
 IsFinding x question (Decided verdict) =
-    (All (AreLocator x.strict) (locator_octets question.locators) × All BeginsWithList (contents question.lists))
+    (All (AreLocator x.strict) (locator_octets question.locators) × All IsList (contents question.lists))
     × IsDecision x question verdict
 
 -- the path is accepted

@@ -8,12 +8,14 @@ ghost use Rattle.rpki_verdicts.specs.PathAnswers.{reason_of};
 ghost use Rattle.rpki_verdicts.specs.Trees.{asked_of};
 ghost use Rattle.rpki_verdicts.specs.declared.unordered.TreeAnswer.TheVariants.{Walked};
 ghost use Rattle.rpki_answers.specs.ShownTexts.{left_text};
-ghost use Rattle.rpki_answers.specs.TreeTexts.{AreFileLines, IsAnswerText, IsFileLine, IsTreeText, SaysOfCertificate, SaysOfFile, SaysOfFront, SaysOfLine, accepted_text, behind_text, end_text, ended_text, file_line, further_text, name_text_at, rejection_text};
+ghost use Rattle.rpki_answers.specs.TreeTexts.{AreFileLines, IsAnswerText, IsFileLine, IsTreeText, SaysOfBegun, SaysOfCertificate, SaysOfFile, SaysOfFront, SaysOfLine, accepted_text, behind_text, end_text, ended_text, file_line, further_text, name_text_at, neither_text, rejection_text, since_text};
 ghost use Rattle.rpki_answers.specs.VerdictTexts.{locators_text, moment_line, no_locator_text};
 
 use crate::showing::left_over;
 use crate::trees::TreeFinding;
-use crate::verdict_lines::{print_moment, print_no_locator, print_other_locators};
+use crate::verdict_lines::{
+    print_behind_list, print_moment, print_no_locator, print_other_locators,
+};
 use rpki::repository::folder::{Ended, Line};
 use rpki::repository::path::PathFault;
 use rpki_files::rules::Rule;
@@ -105,30 +107,7 @@ fn print_certificate(page: &mut Page, tree: &Tree<'_, '_>, place: usize, file: &
     print_line(page, tree, file, tree.lines.as_slice().get(place));
 }
 
-// What is said of what a file begins with, where the next certificate stands at this place. Returns
-// the place of one behind it.
-fn print_front(page: &mut Page, tree: &Tree<'_, '_>, place: usize, file: &BareObject<'_>) -> usize
-    requires { place + 1 < 2 ^ 64 }
-    ensures next { result ≤ place + 1 }
-    ensures said { AppendsSome (SaysOfFront tree.now place result file.now) page.old page.new }
-{
-    match file.front() {
-        Front::Certificate(_) => {
-            print_certificate(page, tree, place, file);
-            place + 1
-        }
-        Front::List => {
-            page.text("revocation list");
-            place
-        }
-        Front::Neither => {
-            page.text("neither a certificate nor a list");
-            place
-        }
-    }
-}
-
-// That so many octets stand behind it.
+// That so many octets stand behind a certificate.
 fn print_left(page: &mut Page, left: usize)
     ensures { Appends page.old (codes ", after its end " ++ left_text left) page.new }
 {
@@ -145,15 +124,72 @@ fn print_behind(page: &mut Page, left: usize)
     }
 }
 
-// What is said of a file: of what it begins with, and of what stands behind that.
+// What is said of a file that begins with a certificate, behind which so many octets stand.
+fn print_begun(
+    page: &mut Page,
+    tree: &Tree<'_, '_>,
+    place: usize,
+    file: &BareObject<'_>,
+    left: usize,
+)
+    ensures { AppendsSome (SaysOfBegun tree.now place file.now left) page.old page.new }
+{
+    print_certificate(page, tree, place, file);
+    print_behind(page, left);
+}
+
+// Why a file is neither, where so many octets stand behind a list that it begins with.
+fn print_since(page: &mut Page, left: usize)
+    ensures { Appends page.old (since_text left) page.new }
+{
+    if left > 0 {
+        print_behind_list(page, left);
+    }
+}
+
+fn print_neither(page: &mut Page, left: usize)
+    ensures { Appends page.old (neither_text left) page.new }
+{
+    page.text("neither a certificate nor a list");
+    print_since(page, left);
+}
+
+// What is said of a file, where the next certificate stands at this place, and so many octets stand
+// behind what it begins with. Returns the place of one behind it.
+fn print_front(
+    page: &mut Page,
+    tree: &Tree<'_, '_>,
+    place: usize,
+    file: &BareObject<'_>,
+    left: usize,
+) -> usize
+    requires { place + 1 < 2 ^ 64 }
+    ensures next { result ≤ place + 1 }
+    ensures said { AppendsSome (SaysOfFront tree.now place result file.now left) page.old page.new }
+{
+    match file.front() {
+        Front::Certificate(_) => {
+            print_begun(page, tree, place, file, left);
+            place + 1
+        }
+        Front::List => {
+            page.text("revocation list");
+            place
+        }
+        Front::Neither => {
+            print_neither(page, left);
+            place
+        }
+    }
+}
+
+// What is said of a file. Returns the place of a certificate behind it.
 fn print_said(page: &mut Page, tree: &Tree<'_, '_>, place: usize, file: &BareObject<'_>) -> usize
     requires { place + 1 < 2 ^ 64 }
     ensures next { result ≤ place + 1 }
     ensures said { AppendsSome (SaysOfFile tree.now place result file.now) page.old page.new }
 {
-    let next = print_front(page, tree, place, file);
-    print_behind(page, file.left());
-    next
+    print_front(page, tree, place, file, file.left())
 }
 
 // The line of a file.

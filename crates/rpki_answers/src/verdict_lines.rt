@@ -9,7 +9,7 @@ ghost use Rattle.rpki_answers.specs.NoteLines.{notes_lines};
 ghost use Rattle.rpki_files.specs.Contents.{BeginsBefore};
 ghost use Rattle.rpki.specs.SaidKinds.{IsKindOf};
 ghost use Rattle.rpki_verdicts.specs.GivenLocators.{IsRead};
-ghost use Rattle.rpki_answers.specs.VerdictTexts.{SaysOfEach, IsFindingText, IsLocatorText, IsMemberPart, IsListPart, IsOutcomeText, IsVerdictText, IsAcceptanceText, IsHeldText, IsMemberText, IsRejectedText, after_line, anchor_line, checks_text, file_name_at, holder_text, left_of_text, locator_part, locator_text, locators_text, member_text, moment_line, names_line, no_list_text, no_locator_text, other_text, place_text, read_locator_line, reason_text, rejected_text, revocation_text, router_text};
+ghost use Rattle.rpki_answers.specs.VerdictTexts.{SaysOfEach, IsFindingText, IsLocatorText, IsMemberPart, IsListPart, IsOutcomeText, IsVerdictText, IsAcceptanceText, IsHeldText, IsMemberText, IsRejectedText, after_line, anchor_line, behind_list_text, checks_text, file_name_at, holder_text, left_of_text, list_part, locator_part, locator_text, locators_text, member_text, moment_line, names_line, no_list_text, no_locator_text, other_text, part_list_text, place_text, read_locator_line, reason_text, rejected_text, revocation_text, router_text};
 
 use crate::details::details_of;
 use crate::notes::print_notes;
@@ -165,12 +165,48 @@ fn print_members(page: &mut Page, objects: &[Object<'_>], strict: bool)
     }
 }
 
-// Names a file given as a list that is none, or says how many octets stand behind the list.
+/// Prints why a file is no list that begins with one, where so many octets stand behind that.
+pub fn print_behind_list(page: &mut Page, left: usize)
+    ensures { Appends page.old (behind_list_text left) page.new }
+{
+    page.text(", since ");
+    page.count(left as u64, " octet stands", " octets stand");
+    page.text(" behind its list");
+}
+
+// Such a file, and what to do.
+fn print_part_list(page: &mut Page, name: &str, left: usize)
+    ensures { Appends page.old (part_list_text name.now left) page.new }
+{
+    page.value(&FileName(name));
+    print_behind_list(page, left);
+    page.text(": is it two lists in one file? give each in a file of its own");
+}
+
+#[tactic(auto, unfolding(rpki_text::specs::Pages::line))]
+fn print_part_line(page: &mut Page, name: &str, left: usize)
+    ensures { Appends page.old (line (codes "Not a list") (part_list_text name.now left)) page.new }
+{
+    page.label("Not a list");
+    print_part_list(page, name, left);
+    page.end();
+}
+
+// The line of a file that begins with a list, where so many octets stand behind that.
+fn print_begun_list(page: &mut Page, name: &str, left: usize)
+    ensures { Appends page.old (list_part name.now (Some left)) page.new }
+{
+    if left > 0 {
+        print_part_line(page, name, left);
+    }
+}
+
+// Names a file given as a list that is none, and says why, where it begins with one.
 fn print_list(page: &mut Page, object: &Object<'_>)
     ensures { AppendsSome (IsListPart object.now) page.old page.new }
 {
     match object.list() {
-        Some((_, left)) => print_left(page, object.name(), left),
+        Some((_, left)) => print_begun_list(page, object.name(), left),
         None => page.line_of("Not a list", &FileName(object.name())),
     }
 }

@@ -2,7 +2,7 @@
 ghost use Rattle.std.specs.Prelude.{◌≡◌, ◌≢◌, ◌↔◌, All, IfOk, IsTrue, string_bytes};
 ghost use Rattle.rpki.specs.RsaSignatures.{IsSignedByRsa};
 ghost use Rattle.rpki.specs.Verification.{context};
-ghost use Rattle.rpki_files.specs.Contents.{BeginsWithList};
+ghost use Rattle.rpki_files.specs.Contents.{IsList};
 ghost use Rattle.rpki_files.specs.Files.{contents};
 ghost use Rattle.rpki_verdicts.specs.GivenLocators.{IsRead};
 ghost use Rattle.rpki_verdicts.specs.PathFiles.{demands_of};
@@ -44,9 +44,9 @@ fn json_text(
     text
 }
 
-// Whether each file given as a list begins with one.
+// Whether each file given as a list is one.
 fn are_lists(lists: &[Object<'_>]) -> bool
-    ensures { IsTrue result ↔ All BeginsWithList (contents lists.now) }
+    ensures { IsTrue result ↔ All IsList (contents lists.now) }
 {
     let mut are_lists = true;
     for object in lists {
@@ -83,8 +83,8 @@ fn is_accepted(finding: &Finding) -> bool
 }
 
 /// Validates the path and writes what is found, as lines for a person or as JSON. The outcome is
-/// success where each file given as a locator is one, each given as a list begins with one, and the
-/// path is accepted.
+/// success where each file given as a locator is one, each given as a list is one, with nothing behind
+/// it, and the path is accepted.
 pub fn validated(
     alloc: Global,
     question: &Question<'_, '_>,

@@ -5,7 +5,7 @@ use Rattle.rpki.specs.Times.{Moment}
 use Rattle.rpki.specs.Verification.{context}
 use Rattle.rpki_text.specs.CommandLines.{RequestFields}
 use Rattle.rpki_text.specs.CommandLines.Views.{word_octets}
-use Rattle.rpki_files.specs.Contents.{BeginsWithList}
+use Rattle.rpki_files.specs.Contents.{IsList}
 use Rattle.rpki_files.specs.Files.{FileFields, file_names}
 use Rattle.rpki_verdicts.specs.GivenLocators.{LocatorFields, locator_files}
 use Rattle.rpki_verdicts.specs.Searches.{IsSoughtPath}
@@ -17,12 +17,12 @@ use Rattle.rpki_command.specs.NamedFiles.{AreRead}
 use Rattle.rpki_command.specs.ReadFiles.{Reads}
 use Rattle.rpki_command.specs.declared.searching.SoughtNames.{SoughtNames}
 
--- these are the names of those of the files that begin with lists, in their order
+-- these are the names of those of the files that are lists, in their order
 abbrev pub AreListNames : List FileFields → List (List ℕ) → Type 0
 AreListNames [] names = names ≡ []
 AreListNames (file ∷ files) names =
-    ((BeginsWithList file.octets → ⊥) × AreListNames files names)
-    ⊎ ((rest : List (List ℕ)) × BeginsWithList file.octets
+    ((IsList file.octets → ⊥) × AreListNames files names)
+    ⊎ ((rest : List (List ℕ)) × IsList file.octets
     × AreListNames files rest × (names ≡ file.name ∷ rest))
 
 -- these are the names of the files of the path that is sought to the first of the files, and those of

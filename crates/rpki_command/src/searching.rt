@@ -62,7 +62,7 @@ fn names_of(alloc: Global, path: &[&BareObject<'_>]) -> Result<Vec<Vec<u8>>, All
     Ok(names)
 }
 
-// Adds the name of a file that begins with a list.
+// Adds the name of a file that is a list.
 fn push_list_name(
     alloc: Global,
     names: &mut Vec<Vec<u8>>,
@@ -77,7 +77,7 @@ fn push_list_name(
     Ok(())
 }
 
-// The names of those of the files that begin with lists.
+// The names of those of the files that are lists.
 fn list_names(alloc: Global, files: &[BareObject<'_>]) -> Result<Vec<Vec<u8>>, AllocError>
     ensures { IfOk result (λ names. AreListNames files.now (word_octets names.items)) }
 {

@@ -5,6 +5,7 @@ mod FirstInside
 mod FirstTrue
 mod FlawReads
 mod FoundFlaws
+pub mod FoundOctets
 pub mod FoundPolicies
 pub mod NothingRead
 mod NumberedTimes

@@ -1,12 +1,10 @@
 -- What is read of octets, or why nothing is, where it isn't that memory ran out.
-use Rattle.std.specs.Prelude.{IsTrue, is_some, Option, Some, None, Result, Ok, Err, IfOk}
-use Rattle.std.proofs.Common.{◌≡◌, ◌≢◌, ◌↔◌, ℕ, List, refl, sym, subst}
-use Rattle.std.proofs.lemmas.Bool.{false≢true}
-use Rattle.rpki_der.specs.Encoding.{Means}
+use Rattle.std.specs.Prelude.{Result, Ok, Err, IfOk}
+use Rattle.std.proofs.Common.{◌≡◌, ◌≢◌, ℕ, List, refl, sym, subst}
 use Rattle.rpki_der.specs.Place.{Rejects}
 use Rattle.rpki_der.specs.declared.error.DecodeError.{DecodeError}
 use Rattle.rpki_der.specs.declared.error.DecodeError.TheVariants as decoding
-use Rattle.rpki_files.specs.Contents.{BeginsWithEither, FindsBefore, IsContent}
+use Rattle.rpki_files.specs.Contents.{BeginsWithEither, IsContent}
 use Rattle.rpki_files.specs.declared.contents.Content.{Content}
 use Rattle.rpki_files.specs.declared.contents.Content.TheVariants as content
 
@@ -19,8 +17,3 @@ rejected e h not_memory = h
 pub neither_read : {E : Type 0} (octets : List ℕ) (fault : DecodeError) (r : Result Content E) → IfOk r (λ c. (c ≡ content.Neither fault) × (fault ≢ decoding.Memory)) → (fault ≢ decoding.Memory → BeginsWithEither octets → ⊥) → IfOk r (IsContent octets)
 neither_read octets fault (Ok c) is none = subst (IsContent octets) (sym is.0) (is.1, none is.1)
 neither_read octets fault (Err e) is none = tt
-
--- whether something was found is whether the octets begin with it
-pub found_or_not : {X Y : Type 0} (view : X → Y) (encodes : Y → List ℕ → Type 0) (octets : List ℕ) (o : Option (X × ℕ)) → FindsBefore view encodes octets o → IsTrue (is_some o) ↔ ((y : Y) × Means encodes y octets)
-found_or_not view encodes octets (Some found) h = ((λ yes. (view found.0, (h.0, h.1))), (λ begins. refl))
-found_or_not view encodes octets None h = ((λ no. absurd (false≢true no)), (λ begins. absurd (h begins.0 begins.1)))

@@ -1,4 +1,5 @@
--- What the octets of a file begin with; what follows is ignored.
+-- What the octets of a file begin with, where what follows is ignored; and whether they are a list, and
+-- nothing follows.
 use Rattle.std.specs.Prelude.{◌≡◌, ◌≢◌, ◌⊎◌, ℕ, Bool, List, ◌∷◌, length, Option, Some, None}
 use Rattle.rpki_der.specs.declared.error.DecodeError.TheVariants as decoding
 use Rattle.rpki_der.specs.Encoding.{Begins, Means}
@@ -20,6 +21,11 @@ BeginsWithCertificate octets = (c : CertFields) × Means IsCertificate c octets
 -- a revocation list
 abbrev pub BeginsWithList : List ℕ → Type 0
 BeginsWithList octets = (l : CrlFields) × Means IsCertificateList l octets
+
+-- the octets are a revocation list, and none stands behind it: a file is asked as a list only so (own),
+-- since what stands there may be a list that revokes
+abbrev pub IsList : List ℕ → Type 0
+IsList octets = (l : CrlFields) × IsCertificateList l octets
 
 -- one of the two
 abbrev pub BeginsWithEither : List ℕ → Type 0
@@ -49,11 +55,12 @@ IsContent octets (content.List l left) =
     BeginsBefore IsCertificateList octets l.list left × (BeginsWithCertificate octets → ⊥)
 IsContent octets (content.Neither fault) = (fault ≢ decoding.Memory) × (BeginsWithEither octets → ⊥)
 
--- what is kept of that without what was read: of a certificate what it says of its place in a folder
+-- what is kept of a file among others, without what was read: a certificate, which says this of its
+-- place in a folder, where the octets begin with one; a list, where they are one; or neither
 abbrev pub IsFront : List ℕ → Front → Type 0
-IsFront octets (front.Certificate said) = BeginsWithSaid said octets × (BeginsWithList octets → ⊥)
-IsFront octets front.List = BeginsWithList octets × (BeginsWithCertificate octets → ⊥)
-IsFront octets front.Neither = BeginsWithEither octets → ⊥
+IsFront octets (front.Certificate said) = BeginsWithSaid said octets × (IsList octets → ⊥)
+IsFront octets front.List = IsList octets × (BeginsWithCertificate octets → ⊥)
+IsFront octets front.Neither = (BeginsWithCertificate octets → ⊥) × (IsList octets → ⊥)
 
 -- what was looked for, seen by view: it is what the octets begin with, and so many octets stand
 -- behind it; or they begin with none

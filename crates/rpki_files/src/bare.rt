@@ -3,7 +3,7 @@ ghost use Rattle.std.specs.Prelude.{◌≡◌, ◌↔◌, ℕ, List, IfOk, IfSom
 ghost use Rattle.rpki_cert.specs.Certificates.{CertFields, IsCertificate};
 ghost use Rattle.rpki_der.specs.Encoding.{Means};
 ghost use Rattle.rpki_crl.specs.Lists.{IsCertificateList};
-ghost use Rattle.rpki_files.specs.Contents.{BeginsWithCertificate, BeginsWithEither, BeginsWithList, IsContent, IsFront, StandBehind};
+ghost use Rattle.rpki_files.specs.Contents.{BeginsWithCertificate, BeginsWithEither, IsContent, IsFront, IsList, StandBehind};
 ghost use Rattle.rpki_files.specs.PemFiles.{IsObjectOf};
 
 use crate::contents::{Content, read_content};
@@ -14,17 +14,19 @@ use rpki_crl::Crl;
 use std::alloc::{AllocError, Global};
 use std::marker::Model;
 
-/// What octets begin with, without what was read of it.
+/// What a file is among others, without what was read of it.
 #[derive(Clone, Copy)]
 pub enum Front {
-    /// A certificate, which says this.
+    /// The octets begin with a certificate, which says this.
     Certificate(Said),
+    /// They are a revocation list, behind which none stands.
     List,
     Neither,
 }
 
 /// An object without what was read of it, which would take as much memory as its octets: its file's
-/// name, its octets, in DER, what they begin with, and how many of them stand behind that.
+/// name, its octets, in DER, what it is among others, and how many octets stand behind the certificate
+/// or the list that they begin with.
 #[derive(Drop)]
 pub struct BareObject<'a> {
     name: &'a str,
@@ -44,14 +46,16 @@ impl<'a> Model for BareObject<'a> {
     ghost invariant = { λ o. IsFront o.octets o.front × StandBehind o.octets o.left };
 }
 
-// What is kept of what octets begin with.
+// What is kept of what was read of octets.
 fn front_of(content: &Content) -> Front
     ensures { (octets : List ℕ) → IsContent octets content.now → IsFront octets result }
 {
+    if content.whole_list().is_some() {
+        return Front::List;
+    }
     match content {
         Content::Certificate(cert, _) => Front::Certificate(Said::of(cert)),
-        Content::List(..) => Front::List,
-        Content::Neither(_) => Front::Neither,
+        Content::List(..) | Content::Neither(_) => Front::Neither,
     }
 }
 
@@ -65,7 +69,7 @@ fn left_of(content: &Content) -> usize
     }
 }
 
-// What octets begin with, of which no more is kept, and how many stand behind it.
+// What is kept of what is read of octets, and how many stand behind what they begin with.
 fn read_front(alloc: Global, octets: &Bytes) -> Result<(Front, usize), AllocError>
     ensures front { IfOk result (λ it. IsFront octets.now it.0) }
     ensures left { IfOk result (λ it. StandBehind octets.now it.1) }
@@ -92,7 +96,8 @@ impl<'a> BareObject<'a> {
         &self.octets
     }
 
-    /// Returns what the octets begin with.
+    /// Returns what the octets are among others: a certificate where they begin with one, a revocation
+    /// list where they are one, or neither.
     pub fn front(&self) -> Front
         ensures { IsFront self.now.octets result }
     {
@@ -117,9 +122,9 @@ impl<'a> BareObject<'a> {
         }
     }
 
-    /// Returns whether the octets begin with a revocation list.
+    /// Returns whether the octets are a revocation list, behind which none stands.
     pub fn is_list(&self) -> bool
-        ensures { IsTrue result ↔ BeginsWithList self.now.octets }
+        ensures { IsTrue result ↔ IsList self.now.octets }
     {
         match self.front() {
             Front::List => true,
@@ -143,20 +148,14 @@ impl<'a> BareObject<'a> {
         }
     }
 
-    /// Reads the revocation list that the octets begin with, if they begin with one. Errs only where
-    /// memory runs out.
-    pub fn list(&self, alloc: Global) -> Result<Option<Crl>, AllocError>
+    /// Reads the revocation list that the octets are, if they are one: none stands behind it. Errs only
+    /// where memory runs out.
+    pub fn whole_list(&self, alloc: Global) -> Result<Option<Crl>, AllocError>
         ensures { let octets = self.now.octets in IfOk result (λ found.
-            MatchOption found (BeginsWithList octets → ⊥)
-            (λ l. Means IsCertificateList l.list octets)) }
+            MatchOption found (IsList octets → ⊥) (λ l. IsCertificateList l.list octets)) }
     {
-        match read_content(alloc, &self.octets)? {
-            Content::List(list, _) => Ok(Some(list)),
-            other => {
-                drop(other);
-                Ok(None)
-            }
-        }
+        let content = read_content(alloc, &self.octets)?;
+        Ok(content.into_whole_list())
     }
 }
 

@@ -1,5 +1,5 @@
 //! What octets begin with: a certificate, a revocation list, or neither.
-ghost use Rattle.std.specs.Prelude.{◌≡◌, ◌≢◌, ◌↔◌, false, ℕ, List, IsSomeAnd, IfOk, IfSome};
+ghost use Rattle.std.specs.Prelude.{◌≡◌, ◌≢◌, ◌↔◌, false, ℕ, List, IsSomeAnd, IfOk, IfSome, MatchOption};
 ghost use Rattle.rpki_der.specs.Encoding.{Means};
 ghost use Rattle.rpki_der.specs.Place.{MeansOrMemoryBy, remaining};
 ghost use Rattle.rpki_der.specs.Tags.{SEQUENCE};
@@ -7,11 +7,11 @@ ghost use Rattle.rpki_der.specs.Values.{IsEnc};
 ghost use Rattle.rpki_cert.specs.Certificates.{IsCertificate};
 ghost use Rattle.rpki_der.specs.declared.error.DecodeError.TheVariants as decoding;
 ghost use Rattle.rpki_crl.specs.Lists.{IsCertificateList};
-ghost use Rattle.rpki_files.specs.Contents.{BeginsBefore, BeginsWithCertificate, BeginsWithList, HasFirstInside, IsContent, LooksLikeList};
+ghost use Rattle.rpki_files.specs.Contents.{BeginsBefore, BeginsWithCertificate, BeginsWithList, HasFirstInside, IsContent, IsList, LooksLikeList};
 
 use bytes::Bytes;
 use rpki_cert::Cert;
-use rpki_crl::Crl;
+use rpki_crl::{Crl, laws};
 use rpki_der::{Cursor, DecodeError};
 use std::alloc::{AllocError, Global};
 
@@ -68,6 +68,45 @@ pub enum Content {
     List(Crl, usize),
     /// Neither: what they look like can't be read, and this is why.
     Neither(DecodeError),
+}
+
+impl Content {
+    /// Returns the revocation list that octets are of which this was read, if they are one: none
+    /// stands behind it.
+    pub(crate) fn whole_list(&self) -> Option<&Crl>
+        ensures { (octets : List ℕ) → IsContent octets self.now
+            → MatchOption result (IsList octets → ⊥)
+            (λ list. IsCertificateList list.now.list octets) }
+    {
+        // Called for what it ensures alone.
+        laws::unambiguous();
+        match self {
+            Content::List(list, left) => { if *left == 0 { Some(list) } else { None } }
+            Content::Certificate(..) | Content::Neither(_) => None,
+        }
+    }
+
+    /// Keeps that list alone.
+    pub(crate) fn into_whole_list(self) -> Option<Crl>
+        ensures { (octets : List ℕ) → IsContent octets self
+            → MatchOption result (IsList octets → ⊥) (λ list. IsCertificateList list.list octets) }
+    {
+        // Called for what it ensures alone.
+        laws::unambiguous();
+        match self {
+            Content::List(list, left) => {
+                if left == 0 {
+                    return Some(list);
+                }
+                drop(list);
+                None
+            }
+            other => {
+                drop(other);
+                None
+            }
+        }
+    }
 }
 
 /// Reads the certificate that the octets begin with, and counts the octets behind it.

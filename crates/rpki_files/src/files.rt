@@ -3,7 +3,7 @@ ghost use Rattle.std.specs.List.{starts_with};
 ghost use Rattle.std.specs.Prelude.{◌≡◌, ◌≢◌, ◌↔◌, ◌++◌, ℕ, nat_eq, List, IsTrue, IfOk, MatchOption};
 ghost use Rattle.rpki_cert.specs.Certificates.{IsCertificate};
 ghost use Rattle.rpki_crl.specs.Lists.{IsCertificateList};
-ghost use Rattle.rpki_files.specs.Contents.{BeginsWithEither, BeginsWithList, FindsBefore, IsContent};
+ghost use Rattle.rpki_files.specs.Contents.{BeginsWithEither, FindsBefore, IsContent, IsList};
 ghost use Rattle.rpki_files.specs.FileSorts.{IsToldSort};
 ghost use Rattle.rpki_files.specs.PemFiles.{BeginsAgain, HasBase64, HasBeginLine, IsBareBase64, IsDamagedPem, IsObjectOf, IsPemOf, IsSeveralPem, IsUnendedPem, begin_line, byte_order_mark, is_begin_line, is_end_line};
 
@@ -90,11 +90,20 @@ impl<'a> Object<'a> {
         }
     }
 
-    /// Returns whether the octets begin with a revocation list.
-    pub fn is_list(&self) -> bool
-        ensures { IsTrue result ↔ BeginsWithList self.now.octets }
+    /// Returns the revocation list that the octets are, if they are one: none stands behind it.
+    pub fn whole_list(&self) -> Option<&Crl>
+        ensures { MatchOption result (IsList self.now.octets → ⊥)
+            (λ list. IsCertificateList list.now.list self.now.octets) }
     {
-        self.list().is_some()
+        self.content().whole_list()
+    }
+
+    /// Returns whether the octets are a revocation list, behind which none stands.
+    #[tactic(auto, using(crate::proofs::FoundOctets::some_or_none))]
+    pub fn is_list(&self) -> bool
+        ensures { IsTrue result ↔ IsList self.now.octets }
+    {
+        self.whole_list().is_some()
     }
 }
 

@@ -1,7 +1,6 @@
 -- Lemmas of the proofs about requests.
 mod AddedFiles
 mod AskedLists
-mod FoundOctets
 mod GivenValues
 mod GivenWants
 mod JudgedIssuers

@@ -51,7 +51,7 @@ pub record EndsInNoAuthority (x : Context) (files lists : List (List ℕ)) : Typ
   pub no_authority : IsNoAuthority judged
 
 -- what it says of the issuer's path is so: the path is rejected for this fault, or it is accepted,
--- but ends in no CA; or the file that is given as a list at this place begins with none
+-- but ends in no CA; or the file that is given as a list at this place is none
 abbrev pub TellsPath : Context → List (List ℕ) → List (List ℕ) → Refusal → Type 0
 TellsPath x files lists (Rejected fault) =
     IsVerdictBy x chained files lists (verdict.Rejected fault)
@@ -105,6 +105,11 @@ path_text fault =
     let why = fault.step.now ++ (codes ", " ++ fault_text fault.name.now (rule_of fault.rule)) in
     codes "issuer " ++ (decimal fault.index ++ (codes " is rejected at " ++ why))
 
+-- why a file that is given as a list is none, and what to do
+abbrev pub other_crl : List ℕ
+other_crl =
+    codes " of --crl is no revocation list, or octets stand behind it: give each list in a file of its own"
+
 abbrev pub refusal_text : Refusal → List ℕ
 refusal_text (Value setting) = setting_name setting ++ codes " has no value that it takes"
 refusal_text NoKey = codes "the key's file is no public key"
@@ -112,7 +117,7 @@ refusal_text (UnusedKey format) = fault_text (codes "BadKey") (key_rule format)
 refusal_text (Rejected fault) = path_text fault
 refusal_text NoAuthority = codes "the last issuer is no CA"
 refusal_text (OtherCrl place) =
-    codes "file " ++ (decimal place ++ codes " of --crl is no revocation list")
+    codes "file " ++ (decimal place ++ other_crl)
 refusal_text NoIssuer = codes "a revocation list has an issuer"
 refusal_text OtherList = codes "the previous list isn't one that the issuer signed"
 refusal_text (OtherCertificate place) =

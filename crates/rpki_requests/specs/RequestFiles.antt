@@ -9,7 +9,7 @@ use Rattle.rpki.specs.Kind.{Kind}
 use Rattle.rpki.specs.Kind.TheVariants.{Anchor}
 use Rattle.rpki.specs.Lists.{CrlFields, IsCertificateList}
 use Rattle.rpki.specs.Verification.{Context, ResourceFields}
-use Rattle.rpki_files.specs.Contents.{BeginsWithList}
+use Rattle.rpki_files.specs.Contents.{IsList}
 use Rattle.rpki.specs.SaidKinds.{SaysAuthority, SaysKind}
 use Rattle.rpki_verdicts.specs.PathFiles.{Demands}
 use Rattle.rpki_verdicts.specs.PathAnswers.{HoldSame, IsVerdictBy}
@@ -49,13 +49,13 @@ abbrev pub IsPathIssuer : Context → List (List ℕ) → List (List ℕ) → Op
 IsPathIssuer x files lists None = files ≡ []
 IsPathIssuer x files lists (Some r) = IsHeldByLast x files lists r
 
--- the issuer is this one, and each file that is given as a list begins with one
+-- the issuer is this one, and each file that is given as a list is one
 abbrev pub IsIssuerOf : Context → List (List ℕ) → List (List ℕ) → Option ResourceFields → Type 0
-IsIssuerOf x files lists issuer = All BeginsWithList lists × IsPathIssuer x files lists issuer
+IsIssuerOf x files lists issuer = All IsList lists × IsPathIssuer x files lists issuer
 
--- the file that is given as a list at this place begins with none
+-- the file that is given as a list at this place is none
 abbrev pub IsNoListAt : List (List ℕ) → ℕ → Type 0
-IsNoListAt lists place = (place < length lists) × (BeginsWithList (get_or lists place []) → ⊥)
+IsNoListAt lists place = (place < length lists) × (IsList (get_or lists place []) → ⊥)
 
 -- two are one: they have one certificate, and hold the same numbers
 abbrev pub AreOneIssuer : Option ResourceFields → Option ResourceFields → Type 0

@@ -2,7 +2,7 @@
 ghost use Rattle.std.specs.Prelude.{◌≡◌, ◌≢◌, All, Option, None, IfErr, IfOk, MatchOption};
 ghost use Rattle.rpki.specs.RsaSignatures.{IsSignedByRsa};
 ghost use Rattle.rpki.specs.Verification.{ResourceFields, context};
-ghost use Rattle.rpki_files.specs.Contents.{BeginsWithList};
+ghost use Rattle.rpki_files.specs.Contents.{IsList};
 ghost use Rattle.rpki_files.specs.Files.{contents};
 ghost use Rattle.rpki.specs.SaidKinds.{SaysAuthority};
 ghost use Rattle.rpki_requests.specs.Refusals.{TellsPath};
@@ -37,9 +37,9 @@ fn authority_of(judged: Judged) -> Result<ResourceCert, Refusal>
     Err(Refusal::NoAuthority)
 }
 
-// The place of the first file that begins with no list.
+// The place of the first file that is no list.
 fn first_no_list(lists: &[Object<'_>]) -> Option<usize>
-    ensures { MatchOption result (All BeginsWithList (contents lists.now))
+    ensures { MatchOption result (All IsList (contents lists.now))
         (IsNoListAt (contents lists.now)) }
 {
     for (place, list) in lists.iter().enumerate() {
@@ -89,7 +89,7 @@ fn issuer_of_path(
 }
 
 /// Returns the CA that the path of these files ends in, and what it holds, where each file that is
-/// given as a list begins with one. The path is judged with real signatures and with these lists,
+/// given as a list is one, with nothing behind it. The path is judged with real signatures and with these lists,
 /// and its names have to chain. Gives `None` where there is no file.
 pub(crate) fn issuer_of(
     alloc: Global,

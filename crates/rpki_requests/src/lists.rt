@@ -31,19 +31,6 @@ use rpki_issuing::wanted::issuers::is_own;
 use rpki_issuing::wanted::{WantedList, list_fields};
 use std::alloc::{AllocError, Global};
 
-// The list that the file is, if it is one, and nothing behind it.
-fn whole_list<'f>(file: &'f Object<'_>) -> Option<&'f Crl>
-    ensures { MatchOption result ((list : CrlFields) → IsCertificateList list file.now.octets → ⊥)
-        (λ list. IsCertificateList list.now.list file.now.octets) }
-{
-    // Called for what it ensures alone.
-    laws::lists::unambiguous();
-    let Some((list, left)) = file.list() else {
-        return None;
-    };
-    if left == 0 { Some(list) } else { None }
-}
-
 // The certificate that the file is, if it is one, and nothing behind it.
 fn whole_certificate<'f>(file: &'f Object<'_>) -> Option<&'f Cert>
     ensures { MatchOption result ((cert : CertFields) → IsCertificate cert file.now.octets → ⊥)
@@ -78,7 +65,7 @@ fn own_list<'f>(file: &'f Object<'_>, issuer: &ResourceCert, strict: bool) -> Op
 {
     // Called for what it ensures alone.
     laws::lists::unambiguous();
-    let Some(list) = whole_list(file) else {
+    let Some(list) = file.whole_list() else {
         return None;
     };
     if !is_own(list, issuer, strict) {

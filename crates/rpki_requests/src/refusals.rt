@@ -28,7 +28,8 @@ pub enum Refusal {
     Rejected(Fault),
     /// The last member of the issuer's path isn't a CA.
     NoAuthority,
-    /// The file that is given as a list for the issuer's path, at this place, is none.
+    /// The file that is given as a list for the issuer's path, at this place, is none, or octets stand
+    /// behind it.
     OtherCrl(usize),
     /// A revocation list has no issuer.
     NoIssuer,
@@ -182,7 +183,10 @@ impl fmt::Display for Refusal {
             Refusal::NoAuthority => f.write_str("the last issuer is no CA"),
             Refusal::OtherCrl(place) => {
                 let place = *place;
-                write!(f, "file {place} of --crl is no revocation list")
+                write!(
+                    f,
+                    "file {place} of --crl is no revocation list, or octets stand behind it: give each list in a file of its own"
+                )
             }
             Refusal::NoIssuer => f.write_str("a revocation list has an issuer"),
             Refusal::OtherList => {

@@ -148,7 +148,7 @@ module _ (one_certificate : IsUnambiguous IsCertificate) where
     same_lists (octets ∷ files) a b (inl p) (inr q) = absurd (p.0 (q.0.list, q.2))
     same_lists (octets ∷ files) a b (inr p) (inl q) = absurd (q.0 (p.0.list, p.2))
     same_lists (octets ∷ files) a b (inr p) (inr q) =
-        let first = same_state p.0 q.0 (one_meant IsCertificateList one_list p.0.list q.0.list octets p.2 q.2) (p.3 ∙ sym q.3) in
+        let first = same_state p.0 q.0 (one_list p.0.list q.0.list octets octets [] [] p.2 q.2 refl).0 (p.3 ∙ sym q.3) in
         let more = same_lists files p.1 q.1 p.4 q.4 in
         p.5 ∙ ap (λ (l : CrlState). l ∷ p.1) first ∙ ap (λ (ls : List CrlState). q.0 ∷ ls) more ∙ sym q.5
 

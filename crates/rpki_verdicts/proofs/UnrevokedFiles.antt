@@ -25,18 +25,18 @@ use Rattle.rpki_verdicts.specs.UnrevokedMembers.{IsGivenAmong, IsUnrevokedBelow,
 any_later : {X : Type 0} (P : X → Type 0) (x : X) (xs : List X) → Any P xs → Any P (x ∷ xs)
 any_later P x xs h = (suc h.0, h.1, omega (arith, h.2), h.3, h.4)
 
--- of a list that leaves a certificate unrevoked it is known which file it begins
+-- of a list that leaves a certificate unrevoked it is known which file it is
 module _ (P : CrlState → Type 0) where
   -- one of the lists that have it was given
   abbrev GivenWith : List (List ℕ) → Type 0
   GivenWith files = (l : CrlState) × IsGivenAmong files l.list × P l
 
   later : (octets : List ℕ) (files : List (List ℕ)) → GivenWith files → GivenWith (octets ∷ files)
-  later octets files h = (h.0, any_later (λ o. Means IsCertificateList h.0.list o) octets files h.1, h.2)
+  later octets files h = (h.0, any_later (λ o. IsCertificateList h.0.list o) octets files h.1, h.2)
 
-  among : (octets : List ℕ) (files : List (List ℕ)) (first : CrlState) (rest : List CrlState) → Means IsCertificateList first.list octets → (Any P rest → GivenWith files) → Any P (first ∷ rest) → GivenWith (octets ∷ files)
-  among octets files first rest begins more (zero, l, low, is, p) = (first, (0, octets, omega arith, refl, begins), subst P (sym is) p)
-  among octets files first rest begins more (suc k, l, low, is, p) = later octets files (more (k, l, omega arith, is, p))
+  among : (octets : List ℕ) (files : List (List ℕ)) (first : CrlState) (rest : List CrlState) → IsCertificateList first.list octets → (Any P rest → GivenWith files) → Any P (first ∷ rest) → GivenWith (octets ∷ files)
+  among octets files first rest own more (zero, l, low, is, p) = (first, (0, octets, omega arith, refl, own), subst P (sym is) p)
+  among octets files first rest own more (suc k, l, low, is, p) = later octets files (more (k, l, omega arith, is, p))
 
   given_of : (files : List (List ℕ)) (read : List CrlState) → AreListsOf files read → Any P read → GivenWith files
   given_of [] read are h = let none : Any P [] = subst (λ (ls : List CrlState). Any P ls) are h in absurd (omega (arith, none.2))

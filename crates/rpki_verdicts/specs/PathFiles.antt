@@ -1,6 +1,5 @@
 -- What is asked of files: the path that they are, and the lists that are given (own).
 use Rattle.std.specs.Prelude.{◌≡◌, ◌⊎◌, ℕ, List, [], ◌∷◌, Bool, true, slice_get, Option, Some, None}
-use Rattle.rpki.specs.Encoding.{Means}
 use Rattle.rpki.specs.Times.{Moment}
 use Rattle.rpki.specs.Kind.{Kind}
 use Rattle.rpki.specs.Kind.TheVariants.{Authority}
@@ -9,7 +8,7 @@ use Rattle.rpki.specs.Lists.{CrlState, IsCertificateList}
 use Rattle.rpki.specs.Folders.{BeginsNoCertificate}
 use Rattle.rpki.specs.GivenPaths.{PathStrings, anchor_alone, HasLast}
 use Rattle.rpki.specs.LocatedPaths.{IsLocatorOf}
-use Rattle.rpki_files.specs.Contents.{BeginsWithList}
+use Rattle.rpki_files.specs.Contents.{IsList}
 use Rattle.rpki_files.specs.Files.{FileFields, contents}
 use Rattle.rpki_verdicts.specs.GivenLocators.{LocatorFields, IsFirst, locator_octets}
 
@@ -67,10 +66,10 @@ IsGivenBy files g =
     ((anchor : List ℕ) × (files ≡ anchor ∷ []) × (g ≡ anchor_alone anchor))
     ⊎ HasJudgedLast files g
 
--- the lists of those files that begin with one, as they were read, with a table of their serials
+-- the lists that those files are which are one, as they were read, with a table of their serials
 abbrev pub AreListsOf : List (List ℕ) → List CrlState → Type 0
 AreListsOf [] lists = lists ≡ []
 AreListsOf (octets ∷ files) lists =
-    ((BeginsWithList octets → ⊥) × AreListsOf files lists)
-    ⊎ ((l : CrlState) × (rest : List CrlState) × Means IsCertificateList l.list octets
+    ((IsList octets → ⊥) × AreListsOf files lists)
+    ⊎ ((l : CrlState) × (rest : List CrlState) × IsCertificateList l.list octets
     × (l.is_cached ≡ true) × AreListsOf files rest × (lists ≡ l ∷ rest))

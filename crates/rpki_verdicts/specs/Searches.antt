@@ -14,7 +14,7 @@ use Rattle.rpki.specs.Line.{Line}
 use Rattle.rpki.specs.Line.TheVariants as line
 use Rattle.rpki.specs.Verification.{Context}
 use Rattle.rpki.specs.Walks.{Covers, IsReached, at_anchor}
-use Rattle.rpki_files.specs.Contents.{BeginsWithCertificate, BeginsWithList}
+use Rattle.rpki_files.specs.Contents.{BeginsWithCertificate, IsList}
 use Rattle.rpki_files.specs.Files.{FileFields, contents}
 use Rattle.rpki_verdicts.specs.PathFiles.{IsGivenBy}
 use Rattle.rpki_verdicts.specs.Trees.{HasLocator, HasNoAnchor, IsTreeOf, IsWrongAnchor, TreeFields, certs_of}
@@ -89,7 +89,7 @@ abbrev pub StandsAlone : TreeFields → FileFields → Type 0
 StandsAlone q file =
     HasLocator q.locators file
     ⊎ ((BeginsWithCertificate file.octets → ⊥)
-    ⊎ (All (λ f. BeginsWithList f.octets → ⊥) q.files ⊎ HasNoAnchor q))
+    ⊎ (All (λ f. IsList f.octets → ⊥) q.files ⊎ HasNoAnchor q))
 
 -- The path that is sought to the first of the files: that one alone; below a trust anchor that is
 -- wrong; a valid path, as of its certificates and lists; or, where there is none, some files that end

@@ -62,7 +62,7 @@ AreCertificatesOf (file ∷ files) certs =
     ⊎ ((rest : List FileFields) × BeginsWithCertificate file.octets
     × AreCertificatesOf files rest × (certs ≡ file ∷ rest))
 
--- the folder has those certificates, and the lists of the files that begin with one
+-- the folder has those certificates, and the lists that files are
 pub record IsFolderOf (files certs : List FileFields) (folder : FolderFields) : Type 0 where
   pub certs_are : AreCertificatesOf files certs
   pub octets_are : folder.certs ≡ contents certs

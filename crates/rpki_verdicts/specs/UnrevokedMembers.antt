@@ -6,9 +6,9 @@ use Rattle.rpki.specs.Lists.{CrlFields, IsCertificateList}
 use Rattle.rpki.specs.AskedLists.{LeavesUnrevoked}
 use Rattle.rpki.specs.Verification.{Context}
 
--- one of the files begins with the list
+-- one of the files is the list
 abbrev pub IsGivenAmong : List (List ℕ) → CrlFields → Type 0
-IsGivenAmong files l = Any (λ octets. Means IsCertificateList l octets) files
+IsGivenAmong files l = Any (λ octets. IsCertificateList l octets) files
 
 -- Of the octets of a member, below those of its issuer: a list that was given names the issuer's
 -- key and is signed by it, is current, and doesn't have the member's serial number.

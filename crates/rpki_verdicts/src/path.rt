@@ -149,7 +149,7 @@ fn lists_of(alloc: Global, files: &[Object<'_>]) -> Result<Vec<Crl>, AllocError>
 {
     let mut all = Vec::new(alloc);
     for file in files {
-        let Some((list, _)) = file.list() else {
+        let Some(list) = file.whole_list() else {
             continue;
         };
         let kept = with_table(alloc, list)?;

@@ -2,7 +2,7 @@
 ghost use Rattle.std.specs.Prelude.{◌≡◌, ◌<◌, ◌++◌, ◌∷◌, [], All, List, length, Some, map, option_map, slice_get, IfNone, IfOk, IfSome, IsFalse, IsTrue, OnOk};
 ghost use Rattle.rpki.specs.RsaSignatures.{IsSignedByRsa};
 ghost use Rattle.rpki.specs.Verification.{context};
-ghost use Rattle.rpki_files.specs.Contents.{BeginsWithCertificate, BeginsWithList};
+ghost use Rattle.rpki_files.specs.Contents.{BeginsWithCertificate, IsList};
 ghost use Rattle.rpki_files.specs.Files.{FileFields};
 ghost use Rattle.rpki_verdicts.specs.Searches.{EndsIn, HasKeyNamed, IsSoughtPath, IsTreeWith, StandsAlone, above_by, files_at};
 ghost use Rattle.rpki_verdicts.specs.Trees.{IsTreeAnswer, asked_of, certs_of};
@@ -37,9 +37,9 @@ fn whole<'q, 'n>(path: Vec<&'q BareObject<'n>>) -> Sought<'q, 'n>
     }
 }
 
-// Whether one of the files begins with a list.
+// Whether one of the files is a list.
 fn has_list(files: &[BareObject<'_>]) -> bool
-    ensures { IsFalse result → All (λ f. BeginsWithList f.octets → ⊥) files.now }
+    ensures { IsFalse result → All (λ f. IsList f.octets → ⊥) files.now }
 {
     for file in files {
         if file.is_list() {

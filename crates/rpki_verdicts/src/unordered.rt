@@ -2,7 +2,6 @@
 //! real signatures and with the revocation lists among them.
 ghost use Rattle.std.specs.Prelude.{◌≡◌, ◌↔◌, ◌++◌, ◌∷◌, [], true, List, length, map, IfOk, IfErr, IfSome, IfNone, OnOk, IsTrue};
 ghost use Rattle.rpki.specs.AskedLists.{by_lists};
-ghost use Rattle.rpki.specs.Encoding.{Means};
 ghost use Rattle.rpki.specs.Folders.{with_cert, with_list};
 ghost use Rattle.rpki.specs.KeptLines.{BecameLines};
 ghost use Rattle.rpki.specs.Lists.{CrlState, IsCertificateList};
@@ -12,7 +11,7 @@ ghost use Rattle.rpki.specs.SaidKinds.{BeginsWithSaid};
 ghost use Rattle.rpki.specs.Verification.{context};
 ghost use Rattle.rpki.specs.WalkError.TheVariants.{Anchor};
 ghost use Rattle.rpki.specs.Walks.{Told, Tells, IsValidAnchor, IsWhyNone, at_anchor};
-ghost use Rattle.rpki_files.specs.Contents.{BeginsWithList};
+ghost use Rattle.rpki_files.specs.Contents.{IsList};
 ghost use Rattle.rpki_files.specs.Files.{FileFields};
 ghost use Rattle.rpki_verdicts.specs.Trees.{AllAccepted, accepted_count, accepts, asked_of, HasLocator, HasNoneBelow, IsAnchorAt, IsAnchorOf, IsAnchorReason, IsFolderOf, IsTreeAnswer, every};
 
@@ -92,13 +91,13 @@ fn keep_list(alloc: Global, list: &Crl, folder: &mut Folder) -> Result<(), Alloc
     Ok(())
 }
 
-// Adds the list with which a file begins to a folder.
+// Adds the list that a file is to a folder.
 fn keep_list_of(alloc: Global, file: &BareObject<'_>, folder: &mut Folder) -> Result<(), AllocError>
-    requires { BeginsWithList file.now.octets }
-    ensures { OnOk result ((kept : CrlState) × Means IsCertificateList kept.list file.now.octets
+    requires { IsList file.now.octets }
+    ensures { OnOk result ((kept : CrlState) × IsCertificateList kept.list file.now.octets
         × (kept.is_cached ≡ true) × (folder.new ≡ with_list folder.old kept)) }
 {
-    match file.list(alloc)? {
+    match file.whole_list(alloc)? {
         Some(list) => {
             let kept = keep_list(alloc, &list, folder);
             drop(list);
@@ -108,7 +107,8 @@ fn keep_list_of(alloc: Global, file: &BareObject<'_>, folder: &mut Folder) -> Re
     }
 }
 
-// Adds what a file begins with to a folder, and the file to those that begin with certificates.
+// Adds the certificate with which a file begins, or the list that it is, to a folder, and the file to
+// those that begin with certificates.
 fn add_file<'q, 'n>(
     alloc: Global,
     file: &'q BareObject<'n>,
@@ -126,7 +126,8 @@ fn add_file<'q, 'n>(
     }
 }
 
-// Fills an empty folder with what files begin with, and returns those that begin with certificates.
+// Fills an empty folder with the certificates and the lists of files, and returns those that begin with
+// certificates.
 fn filed<'q, 'n>(
     alloc: Global,
     files: &'q [BareObject<'n>],

@@ -9,11 +9,11 @@ pub returns-in-Some : goal.returns-in-Some
 returns-in-Some c =
     let file = c.args.object.now in
     let old = c.args.page.now in
-    let new = c.print_left.new.page in
+    let new = c.print_begun_list.new.page in
     let left : Option ℕ = Some c.in-Some.left in
     let found = rw c.in-Some.is at c.list.ensures in
     such_appended (IsListPart file) old new (list_part file.name left) (left, (_, found.0, found.1, found.2), refl)
-    (subst (λ (name : List ℕ). Appends old (list_part name left) new) c.name.ensures c.print_left.ensures)
+    (subst (λ (name : List ℕ). Appends old (list_part name left) new) c.name.ensures c.print_begun_list.ensures)
 
 pub returns-in-None : goal.returns-in-None
 returns-in-None c =

@@ -3,7 +3,7 @@ use Rattle.rpki_requests.proofs.RevokedFiles.{own_is, own_not}
 use Rattle.rpki_requests.proofs.lists.own_list.Goals as goal
 
 pub returns-in_default : goal.returns-in_default
-returns-in_default c = λ w h. c.in_default.ensures w h.is_list
+returns-in_default c = λ w h. c.in_default.ensures (w, h.is_list)
 
 pub returns-then-not-is_own : goal.returns-then-not-is_own
 returns-then-not-is_own c =

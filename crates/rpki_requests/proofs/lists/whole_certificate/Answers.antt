@@ -1,5 +1,5 @@
 use Rattle.rpki.specs.Certificates.{IsCertificate}
-use Rattle.rpki_requests.proofs.FoundOctets.{found_none, found_part, found_whole}
+use Rattle.rpki_files.proofs.FoundOctets.{found_none, found_part, found_whole}
 use Rattle.rpki_requests.proofs.lists.whole_certificate.Goals as goal
 
 pub returns-in_default : goal.returns-in_default

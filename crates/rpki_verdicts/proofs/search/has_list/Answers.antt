@@ -2,7 +2,7 @@ use Rattle.std.specs.Prelude.{IsTrue, slice_index_or}
 use Rattle.std.proofs.Common.{◌≡◌, ℕ, inl, inr, sym, subst, ◌∙◌, arith}
 use Rattle.std.proofs.lemmas.Bool.{cases_eq, false≢true}
 use Rattle.std.proofs.lemmas.List.{get_or_default}
-use Rattle.rpki_files.specs.Contents.{BeginsWithList}
+use Rattle.rpki_files.specs.Contents.{IsList}
 use Rattle.rpki_files.specs.Files.{FileFields}
 use Rattle.rpki_verdicts.proofs.search.has_list.Goals as goal
 
@@ -14,7 +14,7 @@ loop-file-preserved c = λ k d low begins.
     elim (cases_eq k i) [
       | inl same ↦
           let here : slice_index_or files k d ≡ file = subst (λ (n : ℕ). slice_index_or files n d ≡ file) (sym same) (get_or_default files i d file c.loop-file-test.true ∙ sym c.file-item.is) in
-          let yes : IsTrue c.is_list.result = c.is_list.ensures.1 (subst (λ (f : FileFields). BeginsWithList f.octets) here begins) in
+          let yes : IsTrue c.is_list.result = c.is_list.ensures.1 (subst (λ (f : FileFields). IsList f.octets) here begins) in
           false≢true (sym c.if-is_list.false ∙ yes)
       | inr other ↦ c.loop-file.invariant k d (omega (arith, low, other)) begins
     ]

@@ -1,4 +1,4 @@
-use Rattle.std.proofs.Common.{inl, inr, map}
+use Rattle.std.proofs.Common.{map}
 use Rattle.rpki_verdicts.proofs.FiledFiles.{added_certificate, added_list, filed_neither}
 use Rattle.rpki_verdicts.proofs.unordered.add_file.Goals as goal
 
@@ -21,4 +21,4 @@ returns-in-List c = λ files so_far.
 pub returns-in-Neither : goal.returns-in-Neither
 returns-in-Neither c = λ files so_far.
     let is = rw c.in-Neither.is at c.front.ensures in
-    filed_neither files (map (λ f. f.now) c.args.certs.now.items) c.args.folder.now so_far c.args.file.now (λ begins. is (inl begins)) (λ begins. is (inr begins))
+    filed_neither files (map (λ f. f.now) c.args.certs.now.items) c.args.folder.now so_far c.args.file.now is.0 is.1
