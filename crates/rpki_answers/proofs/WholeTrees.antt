@@ -65,7 +65,7 @@ certificate_whole false tree file its pairs is = line_whole tree file its pairs 
 front_whole : (tree : Tree) (place next : ℕ) (file : FileFields) (pairs : List Pair) → AreFrontMembers tree place next file pairs → AreWhole pairs
 front_whole tree place next file pairs (inl is) = certificate_whole (place == tree.anchor) tree file _ pairs is.1
 front_whole tree place next file pairs (inr (inl is)) = word_whole (codes "list") pairs is.1
-front_whole tree place next file pairs (inr (inr is)) = word_whole (codes "neither") pairs is.1
+front_whole tree place next file pairs (inr (inr is)) = word_whole (codes "neither") pairs is.2
 
 members_whole : (tree : Tree) (place next : ℕ) (file : FileFields) (pairs : List Pair) → AreFileMembers tree place next file pairs → AreWhole pairs
 members_whole tree place next file pairs is =

@@ -69,9 +69,12 @@ abbrev pub SaysOfBegun : Tree → ℕ → FileFields → ℕ → List ℕ → Ty
 SaysOfBegun tree place file left said =
     (of_it : List ℕ) × SaysOfCertificate tree place file of_it × (said ≡ of_it ++ behind_text left)
 
--- that a file is neither, and why, where it begins with a list and so many octets stand behind that
+-- why a file is neither, where it begins with a list and so many octets stand behind that
+abbrev pub since_text : ℕ → List ℕ
+since_text left = if left == 0 then [] else behind_list_text left
+
 abbrev pub neither_text : ℕ → List ℕ
-neither_text left = codes "neither a certificate nor a list" ++ (if left == 0 then [] else behind_list_text left)
+neither_text left = codes "neither a certificate nor a list" ++ since_text left
 
 -- what is said of a file, where so many octets stand behind the certificate or the list that it begins
 -- with, the next certificate stands at this place, and one behind it at the next: a file is a list only

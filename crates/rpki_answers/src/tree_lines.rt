@@ -8,7 +8,7 @@ ghost use Rattle.rpki_verdicts.specs.PathAnswers.{reason_of};
 ghost use Rattle.rpki_verdicts.specs.Trees.{asked_of};
 ghost use Rattle.rpki_verdicts.specs.declared.unordered.TreeAnswer.TheVariants.{Walked};
 ghost use Rattle.rpki_answers.specs.ShownTexts.{left_text};
-ghost use Rattle.rpki_answers.specs.TreeTexts.{AreFileLines, IsAnswerText, IsFileLine, IsTreeText, SaysOfBegun, SaysOfCertificate, SaysOfFile, SaysOfFront, SaysOfLine, accepted_text, behind_text, end_text, ended_text, file_line, further_text, name_text_at, neither_text, rejection_text};
+ghost use Rattle.rpki_answers.specs.TreeTexts.{AreFileLines, IsAnswerText, IsFileLine, IsTreeText, SaysOfBegun, SaysOfCertificate, SaysOfFile, SaysOfFront, SaysOfLine, accepted_text, behind_text, end_text, ended_text, file_line, further_text, name_text_at, neither_text, rejection_text, since_text};
 ghost use Rattle.rpki_answers.specs.VerdictTexts.{locators_text, moment_line, no_locator_text};
 
 use crate::showing::left_over;
@@ -138,14 +138,20 @@ fn print_begun(
     print_behind(page, left);
 }
 
-// That a file is neither, and why, where so many octets stand behind a list that it begins with.
+// Why a file is neither, where so many octets stand behind a list that it begins with.
+fn print_since(page: &mut Page, left: usize)
+    ensures { Appends page.old (since_text left) page.new }
+{
+    if left > 0 {
+        print_behind_list(page, left);
+    }
+}
+
 fn print_neither(page: &mut Page, left: usize)
     ensures { Appends page.old (neither_text left) page.new }
 {
     page.text("neither a certificate nor a list");
-    if left > 0 {
-        print_behind_list(page, left);
-    }
+    print_since(page, left);
 }
 
 // What is said of a file, where the next certificate stands at this place, and so many octets stand
