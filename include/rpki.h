@@ -5,7 +5,7 @@
  *   - Every function ends, for all octets, lengths and numbers. Nothing that it does is undefined,
  *     as long as the caller keeps the rules below.
  *   - Octets are read as a certificate or list exactly where they begin with one, unless memory
- *     runs out.
+ *     runs out. They are asked about revocation as a list exactly where they are one.
  *   - A path is accepted exactly where its members are a valid path, by the definitions of
  *     crates/rpki_path/specs (Judging.antt, Paths.antt), and its anchor has the locator's key where
  *     that is asked, unless memory runs out.
@@ -35,7 +35,9 @@
  * Every function:
  *   - It keeps no pointer, holds no lock and has no state. Threads may call side by side.
  *   - What it takes by malloc it gives back before it ends, so nothing has to be freed.
- *   - Octets are DER. What follows a certificate or list in them is ignored.
+ *   - Octets are DER. What follows a certificate in them is ignored, and so is what follows a list
+ *     that is read or asked alone. What is given as a list to a question, or before another one, ends
+ *     with the list: what follows may be a list that revokes.
  *   - It answers RPKI_OK or the number of a fault. A number never gets another meaning.
  *   - After a fault, what it writes says nothing, unless its comment says more.
  *
@@ -371,7 +373,9 @@ enum rpki_trust { RPKI_ASK_LOCATOR = 0, RPKI_AS_GIVEN = 1 };
 struct rpki_question {
     size_t size;                 /* is sizeof(struct rpki_question) */
     struct rpki_strings members; /* are certificates, the anchor first */
-    struct rpki_strings lists;   /* are revocation lists; nobody reads them with RPKI_ASK_NOBODY */
+    struct rpki_strings lists;   /* are revocation lists, with nothing behind each: else the fault is
+                                  * RPKI_DECODE_TRAILING, as where two lists stand in one string.
+                                  * Nobody reads them with RPKI_ASK_NOBODY */
     const uint8_t *locator;      /* is a locator's file; nobody reads it with RPKI_AS_GIVEN */
     size_t locator_length;
     struct rpki_time moment;
@@ -480,7 +484,7 @@ enum rpki_fate {
     RPKI_LINE_ACCEPTED = 2, /* the last member of a valid path */
     RPKI_LINE_REJECTED = 3, /* a certificate that is wrong below each valid path that was tried */
     RPKI_LINE_LIST = 4,     /* a revocation list, be it asked or not */
-    RPKI_LINE_NEITHER = 5   /* octets that begin with neither */
+    RPKI_LINE_NEITHER = 5   /* octets that are neither; also a list with octets behind it */
 };
 
 /* Tells what became of a string. A number that its comment doesn't speak of is 0. */
@@ -618,8 +622,8 @@ uint32_t rpki_complete(const struct rpki_completion *completion, uint8_t *out, s
 struct rpki_wanted_list {
     size_t size;                 /* is sizeof(struct rpki_wanted_list) */
     struct rpki_question issuer; /* is as in struct rpki_wanted, and has members */
-    const uint8_t *previous;     /* is the issuer's list before, which the same key signed; with
-                                  * length 0 there was none */
+    const uint8_t *previous;     /* is the issuer's list before, which the same key signed, with
+                                  * nothing behind it; with length 0 there was none */
     size_t previous_length;
     const struct rpki_entry *revoked; /* are revoked now, beside all that the list before has */
     size_t revoked_count;

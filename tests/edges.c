@@ -823,6 +823,27 @@ static uint32_t listed(const struct file *lists, size_t list_count, const struct
     return fault;
 }
 
+/* a list with octets behind it, which may be another one that revokes, is none (RFC 6487 5) */
+static void behind(struct file anchor, struct file first, struct file own, struct file other) {
+    const struct file path[] = {anchor, first}, zero = {(uint8_t[]){0}, 1};
+    const struct file pairs[][2] = {{own, other}, {other, own}, {own, own}, {own, zero}, {own, first}};
+    struct rpki_verdict out;
+    for (size_t i = 0; i < sizeof pairs / sizeof *pairs; i++) {
+        size_t parts[2];
+        struct file both = joined(pairs[i], 2, parts);
+        check(listed(&both, 1, path, 2, RPKI_AUTHORITY, &now, &out) == RPKI_DECODE_TRAILING && out.index == 2,
+              "octets stand behind a list");
+        check(listed(&both, 1, path, 1, RPKI_AUTHORITY, &now, &out) == RPKI_DECODE_TRAILING && out.index == 1,
+              "octets stand behind a list that nobody asks");
+        check(listed((struct file[]){own, both}, 2, path, 2, RPKI_AUTHORITY, &now, &out) == RPKI_DECODE_TRAILING
+                  && out.index == 3,
+              "octets stand behind the second list");
+        struct rpki_list read;
+        check(rpki_list_read(both.octets, both.length, &read) == RPKI_OK, "octets begin with a list");
+        free(both.octets);
+    }
+}
+
 /* lists that are none, that nobody asks, and whose lengths don't add up */
 static void asked(struct file anchor, struct file first, struct file own, struct file other) {
     const struct file path[] = {anchor, first}, both_lists[] = {own, other};
@@ -1250,6 +1271,18 @@ static void folders(const char *examples) {
     check(judge_folder(&it, question, 9) == RPKI_OTHER_KEY && it.walk.anchor == 0, "an anchor that is cut short is none");
     it.files[3] = anchor;
 
+    /* a list with octets behind it is none */
+    const struct file list = it.files[6];
+    struct file more = {malloc(list.length + 1), list.length + 1};
+    memcpy(more.octets, list.octets, list.length);
+    more.octets[list.length] = 0;
+    it.files[6] = more;
+    check(judge_folder(&it, question, 9) == RPKI_OK && is_line(it.lines[6], RPKI_LINE_NEITHER, 0, 0, 0)
+              && is_line(it.lines[2], RPKI_LINE_REJECTED, RPKI_REVOCATION_NO_CRL, 1, 0),
+          "an octet stands behind the anchor's list");
+    it.files[6] = list;
+    free(more.octets);
+
     /* several of one, and some that are missing */
     free(it.files[7].octets);
     it.files[7] = anchor, it.files[8] = it.files[0];
@@ -1569,6 +1602,12 @@ static void lists_wanted(struct rpki_wanted_list good, struct file other) {
     no_list(wanted, RPKI_VERIFICATION_EXPIRED, 0, "the list's issuer has expired");
     wanted = good, wanted.previous_length--;
     no_list(wanted, RPKI_ISSUING_OTHER_LIST, 1, "a cut list is none");
+    struct file more = {malloc(good.previous_length + 1), good.previous_length + 1};
+    memcpy(more.octets, good.previous, good.previous_length);
+    more.octets[good.previous_length] = 0;
+    wanted = good, wanted.previous = more.octets, wanted.previous_length = more.length;
+    no_list(wanted, RPKI_ISSUING_OTHER_LIST, 1, "nothing stands behind the list before");
+    free(more.octets);
     wanted = good, wanted.previous = other.octets, wanted.previous_length = other.length;
     no_list(wanted, RPKI_ISSUING_OTHER_LIST, 1, "the list of another issuer");
     wanted = good, wanted.number[19] = 1;
@@ -1713,6 +1752,7 @@ int main(int count, char **words) {
     signatures(anchor, first);
     choices(anchor, empty);
     asked(anchor, first, empty, list);
+    behind(anchor, first, empty, list);
     orders(words[3]);
     routers(above, router, trimming);
     no_router(anchor, first, second, empty);

@@ -235,9 +235,12 @@ def _fault(
     return kind(number, member, revocation_list, stop)
 
 
-def _stop(octets: bytes, is_list: bool) -> _Stop:
-    """Where the reading of octets stops that are no certificate, or no list."""
+def _stop(octets: bytes, is_list: bool) -> _Stop | None:
+    """Where the reading of octets stops that are no certificate, or no list; None of a list with
+    octets behind it, which can be read."""
     octet, field = raw.stop_text(octets, is_list, raw.PART_NAME)
+    if not field:
+        return None
     wanted, found = (
         raw.stop_text(octets, is_list, which)[1] for which in (raw.PART_WANTED, raw.PART_FOUND)
     )
@@ -654,8 +657,9 @@ def validate(
     7935). Whether the RPKI uses the last member's own key isn't asked; `rpki validate` asks it.
 
     `lists` are revocation lists, in any order: each member below the trust anchor has to be unrevoked
-    by the latest list of its issuer that has begun. They have to be given; `lists=None` says that
-    nothing of revocation is asked, so that a revoked member is accepted.
+    by the latest list of its issuer that has begun. Each stands alone: behind one nothing may stand,
+    since that may be another one. They have to be given; `lists=None` says that nothing of
+    revocation is asked, so that a revoked member is accepted.
 
     `locator` is the file of a trust anchor locator (RFC 8630): then the trust anchor has to have its
     key. With None, the trust anchor is taken as given.

@@ -262,6 +262,14 @@ class Paths(unittest.TestCase):
             validate(self.members[:2], last=Kind.AUTHORITY, lists=lists, at=self.noon)
         self.assertEqual((caught.exception.member, caught.exception.revocation_list), (None, 1))
         self.assertEqual((caught.exception.octet, caught.exception.field), (8, "the version"))
+        # two lists one behind the other, whichever revokes, and an octet behind one
+        second, revoked = self.lists[1], octets("revoked.crl")
+        for behind in (second + revoked, revoked + second, second + b"\0"):
+            with self.assertRaises(rpki.DecodeFault) as caught:
+                lists = [self.lists[0], behind]
+                validate(self.members[:3], last=Kind.AUTHORITY, lists=lists, at=self.noon)
+            it = caught.exception
+            self.assertEqual((it.name, it.revocation_list, it.octet), ("Trailing", 1, None))
 
     def test_where_reading_stops(self) -> None:
         cert = octets("first.cer")

@@ -370,7 +370,8 @@ impl AsRef<[u8]> for RevocationList {
 #[derive(Clone, Debug)]
 pub enum Revocation<'a> {
     /// These revocation lists, in any order: each member below the trust anchor has to be unrevoked by
-    /// the latest list of its issuer that has begun. `by_lists` makes it of any that are at hand.
+    /// the latest list of its issuer that has begun. Each stands alone: behind one nothing may stand,
+    /// since that may be another one. `by_lists` makes it of any that are at hand.
     ByLists(Vec<&'a [u8]>),
     /// Nothing: a revoked member is accepted.
     NotAsked,

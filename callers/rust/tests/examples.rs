@@ -202,6 +202,16 @@ fn paths_are_rejected() {
         (fault.kind(), fault.place()),
         (FaultKind::Decode, Some(Place::List(1)))
     );
+    // two lists one behind the other, and an octet behind one
+    for more in [&revoked[..], &[0]] {
+        let behind = [&lists[1][..], more].concat();
+        rejected(
+            &under(Revocation::by_lists([&lists[0], &behind])),
+            NOON,
+            "Trailing",
+            Some(Place::List(1)),
+        );
+    }
     let other = [&members[0], &members[1], &tampered];
     let path = Path::new(other, Kind::Authority, Revocation::NotAsked);
     let fault = rejected(&path, NOON, "BadSignature", Some(Place::Member(2)));

@@ -15,7 +15,7 @@ use Rattle.rpki_path.specs.LocatedPaths.{BeginsWithKey}
 use Rattle.rpki_folder.specs.Folders.{FolderFields, with_cert, with_list, octets_at, BeginsNoCertificate}
 use Rattle.rpki_folder.specs.declared.folder.Added.{Added}
 use Rattle.rpki_folder.specs.declared.folder.Added.TheVariants.{Certificate, List as list_added, Neither}
-use Rattle.rpki_c.specs.Verdicts.{BeginsNoList}
+use Rattle.rpki_c.specs.Verdicts.{AreNoList}
 use Rattle.rpki_c.specs.FolderFates.{IsTakenFor, IsNoList, AreListsAmong, AreCertificatesAmong}
 use Rattle.rpki_c.specs.FolderFates.Steps.{IsAddedAs, AreSorted}
 
@@ -38,7 +38,7 @@ list_more (s ∷ strings) lists octets l taken h = elim h [
 certificate_no_list : (octets : List ℕ) (c : CertFields) → Means IsCertificate c octets → IsNoList octets
 certificate_no_list octets c means l taken = taken.no_certificate c means
 
-neither_no_list : (octets : List ℕ) → BeginsNoList octets → IsNoList octets
+neither_no_list : (octets : List ℕ) → AreNoList octets → IsNoList octets
 neither_no_list octets never l taken = never l.list taken.list_is
 
 -- ---- certificates
@@ -138,7 +138,7 @@ module _ (strings : List (List ℕ)) (octets : List ℕ) (f g : FolderFields) (a
       (other_more strings octets f added origins old list_added (with_list f l) refl (λ place e. cc) (l, taken) taken.no_certificate (list_more strings f.lists octets l taken old.lists_are)))
 
   -- a string that begins with neither
-  pub sorted_neither : BeginsNoCertificate octets → BeginsNoList octets → g ≡ f → addeds ≡ added ++ Neither ∷ [] → AreSorted (strings ++ octets ∷ []) g addeds origins
+  pub sorted_neither : BeginsNoCertificate octets → AreNoList octets → g ≡ f → addeds ≡ added ++ Neither ∷ [] → AreSorted (strings ++ octets ∷ []) g addeds origins
   sorted_neither no_cert no_list folder items =
       subst (λ (l : List Added). AreSorted (strings ++ octets ∷ []) g l origins) (sym items)
       (subst (λ (h : FolderFields). AreSorted (strings ++ octets ∷ []) h (added ++ Neither ∷ []) origins) (sym folder)

@@ -16,14 +16,14 @@ use Rattle.rpki_folder.specs.Walks.{Root, at_anchor, members_at, LeadsTo, IsReac
 use Rattle.rpki_folder.specs.declared.bounds.Ended.{Ended}
 use Rattle.rpki_folder.specs.declared.bounds.Ended.TheVariants.{TooDeep, OutOfSteps}
 use Rattle.rpki_c.specs.FolderQuestions.{asked_or, usual_steps}
-use Rattle.rpki_c.specs.Verdicts.{BeginsNoList}
+use Rattle.rpki_c.specs.Verdicts.{AreNoList}
 pub mod Steps
 
 -- ---- strings
 
--- the octets are taken for this list: they begin with it, and with no certificate
+-- the octets are taken for this list: they are it, and begin with no certificate
 pub record IsTakenFor (octets : List ℕ) (l : CrlState) : Type 0 where
-  pub list_is : Means IsCertificateList l.list octets
+  pub list_is : IsCertificateList l.list octets
   pub no_certificate : BeginsNoCertificate octets
 
 -- the octets are taken for no list
@@ -72,7 +72,7 @@ IsFate x asked root strings top place anchor = place ≡ top
 IsFate x asked root strings top place list =
     (l : CrlState) × IsTakenFor (octets_at strings place) l
 IsFate x asked root strings top place neither =
-    BeginsNoCertificate (octets_at strings place) × BeginsNoList (octets_at strings place)
+    BeginsNoCertificate (octets_at strings place) × AreNoList (octets_at strings place)
 IsFate x asked root strings top place unseen =
     (c : CertFields) × Means IsCertificate c (octets_at strings place)
 IsFate x asked root strings top place (accepted above) = IsReached x asked root strings above place

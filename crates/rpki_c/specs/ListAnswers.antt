@@ -8,7 +8,7 @@ use Rattle.rpki_crl.specs.Lists.{CrlFields, CrlState, IsCertificateList, IsTbsCe
 use Rattle.rpki_crl.specs.RevokedEntries.{Revoked}
 use Rattle.rpki_issuing.specs.Issuers.{IsOwnList}
 use Rattle.rpki_issuing.specs.WantedLists.{IsListCompleted, IsListPrepared, IsListWanted, WantedListFields}
-use Rattle.rpki_c.specs.Verdicts.{BeginsNoList}
+use Rattle.rpki_c.specs.Verdicts.{AreNoList}
 use Rattle.rpki_c.specs.WantedAnswers.{IsAuthorityOf, IsNoAuthority}
 use Rattle.rpki_c.specs.WantedLists.{GivesList, HasListCompletionTerms, HasListTerms, HasNoListCompletionTerms, HasNoListTerms, HaveDates}
 use Rattle.rpki_c.specs.declared.list_completing.RpkiListCompletion.{RpkiListCompletion}
@@ -20,25 +20,24 @@ use Rattle.rpki_c.specs.declared.wanted_list.RpkiWantedList.{RpkiWantedList}
 
 -- ---- the list before
 
--- the octets begin with this list of the issuer
-abbrev pub BeginsWithOwn : TbsFields → List ℕ → CrlState → Type 0
-BeginsWithOwn issuer octets list =
-    Means IsCertificateList list.list octets × IsOwnList issuer list.list
+-- the octets are this list of the issuer
+abbrev pub IsOwn : TbsFields → List ℕ → CrlState → Type 0
+IsOwn issuer octets list = IsCertificateList list.list octets × IsOwnList issuer list.list
 
--- they begin with no list, or with one that isn't the issuer's
-abbrev pub BeginsWithOther : TbsFields → List ℕ → Type 0
-BeginsWithOther issuer octets =
-    BeginsNoList octets
-    ⊎ ((list : CrlFields) × Means IsCertificateList list octets × (IsOwnList issuer list → ⊥))
+-- they are no list, or one that isn't the issuer's
+abbrev pub AreOther : TbsFields → List ℕ → Type 0
+AreOther issuer octets =
+    AreNoList octets
+    ⊎ ((list : CrlFields) × IsCertificateList list octets × (IsOwnList issuer list → ⊥))
 
 -- the list before; where there are no octets, there was none
 abbrev pub IsPreviousOf : TbsFields → List ℕ → Option CrlState → Type 0
 IsPreviousOf issuer octets None = octets ≡ []
-IsPreviousOf issuer octets (Some list) = BeginsWithOwn issuer octets list
+IsPreviousOf issuer octets (Some list) = IsOwn issuer octets list
 
 -- why none is found
 abbrev pub IsNoPrevious : TbsFields → List ℕ → Unissued → Type 0
-IsNoPrevious issuer octets why.OtherList = BeginsWithOther issuer octets
+IsNoPrevious issuer octets why.OtherList = AreOther issuer octets
 IsNoPrevious issuer octets why.Memory = Unit {0}
 IsNoPrevious issuer octets _ = ⊥
 

@@ -50,9 +50,14 @@ IsUncalled P _ = ⊥
 abbrev pub BeginsNoList : List ℕ → Type 0
 BeginsNoList octets = (l : CrlFields) → Means IsCertificateList l octets → ⊥
 
--- the octets of the list at this place begin with none
+-- the octets are no list; nor are they one where others stand behind it, which may be a list that
+-- revokes
+abbrev pub AreNoList : List ℕ → Type 0
+AreNoList octets = (l : CrlFields) → IsCertificateList l octets → ⊥
+
+-- the octets of the list at this place are none
 abbrev pub IsUnreadList : List (List ℕ) → Refusal → Type 0
-IsUnreadList strings (refusal.List place e) = (place < length strings) × Rejects e (BeginsNoList (get_or strings place []))
+IsUnreadList strings (refusal.List place e) = (place < length strings) × Rejects e (AreNoList (get_or strings place []))
 IsUnreadList strings refusal.Memory = Unit {0}
 IsUnreadList strings _ = ⊥
 
@@ -75,15 +80,15 @@ AnswersJudged x asked path (Ok judged) = IsAcceptedWith x asked path judged
 AnswersJudged x asked path (Err (refusal.Member e)) = Judges x asked path (Err e)
 AnswersJudged x asked path _ = ⊥
 
--- the octets begin with this list
-abbrev pub BeginsWithGiven : List ℕ → CrlState → Type 0
-BeginsWithGiven octets l = Means IsCertificateList l.list octets
+-- the octets are this list
+abbrev pub IsGiven : List ℕ → CrlState → Type 0
+IsGiven octets l = IsCertificateList l.list octets
 
--- the answer, where the lists with which these octets begin are asked
+-- the answer, where the lists that these octets are are asked
 abbrev pub AnswersListed : Context → PathStrings → List (List ℕ) → Result Judged Refusal → Type 0
 AnswersListed x path octets r =
     Refused (IsUnreadList octets) r
-    ⊎ ((lists : List CrlState) × AllZip BeginsWithGiven octets lists × AnswersJudged x (by_lists x lists) path r)
+    ⊎ ((lists : List CrlState) × AllZip IsGiven octets lists × AnswersJudged x (by_lists x lists) path r)
 
 -- the answer, where the caller's lists are asked
 abbrev pub AnswersWith : Context → PathStrings → RpkiStrings → Result Judged Refusal → Type 0

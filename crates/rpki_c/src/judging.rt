@@ -47,7 +47,7 @@ fn judge_lists<V: Verifier>(
     judge(alloc, path, &asked, terms.strict, terms.now, verifier)
 }
 
-// The answer of the path, where the lists are asked with which these octets begin.
+// The answer of the path, where the lists that these octets are are asked.
 fn judge_listed<V: Verifier>(
     alloc: Global,
     path: &GivenPath<'_, '_>,

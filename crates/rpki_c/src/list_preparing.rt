@@ -1,13 +1,13 @@
 //! What is to be signed of a revocation list that a caller wants.
 ghost use Rattle.std.specs.Prelude.{◌≡◌, ◌⊎◌, option_map, IfErr, IfOk};
-ghost use Rattle.rpki_ext.specs.Kinds.{Means};
 ghost use Rattle.rpki_crl.specs.Lists.{IsCertificateList};
-ghost use Rattle.rpki_c.specs.ListAnswers.{AnswersBehind, AnswersListBelow, AnswersListFields, AnswersListTerms, AnswersWantedList, BeginsWithOwn, IsNoPrevious, IsPreviousOf};
+ghost use Rattle.rpki_c.specs.ListAnswers.{AnswersBehind, AnswersListBelow, AnswersListFields, AnswersListTerms, AnswersWantedList, IsNoPrevious, IsOwn, IsPreviousOf};
 ghost use Rattle.rpki_issuing.specs.Issuers.{IsOwnList};
-ghost use Rattle.rpki_c.specs.Verdicts.{BeginsNoList};
+ghost use Rattle.rpki_c.specs.Verdicts.{AreNoList};
 ghost use Rattle.rpki_c.specs.declared.unissued.Unissued.TheVariants.{Memory, OtherList};
 
 use crate::issuer::authority_of;
+use crate::lists::whole_list;
 use crate::preparing::unfit;
 use crate::unissued::Unissued;
 use crate::wanted_list::{ListTerms, RpkiWantedList, list_given, list_terms_of};
@@ -18,12 +18,15 @@ use rpki_issuing::wanted::issuers::is_own;
 use rpki_issuing::wanted::{list_fields, prepare_list_octets};
 use std::alloc::Global;
 
-// The list that the octets begin with.
+// The list that the octets are.
 fn read_list(alloc: Global, octets: &[u8]) -> Result<Crl, Unissued>
-    ensures read { IfOk result (λ l. Means IsCertificateList l.list octets.now) }
-    ensures none { IfErr result (λ e. (e ≡ Memory) ⊎ ((e ≡ OtherList) × BeginsNoList octets.now)) }
+    ensures read { IfOk result (λ l. IsCertificateList l.list octets.now) }
+    ensures none { IfErr result (λ e. (e ≡ Memory) ⊎ ((e ≡ OtherList) × AreNoList octets.now)) }
 {
-    match Crl::decode(alloc, octets) {
+    let octets = Bytes::copy_from_slice(alloc, octets)?;
+    let list = whole_list(alloc, &octets);
+    drop(octets);
+    match list {
         Ok(list) => Ok(list),
         Err(error) => {
             let is_memory = error.is_memory();
@@ -50,9 +53,9 @@ fn owned_by(list: Crl, issuer: &ResourceCert) -> Result<Crl, Unissued>
     Err(Unissued::OtherList)
 }
 
-// The list that the octets begin with, if it is one of the issuer.
+// The list that the octets are, if it is one of the issuer.
 fn own_list(alloc: Global, octets: &[u8], issuer: &ResourceCert) -> Result<Crl, Unissued>
-    ensures own { IfOk result (BeginsWithOwn issuer.now.cert.fields octets.now) }
+    ensures own { IfOk result (IsOwn issuer.now.cert.fields octets.now) }
     ensures other { IfErr result (IsNoPrevious issuer.now.cert.fields octets.now) }
 {
     match read_list(alloc, octets) {

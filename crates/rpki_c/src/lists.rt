@@ -8,7 +8,7 @@ ghost use Rattle.rpki_crl.specs.Lists.{CrlFields, IsCertificateList};
 ghost use Rattle.rpki_crl.specs.RevokedEntries.{IsRevoked};
 ghost use Rattle.rpki_crl.specs.RevokedEntries.Views.{entry_of};
 ghost use Rattle.rpki_c.specs.Contents.{AreEntriesPut, AreTold, IsFlag, TellsEntry, TellsList, serial_in, told_count};
-ghost use Rattle.rpki_c.specs.Verdicts.{BeginsNoList, BeginsWithGiven, IsUnreadList};
+ghost use Rattle.rpki_c.specs.Verdicts.{BeginsNoList, IsGiven, IsUnreadList};
 ghost use Rattle.rpki_c.specs.Writing.{IsWritten};
 
 use crate::copying::put_octets;
@@ -16,8 +16,8 @@ use crate::faults::{BAD_CALL, MEMORY, NONE, of_decoding};
 use crate::moments::{RpkiTime, parts_of};
 use crate::refusal::Refusal;
 use bytes::Bytes;
-use rpki_crl::{Crl, CrlEntry};
-use rpki_der::{DecodeError, Serial};
+use rpki_crl::{Crl, CrlEntry, laws};
+use rpki_der::{Cursor, DecodeError, Serial};
 use std::alloc::{AllocError, Global};
 
 /// What a list holds that has a fixed size.
@@ -273,12 +273,27 @@ pub extern "C" fn rpki_list_ask(
     }
 }
 
-/// Reads the list that the octets begin with, and puts its serial numbers into a table.
-pub(crate) fn list_of(alloc: Global, octets: &Bytes) -> Result<Crl, DecodeError>
-    ensures { let front = Means IsCertificateList in
-        MeansOrMemoryBy (λ l. l.list) front result octets.now }
+/// Reads the list that the octets are. Octets behind a list are an error, since they may be another
+/// one.
+pub(crate) fn whole_list(alloc: Global, octets: &Bytes) -> Result<Crl, DecodeError>
+    ensures { MeansOrMemoryBy (λ l. l.list) IsCertificateList result octets.now }
 {
-    let mut list = Crl::decode_shared(alloc, octets.clone()?)?;
+    // Called for what it ensures alone.
+    laws::unambiguous();
+    let mut cursor = Cursor::new(octets);
+    let list = Crl::take_from(alloc, &mut cursor)?;
+    if cursor.rest().is_empty() {
+        return Ok(list);
+    }
+    drop(list);
+    Err(DecodeError::Trailing)
+}
+
+/// Reads the list that the octets are, and puts its serial numbers into a table.
+pub(crate) fn list_of(alloc: Global, octets: &Bytes) -> Result<Crl, DecodeError>
+    ensures { MeansOrMemoryBy (λ l. l.list) IsCertificateList result octets.now }
+{
+    let mut list = whole_list(alloc, octets)?;
     match list.cache_serials(alloc) {
         Ok(()) => Ok(list),
         Err(error) => {
@@ -297,7 +312,7 @@ fn append(lists: &mut Vec<Crl>, list: Crl) -> Result<(), AllocError>
 
 /// Reads a list of each of these octets, with its serial numbers in a table.
 pub(crate) fn lists_of(alloc: Global, strings: &[Bytes]) -> Result<Vec<Crl>, Refusal>
-    ensures lists { IfOk result (λ it. AllZip BeginsWithGiven strings.now it.items) }
+    ensures lists { IfOk result (λ it. AllZip IsGiven strings.now it.items) }
     ensures unread { IfErr result (IsUnreadList strings.now) }
 {
     let mut lists = Vec::new(alloc);

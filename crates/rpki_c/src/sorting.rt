@@ -7,7 +7,7 @@ ghost use Rattle.rpki_path.specs.LocatedPaths.{BeginsWithKey};
 ghost use Rattle.rpki_folder.specs.Folders.{octets_at, BeginsNoCertificate};
 ghost use Rattle.rpki_c.specs.FolderFates.{IsTakenFor, IsFirstWithKey, NoneHasKey};
 ghost use Rattle.rpki_c.specs.FolderFates.Steps.{BeginsAs, AreSortedIn, IsSorted};
-ghost use Rattle.rpki_c.specs.Verdicts.{BeginsNoList};
+ghost use Rattle.rpki_c.specs.Verdicts.{AreNoList};
 
 use crate::lists::list_of;
 use bytes::Bytes;
@@ -18,7 +18,7 @@ use rpki_folder::{Added, Folder};
 use rpki_keys::tal::Tal;
 use std::alloc::{AllocError, Global};
 
-// What octets begin with.
+// A certificate with which octets begin, a list that they are, or neither.
 #[derive(Drop)]
 enum Front {
     Certificate(Cert),
@@ -35,7 +35,7 @@ fn rejects(fault: DecodeError) -> Result<(), AllocError>
     if is_memory { Err(AllocError) } else { Ok(()) }
 }
 
-// What octets begin with that begin with no certificate.
+// What octets are that begin with no certificate.
 #[tactic(auto, using(crate::proofs::Unread::unless_memory))]
 fn other_front(alloc: Global, octets: &Bytes) -> Result<Front, AllocError>
     requires { BeginsNoCertificate octets.now }
@@ -50,7 +50,7 @@ fn other_front(alloc: Global, octets: &Bytes) -> Result<Front, AllocError>
     }
 }
 
-// What octets begin with: a certificate, or else a list.
+// What octets are: a certificate where they begin with one, or else a list.
 #[tactic(auto, using(crate::proofs::Unread::unless_memory))]
 fn front_of(alloc: Global, octets: &Bytes) -> Result<Front, AllocError>
     ensures { IfOk result (BeginsAs octets.now) }
@@ -64,7 +64,7 @@ fn front_of(alloc: Global, octets: &Bytes) -> Result<Front, AllocError>
     }
 }
 
-/// Strings, with the folder of the certificates and lists with which they begin.
+/// Strings, with the folder of the certificates with which they begin and the lists that they are.
 #[derive(Drop)]
 pub(crate) struct Sorted<'s> {
     pub(crate) strings: &'s [Bytes],
@@ -120,7 +120,7 @@ impl<'s> Sorted<'s> {
     // Passes the next string over.
     fn add_neither(&mut self) -> Result<(), AllocError>
         ensures sorted { (strings : List (List ℕ)) (octets : List ℕ) → BeginsNoCertificate octets
-            → BeginsNoList octets → AreSortedIn strings self.old
+            → AreNoList octets → AreSortedIn strings self.old
             → OnOk result (AreSortedIn (strings ++ octets ∷ []) self.new) }
         ensures strings { self.new.strings.now ≡ self.old.strings.now }
     {
@@ -153,7 +153,8 @@ impl<'s> Sorted<'s> {
         Ok(())
     }
 
-    /// Sorts strings: each is taken for the certificate with which it begins, else for the list.
+    /// Sorts strings: each is taken for the certificate with which it begins, else for the list that it
+    /// is.
     pub(crate) fn of(alloc: Global, strings: &'s [Bytes]) -> Result<Sorted<'s>, AllocError>
         ensures sorted { IfOk result IsSorted }
         ensures strings { IfOk result (λ it. it.strings.now ≡ strings.now) }

@@ -17,7 +17,7 @@ use Rattle.rpki_folder.specs.declared.lines.Line.{Line}
 use Rattle.rpki_folder.specs.declared.lines.Line.TheVariants.{Unseen, Accepted, Rejected}
 use Rattle.rpki_folder.specs.declared.walk_error.WalkError.{WalkError}
 use Rattle.rpki_folder.specs.declared.walk_error.WalkError.TheVariants.{Anchor, Memory}
-use Rattle.rpki_c.specs.Verdicts.{BeginsNoList}
+use Rattle.rpki_c.specs.Verdicts.{AreNoList}
 use Rattle.rpki_c.specs.FolderFates.{Fate, anchor, list, neither, unseen, accepted, rejected, IsTakenFor, AreListsAmong, AreCertificatesAmong}
 use Rattle.rpki_c.specs.declared.refusal.Refusal.{Refusal}
 use Rattle.rpki_c.specs.declared.refusal.Refusal.TheVariants as refusal
@@ -27,17 +27,17 @@ use Rattle.rpki_c.specs.declared.sorting.Sorted.{Sorted}
 
 -- ---- sorting
 
--- the octets begin with this
+-- the octets begin with this certificate, or are this list
 abbrev pub BeginsAs : List ℕ → Front → Type 0
 BeginsAs octets (front.Certificate c) = Means IsCertificate c octets
 BeginsAs octets (front.List l) = IsTakenFor octets l
-BeginsAs octets front.Neither = BeginsNoCertificate octets × BeginsNoList octets
+BeginsAs octets front.Neither = BeginsNoCertificate octets × AreNoList octets
 
--- the octets begin with what they were added as
+-- the octets are what they were added as
 abbrev pub IsAddedAs : List ℕ → Added → Type 0
 IsAddedAs octets (Certificate place) = (c : CertFields) × Means IsCertificate c octets
 IsAddedAs octets list_added = (l : CrlState) × IsTakenFor octets l
-IsAddedAs octets Neither = BeginsNoCertificate octets × BeginsNoList octets
+IsAddedAs octets Neither = BeginsNoCertificate octets × AreNoList octets
 
 -- the strings are sorted into the folder: what each was added as, and at each certificate's place
 -- the place of its string
