@@ -5,7 +5,8 @@
  *   - Every function ends, for all octets, lengths and numbers. Nothing that it does is undefined,
  *     as long as the caller keeps the rules below.
  *   - Octets are read as a certificate or list exactly where they begin with one, unless memory
- *     runs out. They are asked about revocation as a list exactly where they are one.
+ *     runs out. As a list of a question, or as the list before, they are taken exactly where they
+ *     are one.
  *   - A path is accepted exactly where its members are a valid path, by the definitions of
  *     crates/rpki_path/specs (Judging.antt, Paths.antt), and its anchor has the locator's key where
  *     that is asked, unless memory runs out.
@@ -36,8 +37,8 @@
  *   - It keeps no pointer, holds no lock and has no state. Threads may call side by side.
  *   - What it takes by malloc it gives back before it ends, so nothing has to be freed.
  *   - Octets are DER. What follows a certificate in them is ignored, and so is what follows a list
- *     that is read or asked alone. What is given as a list to a question, or before another one, ends
- *     with the list: what follows may be a list that revokes.
+ *     that is read or asked alone. Behind a list of a question, and behind the list before, nothing
+ *     may follow: it may be a list that revokes.
  *   - It answers RPKI_OK or the number of a fault. A number never gets another meaning.
  *   - After a fault, what it writes says nothing, unless its comment says more.
  *
@@ -89,7 +90,8 @@ enum rpki_fault {
     RPKI_MEMORY = 1,   /* memory ran out */
     RPKI_BAD_CALL = 2, /* lengths or a size don't fit, or no such moment, kind, family, URI .. */
 
-    /* The octets begin with no certificate, or no list. */
+    /* The octets begin with no certificate, or no list; or others stand behind a list of a
+     * question. */
     RPKI_DECODE_TRUNCATED = 100,
     RPKI_DECODE_BAD_LENGTH = 101,
     RPKI_DECODE_BAD_TAG = 102,

@@ -16,7 +16,7 @@ Exceptions. str(fault) is such as "member 2: certificate revoked (Revoked)":
 
     Fault                the base of all below: number, name, sentence, member, revocation_list
     DecodeFault          the octets begin with no certificate, or no list: octet, field, wanted,
-                         found
+                         found; or others stand behind a list
     InspectionFault      the certificate doesn't meet the profile of its kind
     VerificationFault    it isn't valid at the moment, or not issued by the member above it
     RevocationFault      the lists don't show that it isn't revoked
@@ -138,7 +138,7 @@ class Fault(Exception):
         None.
     octet: where the reading of a certificate or a list stops: what stands before this octet was
         read, and from there on stands none of the part that has to come next. None of all faults
-        but a DecodeFault.
+        but a DecodeFault, and of one that other octets stand behind a list.
     field: the name of that part, such as `the serial number`; else None.
     wanted: what has to stand there, with the section that asks it, such as
         `a Name (RFC 5280 4.1.2.4)`; else None.
@@ -183,7 +183,8 @@ class Fault(Exception):
 
 
 class DecodeFault(Fault):
-    """The octets begin with no certificate, or with no revocation list."""
+    """The octets begin with no certificate, or with no revocation list; or others stand behind a
+    list that `validate` was given."""
 
 
 class InspectionFault(Fault):
@@ -704,7 +705,7 @@ class State(enum.Enum):
     LIST = 4
     """A revocation list."""
     NEITHER = 5
-    """Neither a certificate nor a revocation list."""
+    """Neither a certificate nor a revocation list; also a list with octets behind it."""
 
 
 @dataclass(frozen=True)

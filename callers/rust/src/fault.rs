@@ -12,7 +12,8 @@ pub enum FaultKind {
     /// There are too few members, the last of several is to be a trust anchor, or there is no such
     /// moment, range or serial number. No member is at fault. Its name is `BadCall`.
     BadCall,
-    /// The octets begin with no certificate, or with no revocation list.
+    /// The octets begin with no certificate, or with no revocation list; or others stand behind a
+    /// list of a path.
     ///
     /// Its name is `Truncated`, `BadLength`, `BadTag`, `BadValue`, `Trailing`, `TooDeep`,
     /// `AlgorithmMismatch`, `UnexpectedCritical`, `InvalidExtension`, `Missing`, `Duplicate`,
@@ -174,7 +175,8 @@ impl Fault {
     }
 
     /// Returns at which octet reading stops, of a fault of `FaultKind::Decode`: what stands before was
-    /// read, and from there on stands none of the part that has to come next.
+    /// read, and from there on stands none of the part that has to come next. There is none where
+    /// octets stand behind a list.
     pub fn octet(&self) -> Option<usize> {
         self.stop.as_ref().map(|stop| stop.octet)
     }

@@ -24,7 +24,7 @@ pub enum Line {
     },
     /// A revocation list.
     List,
-    /// Neither a certificate nor a revocation list.
+    /// Neither a certificate nor a revocation list; also a list with octets behind it.
     Neither,
 }
 

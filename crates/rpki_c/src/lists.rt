@@ -282,11 +282,11 @@ pub(crate) fn whole_list(alloc: Global, octets: &Bytes) -> Result<Crl, DecodeErr
     laws::unambiguous();
     let mut cursor = Cursor::new(octets);
     let list = Crl::take_from(alloc, &mut cursor)?;
-    if cursor.rest().is_empty() {
-        return Ok(list);
+    if !cursor.is_empty() {
+        drop(list);
+        return Err(DecodeError::Trailing);
     }
-    drop(list);
-    Err(DecodeError::Trailing)
+    Ok(list)
 }
 
 /// Reads the list that the octets are, and puts its serial numbers into a table.
