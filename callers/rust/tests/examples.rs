@@ -205,12 +205,9 @@ fn paths_are_rejected() {
     // two lists one behind the other, and an octet behind one
     for more in [&revoked[..], &[0]] {
         let behind = [&lists[1][..], more].concat();
-        rejected(
-            &under(Revocation::by_lists([&lists[0], &behind])),
-            NOON,
-            "Trailing",
-            Some(Place::List(1)),
-        );
+        let asked = Revocation::by_lists([&lists[0], &behind]);
+        let path = Path::new(&members[..3], Kind::Authority, asked);
+        rejected(&path, NOON, "Trailing", Some(Place::List(1)));
     }
     let other = [&members[0], &members[1], &tampered];
     let path = Path::new(other, Kind::Authority, Revocation::NotAsked);
