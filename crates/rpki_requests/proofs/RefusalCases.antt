@@ -1,6 +1,6 @@
 -- Refusals by cases: what is known of one says more of it.
 use Rattle.std.specs.Prelude.{Result, Ok, Err}
-use Rattle.std.proofs.Common.{◌≡◌, ◌≢◌, ℕ, List, refl, sym, subst}
+use Rattle.std.proofs.Common.{◌≡◌, ◌≢◌, ℕ, List, refl, subst}
 use Rattle.rpki_requests.specs.Refusals.{AnswersOnly, IsPathless}
 use Rattle.rpki_requests.specs.RequestWords.{GivenFields}
 use Rattle.rpki_requests.specs.ToldRefusals.{HasValue, IsKeyFault, IsOfPath, IsOption, IsSo, IsValueOf}
