@@ -1,7 +1,7 @@
 //! Whole paths, and the line program.
 
 use crate::asking::{Told, begin, called, end};
-use crate::inputs::{ANCHOR, FIRST, NUMBERS, SECOND, anchor, locator, new_year};
+use crate::inputs::{ANCHOR, FIRST, NUMBERS, SECOND, below_anchor, locator, new_year};
 use bytes::Bytes;
 use rpki_blocks::Asn;
 use rpki_cert::{Kind, ResourceCert};
@@ -74,20 +74,12 @@ fn list_program(alloc: Global) -> Option<Told> {
     ended_with(alloc, REVOKED, YES)
 }
 
-fn router_validated_under(alloc: Global, issuer: &ResourceCert, now: Time) -> Option<Told> {
+fn router_validated(alloc: Global, issuer: &ResourceCert, now: Time) -> Option<Told> {
     let octets = signed(alloc, router(alloc)?)?;
     called!(
         alloc,
         validate_router(alloc, &octets, issuer, None, true, now, &StandIn)
     )
-}
-
-fn router_validated(alloc: Global) -> Option<Told> {
-    let now = new_year()?;
-    let issuer = anchor(alloc, ANCHOR, now)?;
-    let told = router_validated_under(alloc, &issuer, now);
-    drop(issuer);
-    told
 }
 
 fn judged_of(alloc: Global, members: &[Member<'_>], last: Kind, now: Time) -> Option<Told> {
@@ -147,7 +139,7 @@ fn anchor_step(alloc: Global) -> Option<Told> {
     )
 }
 
-fn member_below(alloc: Global, issuer: &ResourceCert, now: Time) -> Option<Told> {
+fn member_step(alloc: Global, issuer: &ResourceCert, now: Time) -> Option<Told> {
     let octets = shared(alloc, FIRST)?;
     let steps = steps(alloc, now);
     called!(
@@ -157,15 +149,7 @@ fn member_below(alloc: Global, issuer: &ResourceCert, now: Time) -> Option<Told>
     )
 }
 
-fn member_step(alloc: Global) -> Option<Told> {
-    let now = new_year()?;
-    let issuer = anchor(alloc, NUMBERS, now)?;
-    let told = member_below(alloc, &issuer, now);
-    drop(issuer);
-    told
-}
-
-fn router_below(alloc: Global, issuer: &ResourceCert, now: Time) -> Option<Told> {
+fn router_step(alloc: Global, issuer: &ResourceCert, now: Time) -> Option<Told> {
     let octets = signed(alloc, router(alloc)?)?;
     let steps = steps(alloc, now);
     called!(
@@ -175,21 +159,13 @@ fn router_below(alloc: Global, issuer: &ResourceCert, now: Time) -> Option<Told>
     )
 }
 
-fn router_step(alloc: Global) -> Option<Told> {
-    let now = new_year()?;
-    let issuer = anchor(alloc, ANCHOR, now)?;
-    let told = router_below(alloc, &issuer, now);
-    drop(issuer);
-    told
-}
-
 /// The calls of `rpki_path` and `rpki_lines`.
 pub fn told(alloc: Global, path: &str) -> Option<Told> {
     match path {
         "rpki_path::Validator::trust_anchor" => anchor_step(alloc),
-        "rpki_path::Validator::member" => member_step(alloc),
-        "rpki_path::Validator::router" => router_step(alloc),
-        "rpki_path::validate_router" => router_validated(alloc),
+        "rpki_path::Validator::member" => below_anchor!(alloc, NUMBERS, new_year(), member_step),
+        "rpki_path::Validator::router" => below_anchor!(alloc, ANCHOR, new_year(), router_step),
+        "rpki_path::validate_router" => below_anchor!(alloc, ANCHOR, new_year(), router_validated),
         "rpki_path::judge" => path_judged(alloc),
         "rpki_path::judge/router" => router_judged(alloc),
         "rpki_lines::program" => path_program(alloc),

@@ -2,7 +2,8 @@
 
 use crate::asking::{Told, called};
 use crate::inputs::{
-    ANCHOR, FIRST, NUMBERS, OTHER, SIGNING, anchor, certificate, december, locator, new_year,
+    ANCHOR, FIRST, NUMBERS, OTHER, SIGNING, anchor, below_anchor, certificate, december, locator,
+    new_year,
 };
 use rpki_blocks::Asn;
 use rpki_cert::ResourceCert;
@@ -25,7 +26,7 @@ fn anchor_verified(alloc: Global) -> Option<Told> {
     )
 }
 
-fn authority_verified_under(alloc: Global, issuer: &ResourceCert, now: Time) -> Option<Told> {
+fn authority_verified(alloc: Global, issuer: &ResourceCert, now: Time) -> Option<Told> {
     let cert = certificate(alloc, FIRST)?;
     called!(
         alloc,
@@ -34,29 +35,13 @@ fn authority_verified_under(alloc: Global, issuer: &ResourceCert, now: Time) -> 
     )
 }
 
-fn authority_verified(alloc: Global) -> Option<Told> {
-    let now = new_year()?;
-    let issuer = anchor(alloc, NUMBERS, now)?;
-    let told = authority_verified_under(alloc, &issuer, now);
-    drop(issuer);
-    told
-}
-
-fn signing_verified_under(alloc: Global, issuer: &ResourceCert, now: Time) -> Option<Told> {
+fn signing_verified(alloc: Global, issuer: &ResourceCert, now: Time) -> Option<Told> {
     let cert = certificate(alloc, SIGNING)?;
     called!(
         alloc,
         cert.verify_ee_at(alloc, issuer, true, now, &StandIn),
         holder => holds(holder, Asn::from(84)) && !holds(holder, Asn::from(85))
     )
-}
-
-fn signing_verified(alloc: Global) -> Option<Told> {
-    let now = december()?;
-    let issuer = anchor(alloc, OTHER, now)?;
-    let told = signing_verified_under(alloc, &issuer, now);
-    drop(issuer);
-    told
 }
 
 fn copied(alloc: Global) -> Option<Told> {
@@ -71,8 +56,18 @@ fn copied(alloc: Global) -> Option<Told> {
 pub fn told(alloc: Global, path: &str) -> Option<Told> {
     match path {
         "rpki_cert::Cert::verify_ta_at" => anchor_verified(alloc),
-        "rpki_cert::Cert::verify_ca_at" => authority_verified(alloc),
-        "rpki_cert::Cert::verify_ee_at" => signing_verified(alloc),
+        "rpki_cert::Cert::verify_ca_at" => below_anchor!(
+            alloc,
+            NUMBERS,
+            new_year(),
+            authority_verified
+        ),
+        "rpki_cert::Cert::verify_ee_at" => below_anchor!(
+            alloc,
+            OTHER,
+            december(),
+            signing_verified
+        ),
         "rpki_cert::ResourceCert::try_clone" => copied(alloc),
         _ => None,
     }

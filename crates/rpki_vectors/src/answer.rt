@@ -102,11 +102,12 @@ impl Answer {
         self.text(name);
     }
 
-    /// Appends ` NAME=`, before a value.
-    pub fn field(&mut self, name: &str) {
+    /// Appends ` NAME=`, and returns the line, to which the value is appended.
+    pub fn field(&mut self, name: &str) -> &mut Answer {
         self.text(" ");
         self.text(name);
         self.text("=");
+        self
     }
 
     /// Appends `yes` or `no`.
@@ -204,6 +205,12 @@ impl Answer {
         self.fault(error);
     }
 
+    /// Appends `refused` and the name of a fault.
+    pub fn refused_as(&mut self, name: &str) {
+        self.text("refused ");
+        self.name(name);
+    }
+
     // The octets; `same` where those of the question begin so.
     fn known(&mut self, octets: &[u8]) {
         if !octets.is_empty() && self.asked.starts_with(octets) {
@@ -253,8 +260,7 @@ impl Answer {
 
     /// Appends which of the octets remain.
     pub fn left(&mut self, cursor: &Cursor<'_>) {
-        self.field("left");
-        self.span(cursor);
+        self.field("left").span(cursor);
     }
 
     /// Appends `same` where another answer is the one that was given first, else that answer.

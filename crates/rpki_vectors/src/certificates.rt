@@ -13,75 +13,56 @@ use rpki_parts::{SignedData, StandIn};
 use std::alloc::{AllocError, Global};
 
 fn head(out: &mut Answer, data: &TbsCert) {
-    out.field("serial-number");
-    serial(out, data.serial_number());
-    out.field("signature");
-    algorithm(out, &data.signature());
-    out.field("issuer");
-    out.octets(data.issuer().as_bytes());
-    out.field("not-before");
-    time(out, data.validity().not_before());
-    out.field("not-after");
-    time(out, data.validity().not_after());
+    serial(out.field("serial-number"), data.serial_number());
+    algorithm(out.field("signature"), &data.signature());
+    out.field("issuer").octets(data.issuer().as_bytes());
+    time(out.field("not-before"), data.validity().not_before());
+    time(out.field("not-after"), data.validity().not_after());
 }
 
 fn holder(out: &mut Answer, data: &TbsCert) {
-    out.field("subject");
-    out.octets(data.subject().as_bytes());
-    out.field("key");
-    public_key(out, data.subject_public_key_info());
-    out.field("basic-ca");
-    out.text(match data.basic_ca() {
+    out.field("subject").octets(data.subject().as_bytes());
+    public_key(out.field("key"), data.subject_public_key_info());
+    out.field("basic-ca").text(match data.basic_ca() {
         Some(true) => "yes",
         Some(false) => "no",
         None => "none",
     });
-    out.field("subject-key-identifier");
-    key_identifier(out, Some(data.subject_key_identifier()));
-    out.field("authority-key-identifier");
-    key_identifier(out, data.authority_key_identifier());
+    key_identifier(
+        out.field("subject-key-identifier"),
+        Some(data.subject_key_identifier()),
+    );
+    key_identifier(
+        out.field("authority-key-identifier"),
+        data.authority_key_identifier(),
+    );
 }
 
 fn uses(out: &mut Answer, data: &TbsCert) {
-    out.field("key-usage");
-    out.text(usage(data.key_usage()));
-    out.field("extended-key-usage");
-    purposes(out, data.extended_key_usage());
-    out.field("crl-uri");
-    rsync(out, data.crl_uri());
-    out.field("ca-issuer");
-    rsync(out, data.ca_issuer());
+    out.field("key-usage").text(usage(data.key_usage()));
+    purposes(out.field("extended-key-usage"), data.extended_key_usage());
+    rsync(out.field("crl-uri"), data.crl_uri());
+    rsync(out.field("ca-issuer"), data.ca_issuer());
 }
 
 fn places(out: &mut Answer, data: &TbsCert) {
-    out.field("ca-repository");
-    rsync(out, data.ca_repository());
-    out.field("rpki-manifest");
-    rsync(out, data.rpki_manifest());
-    out.field("signed-object");
-    rsync(out, data.signed_object());
-    out.field("rpki-notify");
-    https(out, data.rpki_notify());
+    rsync(out.field("ca-repository"), data.ca_repository());
+    rsync(out.field("rpki-manifest"), data.rpki_manifest());
+    rsync(out.field("signed-object"), data.signed_object());
+    https(out.field("rpki-notify"), data.rpki_notify());
 }
 
 fn resources(out: &mut Answer, data: &TbsCert) {
-    out.field("overclaim");
-    out.text(mode(data.overclaim()));
-    out.field("v4-resources");
-    listed(out, data.v4_resources());
-    out.field("v6-resources");
-    listed(out, data.v6_resources());
-    out.field("as-resources");
-    listed(out, data.as_resources());
+    out.field("overclaim").text(mode(data.overclaim()));
+    listed(out.field("v4-resources"), data.v4_resources());
+    listed(out.field("v6-resources"), data.v6_resources());
+    listed(out.field("as-resources"), data.as_resources());
 }
 
 fn tests(out: &mut Answer, data: &TbsCert) {
-    out.field("is-ca");
-    out.yes(data.is_ca());
-    out.field("is-self-signed");
-    out.yes(data.is_self_signed());
-    out.field("has-ip-resources");
-    out.yes(data.has_ip_resources());
+    out.field("is-ca").yes(data.is_ca());
+    out.field("is-self-signed").yes(data.is_self_signed());
+    out.field("has-ip-resources").yes(data.has_ip_resources());
 }
 
 /// Appends all fields, by their getters.
@@ -158,12 +139,16 @@ fn last_in(out: &mut Answer, whole: &[u8], part: &[u8]) {
 
 // What is signed, and the signature, by their places in the certificate.
 fn signature(out: &mut Answer, signed: &SignedData, whole: &[u8]) {
-    out.field("data");
-    first_in(out, whole, signed.data());
-    out.field("signature-algorithm");
-    algorithm(out, signed.signature().algorithm());
-    out.field("signature-value");
-    last_in(out, whole, signed.signature().value());
+    first_in(out.field("data"), whole, signed.data());
+    algorithm(
+        out.field("signature-algorithm"),
+        signed.signature().algorithm(),
+    );
+    last_in(
+        out.field("signature-value"),
+        whole,
+        signed.signature().value(),
+    );
 }
 
 /// Appends what is captured; `same` where it is what was written.
@@ -212,8 +197,7 @@ fn taken(out: &mut Answer, first: &Answer, octets: &Bytes) {
     let found = Cert::take_from(out.alloc(), &mut cursor);
     stays(out, &found, &cursor, 0);
     read(&mut other, found);
-    out.field("take");
-    out.compared(first, &other);
+    out.field("take").compared(first, &other);
     out.left(&cursor);
 }
 
@@ -223,8 +207,7 @@ fn taken_optional(out: &mut Answer, first: &Answer, octets: &Bytes) {
     let found = Cert::take_opt_from(out.alloc(), &mut cursor);
     stays(out, &found, &cursor, 0);
     read_optional(&mut other, found);
-    out.field("take-optional");
-    out.compared(first, &other);
+    out.field("take-optional").compared(first, &other);
     out.left(&cursor);
 }
 
@@ -235,8 +218,7 @@ fn inside(out: &mut Answer, first: &Answer, content: Cursor<'_>) {
     let found = Cert::from_constructed(out.alloc(), &mut content);
     stays(out, &found, &content, from);
     read(&mut other, found);
-    out.field("content");
-    out.compared(first, &other);
+    out.field("content").compared(first, &other);
     out.left(&content);
 }
 
@@ -244,8 +226,7 @@ fn taken_inside(out: &mut Answer, first: &Answer, found: Result<Cursor<'_>, Deco
     match found {
         Ok(content) => inside(out, first, content),
         Err(error) => {
-            out.field("content");
-            out.fault(&error);
+            out.field("content").fault(&error);
         }
     }
 }

@@ -6,10 +6,8 @@ use rpki_der::{Cursor, DecodeError, Oid, Piece};
 use std::alloc::{AllocError, Global};
 
 fn content(out: &mut Answer, it: &Cursor<'_>) {
-    out.field("content");
-    out.octets(it.rest());
-    out.field("span");
-    out.span(it);
+    out.field("content").octets(it.rest());
+    out.field("span").span(it);
 }
 
 fn inside(out: &mut Answer, found: Result<Cursor<'_>, DecodeError>) {
@@ -37,10 +35,9 @@ fn nothing(out: &mut Answer, found: Result<(), DecodeError>) {
 
 impl Show for Piece {
     fn show(&self, out: &mut Answer) {
-        out.field("piece");
-        out.octets(self.as_bytes());
-        out.field("cursor");
-        out.yes(self.cursor().rest() == self.as_bytes());
+        out.field("piece").octets(self.as_bytes());
+        out.field("cursor")
+            .yes(self.cursor().rest() == self.as_bytes());
     }
 }
 
@@ -52,8 +49,7 @@ impl Twin for Piece {
 
 impl Show for Oid {
     fn show(&self, out: &mut Answer) {
-        out.field("oid");
-        out.octets(self.as_bytes());
+        out.field("oid").octets(self.as_bytes());
     }
 }
 
@@ -65,27 +61,23 @@ impl Twin for Oid {
 
 fn identifier(out: &mut Answer, found: Result<&[u8], DecodeError>) {
     let octets = read_or_return!(out, found);
-    out.field("oid");
-    out.octets(octets);
+    out.field("oid").octets(octets);
 }
 
 fn bits(out: &mut Answer, found: Result<(u8, Cursor<'_>), DecodeError>) {
     let (unused, it) = read_or_return!(out, found);
-    out.field("unused");
-    out.count(usize::from(unused));
+    out.field("unused").count(usize::from(unused));
     content(out, &it);
 }
 
 fn number(out: &mut Answer, found: Result<u32, DecodeError>) {
     let n = read_or_return!(out, found);
-    out.field("number");
-    out.number(n);
+    out.field("number").number(n);
 }
 
 fn flag(out: &mut Answer, found: Result<bool, DecodeError>) {
     let holds = read_or_return!(out, found);
-    out.field("value");
-    out.yes(holds);
+    out.field("value").yes(holds);
 }
 
 // Each of the next two says whether the call is one of its own.
@@ -126,8 +118,7 @@ fn asked(words: &Words<'_>, cursor: &mut Cursor<'_>, out: &mut Answer) -> bool {
         }
         "finish" => {
             nothing(out, cursor.fork().finish());
-            out.field("empty");
-            out.yes(cursor.is_empty());
+            out.field("empty").yes(cursor.is_empty());
         }
         _ => return false,
     }

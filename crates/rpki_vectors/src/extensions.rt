@@ -22,35 +22,28 @@ use std::alloc::{AllocError, Global};
 
 fn whole(out: &mut Answer, found: Result<(&[u8], bool, Cursor<'_>), DecodeError>) {
     let (id, critical, content) = read_or_return!(out, found);
-    out.field("oid");
-    out.octets(id);
-    out.field("critical");
-    out.yes(critical);
-    out.field("content");
-    out.octets(content.rest());
-    out.field("span");
-    out.span(&content);
+    out.field("oid").octets(id);
+    out.field("critical").yes(critical);
+    out.field("content").octets(content.rest());
+    out.field("span").span(&content);
 }
 
 fn basic_constraints(out: &mut Answer, found: Result<bool, DecodeError>) {
     let ca = read_or_return!(out, found);
-    out.field("basic-ca");
-    out.yes(ca);
+    out.field("basic-ca").yes(ca);
     put_behind!(out, "written", octets => encode_basic_constraints(out.alloc(), &mut octets, ca));
 }
 
 fn subject_key_identifier(out: &mut Answer, found: Result<KeyIdentifier, DecodeError>) {
     let it = read_or_return!(out, found);
-    out.field("subject-key-identifier");
-    key_identifier(out, Some(it));
+    key_identifier(out.field("subject-key-identifier"), Some(it));
     put_behind!(out, "written", octets =>
         encode_subject_key_identifier(out.alloc(), &mut octets, it));
 }
 
 fn authority_key_identifier(out: &mut Answer, found: Result<KeyIdentifier, DecodeError>) {
     let it = read_or_return!(out, found);
-    out.field("authority-key-identifier");
-    key_identifier(out, Some(it));
+    key_identifier(out.field("authority-key-identifier"), Some(it));
     put_behind!(out, "written", octets =>
         encode_authority_key_identifier(out.alloc(), &mut octets, it));
 }
@@ -65,8 +58,7 @@ pub fn usage(it: KeyUsage) -> &'static str {
 
 fn key_usage(out: &mut Answer, found: Result<KeyUsage, DecodeError>) {
     let it = read_or_return!(out, found);
-    out.field("key-usage");
-    out.text(usage(it));
+    out.field("key-usage").text(usage(it));
     put_behind!(out, "written", octets => encode_key_usage(out.alloc(), &mut octets, it));
     put_behind!(out, "written-bits", octets => it.encode(out.alloc(), &mut octets));
 }
@@ -83,8 +75,7 @@ pub fn purposes(out: &mut Answer, it: Option<&ExtendedKeyUsage>) {
 
 impl Show for ExtendedKeyUsage {
     fn show(&self, out: &mut Answer) {
-        out.field("extended-key-usage");
-        purposes(out, Some(self));
+        purposes(out.field("extended-key-usage"), Some(self));
         put_behind!(out, "written", octets =>
             encode_extended_key_usage(out.alloc(), &mut octets, self));
     }
@@ -98,29 +89,23 @@ impl Twin for ExtendedKeyUsage {
 
 fn crl_distribution_points(out: &mut Answer, found: Result<Rsync, DecodeError>) {
     let it = read_or_return!(out, found);
-    out.field("crl-uri");
-    rsync(out, Some(&it));
+    rsync(out.field("crl-uri"), Some(&it));
     put_behind!(out, "written", octets =>
         encode_crl_distribution_points(out.alloc(), &mut octets, &it));
 }
 
 fn authority_information_access(out: &mut Answer, found: Result<Rsync, DecodeError>) {
     let it = read_or_return!(out, found);
-    out.field("ca-issuer");
-    rsync(out, Some(&it));
+    rsync(out.field("ca-issuer"), Some(&it));
     put_behind!(out, "written", octets =>
         encode_authority_information_access(out.alloc(), &mut octets, &it));
 }
 
 fn sia_fields(out: &mut Answer, it: &Sia) {
-    out.field("ca-repository");
-    rsync(out, it.ca_repository());
-    out.field("rpki-manifest");
-    rsync(out, it.rpki_manifest());
-    out.field("signed-object");
-    rsync(out, it.signed_object());
-    out.field("rpki-notify");
-    https(out, it.rpki_notify());
+    rsync(out.field("ca-repository"), it.ca_repository());
+    rsync(out.field("rpki-manifest"), it.rpki_manifest());
+    rsync(out.field("signed-object"), it.signed_object());
+    https(out.field("rpki-notify"), it.rpki_notify());
 }
 
 fn sia_written(out: &mut Answer, it: &Sia) {
@@ -142,8 +127,7 @@ fn subject_information_access(out: &mut Answer, found: Result<Sia, DecodeError>)
 
 fn certificate_policies(out: &mut Answer, found: Result<Overclaim, DecodeError>) {
     let it = read_or_return!(out, found);
-    out.field("overclaim");
-    out.text(mode(it));
+    out.field("overclaim").text(mode(it));
     put_behind!(out, "written", octets =>
         encode_certificate_policies(out.alloc(), &mut octets, it));
 }

@@ -1,5 +1,6 @@
 //! The walk down through a folder from the trust anchor of a locator.
 use crate::answer::Answer;
+use crate::locators::locator_of;
 use crate::paths::{named, refused};
 use crate::words::{Words, moment};
 use bytes::Bytes;
@@ -95,22 +96,10 @@ fn below<V: Verifier>(
 
 fn answered<V: Verifier>(words: &Words<'_>, out: &mut Answer, verifier: &V) -> Option<()> {
     let anchor = named(out, words.at(6), "ta")?;
-    let file = words.octets(out, 5);
-    let name = String::new(out.alloc());
-    match Tal::read_named(out.alloc(), name, &file, true) {
-        Ok(tal) => {
-            let is_fit = below(words, out, &tal, &anchor, verifier);
-            drop(tal);
-            is_fit
-        }
-        Err(error) => {
-            if error.is_memory() {
-                out.fail();
-            }
-            drop(error);
-            None
-        }
-    }
+    let tal = locator_of(words, out, 5)?;
+    let is_fit = below(words, out, &tal, &anchor, verifier);
+    drop(tal);
+    is_fit
 }
 
 /// Tells how the walk through a folder ended, and of each of its certificates whether it was

@@ -56,16 +56,11 @@ fn inspected_as(out: &mut Answer, cert: &Cert, kind: Role) {
 
 fn inspected_as_all(out: &mut Answer, cert: &Cert) {
     out.text("ok");
-    out.field("ta");
-    inspected_as(out, cert, Role::Anchor);
-    out.field("ca");
-    inspected_as(out, cert, Role::Ca);
-    out.field("ee");
-    inspected_as(out, cert, Role::Ee);
-    out.field("detached");
-    inspected_as(out, cert, Role::Detached);
-    out.field("router");
-    inspected_as(out, cert, Role::Router);
+    inspected_as(out.field("ta"), cert, Role::Anchor);
+    inspected_as(out.field("ca"), cert, Role::Ca);
+    inspected_as(out.field("ee"), cert, Role::Ee);
+    inspected_as(out.field("detached"), cert, Role::Detached);
+    inspected_as(out.field("router"), cert, Role::Router);
 }
 
 /// Returns the certificate of a word in hexadecimal.

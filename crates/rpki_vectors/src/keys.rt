@@ -15,10 +15,8 @@ fn form(out: &mut Answer, found: KeyForm) {
     match found {
         KeyForm::RsaKey { bits, exponent: e } => {
             out.text("rsa-key");
-            out.field("bits");
-            out.wide_number(bits);
-            out.field("exponent");
-            exponent(out, e);
+            out.field("bits").wide_number(bits);
+            exponent(out.field("exponent"), e);
         }
         KeyForm::EvenModulus => out.text("even-modulus"),
         KeyForm::NoRsaKey => out.text("no-rsa-key"),
@@ -43,11 +41,8 @@ pub fn key_form(words: &Words<'_>, out: &mut Answer) {
     let point = is_point(bits.as_slice());
     let key = PublicKey::new(format_of(words), bits);
     out.text("ok");
-    out.field("form");
-    form(out, form_of(&key));
-    out.field("used");
-    out.yes(is_usable(&key));
+    form(out.field("form"), form_of(&key));
+    out.field("used").yes(is_usable(&key));
     drop(key);
-    out.field("point");
-    out.yes(point);
+    out.field("point").yes(point);
 }

@@ -10,18 +10,15 @@ use rpki_der::{Cursor, DecodeError, Serial};
 use std::alloc::{AllocError, Global};
 
 fn head(out: &mut Answer, data: &TbsCertList<RevokedCertificates>) {
-    out.field("signature");
-    algorithm(out, &data.signature());
-    out.field("issuer");
-    out.octets(data.issuer().as_bytes());
-    out.field("this-update");
-    time(out, data.this_update());
-    out.field("next-update");
-    time(out, data.next_update());
-    out.field("authority-key-identifier");
-    key_identifier(out, Some(*data.authority_key_identifier()));
-    out.field("crl-number");
-    serial(out, data.crl_number());
+    algorithm(out.field("signature"), &data.signature());
+    out.field("issuer").octets(data.issuer().as_bytes());
+    time(out.field("this-update"), data.this_update());
+    time(out.field("next-update"), data.next_update());
+    key_identifier(
+        out.field("authority-key-identifier"),
+        Some(*data.authority_key_identifier()),
+    );
+    serial(out.field("crl-number"), data.crl_number());
 }
 
 fn entries(out: &mut Answer, list: &RevokedCertificates) {
@@ -143,8 +140,7 @@ fn taken(out: &mut Answer, first: &Answer, octets: &Bytes) {
     let mut cursor = Cursor::new(octets);
     let found = Crl::take_from(out.alloc(), &mut cursor);
     read(&mut other, found);
-    out.field("take");
-    out.compared(first, &other);
+    out.field("take").compared(first, &other);
     out.left(&cursor);
 }
 
@@ -153,8 +149,7 @@ fn taken_optional(out: &mut Answer, first: &Answer, octets: &Bytes) {
     let mut cursor = Cursor::new(octets);
     let found = Crl::take_opt_from(out.alloc(), &mut cursor);
     read_optional(&mut other, found);
-    out.field("take-optional");
-    out.compared(first, &other);
+    out.field("take-optional").compared(first, &other);
     out.left(&cursor);
 }
 
@@ -163,8 +158,7 @@ fn inside(out: &mut Answer, first: &Answer, content: Cursor<'_>) {
     let mut other = out.beside();
     let found = Crl::from_constructed(out.alloc(), &mut content);
     read(&mut other, found);
-    out.field("content");
-    out.compared(first, &other);
+    out.field("content").compared(first, &other);
     out.left(&content);
 }
 
@@ -185,8 +179,8 @@ fn refused(out: &mut Answer, error: &DecodeError, octets: &Bytes) {
     out.refused(error);
     let mut cursor = Cursor::new(octets);
     let again = Crl::take_from(out.alloc(), &mut cursor);
-    out.field("take");
-    out.text(if again.is_err() { "refused" } else { "ok" });
+    out.field("take")
+        .text(if again.is_err() { "refused" } else { "ok" });
     drop(again);
     out.left(&cursor);
 }

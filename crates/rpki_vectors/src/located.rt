@@ -1,5 +1,6 @@
 //! Whole paths from the trust anchor of a locator down.
 use crate::answer::Answer;
+use crate::locators::locator_of;
 use crate::paths::{authorities, leaf, named, validated};
 use crate::revocation::store_of;
 use crate::words::{Words, moment};
@@ -51,22 +52,10 @@ fn below(words: &Words<'_>, out: &mut Answer, tal: &Tal, anchor: &Bytes, now: Ti
 fn answered(words: &Words<'_>, out: &mut Answer) -> Option<()> {
     let now = moment(words.at(1))?;
     let anchor = named(out, words.at(5), "ta")?;
-    let file = words.octets(out, 4);
-    let name = String::new(out.alloc());
-    match Tal::read_named(out.alloc(), name, &file, true) {
-        Ok(tal) => {
-            let is_fit = below(words, out, &tal, &anchor, now);
-            drop(tal);
-            is_fit
-        }
-        Err(error) => {
-            if error.is_memory() {
-                out.fail();
-            }
-            drop(error);
-            None
-        }
-    }
+    let tal = locator_of(words, out, 4)?;
+    let is_fit = below(words, out, &tal, &anchor, now);
+    drop(tal);
+    is_fit
 }
 
 /// Tells what the last member of a path below a locator holds, or which member is refused, and why,

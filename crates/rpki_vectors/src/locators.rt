@@ -34,8 +34,7 @@ fn has_key(out: &mut Answer, tal: &Tal, asked: Result<PublicKey, DecodeError>) {
 fn found(words: &Words<'_>, out: &mut Answer, tal: &Tal) {
     out.text("ok");
     uris(out, tal);
-    out.field("key");
-    public_key(out, tal.key_info());
+    public_key(out.field("key"), tal.key_info());
     let octets = words.bytes(out, 3);
     let asked = PublicKey::from_bytes(out.alloc(), octets);
     has_key(out, tal, asked);
@@ -48,12 +47,27 @@ fn told(words: &Words<'_>, out: &mut Answer, answer: Result<Tal, TalError>) {
             drop(tal);
         }
         Err(error) => {
-            out.text("refused ");
-            out.name(error.name());
+            out.refused_as(error.name());
             if error.is_memory() {
                 out.fail();
             }
             drop(error);
+        }
+    }
+}
+
+/// Returns the locator that the octets of a word are, strictly; none where they are none.
+pub fn locator_of(words: &Words<'_>, out: &mut Answer, place: usize) -> Option<Tal> {
+    let file = words.octets(out, place);
+    let name = String::new(out.alloc());
+    match Tal::read_named(out.alloc(), name, &file, true) {
+        Ok(tal) => Some(tal),
+        Err(error) => {
+            if error.is_memory() {
+                out.fail();
+            }
+            drop(error);
+            None
         }
     }
 }

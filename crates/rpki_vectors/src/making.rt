@@ -1,7 +1,7 @@
 //! Certificates that are made from fields.
 use crate::answer::Answer;
 use crate::certificates::{fields, written};
-use crate::sets::{blocks, named_mode, resources_of};
+use crate::sets::{blocks, named_mode, push_all, resources_of};
 use crate::words::{Words, bytes, moment, octets, shared_characters};
 use rpki_blocks::{Addr, Asn};
 use rpki_cert::{Cert, ExtendedKeyUsage, KeyUsage, Overclaim, TbsCert};
@@ -228,30 +228,15 @@ fn as_iterated(alloc: Global, word: &str, data: &mut TbsCert) -> Result<(), Allo
 }
 
 fn v4_built(alloc: Global, word: &str, data: &mut TbsCert) -> Result<(), AllocError> {
-    data.build_v4_resource_blocks(alloc, |builder| {
-        for block in blocks::<Addr>(alloc, word)? {
-            builder.push(block)?;
-        }
-        Ok(())
-    })
+    data.build_v4_resource_blocks(alloc, |builder| push_all(alloc, word, builder))
 }
 
 fn v6_built(alloc: Global, word: &str, data: &mut TbsCert) -> Result<(), AllocError> {
-    data.build_v6_resource_blocks(alloc, |builder| {
-        for block in blocks::<Addr>(alloc, word)? {
-            builder.push(block)?;
-        }
-        Ok(())
-    })
+    data.build_v6_resource_blocks(alloc, |builder| push_all(alloc, word, builder))
 }
 
 fn as_built(alloc: Global, word: &str, data: &mut TbsCert) -> Result<(), AllocError> {
-    data.build_as_resource_blocks(alloc, |builder| {
-        for block in blocks::<Asn>(alloc, word)? {
-            builder.push(block)?;
-        }
-        Ok(())
-    })
+    data.build_as_resource_blocks(alloc, |builder| push_all(alloc, word, builder))
 }
 
 // The three words that say which numbers are listed; a word that is absent lists none.
@@ -310,8 +295,7 @@ fn finished<T: Form>(out: &mut Answer, made: Result<T, SigningError<()>>) {
     match made {
         Ok(it) => it.form(out),
         Err(error) => {
-            out.field("certificate");
-            out.name(error.name());
+            out.field("certificate").name(error.name());
         }
     }
 }

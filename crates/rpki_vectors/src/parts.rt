@@ -71,32 +71,27 @@ pub fn key_identifier(out: &mut Answer, it: Option<KeyIdentifier>) {
 
 impl Show for Serial {
     fn show(&self, out: &mut Answer) {
-        out.field("serial");
-        serial(out, *self);
+        serial(out.field("serial"), *self);
     }
 }
 
 impl Show for Time {
     fn show(&self, out: &mut Answer) {
-        out.field("time");
-        time(out, *self);
+        time(out.field("time"), *self);
     }
 }
 
 impl Show for Validity {
     fn show(&self, out: &mut Answer) {
-        out.field("not-before");
-        time(out, self.not_before());
-        out.field("not-after");
-        time(out, self.not_after());
+        time(out.field("not-before"), self.not_before());
+        time(out.field("not-after"), self.not_after());
         put_again!(out, octets => self.encode(out.alloc(), &mut octets));
     }
 }
 
 impl Show for KeyIdentifier {
     fn show(&self, out: &mut Answer) {
-        out.field("identifier");
-        key_identifier(out, Some(*self));
+        key_identifier(out.field("identifier"), Some(*self));
         put_again!(out, octets => self.encode_ref(out.alloc(), &mut octets));
         out.field("written-80");
         let mut tagged: Vec<u8> = Vec::new(out.alloc());
@@ -108,17 +103,16 @@ impl Show for KeyIdentifier {
 impl Show for RpkiSignatureAlgorithm {
     fn show(&self, out: &mut Answer) {
         put_again!(out, octets => self.x509_encode(out.alloc(), &mut octets));
-        out.field("is-default");
-        out.yes(*self == RpkiSignatureAlgorithm::default());
-        out.field("is-without-parameter");
-        out.yes(*self == RpkiSignatureAlgorithm::without_parameter());
+        out.field("is-default")
+            .yes(*self == RpkiSignatureAlgorithm::default());
+        out.field("is-without-parameter")
+            .yes(*self == RpkiSignatureAlgorithm::without_parameter());
     }
 }
 
 impl Show for Name {
     fn show(&self, out: &mut Answer) {
-        out.field("name");
-        out.octets(self.as_bytes());
+        out.field("name").octets(self.as_bytes());
         put_again!(out, octets => self.encode_ref(out.alloc(), &mut octets));
     }
 }
@@ -138,10 +132,8 @@ fn subject_name(out: &mut Answer, found: Result<Name, EncodeError>) {
 
 impl Show for PublicKey {
     fn show(&self, out: &mut Answer) {
-        out.field("key");
-        public_key(out, self);
-        out.field("key-identifier");
-        key_identifier(out, Some(self.key_identifier()));
+        public_key(out.field("key"), self);
+        key_identifier(out.field("key-identifier"), Some(self.key_identifier()));
         out.field("subject-name");
         let found = self.to_subject_name(out.alloc());
         subject_name(out, found);
@@ -157,12 +149,9 @@ impl Twin for PublicKey {
 
 impl Show for SignedData {
     fn show(&self, out: &mut Answer) {
-        out.field("data");
-        out.octets(self.data());
-        out.field("algorithm");
-        algorithm(out, self.signature().algorithm());
-        out.field("signature");
-        out.octets(self.signature().value());
+        out.field("data").octets(self.data());
+        algorithm(out.field("algorithm"), self.signature().algorithm());
+        out.field("signature").octets(self.signature().value());
         put_again!(out, octets => self.encode_ref(out.alloc(), &mut octets));
     }
 }
@@ -236,8 +225,7 @@ fn taken(words: &Words<'_>, out: &mut Answer) -> bool {
 // The serial of a number, and that of its lower half.
 fn serial_of(out: &mut Answer, n: u128) {
     out.text("ok");
-    out.field("serial");
-    serial(out, Serial::from(n));
+    serial(out.field("serial"), Serial::from(n));
     out.field("serial-of-lower-half");
     let low = u64::try_from(n & 0xFFFF_FFFF_FFFF_FFFF).unwrap_or(0);
     serial(out, Serial::from(low));
@@ -274,8 +262,7 @@ pub fn part(words: &Words<'_>, out: &mut Answer) -> bool {
 
 fn order(out: &mut Answer, it: Ordering) {
     out.text("ok");
-    out.field("order");
-    out.text(match it {
+    out.field("order").text(match it {
         Ordering::Less => "less",
         Ordering::Equal => "equal",
         Ordering::Greater => "greater",
@@ -286,10 +273,8 @@ fn ordered<T: Ord + Copy>(out: &mut Answer, one: Option<T>, other: Option<T>) {
     match (one, other) {
         (Some(a), Some(b)) => {
             order(out, a.cmp(&b));
-            out.field("equal");
-            out.yes(a == b);
-            out.field("less");
-            out.yes(a < b);
+            out.field("equal").yes(a == b);
+            out.field("less").yes(a < b);
         }
         _ => out.text("none"),
     }

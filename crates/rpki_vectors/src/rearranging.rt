@@ -67,10 +67,7 @@ pub fn rearrange(words: &Words<'_>, out: &mut Answer) {
             out.text("ok ");
             out.octets(&answer);
         }
-        Err(error) => {
-            out.text("refused ");
-            out.name(error.name());
-        }
+        Err(error) => out.refused_as(error.name()),
     }
     drop(extras);
 }

@@ -87,8 +87,7 @@ fn answered<V: Verifier>(out: &mut Answer, words: &Words<'_>, verifier: &V) -> O
     out.follow(&cached);
     is_fit?;
     out.text(plain.line());
-    out.field("cached");
-    out.compared(&plain, &cached);
+    out.field("cached").compared(&plain, &cached);
     Some(())
 }
 

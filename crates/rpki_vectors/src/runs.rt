@@ -43,15 +43,10 @@ fn show(out: &mut Answer, ended: Result<Status, RunFault>, printed: &[u8], is_na
     match ended {
         Ok(status) => {
             out.text("ok");
-            out.field("status");
-            out.text(name(status));
-            out.field("printed");
-            show_printed(out, printed, is_named);
+            out.field("status").text(name(status));
+            show_printed(out.field("printed"), printed, is_named);
         }
-        Err(fault) => {
-            out.text("refused ");
-            out.name(fault.name());
-        }
+        Err(fault) => out.refused_as(fault.name()),
     }
 }
 

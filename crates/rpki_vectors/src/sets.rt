@@ -50,8 +50,7 @@ impl Kind for Addr {
     }
 
     fn print_more(out: &mut Answer, set: &IpBlocks) {
-        out.field("is-v4");
-        out.yes(set.is_v4());
+        out.field("is-v4").yes(set.is_v4());
     }
 
     fn print_extension(out: &mut Answer, set: &IpBlocks, listed: &IpResources, mode: Overclaim) {
@@ -154,11 +153,21 @@ pub fn resources_of<B: Kind>(out: &mut Answer, word: &str) -> Resources<B> {
     }
 }
 
-fn built<B: Kind>(alloc: Global, word: &str) -> Result<Chain<B>, AllocError> {
-    let mut builder = BlocksBuilder::new(alloc);
+/// Pushes the blocks of a word.
+pub fn push_all<B: Kind>(
+    alloc: Global,
+    word: &str,
+    builder: &mut BlocksBuilder<B>,
+) -> Result<(), AllocError> {
     for block in blocks::<B>(alloc, word)? {
         builder.push(block)?;
     }
+    Ok(())
+}
+
+fn built<B: Kind>(alloc: Global, word: &str) -> Result<Chain<B>, AllocError> {
+    let mut builder = BlocksBuilder::new(alloc);
+    push_all(alloc, word, &mut builder)?;
     builder.finalize()
 }
 
@@ -194,36 +203,36 @@ fn issued<B: Kind>(out: &mut Answer, one: &Chain<B>, resources: &Resources<B>, m
 
 fn alone<B: Kind>(words: &Words<'_>, out: &mut Answer, one: &Chain<B>) {
     out.text("ok");
-    out.field("set");
-    set(out, one);
+    set(out.field("set"), one);
     out.field("built");
     let found = built::<B>(out.alloc(), words.at(2));
     shown(out, found);
-    out.field("is-empty");
-    out.yes(one.is_empty());
+    out.field("is-empty").yes(one.is_empty());
     B::print_more(out, one);
-    out.field("contains");
-    contains(out, one, words.at(4));
+    contains(out.field("contains"), one, words.at(4));
 }
 
 fn under<B: Kind>(out: &mut Answer, one: &Chain<B>, resources: &Resources<B>) {
-    out.field("listed");
-    listed(out, resources);
-    out.field("issued-refuse");
-    issued(out, one, resources, Overclaim::Refuse);
-    out.field("issued-trim");
-    issued(out, one, resources, Overclaim::Trim);
-    out.field("written-refuse");
-    B::print_extension(out, one, resources, Overclaim::Refuse);
-    out.field("written-trim");
-    B::print_extension(out, one, resources, Overclaim::Trim);
+    listed(out.field("listed"), resources);
+    issued(
+        out.field("issued-refuse"),
+        one,
+        resources,
+        Overclaim::Refuse,
+    );
+    issued(out.field("issued-trim"), one, resources, Overclaim::Trim);
+    B::print_extension(
+        out.field("written-refuse"),
+        one,
+        resources,
+        Overclaim::Refuse,
+    );
+    B::print_extension(out.field("written-trim"), one, resources, Overclaim::Trim);
 }
 
 fn both<B: Kind>(out: &mut Answer, one: &Chain<B>, other: &Chain<B>) {
-    out.field("within");
-    out.yes(one.is_encompassed(other));
-    out.field("contains-all");
-    out.yes(other.is_encompassed(one));
+    out.field("within").yes(one.is_encompassed(other));
+    out.field("contains-all").yes(other.is_encompassed(one));
     out.field("common");
     let found = one.intersection(out.alloc(), other);
     shown(out, found);
@@ -294,8 +303,7 @@ fn prefix_shown(out: &mut Answer, found: Result<IpBlocks, AllocError>) {
     match found {
         Ok(blocks) => {
             out.text("ok");
-            out.field("set");
-            set(out, &blocks);
+            set(out.field("set"), &blocks);
             Addr::print_more(out, &blocks);
         }
         Err(_) => out.fail(),
@@ -321,8 +329,7 @@ pub fn mode(it: Overclaim) -> &'static str {
 }
 
 fn mode_of(out: &mut Answer, name: &str, found: Option<Overclaim>) {
-    out.field(name);
-    out.text(match found {
+    out.field(name).text(match found {
         Some(it) => mode(it),
         None => "none",
     });
@@ -347,14 +354,10 @@ pub fn named_mode(word: &str) -> Overclaim {
 
 fn identifiers(out: &mut Answer, it: Overclaim) {
     out.text("ok");
-    out.field("mode");
-    out.text(mode(it));
-    out.field("policy");
-    out.octets(it.policy_id());
-    out.field("ip-resources");
-    out.octets(it.ip_res_id());
-    out.field("as-resources");
-    out.octets(it.as_res_id());
+    out.field("mode").text(mode(it));
+    out.field("policy").octets(it.policy_id());
+    out.field("ip-resources").octets(it.ip_res_id());
+    out.field("as-resources").octets(it.as_res_id());
 }
 
 fn family(out: &mut Answer, it: Option<&IpResources>) {
@@ -381,17 +384,14 @@ fn families(
     found: Result<(Option<IpResources>, Option<IpResources>), DecodeError>,
 ) {
     let (v4, v6) = read_or_return!(out, found);
-    out.field("v4-resources");
-    family(out, v4.as_ref());
-    out.field("v6-resources");
-    family(out, v6.as_ref());
+    family(out.field("v4-resources"), v4.as_ref());
+    family(out.field("v6-resources"), v6.as_ref());
     families_or_missing(out, v4, v6);
 }
 
 fn numbers(out: &mut Answer, found: Result<AsResources, DecodeError>) {
     let it = read_or_return!(out, found);
-    out.field("as-resources");
-    listed(out, &it);
+    listed(out.field("as-resources"), &it);
     put_behind!(out, "written", octets =>
         it.encode_extension(out.alloc(), &mut octets, Overclaim::Trim));
 }

@@ -26,8 +26,7 @@ fn parent(out: &mut Answer, uri: &Rsync, found: Result<Option<Rsync>, AllocError
     match found {
         Ok(Some(parent)) => {
             out.characters(parent.as_bytes());
-            out.field("parent-is");
-            out.yes(uri.parent_is(&parent));
+            out.field("parent-is").yes(uri.parent_is(&parent));
         }
         Ok(None) => out.text("none"),
         Err(_) => out.fail(),
@@ -36,8 +35,7 @@ fn parent(out: &mut Answer, uri: &Rsync, found: Result<Option<Rsync>, AllocError
 
 impl Show for Rsync {
     fn show(&self, out: &mut Answer) {
-        out.field("uri");
-        out.characters(self.as_bytes());
+        out.field("uri").characters(self.as_bytes());
         out.field("parent");
         let found = self.parent(out.alloc());
         parent(out, self, found);
@@ -52,8 +50,7 @@ impl Twin for Rsync {
 
 impl Show for Https {
     fn show(&self, out: &mut Answer) {
-        out.field("uri");
-        out.characters(self.as_bytes());
+        out.field("uri").characters(self.as_bytes());
     }
 }
 
@@ -73,10 +70,7 @@ fn of_octets<T: Twin>(out: &mut Answer, answer: Result<T, BadUri>) {
 fn of_text<T: Twin>(out: &mut Answer, answer: Result<T, UriError>) {
     match answer {
         Ok(uri) => found(out, &uri),
-        Err(error) => {
-            out.text("refused ");
-            out.name(error.name());
-        }
+        Err(error) => out.refused_as(error.name()),
     }
 }
 
@@ -85,8 +79,7 @@ fn rsync_text(out: &mut Answer, first: &Answer, octets: &[u8]) {
     if let Ok(text) = str::from_utf8(octets) {
         let mut other = out.beside();
         of_text(&mut other, Rsync::from_text(out.alloc(), text));
-        out.field("text");
-        out.compared(first, &other);
+        out.field("text").compared(first, &other);
     }
 }
 
@@ -94,8 +87,7 @@ fn https_text(out: &mut Answer, first: &Answer, octets: &[u8]) {
     if let Ok(text) = str::from_utf8(octets) {
         let mut other = out.beside();
         of_text(&mut other, Https::from_text(out.alloc(), text));
-        out.field("text");
-        out.compared(first, &other);
+        out.field("text").compared(first, &other);
     }
 }
 
@@ -104,16 +96,14 @@ fn rsync_piece(words: &Words<'_>, out: &mut Answer, first: &Answer) {
     let mut other = out.beside();
     let piece = Piece::from(shared_characters(out, words.at(1)));
     of_octets(&mut other, Rsync::from_piece(piece));
-    out.field("piece");
-    out.compared(first, &other);
+    out.field("piece").compared(first, &other);
 }
 
 fn https_piece(words: &Words<'_>, out: &mut Answer, first: &Answer) {
     let mut other = out.beside();
     let piece = Piece::from(shared_characters(out, words.at(1)));
     of_octets(&mut other, Https::from_piece(piece));
-    out.field("piece");
-    out.compared(first, &other);
+    out.field("piece").compared(first, &other);
 }
 
 fn rsync_read(words: &Words<'_>, out: &mut Answer) {
@@ -144,8 +134,7 @@ fn parent_found(out: &mut Answer, found: Result<Option<Rsync>, AllocError>) {
     match found {
         Ok(Some(parent)) => {
             out.text("ok");
-            out.field("uri");
-            out.characters(parent.as_bytes());
+            out.field("uri").characters(parent.as_bytes());
         }
         Ok(None) => out.text("none"),
         Err(_) => out.fail(),
@@ -180,14 +169,10 @@ fn rsync_pair(out: &mut Answer, one: Result<Rsync, BadUri>, other: Result<Rsync,
     match (one, other) {
         (Ok(a), Ok(b)) => {
             out.text("ok");
-            out.field("equal");
-            out.yes(a == b);
-            out.field("identical");
-            out.yes(a.is_identical_to(&b));
-            out.field("second-is-parent");
-            out.yes(a.parent_is(&b));
-            out.field("first-is-parent");
-            out.yes(b.parent_is(&a));
+            out.field("equal").yes(a == b);
+            out.field("identical").yes(a.is_identical_to(&b));
+            out.field("second-is-parent").yes(a.parent_is(&b));
+            out.field("first-is-parent").yes(b.parent_is(&a));
         }
         _ => out.text("none"),
     }
@@ -197,8 +182,7 @@ fn https_pair(out: &mut Answer, one: Result<Https, BadUri>, other: Result<Https,
     match (one, other) {
         (Ok(a), Ok(b)) => {
             out.text("ok");
-            out.field("equal");
-            out.yes(a == b);
+            out.field("equal").yes(a == b);
         }
         _ => out.text("none"),
     }

@@ -40,12 +40,9 @@ fn refused(out: &mut Answer, error: &ValidationError) {
 /// Appends the sets of a certificate that was verified.
 pub fn held(out: &mut Answer, cert: &ResourceCert) {
     out.text("ok");
-    out.field("v4");
-    set(out, cert.v4_resources());
-    out.field("v6");
-    set(out, cert.v6_resources());
-    out.field("as");
-    set(out, cert.as_resources());
+    set(out.field("v4"), cert.v4_resources());
+    set(out.field("v6"), cert.v6_resources());
+    set(out.field("as"), cert.as_resources());
 }
 
 fn verdict(out: &mut Answer, answer: Result<ResourceCert, ValidationError>) {
@@ -121,10 +118,7 @@ impl Member for Cert {
 fn verified(out: &mut Answer, answer: Result<(), VerificationError>) {
     match answer {
         Ok(()) => out.text("ok"),
-        Err(error) => {
-            out.text("refused ");
-            out.name(error.name());
-        }
+        Err(error) => out.refused_as(error.name()),
     }
 }
 

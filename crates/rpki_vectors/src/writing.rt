@@ -44,8 +44,7 @@ pub(crate) use put_behind;
 
 fn done(out: &mut Answer, answer: Result<(), EncodeError>, octets: &[u8]) {
     out.text("ok");
-    out.field("written");
-    behind(out, answer, octets);
+    behind(out.field("written"), answer, octets);
 }
 
 fn tagged(words: &Words<'_>, out: &mut Answer, tag: u8) {
