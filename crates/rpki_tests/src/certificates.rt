@@ -5,7 +5,6 @@
 mod builders;
 mod comparing;
 mod cursors;
-mod refusals;
 mod sets;
 mod signing;
 mod texts;

@@ -1,7 +1,8 @@
 //! How often the verdict on a path asks for a signature.
 
-use crate::lists;
-use crate::samples::{self, day, rsa};
+use crate::anchors;
+use crate::lists::plain;
+use crate::samples::{self, rsa};
 use bytes::Bytes;
 use rpki_cert::{KeyUsage, Kind, TbsCert};
 use rpki_crl::Crl;
@@ -73,19 +74,10 @@ fn end_entity(rt: &impl Abort, alloc: Global, key: &'static [u8], issuer: &'stat
     signed(rt, alloc, tbs, issuer)
 }
 
-// A list of this key's, which revokes none.
-fn list(rt: &impl Abort, alloc: Global, key: &'static [u8]) -> Crl {
-    let mut data = lists::data(rt, alloc);
-    data.set_revoked_certs(Vec::new(alloc));
-    data.set_authority_key_identifier(rsa(key).key_identifier());
-    let made = data.into_crl(alloc, &StandIn, &rsa(key));
-    made.expect(rt, "a list")
-}
-
 // A trust anchor, two CAs and an end entity, each with a key of its own.
 fn members(rt: &impl Abort, alloc: Global) -> [Bytes; 4] {
     [
-        samples::anchor_octets(alloc).expect(rt, "memory"),
+        anchors::octets(rt, alloc),
         authority(rt, alloc, b"first", b"abc"),
         authority(rt, alloc, b"second", b"first"),
         end_entity(rt, alloc, b"last", b"second"),
@@ -98,7 +90,7 @@ fn signatures(rt: &impl Abort, alloc: Global, lists: &[Crl]) -> usize {
     let strings = members(rt, alloc);
     let given = Member::of_each(alloc, &strings).expect(rt, "memory");
     let path = GivenPath::of(&given, Kind::Detached).expect(rt, "four members");
-    let now = day(2024).expect(rt, "a day");
+    let now = anchors::now(rt);
     let counting = Counting {
         calls: Cell::new(0),
     };
@@ -111,9 +103,9 @@ fn signatures(rt: &impl Abort, alloc: Global, lists: &[Crl]) -> usize {
 fn each_signature_of_a_path_and_its_lists_is_verified_once(rt: HostRuntime) {
     let alloc = rt.alloc();
     let given = [
-        list(&rt, alloc, b"second"),
-        list(&rt, alloc, b"abc"),
-        list(&rt, alloc, b"first"),
+        plain(&rt, alloc, b"second"),
+        plain(&rt, alloc, b"abc"),
+        plain(&rt, alloc, b"first"),
     ];
     assert_eq!(rt; signatures(&rt, alloc, &given), 7);
     let [second, anchor, first] = given;

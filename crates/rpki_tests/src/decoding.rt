@@ -1,6 +1,7 @@
 //! Where the reading of octets stops that begin with no certificate, or with no list (RFC 5280 4.1,
 //! 5.1).
 
+use crate::anchors::octets;
 use crate::lists::TWO;
 use crate::samples;
 use bytes::Bytes;
@@ -38,10 +39,6 @@ const CUT: &str = "truncated value: the outer SEQUENCE, from octet 0";
 
 const SEQUENCE: &str = "a SEQUENCE that ends within the file (RFC 5280 4.1, 5.1)";
 
-fn anchor(rt: &impl Abort, alloc: Global) -> Bytes {
-    samples::anchor_octets(alloc).expect(rt, "memory")
-}
-
 // That these octets stand at this place.
 fn assert_stands(rt: &impl Abort, octets: &[u8], place: usize, wanted: &[u8]) {
     let behind = octets.get(place..).expect(rt, "the place");
@@ -64,7 +61,7 @@ fn of_no_octets(rt: HostRuntime) {
 
 #[test]
 fn of_a_certificate_that_is_cut(rt: HostRuntime) {
-    let octets = anchor(&rt, rt.alloc());
+    let octets = octets(&rt, rt.alloc());
     let last = octets.len().checked_sub(1).expect(&rt, "an octet");
     let cut = octets.slice(0..last).expect(&rt, "memory");
     assert_no_cert(&rt, rt.alloc(), &cut, CUT, SEQUENCE);
@@ -73,7 +70,7 @@ fn of_a_certificate_that_is_cut(rt: HostRuntime) {
 // Both headers have four octets, and the version five.
 #[test]
 fn of_a_negative_serial_number(rt: HostRuntime) {
-    let octets = anchor(&rt, rt.alloc());
+    let octets = octets(&rt, rt.alloc());
     assert_stands(&rt, &octets, 13, b"\x02\x01\x0c");
     let negative = altered(&rt, rt.alloc(), &octets, 15, 0x80);
     let wanted = "an INTEGER that isn't negative, of 20 octets at most (RFC 5280 4.1.2.2)";
@@ -97,7 +94,7 @@ fn of_a_list_of_version_3(rt: HostRuntime) {
 
 #[test]
 fn others_are_decoded(rt: HostRuntime) {
-    let cert = decode_cert(rt.alloc(), &anchor(&rt, rt.alloc()));
+    let cert = decode_cert(rt.alloc(), &octets(&rt, rt.alloc()));
     let cert = cert.expect(&rt, "a certificate");
     assert!(rt; cert.as_tbs().serial_number() == Serial::from(12u64));
     drop(cert);

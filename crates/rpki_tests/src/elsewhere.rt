@@ -1,11 +1,12 @@
 //! Certificates and lists whose signatures come from elsewhere: prepared, signed, completed.
 
+use crate::anchors::{anchor, now};
 use crate::lists::data;
 use crate::samples::{self, day, rsa};
 use rpki_blocks::{AsBlock, Asn};
 use rpki_cert::{Cert, KeyUsage, Overclaim, ResourceCert, TbsCert, ValidationError};
 use rpki_crl::{Crl, CrlEntry, RevokedCertificates, TbsCertList};
-use rpki_der::{Serial, Time};
+use rpki_der::Serial;
 use rpki_issuing::{
     Checked, CheckedError, IssuingError, ListError, NextListError, Prepared, PreparedList, Role,
     complete, complete_list, next_list, prepare, prepare_list,
@@ -21,15 +22,6 @@ fn signed_by(rt: &impl Abort, alloc: Global, bits: &'static [u8], octets: &[u8])
     let signature = StandIn.sign(alloc, &key, algorithm, octets);
     drop(key);
     signature.expect(rt, "a signature")
-}
-
-fn now(rt: &impl Abort) -> Time {
-    day(2024).expect(rt, "a day")
-}
-
-fn anchor(rt: &impl Abort, alloc: Global) -> ResourceCert {
-    let octets = samples::anchor_octets(alloc).expect(rt, "memory");
-    samples::valid_anchor(alloc, octets, now(rt)).expect(rt, "an anchor")
 }
 
 fn prepared(rt: &impl Abort, alloc: Global, tbs: &TbsCert, role: &Role<'_>) -> Prepared {

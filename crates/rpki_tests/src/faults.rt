@@ -32,42 +32,32 @@ fn assert_fault<E: Display + Drop>(
     assert!(rt; matches!(numbered(told.number), Some(found) if found.name == told.name));
 }
 
-#[test]
-fn of_values_that_are_read(rt: HostRuntime) {
-    let faults = [
-        DecodeError::Truncated,
-        DecodeError::BadLength,
-        DecodeError::BadTag,
-        DecodeError::BadValue,
-        DecodeError::Trailing,
-        DecodeError::TooDeep,
-        DecodeError::AlgorithmMismatch,
-        DecodeError::Memory,
-    ];
-    for fault in faults {
-        let told = of_reading(&fault);
-        assert_fault(&rt, rt.alloc(), fault.name(), fault, told, "");
-    }
+// That each fault has its line, which this call finds, and prints the name of the part behind it.
+macro_rules! assert_faults {
+    ($rt:ident, $line:ident: $($fault:expr => $part:literal;)*) => {
+        for (fault, part) in [$(($fault, $part)),*] {
+            let told = $line(&fault);
+            assert_fault(&$rt, $rt.alloc(), fault.name(), fault, told, part);
+        }
+    };
 }
 
 #[test]
-fn of_fields_that_are_read(rt: HostRuntime) {
-    let faults = [
-        (DecodeError::Missing(Field::Resources), "Resources"),
-        (DecodeError::Duplicate(Field::KeyUsage), "KeyUsage"),
-        (DecodeError::Critical(Field::CrlNumber), "CrlNumber"),
-        (
-            DecodeError::NotCritical(Field::BasicConstraints),
-            "BasicConstraints",
-        ),
-        (
-            DecodeError::WrongResources(Field::IpResources),
-            "IpResources",
-        ),
-    ];
-    for (fault, part) in faults {
-        let told = of_reading(&fault);
-        assert_fault(&rt, rt.alloc(), fault.name(), fault, told, part);
+fn of_octets_that_are_read(rt: HostRuntime) {
+    assert_faults! { rt, of_reading:
+        DecodeError::Truncated => "";
+        DecodeError::BadLength => "";
+        DecodeError::BadTag => "";
+        DecodeError::BadValue => "";
+        DecodeError::Trailing => "";
+        DecodeError::TooDeep => "";
+        DecodeError::AlgorithmMismatch => "";
+        DecodeError::Memory => "";
+        DecodeError::Missing(Field::Resources) => "Resources";
+        DecodeError::Duplicate(Field::KeyUsage) => "KeyUsage";
+        DecodeError::Critical(Field::CrlNumber) => "CrlNumber";
+        DecodeError::NotCritical(Field::BasicConstraints) => "BasicConstraints";
+        DecodeError::WrongResources(Field::IpResources) => "IpResources";
     }
 }
 
@@ -98,56 +88,47 @@ fn of_parts(rt: HostRuntime) {
 
 // The texts of all others are compared where the sources are (tests/callers).
 #[test]
-fn of_certificates(rt: HostRuntime) {
+fn of_inspection_alone(rt: HostRuntime) {
     for fault in [
         InspectionError::AlgorithmMismatch,
         InspectionError::InheritedAsResources,
     ] {
-        assert_fault(
-            &rt,
-            rt.alloc(),
-            fault.name(),
-            fault,
-            of_inspection(fault),
-            "",
-        );
-    }
-    let faults = [
-        VerificationError::from(ValidityError::NotYetValid),
-        VerificationError::from(ValidityError::Expired),
-        VerificationError::InheritedV4,
-        VerificationError::InheritedV6,
-        VerificationError::InheritedAs,
-        VerificationError::MissingKeyId,
-        VerificationError::WrongKeyId,
-        VerificationError::MissingIssuerUri,
-        VerificationError::from(SignatureVerificationError),
-        VerificationError::OverclaimV4,
-        VerificationError::OverclaimV6,
-        VerificationError::OverclaimAs,
-        VerificationError::from(AllocError),
-    ];
-    for fault in faults {
-        let told = of_verification(&fault);
+        let told = of_inspection(fault);
         assert_fault(&rt, rt.alloc(), fault.name(), fault, told, "");
     }
 }
 
 #[test]
-fn of_lists_and_locators(rt: HostRuntime) {
-    let faults = [
-        RevocationError::NoCrl,
-        RevocationError::WrongKeyId,
-        RevocationError::BadSignature,
-        RevocationError::Stale,
-        RevocationError::Revoked,
-    ];
-    for fault in faults {
-        let told = of_revocation(&fault);
-        assert_fault(&rt, rt.alloc(), fault.name(), fault, told, "");
+fn of_certificates_and_lists(rt: HostRuntime) {
+    assert_faults! { rt, of_verification:
+        VerificationError::from(ValidityError::NotYetValid) => "";
+        VerificationError::from(ValidityError::Expired) => "";
+        VerificationError::InheritedV4 => "";
+        VerificationError::InheritedV6 => "";
+        VerificationError::InheritedAs => "";
+        VerificationError::MissingKeyId => "";
+        VerificationError::WrongKeyId => "";
+        VerificationError::MissingIssuerUri => "";
+        VerificationError::from(SignatureVerificationError) => "";
+        VerificationError::OverclaimV4 => "";
+        VerificationError::OverclaimV6 => "";
+        VerificationError::OverclaimAs => "";
+        VerificationError::from(AllocError) => "";
     }
-    for fault in [TalError::NoText, TalError::NoUri, TalError::Memory] {
-        let told = of_locator(&fault);
-        assert_fault(&rt, rt.alloc(), fault.name(), fault, told, "");
+    assert_faults! { rt, of_revocation:
+        RevocationError::NoCrl => "";
+        RevocationError::WrongKeyId => "";
+        RevocationError::BadSignature => "";
+        RevocationError::Stale => "";
+        RevocationError::Revoked => "";
+    }
+}
+
+#[test]
+fn of_locators(rt: HostRuntime) {
+    assert_faults! { rt, of_locator:
+        TalError::NoText => "";
+        TalError::NoUri => "";
+        TalError::Memory => "";
     }
 }

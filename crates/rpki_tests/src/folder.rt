@@ -1,32 +1,21 @@
 //! Folders: loops of keys, bounds that are met, and what is kept of verdicts.
 
 use crate::counting::Counting;
-use crate::lists;
 use crate::located::{OF_ANCHOR, OF_OTHER, locator};
-use crate::samples::{self, day, rsa};
+use crate::{anchors, lists, samples};
 use bytes::Bytes;
 use rpki_cert::{Cert, Said};
-use rpki_crl::{Crl, RevocationError};
+use rpki_crl::RevocationError;
 use rpki_folder::{Added, AllAdmitted, Bounds, Ended, Folder, Found, Line, Lines, Walk, WalkError};
-use rpki_parts::StandIn;
+use rpki_parts::{StandIn, Verifier};
 use rpki_path::{Member, PathFault};
 use std::alloc::Global;
 use std::cell::Cell;
 use std::process::Abort;
 
-// A list of the anchor's key that revokes nothing.
-fn list(rt: &impl Abort, alloc: Global) -> Crl {
-    let mut data = lists::data(rt, alloc);
-    data.set_revoked_certs(Vec::new(alloc));
-    data.set_this_update(day(2019).expect(rt, "a day"));
-    data.set_next_update(day(2029).expect(rt, "a day"));
-    data.into_crl(alloc, &StandIn, &rsa(b"abc"))
-        .expect(rt, "a list")
-}
-
-// Its octets.
+// The octets of a list of the anchor's key that revokes nothing.
 fn list_octets(rt: &impl Abort, alloc: Global) -> Bytes {
-    let list = list(rt, alloc);
+    let list = lists::plain(rt, alloc, b"abc");
     let octets = list.to_captured(alloc).expect(rt, "memory");
     drop(list);
     octets
@@ -45,6 +34,25 @@ fn add(rt: &impl Abort, folder: &mut Folder, octets: Bytes) -> Added {
     folder.add(octets).expect(rt, "memory")
 }
 
+// A walk in 2024, to this depth and of so many steps.
+fn walk<'w, V: Verifier>(
+    rt: &impl Abort,
+    alloc: Global,
+    folder: &'w Folder,
+    bounds: Bounds,
+    verifier: &'w V,
+) -> Walk<'w, AllAdmitted, V> {
+    Walk {
+        alloc,
+        folder,
+        admission: &AllAdmitted,
+        bounds,
+        strict: true,
+        at: anchors::now(rt),
+        verifier,
+    }
+}
+
 // Walks down from the anchor, and returns how the walk ended, with the lines.
 fn walked(
     rt: &impl Abort,
@@ -55,16 +63,8 @@ fn walked(
 ) -> (Ended, Lines) {
     let mut lines = Lines::new(alloc, folder.certs().len()).expect(rt, "memory");
     let tal = locator(rt, alloc, OF_ANCHOR);
-    let anchor = samples::anchor_octets(alloc).expect(rt, "memory");
-    let walk = Walk {
-        alloc,
-        folder,
-        admission: &AllAdmitted,
-        bounds: Bounds { depth, steps },
-        strict: true,
-        at: day(2024).expect(rt, "a day"),
-        verifier: &StandIn,
-    };
+    let anchor = anchors::octets(rt, alloc);
+    let walk = walk(rt, alloc, folder, Bounds { depth, steps }, &StandIn);
     let ended = walk.from_anchor(&tal, &Member::of(&anchor), &mut lines);
     let ended = ended.expect(rt, "an anchor");
     drop(tal);
@@ -101,7 +101,8 @@ fn a_loop_of_keys_ends_with_the_steps(rt: HostRuntime) {
     for _ in 0..40 {
         add(&rt, &mut folder, authority(&rt, alloc));
     }
-    folder.add_list(list(&rt, alloc)).expect(&rt, "memory");
+    let list = lists::plain(&rt, alloc, b"abc");
+    folder.add_list(list).expect(&rt, "memory");
     let (ended, lines) = walked(&rt, alloc, &folder, 20, 30);
     assert!(rt; ended == Ended::OutOfSteps);
     assert!(rt; line(&lines, 0) == (0, "accepted"));
@@ -150,16 +151,9 @@ fn without_a_list_nothing_is_accepted(rt: HostRuntime) {
 // Below the trust anchor of this locator, what is found of the first certificate.
 fn found(rt: &impl Abort, alloc: Global, folder: &Folder, file: &[u8]) -> Result<Found, WalkError> {
     let tal = locator(rt, alloc, file);
-    let anchor = samples::anchor_octets(alloc).expect(rt, "memory");
-    let walk = Walk {
-        alloc,
-        folder,
-        admission: &AllAdmitted,
-        bounds: Bounds { depth: 3, steps: 9 },
-        strict: true,
-        at: day(2024).expect(rt, "a day"),
-        verifier: &StandIn,
-    };
+    let anchor = anchors::octets(rt, alloc);
+    let bounds = Bounds { depth: 3, steps: 9 };
+    let walk = walk(rt, alloc, folder, bounds, &StandIn);
     let found = walk.find(&tal, &Member::of(&anchor), 0);
     drop(tal);
     found
@@ -200,16 +194,9 @@ fn a_walk_begins_below_an_issuer(rt: HostRuntime) {
     add(&rt, &mut folder, list_octets(&rt, alloc));
     let mut lines = Lines::new(alloc, 1).expect(&rt, "memory");
     let tal = locator(&rt, alloc, OF_ANCHOR);
-    let anchor = samples::anchor_octets(alloc).expect(&rt, "memory");
-    let walk = Walk {
-        alloc,
-        folder: &folder,
-        admission: &AllAdmitted,
-        bounds: Bounds { depth: 1, steps: 1 },
-        strict: true,
-        at: day(2024).expect(&rt, "a day"),
-        verifier: &StandIn,
-    };
+    let anchor = anchors::octets(&rt, alloc);
+    let bounds = Bounds { depth: 1, steps: 1 };
+    let walk = walk(&rt, alloc, &folder, bounds, &StandIn);
     let issuer = walk
         .trust_anchor(&tal, &Member::of(&anchor))
         .expect(&rt, "an anchor");
@@ -246,19 +233,12 @@ fn renewals_that_lie_side_by_side_are_both_walked(rt: HostRuntime) {
 fn verified(rt: &impl Abort, alloc: Global, folder: &Folder) -> usize {
     let mut lines = Lines::new(alloc, folder.certs().len()).expect(rt, "memory");
     let tal = locator(rt, alloc, OF_ANCHOR);
-    let anchor = samples::anchor_octets(alloc).expect(rt, "memory");
+    let anchor = anchors::octets(rt, alloc);
     let verifier = Counting {
         calls: Cell::new(0),
     };
-    let walk = Walk {
-        alloc,
-        folder,
-        admission: &AllAdmitted,
-        bounds: Bounds { depth: 3, steps: 9 },
-        strict: true,
-        at: day(2024).expect(rt, "a day"),
-        verifier: &verifier,
-    };
+    let bounds = Bounds { depth: 3, steps: 9 };
+    let walk = walk(rt, alloc, folder, bounds, &verifier);
     let ended = walk.from_anchor(&tal, &Member::of(&anchor), &mut lines);
     assert!(rt; ended.expect(rt, "an anchor") == Ended::Whole);
     drop(lines);

@@ -1,6 +1,7 @@
 //! Authorities are issued under an anchor, and lists are verified under it.
 
-use crate::samples::{self, Refusal, Refusing, day, rsa};
+use crate::anchors::now;
+use crate::samples::{self, Refusal, Refusing, rsa};
 use rpki_blocks::{AsBlock, Asn};
 use rpki_cert::{
     IssueCaError, KeyUsage, Overclaim, ResourceCert, TbsCert, ValidationError, VerificationError,
@@ -25,8 +26,7 @@ fn anchor_octets(rt: &impl Abort, alloc: Global) -> bytes::Bytes {
 }
 
 fn anchor(rt: &impl Abort, alloc: Global) -> ResourceCert {
-    let now = day(2024).expect(rt, "a day");
-    samples::valid_anchor(alloc, anchor_octets(rt, alloc), now).expect(rt, "an anchor")
+    samples::valid_anchor(alloc, anchor_octets(rt, alloc), now(rt)).expect(rt, "an anchor")
 }
 
 // The data of an authority that lists AS5 to AS20.
@@ -41,18 +41,10 @@ fn authority(rt: &impl Abort, alloc: Global, mode: Overclaim) -> TbsCert {
 type Issued = Result<ResourceCert, IssueCaError<()>>;
 
 fn issued(rt: &impl Abort, alloc: Global, issuer: &ResourceCert, mode: Overclaim) -> Issued {
-    let tbs = authority(rt, alloc, mode);
-    let now = day(2024).expect(rt, "a day");
-    issue_ca(
-        alloc,
-        tbs,
-        &StandIn,
-        &rsa(b"abc"),
-        issuer,
-        true,
-        now,
-        &StandIn,
-    )
+    let (tbs, key) = (authority(rt, alloc, mode), rsa(b"abc"));
+    let answer = issue_ca(alloc, tbs, &StandIn, &key, issuer, true, now(rt), &StandIn);
+    drop(key);
+    answer
 }
 
 fn name(answer: &Issued) -> &'static str {
@@ -76,18 +68,8 @@ fn one_that_overclaims_is_not_issued(rt: HostRuntime) {
 fn another_key_does_not_issue(rt: HostRuntime) {
     let anchor = anchor(&rt, rt.alloc());
     let tbs = authority(&rt, rt.alloc(), Overclaim::Trim);
-    let now = day(2024).expect(&rt, "a day");
-    let key = rsa(b"a");
-    let answer = issue_ca(
-        rt.alloc(),
-        tbs,
-        &StandIn,
-        &key,
-        &anchor,
-        true,
-        now,
-        &StandIn,
-    );
+    let (alloc, now, key) = (rt.alloc(), now(&rt), rsa(b"a"));
+    let answer = issue_ca(alloc, tbs, &StandIn, &key, &anchor, true, now, &StandIn);
     assert_eq!(rt; name(&answer), "BadSignature");
     drop(answer);
     drop(key);
@@ -104,9 +86,8 @@ fn refused_with(answer: &Result<ResourceCert, IssueCaError<u32>>) -> u32 {
 
 fn refused(rt: &impl Abort, alloc: Global, issuer: &ResourceCert) -> u32 {
     let tbs = authority(rt, alloc, Overclaim::Trim);
-    let now = day(2024).expect(rt, "a day");
     let signer = Refusing::new(Refusal::Own);
-    let answer = issue_ca(alloc, tbs, &signer, &7, issuer, true, now, &StandIn);
+    let answer = issue_ca(alloc, tbs, &signer, &7, issuer, true, now(rt), &StandIn);
     let key = refused_with(&answer);
     drop(answer);
     assert_eq!(rt; signer.calls(), 1);

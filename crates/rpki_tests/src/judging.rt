@@ -1,6 +1,6 @@
 //! The verdict on paths: each kind of last member, and a caller's own answer for revocation.
 
-use crate::samples::{self, day};
+use crate::{anchors, samples};
 use bytes::Bytes;
 use rpki_cert::{Cert, InspectionError, Kind, ResourceCert};
 use rpki_crl::RevocationError;
@@ -50,13 +50,12 @@ fn judged<R: RevocationSource>(
     kind: Kind,
     asked: &R,
 ) -> Result<Judged, PathError> {
-    let anchor = samples::anchor_octets(alloc).expect(rt, "memory");
+    let anchor = anchors::octets(rt, alloc);
     let authority = samples::authority_octets(alloc).expect(rt, "memory");
     let strings = [anchor, authority, last];
     let members = Member::of_each(alloc, &strings).expect(rt, "memory");
     let path = GivenPath::of(&members, kind).expect(rt, "three members");
-    let now = day(2024).expect(rt, "a day");
-    judge(alloc, &path, asked, true, now, &StandIn)
+    judge(alloc, &path, asked, true, anchors::now(rt), &StandIn)
 }
 
 // The serial numbers of the holder and of the router, if there is one.

@@ -5,6 +5,8 @@
 #![tactic(auto)]
 
 #[cfg(test)]
+mod anchors;
+#[cfg(test)]
 mod certificates;
 #[cfg(test)]
 mod counting;

@@ -31,6 +31,15 @@ pub(crate) fn data(rt: &impl Abort, alloc: Global) -> TbsCertList<Vec<CrlEntry>>
     )
 }
 
+/// The list of this key for ten years, which revokes nothing.
+pub(crate) fn plain(rt: &impl Abort, alloc: Global, key: &'static [u8]) -> Crl {
+    let mut data = data(rt, alloc);
+    data.set_revoked_certs(Vec::new(alloc));
+    data.set_authority_key_identifier(samples::rsa(key).key_identifier());
+    let made = data.into_crl(alloc, &StandIn, &samples::rsa(key));
+    made.expect(rt, "a list")
+}
+
 fn assert_made(rt: &impl Abort, alloc: Global, list: &Crl) {
     let kept = list.to_captured(alloc).expect(rt, "memory");
     assert!(rt; samples::has_hash(alloc, kept.as_slice(), MADE));

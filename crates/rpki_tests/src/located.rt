@@ -1,6 +1,6 @@
 //! Paths below the trust anchor of a locator.
 
-use crate::samples::{anchor_octets, day};
+use crate::anchors;
 use bytes::Bytes;
 use rpki_cert::{Cert, ResourceCert};
 use rpki_crl::CrlStore;
@@ -23,10 +23,6 @@ pub(crate) fn locator(rt: &impl Abort, alloc: Global, file: &[u8]) -> Tal {
     Tal::read_named(alloc, name, file, true).expect(rt, "a locator")
 }
 
-fn anchor(rt: &impl Abort, alloc: Global) -> Bytes {
-    anchor_octets(alloc).expect(rt, "memory")
-}
-
 type Located = Result<ResourceCert, LocatedError>;
 
 // The path of an anchor and these authorities, below the locator, with no list at all.
@@ -39,7 +35,7 @@ fn validated(
 ) -> Located {
     let tal = locator(rt, alloc, file);
     let store = CrlStore::new(alloc);
-    let now = day(2024).expect(rt, "a day");
+    let now = anchors::now(rt);
     let answer = validate_located(alloc, &tal, &store, anchor, cas, None, true, now, &StandIn);
     drop(store);
     drop(tal);
@@ -48,7 +44,7 @@ fn validated(
 
 #[test]
 fn an_anchor_of_the_locators_key_is_accepted(rt: HostRuntime) {
-    let anchor = anchor(&rt, rt.alloc());
+    let anchor = anchors::octets(&rt, rt.alloc());
     let answer = validated(&rt, rt.alloc(), OF_ANCHOR, &anchor, &[]);
     let last = answer.expect(&rt, "a path");
     assert_eq!(rt; last.tal().name(), "example");
@@ -57,7 +53,7 @@ fn an_anchor_of_the_locators_key_is_accepted(rt: HostRuntime) {
 
 #[test]
 fn a_key_is_asked_of_what_was_read_too(rt: HostRuntime) {
-    let octets = anchor(&rt, rt.alloc());
+    let octets = anchors::octets(&rt, rt.alloc());
     let shared = octets.clone().expect(&rt, "memory");
     let cert = Cert::decode_shared(rt.alloc(), shared).expect(&rt, "a certificate");
     for (file, wanted) in [(OF_ANCHOR, true), (OF_OTHER, false)] {

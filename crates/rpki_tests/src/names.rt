@@ -1,8 +1,9 @@
 //! Names that chain, certificate by certificate.
 
-use crate::samples::{anchor_octets, bare, day, rsa, set_places, signed, valid_anchor};
+use crate::anchors::anchor;
+use crate::samples::{bare, rsa, set_places, signed};
 use bytes::Bytes;
-use rpki_cert::{Cert, KeyUsage, ResourceCert};
+use rpki_cert::{Cert, KeyUsage};
 use rpki_parts::Name;
 use rpki_path::{is_self_named, names_chain};
 use std::alloc::Global;
@@ -33,13 +34,6 @@ fn named(rt: &impl Abort, alloc: Global, issuer: &[u8], subject: &[u8]) -> Cert 
     tbs.set_subject(name(rt, alloc, subject));
     let octets = signed(alloc, tbs).expect(rt, "memory");
     Cert::decode_shared(alloc, octets).expect(rt, "a certificate")
-}
-
-// The trust anchor, validated.
-fn anchor(rt: &impl Abort, alloc: Global) -> ResourceCert {
-    let octets = anchor_octets(alloc).expect(rt, "memory");
-    let now = day(2024).expect(rt, "a day");
-    valid_anchor(alloc, octets, now).expect(rt, "an anchor")
 }
 
 // Whether names chain from the trust anchor to a certificate with these two names.

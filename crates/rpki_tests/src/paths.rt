@@ -1,6 +1,6 @@
 //! Whole paths: long ones, and with a verifier of a caller's own.
 
-use crate::samples::{self, day};
+use crate::{anchors, samples};
 use bytes::Bytes;
 use rpki_blocks::Asn;
 use rpki_cert::{ResourceCert, VerificationError};
@@ -8,10 +8,6 @@ use rpki_parts::{PublicKey, RpkiSignatureAlgorithm, StandIn, TalInfo, Verifier};
 use rpki_path::{Leaf, PathError, PathFault, validate_path};
 use std::alloc::{AllocError, Global};
 use std::process::Abort;
-
-fn anchor(rt: &impl Abort, alloc: Global) -> Bytes {
-    samples::anchor_octets(alloc).expect(rt, "memory")
-}
 
 fn leaf(rt: &impl Abort, alloc: Global) -> Leaf {
     Leaf::DetachedEe(samples::end_entity_octets(alloc).expect(rt, "memory"))
@@ -31,7 +27,7 @@ fn authorities(rt: &impl Abort, alloc: Global, count: usize) -> Vec<Bytes> {
 type Validated = Result<ResourceCert, PathError>;
 
 fn validated<V: Verifier>(rt: &impl Abort, alloc: Global, count: usize, verifier: &V) -> Validated {
-    let (anchor, cas) = (anchor(rt, alloc), authorities(rt, alloc, count));
+    let (anchor, cas) = (anchors::octets(rt, alloc), authorities(rt, alloc, count));
     let leaf = Some(leaf(rt, alloc));
     let tal = TalInfo::from_name(String::new(alloc)).into_rc(alloc);
     let tal = tal.expect(rt, "memory");
@@ -42,7 +38,7 @@ fn validated<V: Verifier>(rt: &impl Abort, alloc: Global, count: usize, verifier
         leaf,
         tal,
         true,
-        day(2024).expect(rt, "a day"),
+        anchors::now(rt),
         verifier,
     )
 }

@@ -4,11 +4,12 @@
 //! -sha256 -sign KEY`, over the octets that the program of `reference/` writes of the same data
 //! (`encode_tbs`, `encode_list`). The private keys are lost.
 
+use crate::anchors::now;
 use crate::elsewhere::{fault, list_fault};
 use crate::samples::{self, day, shared};
 use rpki_cert::{Cert, KeyUsage, ResourceCert, TbsCert};
 use rpki_crl::{Crl, CrlEntry, RevokedCertificates, TbsCertList};
-use rpki_der::{Serial, Time};
+use rpki_der::Serial;
 use rpki_issuing::{
     IssuingError, ListError, Prepared, PreparedList, Role, complete, complete_list, prepare,
     prepare_list,
@@ -53,10 +54,6 @@ fn key(rt: &impl Abort, alloc: Global, digits: &str) -> PublicKey {
 
 fn octets(rt: &impl Abort, alloc: Global, digits: &str) -> Vec<u8> {
     samples::octets(alloc, digits).expect(rt, "memory")
-}
-
-fn now(rt: &impl Abort) -> Time {
-    day(2024).expect(rt, "a day")
 }
 
 // ---- the issuer

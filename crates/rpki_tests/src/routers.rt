@@ -1,5 +1,6 @@
 //! Routers' certificates below the last member of a path, with and without revocation lists.
 
+use crate::anchors::anchor;
 use crate::lists;
 use crate::samples::{self, day, rsa};
 use bytes::Bytes;
@@ -39,9 +40,7 @@ fn fault(
     lists: Option<&CrlStore>,
     year: i32,
 ) -> Option<PathFault> {
-    let anchor = samples::anchor_octets(alloc).expect(rt, "memory");
-    let then = day(2024).expect(rt, "a day");
-    let anchor = samples::valid_anchor(alloc, anchor, then).expect(rt, "an anchor");
+    let anchor = anchor(rt, alloc);
     let now = day(year).expect(rt, "a day");
     let answer = validate_router(alloc, octets, &anchor, lists, true, now, &StandIn);
     drop(anchor);

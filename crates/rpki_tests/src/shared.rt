@@ -1,20 +1,16 @@
 //! Octets that are shared: what is read of them keeps what it needs of their buffer.
 
-use crate::samples;
+use crate::{anchors, samples};
 use bytes::Bytes;
 use rpki_cert::Cert;
 use rpki_der::{Cursor, DecodeError};
 use std::alloc::Global;
 use std::process::Abort;
 
-fn anchor(rt: &impl Abort, alloc: Global) -> Bytes {
-    samples::anchor_octets(alloc).expect(rt, "memory")
-}
-
 // Three octets of zeros, then the anchor, then one more.
 fn between_zeros(rt: &impl Abort, alloc: Global) -> Bytes {
     let mut octets = Vec::from_slice(alloc, b"\x00\x00\x00").expect(rt, "memory");
-    let anchor = anchor(rt, alloc);
+    let anchor = anchors::octets(rt, alloc);
     octets.extend_from_slice(&anchor).expect(rt, "memory");
     octets.push(0).expect(rt, "memory");
     Bytes::from_vec(octets).expect(rt, "memory")

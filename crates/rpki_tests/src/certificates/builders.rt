@@ -1,9 +1,10 @@
-//! Resources that a caller's closure or iterator gives to certificate data.
+//! Resources that a caller's closure or iterator gives to certificate data; where it fails, nothing
+//! changes.
 
 use crate::samples;
 use rpki_blocks::{Addr, AsBlock, Asn, IpBlock, Prefix};
 use rpki_cert::TbsCert;
-use std::alloc::Global;
+use std::alloc::{AllocError, Global};
 use std::process::Abort;
 
 fn build_all(rt: &impl Abort, alloc: Global, tbs: &mut TbsCert) {
@@ -34,6 +35,31 @@ fn blocks_are_given(rt: HostRuntime) {
     assert!(rt; !tbs.has_ip_resources());
     assert!(rt; !tbs.as_resources().is_present());
     build_all(&rt, rt.alloc(), &mut tbs);
+    let octets = samples::written(rt.alloc(), &tbs).expect(&rt, "memory");
+    assert!(rt; samples::has_hash(rt.alloc(), &octets, samples::ANCHOR_DATA));
+    drop(tbs);
+}
+
+fn refuse_blocks(rt: &impl Abort, alloc: Global, tbs: &mut TbsCert) {
+    let block = IpBlock::from((Addr::from(1), Addr::from(2)));
+    let answer = tbs.build_v4_resource_blocks(alloc, |blocks| {
+        blocks.push(block)?;
+        Err(AllocError)
+    });
+    assert!(rt; answer.is_err());
+    let answer = tbs.build_v6_resource_blocks(alloc, |_| Err(AllocError));
+    assert!(rt; answer.is_err());
+    let answer = tbs.build_as_resource_blocks(alloc, |blocks| {
+        blocks.push((Asn::from(1), Asn::from(2)))?;
+        Err(AllocError)
+    });
+    assert!(rt; answer.is_err());
+}
+
+#[test]
+fn a_closure_that_fails_changes_nothing(rt: HostRuntime) {
+    let mut tbs = samples::anchor(rt.alloc()).expect(&rt, "memory");
+    refuse_blocks(&rt, rt.alloc(), &mut tbs);
     let octets = samples::written(rt.alloc(), &tbs).expect(&rt, "memory");
     assert!(rt; samples::has_hash(rt.alloc(), &octets, samples::ANCHOR_DATA));
     drop(tbs);

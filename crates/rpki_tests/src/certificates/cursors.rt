@@ -2,10 +2,7 @@
 
 use crate::samples;
 use bytes::Bytes;
-use rpki_cert::Cert;
 use rpki_der::{Cursor, DecodeError, Serial};
-use rpki_parts::KeyIdentifier;
-use std::alloc::Global;
 use std::process::Abort;
 
 fn assert_next(rt: &impl Abort, found: Result<Option<Cursor<'_>>, DecodeError>, rest: &[u8]) {
@@ -44,43 +41,4 @@ fn a_content_ends(rt: HostRuntime) {
     assert_none(&rt, content.take_opt_sequence());
     assert!(rt; content.finish().is_ok());
     drop(source);
-}
-
-#[test]
-fn two_forms_of_a_key_identifier(rt: HostRuntime) {
-    let id = samples::rsa(b"abc").key_identifier();
-    let mut out = Vec::new(rt.alloc());
-    id.encode_ref(rt.alloc(), &mut out).expect(&rt, "memory");
-    id.encode_ref_as(rt.alloc(), &mut out, 0x80)
-        .expect(&rt, "memory");
-    let octets = Bytes::from_vec(out).expect(&rt, "memory");
-    let mut cursor = Cursor::new(&octets);
-    assert!(rt; KeyIdentifier::take_from(&mut cursor).expect(&rt, "an identifier") == id);
-    let other = KeyIdentifier::take_from(&mut cursor);
-    assert!(rt; matches!(&other, Err(DecodeError::BadTag)));
-    drop(other);
-    assert_eq!(rt; cursor.span(), (22, 44));
-    assert_eq!(rt; cursor.rest().first(), Some(&0x80));
-    drop(octets);
-}
-
-fn is_there(rt: &impl Abort, found: Result<Option<Cert>, DecodeError>) -> bool {
-    let found = found.expect(rt, "a certificate or none");
-    let is_there = found.is_some();
-    drop(found);
-    is_there
-}
-
-#[test]
-fn a_certificate_is_taken_where_a_sequence_stands(rt: HostRuntime) {
-    let alloc: Global = rt.alloc();
-    let mut octets = samples::anchor_octets(alloc).expect(&rt, "memory");
-    let mut both = Vec::from_slice(alloc, &octets).expect(&rt, "memory");
-    both.push(0).expect(&rt, "memory");
-    octets = Bytes::from_vec(both).expect(&rt, "memory");
-    let mut cursor = Cursor::new(&octets);
-    assert!(rt; is_there(&rt, Cert::take_opt_from(alloc, &mut cursor)));
-    assert_eq!(rt; cursor.span(), (947, 948));
-    assert!(rt; !is_there(&rt, Cert::take_opt_from(alloc, &mut cursor)));
-    assert_eq!(rt; cursor.span(), (947, 948));
 }

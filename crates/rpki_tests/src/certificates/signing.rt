@@ -9,20 +9,6 @@ use std::cell::{Cell, RefCell};
 use std::process::Abort;
 
 #[test]
-fn an_anchor_is_made(rt: HostRuntime) {
-    let anchor = samples::anchor_octets(rt.alloc()).expect(&rt, "memory");
-    assert_eq!(rt; anchor.len(), 947);
-    assert!(rt; samples::has_hash(rt.alloc(), &anchor, samples::ANCHOR));
-}
-
-#[test]
-fn an_end_entity_is_made(rt: HostRuntime) {
-    let tbs = samples::end_entity(rt.alloc()).expect(&rt, "memory");
-    let end_entity = samples::signed(rt.alloc(), tbs).expect(&rt, "memory");
-    assert!(rt; samples::has_hash(rt.alloc(), &end_entity, samples::END_ENTITY));
-}
-
-#[test]
 fn a_router_is_made(rt: HostRuntime) {
     let tbs = samples::router(rt.alloc()).expect(&rt, "memory");
     let router = samples::signed(rt.alloc(), tbs).expect(&rt, "memory");
