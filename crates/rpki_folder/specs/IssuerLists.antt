@@ -47,7 +47,8 @@ FailsWithout x lists issuer e = (c : CertFields) → IsBelow issuer c
     → IsFirstFalse (by_lists x lists issuer c) revocation_checks e
 
 -- they are what is to be kept of the lists for the issuer
-pub record AreIssuers (x : Context) (lists : List CrlState) (issuer : TbsFields) (kept : IssuerFields) : Type 0 where
+pub record AreIssuers (x : Context) (lists : List CrlState) (issuer : TbsFields)
+    (kept : IssuerFields) : Type 0 where
   pub eligible : ArePicked (CanBeAsked x.verifies x.now issuer) lists kept.eligible
   pub otherwise : FailsWithout x lists issuer kept.otherwise
 
@@ -64,7 +65,8 @@ FailsBy now c l Revoked = IsNotAfter now l.list.fields.next_update × Revokes c 
 FailsBy now c l e = ⊥
 
 -- what is answered of a certificate by what was kept
-abbrev pub IsAnswered : {T : Type 0} → IssuerFields → Moment → CertFields → Result T RevocationError → Type 0
+abbrev pub IsAnswered : {T : Type 0} → IssuerFields → Moment → CertFields
+    → Result T RevocationError → Type 0
 IsAnswered kept now c (Ok v) =
     (l : CrlState) × IsLatestOf c kept.eligible l
     × IsNotAfter now l.list.fields.next_update × (Revokes c l → ⊥)

@@ -16,8 +16,8 @@ use std::alloc::{AllocError, Global};
 use std::marker::Model;
 
 /// What is kept of given lists for one issuer, so that each of them is verified once, and not once
-/// for each certificate below the issuer. It answers of these as [`rpki_path::revocation::GivenLists`] of
-/// all lists does.
+/// for each certificate below the issuer. It answers of these as
+/// [`rpki_path::revocation::GivenLists`] of all lists does.
 #[derive(Drop)]
 pub(crate) struct IssuerLists<'l> {
     // Those that can be asked.
@@ -157,8 +157,8 @@ impl<'l> IssuerLists<'l> {
         })
     }
 
-    /// Asks whether the certificate, which is valid below the issuer, is unrevoked. Takes no memory,
-    /// and verifies nothing.
+    /// Asks whether the certificate, which is valid below the issuer, is unrevoked. Takes no
+    /// memory, and verifies nothing.
     pub(crate) fn ask(&self, cert: &Cert, now: Time) -> Result<(), RevocationError>
         ensures { IsAnswered self.now now cert.now result }
     {

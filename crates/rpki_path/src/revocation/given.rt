@@ -61,8 +61,8 @@ fn is_for(list: &Crl, cert: &Cert) -> bool
     cert.as_tbs().authority_key_identifier() == Some(named)
 }
 
-/// Tells whether the time of the list has begun: its thisUpdate is neither after the moment nor after
-/// its own nextUpdate (RFC 5280 5.1.2.4, 5.1.2.5, 6.3.3).
+/// Tells whether the time of the list has begun: its thisUpdate is neither after the moment nor
+/// after its own nextUpdate (RFC 5280 5.1.2.4, 5.1.2.5, 6.3.3).
 pub fn has_begun(list: &Crl, now: Time) -> bool
     ensures { IsTrue result ↔ HasBegun now list.now.list }
 {
@@ -140,8 +140,8 @@ fn supersedes_equal(list: &Crl, kept: &Crl, cert: &Cert) -> bool
 }
 
 /// Tells whether a list takes the place of another one of the same issuer, where it is asked of the
-/// certificate: the greater number supersedes (RFC 6487 5). Two different lists never have one number
-/// (RFC 5280 5.2.3); where they do, neither may hide that the other revokes the certificate.
+/// certificate: the greater number supersedes (RFC 6487 5). Two different lists never have one
+/// number (RFC 5280 5.2.3); where they do, neither may hide that the other revokes the certificate.
 pub fn supersedes(list: &Crl, kept: &Crl, cert: &Cert) -> bool
     ensures { IsTrue result ↔ Supersedes cert.now list.now kept.now }
 {
