@@ -25,8 +25,8 @@ AreListNames (file ∷ files) names =
     ⊎ ((rest : List (List ℕ)) × IsList file.octets
     × AreListNames files rest × (names ≡ file.name ∷ rest))
 
--- these are the names of the files of the path that is sought to the first of the files, and those of
--- all lists among these; and so the walk ended, where it came to no valid path
+-- these are the names of the files of the path that is sought to the first of the files, and those
+-- of all lists among these; and so the walk ended, where it came to no valid path
 pub record IsSought (q : TreeFields) (sought : SoughtNames) : Type 0 where
   pub path : List FileFields
   pub path_is : (file : FileFields) (more : List FileFields) → q.files ≡ file ∷ more
@@ -50,8 +50,8 @@ abbrev pub IsAskedRead : RequestFields → List FileFields → List LocatorField
 IsAskedRead r files locators =
     IsFirstRead r.files files × (file_names (locator_files locators) ≡ r.locators)
 
--- What a search gives at a moment, of what is read of the files of a request: the names, and whether all
--- files could be read; or none, exactly where what is asked for couldn't be.
+-- What a search gives at a moment, of what is read of the files of a request: the names, and
+-- whether all files could be read; or none, exactly where what is asked for couldn't be.
 abbrev pub IsSearchOf : RequestFields → Moment → List FileFields → List FileFields
     → List LocatorFields → Option SoughtNames → Type 0
 IsSearchOf r now files lists locators None = IsAskedRead r files locators → ⊥
@@ -65,8 +65,8 @@ abbrev pub search_message : TreeFields → Option SoughtNames → List ℕ
 search_message q None = []
 search_message q (Some sought) = bound_message q sought.ended
 
--- what a search gives, by what reading files gives, and what is said in it: why files can't be read, and
--- which bound it met
+-- what a search gives, by what reading files gives, and what is said in it: why files can't be
+-- read, and which bound it met
 pub record IsSearch (reads : Reads) (r : RequestFields) (now : Moment) (sought : Option SoughtNames)
     (said : List ℕ) : Type 0 where
   pub files : List FileFields

@@ -155,8 +155,8 @@ fn path_told<E: Write>(
     Ok((names, ended))
 }
 
-// The path that is sought to the first of these files, and the lists among them, where all files could
-// be read or not. Where the search met a bound, it says so.
+// The path that is sought to the first of these files, and the lists among them, where all files
+// could be read or not. Where the search met a bound, it says so.
 fn sought_among<E: Write>(
     alloc: Global,
     err: &mut E,
@@ -227,10 +227,10 @@ fn sought_if_read<E: Write>(
     Ok(Some(sought))
 }
 
-/// Seeks the path to the first file of a request among the others, as reading them gives them. Of each
-/// that can't be read it says why, and gives none where that is the first file or a locator. Where it
-/// met a bound before it came to a valid path, it says so. Errs only where memory runs out, or this
-/// can't be said.
+/// Seeks the path to the first file of a request among the others, as reading them gives them. Of
+/// each that can't be read it says why, and gives none where that is the first file or a locator.
+/// Where it met a bound before it came to a valid path, it says so. Errs only where memory runs
+/// out, or this can't be said.
 pub fn names_sought<F: FileSource, E: Write>(
     alloc: Global,
     files: &F,
