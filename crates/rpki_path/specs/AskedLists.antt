@@ -1,6 +1,6 @@
 -- Lists as a caller gives them: which of them is asked of a certificate below its issuer, and what
 -- (RFC 6487 5, 7.2, RFC 5280 6.3.3). Their order says nothing.
-use Rattle.std.specs.Prelude.{◌≡◌, ◌⊎◌, ◌↔◌, ◌<◌, List, Some, Contains}
+use Rattle.std.specs.Prelude.{◌≡◌, ◌⊎◌, ◌↔◌, ◌<◌, List, Some, Result, Ok, Err, Contains}
 use Rattle.rpki_der.specs.Times.{Moment, second_number}
 use Rattle.rpki_parts.specs.Signatures.{Verifies}
 use Rattle.rpki_parts.specs.ValidAt.{IsNotAfter}
@@ -10,7 +10,7 @@ use Rattle.rpki_crl.specs.Lists.{CrlFields, CrlState}
 use Rattle.rpki_crl.specs.RevokedEntries.{IsRevoked}
 use Rattle.rpki_crl.specs.Revocation.{ListCheck, RevocationCheck}
 use Rattle.rpki_crl.specs.declared.revocation_error.RevocationError.{RevocationError}
-use Rattle.rpki_crl.specs.declared.revocation_error.RevocationError.TheVariants.{Stale}
+use Rattle.rpki_crl.specs.declared.revocation_error.RevocationError.TheVariants.{Stale, Revoked}
 use Rattle.rpki_path.specs.Asking.{RevocationChecks}
 pub mod Steps
 
@@ -97,6 +97,18 @@ by_lists x lists issuer c Stale =
     × RevocationCheck x issuer c.fields.serial (IsAskedOf x lists issuer c) Stale
 by_lists x lists issuer c e =
     RevocationCheck x issuer c.fields.serial (IsAskedOf x lists issuer c) e
+
+-- a check that the certificate fails, as the latest list says
+abbrev pub FailsBy : Moment → CertFields → CrlState → RevocationError → Type 0
+FailsBy now c l Stale = IsNotAfter now l.list.fields.next_update → ⊥
+FailsBy now c l Revoked = IsNotAfter now l.list.fields.next_update × Revokes c l
+FailsBy now c l e = ⊥
+
+-- what is answered of it as that list says
+abbrev pub IsSaidBy : {T : Type 0} → Moment → CertFields → CrlState → Result T RevocationError
+    → Type 0
+IsSaidBy now c l (Ok v) = IsNotAfter now l.list.fields.next_update × (Revokes c l → ⊥)
+IsSaidBy now c l (Err e) = FailsBy now c l e
 
 -- the list leaves the certificate below the issuer unrevoked: it names the issuer's key, that key
 -- signed it, its time has begun and its next update isn't due, and it doesn't have the serial
