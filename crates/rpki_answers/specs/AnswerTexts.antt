@@ -26,8 +26,8 @@ use Rattle.rpki_answers.specs.declared.trees.TreeFinding.{TreeFinding}
 abbrev pub options_of : RequestFields → Moment → Options
 options_of r now = record { at = now; strict = r.strict; all = r.all_entries }
 
--- what a request asks of a path of files, and of files that are given as lists and as locators, at a
--- moment
+-- what a request asks of a path of files, and of files that are given as lists and as locators, at
+-- a moment
 abbrev pub question_of : RequestFields → Moment → List FileFields → List FileFields
     → List LocatorFields → QuestionFields
 question_of r now members lists locators =
@@ -52,8 +52,8 @@ tree_question_of r now files locators = record {
   steps = unwrap_or r.steps (usual_steps (length files));
 }
 
--- what is said of files in no order is this of what is found, and the run ends so: as success only where
--- all are accepted, and as rejection only where they aren't
+-- what is said of files in no order is this of what is found, and the run ends so: as success only
+-- where all are accepted, and as rejection only where they aren't
 abbrev pub IsTreeBy : (TreeFinding → List ℕ → Type 0) → TreeFields → Outcome → List ℕ → Type 0
 IsTreeBy Says q outcome text =
     (finding : TreeFinding) × IsTreeFinding (context IsSignedByRsa q.at q.strict) q finding
@@ -67,8 +67,9 @@ IsTreeTextBy q outcome text = IsTreeBy (IsTreeText q) q outcome text
 abbrev pub IsTreeJsonBy : Format → TreeFields → Outcome → List ℕ → Type 0
 IsTreeJsonBy format q outcome text = IsTreeBy (IsTreeJson format q) q outcome text
 
--- the text for a person of a run with this task that ends so, of which these files, lists and locators
--- could be read: `show` shows them, and `validate` judges nothing where another couldn't be read
+-- the text for a person of a run with this task that ends so, of which these files, lists and
+-- locators could be read: `show` shows them, and `validate` judges nothing where another couldn't
+-- be read
 abbrev pub IsTextBy : Task → Outcome → RequestFields → Moment → List FileFields → List FileFields
     → List LocatorFields → List ℕ → Type 0
 IsTextBy Show outcome r now files lists locators text = IsTextOfFiles (options_of r now) files text

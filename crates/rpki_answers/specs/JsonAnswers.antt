@@ -68,8 +68,8 @@ pub record IsNoLocatorFileJson (strict : Bool) (file : FileFields) (value : Data
   pub shown_is : IsShown file 0 shown
   pub value_is : value ≡ no_locator_file_json shown error rule
 
--- the value of a file that begins with neither, and doesn't look like a locator; how a fault is named,
--- no definition says
+-- the value of a file that begins with neither, and doesn't look like a locator; how a fault is
+-- named, no definition says
 pub record IsUnreadFileJson (file : FileFields) (value : Data) : Type 0 where
   pub why : List ℕ
   pub sort : Option Sort

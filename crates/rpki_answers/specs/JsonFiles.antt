@@ -93,8 +93,8 @@ profiles_json a = object_of (flattened (
 
 -- ---- a certificate
 
--- its version and its algorithm, which are those of every certificate (RFC 6487 4.1, RFC 7935 2), its
--- number, its names and its validity
+-- its version and its algorithm, which are those of every certificate (RFC 6487 4.1, RFC 7935 2),
+-- its number, its names and its validity
 unfoldable pub name_members : TbsFields → List Pair
 name_members f = flattened (
     member_of (codes "version") (count_json 3)
@@ -199,7 +199,8 @@ pub record IsLocatorJson (file : Shown) (tal : TalFields) (value : Data) : Type 
   pub key_is : IsLocatorKey tal.key key
   pub value_is : value ≡ locator_json file tal key
 
--- a file that looks like a locator and is none: what is wrong first, what that means, and what asks it
+-- a file that looks like a locator and is none: what is wrong first, what that means, and what asks
+-- it
 unfoldable pub no_locator_file_json : Shown → TalError → Rule → Data
 no_locator_file_json file error rule = object_of (flattened (
     head_members file

@@ -47,8 +47,8 @@ value_text _ d = json_lines d
 
 -- ---- the values of files
 
--- in a format of JSON: one value after the other; but in `json`, where not just one file is named, one
--- array of them
+-- in a format of JSON: one value after the other; but in `json`, where not just one file is named,
+-- one array of them
 abbrev pub values_text : Format → Bool → List Data → List ℕ
 values_text Json false values = json_lines (array_of values)
 values_text format is_single values = flat_map (value_text format) values

@@ -43,7 +43,8 @@ accepted_members tree above = flattened (
     ∷ member_of (codes "above") (array_of (name_items (certs_of tree) (tree.anchor ∷ above)))
     ∷ [])
 
--- it is rejected: how many stand above it, the step, the fault's name, what that means, and the section
+-- it is rejected: how many stand above it, the step, the fault's name, what that means, and the
+-- section
 unfoldable pub rejected_members : ℕ → ReasonFields → List Pair
 rejected_members member r = flattened (
     text_member (codes "verdict") (codes "rejected")
@@ -69,8 +70,8 @@ AreCertificateMembers tree place file pairs =
 
 -- ---- files
 
--- what is said of whether a file begins with a certificate, or is a list, where the next certificate
--- stands at this place, and one behind it at the next
+-- what is said of whether a file begins with a certificate, or is a list, where the next
+-- certificate stands at this place, and one behind it at the next
 abbrev pub AreFrontMembers : Tree → ℕ → ℕ → FileFields → List Pair → Type 0
 AreFrontMembers tree place next file pairs =
     (BeginsWithCertificate file.octets × AreCertificateMembers tree place file pairs × (next ≡ place + 1))
@@ -78,8 +79,8 @@ AreFrontMembers tree place next file pairs =
     ⊎ ((BeginsWithCertificate file.octets → ⊥) × (IsList file.octets → ⊥)
     × (pairs ≡ text_member (codes "verdict") (codes "neither")) × (next ≡ place)))
 
--- what is said of a file: that, and how many octets stand behind the certificate or the list that it
--- begins with, where some do
+-- what is said of a file: that, and how many octets stand behind the certificate or the list that
+-- it begins with, where some do
 abbrev pub AreFileMembers : Tree → ℕ → ℕ → FileFields → List Pair → Type 0
 AreFileMembers tree place next file pairs =
     (front : List Pair) × (left : ℕ) × AreFrontMembers tree place next file front × StandBehind file.octets left
@@ -99,8 +100,8 @@ ended_word Whole = codes "whole"
 ended_word TooDeep = codes "too_deep"
 ended_word OutOfSteps = codes "out_of_steps"
 
--- the moment, how many certificates there are, how many of them are accepted, how far the walk went,
--- and what isn't asked
+-- the moment, how many certificates there are, how many of them are accepted, how far the walk
+-- went, and what isn't asked
 unfoldable pub end_members : Moment → Tree → List Pair
 end_members at tree = flattened (
     member_of (codes "moment") (moment_json at)
@@ -151,8 +152,8 @@ abbrev pub AreTreeItems : TreeFields → TreeFinding → List Data → Type 0
 AreTreeItems q (Answered (Walked tree)) items = (last : ℕ) × SaysInOrder (IsFileItem tree) 0 last q.files items
 AreTreeItems q _ items = items ≡ []
 
--- in `jsonl` each of these on a line, and then the object of what is said of all; else one object that
--- has both
+-- in `jsonl` each of these on a line, and then the object of what is said of all; else one object
+-- that has both
 abbrev pub tree_json_text : Format → List Data → List Pair → List ℕ
 tree_json_text JsonLines items summary = flat_map (value_text JsonLines) (items ++ object_of summary ∷ [])
 tree_json_text _ items summary = json_lines (object_of (summary ++ member_of (codes "files") (array_of items)))

@@ -97,8 +97,8 @@ rule_members rule = flattened (
 abbrev pub found_member : Option Flaw → List Pair
 found_member found = text_member_if_any (codes "found") (option_map flaw_text found)
 
--- the field at which reading stops, the octet at which that begins, what is wanted there, and what is
--- found
+-- the field at which reading stops, the octet at which that begins, what is wanted there, and what
+-- is found
 abbrev pub place_members : Place → List Pair
 place_members place = flattened (
     text_member (codes "field") place.field.now

@@ -203,9 +203,9 @@ PutsSome Hold old new = (pairs : List Pair) × Hold pairs × Puts pairs old new
 
 -- ---- the whole
 
--- a verdict: the members, whether locators and lists were given, those of these that are none, whether
--- names have to chain, the files with octets behind what they begin with, the members' notes, the
--- moment, and the answer
+-- a verdict: the members, whether locators and lists were given, those of these that are none,
+-- whether names have to chain, the files with octets behind what they begin with, the members'
+-- notes, the moment, and the answer
 unfoldable pub verdict_json : QuestionFields → List Data → List Data → List Data → List Pair → Data
 verdict_json question others left noted answer = object_of (flattened (
     member_of (codes "path") (names_json question.members)

@@ -40,10 +40,10 @@ IsOutcomeOfShow strict files _ = ⊥
 abbrev pub AreAsGiven : Context → Demands → List (List ℕ) → Type 0
 AreAsGiven x d lists = All (AreLocator x.strict) d.locators × All IsList lists
 
--- of a path that is to be validated: success where it is accepted, so that its trust anchor is that of
--- one of the locators, by the files given as lists no member is revoked, and names chain where that is
--- asked, and the files are what they are given as; rejection where it is rejected or has no file, or
--- one of these isn't what it is given as
+-- of a path that is to be validated: success where it is accepted, so that its trust anchor is that
+-- of one of the locators, by the files given as lists no member is revoked, and names chain where
+-- that is asked, and the files are what they are given as; rejection where it is rejected or has no
+-- file, or one of these isn't what it is given as
 abbrev pub IsOutcomeOfValidate : Context → Demands → List (List ℕ) → List (List ℕ) → Outcome → Type 0
 IsOutcomeOfValidate x d files lists Success =
     ((j : Judged) × IsVerdictBy x d files lists (Accepted j)) × AreAsGiven x d lists
@@ -79,8 +79,8 @@ AreAllRead r files lists locators =
 abbrev pub demands_by : RequestFields → List FileFields → Demands
 demands_by r locators = record { locators = contents locators; names = r.names }
 
--- a run that is asked this, of which these files, lists and locators could be read, ends so: as unread
--- exactly where another couldn't, else by what they hold
+-- a run that is asked this, of which these files, lists and locators could be read, ends so: as
+-- unread exactly where another couldn't, else by what they hold
 abbrev pub EndsBy : RequestFields → Moment → List FileFields → List FileFields → List FileFields → Outcome → Type 0
 EndsBy r now files lists locators Unread = AreAllRead r files lists locators → ⊥
 EndsBy r now files lists locators outcome =

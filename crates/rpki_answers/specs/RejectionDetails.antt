@@ -53,8 +53,8 @@ abbrev pub IsAnchor : Bool → Option CertFields → Type 0
 IsAnchor strict None = ⊥
 IsAnchor strict (Some c) = MeetsProfile Anchor strict c
 
--- of files that begin and end with these certificates: the last one is a trust anchor, and the first
--- one isn't
+-- of files that begin and end with these certificates: the last one is a trust anchor, and the
+-- first one isn't
 abbrev pub IsTurned : Bool → Option CertFields → Option CertFields → Type 0
 IsTurned strict first last = IsAnchor strict last × (IsAnchor strict first → ⊥)
 
@@ -70,8 +70,8 @@ IsSortAt files place (Some s) =
     (file : FileFields) × (slice_get files place ≡ Some file) × IsToldSort file.octets (Some s)
 IsSortAt files place None = (file : FileFields) → slice_get files place ≡ Some file → IsToldSort file.octets None
 
--- the cause of the fault, the moment that was asked, the certificates of the member at its place and
--- of the one above it, the sort of that member's file, and the order of the files
+-- the cause of the fault, the moment that was asked, the certificates of the member at its place
+-- and of the one above it, the sort of that member's file, and the order of the files
 pub record AreDetails (question : QuestionFields) (fault : Fault) (d : Details) : Type 0 where
   pub cause_is : IsCause d.cause fault
   pub moment_is : d.moment ≡ question.at

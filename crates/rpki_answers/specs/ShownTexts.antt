@@ -106,8 +106,8 @@ pub record IsListFileText (options : Options) (file : FileFields) (text : List �
 abbrev pub location_line : List ℕ → List ℕ
 location_line uri = line (codes "URI") (characters_text uri)
 
--- what is shown of a locator, of whose key this was found: its URIs in their order, its key, and the
--- identifier of that
+-- what is shown of a locator, of whose key this was found: its URIs in their order, its key, and
+-- the identifier of that
 abbrev pub tal_text : TalFields → KeyAnswer → List ℕ
 tal_text tal key = concat (
     flat_map location_line tal.uris
@@ -132,7 +132,8 @@ pub record IsLocatorFileText (strict : Bool) (file : FileFields) (text : List �
   pub key_is : IsLocatorKey tal.key key
   pub text_is : text ≡ locator_file_text file tal key
 
--- a file that looks like a locator and is none: what is wrong first, what that means, and what asks it
+-- a file that looks like a locator and is none: what is wrong first, what that means, and what asks
+-- it
 unfoldable pub no_locator_file_text : FileFields → TalError → Rule → List ℕ
 no_locator_file_text file error rule = concat (
     file_lines file
@@ -159,8 +160,8 @@ stop_text field octet = field ++ (codes ", from octet " ++ decimal octet)
 abbrev pub found_line : Option Flaw → List ℕ
 found_line found = line_if_any (codes "Found") (option_map flaw_text found)
 
--- a file that begins with neither: its sort, its fault, where reading stops, what is wanted there and
--- what is found, what that means, what asks it, and what to do
+-- a file that begins with neither: its sort, its fault, where reading stops, what is wanted there
+-- and what is found, what that means, what asks it, and what to do
 unfoldable pub other_file_text : FileFields → Option Sort → List ℕ → Place → Rule → List ℕ
 other_file_text file sort fault place rule = concat (
     file_lines file
@@ -179,8 +180,8 @@ abbrev pub IsToldRule : Option Sort → Bool → DecodeError → List ℕ → Ru
 IsToldRule (Some s) is_list fault octets r = r ≡ sort_rule s
 IsToldRule None is_list fault octets r = IsFileRule is_list fault octets r
 
--- octets that begin with neither are told as a list where they look like one. So does a certificate of
--- version 1, whose version is absent: it is told as a certificate (RFC 5280 4.1, 5.1)
+-- octets that begin with neither are told as a list where they look like one. So does a certificate
+-- of version 1, whose version is absent: it is told as a certificate (RFC 5280 4.1, 5.1)
 abbrev pub IsToldAsList : Option Sort → List ℕ → Type 0
 IsToldAsList sort octets = LooksLikeList octets × (sort ≢ Some Version1)
 
@@ -195,8 +196,8 @@ pub record IsRejection (octets : List ℕ) (sort : Option Sort) (rule : Rule) (p
   pub rule_is : IsToldRule sort is_list fault octets (rule_of rule)
   pub place_is : IsStopPlace is_list octets place
 
--- the text of a file that begins with neither, and doesn't look like a locator; how a fault is named,
--- no definition says
+-- the text of a file that begins with neither, and doesn't look like a locator; how a fault is
+-- named, no definition says
 pub record IsUnreadFileText (file : FileFields) (text : List ℕ) : Type 0 where
   pub why : List ℕ
   pub sort : Option Sort
@@ -217,7 +218,8 @@ IsOtherFileText strict = SaysOfOther (IsNoLocatorFileText strict) IsUnreadFileTe
 
 -- ---- the whole
 
--- what is said of a file: of its certificate, of its list, of the locator that it is, or else of none
+-- what is said of a file: of its certificate, of its list, of the locator that it is, or else of
+-- none
 abbrev pub SaysOfFile : {X : Type 0} → Bool
     → (OfCertificate OfList OfLocator OfOther : FileFields → X → Type 0) → FileFields → X → Type 0
 SaysOfFile strict OfCertificate OfList OfLocator OfOther file said =

@@ -1,5 +1,5 @@
--- What is found of files in no order, and what is printed of it: a line for each file, and how the walk
--- ended (own).
+-- What is found of files in no order, and what is printed of it: a line for each file, and how the
+-- walk ended (own).
 use Rattle.std.specs.Fmt.{decimal}
 use Rattle.std.specs.List.{concat, flat_map}
 use Rattle.std.specs.Option.{option_map}
@@ -76,9 +76,9 @@ since_text left = if left == 0 then [] else behind_list_text left
 abbrev pub neither_text : ℕ → List ℕ
 neither_text left = codes "neither a certificate nor a list" ++ since_text left
 
--- what is said of a file, where so many octets stand behind the certificate or the list that it begins
--- with, the next certificate stands at this place, and one behind it at the next: a file is a list only
--- where none stand behind it
+-- what is said of a file, where so many octets stand behind the certificate or the list that it
+-- begins with, the next certificate stands at this place, and one behind it at the next: a file is
+-- a list only where none stand behind it
 abbrev pub SaysOfFront : Tree → ℕ → ℕ → FileFields → ℕ → List ℕ → Type 0
 SaysOfFront tree place next file left said =
     (BeginsWithCertificate file.octets × SaysOfBegun tree place file left said × (next ≡ place + 1))
@@ -120,8 +120,8 @@ ended_text q TooDeep =
 ended_text q OutOfSteps =
     codes "not all: " ++ (decimal q.steps ++ codes " were verified (--steps sets the limit)")
 
--- the moment, how many certificates there are, how many of them are accepted, how far the walk went,
--- and what isn't asked
+-- the moment, how many certificates there are, how many of them are accepted, how far the walk
+-- went, and what isn't asked
 unfoldable pub end_text : TreeFields → Tree → List ℕ
 end_text q tree = concat (
     moment_line q.at
@@ -147,7 +147,8 @@ IsAnswerText q (Walked tree) text =
 
 -- ---- what is found
 
--- what is found of the files: where one that is given as a locator is none, that alone; else the answer
+-- what is found of the files: where one that is given as a locator is none, that alone; else the
+-- answer
 abbrev pub IsTreeFinding : Context → TreeFields → TreeFinding → Type 0
 IsTreeFinding x q (NotALocator fault) = IsNoLocator q.strict (locator_octets q.locators) fault
 IsTreeFinding x q (Answered answer) = All (AreLocator q.strict) (locator_octets q.locators) × IsTreeAnswer x q answer

@@ -272,8 +272,8 @@ IsDecision x question verdict =
     MatchOption verdict (contents question.members ≡ [])
     (IsVerdictBy x (demands_of question) (contents question.members) (contents question.lists))
 
--- what is found of a path: where a file given as a locator or as a list is none, that alone; else the
--- verdict
+-- what is found of a path: where a file given as a locator or as a list is none, that alone; else
+-- the verdict
 abbrev pub IsFinding : Context → QuestionFields → Finding → Type 0
 IsFinding x question (NotALocator fault) = IsNoLocator x.strict (locator_octets question.locators) fault
 IsFinding x question NotAList =
@@ -300,7 +300,8 @@ IsFindingText question (Decided verdict) text = IsOutcomeText question verdict t
 abbrev pub moment_line : Moment → List ℕ
 moment_line at = line (codes "Moment") (time_text at)
 
--- the members, the files given as lists and as locators that are none, the moment, and what is found
+-- the members, the files given as lists and as locators that are none, the moment, and what is
+-- found
 pub record IsVerdictText (question : QuestionFields) (finding : Finding) (text : List ℕ) : Type 0 where
   pub members : List ℕ
   pub members_are : SaysOfEach (IsMemberPart question.strict) question.members members

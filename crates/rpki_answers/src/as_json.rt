@@ -364,8 +364,8 @@ fn put_found(out: &mut Members, found: Option<Flaw>) -> Result<(), AllocError>
     }
 }
 
-// Puts in the field at which reading stops, the octet at which that begins, what is wanted there, and
-// what is found.
+// Puts in the field at which reading stops, the octet at which that begins, what is wanted there,
+// and what is found.
 fn put_place(out: &mut Members, place: Place) -> Result<(), AllocError>
     ensures { OnOk result (Puts (place_members place) out.old out.new) }
 {

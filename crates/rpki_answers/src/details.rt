@@ -31,9 +31,9 @@ pub enum Cause {
     Other,
 }
 
-/// What is told of a fault beside its rule: its cause, the moment that was asked, the certificates of
-/// the member at its place and of the one above it, the sort of that member's file, and whether the
-/// files stand the other way round.
+/// What is told of a fault beside its rule: its cause, the moment that was asked, the certificates
+/// of the member at its place and of the one above it, the sort of that member's file, and whether
+/// the files stand the other way round.
 #[derive(Clone, Copy)]
 pub struct Details<'q> {
     pub cause: Cause,

@@ -1,5 +1,5 @@
-//! What the command answers of files, as text for a person or as JSON: what a file holds, the verdict
-//! on a path, and a line for each of files in no order; and how a run ends by it.
+//! What the command answers of files, as text for a person or as JSON: what a file holds, the
+//! verdict on a path, and a line for each of files in no order; and how a run ends by it.
 #![tactic(auto)]
 
 mod as_json;

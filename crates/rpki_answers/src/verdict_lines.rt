@@ -538,8 +538,8 @@ pub fn print_moment(page: &mut Page, at: Time)
     page.line_of("Moment", &at);
 }
 
-// The members of a path, the files given as lists and as locators that are none, the moment, and what
-// is found.
+// The members of a path, the files given as lists and as locators that are none, the moment, and
+// what is found.
 fn print_verdict(page: &mut Page, question: &Question<'_, '_>, finding: &Finding)
     requires { All (IsRead question.now.strict) question.now.locators }
     ensures { AppendsSome (IsVerdictText question.now finding.now) page.old page.new }
@@ -551,8 +551,8 @@ fn print_verdict(page: &mut Page, question: &Question<'_, '_>, finding: &Finding
     print_finding(page, question, finding);
 }
 
-/// Writes the members of a path, the files given as lists and as locators that are none, the moment,
-/// and what is found of the path.
+/// Writes the members of a path, the files given as lists and as locators that are none, the
+/// moment, and what is found of the path.
 pub fn verdict_text(
     alloc: Global,
     question: &Question<'_, '_>,

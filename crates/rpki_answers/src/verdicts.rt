@@ -19,7 +19,8 @@ use rpki_verdicts::{Fault, Question, Verdict, first_no_locator, judge};
 use std::alloc::{AllocError, Global};
 
 /// What is found of a path: that a file given as a locator is none, and why, or that one given as a
-/// list is none, so that nothing is judged; or the verdict, which there is where the path has a file.
+/// list is none, so that nothing is judged; or the verdict, which there is where the path has a
+/// file.
 #[derive(Drop)]
 pub enum Finding {
     NotALocator(Fault),
@@ -83,8 +84,8 @@ fn is_accepted(finding: &Finding) -> bool
 }
 
 /// Validates the path and writes what is found, as lines for a person or as JSON. The outcome is
-/// success where each file given as a locator is one, each given as a list is one, with nothing behind
-/// it, and the path is accepted.
+/// success where each file given as a locator is one, each given as a list is one, with nothing
+/// behind it, and the path is accepted.
 pub fn validated(
     alloc: Global,
     question: &Question<'_, '_>,

@@ -28,8 +28,8 @@ pub record TellsPlaces (octets : List ℕ) (issuer member : CertFields) (it : Rp
   pub message : octets_at octets it.message_at it.message_length ≡ member.signed_data.message
   pub signature : octets_at octets it.signature_at it.signature_length ≡ member.signed_data.signature.value
 
--- no place goes past the octets, whatever they are; and what stands there is that of the certificates
--- with which the issuer's octets and the member's begin, where both begin with one
+-- no place goes past the octets, whatever they are; and what stands there is that of the
+-- certificates with which the issuer's octets and the member's begin, where both begin with one
 pub record TellsSignature (octets issuer member : List ℕ) (it : RpkiSignature) : Type 0 where
   pub key_within : it.key_at + it.key_length ≤ length octets
   pub message_within : it.message_at + it.message_length ≤ length octets

@@ -1,5 +1,5 @@
--- What is answered to what a caller wants of a certificate: the octets that are to be signed, those of
--- the certificate, or why there are none (own).
+-- What is answered to what a caller wants of a certificate: the octets that are to be signed, those
+-- of the certificate, or why there are none (own).
 use Rattle.std.specs.Prelude.{◌≡◌, ◌≢◌, ◌⊎◌, ◌<◌, ℕ, List, [], Option, Some, None, Result, Ok, Err}
 use Rattle.rpki_cert.specs.Certificates.{TbsFields, IsTbsCertificate}
 use Rattle.rpki_cert.specs.Verification.{ResourceFields}
@@ -61,8 +61,8 @@ IsNoKey octets = (key : KeyFields) → IsPublicKey key octets → ⊥
 abbrev pub IsUnusedKey : List ℕ → Type 0
 IsUnusedKey octets = (key : KeyFields) × IsPublicKey key octets × (IsUsableKey key → ⊥)
 
--- a value of which it is so; or numbers that don't fit, so that it is so of none; or what is wrong of
--- a URI or of the key; or memory was wanted
+-- a value of which it is so; or numbers that don't fit, so that it is so of none; or what is wrong
+-- of a URI or of the key; or memory was wanted
 abbrev pub AnswersValue : {V : Type 0} → RpkiWanted → (V → Type 0) → Result V Unissued → Type 0
 AnswersValue {V} w Is (Ok v) = Is v
 AnswersValue {V} w Is (Err why.BadCall) = (v : V) → Is v → ⊥

@@ -69,8 +69,8 @@ as_span it = between it.min it.max
 abbrev pub AreOrdered : List Block → Type 0
 AreOrdered bs = AllByRecursion (λ b. b.min ≤ b.max) bs
 
--- what is listed of a kind of numbers, by the number of a state: nothing; what the issuer has; or the
--- numbers of these blocks, in any order
+-- what is listed of a kind of numbers, by the number of a state: nothing; what the issuer has; or
+-- the numbers of these blocks, in any order
 abbrev pub AreGiven : ℕ → List Block → Resources → Type 0
 AreGiven state bs r =
     ((state ≡ 0) × (bs ≡ []) × (r ≡ missing))

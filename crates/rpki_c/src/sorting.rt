@@ -153,8 +153,8 @@ impl<'s> Sorted<'s> {
         Ok(())
     }
 
-    /// Sorts strings: each is taken for the certificate with which it begins, else for the list that it
-    /// is.
+    /// Sorts strings: each is taken for the certificate with which it begins, else for the list
+    /// that it is.
     pub(crate) fn of(alloc: Global, strings: &'s [Bytes]) -> Result<Sorted<'s>, AllocError>
         ensures sorted { IfOk result IsSorted }
         ensures strings { IfOk result (λ it. it.strings.now ≡ strings.now) }

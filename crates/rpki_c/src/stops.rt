@@ -164,9 +164,9 @@ fn told(
 
 /// Tells where the reading of octets stops that begin with no certificate, or, where `is_list`
 /// isn't 0, with no list: the fault and the octet, and a text of the part there, 0 its name, 1 what
-/// is wanted, 2 what is found. Writes as many octets as there is room for, and in `count` how many there are; 0
-/// where they begin with one. Answers 0, or the number of a fault: 2 where `which` is another
-/// number.
+/// is wanted, 2 what is found. Writes as many octets as there is room for, and in `count` how many
+/// there are; 0 where they begin with one. Answers 0, or the number of a fault: 2 where `which` is
+/// another number.
 #[unsafe(no_mangle)]
 pub extern "C" fn rpki_stop_text(
     alloc: Global,

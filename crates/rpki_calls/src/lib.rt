@@ -44,8 +44,8 @@ fn told(alloc: Global, path: &str) -> Option<Told> {
 }
 
 /// Makes the call of this public path, as `rpki_cert::Cert::take_from`, and prints `ok` or the name
-/// of its error, and then `kept` or `changed`; `none` where no call here has the path, and where its
-/// input could not be made.
+/// of its error, and then `kept` or `changed`; `none` where no call here has the path, and where
+/// its input could not be made.
 pub fn make(rt: &HostRuntime, path: &str) -> io::Result<ExitCode> {
     match told(rt.alloc(), path) {
         Some(told) => {

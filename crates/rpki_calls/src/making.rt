@@ -49,8 +49,8 @@ fn issued(alloc: Global, issuer: &ResourceCert, key: &PublicKey, now: Time) -> O
     judged(alloc, answer)
 }
 
-// Whether `issue_ca` issues these fields. The stand-in has one signature of them, so that shows what
-// `issue_below` wants of a signer.
+// Whether `issue_ca` issues these fields. The stand-in has one signature of them, so that shows
+// what `issue_below` wants of a signer.
 fn is_issuable(
     alloc: Global,
     tbs: &TbsCert,

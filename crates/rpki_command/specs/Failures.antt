@@ -12,8 +12,8 @@ abbrev pub EndsInFailure : Option (List ℕ) → Type 0
 EndsInFailure said =
     (before : List ℕ) × (why : List ℕ) × (said ≡ Some (before ++ failure_message why))
 
--- a run has failed, and said why, in its last line; unless that couldn't be said, since the output has
--- failed. Where it isn't always known what an output holds, no more is known
+-- a run has failed, and said why, in its last line; unless that couldn't be said, since the output
+-- has failed. Where it isn't always known what an output holds, no more is known
 abbrev pub TellsFailure : {W : Type 0} → (W → Option (List ℕ)) → Watched W → Type 0
 TellsFailure {W} contents output =
     HasFailed output

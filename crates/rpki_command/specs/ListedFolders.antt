@@ -1,5 +1,5 @@
--- The files that stand for a name: where it is a folder's, those in it and below it; and what is said of
--- folders (own; how a name ends: RFC 6481 2.2).
+-- The files that stand for a name: where it is a folder's, those in it and below it; and what is
+-- said of folders (own; how a name ends: RFC 6481 2.2).
 use Rattle.std.specs.Cmp.Lexicographic.{slice_cmp}
 use Rattle.std.specs.List.{count_by, ends_with, filter}
 use Rattle.std.specs.List.Sorted.{IsPermutation, IsSorted}
@@ -17,8 +17,9 @@ use Rattle.rpki_command.specs.UnreadFiles.{IsToldUnlisted}
 -- what listing the folder of a name gives: the names of the files, folders and links in it, as they
 -- are opened, in any order, of which those of folders end in `/`; or nothing, since the name is no
 -- folder's; or since the folder can't be listed. A pipe, a socket, a device or a link to one isn't
--- opened, and has no name there. What has a name that isn't UTF-8 isn't looked at, whatever it is: the
--- name stands there as that of a file where it ends in `.cer` or `.crl`, and else as that of a folder
+-- opened, and has no name there. What has a name that isn't UTF-8 isn't looked at, whatever it is:
+-- the name stands there as that of a file where it ends in `.cer` or `.crl`, and else as that of a
+-- folder
 pub data Listing : Type 0 where
   holds : List (List ℕ) → Listing
   no_folder barred : Listing
@@ -85,8 +86,8 @@ abbrev pub told_count : ℕ → ℕ
 told_count count = min count (2 ^ 64 - 1)
 
 -- these names stand for the name: those in its folder that are taken, sorted by their octets, while
--- so many others are passed over; or it alone, where it is no folder's, or the folder can't be listed,
--- which is said
+-- so many others are passed over; or it alone, where it is no folder's, or the folder can't be
+-- listed, which is said
 abbrev pub StandFor : Lists → List ℕ → List (List ℕ) → ℕ → List ℕ → Type 0
 StandFor lists name its passed said =
     (IsUnlisted lists name said × (its ≡ name ∷ []) × (passed ≡ 0))
@@ -100,8 +101,8 @@ StandsForItself name its passed said = (its ≡ name ∷ []) × (passed ≡ 0) �
 
 -- ---- below it
 
--- for each of the names that the test gives stand its own, one after the other, and the others stay;
--- so many are passed over in all, and this is said of them
+-- for each of the names that the test gives stand its own, one after the other, and the others
+-- stay; so many are passed over in all, and this is said of them
 abbrev pub AreOpened : Lists → (List ℕ → Bool) → List (List ℕ) → List (List ℕ) → ℕ → List ℕ → Type 0
 AreOpened lists opens [] all passed said = (all ≡ []) × (passed ≡ 0) × (said ≡ [])
 AreOpened lists opens (name ∷ names) all passed said =
@@ -123,9 +124,10 @@ AreDown lists (suc levels) names all passed said =
 
 -- ---- those of a request
 
--- the files that stand for the names of a task: each name of a tree may be a folder's, which is opened
--- 32 levels down, and a folder below these stays a name, which can't be read; of another task each
--- name is a file's. Behind what is said of folders stands how many files in them were passed over
+-- the files that stand for the names of a task: each name of a tree may be a folder's, which is
+-- opened 32 levels down, and a folder below these stays a name, which can't be read; of another
+-- task each name is a file's. Behind what is said of folders stands how many files in them were
+-- passed over
 abbrev pub AreFilesOf : Lists → Task → List (List ℕ) → List (List ℕ) → List ℕ → Type 0
 AreFilesOf lists Tree names files said =
     (first : List (List ℕ)) × (in_first : ℕ) × (in_further : ℕ) × (of_first : List ℕ)

@@ -17,14 +17,14 @@ use Rattle.rpki_verdicts.specs.Trees.{TreeFields}
 abbrev pub misuse_message : List ℕ → List ℕ
 misuse_message wrong = (codes "rpki: " ++ wrong ++ codes "\n") ++ usage_text
 
--- this says what is wrong with words that are no command line: which is so, and is the first word that is
--- wrong, or why what they ask doesn't suit its task
+-- this says what is wrong with words that are no command line: which is so, and is the first word
+-- that is wrong, or why what they ask doesn't suit its task
 abbrev pub SaysLineMisuse : List (List ℕ) → List ℕ → Type 0
 SaysLineMisuse words said =
     (misuse : arguments.Misuse) × IsMisuse misuse words × (said ≡ misuse_message (line.misuse_text misuse))
 
--- and this one thing that is wrong with words that ask for nothing to be prepared or completed: which is
--- so, and is the first word that is wrong, or why what they ask doesn't suit it
+-- and this one thing that is wrong with words that ask for nothing to be prepared or completed:
+-- which is so, and is the first word that is wrong, or why what they ask doesn't suit it
 abbrev pub SaysRequestMisuse : List (List ℕ) → List ℕ → Type 0
 SaysRequestMisuse words said =
     (misuse : requests.Misuse) × request.IsMisuse misuse words
@@ -45,8 +45,8 @@ progress_message read of =
     let end = if read == of then codes " files read\n" else codes " files read" in
     codes "\rrpki: " ++ (decimal read ++ (codes " of " ++ (decimal of ++ end)))
 
--- where a search met a bound, that not every path was looked at, with the number and the option that
--- sets it, in a line; and else nothing
+-- where a search met a bound, that not every path was looked at, with the number and the option
+-- that sets it, in a line; and else nothing
 abbrev pub bound_message : TreeFields → Ended → List ℕ
 bound_message q Whole = []
 bound_message q TooDeep =

@@ -1,4 +1,5 @@
--- What is read of the files that a request names, and what is said of those that can't be read (own).
+-- What is read of the files that a request names, and what is said of those that can't be read
+-- (own).
 use Rattle.std.specs.Prelude.{◌≡◌, ◌⊎◌, ℕ, All, List, [], ◌∷◌, ◌++◌}
 use Rattle.rpki_text.specs.CommandLines.{RequestFields}
 use Rattle.rpki_files.specs.Files.{FileFields}
@@ -8,16 +9,16 @@ use Rattle.rpki_command.specs.UnreadFiles.{IsToldUnread}
 
 -- ---- the files of several names
 
--- of some of these names, in their order, a file that is its name's; and of each of the rest a line,
--- which is all that is said
+-- of some of these names, in their order, a file that is its name's; and of each of the rest a
+-- line, which is all that is said
 abbrev pub AreReadOf : (List ℕ → FileFields → Type 0) → (List ℕ → List ℕ → Type 0) → List (List ℕ) → List FileFields → List ℕ → Type 0
 AreReadOf Is Tells [] files said = (files ≡ []) × (said ≡ [])
 AreReadOf Is Tells (name ∷ names) files said =
     ((file : FileFields) × (more : List FileFields) × Is name file × AreReadOf Is Tells names more said × (files ≡ file ∷ more))
     ⊎ ((line : List ℕ) × (lines : List ℕ) × Tells name line × AreReadOf Is Tells names files lines × (said ≡ line ++ lines))
 
--- the files of these names that can be read, as they are, and by their objects; of each of the rest it is
--- said why it can't be read
+-- the files of these names that can be read, as they are, and by their objects; of each of the rest
+-- it is said why it can't be read
 abbrev pub AreFilesRead : Reads → ℕ → List (List ℕ) → List FileFields → List ℕ → Type 0
 AreFilesRead reads most names files said =
     AreReadOf (IsFileRead reads most) (IsToldUnread reads most) names files said
@@ -35,8 +36,8 @@ AreNamed (name ∷ names) files =
 
 -- ---- those of a request
 
--- what can be read of the files, lists and locators that the request names is this, and this is said of the
--- others
+-- what can be read of the files, lists and locators that the request names is this, and this is
+-- said of the others
 pub record AreRead (reads : Reads) (r : RequestFields) (files lists : List FileFields) (locators : List LocatorFields)
     (said : List ℕ) : Type 0 where
   pub of_files : List ℕ

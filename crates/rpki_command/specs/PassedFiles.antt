@@ -1,5 +1,5 @@
--- What a search says of the files among which it seeks: of those that it passes over, and where there is
--- no list (own).
+-- What a search says of the files among which it seeks: of those that it passes over, and where
+-- there is no list (own).
 use Rattle.std.specs.Prelude.{◌≡◌, ◌⊎◌, ℕ, List, [], ◌∷◌, ◌++◌, codes}
 use Rattle.rpki_files.specs.Contents.{BeginsWithCertificate, IsList, StandBehind}
 use Rattle.rpki_files.specs.Files.{FileFields}
@@ -7,8 +7,8 @@ use Rattle.rpki_answers.specs.TreeTexts.{neither_text}
 use Rattle.rpki_answers.specs.VerdictTexts.{SaysOfEach}
 use Rattle.rpki_command.specs.UnreadFiles.{called, file_message}
 
--- that a file is neither a certificate nor a list, in a line, and why, where it begins with a list: so
--- many octets stand behind that
+-- that a file is neither a certificate nor a list, in a line, and why, where it begins with a list:
+-- so many octets stand behind that
 abbrev pub SaysNeither : FileFields → List ℕ → Type 0
 SaysNeither file said =
     (left : ℕ) × StandBehind file.octets left

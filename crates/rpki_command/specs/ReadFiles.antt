@@ -3,13 +3,13 @@ use Rattle.std.specs.Prelude.{◌≡◌, ◌≤◌, ℕ, List, length, Option, S
 use Rattle.rpki_files.specs.Files.{FileFields}
 use Rattle.rpki_files.specs.PemFiles.{IsObjectOf}
 
--- what reading the file of a name gives, where no more than so many octets are taken: its octets; or
--- nothing, since it can't be read so
+-- what reading the file of a name gives, where no more than so many octets are taken: its octets;
+-- or nothing, since it can't be read so
 abbrev pub Reads : Type 1
 Reads = List ℕ → ℕ → Option (List ℕ) → Type 0
 
--- of the system's files a contract knows only this: what is given of one has no more octets than are
--- taken
+-- of the system's files a contract knows only this: what is given of one has no more octets than
+-- are taken
 abbrev pub SystemReads : Reads
 SystemReads name most given = IfSome given (λ octets. length octets ≤ most)
 

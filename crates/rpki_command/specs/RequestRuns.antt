@@ -90,8 +90,8 @@ octets_of (ToSign octets) = octets
 octets_of (Certificate octets) = octets
 octets_of (RevocationList octets) = octets
 
--- what is written of them: these octets, or a certificate or a list in PEM under its label (RFC 7468 5,
--- 6)
+-- what is written of them: these octets, or a certificate or a list in PEM under its label (RFC
+-- 7468 5, 6)
 abbrev pub IsWritten : Bool → Made → List ℕ → Type 0
 IsWritten true (Certificate octets) text = IsPemText (codes "CERTIFICATE") octets text
 IsWritten true (RevocationList octets) text = IsPemText (codes "X509 CRL") octets text
@@ -116,8 +116,8 @@ IsUnmadeOf [] file = ⊥
 IsUnmadeOf (name ∷ more) file =
     IsFalse (bytes_eq name (codes "-")) × (file.name.now ≡ name) × IsWhyUnmade name file.why
 
--- putting a text where names say ends so: it stands there; or, as unread, nowhere, where its file can't be
--- made, which is said
+-- putting a text where names say ends so: it stands there; or, as unread, nowhere, where its file
+-- can't be made, which is said
 abbrev pub PlaceEnds : List (List ℕ) → Bool → List ℕ → Outcome → Output → Type 0
 PlaceEnds names overwrites text Success output = output ≡ placed names overwrites text
 PlaceEnds names overwrites text Unread output =
@@ -125,8 +125,8 @@ PlaceEnds names overwrites text Unread output =
     × IsLineAbout (called file.name.now) (unmade_text file.why) said × (output ≡ only_said said)
 PlaceEnds names overwrites text _ output = ⊥
 
--- with these files at this moment the request ends so: with rejection, or as putting out what it gives
--- does, on standard output or into the file that `--out` names
+-- with these files at this moment the request ends so: with rejection, or as putting out what it
+-- gives does, on standard output or into the file that `--out` names
 abbrev pub InputsEnd : AskedFields → InputFields → Moment → Outcome → Output → Type 0
 InputsEnd asked inputs now Rejection output =
     (said : List ℕ) × GivesNothing asked inputs now said × (output ≡ only_said said)
@@ -147,8 +147,8 @@ abbrev pub HasNoMoment : List GivenFields → List ℕ → Type 0
 HasNoMoment given said =
     ((named : Option Moment) → IsNamedMoment given named → ⊥) × (said ≡ refusal_message (Value At))
 
--- a run that asks this ends so, and puts this out: as its files do; with rejection also where `--at`
--- names no moment; and as unread also where a file can't be read, which is said of one
+-- a run that asks this ends so, and puts this out: as its files do; with rejection also where
+-- `--at` names no moment; and as unread also where a file can't be read, which is said of one
 abbrev pub AskedEnds : Reads → (Moment → Type 0) → AskedFields → Outcome → Output → Type 0
 AskedEnds reads tells asked Success output = ReadEnds reads tells asked Success output
 AskedEnds reads tells asked Rejection output =
@@ -162,9 +162,9 @@ AskedEnds reads tells asked WrongUse output = ⊥
 
 -- ---- words
 
--- a run on these words, which don't ask how the command is used, ends so: with wrong use exactly where
--- they ask for nothing to be prepared or completed, and then says what is wrong; else as what they ask
--- does
+-- a run on these words, which don't ask how the command is used, ends so: with wrong use exactly
+-- where they ask for nothing to be prepared or completed, and then says what is wrong; else as what
+-- they ask does
 abbrev pub WordsEnd : Reads → (Moment → Type 0) → List (List ℕ) → Outcome → Output → Type 0
 WordsEnd reads tells words WrongUse output =
     ((asked : AskedFields) → IsRequestLine asked words → ⊥)

@@ -1,5 +1,5 @@
--- How a run of the command ends, and what it writes, by what reading files and listing folders gives and
--- by what a clock tells (own).
+-- How a run of the command ends, and what it writes, by what reading files and listing folders
+-- gives and by what a clock tells (own).
 use Rattle.std.specs.Prelude.{◌≡◌, ◌≢◌, ◌⊎◌, ℕ, List, [], ◌∷◌, ◌++◌, Option, Some, None, IsFalse, IsTrue}
 use Rattle.std.specs.Bool.{MatchBool}
 use Rattle.std.specs.Io.KnownBytes.{Appends}
@@ -28,8 +28,9 @@ use Rattle.rpki_command.specs.declared.searching.SoughtNames.{SoughtNames}
 
 -- ---- what is asked of files
 
--- the answer to a request at a moment, as if it weren't quiet, where reading files gives this: it is
--- that of those of its files, lists and locators that can be read; and what is said of the others
+-- the answer to a request at a moment, as if it weren't quiet, where reading files gives this: it
+-- is that of those of its files, lists and locators that can be read; and what is said of the
+-- others
 pub record IsWholeAnswer (reads : Reads) (r : RequestFields) (now : Moment) (outcome : Outcome) (text said : List ℕ) : Type 0 where
   pub files : List FileFields
   pub lists : List FileFields
@@ -46,8 +47,8 @@ pub record IsAnswer (reads : Reads) (r : RequestFields) (now : Moment) (outcome 
   pub quiet_is : IsTrue r.is_quiet → text ≡ []
   pub told_is : IsFalse r.is_quiet → text ≡ told
 
--- the same, where listing folders gives this: it is that of the files that stand for the names of the
--- request
+-- the same, where listing folders gives this: it is that of the files that stand for the names of
+-- the request
 pub record IsAnswerOfNamed (reads : Reads) (lists : Lists) (r : RequestFields) (now : Moment)
     (outcome : Outcome) (text said : List ℕ) : Type 0 where
   pub names : List (List ℕ)
@@ -57,16 +58,17 @@ pub record IsAnswerOfNamed (reads : Reads) (lists : Lists) (r : RequestFields) (
   pub answer : IsAnswer reads (record r { files = names }) now outcome text of_files
   pub said_is : said ≡ of_folders ++ of_files
 
--- the answer by what was sought: that to the same request of the files and the lists that were found,
--- which ends as unread where another file couldn't be read; or none, where what is asked for couldn't be
+-- the answer by what was sought: that to the same request of the files and the lists that were
+-- found, which ends as unread where another file couldn't be read; or none, where what is asked for
+-- couldn't be
 abbrev pub IsAnswerBy : Reads → RequestFields → Moment → Option SoughtNames → Outcome → List ℕ → List ℕ → Type 0
 IsAnswerBy reads r now None outcome text said = (outcome ≡ Unread) × (text ≡ []) × (said ≡ [])
 IsAnswerBy reads r now (Some sought) outcome text said =
     (found : Outcome) × IsAnswer reads (with_sought r sought) now found text said
     × MatchBool sought.are_all_read (outcome ≡ found) (outcome ≡ Unread)
 
--- the answer where a path is sought in folders: among the request's file and those that stand for the
--- folders' names
+-- the answer where a path is sought in folders: among the request's file and those that stand for
+-- the folders' names
 pub record IsAnswerIn (reads : Reads) (lists : Lists) (r : RequestFields) (now : Moment)
     (outcome : Outcome) (text said : List ℕ) : Type 0 where
   pub names : List (List ℕ)
@@ -89,16 +91,16 @@ IsAnswerOf reads lists r now outcome text said = IsAnswerAmong r.folders reads l
 
 -- ---- a command line
 
--- what is asked ends so, with this text, and this is said: a text about the command and nothing, or the
--- answer of files
+-- what is asked ends so, with this text, and this is said: a text about the command and nothing, or
+-- the answer of files
 abbrev pub TaskEnds : Task → Reads → Lists → (Moment → Type 0) → RequestFields → Outcome → List ℕ → List ℕ → Type 0
 TaskEnds Help reads lists tells r outcome text said = (outcome ≡ Success) × (text ≡ usage_text) × (said ≡ [])
 TaskEnds Version reads lists tells r outcome text said = (outcome ≡ Success) × (text ≡ version_text) × (said ≡ [])
 TaskEnds _ reads lists tells r outcome text said =
     (now : Moment) × IsMomentBy tells r.at now × IsAnswerOf reads lists r now outcome text said
 
--- a run on these words ends so, with this text, and this is said: with wrong use, none, and what is wrong
--- exactly where they are no command line, else as what they ask does
+-- a run on these words ends so, with this text, and this is said: with wrong use, none, and what is
+-- wrong exactly where they are no command line, else as what they ask does
 abbrev pub LineEnds : Reads → Lists → (Moment → Type 0) → List (List ℕ) → Outcome → List ℕ → List ℕ → Type 0
 LineEnds reads lists tells words WrongUse text said =
     ((r : RequestFields) → IsCommandLine r words → ⊥) × (text ≡ []) × SaysLineMisuse words said

@@ -26,8 +26,8 @@ AreListNames (file ∷ files) names =
     ⊎ ((rest : List (List ℕ)) × IsList file.octets
     × AreListNames files rest × (names ≡ file.name ∷ rest))
 
--- these are the names of the files of the path that is sought to the first of the files, and those of
--- all lists among these; and so the walk ended, where it came to no valid path
+-- these are the names of the files of the path that is sought to the first of the files, and those
+-- of all lists among these; and so the walk ended, where it came to no valid path
 pub record IsSought (q : TreeFields) (sought : SoughtNames) : Type 0 where
   pub path : List FileFields
   pub path_is : (file : FileFields) (more : List FileFields) → q.files ≡ file ∷ more
@@ -51,8 +51,8 @@ abbrev pub IsAskedRead : RequestFields → List FileFields → List LocatorField
 IsAskedRead r files locators =
     IsFirstRead r.files files × (file_names (locator_files locators) ≡ r.locators)
 
--- What a search gives at a moment, of what is read of the files of a request: the names, and whether all
--- files could be read; or none, exactly where what is asked for couldn't be.
+-- What a search gives at a moment, of what is read of the files of a request: the names, and
+-- whether all files could be read; or none, exactly where what is asked for couldn't be.
 abbrev pub IsSearchOf : RequestFields → Moment → List FileFields → List FileFields
     → List LocatorFields → Option SoughtNames → Type 0
 IsSearchOf r now files lists locators None = IsAskedRead r files locators → ⊥
@@ -72,8 +72,8 @@ abbrev pub SaysOfSearch : TreeFields → Option SoughtNames → List ℕ → Typ
 SaysOfSearch q None said = said ≡ []
 SaysOfSearch q (Some sought) said = SaysOfSought q sought said
 
--- what a search gives, by what reading files gives, and what is said in it: why files can't be read, and
--- then of those that could be
+-- what a search gives, by what reading files gives, and what is said in it: why files can't be
+-- read, and then of those that could be
 pub record IsSearch (reads : Reads) (r : RequestFields) (now : Moment) (sought : Option SoughtNames)
     (said : List ℕ) : Type 0 where
   pub files : List FileFields

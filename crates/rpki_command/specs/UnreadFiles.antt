@@ -14,8 +14,9 @@ use Rattle.rpki_command.specs.declared.making.Unmade.TheVariants as unmade
 
 -- ---- why
 
--- why the file of this name can't be read, where no more than so many octets are taken: its name isn't
--- text, it has more octets, or the system doesn't give them; or memory ran out, of which no more is known
+-- why the file of this name can't be read, where no more than so many octets are taken: its name
+-- isn't text, it has more octets, or the system doesn't give them; or memory ran out, of which no
+-- more is known
 abbrev pub IsWhyUnread : Reads → ℕ → List ℕ → Unread → Type 0
 IsWhyUnread reads most name unread.OtherName = IsUtf8 name → ⊥
 IsWhyUnread reads most name (unread.TooLong limit) = (limit ≡ most) × reads name most None
@@ -37,8 +38,8 @@ IsWhyUnmade name (unmade.Failed error) = Unit {0}
 
 -- ---- what is said of it
 
--- why the system didn't open, read or write a file, where that has words of its own here; else the words
--- are the system's
+-- why the system didn't open, read or write a file, where that has words of its own here; else the
+-- words are the system's
 abbrev pub failure_text : ErrorKind → Option (List ℕ)
 failure_text NotFound = Some (codes "no such file or directory")
 failure_text IsADirectory = Some (codes "is a directory")
@@ -75,8 +76,8 @@ abbrev pub IsLineAbout : List ℕ → Option (List ℕ) → List ℕ → Type 0
 IsLineAbout file words line =
     (why : List ℕ) × IfSome words (λ said. why ≡ said) × (line ≡ file_message file why)
 
--- the line says why the file of this name can't be read, where no more than so many octets are taken; and
--- that is so
+-- the line says why the file of this name can't be read, where no more than so many octets are
+-- taken; and that is so
 pub record IsToldUnread (reads : Reads) (most : ℕ) (name line : List ℕ) : Type 0 where
   pub why : Unread
   pub because : IsWhyUnread reads most name why

@@ -153,8 +153,8 @@ pub fn tree_question<'q, 'n>(
     }
 }
 
-// Judges all certificates among the files that could be read. The outcome is theirs, where all could
-// be.
+// Judges all certificates among the files that could be read. The outcome is theirs, where all
+// could be.
 fn tree(
     alloc: Global,
     request: &Request<'_>,

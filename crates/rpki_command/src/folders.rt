@@ -1,5 +1,5 @@
-//! The files that stand for the names of a request: where a name is a folder's, those in it and below
-//! it.
+//! The files that stand for the names of a request: where a name is a folder's, those in it and
+//! below it.
 ghost use Rattle.std.specs.Cmp.Lexicographic.{slice_cmp};
 ghost use Rattle.std.specs.List.{count_by, filter};
 ghost use Rattle.std.specs.List.Sorted.{IsPermutation, IsSorted};
@@ -238,8 +238,8 @@ fn tell_passed<E: Write>(err: &mut E, passed: usize) -> io::Result<()>
 }
 
 /// Returns the names of the files that stand for names of which each may be a folder's. Says which
-/// folder can't be listed, and how many files are passed over. Errs only where memory runs out, or this
-/// can't be said.
+/// folder can't be listed, and how many files are passed over. Errs only where memory runs out, or
+/// this can't be said.
 pub fn opened<F: FileSource, E: Write>(
     alloc: Global,
     files: &F,
@@ -261,8 +261,8 @@ pub fn opened<F: FileSource, E: Write>(
     Ok(all)
 }
 
-/// Returns the names of the files that the request is about: where it may name folders, those of the
-/// files in them and below them, as [`opened`] does, and else its own.
+/// Returns the names of the files that the request is about: where it may name folders, those of
+/// the files in them and below them, as [`opened`] does, and else its own.
 pub fn file_names<F: FileSource, E: Write>(
     alloc: Global,
     files: &F,

@@ -88,10 +88,11 @@ fn failed<E: Write>(alloc: Global, err: &mut Speaker<E>, error: Error) -> ExitCo
 // Runs the command on the words of a command line: writes what the files hold that they name, or
 // the verdict on their path, or on each certificate among them, or what they prepare or complete.
 // The exit status is 0 where all files were shown, the path or all certificates are accepted, or
-// something was prepared or completed; 1 where a file is no certificate, list or locator, the path is
-// rejected, a file given as a list or a locator is none, or nothing is prepared or completed; 2 where
-// the command line has another form; and 3 where a file can't be read or made, which is said, or
-// where the clock, memory or an output failed, which the last line says, unless it can't be said.
+// something was prepared or completed; 1 where a file is no certificate, list or locator, the path
+// is rejected, a file given as a list or a locator is none, or nothing is prepared or completed; 2
+// where the command line has another form; and 3 where a file can't be read or made, which is said,
+// or where the clock, memory or an output failed, which the last line says, unless it can't be
+// said.
 fn command<S: FileSource + MomentSource, M: FileMaker, O: Write, E: Write>(
     alloc: Global,
     system: &S,

@@ -38,8 +38,8 @@ pub trait FileMaker {
     /// The files that were made.
     ghost made: { Self → Option (List MadeFile) } = { λ _. None };
 
-    /// Makes the file of this name with these octets. One that is there is overwritten where that is
-    /// said, and is else in the way. Where it errs, none was made.
+    /// Makes the file of this name with these octets. One that is there is overwritten where that
+    /// is said, and is else in the way. Where it errs, none was made.
     fn make_file(&mut self, name: &str, octets: &[u8], overwrites: bool) -> io::Result<()>
         ensures made { OnOk result (Makes (made self.old) (made self.new)
             (record { name = name.now; octets = octets.now; overwrites = overwrites } ∷ [])) }

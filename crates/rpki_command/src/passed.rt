@@ -1,5 +1,5 @@
-//! What a search says of the files among which it seeks: of those that it passes over, and where there
-//! is no list.
+//! What a search says of the files among which it seeks: of those that it passes over, and where
+//! there is no list.
 ghost use Rattle.std.specs.Io.KnownBytes.{Appends};
 ghost use Rattle.std.specs.Prelude.{◌≡◌, ◌==◌, [], List, ℕ, Ok, OnOk, Some, codes, if◌then◌else◌};
 ghost use Rattle.rpki_text.specs.CommandLines.Views.{word_octets};
@@ -69,8 +69,8 @@ fn tell_each<E: Write>(alloc: Global, err: &mut E, files: &[BareObject<'_>]) -> 
     Ok(())
 }
 
-/// Says which of the files behind the first are passed over, since they are neither certificates nor
-/// lists. Errs only where memory runs out, or this can't be said.
+/// Says which of the files behind the first are passed over, since they are neither certificates
+/// nor lists. Errs only where memory runs out, or this can't be said.
 pub fn tell_others<E: Write>(alloc: Global, err: &mut E, files: &[BareObject<'_>]) -> Result<()>
     ensures { OnOk result ((said : List ℕ) × SaysOfOthers files.now said
         × Appends (E.contents err.old) (E.contents err.new) said) }

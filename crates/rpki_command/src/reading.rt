@@ -221,8 +221,8 @@ pub struct GivenFiles<'a, K> {
     pub locators: Vec<GivenLocator<'a>>,
 }
 
-/// Reads the files, lists and locators that a request names, and says of each that can't be read why.
-/// Errs only where memory runs out, or this can't be said.
+/// Reads the files, lists and locators that a request names, and says of each that can't be read
+/// why. Errs only where memory runs out, or this can't be said.
 pub fn read_given<'a, F: FileSource, E: Write, K: Kept<'a>>(
     alloc: Global,
     files: &F,

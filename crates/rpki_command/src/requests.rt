@@ -1,5 +1,5 @@
-//! A run that prepares or completes a certificate or a list: from its words, over files and a clock,
-//! to what it puts out.
+//! A run that prepares or completes a certificate or a list: from its words, over files and a
+//! clock, to what it puts out.
 ghost use Rattle.std.specs.Prelude.{◌≡◌, ◌≢◌, List, ℕ, map, IfErr, IfOk, IsFalse, IsTrue, OnErr, OnOk, Ok};
 ghost use Rattle.std.specs.Io.KnownBytes.{Appends};
 ghost use Rattle.rpki_text.specs.CommandLines.Views.{word_octets};
@@ -135,8 +135,8 @@ pub struct Unplaced<'a> {
     pub why: Unmade,
 }
 
-// Puts a text into the file that is named, if one is, and else out, as where `-` is named. Errs where
-// that file can't be made.
+// Puts a text into the file that is named, if one is, and else out, as where `-` is named. Errs
+// where that file can't be made.
 fn put<'a, M: FileMaker, O: Write>(
     files: &mut M,
     out: &mut O,
@@ -303,9 +303,9 @@ fn answer_words<S: FileSource + MomentSource, M: FileMaker, O: Write, E: Write>(
 
 /// Answers words that begin as a request does: puts out what is prepared or completed, of files as
 /// reading them gives them, at the moment that is named or else at the one that the clock tells. Of
-/// words that ask nothing it says what is wrong, and why a request gives nothing, or why a file can't be
-/// read or made. Where words ask how the command is used it writes that. Errs where memory runs out, or
-/// where the clock or what says it fails, and has written nothing on standard output.
+/// words that ask nothing it says what is wrong, and why a request gives nothing, or why a file
+/// can't be read or made. Where words ask how the command is used it writes that. Errs where memory
+/// runs out, or where the clock or what says it fails, and has written nothing on standard output.
 pub fn run_request<S: FileSource + MomentSource, M: FileMaker, O: Write, E: Write>(
     alloc: Global,
     system: &S,

@@ -135,8 +135,8 @@ fn answered<F: FileSource, E: Write>(
 }
 
 /// Answers at this moment what a request asks of files, as reading them gives them, and writes the
-/// answer; of each that can't be read it says why. Errs where memory runs out or this can't be said,
-/// and has written no answer.
+/// answer; of each that can't be read it says why. Errs where memory runs out or this can't be
+/// said, and has written no answer.
 pub fn answer<F: FileSource, O: Write, E: Write>(
     alloc: Global,
     files: &F,
@@ -299,9 +299,9 @@ fn run_line<S: FileSource + MomentSource, O: Write, E: Write>(
 
 /// Answers the words behind the program's name: puts out what they ask, of files and folders as
 /// reading and listing them gives them, at the moment that they name, or else at the one that the
-/// clock tells; or says what is wrong of them. Of a request to prepare or to complete something that
-/// gives nothing it says why, and why a file can't be read or made. Errs where memory runs out, or where
-/// the clock or what says it fails, and has written nothing on standard output.
+/// clock tells; or says what is wrong of them. Of a request to prepare or to complete something
+/// that gives nothing it says why, and why a file can't be read or made. Errs where memory runs
+/// out, or where the clock or what says it fails, and has written nothing on standard output.
 pub fn run<S: FileSource + MomentSource, M: FileMaker, O: Write, E: Write>(
     alloc: Global,
     system: &S,

@@ -177,9 +177,9 @@ fn path_told<E: Write>(
     Ok((names, ended))
 }
 
-// The path that is sought to the first of these files, and the lists among them, where all files could
-// be read or not. It says which files are passed over, where there is no list, and where the search met a
-// bound.
+// The path that is sought to the first of these files, and the lists among them, where all files
+// could be read or not. It says which files are passed over, where there is no list, and where the
+// search met a bound.
 fn sought_among<E: Write>(
     alloc: Global,
     err: &mut E,
@@ -250,11 +250,11 @@ fn sought_if_read<E: Write>(
     Ok(Some(sought))
 }
 
-/// Seeks the path to the first file of a request among the others, as reading them gives them. Of each
-/// that can't be read it says why, and gives none where that is the first file or a locator. It says
-/// which of the others are passed over, since they are neither certificates nor lists; where there is no
-/// list; and where it met a bound before it came to a valid path. Errs only where memory runs out, or
-/// this can't be said.
+/// Seeks the path to the first file of a request among the others, as reading them gives them. Of
+/// each that can't be read it says why, and gives none where that is the first file or a locator.
+/// It says which of the others are passed over, since they are neither certificates nor lists;
+/// where there is no list; and where it met a bound before it came to a valid path. Errs only where
+/// memory runs out, or this can't be said.
 pub fn names_sought<F: FileSource, E: Write>(
     alloc: Global,
     files: &F,

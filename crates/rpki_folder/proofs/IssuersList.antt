@@ -1,5 +1,5 @@
 -- What is kept of lists for an issuer answers of each certificate below it as all lists do.
-use Rattle.std.specs.Prelude.{Some, Result, Ok, Err, Contains}
+use Rattle.std.specs.Prelude.{Some, Result, Contains}
 use Rattle.std.proofs.Common.{◌≡◌, ◌<◌, ℕ, zero, suc, List, [], ◌∷◌, length, get_or, refl, sym, ap, subst, ◌∙◌, inl, inr, arith}
 use Rattle.rpki_parts.specs.Conditions.{IsFirstFalse, Tests}
 use Rattle.rpki_cert.specs.Certificates.{TbsFields, CertFields}
@@ -7,11 +7,11 @@ use Rattle.rpki_cert.specs.Verification.{Context, IsSignedBy}
 use Rattle.rpki_crl.specs.Lists.{CrlState}
 use Rattle.rpki_crl.specs.Revocation.{NamesIssuer, revocation_checks}
 use Rattle.rpki_crl.specs.declared.revocation_error.RevocationError.{RevocationError}
-use Rattle.rpki_crl.specs.declared.revocation_error.RevocationError.TheVariants.{NoCrl, WrongKeyId, BadSignature, Stale, Revoked}
+use Rattle.rpki_crl.specs.declared.revocation_error.RevocationError.TheVariants.{NoCrl, BadSignature, Stale}
 use Rattle.rpki_path.specs.AskedLists.{IsFor, HasBegun, IsEligible, HaveNone, IsLatest, by_lists}
-use Rattle.rpki_path.proofs.AskedList.{no_list, unsigned, not_begun, stale, revoked, unrevoked}
+use Rattle.rpki_path.proofs.AskedList.{no_list, unsigned, not_begun, answered}
 use Rattle.rpki_folder.specs.KeyTables.{signer_of, list_places}
-use Rattle.rpki_folder.specs.IssuerLists.{ArePicked, IsCurrent, CanBeAsked, IsBelow, IssuerFields, AreIssuers, IsLatestOf, FailsBy, IsAnswered}
+use Rattle.rpki_folder.specs.IssuerLists.{ArePicked, IsCurrent, CanBeAsked, IsBelow, IssuerFields, AreIssuers, IsLatestOf, IsAnswered}
 use Rattle.rpki_folder.proofs.PickedLists.{in_none, one_of_all, one_of_picked, picked_through, latest_of_all, none_of_all}
 use Rattle.rpki_folder.proofs.ListPlaces.{lists_at, at_one, list_inside, Names, named_there}
 
@@ -109,16 +109,8 @@ module _ (x : Context) (lists : List CrlState) (issuer : TbsFields) where
       names : (l : CrlState) → IsLatestOf c kept.eligible l → NamesIssuer issuer l.list
       names l h = for_names l (latest l h).has.0
 
-      failed : (l : CrlState) → IsLatestOf c kept.eligible l → (e : RevocationError) → FailsBy x.now c l e → IsFirstFalse (by_lists x lists issuer c) revocation_checks e
-      failed l h NoCrl f = absurd f
-      failed l h WrongKeyId f = absurd f
-      failed l h BadSignature f = absurd f
-      failed l h Stale f = stale x lists issuer c l (latest l h) (names l h) f
-      failed l h Revoked f = revoked x lists issuer c l (latest l h) (names l h) f.0 f.1
-
       pub as_all : {T : Type 0} (r : Result T RevocationError) → IsAnswered kept x.now c r → Tests (by_lists x lists issuer c) revocation_checks r
-      as_all (Ok v) (l, h, lasts, not) = unrevoked x lists issuer c l (latest l h) (names l h) lasts not
-      as_all (Err e) (inl (empty, is)) =
+      as_all {T} r (inl (empty, is)) =
           let none = none_of_all (CanBeAsked x.verifies x.now issuer) Fits c lists kept.eligible are.eligible asked empty in
-          subst (λ (f : RevocationError). IsFirstFalse (by_lists x lists issuer c) revocation_checks f) (sym is) (are.otherwise c below none)
-      as_all (Err e) (inr (l, h, f)) = failed l h e f
+          subst (λ (s : Result T RevocationError). Tests (by_lists x lists issuer c) revocation_checks s) (sym is) (are.otherwise c below none)
+      as_all r (inr (l, h, said)) = answered x lists issuer c l (latest l h) (names l h) r said

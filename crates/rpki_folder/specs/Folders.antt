@@ -42,7 +42,8 @@ pub record NamesSigner (key octets : List ℕ) : Type 0 where
 pub record ArePlacesOf (certs : List (List ℕ)) (key places : List ℕ) : Type 0 where
   pub inside : (place : ℕ) → Contains places place → place < length certs
   pub only : (place : ℕ) → Contains places place → NamesSigner key (octets_at certs place)
-  pub all : (place : ℕ) → place < length certs → NamesSigner key (octets_at certs place) → Contains places place
+  pub all : (place : ℕ) → place < length certs → NamesSigner key (octets_at certs place)
+      → Contains places place
 
 -- the octets begin with no certificate
 abbrev pub BeginsNoCertificate : List ℕ → Type 0

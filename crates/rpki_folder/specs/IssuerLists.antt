@@ -1,17 +1,15 @@
 -- What is kept of lists for one issuer, so that each is verified once, and not once for each
 -- certificate below the issuer (own).
-use Rattle.std.specs.Prelude.{◌≡◌, ◌⊎◌, List, [], ◌∷◌, Some, Result, Ok, Err}
+use Rattle.std.specs.Prelude.{◌≡◌, ◌⊎◌, List, [], ◌∷◌, Some, Result, Err}
 use Rattle.rpki_der.specs.Times.{Moment}
 use Rattle.rpki_parts.specs.Conditions.{IsFirstFalse}
 use Rattle.rpki_parts.specs.Signatures.{Verifies}
-use Rattle.rpki_parts.specs.ValidAt.{IsNotAfter}
 use Rattle.rpki_cert.specs.Certificates.{TbsFields, CertFields}
 use Rattle.rpki_cert.specs.Verification.{Context, IsSignedBy}
 use Rattle.rpki_crl.specs.Lists.{CrlState}
 use Rattle.rpki_crl.specs.Revocation.{NamesIssuer, revocation_checks}
 use Rattle.rpki_crl.specs.declared.revocation_error.RevocationError.{RevocationError}
-use Rattle.rpki_crl.specs.declared.revocation_error.RevocationError.TheVariants.{Stale, Revoked}
-use Rattle.rpki_path.specs.AskedLists.{HasBegun, IsEligible, Revokes, HaveNone, IsLatest, by_lists}
+use Rattle.rpki_path.specs.AskedLists.{HasBegun, IsEligible, HaveNone, IsLatest, IsSaidBy, by_lists}
 
 -- the second list has those elements of the first that have P, in their order
 abbrev pub ArePicked : {X : Type 0} → (X → Type 0) → List X → List X → Type 0
@@ -47,7 +45,8 @@ FailsWithout x lists issuer e = (c : CertFields) → IsBelow issuer c
     → IsFirstFalse (by_lists x lists issuer c) revocation_checks e
 
 -- they are what is to be kept of the lists for the issuer
-pub record AreIssuers (x : Context) (lists : List CrlState) (issuer : TbsFields) (kept : IssuerFields) : Type 0 where
+pub record AreIssuers (x : Context) (lists : List CrlState) (issuer : TbsFields)
+    (kept : IssuerFields) : Type 0 where
   pub eligible : ArePicked (CanBeAsked x.verifies x.now issuer) lists kept.eligible
   pub otherwise : FailsWithout x lists issuer kept.otherwise
 
@@ -57,17 +56,9 @@ pub record AreIssuers (x : Context) (lists : List CrlState) (issuer : TbsFields)
 abbrev pub IsLatestOf : CertFields → List CrlState → CrlState → Type 0
 IsLatestOf c lists l = IsLatest (λ _. Unit {0}) c lists l
 
--- a check that the certificate fails, as this list says
-abbrev pub FailsBy : Moment → CertFields → CrlState → RevocationError → Type 0
-FailsBy now c l Stale = IsNotAfter now l.list.fields.next_update → ⊥
-FailsBy now c l Revoked = IsNotAfter now l.list.fields.next_update × Revokes c l
-FailsBy now c l e = ⊥
-
 -- what is answered of a certificate by what was kept
-abbrev pub IsAnswered : {T : Type 0} → IssuerFields → Moment → CertFields → Result T RevocationError → Type 0
-IsAnswered kept now c (Ok v) =
-    (l : CrlState) × IsLatestOf c kept.eligible l
-    × IsNotAfter now l.list.fields.next_update × (Revokes c l → ⊥)
-IsAnswered kept now c (Err e) =
-    ((kept.eligible ≡ []) × (e ≡ kept.otherwise))
-    ⊎ ((l : CrlState) × IsLatestOf c kept.eligible l × FailsBy now c l e)
+abbrev pub IsAnswered : {T : Type 0} → IssuerFields → Moment → CertFields
+    → Result T RevocationError → Type 0
+IsAnswered kept now c r =
+    ((kept.eligible ≡ []) × (r ≡ Err kept.otherwise))
+    ⊎ ((l : CrlState) × IsLatestOf c kept.eligible l × IsSaidBy now c l r)

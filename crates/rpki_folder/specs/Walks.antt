@@ -52,14 +52,15 @@ IsValidAnchor x asked tal anchor =
 
 -- below these members the octets are accepted as a certificate of this kind: a router's below the
 -- last of them, any other one as a further member
-abbrev pub IsAcceptedAs : Context → RevocationChecks → Root → List Candidate → Kind → List ℕ → Judged → Type 0
+abbrev pub IsAcceptedAs : Context → RevocationChecks → Root → List Candidate → Kind → List ℕ
+    → Judged → Type 0
 IsAcceptedAs x asked root members Router octets j =
     LeadsTo x asked root members j.holder × IsRouterIfAny x asked j.holder (Some octets) j.router
 IsAcceptedAs x asked root members kind octets j =
     LeadsTo x asked root (members ++ candidate kind octets ∷ []) j.holder × (j.router ≡ None)
 
--- a valid path leads, by the CAs at these places, to the certificate at the place, as what that says
--- that it is
+-- a valid path leads, by the CAs at these places, to the certificate at the place, as what that
+-- says that it is
 abbrev pub IsReached : Context → RevocationChecks → Root → List (List ℕ) → List ℕ → ℕ → Type 0
 IsReached x asked root certs above place =
     (kind : Kind) × (j : Judged) × BeginsWithKind kind (octets_at certs place)
@@ -84,7 +85,8 @@ demand_as x asked issuer kind = demand_under x asked issuer kind
 
 -- the verdict on octets below these members is right: they are accepted as what they say that they
 -- are; or the members are a valid path, and this is what is wrong with them
-abbrev pub IsRightOf : Context → RevocationChecks → Root → List Candidate → List ℕ → Result Judged PathFault → Type 0
+abbrev pub IsRightOf : Context → RevocationChecks → Root → List Candidate → List ℕ
+    → Result Judged PathFault → Type 0
 IsRightOf x asked root members octets (Ok j) =
     (kind : Kind) × BeginsWithKind kind octets × IsAcceptedAs x asked root members kind octets j
 IsRightOf x asked root members octets (Err e) =
@@ -140,7 +142,8 @@ pub record HasBelow (x : Context) (asked : RevocationChecks)
   pub issuer : ResourceFields
   pub leads : LeadsTo x asked root (members_at root certs (above ++ between)) issuer
   pub place : ℕ
-  pub names : NamesSigner issuer.cert.fields.extensions.subject_key_identifier (octets_at certs place)
+  pub names : NamesSigner issuer.cert.fields.extensions.subject_key_identifier
+      (octets_at certs place)
   pub admitted : AreAdmitted admits above (between ++ place ∷ [])
 
 -- where a walk of this depth says that it is too deep, a certificate stands below a path that long

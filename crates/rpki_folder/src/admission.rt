@@ -1,13 +1,14 @@
 //! Which certificates a caller lets into a walk.
 ghost use Rattle.std.specs.Prelude.{◌↔◌, IsTrue};
 
-/// Says which certificates a walk looks at. A caller who reads manifests restricts the walk by it: to
-/// the certificates whose hash the manifest of the CA above them lists. The relation is a fact about
-/// places, so an answer doesn't depend on what the walk has found.
+/// Says which certificates a walk looks at. A caller who reads manifests restricts the walk by it:
+/// to the certificates whose hash the manifest of the CA above them lists. The relation is a fact
+/// about places, so an answer doesn't depend on what the walk has found.
 pub trait Admission {
     ghost use Rattle.std.specs.Prelude.{ℕ, List};
 
-    /// Below the CAs at these places, from the top down, the certificate at this place is looked at.
+    /// Below the CAs at these places, from the top down, the certificate at this place is looked
+    /// at.
     ghost admits: { Self → List ℕ → ℕ → Type 0 };
 
     /// Returns whether the relation holds.

@@ -10,9 +10,9 @@ use rpki_path::Member;
 use std::alloc::{AllocError, Global};
 use std::marker::Model;
 
-/// A certificate of a folder: octets that begin with one, and what it says. Its other fields are read
-/// again where they are asked for, since a certificate that was read takes as much memory as its
-/// octets.
+/// A certificate of a folder: octets that begin with one, and what it says. Its other fields are
+/// read again where they are asked for, since a certificate that was read takes as much memory as
+/// its octets.
 #[derive(Drop)]
 pub struct Filed {
     octets: Bytes,

@@ -119,9 +119,9 @@ impl Sought {
 }
 
 impl<'w, A: Admission, V: Verifier> Walk<'w, A, V> {
-    /// Searches for a valid path from the trust anchor of a locator to the certificate at a place, by
-    /// a walk ([`Walk::from_anchor`]). Returns the first that it finds. Errs with what is wrong with
-    /// the trust anchor, or where memory runs out.
+    /// Searches for a valid path from the trust anchor of a locator to the certificate at a place,
+    /// by a walk ([`Walk::from_anchor`]). Returns the first that it finds. Errs with what is wrong
+    /// with the trust anchor, or where memory runs out.
     pub fn find(&self, tal: &Tal, anchor: &Member<'_>, place: usize) -> Result<Found, WalkError>
         ensures found { let w = self.now in
             let x = context (V.verifies w.verifier.now) w.at w.strict in

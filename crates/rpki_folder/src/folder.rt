@@ -78,8 +78,8 @@ impl Folder {
         }
     }
 
-    /// Adds octets that begin with a certificate, which says this, and returns its place. Errs where
-    /// memory runs out, and the folder is then as it was.
+    /// Adds octets that begin with a certificate, which says this, and returns its place. Errs
+    /// where memory runs out, and the folder is then as it was.
     pub fn add_cert(&mut self, octets: Bytes, said: Said) -> Result<usize, AllocError>
         requires { BeginsWithSaid said octets }
         ensures ok { OnOk result (self.new ≡ with_cert self.old octets) }
@@ -99,7 +99,8 @@ impl Folder {
     }
 
     /// Adds a revocation list. It is asked by walking its entries, unless its serial numbers are
-    /// cached ([`Crl::cache_serials`]). Errs where memory runs out, and the folder is then as it was.
+    /// cached ([`Crl::cache_serials`]). Errs where memory runs out, and the folder is then as it
+    /// was.
     pub fn add_list(&mut self, list: Crl) -> Result<(), AllocError>
         ensures ok { OnOk result (self.new ≡ with_list self.old list) }
         ensures err { OnErr result (self.new ≡ self.old) }
@@ -120,8 +121,9 @@ impl Folder {
         }
     }
 
-    /// Adds the certificate or the revocation list with which octets begin, and tells which it was. A
-    /// list's serial numbers are cached. Errs where memory runs out, and the folder is then as it was.
+    /// Adds the certificate or the revocation list with which octets begin, and tells which it was.
+    /// A list's serial numbers are cached. Errs where memory runs out, and the folder is then as it
+    /// was.
     pub fn add(&mut self, octets: Bytes) -> Result<Added, AllocError>
         ensures ok { IfOk result (IsAdded octets self.old self.new) }
         ensures err { OnErr result (self.new ≡ self.old) }
@@ -175,16 +177,16 @@ impl Folder {
         &self.lists
     }
 
-    /// Returns the places of the certificates that name this key as the one that signs them (RFC 5280
-    /// 4.2.1.1), the one that was added first in front.
+    /// Returns the places of the certificates that name this key as the one that signs them (RFC
+    /// 5280 4.2.1.1), the one that was added first in front.
     pub fn signed_by(&self, key: &KeyIdentifier) -> &[usize]
         ensures { ArePlacesOf self.now.certs key.now result.now }
     {
         self.by_signer.get(key)
     }
 
-    /// Returns the places of the revocation lists that name this key as the one that signs them (RFC
-    /// 5280 5.2.1), in their order.
+    /// Returns the places of the revocation lists that name this key as the one that signs them
+    /// (RFC 5280 5.2.1), in their order.
     pub(crate) fn lists_of(&self, key: &KeyIdentifier) -> &[usize]
         ensures { result.now ≡ list_places key.now self.now.lists }
     {

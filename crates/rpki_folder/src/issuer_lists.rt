@@ -1,8 +1,6 @@
 //! The lists of one issuer, each of which is verified once.
-ghost use Rattle.std.specs.Prelude.{◌≡◌, ◌<◌, ◌↔◌, ◌++◌, ◌∷◌, [], List, Bool, length, map, slice_index_or, IsTrue, IfOk, IfSome, option_copied};
-ghost use Rattle.rpki_cert.specs.Verification.{context, IsSignedBy};
-ghost use Rattle.rpki_crl.specs.Lists.{CrlState};
-ghost use Rattle.rpki_path.specs.AskedLists.{Supersedes};
+ghost use Rattle.std.specs.Prelude.{◌≡◌, ◌<◌, ◌↔◌, Bool, length, map, slice_index_or, IsTrue, IfOk, option_copied};
+ghost use Rattle.rpki_cert.specs.Verification.{context};
 ghost use Rattle.rpki_path.specs.AskedLists.Steps.{IsLatestIfAny};
 ghost use Rattle.rpki_folder.specs.KeyTables.{list_places};
 ghost use Rattle.rpki_folder.specs.IssuerLists.{IsCurrent, FailsWithout, AreIssuers, IsAnswered};
@@ -11,13 +9,13 @@ use rpki_cert::{Cert, ResourceCert};
 use rpki_crl::{Crl, RevocationError};
 use rpki_der::Time;
 use rpki_parts::Verifier;
-use rpki_path::revocation::{has_begun, supersedes};
+use rpki_path::revocation::{goes_first, has_begun, is_signed_by, said_by};
 use std::alloc::{AllocError, Global};
 use std::marker::Model;
 
 /// What is kept of given lists for one issuer, so that each of them is verified once, and not once
-/// for each certificate below the issuer. It answers of these as [`rpki_path::revocation::GivenLists`] of
-/// all lists does.
+/// for each certificate below the issuer. It answers of these as
+/// [`rpki_path::revocation::GivenLists`] of all lists does.
 #[derive(Drop)]
 pub(crate) struct IssuerLists<'l> {
     // Those that can be asked.
@@ -44,15 +42,6 @@ fn list_at(lists: &[Crl], place: usize) -> &Crl
     ensures { result.now ≡ slice_index_or lists.now place result.now }
 {
     &lists[place]
-}
-
-// Whether the issuer's key signed the list.
-fn is_signed_by<V: Verifier>(list: &Crl, issuer: &ResourceCert, verifier: &V) -> bool
-    ensures { let key = issuer.now.cert.fields.key in
-        IsTrue result ↔ IsSignedBy (V.verifies verifier.now) key list.now.list.signed_data }
-{
-    let key = issuer.as_cert().as_tbs().subject_public_key_info();
-    list.verify_signature(key, verifier).is_ok()
 }
 
 // Whether the issuer's key signed the list, and its time has begun. The signature is verified last,
@@ -90,30 +79,6 @@ fn why_none<V: Verifier>(
     RevocationError::Stale
 }
 
-// Whether the list takes the place of the one that is kept, if one is.
-fn goes_first(list: &Crl, kept: Option<&Crl>, cert: &Cert) -> bool
-    ensures { let goes = Supersedes cert.now list.now in
-        IsTrue result ↔ IfSome (option_copied kept.entry) goes }
-{
-    match kept {
-        Some(kept) => supersedes(list, kept, cert),
-        None => true,
-    }
-}
-
-// The latest of the lists that were seen and this one, where that of those is kept.
-fn later_of<'l>(kept: Option<&'l Crl>, list: &'l Crl, cert: &Cert) -> Option<&'l Crl>
-    ensures { (seen : List CrlState)
-        → IsLatestIfAny (λ _. Unit {0}) cert.now seen (option_copied kept.entry)
-        → IsLatestIfAny (λ _. Unit {0}) cert.now (seen ++ list.now ∷ []) (option_copied result) }
-{
-    if goes_first(list, kept, cert) {
-        Some(list)
-    } else {
-        kept
-    }
-}
-
 // The latest of these lists where they are asked of the certificate.
 fn latest<'l>(lists: &[&'l Crl], cert: &Cert) -> Option<&'l Crl>
     ensures { let given = map (λ l. l.now) lists.entry.now in
@@ -121,7 +86,10 @@ fn latest<'l>(lists: &[&'l Crl], cert: &Cert) -> Option<&'l Crl>
 {
     let mut kept: Option<&'l Crl> = None;
     for list in lists {
-        kept = later_of(kept, list, cert);
+        if !goes_first(list, kept, cert) {
+            continue;
+        }
+        kept = Some(*list);
     }
     kept
 }
@@ -157,20 +125,14 @@ impl<'l> IssuerLists<'l> {
         })
     }
 
-    /// Asks whether the certificate, which is valid below the issuer, is unrevoked. Takes no memory,
-    /// and verifies nothing.
+    /// Asks whether the certificate, which is valid below the issuer, is unrevoked. Takes no
+    /// memory, and verifies nothing.
     pub(crate) fn ask(&self, cert: &Cert, now: Time) -> Result<(), RevocationError>
         ensures { IsAnswered self.now now cert.now result }
     {
         let Some(list) = latest(&self.eligible, cert) else {
             return Err(self.otherwise);
         };
-        if list.as_cert_list().is_stale(now) {
-            return Err(RevocationError::Stale);
-        }
-        if list.contains(cert.as_tbs().serial_number()) {
-            return Err(RevocationError::Revoked);
-        }
-        Ok(())
+        said_by(list, cert, now)
     }
 }

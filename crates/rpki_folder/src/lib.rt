@@ -1,4 +1,5 @@
-//! Folders of certificates and revocation lists, in no order, and the walk down from a trust anchor.
+//! Folders of certificates and revocation lists, in no order, and the walk down from a trust
+//! anchor.
 #![tactic(auto)]
 
 mod admission;

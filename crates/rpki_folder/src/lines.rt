@@ -86,7 +86,8 @@ impl Lines {
         Ok(())
     }
 
-    // Keeps that the certificate was rejected, unless it was accepted, or rejected at a higher step.
+    // Keeps that the certificate was rejected, unless it was accepted, or rejected at a higher
+    // step.
     fn reject(&mut self, above: &[usize], place: usize, fault: PathFault)
         requires { place < length self.old }
         ensures lines { (ts : List Told) → AreLines ts self.old

@@ -7,8 +7,8 @@ use rpki_path::PathFault;
 use std::alloc::AllocError;
 use std::marker::Model;
 
-/// What was accepted: what the certificate holds; or a router's certificate, and what the CA above it
-/// holds.
+/// What was accepted: what the certificate holds; or a router's certificate, and what the CA above
+/// it holds.
 #[derive(Drop)]
 pub struct Accepted<'w> {
     /// The certificate with what it holds; where it is a router's, the CA above it.
@@ -45,8 +45,8 @@ impl<'w> Accepted<'w> {
 }
 
 /// Who is told what a walk finds, certificate by certificate. What it keeps of that it says by the
-/// relation `became`: what was a visitor and was told these verdicts, in this order, is this one now.
-/// It may keep all of them, or a line for each place, or nothing.
+/// relation `became`: what was a visitor and was told these verdicts, in this order, is this one
+/// now. It may keep all of them, or a line for each place, or nothing.
 pub trait Visitor {
     ghost use Rattle.std.specs.Prelude.{List, []};
     ghost use Rattle.rpki_folder.specs.Walks.{Told};

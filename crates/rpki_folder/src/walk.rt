@@ -144,11 +144,13 @@ impl<'w, A: Admission, V: Verifier> Walk<'w, A, V> {
         ensures ok { let w = self.now in
             let x = context (V.verifies w.verifier.now) w.at w.strict in
             let asked = by_lists x w.folder.now.lists in
-            IfOk result (IsIssuedBy x asked issuer.now (kind_of role) (octets_at w.folder.now.certs place)) }
+            IfOk result (IsIssuedBy x asked issuer.now (kind_of role)
+            (octets_at w.folder.now.certs place)) }
         ensures fault { let w = self.now in
             let x = context (V.verifies w.verifier.now) w.at w.strict in
             let asked = by_lists x w.folder.now.lists in
-            IfErr result (Finds x (demand_under x asked issuer.now (kind_of role)) (octets_at w.folder.now.certs place)) }
+            IfErr result (Finds x (demand_under x asked issuer.now (kind_of role))
+            (octets_at w.folder.now.certs place)) }
     {
         let member = self.unasked_member(issuer, place, role)?;
         let test = lists.ask(member.as_cert(), self.at);
@@ -199,7 +201,8 @@ impl<'w, A: Admission, V: Verifier> Walk<'w, A, V> {
         ensures fault { let w = self.now in
             let x = context (V.verifies w.verifier.now) w.at w.strict in
             let asked = by_lists x w.folder.now.lists in
-            IfErr result (Finds x (router_demand x asked issuer.now) (octets_at w.folder.now.certs place)) }
+            IfErr result (Finds x (router_demand x asked issuer.now)
+            (octets_at w.folder.now.certs place)) }
     {
         let cert = self.unasked_router(issuer, place)?;
         let test = lists.ask(&cert, self.at);
@@ -227,7 +230,8 @@ impl<'w, A: Admission, V: Verifier> Walk<'w, A, V> {
             let asked = by_lists x w.folder.now.lists in
             let octets = octets_at w.folder.now.certs place in
             (v : W) (ts : List Told) → W.became v ts visitor.old → IfOk result (λ member.
-            (verdict : Result Judged Fault) × W.became v (ts ++ told above.now place verdict ∷ []) visitor.new
+            (verdict : Result Judged Fault)
+            × W.became v (ts ++ told above.now place verdict ∷ []) visitor.new
             × IsAnswer x asked issuer.now octets (kind_of role) verdict × Hands verdict member) }
         ensures err { (v : W) (ts : List Told) → W.became v ts visitor.old
             → OnErr result (W.became v ts visitor.new) }
@@ -263,7 +267,8 @@ impl<'w, A: Admission, V: Verifier> Walk<'w, A, V> {
             let asked = by_lists x w.folder.now.lists in
             let octets = octets_at w.folder.now.certs place in
             (v : W) (ts : List Told) → W.became v ts visitor.old → OnOk result (
-            (verdict : Result Judged Fault) × W.became v (ts ++ told above.now place verdict ∷ []) visitor.new
+            (verdict : Result Judged Fault)
+            × W.became v (ts ++ told above.now place verdict ∷ []) visitor.new
             × IsAnswer x asked issuer.now octets Router verdict) }
         ensures err { (v : W) (ts : List Told) → W.became v ts visitor.old
             → OnErr result (W.became v ts visitor.new) }
@@ -278,8 +283,8 @@ impl<'w, A: Admission, V: Verifier> Walk<'w, A, V> {
         }
     }
 
-    // Judges the certificate at a place below an issuer as what it says that it is, tells the answer,
-    // and returns the CA below which the walk goes on.
+    // Judges the certificate at a place below an issuer as what it says that it is, tells the
+    // answer, and returns the CA below which the walk goes on.
     fn look_at<W: Visitor>(
         &self,
         issuer: &ResourceCert,
@@ -297,7 +302,8 @@ impl<'w, A: Admission, V: Verifier> Walk<'w, A, V> {
             let asked = by_lists x w.folder.now.lists in
             let octets = octets_at w.folder.now.certs place in
             (v : W) (ts : List Told) → W.became v ts visitor.old → IfOk result (λ next.
-            (verdict : Result Judged Fault) × W.became v (ts ++ told above.now place verdict ∷ []) visitor.new
+            (verdict : Result Judged Fault)
+            × W.became v (ts ++ told above.now place verdict ∷ []) visitor.new
             × IsOutcome x asked issuer.now octets verdict next) }
         ensures err { (v : W) (ts : List Told) → W.became v ts visitor.old
             → OnErr result (W.became v ts visitor.new) }
@@ -339,7 +345,8 @@ impl<'w, A: Admission, V: Verifier> Walk<'w, A, V> {
         IssuerLists::new(alloc, self.folder.lists(), places, issuer, now, verifier)
     }
 
-    // The walk below an issuer with these lists, to the certificates at these places, for this depth.
+    // The walk below an issuer with these lists, to the certificates at these places, for this
+    // depth.
     #[cycle(descend)]
     fn each_below<W: Visitor>(
         &self,
@@ -359,9 +366,11 @@ impl<'w, A: Admission, V: Verifier> Walk<'w, A, V> {
             let x = context (V.verifies w.verifier.now) w.at w.strict in
             let asked = by_lists x w.folder.now.lists in
             let admits = A.admits w.admission.now in
-            (v : W) (ts : List Told) → W.became v ts visitor.old → (more : List Told) × W.became v (ts ++ more) visitor.new
+            (v : W) (ts : List Told) → W.became v ts visitor.old
+            → (more : List Told) × W.became v (ts ++ more) visitor.new
             × (length more + trail.new.steps ≡ trail.old.steps)
-            × TellsBelow x asked admits issuer.now w.folder.now.certs trail.old.above.items depth trail.old.steps result more }
+            × TellsBelow x asked admits issuer.now w.folder.now.certs trail.old.above.items depth
+            trail.old.steps result more }
         ensures trail { OnOk result (trail.new.above.items ≡ trail.old.above.items) }
     {
         laws::unambiguous();
@@ -404,9 +413,11 @@ impl<'w, A: Admission, V: Verifier> Walk<'w, A, V> {
             let x = context (V.verifies w.verifier.now) w.at w.strict in
             let asked = by_lists x w.folder.now.lists in
             let admits = A.admits w.admission.now in
-            (v : W) (ts : List Told) → W.became v ts visitor.old → (more : List Told) × W.became v (ts ++ more) visitor.new
+            (v : W) (ts : List Told) → W.became v ts visitor.old
+            → (more : List Told) × W.became v (ts ++ more) visitor.new
             × (length more + trail.new.steps ≡ trail.old.steps)
-            × TellsBelow x asked admits issuer.now w.folder.now.certs trail.old.above.items depth trail.old.steps result more }
+            × TellsBelow x asked admits issuer.now w.folder.now.certs trail.old.above.items depth
+            trail.old.steps result more }
         ensures trail { OnOk result (trail.new.above.items ≡ trail.old.above.items) }
     {
         laws::unambiguous();
@@ -421,13 +432,13 @@ impl<'w, A: Admission, V: Verifier> Walk<'w, A, V> {
         ended
     }
 
-    /// Walks below an issuer that was validated before. Each certificate of the folder that names the
-    /// key of an accepted CA as the one that signs it, and that is let in there, is judged as what it
-    /// says that it is ([`rpki_cert::said_kind`]), and the visitor is told the verdict: that of
-    /// [`rpki_path::judge`] on the path that leads to it, with the folder's lists. Certificates of one
-    /// key, as renewals that lie side by side, are each judged, and so are those below each of them.
-    /// Returns whether everything was looked at; a bound that was met is told. Errs where memory runs
-    /// out; what was told before is right.
+    /// Walks below an issuer that was validated before. Each certificate of the folder that names
+    /// the key of an accepted CA as the one that signs it, and that is let in there, is judged as
+    /// what it says that it is ([`rpki_cert::said_kind`]), and the visitor is told the verdict:
+    /// that of [`rpki_path::judge`] on the path that leads to it, with the folder's lists.
+    /// Certificates of one key, as renewals that lie side by side, are each judged, and so are
+    /// those below each of them. Returns whether everything was looked at; a bound that was met is
+    /// told. Errs where memory runs out; what was told before is right.
     pub fn below<W: Visitor>(
         &self,
         issuer: &ResourceCert,
@@ -438,7 +449,8 @@ impl<'w, A: Admission, V: Verifier> Walk<'w, A, V> {
             let asked = by_lists x w.folder.now.lists in
             let admits = A.admits w.admission.now in
             (more : List Told) × W.became visitor.old more visitor.new
-            × TellsBelow x asked admits issuer.now w.folder.now.certs [] w.bounds.depth w.bounds.steps result more }
+            × TellsBelow x asked admits issuer.now w.folder.now.certs [] w.bounds.depth
+            w.bounds.steps result more }
     {
         let mut trail = Trail {
             above: Vec::new(self.alloc),
@@ -475,8 +487,8 @@ impl<'w, A: Admission, V: Verifier> Walk<'w, A, V> {
         at_top(validator.trust_anchor(anchor, name))
     }
 
-    /// Validates the trust anchor, which has to have the locator's key (RFC 8630 3), and returns what
-    /// it holds. Errs with what is wrong with it, or where memory runs out.
+    /// Validates the trust anchor, which has to have the locator's key (RFC 8630 3), and returns
+    /// what it holds. Errs with what is wrong with it, or where memory runs out.
     pub fn trust_anchor(&self, tal: &Tal, anchor: &Member<'_>) -> Result<ResourceCert, WalkError>
         ensures ok { let w = self.now in
             let x = context (V.verifies w.verifier.now) w.at w.strict in
@@ -490,23 +502,25 @@ impl<'w, A: Admission, V: Verifier> Walk<'w, A, V> {
         Ok(self.validated_anchor(tal, anchor)?)
     }
 
-    /// Walks down from the trust anchor of a locator: validates it ([`Walk::trust_anchor`]), and walks
-    /// below it ([`Walk::below`]). The trust anchor itself isn't told. Errs with what is wrong with
-    /// it, and then nothing was told; or where memory runs out.
+    /// Walks down from the trust anchor of a locator: validates it ([`Walk::trust_anchor`]), and
+    /// walks below it ([`Walk::below`]). The trust anchor itself isn't told. Errs with what is
+    /// wrong with it, and then nothing was told; or where memory runs out.
     pub fn from_anchor<W: Visitor>(
         &self,
         tal: &Tal,
         anchor: &Member<'_>,
         visitor: &mut W,
     ) -> Result<Ended, WalkError>
-        // Each verdict is right, and where the walk ended, it looked at each path that its end says.
+        // Each verdict is right, and where the walk ended, it looked at each path that its end
+        // says.
         ensures tells { let w = self.now in
             let x = context (V.verifies w.verifier.now) w.at w.strict in
             let asked = by_lists x w.folder.now.lists in
             let admits = A.admits w.admission.now in
             let root = at_anchor tal.now anchor.now in
             (more : List Told) × W.became visitor.old more visitor.new
-            × Tells x asked admits root w.folder.now.certs [] w.bounds.depth w.bounds.steps result more }
+            × Tells x asked admits root w.folder.now.certs [] w.bounds.depth w.bounds.steps result
+            more }
         // It begins at a valid trust anchor.
         ensures anchor { let w = self.now in
             let x = context (V.verifies w.verifier.now) w.at w.strict in

@@ -112,8 +112,8 @@ pub record PrintsHeld (p : Path) (output : List ℕ) : Type 0 where
   pub as_is : IsSetLine (codes "as") decimal (Holds p (paths.last p) system_numbers) as_line
   pub is : output ≡ stand_in ++ concat (output_of (codes "accepted" ∷ []) ∷ output_of (v4_line ∷ []) ∷ output_of (v6_line ∷ []) ∷ output_of (as_line ∷ []) ∷ [])
 
--- where a fault was met, and its name; which of its faults a reader names is free, and nobody is asked
--- for revocation
+-- where a fault was met, and its name; which of its faults a reader names is free, and nobody is
+-- asked for revocation
 abbrev pub IsToldBy : PathFault → List ℕ → List ℕ → Type 0
 IsToldBy (Decode e) stage name = (stage ≡ codes "decode") × Contains decode_faults name
 IsToldBy (Inspect e) stage name = (stage ≡ codes "inspect") × (name ≡ inspection_error_name e)
@@ -164,8 +164,8 @@ Says input output status =
 
 -- ---- a run
 
--- of what a reader gives, all was read, and what a writer held grew by what the line program says to
--- it
+-- of what a reader gives, all was read, and what a writer held grew by what the line program says
+-- to it
 pub record HasAnswered (given left held holds : Option (List ℕ)) (status : Status) : Type 0 where
   pub input : List ℕ
   pub output : List ℕ

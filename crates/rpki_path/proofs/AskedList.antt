@@ -1,8 +1,7 @@
 -- The checks of the lists that are asked are those of the certificate.
-use Rattle.std.specs.Prelude.{Any, Some, Contains}
-use Rattle.std.proofs.Common.{◌≡◌, ◌<◌, ◌≤◌, ℕ, List, refl, sym, ◌∙◌, inl, inr, arith}
-use Rattle.std.proofs.lemmas.Bool.{cases_lt}
-use Rattle.rpki_parts.specs.Conditions.{IsFirstFalse}
+use Rattle.std.specs.Prelude.{Any, Some, Result, Ok, Err, Contains}
+use Rattle.std.proofs.Common.{◌≡◌, ℕ, List, refl, sym, ◌∙◌, inl, inr, arith}
+use Rattle.rpki_parts.specs.Conditions.{IsFirstFalse, Tests}
 use Rattle.rpki_parts.specs.ValidAt.{IsNotAfter}
 use Rattle.rpki_cert.specs.Certificates.{TbsFields, CertFields}
 use Rattle.rpki_cert.specs.Verification.{Context, IsSignedBy}
@@ -11,13 +10,9 @@ use Rattle.rpki_crl.specs.Revocation.{NamesIssuer, ListCheck, revocation_checks}
 use Rattle.rpki_crl.specs.declared.revocation_error.RevocationError.{RevocationError}
 use Rattle.rpki_crl.specs.declared.revocation_error.RevocationError.TheVariants.{NoCrl, WrongKeyId, BadSignature, Stale, Revoked}
 use Rattle.rpki_path.specs.Asking.{IsUnrevokedBy}
-use Rattle.rpki_path.specs.AskedLists.{IsFor, IsEligible, Revokes, HaveNone, IsLatest, IsAskedOf, by_lists, LeavesUnrevoked}
+use Rattle.rpki_path.specs.AskedLists.{IsFor, IsEligible, Revokes, HaveNone, IsLatest, IsAskedOf, by_lists, FailsBy, IsSaidBy, LeavesUnrevoked}
 use Rattle.rpki_path.specs.AskedLists.Steps.{EachHas}
 use Rattle.rpki_path.proofs.ListOrder.{Alike, alike}
-
--- what isn't below is the other or above it
-pub not_after : {m n : ℕ} → (m < n → ⊥) → n ≤ m
-not_after {m} {n} not = elim (cases_lt m n) [ inl low ↦ absurd (not low) | inr high ↦ high ]
 
 one_key : (k l : List ℕ) → Some k ≡ Some l → k ≡ l
 one_key k l e = cc e
@@ -88,18 +83,30 @@ module _ (x : Context) (lists : List CrlState) (issuer : TbsFields) (c : CertFie
       signed : (k : CrlState) → IsAsked k → Signs k
       signed k at = (latest_too k at).has.1
 
-      pub stale : (IsNotAfter x.now l.list.fields.next_update → ⊥) → IsFirstFalse (by_lists x lists issuer c) revocation_checks Stale
+      stale : (IsNotAfter x.now l.list.fields.next_update → ⊥) → IsFirstFalse (by_lists x lists issuer c) revocation_checks Stale
       stale not = inr ((l, inl last), inr (named l (inl last) names, inr (signed, inl (refl, λ h. not (h.1 l (inl last))))))
 
       module _ (lasts : IsNotAfter x.now l.list.fields.next_update) where
         current : by_lists x lists issuer c Stale
         current = ((λ k at. (latest_too k at).has.2), (λ k at. omega (arith, lasts, (alike_too k at).next_update)))
 
-        pub revoked : Revokes c l → IsFirstFalse (by_lists x lists issuer c) revocation_checks Revoked
+        revoked : Revokes c l → IsFirstFalse (by_lists x lists issuer c) revocation_checks Revoked
         revoked has = inr ((l, inl last), inr (named l (inl last) names, inr (signed, inr (current, inl (refl, λ h. h l (inl last) has)))))
 
-        pub unrevoked : (Revokes c l → ⊥) → IsUnrevokedBy (by_lists x lists) issuer c
+        unrevoked : (Revokes c l → ⊥) → IsUnrevokedBy (by_lists x lists) issuer c
         unrevoked not = ((l, inl last), (named l (inl last) names, (signed, (current, ((λ k at has. not ((alike_too k at).revokes.1 has)), tt)))))
+
+      failed : (e : RevocationError) → FailsBy x.now c l e → IsFirstFalse (by_lists x lists issuer c) revocation_checks e
+      failed NoCrl f = absurd f
+      failed WrongKeyId f = absurd f
+      failed BadSignature f = absurd f
+      failed Stale f = stale f
+      failed Revoked f = revoked f.0 f.1
+
+      -- what it says is answered
+      pub answered : {T : Type 0} (r : Result T RevocationError) → IsSaidBy x.now c l r → Tests (by_lists x lists issuer c) revocation_checks r
+      answered (Ok v) h = unrevoked h.0 h.1
+      answered (Err e) f = failed e f
 
   -- ---- one of the lists is asked
 

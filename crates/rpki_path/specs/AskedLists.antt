@@ -1,6 +1,6 @@
 -- Lists as a caller gives them: which of them is asked of a certificate below its issuer, and what
 -- (RFC 6487 5, 7.2, RFC 5280 6.3.3). Their order says nothing.
-use Rattle.std.specs.Prelude.{◌≡◌, ◌⊎◌, ◌↔◌, ◌<◌, List, Some, Contains}
+use Rattle.std.specs.Prelude.{◌≡◌, ◌⊎◌, ◌↔◌, ◌<◌, List, Some, Result, Ok, Err, Contains}
 use Rattle.rpki_der.specs.Times.{Moment, second_number}
 use Rattle.rpki_parts.specs.Signatures.{Verifies}
 use Rattle.rpki_parts.specs.ValidAt.{IsNotAfter}
@@ -10,7 +10,7 @@ use Rattle.rpki_crl.specs.Lists.{CrlFields, CrlState}
 use Rattle.rpki_crl.specs.RevokedEntries.{IsRevoked}
 use Rattle.rpki_crl.specs.Revocation.{ListCheck, RevocationCheck}
 use Rattle.rpki_crl.specs.declared.revocation_error.RevocationError.{RevocationError}
-use Rattle.rpki_crl.specs.declared.revocation_error.RevocationError.TheVariants.{Stale}
+use Rattle.rpki_crl.specs.declared.revocation_error.RevocationError.TheVariants.{Stale, Revoked}
 use Rattle.rpki_path.specs.Asking.{RevocationChecks}
 pub mod Steps
 
@@ -18,17 +18,22 @@ pub mod Steps
 
 -- the certificate names the key that signs it, and the list names that key (RFC 5280 5.2.1)
 abbrev pub IsFor : CertFields → CrlState → Type 0
-IsFor c l = c.fields.extensions.authority_key_identifier ≡ Some l.list.fields.extensions.authority_key_identifier
+IsFor c l =
+    c.fields.extensions.authority_key_identifier
+    ≡ Some l.list.fields.extensions.authority_key_identifier
 
 -- the time of the list has begun: its thisUpdate is neither after the moment nor after its own
 -- nextUpdate (RFC 5280 5.1.2.4, 5.1.2.5, 6.3.3)
 abbrev pub HasBegun : Moment → CrlFields → Type 0
-HasBegun now list = IsNotAfter list.fields.this_update now × IsNotAfter list.fields.this_update list.fields.next_update
+HasBegun now list =
+    IsNotAfter list.fields.this_update now
+    × IsNotAfter list.fields.this_update list.fields.next_update
 
 -- the list can be asked of the certificate below the issuer: it is for the certificate, the
 -- issuer's key signed it, and its time has begun
 abbrev pub IsEligible : Verifies → Moment → TbsFields → CertFields → CrlState → Type 0
-IsEligible verifies now issuer c l = IsFor c l × IsSignedBy verifies issuer.key l.list.signed_data × HasBegun now l.list
+IsEligible verifies now issuer c l =
+    IsFor c l × IsSignedBy verifies issuer.key l.list.signed_data × HasBegun now l.list
 
 -- the list has the serial number of the certificate
 abbrev pub Revokes : CertFields → CrlState → Type 0
@@ -43,9 +48,9 @@ IsLater l other =
     ⊎ ((second_number l.list.fields.this_update ≡ second_number other.list.fields.this_update)
     × (second_number other.list.fields.next_update < second_number l.list.fields.next_update))
 
--- of two lists of one number, which RFC 5280 5.2.3 forbids: it revokes the certificate and the other
--- doesn't; or both do or both don't, and it is later (own: a list that revokes the certificate is
--- never hidden)
+-- of two lists of one number, which RFC 5280 5.2.3 forbids: it revokes the certificate and the
+-- other doesn't; or both do or both don't, and it is later (own: a list that revokes the
+-- certificate is never hidden)
 abbrev pub SupersedesEqual : CertFields → CrlState → CrlState → Type 0
 SupersedesEqual c l other =
     (Revokes c l × (Revokes c other → ⊥))
@@ -56,7 +61,8 @@ SupersedesEqual c l other =
 abbrev pub Supersedes : CertFields → CrlState → CrlState → Type 0
 Supersedes c l other =
     (other.list.fields.extensions.crl_number < l.list.fields.extensions.crl_number)
-    ⊎ ((l.list.fields.extensions.crl_number ≡ other.list.fields.extensions.crl_number) × SupersedesEqual c l other)
+    ⊎ ((l.list.fields.extensions.crl_number ≡ other.list.fields.extensions.crl_number)
+    × SupersedesEqual c l other)
 
 -- no list has P
 abbrev pub HaveNone : (CrlState → Type 0) → List CrlState → Type 0
@@ -64,7 +70,8 @@ HaveNone P lists = (l : CrlState) → Contains lists l → P l → ⊥
 
 -- of the lists with P a latest one for the certificate: none of them takes its place. Where there
 -- are several, they agree in all that is asked
-pub record IsLatest (P : CrlState → Type 0) (c : CertFields) (lists : List CrlState) (l : CrlState) : Type 0 where
+pub record IsLatest (P : CrlState → Type 0) (c : CertFields) (lists : List CrlState)
+    (l : CrlState) : Type 0 where
   pub inside : Contains lists l
   pub has : P l
   pub stays : (other : CrlState) → Contains lists other → P other → Supersedes c other l → ⊥
@@ -86,11 +93,27 @@ IsAskedOf x lists issuer c l =
 -- it, whose time has also to have begun
 abbrev pub by_lists : Context → List CrlState → RevocationChecks
 by_lists x lists issuer c Stale =
-    ((l : CrlState) → IsAskedOf x lists issuer c l → HasBegun x.now l.list) × RevocationCheck x issuer c.fields.serial (IsAskedOf x lists issuer c) Stale
-by_lists x lists issuer c e = RevocationCheck x issuer c.fields.serial (IsAskedOf x lists issuer c) e
+    ((l : CrlState) → IsAskedOf x lists issuer c l → HasBegun x.now l.list)
+    × RevocationCheck x issuer c.fields.serial (IsAskedOf x lists issuer c) Stale
+by_lists x lists issuer c e =
+    RevocationCheck x issuer c.fields.serial (IsAskedOf x lists issuer c) e
+
+-- a check that the certificate fails, as the latest list says
+abbrev pub FailsBy : Moment → CertFields → CrlState → RevocationError → Type 0
+FailsBy now c l Stale = IsNotAfter now l.list.fields.next_update → ⊥
+FailsBy now c l Revoked = IsNotAfter now l.list.fields.next_update × Revokes c l
+FailsBy now c l e = ⊥
+
+-- what is answered of it as that list says
+abbrev pub IsSaidBy : {T : Type 0} → Moment → CertFields → CrlState → Result T RevocationError
+    → Type 0
+IsSaidBy now c l (Ok v) = IsNotAfter now l.list.fields.next_update × (Revokes c l → ⊥)
+IsSaidBy now c l (Err e) = FailsBy now c l e
 
 -- the list leaves the certificate below the issuer unrevoked: it names the issuer's key, that key
--- signed it, its time has begun and its next update isn't due, and it doesn't have the serial number
-pub record LeavesUnrevoked (x : Context) (issuer : TbsFields) (c : CertFields) (list : CrlFields) : Type 0 where
+-- signed it, its time has begun and its next update isn't due, and it doesn't have the serial
+-- number
+pub record LeavesUnrevoked (x : Context) (issuer : TbsFields) (c : CertFields)
+    (list : CrlFields) : Type 0 where
   pub begun : HasBegun x.now list
   pub checks : (e : RevocationError) → ListCheck x issuer c.fields.serial list e

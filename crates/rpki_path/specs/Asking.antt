@@ -1,4 +1,5 @@
--- Who answers for revocation, and what it is asked of a certificate below its issuer (RFC 6487 7.2).
+-- Who answers for revocation, and what it is asked of a certificate below its issuer (RFC 6487
+-- 7.2).
 use Rattle.std.specs.Prelude.{List}
 use Rattle.rpki_cert.specs.Certificates.{TbsFields, CertFields}
 use Rattle.rpki_cert.specs.Verification.{Context, IsVerified}

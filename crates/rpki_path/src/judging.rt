@@ -64,11 +64,12 @@ fn verdict<R: RevocationSource, V: Verifier>(
 }
 
 /// Judges a path, from the trust anchor down to its last member, which is a CA, an end entity or a
-/// router. What was read of a member already isn't read again. Members are validated as [`crate::validate_path`] does, and a router
-/// below the last CA as [`crate::validate_router`] does; each one below the trust anchor is asked
-/// for at this source, once it is verified and before the next is decoded. Returns what the last
-/// member holds (above a router, the CA), with a locator without a name, and the router's
-/// certificate. Errs with the place of the first member that is wrong, and what is wrong with it.
+/// router. What was read of a member already isn't read again. Members are validated as
+/// [`crate::validate_path`] does, and a router below the last CA as [`crate::validate_router`]
+/// does; each one below the trust anchor is asked for at this source, once it is verified and
+/// before the next is decoded. Returns what the last member holds (above a router, the CA), with a
+/// locator without a name, and the router's certificate. Errs with the place of the first member
+/// that is wrong, and what is wrong with it.
 ///
 /// Not asked (own): whether names chain, and anything of manifests.
 pub fn judge<R: RevocationSource, V: Verifier>(

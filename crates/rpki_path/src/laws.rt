@@ -64,7 +64,8 @@ pub fn issued_below<R: RevocationSource, V: Verifier>()
 /// anchor alone (`anchor`), and those of a path that is longer by one member (`below`). So who
 /// validates a path step by step asks the same as [`crate::first_unchained`].
 pub fn names_step_by_step()
-    ensures anchor { (c : CertFields) → NamesChain (record { anchor = c; below = [] }) ↔ IsSelfNamed c }
+    ensures anchor { (c : CertFields)
+        → NamesChain (record { anchor = c; below = [] }) ↔ IsSelfNamed c }
     ensures below { (p : Path) (m : Member) → NamesChain (longer p m)
         ↔ (NamesChain p × IsNamedBelow (certificate_at p (last p)) m.cert) }
 {}

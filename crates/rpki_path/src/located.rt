@@ -66,9 +66,9 @@ impl From<PathError> for LocatedError {
     }
 }
 
-/// Tells whether the certificate with which a trust anchor's octets begin has the locator's key (RFC
-/// 8630 3): its algorithm and its bits. A member that was read isn't read again. Errs where the
-/// octets don't begin with a certificate (`Decode`), or where memory ran out.
+/// Tells whether the certificate with which a trust anchor's octets begin has the locator's key
+/// (RFC 8630 3): its algorithm and its bits. A member that was read isn't read again. Errs where
+/// the octets don't begin with a certificate (`Decode`), or where memory ran out.
 pub fn has_locator_key(alloc: Global, anchor: &Member<'_>, tal: &Tal) -> Result<bool, PathFault>
     ensures same { IfOk result (λ b. IsTrue b → BeginsWithKey tal.now.tal anchor.now) }
     ensures other { IfOk result (λ b. IsFalse b → BeginsWithOtherKey tal.now.tal anchor.now) }
@@ -122,9 +122,9 @@ fn walked_from<R: RevocationSource, V: Verifier>(
 }
 
 /// Validates a path as [`crate::validate_path_with`] does, and asks first that the trust anchor has
-/// the locator's key (RFC 8630 3, step 3): a path below another key isn't looked at further. Returns
-/// what the last member holds, with the locator's name. Errs with `OtherKey`, or with the place of
-/// the first member that is wrong or isn't found unrevoked, and why.
+/// the locator's key (RFC 8630 3, step 3): a path below another key isn't looked at further.
+/// Returns what the last member holds, with the locator's name. Errs with `OtherKey`, or with the
+/// place of the first member that is wrong or isn't found unrevoked, and why.
 ///
 /// Not asked (own): whether a list is the newest of its issuer, and whether names chain. Nothing is
 /// fetched: the octets are the caller's.
@@ -144,8 +144,8 @@ pub fn validate_located<V: Verifier>(
     ensures validates { let x = context (V.verifies verifier.now) now strict in
         let asked = by_uri x store.now.pairs in
         ValidatesFrom x asked tal.now anchor.now (candidates cas.now leaf) result }
-    // The trust anchor has another key; or the members before the index are a valid path, unrevoked,
-    // and the fault is that of the string there.
+    // The trust anchor has another key; or the members before the index are a valid path,
+    // unrevoked, and the fault is that of the string there.
     ensures named { let x = context (V.verifies verifier.now) now strict in
         let asked = by_uri x store.now.pairs in
         IfErr result (IsLocatedFault x asked tal.now.tal anchor.now (candidates cas.now leaf)) }

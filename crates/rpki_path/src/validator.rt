@@ -53,8 +53,8 @@ fn without<T: Drop, A>(_issuer: T, answer: A) -> A
     answer
 }
 
-/// Who validates certificate by certificate: the steps of which [`crate::judge`] and the calls beside
-/// it make a path, for a caller who goes down many paths.
+/// Who validates certificate by certificate: the steps of which [`crate::judge`] and the calls
+/// beside it make a path, for a caller who goes down many paths.
 #[derive(Drop)]
 pub struct Validator<'r, 'v, R, V> {
     /// Where memory comes from.
@@ -70,8 +70,8 @@ pub struct Validator<'r, 'v, R, V> {
 }
 
 impl<'r, 'v, R: RevocationSource, V: Verifier> Validator<'r, 'v, R, V> {
-    /// Validates the trust anchor of a path, and returns what it lists, with the locator's name. Errs
-    /// with what is wrong with it.
+    /// Validates the trust anchor of a path, and returns what it lists, with the locator's name.
+    /// Errs with what is wrong with it.
     pub fn trust_anchor(
         &self,
         anchor: &Member<'_>,
@@ -238,8 +238,8 @@ impl<'r, 'v, R: RevocationSource, V: Verifier> Validator<'r, 'v, R, V> {
     }
 
     /// Validates the router's certificate that the member's octets begin with, below an issuer that
-    /// was validated before, and asks whether it is revoked (RFC 8209 3.3). Errs with the first check
-    /// that isn't true.
+    /// was validated before, and asks whether it is revoked (RFC 8209 3.3). Errs with the first
+    /// check that isn't true.
     pub fn router(&self, given: &Member<'_>, issuer: &ResourceCert) -> Result<Cert, PathFault>
         ensures begins { IfOk result (λ c. Means IsCertificate c given.now) }
         ensures under { let v = self.now in

@@ -1,5 +1,5 @@
--- What is told of words that ask for nothing to be prepared or completed: something that is wrong with
--- them, of the first word that is wrong, or of what they ask; and what is said of it (own).
+-- What is told of words that ask for nothing to be prepared or completed: something that is wrong
+-- with them, of the first word that is wrong, or of what they ask; and what is said of it (own).
 use Rattle.std.specs.Prelude.{◌≡◌, ◌≢◌, ◌≤◌, ◌⊎◌, ℕ, List, [], ◌∷◌, ◌++◌, length, map, fold, true, false, codes}
 use Rattle.rpki_text.specs.Pages.{characters_text}
 use Rattle.rpki_text.specs.WordParts.{AreInOrder, IsFirstWrong, IsOption, Joins, words_before, words_behind}
@@ -15,8 +15,8 @@ use Rattle.rpki_requests.specs.declared.words.Switch.TheVariants.{Trim, Pem}
 
 -- ---- the first words
 
--- they begin as no request does, as is told: there are none, or none behind `prepare`; or one is none of
--- those that name what is asked
+-- they begin as no request does, as is told: there are none, or none behind `prepare`; or one is
+-- none of those that name what is asked
 abbrev pub IsNoErrand : Misuse → List (List ℕ) → Type 0
 IsNoErrand NoErrand words = (words ≡ []) ⊎ (words ≡ codes "prepare" ∷ [])
 IsNoErrand (Unknown word) words =
@@ -35,7 +35,8 @@ IsUnknownOption word =
     × ((setting : Setting) (value : List ℕ) → Joins (setting_name setting) value word → ⊥)
     × ((given : Switch) → word ≡ switch_name given → ⊥)
 
--- the words begin with what is told: with an option that there isn't, or with one whose value is missing
+-- the words begin with what is told: with an option that there isn't, or with one whose value is
+-- missing
 abbrev pub IsWrongFirst : Misuse → List (List ℕ) → Type 0
 IsWrongFirst (Unknown word) words =
     (rest : List (List ℕ)) × (words ≡ word.now ∷ rest) × IsUnknownOption word.now
@@ -44,8 +45,8 @@ IsWrongFirst _ words = ⊥
 
 -- ---- what is asked
 
--- an option that stands so often isn't demanded so, as is told: it has no place here, is missing, or
--- stands twice
+-- an option that stands so often isn't demanded so, as is told: it has no place here, is missing,
+-- or stands twice
 abbrev pub IsWrongCount : Misuse → Setting → Demand → ℕ → Type 0
 IsWrongCount (Unsuited option) setting often times = (option ≡ setting) × (often ≡ Never) × (1 ≤ times)
 IsWrongCount (Missing option) setting often times =
@@ -78,8 +79,8 @@ pub record IsUnsuited (misuse : Misuse) (errand : Errand) (words : List (List �
 
 -- ---- all words
 
--- what is told of the words is so: they begin as no request does; or behind what they ask is the first
--- word that is wrong, or it doesn't suit what is asked
+-- what is told of the words is so: they begin as no request does; or behind what they ask is the
+-- first word that is wrong, or it doesn't suit what is asked
 abbrev pub IsMisuse : Misuse → List (List ℕ) → Type 0
 IsMisuse misuse words =
     IsNoErrand misuse words

@@ -91,8 +91,8 @@ fn issuer_of_path(
 }
 
 /// Returns the CA that the path of these files ends in, and what it holds, where each file that is
-/// given as a list is one, with nothing behind it. The path is judged with real signatures and with these lists,
-/// and its names have to chain. Gives `None` where there is no file.
+/// given as a list is one, with nothing behind it. The path is judged with real signatures and with
+/// these lists, and its names have to chain. Gives `None` where there is no file.
 pub(crate) fn issuer_of(
     alloc: Global,
     files: &[Object<'_>],

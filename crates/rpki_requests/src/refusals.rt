@@ -28,8 +28,8 @@ pub enum Refusal {
     Rejected(Fault),
     /// The last member of the issuer's path isn't a CA.
     NoAuthority,
-    /// The file that is given as a list for the issuer's path, at this place, is none, or octets stand
-    /// behind it.
+    /// The file that is given as a list for the issuer's path, at this place, is none, or octets
+    /// stand behind it.
     OtherCrl(usize),
     /// A revocation list has no issuer.
     NoIssuer,

@@ -1,7 +1,7 @@
 //! Tests that no line of questions and answers can ask: calls with a caller's signer, verifier,
 //! reader or writer, several calls of one value, what stands after a refusal, and the texts of all
-//! errors. Those of certificates and of the crates below them stand in `certificates`; what tests are
-//! made of in `samples`, which the programs of test vectors use too.
+//! errors. Those of certificates and of the crates below them stand in `certificates`; what tests
+//! are made of in `samples`, which the programs of test vectors use too.
 #![tactic(auto)]
 
 #[cfg(test)]

@@ -1,8 +1,8 @@
 //! Certificates and lists that are prepared, and completed by signatures that OpenSSL made.
 //!
-//! Two keys were made by `openssl genrsa 2048` (OpenSSL 3.0.19), and the signatures by `openssl dgst
-//! -sha256 -sign KEY`, over the octets that the program of `reference/` writes of the same data
-//! (`encode_tbs`, `encode_list`). The private keys are lost.
+//! Two keys were made by `openssl genrsa 2048` (OpenSSL 3.0.19), and the signatures by `openssl
+//! dgst -sha256 -sign KEY`, over the octets that the program of `reference/` writes of the same
+//! data (`encode_tbs`, `encode_list`). The private keys are lost.
 
 use crate::anchors::now;
 use crate::elsewhere::{fault, list_fault};

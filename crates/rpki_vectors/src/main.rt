@@ -6,8 +6,8 @@
 //!
 //! It interprets the questions, since a question that is data needs no proof where a test would be
 //! a function that is proved; the reference program answers the same lines; and each can be asked
-//! again with memory refused, as `tests/refusals` has it done (`refusing`). Then a test vector passes
-//! where each of those answers is the one that is wanted, or out of memory.
+//! again with memory refused, as `tests/refusals` has it done (`refusing`). Then a test vector
+//! passes where each of those answers is the one that is wanted, or out of memory.
 //!
 //! An empty line, or one that begins with `#`, stands between vectors. A question is some words
 //! with one space between. HEX is octets in hexadecimal digits, `-` for none, or `@NAME` for those

@@ -26,8 +26,8 @@ pub fn behind(out: &mut Answer, answer: Result<(), EncodeError>, octets: &[u8]) 
     }
 }
 
-/// Appends what a call writes behind that octet, into the vector of this name, and before it the name
-/// of a field, if there is one.
+/// Appends what a call writes behind that octet, into the vector of this name, and before it the
+/// name of a field, if there is one.
 macro_rules! put_behind {
     ($out:expr, $field:literal, $octets:ident => $written:expr) => {
         $out.field($field);

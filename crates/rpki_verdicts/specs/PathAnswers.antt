@@ -46,8 +46,8 @@ abbrev pub AreChained : Bool → PathStrings → Type 0
 AreChained names g = IsTrue names → BeginChained g.anchor (strings_below g)
 
 -- the trust anchor is that of a locator (RFC 8630 3); the path is valid, with what its last member
--- holds; names chain (RFC 6487 7.2); and the last key is one that the RPKI uses (RFC 7935 3, RFC 8608
--- 3.1), as those above it are by the signatures that they verify
+-- holds; names chain (RFC 6487 7.2); and the last key is one that the RPKI uses (RFC 7935 3, RFC
+-- 8608 3.1), as those above it are by the signatures that they verify
 pub record IsUsablePath (x : Context) (asked : RevocationChecks) (d : Demands)
     (g : PathStrings) (j : Judged) : Type 0 where
   pub located : IsLocated x.strict d.locators g.anchor
@@ -121,8 +121,8 @@ pub record EndsInBadKey (x : Context) (asked : RevocationChecks) (d : Demands)
 
 -- ---- the verdict
 
--- why it is rejected, in the order in which it is asked: of the trust anchor's locator, of the path,
--- of names, and of the last key; what is asked before the fault holds
+-- why it is rejected, in the order in which it is asked: of the trust anchor's locator, of the
+-- path, of names, and of the last key; what is asked before the fault holds
 abbrev pub IsFaultIn : Context → RevocationChecks → Demands → List (List ℕ) → PathStrings
     → Fault → Type 0
 IsFaultIn x asked d files g fault =
@@ -142,8 +142,8 @@ abbrev pub IsPathVerdict : Context → RevocationChecks → Demands → List (Li
 IsPathVerdict x asked d files verdict =
     (g : PathStrings) × IsGivenBy files g × IsVerdictOn x asked d files g verdict
 
--- the verdict on the path that the files are, by the files that were given as lists: where none was,
--- nobody is asked for revocation
+-- the verdict on the path that the files are, by the files that were given as lists: where none
+-- was, nobody is asked for revocation
 abbrev pub IsVerdictBy : Context → Demands → List (List ℕ) → List (List ℕ) → Verdict → Type 0
 IsVerdictBy x d files [] verdict = IsPathVerdict x nobody d files verdict
 IsVerdictBy x d files (list ∷ lists) verdict =

@@ -60,7 +60,8 @@ pub record HasJudgedLast (files : List (List ℕ)) (g : PathStrings) : Type 0 wh
   pub split : HasLast files kind g
   pub kind_is : IsJudgedAs kind split.octets
 
--- the path that these files are, from the trust anchor's down: that one alone, or with those below it
+-- the path that these files are, from the trust anchor's down: that one alone, or with those below
+-- it
 abbrev pub IsGivenBy : List (List ℕ) → PathStrings → Type 0
 IsGivenBy files g =
     ((anchor : List ℕ) × (files ≡ anchor ∷ []) × (g ≡ anchor_alone anchor))

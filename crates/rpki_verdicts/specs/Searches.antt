@@ -39,8 +39,8 @@ Leads x q tree is above =
     IsReached x (by_lists x is.lists) (at_anchor is.locator is.anchor.octets)
     (contents (certs_of tree)) above 0
 
--- the files are a valid path, as the verdict on a path has it, which asks for names and for the last
--- key beside that
+-- the files are a valid path, as the verdict on a path has it, which asks for names and for the
+-- last key beside that
 pub record IsValidAmong (x : Context) (asked : RevocationChecks) (files : List (List ℕ)) : Type 0 where
   pub strings : PathStrings
   pub given : IsGivenBy files strings
@@ -92,9 +92,9 @@ StandsAlone q file =
     ⊎ (All (λ f. IsList f.octets → ⊥) q.files ⊎ HasNoAnchor q))
 
 -- The path that is sought to the first of the files: that one alone; below a trust anchor that is
--- wrong; a valid path, as of its certificates and lists; or, where there is none, some files that end
--- in it, of which the verdict tells what is wrong. Beside it stands how far that was looked for: a
--- bound can only have been met where no valid path was found.
+-- wrong; a valid path, as of its certificates and lists; or, where there is none, some files that
+-- end in it, of which the verdict tells what is wrong. Beside it stands how far that was looked
+-- for: a bound can only have been met where no valid path was found.
 pub data IsSoughtPath (x : Context) (q : TreeFields) (file : FileFields) : List FileFields → Ended → Type 0 where
   alone : StandsAlone q file → IsSoughtPath x q file (file ∷ []) Whole
   below_wrong : (anchor : FileFields) (fault : Fault) → IsWrongAnchor x q anchor fault

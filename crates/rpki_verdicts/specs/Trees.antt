@@ -1,5 +1,5 @@
--- What is answered of files in no order: the trust anchor among them, and a line for each certificate
--- (RFC 6487 7.2, RFC 8630 3; own: the bounds).
+-- What is answered of files in no order: the trust anchor among them, and a line for each
+-- certificate (RFC 6487 7.2, RFC 8630 3; own: the bounds).
 use Rattle.std.specs.Prelude.{◌≡◌, ◌≢◌, ◌⊎◌, ◌<◌, ℕ, List, [], ◌∷◌, length, map, slice_get, Any, Some, Ok, Bool, true, false, IsTrue, count_by}
 use Rattle.rpki.specs.AskedLists.{by_lists}
 use Rattle.rpki.specs.Folders.{FolderFields}
@@ -70,8 +70,8 @@ pub record IsFolderOf (files certs : List FileFields) (folder : FolderFields) : 
 
 -- ---- the trust anchor
 
--- the file begins with a certificate that has the key of one of the locators, of which this was read
--- (RFC 8630 3)
+-- the file begins with a certificate that has the key of one of the locators, of which this was
+-- read (RFC 8630 3)
 abbrev pub IsAnchorOf : List LocatorFields → NamedTal → FileFields → Type 0
 IsAnchorOf locators t file = Any (λ l. l.read ≡ Ok t) locators × BeginsWithKey t.tal file.octets
 

@@ -319,8 +319,8 @@ fn other_name(index: usize) -> Fault
     }
 }
 
-// The place of the first member whose names don't chain, where that is asked. All strings begin with
-// certificates, so this errs only where memory runs out.
+// The place of the first member whose names don't chain, where that is asked. All strings begin
+// with certificates, so this errs only where memory runs out.
 fn unchained(
     alloc: Global,
     path: &GivenPath<'_, '_>,
@@ -431,9 +431,9 @@ fn judged_by<R: RevocationSource>(
     verdict
 }
 
-/// Validates a path of files with real signatures, from the trust anchor of a locator where some are
-/// given (RFC 8630 3), with the revocation lists where some are given, and with names that chain
-/// (RFC 6487 7.2) where that is asked. Gives `None` where there is no file.
+/// Validates a path of files with real signatures, from the trust anchor of a locator where some
+/// are given (RFC 8630 3), with the revocation lists where some are given, and with names that
+/// chain (RFC 6487 7.2) where that is asked. Gives `None` where there is no file.
 pub fn judge(alloc: Global, question: &Question<'_, '_>) -> Result<Option<Verdict>, AllocError>
     requires { All (IsRead question.now.strict) question.now.locators }
     ensures { let x = context IsSignedByRsa question.now.at question.now.strict in

@@ -1,5 +1,5 @@
-//! Files in no order: the trust anchor among them, and the verdict on every certificate below it, with
-//! real signatures and with the revocation lists among them.
+//! Files in no order: the trust anchor among them, and the verdict on every certificate below it,
+//! with real signatures and with the revocation lists among them.
 ghost use Rattle.std.specs.Prelude.{◌≡◌, ◌↔◌, ◌++◌, ◌∷◌, [], true, List, length, map, IfOk, IfErr, IfSome, IfNone, OnOk, IsTrue};
 ghost use Rattle.rpki.specs.AskedLists.{by_lists};
 ghost use Rattle.rpki.specs.Folders.{with_cert, with_list};
@@ -30,8 +30,8 @@ use rpki_files::{BareObject, Front};
 use std::alloc::{AllocError, Global};
 
 /// What is asked of files in no order: the files, the locators, whether they are read strictly, the
-/// moment, how many certificates a path has at most below the trust anchor, and how many are verified
-/// at most.
+/// moment, how many certificates a path has at most below the trust anchor, and how many are
+/// verified at most.
 #[derive(Drop)]
 pub struct TreeQuestion<'q, 'n> {
     pub files: &'q [BareObject<'n>],
@@ -107,8 +107,8 @@ fn keep_list_of(alloc: Global, file: &BareObject<'_>, folder: &mut Folder) -> Re
     }
 }
 
-// Adds the certificate with which a file begins, or the list that it is, to a folder, and the file to
-// those that begin with certificates.
+// Adds the certificate with which a file begins, or the list that it is, to a folder, and the file
+// to those that begin with certificates.
 fn add_file<'q, 'n>(
     alloc: Global,
     file: &'q BareObject<'n>,
@@ -126,8 +126,8 @@ fn add_file<'q, 'n>(
     }
 }
 
-// Fills an empty folder with the certificates and the lists of files, and returns those that begin with
-// certificates.
+// Fills an empty folder with the certificates and the lists of files, and returns those that begin
+// with certificates.
 fn filed<'q, 'n>(
     alloc: Global,
     files: &'q [BareObject<'n>],
@@ -277,10 +277,10 @@ fn grown<'q, 'n>(
     }
 }
 
-/// Judges every certificate among files, in whatever order they are: finds the trust anchor, the first
-/// of them whose key is that of one of the locators (RFC 8630 3), and walks down from it, with real
-/// signatures and with the revocation lists among the files. Of names and of the last key nothing is
-/// asked here. Errs only where memory runs out.
+/// Judges every certificate among files, in whatever order they are: finds the trust anchor, the
+/// first of them whose key is that of one of the locators (RFC 8630 3), and walks down from it,
+/// with real signatures and with the revocation lists among the files. Of names and of the last key
+/// nothing is asked here. Errs only where memory runs out.
 pub fn judge_all<'q, 'n>(
     alloc: Global,
     question: &TreeQuestion<'q, 'n>,

@@ -1,5 +1,5 @@
-//! Whole paths, from a trust anchor down to the last member, and routers below it (RFC 6487 7.2, RFC
-//! 8209 3.3).
+//! Whole paths, from a trust anchor down to the last member, and routers below it (RFC 6487 7.2,
+//! RFC 8209 3.3).
 pub use rpki_path::{
     GivenPath, Judged, Last, Leaf, LocatedError, Member, PathError, PathFault, Role, Validator,
     first_unchained, has_locator_key, is_self_named, judge, names_chain, validate_located,

@@ -5,7 +5,8 @@ use Rattle.rpki_crl.specs.Lists.{CrlState}
 use Rattle.rpki_path.specs.AskedLists.{HaveNone, IsLatest}
 
 -- a latest list with P, or that none has it
-abbrev pub IsLatestIfAny : (CrlState → Type 0) → CertFields → List CrlState → Option CrlState → Type 0
+abbrev pub IsLatestIfAny : (CrlState → Type 0) → CertFields → List CrlState → Option CrlState
+    → Type 0
 IsLatestIfAny P c lists (Some l) = IsLatest P c lists l
 IsLatestIfAny P c lists None = HaveNone P lists
 

@@ -11,7 +11,8 @@ use Rattle.rpki_path.specs.declared.names.Stop.TheVariants.{Unchained, Unread}
 use Rattle.rpki_path.specs.declared.names.Stopped.{Stopped}
 
 -- the strings begin with a path whose names chain, and this is the subject of its last member
-pub record BeginChainedTo (anchor : List ℕ) (below : List Candidate) (subject : List ℕ) : Type 0 where
+pub record BeginChainedTo (anchor : List ℕ) (below : List Candidate)
+    (subject : List ℕ) : Type 0 where
   pub chained : BeginChained anchor below
   pub subject_is : subject ≡ (certificate_at chained.path (last chained.path)).fields.subject
 
@@ -41,10 +42,13 @@ IsStopAtAnchor octets (Unread fault) = IsUnread octets fault
 
 -- why it stops at a string, below a certificate of this subject
 abbrev pub IsStopBelow : List ℕ → List ℕ → Stop → Type 0
-IsStopBelow above octets Unchained = (c : CertFields) × Means IsCertificate c octets × (c.fields.issuer ≡ above → ⊥)
+IsStopBelow above octets Unchained =
+    (c : CertFields) × Means IsCertificate c octets × (c.fields.issuer ≡ above → ⊥)
 IsStopBelow above octets (Unread fault) = IsUnread octets fault
 
 -- where it stops in a path, and why
 abbrev pub IsStopped : List ℕ → List Candidate → Stopped → Type 0
 IsStopped anchor below s =
-    ((s.place ≡ 0) × IsStopAtAnchor anchor s.why) ⊎ IsFoundBelow (λ above octets. IsStopBelow above.fields.subject octets s.why) anchor below s.place
+    ((s.place ≡ 0) × IsStopAtAnchor anchor s.why)
+    ⊎ IsFoundBelow (λ above octets. IsStopBelow above.fields.subject octets s.why) anchor below
+    s.place

@@ -22,7 +22,8 @@ kind_of role.Detached = Detached
 
 -- why no certificate is decoded
 abbrev pub IsUnread : List ℕ → PathFault → Type 0
-IsUnread octets (Decode e) = (e ≢ decoding.Memory) × ((c : CertFields) → Means IsCertificate c octets → ⊥)
+IsUnread octets (Decode e) =
+    (e ≢ decoding.Memory) × ((c : CertFields) → Means IsCertificate c octets → ⊥)
 IsUnread octets Memory = Unit {0}
 IsUnread octets _ = ⊥
 
@@ -32,7 +33,8 @@ pub record IsTrustAnchor (x : Context) (octets tal : List ℕ) (r : ResourceFiel
   pub valid : IsValidTrustAnchor x tal r.cert r
 
 -- a member that stands below the issuer, and that who is asked doesn't revoke
-pub record IsIssuedBy (x : Context) (asked : RevocationChecks) (issuer : ResourceFields) (k : Kind) (octets : List ℕ) (r : ResourceFields) : Type 0 where
+pub record IsIssuedBy (x : Context) (asked : RevocationChecks) (issuer : ResourceFields)
+    (k : Kind) (octets : List ℕ) (r : ResourceFields) : Type 0 where
   pub begins : Means IsCertificate r.cert octets
   pub below : IsValidBelow x issuer k r.cert r
   pub unrevoked : IsUnrevokedBy asked issuer.cert.fields r.cert

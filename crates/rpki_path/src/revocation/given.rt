@@ -1,12 +1,11 @@
 //! Lists as a caller gives them, of which the issuer's latest is asked.
-ghost use Rattle.std.specs.Prelude.{◌≡◌, ◌<◌, ◌↔◌, ◌++◌, ◌∷◌, [], List, IsTrue, IfSome, option_copied};
+ghost use Rattle.std.specs.Prelude.{◌≡◌, ◌<◌, ◌↔◌, IsTrue, IfSome, option_copied};
 ghost use Rattle.std.specs.Ordering.{MatchOrdering};
 ghost use Rattle.rpki_der.specs.Times.{second_number};
 ghost use Rattle.rpki_parts.specs.Conditions.{IsFirstFalse};
 ghost use Rattle.rpki_cert.specs.Verification.{context, IsSignedBy};
-ghost use Rattle.rpki_crl.specs.Lists.{CrlState};
 ghost use Rattle.rpki_crl.specs.Revocation.{revocation_checks};
-ghost use Rattle.rpki_path.specs.AskedLists.{IsFor, HasBegun, IsEligible, Revokes, HaveNone, IsLater, SupersedesEqual, Supersedes, by_lists};
+ghost use Rattle.rpki_path.specs.AskedLists.{IsFor, HasBegun, IsEligible, Revokes, HaveNone, IsLater, SupersedesEqual, Supersedes, IsSaidBy, by_lists};
 ghost use Rattle.rpki_path.specs.AskedLists.Steps.{IsLatestIfAny, IsOneIfAny, EachHas};
 
 use crate::revocation::source::RevocationSource;
@@ -61,8 +60,8 @@ fn is_for(list: &Crl, cert: &Cert) -> bool
     cert.as_tbs().authority_key_identifier() == Some(named)
 }
 
-/// Tells whether the time of the list has begun: its thisUpdate is neither after the moment nor after
-/// its own nextUpdate (RFC 5280 5.1.2.4, 5.1.2.5, 6.3.3).
+/// Tells whether the time of the list has begun: its thisUpdate is neither after the moment nor
+/// after its own nextUpdate (RFC 5280 5.1.2.4, 5.1.2.5, 6.3.3).
 pub fn has_begun(list: &Crl, now: Time) -> bool
     ensures { IsTrue result ↔ HasBegun now list.now.list }
 {
@@ -70,8 +69,8 @@ pub fn has_begun(list: &Crl, now: Time) -> bool
     made <= now && made <= list.as_cert_list().next_update()
 }
 
-// Whether the issuer's key signed the list.
-fn is_signed_by<V: Verifier>(list: &Crl, issuer: &ResourceCert, verifier: &V) -> bool
+/// Tells whether the issuer's key signed the list (RFC 5280 6.3.3).
+pub fn is_signed_by<V: Verifier>(list: &Crl, issuer: &ResourceCert, verifier: &V) -> bool
     ensures { let key = issuer.now.cert.fields.key in
         IsTrue result ↔ IsSignedBy (V.verifies verifier.now) key list.now.list.signed_data }
 {
@@ -140,8 +139,8 @@ fn supersedes_equal(list: &Crl, kept: &Crl, cert: &Cert) -> bool
 }
 
 /// Tells whether a list takes the place of another one of the same issuer, where it is asked of the
-/// certificate: the greater number supersedes (RFC 6487 5). Two different lists never have one number
-/// (RFC 5280 5.2.3); where they do, neither may hide that the other revokes the certificate.
+/// certificate: the greater number supersedes (RFC 6487 5). Two different lists never have one
+/// number (RFC 5280 5.2.3); where they do, neither may hide that the other revokes the certificate.
 pub fn supersedes(list: &Crl, kept: &Crl, cert: &Cert) -> bool
     ensures { IsTrue result ↔ Supersedes cert.now list.now kept.now }
 {
@@ -152,8 +151,9 @@ pub fn supersedes(list: &Crl, kept: &Crl, cert: &Cert) -> bool
     }
 }
 
-// Whether the list takes the place of the one that is kept, if one is.
-fn goes_first(list: &Crl, kept: Option<&Crl>, cert: &Cert) -> bool
+/// Tells whether the list takes the place of the one that is kept, if one is, where it is asked of
+/// the certificate.
+pub fn goes_first(list: &Crl, kept: Option<&Crl>, cert: &Cert) -> bool
     ensures { let goes = Supersedes cert.now list.now in
         IsTrue result ↔ IfSome (option_copied kept.entry) goes }
 {
@@ -183,27 +183,6 @@ fn is_next<V: Verifier>(
         && is_signed_by(list, issuer, verifier)
 }
 
-// The latest of the lists that were seen and this one, where that of those is kept.
-fn later_of<'l, V: Verifier>(
-    kept: Option<&'l Crl>,
-    list: &'l Crl,
-    cert: &Cert,
-    issuer: &ResourceCert,
-    now: Time,
-    verifier: &V,
-) -> Option<&'l Crl>
-    ensures { let verifies = V.verifies verifier.now in
-        let eligible = IsEligible verifies now issuer.now.cert.fields cert.now in
-        (seen : List CrlState) → IsLatestIfAny eligible cert.now seen (option_copied kept.entry)
-        → IsLatestIfAny eligible cert.now (seen ++ list.now ∷ []) (option_copied result) }
-{
-    if is_next(list, kept, cert, issuer, now, verifier) {
-        Some(list)
-    } else {
-        kept
-    }
-}
-
 // The latest of the eligible lists.
 fn latest<'l, V: Verifier>(
     lists: &'l [Crl],
@@ -218,7 +197,10 @@ fn latest<'l, V: Verifier>(
 {
     let mut kept: Option<&'l Crl> = None;
     for list in lists {
-        kept = later_of(kept, list, cert, issuer, now, verifier);
+        if !is_next(list, kept, cert, issuer, now, verifier) {
+            continue;
+        }
+        kept = Some(list);
     }
     kept
 }
@@ -305,6 +287,20 @@ fn why_none<V: Verifier>(
     RevocationError::Stale
 }
 
+/// Tells what the latest list of an issuer says of a certificate below it: that the list is stale,
+/// or else that it has the serial number, or neither.
+pub fn said_by(list: &Crl, cert: &Cert, now: Time) -> Result<(), RevocationError>
+    ensures { IsSaidBy now cert.now list.now result }
+{
+    if list.as_cert_list().is_stale(now) {
+        return Err(RevocationError::Stale);
+    }
+    if revokes(list, cert) {
+        return Err(RevocationError::Revoked);
+    }
+    Ok(())
+}
+
 impl<'l> RevocationSource for GivenLists<'l> {
     ghost use Rattle.rpki_path.specs.AskedLists.{by_lists};
 
@@ -324,12 +320,6 @@ impl<'l> RevocationSource for GivenLists<'l> {
         if list.verify_issuer_claim(issuer, strict).is_err() {
             return Err(RevocationError::WrongKeyId);
         }
-        if list.as_cert_list().is_stale(now) {
-            return Err(RevocationError::Stale);
-        }
-        if revokes(list, cert) {
-            return Err(RevocationError::Revoked);
-        }
-        Ok(())
+        said_by(list, cert, now)
     }
 }

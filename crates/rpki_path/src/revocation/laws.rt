@@ -20,10 +20,10 @@ pub fn left_by_one<V: Verifier>()
         → Any (λ l. LeavesUnrevoked x issuer c l.list) lists }
 {}
 
-/// Says that what given lists answer doesn't depend on their order, nor on how often each of them is
-/// given: with the same lists each check of a certificate below its issuer comes out the same
-/// (`checks`). So they leave the same certificates unrevoked (`unrevoked`), and the first check that
-/// fails is the same.
+/// Says that what given lists answer doesn't depend on their order, nor on how often each of them
+/// is given: with the same lists each check of a certificate below its issuer comes out the same
+/// (`checks`). So they leave the same certificates unrevoked (`unrevoked`), and the first check
+/// that fails is the same.
 pub fn blind_to_order<V: Verifier>()
     ensures checks { (v : V) (now : Moment) (strict : Bool) (lists others : List CrlState)
         (issuer : TbsFields) (c : CertFields) (e : RevocationError)
