@@ -1,4 +1,4 @@
--- What is printed of octets, serial numbers and times.
+-- What is printed of octets, object identifiers, serial numbers and times.
 use Rattle.std.specs.Int.Digits.{digits_of}
 use Rattle.std.specs.List.{concat, flat_map}
 use Rattle.std.specs.Prelude.{ℕ, ◌+◌, ◌/◌, ◌%◌, nat_lt, if◌then◌else◌, List, [], ◌∷◌, codes}
@@ -11,6 +11,14 @@ digit n = if nat_lt n 10 then 48 + n else 55 + n
 -- octets, each in two digits
 abbrev pub hexadecimal : List ℕ → List ℕ
 hexadecimal octets = flat_map (λ octet. digit (octet / 16) ∷ digit (octet % 16) ∷ []) octets
+
+-- a lower-case hexadecimal digit
+abbrev pub lower_digit : ℕ → ℕ
+lower_digit n = if nat_lt n 10 then 48 + n else 87 + n
+
+-- an object identifier: its content octets, each in two such digits (own)
+abbrev pub oid_text : List ℕ → List ℕ
+oid_text content = flat_map (λ octet. lower_digit (octet / 16) ∷ lower_digit (octet % 16) ∷ []) content
 
 -- octets, or one of 0 where there are none
 abbrev pub at_least_one : List ℕ → List ℕ

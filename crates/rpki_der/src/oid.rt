@@ -1,5 +1,5 @@
 //! Object identifiers, and the constants that resource certificates have.
-ghost use Rattle.std.specs.Prelude.{◌≡◌, List, ℕ, IfOk, IfErr, IsOk, ◌↔◌, true, bytes_eq};
+ghost use Rattle.std.specs.Prelude.{◌≡◌, List, ℕ, IfOk, IfErr, IsOk, ◌↔◌, true, Some, ◌++◌, codes, bytes_eq};
 ghost use Rattle.std.proofs.Common.{rules};
 ghost use Rattle.std.specs.Cmp.Rules.{comparing};
 ghost use Rattle.rpki_der.specs.Identifiers.{id_ce, pkix};
@@ -9,6 +9,7 @@ ghost use Rattle.rpki_der.specs.Answers.{AnswersBy};
 ghost use Rattle.rpki_der.specs.BasicFormats.{object_identifier};
 ghost use Rattle.rpki_der.specs.Place.Reading.{TookBy};
 ghost use Rattle.rpki_der.specs.Primitives.Reading.{is_oid, ends_oid, oid_at};
+ghost use Rattle.rpki_der.specs.Texts.{oid_text};
 ghost use Rattle.rpki_der.specs.Values.{AreOctets};
 ghost use Rattle.rpki_der.specs.declared.error.DecodeError.TheVariants.{BadValue};
 
@@ -249,6 +250,8 @@ impl Eq for Oid {
 
 /// Writes the content octets in lower-case hexadecimal digits.
 impl fmt::Display for Oid {
+    ghost output = { λ o. Some (oid_text o) };
+
     fn fmt<W: fmt::Write>(&self, f: &mut fmt::Formatter<W>) -> fmt::Result {
         for octet in self.content.as_bytes() {
             write!(f, "{octet:02x}")?;
@@ -257,7 +260,10 @@ impl fmt::Display for Oid {
     }
 }
 
+/// Writes the same digits in `Oid(..)`.
 impl fmt::Debug for Oid {
+    ghost debug_output = { λ o. Some (codes "Oid(" ++ (oid_text o ++ codes ")")) };
+
     fn fmt<W: fmt::Write>(&self, f: &mut fmt::Formatter<W>) -> fmt::Result {
         write!(f, "Oid({self})")
     }

@@ -1,6 +1,6 @@
-use Rattle.std.proofs.Common.{◌<◌, get_or, rules}
+use Rattle.std.proofs.Common.{◌<◌, true, get_or, rules}
 use Rattle.std.proofs.Output.{has_written_append, has_written_of_eq}
-use Rattle.rpki_der.proofs.Texts.{hexadecimal_more}
+use Rattle.rpki_der.proofs.Texts.{pairs_more}
 use Rattle.rpki_der.proofs.text.write_hexadecimal.Goals as goal
 
 pub loop-octet-preserved : goal.loop-octet-preserved
@@ -8,4 +8,4 @@ loop-octet-preserved g c = λ plain.
     let octets = c.args.octets.now in
     let i = c.loop-octet.octet-index in
     let small : get_or octets i 0 < 256 = search rules in
-    has_written_of_eq _ _ _ _ _ (hexadecimal_more octets i (search rules) small) (has_written_append _ _ _ _ _ _ (c.loop-octet.invariant plain) (search rules))
+    has_written_of_eq _ _ _ _ _ (pairs_more true octets i (search rules) small) (has_written_append _ _ _ _ _ _ (c.loop-octet.invariant plain) (search rules))
