@@ -3,6 +3,7 @@
 
 mod algorithm;
 pub mod comparing;
+mod dotted;
 mod https;
 mod key;
 mod name;
@@ -19,6 +20,7 @@ mod valid_at;
 mod validity;
 
 pub use algorithm::RpkiSignatureAlgorithm;
+pub use dotted::Dotted;
 pub use https::Https;
 pub use key::{KeyIdentifier, PublicKey, PublicKeyFormat};
 pub use name::{InvalidName, Name};

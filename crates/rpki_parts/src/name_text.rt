@@ -1,14 +1,15 @@
 //! Names print themselves.
-ghost use Rattle.std.specs.Prelude.{◌≡◌, ◌<◌, ◌^◌, ◌||◌, ◌&&◌, not, nat_lt, true, option_map, Some, [], ◌∷◌, ◌++◌, codes};
+ghost use Rattle.std.specs.Prelude.{◌≡◌, ◌<◌, ◌||◌, option_map, Some, [], ◌∷◌, ◌++◌, codes};
 ghost use Rattle.std.specs.Fmt.{WritesOnOk};
 ghost use Rattle.rpki_der.specs.Place.{remaining, Keeps};
 ghost use Rattle.rpki_der.specs.Place.Reading.{TookBy};
 ghost use Rattle.rpki_der.specs.Tags.{SET};
 ghost use Rattle.rpki_der.specs.Texts.{hexadecimal};
 ghost use Rattle.rpki_der.specs.Values.Reading.{value_at};
-ghost use Rattle.rpki_parts.specs.NameTexts.{with_octet, number_after, are_small, number_text, numbers_text, ended_with, dotted_text, type_text, attribute_value_at, is_special, is_visible, is_at_edge, octet_text, string_text, short_name, string_of, value_text, octets_of_value, attribute_text, name_text};
+ghost use Rattle.rpki_parts.specs.NameTexts.{type_text, attribute_value_at, is_special, is_visible, is_at_edge, octet_text, string_text, short_name, string_of, value_text, octets_of_value, attribute_text, name_text};
 ghost use Rattle.rpki_parts.specs.NameTexts.Reading.{written_part, written_parts, written_name};
 
+use crate::dotted::Dotted;
 use crate::name::Name;
 use rpki_der::{Cursor, DecodeError, tag, write_hexadecimal};
 use std::fmt;
@@ -124,114 +125,16 @@ fn short_name(id: &[u8]) -> Option<&'static str>
     }
 }
 
-// The number of a subidentifier, with the 7 bits of one octet more.
-fn with_octet(number: u64, octet: u8) -> u64
-    requires { number < 2 ^ 57 }
-    ensures { result ≡ with_octet number octet }
-{
-    number * 128 + u64::from(octet % 128)
-}
-
-// What is read of a subidentifier after this octet.
-fn number_after(number: u64, octet: u8) -> u64
-    requires { number < 2 ^ 57 }
-    ensures { result ≡ number_after number octet }
-{
-    if octet < 128 {
-        0
-    } else {
-        with_octet(number, octet)
-    }
-}
-
-// Whether each subidentifier is below 2^64.
-fn are_small(id: &[u8]) -> bool
-    ensures { result ≡ are_small 0 id.now }
-{
-    let mut rest = id;
-    let mut number = 0u64;
-    while let Some((octet, behind)) = rest.split_first() {
-        if number >= 1 << 57 {
-            return false;
-        }
-        number = number_after(number, *octet);
-        rest = behind;
-    }
-    true
-}
-
-// A subidentifier in decimal digits.
-fn write_number<W: fmt::Write>(
-    f: &mut fmt::Formatter<W>,
-    is_first: bool,
-    number: u64,
-) -> fmt::Result
-    ensures { WritesOnOk W.write_str_gives f.old result (number_text is_first number) f.new }
-{
-    if !is_first {
-        write!(f, ".{number}")
-    } else if number < 40 {
-        write!(f, "0.{number}")
-    } else if number < 80 {
-        let second = number - 40;
-        write!(f, "1.{second}")
-    } else {
-        let second = number - 80;
-        write!(f, "2.{second}")
-    }
-}
-
-// The subidentifier that ends with this octet, if one does.
-fn write_ended<W: fmt::Write>(
-    f: &mut fmt::Formatter<W>,
-    is_first: bool,
-    number: u64,
-    octet: u8,
-) -> fmt::Result
-    requires { number < 2 ^ 57 }
-    ensures { WritesOnOk W.write_str_gives f.old result
-        (numbers_text is_first (ended_with number octet)) f.new }
-{
-    if octet < 128 {
-        write_number(f, is_first, with_octet(number, octet))
-    } else {
-        Ok(())
-    }
-}
-
-// Whether no subidentifier has ended after this octet.
-fn is_still_first(is_first: bool, octet: u8) -> bool
-    ensures { result ≡ (is_first && not (nat_lt octet 128)) }
-{
-    is_first && octet >= 128
-}
-
-// Numbers with a dot between each two.
-fn write_dotted<W: fmt::Write>(f: &mut fmt::Formatter<W>, id: &[u8]) -> fmt::Result
-    requires { are_small 0 id.now ≡ true }
-    ensures { WritesOnOk W.write_str_gives f.old result (dotted_text id.now) f.new }
-{
-    let mut rest = id;
-    let mut number = 0u64;
-    let mut is_first = true;
-    while let Some((octet, behind)) = rest.split_first() {
-        write_ended(f, is_first, number, *octet)?;
-        is_first = is_still_first(is_first, *octet);
-        number = number_after(number, *octet);
-        rest = behind;
-    }
-    Ok(())
-}
-
 // A type without a name.
 fn write_type<W: fmt::Write>(f: &mut fmt::Formatter<W>, id: &[u8]) -> fmt::Result
     ensures { WritesOnOk W.write_str_gives f.old result (type_text id.now) f.new }
 {
-    if are_small(id) {
-        write_dotted(f, id)
-    } else {
-        f.write_str("oid:")?;
-        write_hexadecimal(f, id)
+    match Dotted::of(id) {
+        Some(dotted) => write!(f, "{dotted}"),
+        None => {
+            f.write_str("oid:")?;
+            write_hexadecimal(f, id)
+        }
     }
 }
 

@@ -2,7 +2,7 @@ use Rattle.std.proofs.Common.{◌≡◌, true, length}
 use Rattle.std.specs.Fmt.{IsPlainFormatter}
 use Rattle.rpki_parts.specs.NameTexts.{are_small, subidentifiers, numbers_text, dotted_text}
 use Rattle.rpki_parts.proofs.NameTexts.{IsPartWritten}
-use Rattle.rpki_parts.proofs.name_text.write_dotted.Given as goal
+use Rattle.rpki_parts.proofs.dotted.write_dotted.Given as goal
 
 abbrev pub invariant-loop-octet : goal.invariant-loop-octet
 invariant-loop-octet g l =

@@ -3,7 +3,7 @@ use Rattle.std.proofs.Common.{rules, ◌≡◌, ◌∷◌, ◌^◌}
 use Rattle.std.proofs.lemmas.Bool.{and_parts}
 use Rattle.rpki_parts.specs.NameTexts.{are_small, subidentifiers, number_after, ended_with, numbers_text, dotted_text}
 use Rattle.rpki_parts.proofs.NameTexts.{piece_written, numbers_split}
-use Rattle.rpki_parts.proofs.name_text.write_dotted.Goals as goal
+use Rattle.rpki_parts.proofs.dotted.write_dotted.Goals as goal
 
 pub loop-octet-preserved : goal.loop-octet-preserved
 loop-octet-preserved g c =
