@@ -5,7 +5,6 @@ use crate::anchors::octets;
 use crate::lists::TWO;
 use crate::samples;
 use bytes::Bytes;
-use rpki_der::Serial;
 use rpki_files::{Misread, decode_cert, decode_crl};
 use std::alloc::Global;
 use std::process::Abort;
@@ -90,16 +89,4 @@ fn of_a_list_of_version_3(rt: HostRuntime) {
     let wanted = "version 3: 2 inside [0], and nothing behind it (RFC 6487 4.1)";
     let printed = "unexpected identifier: the version, from octet 7";
     assert_no_cert(&rt, rt.alloc(), &octets, printed, wanted);
-}
-
-#[test]
-fn others_are_decoded(rt: HostRuntime) {
-    let cert = decode_cert(rt.alloc(), &octets(&rt, rt.alloc()));
-    let cert = cert.expect(&rt, "a certificate");
-    assert!(rt; cert.as_tbs().serial_number() == Serial::from(12u64));
-    drop(cert);
-    let octets = samples::shared(rt.alloc(), TWO).expect(&rt, "memory");
-    let list = decode_crl(rt.alloc(), &octets).expect(&rt, "a list");
-    assert!(rt; list.contains(Serial::from(128u64)));
-    drop(list);
 }

@@ -186,29 +186,6 @@ fn an_anchor_of_another_key_begins_no_walk(rt: HostRuntime) {
     drop(folder);
 }
 
-#[test]
-fn a_walk_begins_below_an_issuer(rt: HostRuntime) {
-    let alloc = rt.alloc();
-    let mut folder = Folder::new(alloc);
-    add(&rt, &mut folder, end_entity(&rt, alloc));
-    add(&rt, &mut folder, list_octets(&rt, alloc));
-    let mut lines = Lines::new(alloc, 1).expect(&rt, "memory");
-    let tal = locator(&rt, alloc, OF_ANCHOR);
-    let anchor = anchors::octets(&rt, alloc);
-    let bounds = Bounds { depth: 1, steps: 1 };
-    let walk = walk(&rt, alloc, &folder, bounds, &StandIn);
-    let issuer = walk
-        .trust_anchor(&tal, &Member::of(&anchor))
-        .expect(&rt, "an anchor");
-    let ended = walk.below(&issuer, &mut lines).expect(&rt, "memory");
-    assert!(rt; ended == Ended::Whole);
-    assert!(rt; line(&lines, 0) == (0, "accepted"));
-    drop(issuer);
-    drop(lines);
-    drop(tal);
-    drop(folder);
-}
-
 // Two certificates of one key stand side by side, and each is below both: two are told below the
 // anchor, and two below each of these. The second is told first below the first.
 #[test]

@@ -10,51 +10,56 @@ use rpki_lines::{RunFault, Status};
 use rpki_parts::{SigningError, UriError};
 use rpki_path::{PathError, PathFault};
 
+// That the first of each two errors tells that memory ran out, and the second doesn't.
+macro_rules! assert_memory {
+    ($rt:ident: $($memory:expr, $other:expr;)*) => {$(
+        assert!($rt; $memory.is_memory());
+        assert!($rt; !$other.is_memory());
+    )*};
+}
+
 #[test]
 fn of_parts(rt: HostRuntime) {
-    assert!(rt; EncodeError::Memory.is_memory());
-    assert!(rt; !EncodeError::TooLong.is_memory());
-    assert!(rt; IssueError::Memory.is_memory());
-    assert!(rt; !IssueError::Overclaimed.is_memory());
-    assert!(rt; UriError::Memory.is_memory());
-    assert!(rt; !UriError::BadUri.is_memory());
+    assert_memory! { rt:
+        EncodeError::Memory, EncodeError::TooLong;
+        IssueError::Memory, IssueError::Overclaimed;
+        UriError::Memory, UriError::BadUri;
+    }
 }
 
 #[test]
 fn of_certificates(rt: HostRuntime) {
-    let verification = VerificationError::Memory;
-    assert!(rt; verification.is_memory());
-    assert!(rt; !VerificationError::Expired.is_memory());
-    let validation = ValidationError::Verification(verification);
-    assert!(rt; validation.is_memory());
-    let profile = ValidationError::Inspection(InspectionError::Issuer);
-    assert!(rt; !profile.is_memory());
-    assert!(rt; RearrangeError::Memory.is_memory());
-    assert!(rt; !RearrangeError::TooLong.is_memory());
+    assert_memory! { rt:
+        VerificationError::Memory, VerificationError::Expired;
+        ValidationError::Verification(VerificationError::Memory),
+            ValidationError::Inspection(InspectionError::Issuer);
+        RearrangeError::Memory, RearrangeError::TooLong;
+    }
     assert!(rt; Misread::Memory.is_memory());
 }
 
+type Unissued = IssueCaError<u8>;
+
 #[test]
 fn of_issuing(rt: HostRuntime) {
-    let signing: SigningError<u8> = SigningError::Memory;
-    assert!(rt; signing.is_memory());
-    let issuing = IssueCaError::Signing(signing);
-    assert!(rt; issuing.is_memory());
-    let failed = IssueCaError::Signing(SigningError::Signer(7u8));
-    assert!(rt; !failed.is_memory());
-    let reading: IssueCaError<u8> = IssueCaError::Decode(DecodeError::Memory);
-    assert!(rt; reading.is_memory());
+    assert_memory! { rt:
+        SigningError::<u8>::Memory, SigningError::Signer(7u8);
+        Unissued::Signing(SigningError::Memory), Unissued::Signing(SigningError::Signer(7));
+    }
+    assert!(rt; Unissued::Decode(DecodeError::Memory).is_memory());
 }
 
 #[test]
 fn of_paths_and_runs(rt: HostRuntime) {
-    let fault = PathFault::Memory;
-    assert!(rt; fault.is_memory());
-    let error = PathError { index: 1, fault };
+    assert_memory! { rt:
+        PathFault::Memory, PathFault::Inspect(InspectionError::Issuer);
+        RunFault::Memory, RunFault::TooLong;
+    }
+    let error = PathError {
+        index: 1,
+        fault: PathFault::Memory,
+    };
     assert!(rt; error.is_memory());
-    assert!(rt; !PathFault::Inspect(InspectionError::Issuer).is_memory());
-    assert!(rt; RunFault::Memory.is_memory());
-    assert!(rt; !RunFault::TooLong.is_memory());
 }
 
 #[test]

@@ -28,14 +28,10 @@ fn holder(out: &mut Answer, data: &TbsCert) {
         Some(false) => "no",
         None => "none",
     });
-    key_identifier(
-        out.field("subject-key-identifier"),
-        Some(data.subject_key_identifier()),
-    );
-    key_identifier(
-        out.field("authority-key-identifier"),
-        data.authority_key_identifier(),
-    );
+    out.field("subject-key-identifier");
+    key_identifier(out, Some(data.subject_key_identifier()));
+    out.field("authority-key-identifier");
+    key_identifier(out, data.authority_key_identifier());
 }
 
 fn uses(out: &mut Answer, data: &TbsCert) {
@@ -140,15 +136,10 @@ fn last_in(out: &mut Answer, whole: &[u8], part: &[u8]) {
 // What is signed, and the signature, by their places in the certificate.
 fn signature(out: &mut Answer, signed: &SignedData, whole: &[u8]) {
     first_in(out.field("data"), whole, signed.data());
-    algorithm(
-        out.field("signature-algorithm"),
-        signed.signature().algorithm(),
-    );
-    last_in(
-        out.field("signature-value"),
-        whole,
-        signed.signature().value(),
-    );
+    out.field("signature-algorithm");
+    algorithm(out, signed.signature().algorithm());
+    out.field("signature-value");
+    last_in(out, whole, signed.signature().value());
 }
 
 /// Appends what is captured; `same` where it is what was written.

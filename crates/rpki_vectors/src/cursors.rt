@@ -36,8 +36,8 @@ fn nothing(out: &mut Answer, found: Result<(), DecodeError>) {
 impl Show for Piece {
     fn show(&self, out: &mut Answer) {
         out.field("piece").octets(self.as_bytes());
-        out.field("cursor")
-            .yes(self.cursor().rest() == self.as_bytes());
+        out.field("cursor");
+        out.yes(self.cursor().rest() == self.as_bytes());
     }
 }
 

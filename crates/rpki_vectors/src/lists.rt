@@ -14,10 +14,8 @@ fn head(out: &mut Answer, data: &TbsCertList<RevokedCertificates>) {
     out.field("issuer").octets(data.issuer().as_bytes());
     time(out.field("this-update"), data.this_update());
     time(out.field("next-update"), data.next_update());
-    key_identifier(
-        out.field("authority-key-identifier"),
-        Some(*data.authority_key_identifier()),
-    );
+    out.field("authority-key-identifier");
+    key_identifier(out, Some(*data.authority_key_identifier()));
     serial(out.field("crl-number"), data.crl_number());
 }
 
@@ -179,8 +177,8 @@ fn refused(out: &mut Answer, error: &DecodeError, octets: &Bytes) {
     out.refused(error);
     let mut cursor = Cursor::new(octets);
     let again = Crl::take_from(out.alloc(), &mut cursor);
-    out.field("take")
-        .text(if again.is_err() { "refused" } else { "ok" });
+    out.field("take");
+    out.text(if again.is_err() { "refused" } else { "ok" });
     drop(again);
     out.left(&cursor);
 }

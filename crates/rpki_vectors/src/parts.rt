@@ -103,10 +103,10 @@ impl Show for KeyIdentifier {
 impl Show for RpkiSignatureAlgorithm {
     fn show(&self, out: &mut Answer) {
         put_again!(out, octets => self.x509_encode(out.alloc(), &mut octets));
-        out.field("is-default")
-            .yes(*self == RpkiSignatureAlgorithm::default());
-        out.field("is-without-parameter")
-            .yes(*self == RpkiSignatureAlgorithm::without_parameter());
+        out.field("is-default");
+        out.yes(*self == RpkiSignatureAlgorithm::default());
+        out.field("is-without-parameter");
+        out.yes(*self == RpkiSignatureAlgorithm::without_parameter());
     }
 }
 

@@ -214,20 +214,14 @@ fn alone<B: Kind>(words: &Words<'_>, out: &mut Answer, one: &Chain<B>) {
 
 fn under<B: Kind>(out: &mut Answer, one: &Chain<B>, resources: &Resources<B>) {
     listed(out.field("listed"), resources);
-    issued(
-        out.field("issued-refuse"),
-        one,
-        resources,
-        Overclaim::Refuse,
-    );
-    issued(out.field("issued-trim"), one, resources, Overclaim::Trim);
-    B::print_extension(
-        out.field("written-refuse"),
-        one,
-        resources,
-        Overclaim::Refuse,
-    );
-    B::print_extension(out.field("written-trim"), one, resources, Overclaim::Trim);
+    out.field("issued-refuse");
+    issued(out, one, resources, Overclaim::Refuse);
+    out.field("issued-trim");
+    issued(out, one, resources, Overclaim::Trim);
+    out.field("written-refuse");
+    B::print_extension(out, one, resources, Overclaim::Refuse);
+    out.field("written-trim");
+    B::print_extension(out, one, resources, Overclaim::Trim);
 }
 
 fn both<B: Kind>(out: &mut Answer, one: &Chain<B>, other: &Chain<B>) {
