@@ -1,6 +1,6 @@
 -- The INTEGERs that AS numbers are written as.
 use Rattle.std.specs.Int.Digits.{digits_of, number_from_digits}
-use Rattle.std.proofs.Common.{◌≡◌, ℕ, zero, suc, ◌+◌, ◌/◌, ◌%◌, ◌^◌, ◌<◌, ◌≤◌, List, [], ◌∷◌, ◌++◌, length, lit<, refl, sym, ap, ◌∙◌, arith}
+use Rattle.std.proofs.Common.{◌≡◌, ℕ, zero, suc, ◌/◌, ◌%◌, ◌^◌, ◌<◌, ◌≤◌, List, [], ◌∷◌, ◌++◌, length, lit<, refl, sym, ap, ◌∙◌, arith}
 use Rattle.std.proofs.lemmas.Bool.{le-ltb, lt-ltb}
 use Rattle.rpki_der.specs.Primitives.{IsInteger, number, unsigned}
 use Rattle.rpki_der.specs.Tags.{INTEGER, SEQUENCE}

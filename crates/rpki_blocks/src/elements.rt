@@ -1,5 +1,5 @@
 //! Lists of blocks in resources of certificates (RFC 3779 2.2.3.4, 3.2.3.2).
-ghost use Rattle.std.specs.Prelude.{◌+◌, ◌/◌, ◌<◌, ◌≤◌, max, ◌++◌, [], ◌∷◌, OnOk, vec_len, vec_capacity};
+ghost use Rattle.std.specs.Prelude.{◌≡◌, ◌+◌, ◌/◌, ◌<◌, ◌≤◌, max, ◌++◌, [], ◌∷◌, length, IfOk, OnOk, vec_len, vec_capacity};
 ghost use Rattle.rpki_der.specs.Formats.{Format};
 ghost use Rattle.rpki_der.specs.Place.{remaining, Keeps};
 ghost use Rattle.rpki_der.specs.Place.Reading.{Took, TookOrMemory, ReturnsOrMemory, ReturnsOrMemoryBy};
@@ -37,49 +37,59 @@ pub(crate) trait Elements {
     ghost shrinks: { (kind : Self) → Shrinks (element kind).read };
 }
 
-// Merges blocks that fill their room, and makes more where that frees less than half of it.
-// Elements of five octets are the shortest of which more than 2^7 can be apart, so room grows once
-// as a rule.
+// Merges blocks that fill their room, and makes more where that frees less than half of it, or
+// where there is none. Elements of five octets are the shortest of which more than 2^7 can be
+// apart, so room grows once as a rule.
 fn make_room<B: Bound>(blocks: &mut Vec<Block<B>>, octets: usize) -> Result<(), AllocError>
     ensures union { HaveSameNumbers blocks.new.items blocks.old.items }
     ensures set { IsSet B.greatest blocks.new.items }
-    ensures room { OnOk result (0 < vec_capacity blocks.old
-        → vec_len blocks.new < vec_capacity blocks.new) }
+    ensures fewer { vec_len blocks.new ≤ vec_len blocks.old }
+    ensures room { OnOk result (vec_len blocks.new < vec_capacity blocks.new) }
+    ensures kept { vec_capacity blocks.old ≤ vec_capacity blocks.new }
     ensures few { vec_capacity blocks.new
         ≤ max (vec_capacity blocks.old) (vec_len blocks.old + octets / 5 + 1) }
 {
     merge(blocks);
-    if blocks.len() > blocks.capacity() / 2 {
+    if blocks.capacity() == 0 || blocks.len() > blocks.capacity() / 2 {
         blocks.reserve_exact(octets / 5 + 1)?;
     }
     Ok(())
 }
 
-// One block more, before so many octets.
+// One block more, before so many octets. Room grows only where it is full.
 #[inline(always)]
 fn push<B: Bound>(
     blocks: &mut Vec<Block<B>>,
     block: Block<B>,
     octets: usize,
 ) -> Result<(), AllocError>
-    ensures { OnOk result (HaveSameNumbers blocks.new.items (blocks.old.items ++ block ∷ [])) }
+    ensures union { OnOk result (HaveSameNumbers blocks.new.items (blocks.old.items ++ block ∷ [])) }
+    ensures len { vec_len blocks.new ≤ vec_len blocks.old + 1 }
+    ensures kept { vec_capacity blocks.old ≤ vec_capacity blocks.new }
+    ensures full { vec_len blocks.old < vec_capacity blocks.old
+        → vec_capacity blocks.new ≡ vec_capacity blocks.old }
+    ensures few { vec_capacity blocks.new
+        ≤ max (vec_capacity blocks.old) (vec_len blocks.old + octets / 5 + 1) }
 {
-    if blocks.len() == blocks.capacity() {
+    if blocks.len() >= blocks.capacity() {
         make_room(blocks, octets)?;
     }
-    blocks.push(block)?;
+    blocks.push_reserved(block);
     Ok(())
 }
 
-// Blocks with the numbers of the elements that a content is a sequence of.
+// Blocks with the numbers of the elements that a content is a sequence of. Room is made for one of
+// seven octets each at least, and for no more blocks than there are octets and one.
 #[inline(always)]
 fn elements_in<K: Elements>(
     alloc: Global,
     kind: &K,
     mut content: Cursor<'_>,
 ) -> Result<Vec<Block<K::End>>, DecodeError>
-    ensures { ReturnsOrMemoryBy (λ v. listed (merged v.items)) result
+    ensures reads { ReturnsOrMemoryBy (λ v. listed (merged v.items)) result
         (union_of (K.element kind.now).read (remaining content.entry)) }
+    ensures enough { IfOk result (λ v. length (remaining content.entry) / 7 < vec_capacity v) }
+    ensures few { IfOk result (λ v. vec_capacity v ≤ length (remaining content.entry) + 1) }
 {
     let mut blocks = Vec::with_capacity(alloc, kind.room(content.rest().len()))?;
     while !content.is_empty() {
