@@ -139,19 +139,18 @@ fn of_one_number_one_is_asked(rt: HostRuntime) {
     }
 }
 
+fn assert_alone(rt: &impl Abort, alloc: Global, given: Given, wanted: &str) {
+    let lists = [list(rt, alloc, given)];
+    assert_eq!(rt; asked(rt, alloc, &lists), wanted);
+    let [list] = lists;
+    drop(list);
+}
+
 #[test]
 fn a_list_that_cannot_be_asked_says_why(rt: HostRuntime) {
-    let alone = [
-        (foreign(2, 2019, 2029), "BadSignature"),
-        (plain(2, 2025, 2029), "Stale"),
-        (foreign(2, 2025, 2029), "BadSignature"),
-    ];
-    for (given, wanted) in alone {
-        let lists = [list(&rt, rt.alloc(), given)];
-        assert_eq!(rt; asked(&rt, rt.alloc(), &lists), wanted);
-        let [list] = lists;
-        drop(list);
-    }
+    assert_alone(&rt, rt.alloc(), foreign(2, 2019, 2029), "BadSignature");
+    assert_alone(&rt, rt.alloc(), plain(2, 2025, 2029), "Stale");
+    assert_alone(&rt, rt.alloc(), foreign(2, 2025, 2029), "BadSignature");
 }
 
 #[test]
