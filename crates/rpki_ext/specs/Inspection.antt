@@ -1,4 +1,4 @@
--- The names of what inspection finds wrong.
+-- The names of what inspection finds wrong, and what is printed of it (own).
 use Rattle.std.specs.Prelude.{List, ℕ, codes}
 use Rattle.rpki_ext.specs.declared.inspection.InspectionError.{InspectionError}
 use Rattle.rpki_ext.specs.declared.inspection.InspectionError.TheVariants as fault
@@ -32,3 +32,33 @@ inspection_error_name fault.SubjectInformationPresent = codes "SubjectInformatio
 inspection_error_name fault.IpResourcesPresent = codes "IpResourcesPresent"
 inspection_error_name fault.MissingAsResources = codes "MissingAsResources"
 inspection_error_name fault.InheritedAsResources = codes "InheritedAsResources"
+
+-- what is printed of the error
+abbrev pub inspection_error_text : InspectionError → List ℕ
+inspection_error_text fault.AlgorithmMismatch = codes "signature algorithm mismatch"
+inspection_error_text fault.Issuer = codes "invalid issuer"
+inspection_error_text fault.Subject = codes "invalid subject"
+inspection_error_text fault.KeyAlgorithm = codes "invalid key algorithm"
+inspection_error_text fault.SubjectKeyIdentifier = codes "subject key identifier mismatch"
+inspection_error_text fault.ExtendedKeyUsagePresent = codes "extended key usage present"
+inspection_error_text fault.CaFlagFalse = codes "CA flag is false"
+inspection_error_text fault.MissingBasicConstraints = codes "missing basic constraints"
+inspection_error_text fault.KeyUsage = codes "wrong key usage"
+inspection_error_text fault.MissingCaRepository = codes "missing CA repository"
+inspection_error_text fault.MissingManifest = codes "missing manifest"
+inspection_error_text fault.ManifestNotChild = codes "manifest outside the repository"
+inspection_error_text fault.SignedObjectPresent = codes "signed object present"
+inspection_error_text fault.AuthorityKeyIdentifier = codes "authority key identifier mismatch"
+inspection_error_text fault.CrlUriPresent = codes "CRL URI present"
+inspection_error_text fault.CaIssuerPresent = codes "CA issuer present"
+inspection_error_text fault.MissingCrlUri = codes "missing CRL URI"
+inspection_error_text fault.BasicConstraintsPresent = codes "basic constraints present"
+inspection_error_text fault.CaRepositoryPresent = codes "CA repository present"
+inspection_error_text fault.ManifestPresent = codes "manifest present"
+inspection_error_text fault.MissingSignedObject = codes "missing signed object"
+inspection_error_text fault.MissingExtendedKeyUsage = codes "missing extended key usage"
+inspection_error_text fault.MissingRouterPurpose = codes "missing router purpose"
+inspection_error_text fault.SubjectInformationPresent = codes "subject information access present"
+inspection_error_text fault.IpResourcesPresent = codes "IP resources present"
+inspection_error_text fault.MissingAsResources = codes "missing AS resources"
+inspection_error_text fault.InheritedAsResources = codes "inherited AS resources"

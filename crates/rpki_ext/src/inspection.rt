@@ -1,6 +1,6 @@
 //! What inspection finds wrong with a certificate.
-ghost use Rattle.std.specs.Prelude.{◌≡◌};
-ghost use Rattle.rpki_ext.specs.Inspection.{inspection_error_name};
+ghost use Rattle.std.specs.Prelude.{◌≡◌, Some};
+ghost use Rattle.rpki_ext.specs.Inspection.{inspection_error_name, inspection_error_text};
 
 use std::error::Error;
 use std::fmt;
@@ -102,7 +102,9 @@ impl InspectionError {
     }
 
     // What is printed of it.
-    fn text(&self) -> &'static str {
+    fn text(&self) -> &'static str
+        ensures { result.now ≡ inspection_error_text self.now }
+    {
         match self {
             InspectionError::AlgorithmMismatch => "signature algorithm mismatch",
             InspectionError::Issuer => "invalid issuer",
@@ -135,7 +137,10 @@ impl InspectionError {
     }
 }
 
+/// What is wrong in words, as `missing manifest`.
 impl fmt::Display for InspectionError {
+    ghost output = { λ error. Some (inspection_error_text error) };
+
     fn fmt<W: fmt::Write>(&self, f: &mut fmt::Formatter<W>) -> fmt::Result {
         f.write_str(self.text())
     }
