@@ -3,6 +3,7 @@
 -- ---- certificates and lists as text
 mod CharacterTexts
 mod DigitPlaces
+mod KindAnswers
 pub mod OneMoment
 mod WrittenLines
 -- ---- notes and facts
