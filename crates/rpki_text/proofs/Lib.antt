@@ -17,9 +17,9 @@ mod Told
 mod AddedParts
 mod AroundDashes
 mod CommandParts
+pub mod JoinedNames
 mod OneRequest
 pub mod PartsOfWords
-mod StrippedTexts
 mod UnsuitedRequests
 pub mod WordByWord
 mod WrongWords
