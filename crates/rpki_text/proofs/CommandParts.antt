@@ -1,5 +1,6 @@
 -- The parts of a command line, by the sort of their first word.
 use Rattle.std.specs.Prelude.{codes, Option, Some, None}
+use Rattle.std.specs.List.{before_first}
 use Rattle.std.specs.Str.{bytes_eq}
 use Rattle.std.proofs.Common.{◌≡◌, ◌⊎◌, ◌==◌, ◌<◌, ℕ, Bool, true, false, cond, inl, inr, List, [], ◌∷◌, ◌++◌, length, refl, sym, ap, ◌∙◌, subst, lit<, arith}
 use Rattle.std.proofs.lemmas.Bool.{eqb-true}
@@ -10,6 +11,7 @@ use Rattle.rpki_text.specs.declared.command_line.arguments.Setting.{Setting}
 use Rattle.rpki_text.specs.declared.command_line.arguments.Setting.TheVariants.{Crl, Tal, In, Depth, StepCount, At, MaxSize, Output, ShortOutput}
 use Rattle.rpki_text.specs.CommandLines.{IsFormatName, LinePart, file, list, locator, folder, depth, steps, at_moment, max_size, output, lenient, json, quiet, all, no_names, help, setting_name, IsPart}
 use Rattle.rpki_text.specs.WordParts.{BeginsNoPart, IsOption, GivesValue, Joins}
+use Rattle.rpki_text.proofs.JoinedNames.{is_equals}
 use Rattle.rpki_text.proofs.PartsOfWords.{Sort, single, before, joining, Grammar, Shape, IsClear, alone_is, given_is}
 use Rattle.rpki_text.specs.CommandLines.Steps.{IsSetPart, IsSwitch, IsOptionName}
 use Rattle.rpki_text.proofs.OneMoment.{one_moment}
@@ -87,6 +89,18 @@ joined At value = refl
 joined MaxSize value = refl
 joined Output value = refl
 joined ShortOutput value = refl
+
+-- what stands before its first `=` is its name
+pub front_is : (setting : Setting) (value : List ℕ) → before_first is_equals (setting_name setting ++ codes "=" ++ value) ≡ setting_name setting
+front_is Crl value = refl
+front_is Tal value = refl
+front_is In value = refl
+front_is Depth value = refl
+front_is StepCount value = refl
+front_is At value = refl
+front_is MaxSize value = refl
+front_is Output value = refl
+front_is ShortOutput value = refl
 
 -- a file isn't this option
 unlike : (word option : List ℕ) → (IsOption word → ⊥) → IsOption option → bytes_eq word option ≡ false

@@ -1,9 +1,8 @@
 -- A walk over extensions that gathers what they say.
 use Rattle.std.specs.List.{flat_map}
-use Rattle.std.proofs.Common.{◌≡◌, ℕ, List, [], ◌∷◌, ◌++◌, map, Some, None, refl, sym, ap, subst, ◌∙◌, append_assoc, arith}
+use Rattle.std.proofs.Common.{◌≡◌, ℕ, List, [], ◌∷◌, ◌++◌, map, Some, None, sym, ap, ◌∙◌, append_assoc, arith}
 use Rattle.std.proofs.lemmas.List.{append-nil, map-append}
 use Rattle.rpki_ext.specs.CertificateExtensions.{ExtensionFields}
-use Rattle.rpki_der.specs.Encoding.{Begins}
 use Rattle.rpki_der.specs.Extensions.{Extension, IsExtension, extension_format}
 use Rattle.rpki_der.specs.Sequences.{AreEncodings}
 use Rattle.rpki_parts.specs.NameTexts.Reading.{values_in}
@@ -13,12 +12,7 @@ use Rattle.rpki_der.proofs.ValueReads.{value_shorter}
 use Rattle.rpki_parts.proofs.NameTexts.{no_values, one_value}
 use Rattle.rpki_text.specs.Facts.{FactFields, fact_view, facts_in, facts_of}
 use Rattle.rpki_text.specs.declared.notes.fact.Fact.{Fact}
-use Rattle.rpki_text.proofs.Walks.{first_is, nothing_there}
-
--- where no extension begins, there is none
-none_begins : (octets : List ℕ) → ((x : Extension) (rest : List ℕ) → Begins IsExtension octets x rest → ⊥) → (ys : List Extension) → AreEncodings IsExtension ys octets → ys ≡ []
-none_begins octets none [] h = refl
-none_begins octets none (y ∷ ys) (a, b, is, more, e) = absurd (none y b (record { text = a; encoded = is; parts = e }))
+use Rattle.rpki_text.proofs.Walks.{first_is, none_there}
 
 module _ (f : ExtensionFields) where
   -- what was gathered, and what the extensions of the rest say, is what all say
@@ -26,10 +20,6 @@ module _ (f : ExtensionFields) where
   IsGathered all rest facts =
       (xs : List Extension) → AreEncodings IsExtension xs all
       → (ys : List Extension) × AreEncodings IsExtension ys rest × (facts_of f xs ≡ facts ++ facts_of f ys)
-
-  -- as it begins
-  pub none_gathered : (all : List ℕ) (facts : List FactFields) → facts ≡ [] → IsGathered all all facts
-  none_gathered all facts empty xs are = (xs, are, ap (λ (l : List FactFields). l ++ facts_of f xs) (sym empty))
 
   module _ (all octets : List ℕ) (facts : List FactFields) (so_far : IsGathered all octets facts) where
     -- with what one more says
@@ -43,22 +33,11 @@ module _ (f : ExtensionFields) where
           l.2 ∙ ap (λ (ys : List Extension). facts ++ facts_of f ys) h.1 ∙ sym (append_assoc facts said (facts_of f h.0)) ∙ ap (λ (l : List FactFields). l ++ facts_of f h.0) (sym is),
         )
 
-    module _ (xs : List Extension) (are : AreEncodings IsExtension xs all) where
-      when_none : (so_far xs are).0 ≡ [] → facts ≡ facts_of f xs
-      when_none none =
-          sym ((so_far xs are).2 ∙ ap (λ (ys : List Extension). facts ++ facts_of f ys) none ∙ append-nil facts)
-
-      -- at the end
-      pub all_gathered : octets ≡ [] → facts ≡ facts_of f xs
-      all_gathered empty =
-          let l = so_far xs are in
-          when_none (nothing_there l.0 (subst (λ (b : List ℕ). AreEncodings IsExtension l.0 b) empty l.1))
-
-      -- and where no extension begins
-      pub rest_gathered : ((x : Extension) (rest : List ℕ) → Begins IsExtension octets x rest → ⊥) → facts ≡ facts_of f xs
-      rest_gathered none =
-          let l = so_far xs are in
-          when_none (none_begins octets none l.0 l.1)
+    -- where no extension is read
+    pub all_gathered : extension_format.read octets ≡ None → (xs : List Extension) → AreEncodings IsExtension xs all → facts ≡ facts_of f xs
+    all_gathered none xs are =
+        let l = so_far xs are in
+        sym (l.2 ∙ ap (λ (ys : List Extension). facts ++ facts_of f ys) (none_there octets none l.0 l.1) ∙ append-nil facts)
 
 -- ---- one fact
 

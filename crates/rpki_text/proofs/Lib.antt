@@ -3,6 +3,7 @@
 -- ---- certificates and lists as text
 mod CharacterTexts
 mod DigitPlaces
+mod KindAnswers
 pub mod OneMoment
 mod WrittenLines
 -- ---- notes and facts
@@ -16,9 +17,9 @@ mod Told
 mod AddedParts
 mod AroundDashes
 mod CommandParts
+pub mod JoinedNames
 mod OneRequest
 pub mod PartsOfWords
-mod StrippedTexts
 mod UnsuitedRequests
 pub mod WordByWord
 mod WrongWords

@@ -58,13 +58,13 @@ module _ (words : List (List ℕ)) (first : List ℕ) (rest : List (List ℕ)) (
   pub no_parts : ((parts : List LinePart) → AreParts parts (words_before rest) → ⊥) → (r : RequestFields) → IsCommandLine r words → ⊥
   no_parts none r h = none h.parts (subst (λ (l : List (List ℕ)). AreParts h.parts (words_before l)) (sym (same_words r h).1) h.parts_are)
 
-  module _ (task : Task) (task_is : IsTaskName task first) (mid r : RequestFields) (adds : AddsParts IsPart with_part (words_before rest) (only_task task) mid) (files : r ≡ with_files mid (words_behind rest)) where
-    all_asked : r ≡ with_files (with_parts (only_task task) adds.0) (words_behind rest)
-    all_asked = files ∙ ap (λ (m : RequestFields). with_files m (words_behind rest)) adds.2
+  module _ (task : Task) (task_is : IsTaskName task first) (before behind : List (List ℕ)) (before_is : before ≡ words_before rest) (behind_is : behind ≡ words_behind rest)
+      (start mid r : RequestFields) (start_is : start ≡ only_task task) (added : AddsParts IsPart with_part before start mid) (files : r ≡ with_files mid behind) where
+    adds : AddsParts IsPart with_part (words_before rest) (only_task task) mid
+    adds = rw (start_is, before_is) at added
 
-    -- it asks this
-    pub asks : Suits r.task r → IsCommandLine r words
-    asks suits = record { first = first; rest = rest; words_are = words_are; task = task; task_is = task_is; parts = adds.0; parts_are = adds.1; asks = all_asked; suits = suits }
+    all_asked : r ≡ with_files (with_parts (only_task task) adds.0) (words_behind rest)
+    all_asked = files ∙ ap (with_files mid) behind_is ∙ ap (λ (m : RequestFields). with_files m (words_behind rest)) adds.2
 
     -- it asks nothing else
     pub only : (other : RequestFields) → IsCommandLine other words → other ≡ r

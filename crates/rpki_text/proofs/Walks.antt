@@ -1,19 +1,16 @@
 -- A walk over extensions, and one of them that has what is looked for.
-use Rattle.std.proofs.Common.{◌≡◌, ◌↔◌, ℕ, List, [], ◌∷◌, Some, true, refl, sym, ap, subst, ◌∙◌, inl, inr, arith, length}
-use Rattle.rpki_der.specs.Encoding.{Begins}
+use Rattle.std.proofs.Common.{◌≡◌, ◌↔◌, ℕ, List, [], ◌∷◌, Some, None, true, refl, sym, ap, subst, ◌∙◌, inl, inr, arith, length}
 use Rattle.rpki_der.specs.Extensions.{Extension, IsExtension, extension_format}
 use Rattle.rpki_ext.specs.Kinds.{is_of}
 use Rattle.rpki_der.specs.Sequences.{AreEncodings}
 use Rattle.rpki_der.proofs.ExtensionReads.{extension_reads, extension_shrinks}
-use Rattle.rpki_der.proofs.Octets.{some_is}
+use Rattle.rpki_der.proofs.Octets.{nothing, some_is}
 use Rattle.rpki_text.specs.Notes.{HaveOne}
 
--- no extension stands in no octets
-pub nothing_there : (xs : List Extension) → AreEncodings IsExtension xs [] → xs ≡ []
-nothing_there [] h = refl
-nothing_there (x ∷ xs) (a, b, is, more, e) =
-    let read : extension_format.read [] ≡ Some (x, b) = ap extension_format.read e ∙ extension_reads.again x a b is in
-    absurd (omega (arith, extension_shrinks [] x b read))
+-- where no extension is read, there is none
+pub none_there : (octets : List ℕ) → extension_format.read octets ≡ None → (xs : List Extension) → AreEncodings IsExtension xs octets → xs ≡ []
+none_there octets none [] h = refl
+none_there octets none (x ∷ xs) (a, b, is, more, e) = nothing (x, b) (sym none ∙ ap extension_format.read e ∙ extension_reads.again x a b is)
 
 -- what is read is the first of the extensions
 pub first_is : (octets : List ℕ) (x : Extension) (rest : List ℕ) → extension_format.read octets ≡ Some (x, rest) → (xs : List Extension) → AreEncodings IsExtension xs octets
@@ -28,34 +25,18 @@ first_is octets x rest read (y ∷ ys) (a, b, is, more, e) =
     )
 
 module _ (ids : List (List ℕ)) (P : Extension → Type 0) where
-  -- where no extension begins, none is among them
-  none_begins : (octets : List ℕ) → ((x : Extension) (rest : List ℕ) → Begins IsExtension octets x rest → ⊥) → (ys : List Extension) → AreEncodings IsExtension ys octets → HaveOne ids P ys → ⊥
-  none_begins octets none [] h has = has
-  none_begins octets none (y ∷ ys) (a, b, is, more, e) has = none y b (record { text = a; encoded = is; parts = e })
-
   -- among the extensions of all octets one is looked for as long as among those of the rest
   abbrev pub IsLookedFor : List ℕ → List ℕ → Type 0
   IsLookedFor all rest =
       (xs : List Extension) → AreEncodings IsExtension xs all
       → (ys : List Extension) × AreEncodings IsExtension ys rest × (HaveOne ids P xs ↔ HaveOne ids P ys)
 
-  -- as it begins
-  pub from_start : (all : List ℕ) → IsLookedFor all all
-  from_start all xs h = (xs, h, ((λ x. x), (λ x. x)))
-
   module _ (all octets : List ℕ) (left : IsLookedFor all octets) (xs : List Extension) (are : AreEncodings IsExtension xs all) where
-    -- at the end there is none
-    pub none_left : octets ≡ [] → HaveOne ids P xs → ⊥
-    none_left empty one =
+    -- where no extension is read there is none
+    pub none_left : extension_format.read octets ≡ None → HaveOne ids P xs → ⊥
+    none_left none one =
         let l = left xs are in
-        let none : l.0 ≡ [] = nothing_there l.0 (subst (λ (b : List ℕ). AreEncodings IsExtension l.0 b) empty l.1) in
-        subst (λ (ys : List Extension). HaveOne ids P ys) none (l.2.0 one)
-
-    -- nor where no extension stands
-    pub none_read : ((x : Extension) (rest : List ℕ) → Begins IsExtension octets x rest → ⊥) → HaveOne ids P xs → ⊥
-    none_read none one =
-        let l = left xs are in
-        none_begins octets none l.0 l.1 (l.2.0 one)
+        subst (λ (ys : List Extension). HaveOne ids P ys) (none_there octets none l.0 l.1) (l.2.0 one)
 
     module _ (x : Extension) (rest : List ℕ) (read : extension_format.read octets ≡ Some (x, rest)) where
       -- the first has it

@@ -1,11 +1,10 @@
 //! A certificate for a person.
 ghost use Rattle.std.specs.Prelude.{◌≡◌, ◌++◌, Some, codes, option_map};
 ghost use Rattle.std.specs.Fmt.{WritesOnOk};
-ghost use Rattle.rpki_cert.specs.declared.inspect.Kind.TheVariants.{Anchor, Authority, EndEntity, Detached, Router};
 ghost use Rattle.rpki_der.specs.Texts.{serial_text};
 ghost use Rattle.rpki_text.specs.KeyTexts.{point_text};
 ghost use Rattle.rpki_text.specs.Pages.{Appends, line, line_if_any, colons_text};
-ghost use Rattle.rpki_text.specs.CertificateTexts.{IsAnswer, AreAnswers, AreFindings, answer_for, answer_text, certificate_kind_text, kind_line, profiled_kind_text, profile_line, usage_text, policy_text, uri_line, names_text, validity_text, keys_text, places_text, resources_text, details_text, profiles_text, certificate_text};
+ghost use Rattle.rpki_text.specs.CertificateTexts.{AreAnswers, AreFindings, answer_for, answer_text, certificate_kind_text, kind_line, profiled_kind_text, profile_line, usage_text, policy_text, uri_line, names_text, validity_text, keys_text, places_text, resources_text, details_text, profiles_text, certificate_text};
 
 use crate::blocks::{Family, write_as_resources, write_ip_resources};
 use crate::keys::{self, KeyAnswer};
@@ -42,61 +41,16 @@ pub struct Answers {
     pub router: Option<InspectionError>,
 }
 
-fn anchor_fault(cert: &Cert, strict: bool) -> Option<InspectionError>
-    ensures { IsAnswer Anchor strict cert.now result }
-{
-    match cert.inspect_ta(strict) {
-        Ok(()) => None,
-        Err(fault) => Some(fault),
-    }
-}
-
-fn authority_fault(cert: &Cert, strict: bool) -> Option<InspectionError>
-    ensures { IsAnswer Authority strict cert.now result }
-{
-    match cert.inspect_ca(strict) {
-        Ok(()) => None,
-        Err(fault) => Some(fault),
-    }
-}
-
-fn end_entity_fault(cert: &Cert, strict: bool) -> Option<InspectionError>
-    ensures { IsAnswer EndEntity strict cert.now result }
-{
-    match cert.inspect_ee(strict) {
-        Ok(()) => None,
-        Err(fault) => Some(fault),
-    }
-}
-
-fn detached_fault(cert: &Cert, strict: bool) -> Option<InspectionError>
-    ensures { IsAnswer Detached strict cert.now result }
-{
-    match cert.inspect_detached_ee(strict) {
-        Ok(()) => None,
-        Err(fault) => Some(fault),
-    }
-}
-
-fn router_fault(cert: &Cert, strict: bool) -> Option<InspectionError>
-    ensures { IsAnswer Router strict cert.now result }
-{
-    match cert.inspect_router(strict) {
-        Ok(()) => None,
-        Err(fault) => Some(fault),
-    }
-}
-
 /// Returns what inspection answers for each kind.
 pub fn answers_of(cert: &Cert, strict: bool) -> Answers
     ensures { AreAnswers strict cert.now result }
 {
     Answers {
-        anchor: anchor_fault(cert, strict),
-        authority: authority_fault(cert, strict),
-        end_entity: end_entity_fault(cert, strict),
-        detached: detached_fault(cert, strict),
-        router: router_fault(cert, strict),
+        anchor: cert.inspect_ta(strict).err(),
+        authority: cert.inspect_ca(strict).err(),
+        end_entity: cert.inspect_ee(strict).err(),
+        detached: cert.inspect_detached_ee(strict).err(),
+        router: cert.inspect_router(strict).err(),
     }
 }
 

@@ -11,7 +11,7 @@ ghost use Rattle.rpki_text.specs.Misuses.Steps.{TellsValue, TellsWord};
 ghost use Rattle.rpki_text.specs.MisuseTexts.{misuse_text};
 ghost use Rattle.rpki_text.specs.CommandLines.Steps.{AddsSet, IsSwitch, IsOptionName};
 
-use crate::command_line::parts::{around_dashes, is, is_option};
+use crate::command_line::parts::{around_dashes, is, is_option, place_of_equals};
 use crate::{Characters, moments};
 use rpki_der::Time;
 use std::alloc::Global;
@@ -214,46 +214,17 @@ fn setting_of(word: &[u8]) -> Option<Setting>
     }
 }
 
-// What stands in a word behind this text.
-fn behind<'a>(word: &'a [u8], text: &str) -> Option<&'a [u8]>
-    ensures { MatchOption result ((rest : List ℕ) → word.now ≡ text.now ++ rest → ⊥)
-        (λ rest. word.now ≡ text.now ++ rest.now) }
-{
-    word.strip_prefix(text.as_bytes())
-}
-
 // The option and its value that a word gives with `=` between them.
 fn joined<'a>(word: &'a [u8]) -> Option<(Setting, &'a [u8])>
     ensures joined { IfSome result (λ found. Joins (setting_name found.0) found.1.now word.now) }
     ensures unknown { IfNone result
         ((setting : Setting) (value : List ℕ) → Joins (setting_name setting) value word.now → ⊥) }
 {
-    if let Some(value) = behind(word, "--crl=") {
-        return Some((Setting::Crl, value));
-    }
-    if let Some(value) = behind(word, "--tal=") {
-        return Some((Setting::Tal, value));
-    }
-    if let Some(value) = behind(word, "--in=") {
-        return Some((Setting::In, value));
-    }
-    if let Some(value) = behind(word, "--depth=") {
-        return Some((Setting::Depth, value));
-    }
-    if let Some(value) = behind(word, "--steps=") {
-        return Some((Setting::StepCount, value));
-    }
-    if let Some(value) = behind(word, "--at=") {
-        return Some((Setting::At, value));
-    }
-    if let Some(value) = behind(word, "--max-size=") {
-        return Some((Setting::MaxSize, value));
-    }
-    if let Some(value) = behind(word, "--output=") {
-        return Some((Setting::Output, value));
-    }
-    match behind(word, "-o=") {
-        Some(value) => Some((Setting::ShortOutput, value)),
+    let Some(place) = place_of_equals(word) else {
+        return None;
+    };
+    match setting_of(&word[..place]) {
+        Some(setting) => Some((setting, &word[place + 1..])),
         None => None,
     }
 }

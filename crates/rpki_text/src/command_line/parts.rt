@@ -1,5 +1,5 @@
 //! Words that are options or files.
-ghost use Rattle.std.specs.Prelude.{◌≡◌, ◌↔◌, IsTrue};
+ghost use Rattle.std.specs.Prelude.{◌≡◌, ◌↔◌, ◌==◌, IsTrue, position};
 ghost use Rattle.rpki_text.specs.CommandLines.Views.{word_octets};
 ghost use Rattle.rpki_text.specs.WordParts.{IsOption, words_before, words_behind};
 
@@ -15,6 +15,13 @@ pub fn is_option(word: &[u8]) -> bool
     ensures { IsTrue result ↔ IsOption word.now }
 {
     word.len() > 1 && word[0] == b'-'
+}
+
+/// Returns the place of the first `=` of a word.
+pub fn place_of_equals(word: &[u8]) -> Option<usize>
+    ensures { result ≡ position (λ c. c == 0x3D) word.now }
+{
+    word.iter().position(|c| *c == b'=')
 }
 
 /// Returns the words before the first `--`, and those behind it.

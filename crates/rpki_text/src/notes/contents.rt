@@ -1,9 +1,11 @@
-//! The content of a value.
+//! What stands next: the content of a value, an extension.
 ghost use Rattle.std.specs.Prelude.{◌≡◌, option_map};
+ghost use Rattle.rpki_der.specs.Extensions.{extension_format};
+ghost use Rattle.rpki_der.specs.Extensions.Views.{extension_view};
 ghost use Rattle.rpki_der.specs.Place.{remaining};
 ghost use Rattle.rpki_der.specs.Values.Reading.{value_at};
 
-use rpki_der::Cursor;
+use rpki_der::{Cursor, take_extension};
 
 /// The identifier octet of a uniformResourceIdentifier, [6] (RFC 5280 4.2.1.6).
 pub(crate) const URI: u8 = 0x86;
@@ -14,4 +16,12 @@ pub(crate) fn content<'a>(cursor: &mut Cursor<'a>, identifier: u8) -> Option<Cur
         ≡ value_at identifier (remaining cursor.old) }
 {
     cursor.take_value(identifier).ok()
+}
+
+/// Returns the extension that stands next: its identifier, flag and content.
+pub(crate) fn next_extension<'a>(cursor: &mut Cursor<'a>) -> Option<(&'a [u8], bool, Cursor<'a>)>
+    ensures { option_map (λ x. (extension_view x, remaining cursor.new)) result
+        ≡ extension_format.read (remaining cursor.old) }
+{
+    take_extension(cursor).ok()
 }

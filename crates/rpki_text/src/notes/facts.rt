@@ -8,12 +8,12 @@ ghost use Rattle.rpki_der.specs.Place.{remaining};
 ghost use Rattle.rpki_der.specs.Sequences.{AreEncodings};
 ghost use Rattle.rpki_text.specs.Facts.{AreFacts, fact_view, facts_in, facts_of, id_qt_cps, known_facts, source_of, statement_at, statement_facts, uri_by};
 
-use crate::notes::contents::content;
+use crate::notes::contents::{content, next_extension};
 use crate::notes::fact::{Fact, FactKind};
 use crate::notes::further::{put_access, put_fact, put_issuers, put_lists};
 use bytes::Bytes;
 use rpki_cert::{Cert, TbsCert};
-use rpki_der::{Cursor, oid, tag, take_extension};
+use rpki_der::{Cursor, oid, tag};
 use rpki_ext::is_known;
 use rpki_files::{Object, extensions_in};
 use std::alloc::{AllocError, Global};
@@ -146,14 +146,7 @@ fn facts_among<'a>(
 {
     let mut facts = Vec::new(alloc);
     let mut rest = elements.fork();
-    while !rest.is_empty() {
-        let extension = match take_extension(&mut rest) {
-            Ok(extension) => extension,
-            Err(error) => {
-                drop(error);
-                return Ok(facts);
-            }
-        };
+    while let Some(extension) = next_extension(&mut rest) {
         put_extension(&mut facts, tbs, extension)?;
     }
     Ok(facts)

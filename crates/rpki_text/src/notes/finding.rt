@@ -10,8 +10,9 @@ ghost use Rattle.rpki_der.specs.Values.{IsValue};
 ghost use Rattle.rpki_text.specs.FaultSearch.{HasFault, sought_names, is_named};
 ghost use Rattle.rpki_text.specs.Notes.{HaveExtensions, HaveOne};
 
+use crate::notes::contents::next_extension;
 use bytes::Bytes;
-use rpki_der::{Cursor, oid, take_extension};
+use rpki_der::{Cursor, oid};
 use rpki_ext::is_known;
 use rpki_files::extensions_in;
 
@@ -109,14 +110,7 @@ fn is_among(elements: &Cursor<'_>, kinds: Kinds, fault: Fault, written: &[u8]) -
         → (IsTrue result ↔ HaveOne (sought_names kinds) (HasFault fault written.now) xs) }
 {
     let mut rest = elements.fork();
-    while !rest.is_empty() {
-        let extension = match take_extension(&mut rest) {
-            Ok(extension) => extension,
-            Err(error) => {
-                drop(error);
-                return false;
-            }
-        };
+    while let Some(extension) = next_extension(&mut rest) {
         if is_found(kinds, fault, written, extension) {
             return true;
         }

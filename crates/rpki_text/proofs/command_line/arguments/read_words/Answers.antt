@@ -1,7 +1,7 @@
-use Rattle.std.proofs.Common.{rules, ◌≡◌, ◌∷◌, ◌∙◌, ℕ, List, Err, ap, sym, subst}
-use Rattle.rpki_text.specs.CommandLines.{AreParts, IsPart, RequestFields, IsTaskName, only_task, with_files, with_part}
-use Rattle.rpki_text.specs.CommandLines.Views.{word_octets, fields_of}
-use Rattle.rpki_text.specs.WordParts.{AddsParts, IsFirstWrong}
+use Rattle.std.proofs.Common.{rules, ◌≡◌, ◌∷◌, ℕ, List, Err, sym, subst}
+use Rattle.rpki_text.specs.CommandLines.{AreParts, IsPart, IsTaskName}
+use Rattle.rpki_text.specs.CommandLines.Views.{word_octets}
+use Rattle.rpki_text.specs.WordParts.{IsFirstWrong}
 use Rattle.rpki_text.specs.Misuses.{IsWrongFirst}
 use Rattle.rpki_text.proofs.OneRequest.{no_parts, only, unsuited, task_told, word_told, reason_told}
 use Rattle.rpki_text.proofs.UnsuitedRequests.{reason_unsuited}
@@ -33,28 +33,16 @@ pub returns-in-Some-misuse_of-clause-rejected : goal.returns-in-Some-misuse_of-c
 returns-in-Some-misuse_of-clause-rejected c = λ not_memory.
     let split : word_octets c.args.words.now ≡ c.as_slice.result.now ∷ word_octets c.in-Some.rest.now = search rules in
     let task_is : IsTaskName c.in-Some-task_of.task c.as_slice.result.now = search rules in
-    let mid = fields_of c.add_words.new.request in
-    let begun = subst (λ (r : RequestFields). AddsParts IsPart with_part (word_octets c.around_dashes.result.0.now) r mid) c.new_request-request.ensures c.in_ok-add_words.ensures.added in
-    let adds = subst (λ (l : List (List ℕ)). AddsParts IsPart with_part l (only_task c.in-Some-task_of.task) mid) c.around_dashes.ensures.before begun in
-    let files = c.in_ok-add_files.ensures.added ∙ ap (λ (l : List (List ℕ)). with_files mid l) c.around_dashes.ensures.behind in
-    unsuited (word_octets c.args.words.now) c.as_slice.result.now (word_octets c.in-Some.rest.now) split c.in-Some-task_of.task task_is mid (fields_of c.add_files.new.request) adds files (reason_unsuited _ _ _ c.in-Some-misuse_of.ensures.told)
+    unsuited _ _ _ split _ task_is _ _ c.around_dashes.ensures.before c.around_dashes.ensures.behind _ _ _ c.new_request-request.ensures c.in_ok-add_words.ensures.added c.in_ok-add_files.ensures.added (reason_unsuited _ _ _ c.in-Some-misuse_of.ensures.told)
 
 pub returns-in-Some-misuse_of-clause-told : goal.returns-in-Some-misuse_of-clause-told
 returns-in-Some-misuse_of-clause-told c = λ not_memory.
     let split : word_octets c.args.words.now ≡ c.as_slice.result.now ∷ word_octets c.in-Some.rest.now = search rules in
     let task_is : IsTaskName c.in-Some-task_of.task c.as_slice.result.now = search rules in
-    let mid = fields_of c.add_words.new.request in
-    let begun = subst (λ (r : RequestFields). AddsParts IsPart with_part (word_octets c.around_dashes.result.0.now) r mid) c.new_request-request.ensures c.in_ok-add_words.ensures.added in
-    let adds = subst (λ (l : List (List ℕ)). AddsParts IsPart with_part l (only_task c.in-Some-task_of.task) mid) c.around_dashes.ensures.before begun in
-    let files = c.in_ok-add_files.ensures.added ∙ ap (λ (l : List (List ℕ)). with_files mid l) c.around_dashes.ensures.behind in
-    reason_told (word_octets c.args.words.now) c.as_slice.result.now (word_octets c.in-Some.rest.now) split c.in-Some-task_of.task task_is mid (fields_of c.add_files.new.request) adds files _ c.in-Some-misuse_of.ensures.told
+    reason_told _ _ _ split _ task_is _ _ c.around_dashes.ensures.before c.around_dashes.ensures.behind _ _ _ c.new_request-request.ensures c.in_ok-add_words.ensures.added c.in_ok-add_files.ensures.added _ c.in-Some-misuse_of.ensures.told
 
 pub returns-clause-nothing_else : goal.returns-clause-nothing_else
 returns-clause-nothing_else c =
     let split : word_octets c.args.words.now ≡ c.as_slice.result.now ∷ word_octets c.in-Some.rest.now = search rules in
     let task_is : IsTaskName c.in-Some-task_of.task c.as_slice.result.now = search rules in
-    let mid = fields_of c.add_words.new.request in
-    let begun = subst (λ (r : RequestFields). AddsParts IsPart with_part (word_octets c.around_dashes.result.0.now) r mid) c.new_request-request.ensures c.in_ok-add_words.ensures.added in
-    let adds = subst (λ (l : List (List ℕ)). AddsParts IsPart with_part l (only_task c.in-Some-task_of.task) mid) c.around_dashes.ensures.before begun in
-    let files = c.in_ok-add_files.ensures.added ∙ ap (λ (l : List (List ℕ)). with_files mid l) c.around_dashes.ensures.behind in
-    only (word_octets c.args.words.now) c.as_slice.result.now (word_octets c.in-Some.rest.now) split c.in-Some-task_of.task task_is mid (fields_of c.add_files.new.request) adds files
+    only _ _ _ split _ task_is _ _ c.around_dashes.ensures.before c.around_dashes.ensures.behind _ _ _ c.new_request-request.ensures c.in_ok-add_words.ensures.added c.in_ok-add_files.ensures.added

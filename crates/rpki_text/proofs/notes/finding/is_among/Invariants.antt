@@ -4,8 +4,8 @@ use Rattle.rpki_text.specs.FaultSearch.{HasFault, sought_names}
 use Rattle.rpki_text.proofs.Walks.{IsLookedFor}
 use Rattle.rpki_text.proofs.notes.finding.is_among.Given as goal
 
-abbrev pub invariant-loop-rest : goal.invariant-loop-rest
-invariant-loop-rest l = IsLookedFor (sought_names l.kinds) (HasFault l.fault l.written) (remaining l.elements) (remaining l.rest)
+abbrev pub invariant-loop-extension : goal.invariant-loop-extension
+invariant-loop-extension l = IsLookedFor (sought_names l.kinds) (HasFault l.fault l.written) (remaining l.elements) (remaining l.rest)
 
-abbrev pub decreases-loop-rest : goal.decreases-loop-rest
-decreases-loop-rest l = length (remaining l.rest)
+abbrev pub decreases-loop-extension : goal.decreases-loop-extension
+decreases-loop-extension l = length (remaining l.rest)
