@@ -35,8 +35,8 @@ module _ (octets : List ℕ) (p q : Parts) (b : BeginsWith octets p) (c : Begins
       let same : concat p.before ++ b.built.extensions ≡ concat q.before ++ c.built.extensions = (same_enc b.built.tbs_is (subst (λ (t : List ℕ). IsEnc SEQUENCE (concat q.before ++ c.built.extensions) t) (sym insides.0) c.built.tbs_is)).1 in
       let left = all_append IsValue p.before (b.built.extensions ∷ []) b.built.before_are (of_enc b.built.extensions_is.1, tt) in
       let right = all_append IsValue q.before (c.built.extensions ∷ []) c.built.before_are (of_enc c.built.extensions_is.1, tt) in
-      let rows : p.before ++ b.built.extensions ∷ [] ≡ q.before ++ c.built.extensions ∷ [] = one_row (p.before ++ b.built.extensions ∷ []) (q.before ++ c.built.extensions ∷ []) left right (concat_push p.before b.built.extensions ∙ same ∙ sym (concat_push q.before c.built.extensions)) in
-      same_from_push p.before q.before b.built.extensions c.built.extensions rows
+      let values : p.before ++ b.built.extensions ∷ [] ≡ q.before ++ c.built.extensions ∷ [] = one_row (p.before ++ b.built.extensions ∷ []) (q.before ++ c.built.extensions ∷ []) left right (concat_push p.before b.built.extensions ∙ same ∙ sym (concat_push q.before c.built.extensions)) in
+      same_from_push p.before q.before b.built.extensions c.built.extensions values
 
   olds : p.old ≡ q.old
   olds =
