@@ -18,4 +18,5 @@ pub mod Orders
 pub mod FrameReads
 pub mod SequencesMade
 pub mod SequencesBuilt
+pub mod Rejections
 pub mod SaidOnce

@@ -20,7 +20,7 @@ use Rattle.rpki_cert.proofs.SameExtensions.{GiveAlike, new_give, old_give}
 
 -- ---- values
 
-some_value : (piece : List ℕ) → IsSomeExtension piece → IsValue piece
+pub some_value : (piece : List ℕ) → IsSomeExtension piece → IsValue piece
 some_value piece h = extension_value h.0 piece h.1
 
 -- ---- the certificate

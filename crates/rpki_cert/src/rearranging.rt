@@ -1,5 +1,5 @@
 //! Certificates whose extensions are set in another order, with others among them.
-ghost use Rattle.std.specs.Prelude.{◌≡◌, ◌↔◌, ◌^◌, ◌<◌, ◌++◌, ℕ, List, length, IsTrue, IsOk, IfOk, IfErr};
+ghost use Rattle.std.specs.Prelude.{◌≡◌, ◌≢◌, ◌⊎◌, ◌↔◌, ◌^◌, ◌<◌, ◌++◌, ℕ, List, length, IsTrue, IsOk, IfOk, IfErr, IsErrAnd};
 ghost use Rattle.std.specs.List.{AllByRecursion, concat};
 ghost use Rattle.rpki_der.specs.Primitives.{IsOid};
 ghost use Rattle.rpki_der.specs.Tags.{SEQUENCE};
@@ -7,6 +7,8 @@ ghost use Rattle.rpki_der.specs.Values.{AreOctets, enc};
 ghost use Rattle.rpki_der.specs.Writers.{SaysLong};
 ghost use Rattle.rpki_cert.specs.Rearranged.{IsRearrangement};
 ghost use Rattle.rpki_cert.specs.Rearranging.{IsPlan, IsRearranged, IsRejected, content_with, new_extensions};
+ghost use Rattle.rpki_cert.specs.declared.rearrange_error.RearrangeError.{RearrangeError};
+ghost use Rattle.rpki_cert.specs.declared.rearrange_error.RearrangeError.TheVariants.{Memory};
 
 use crate::elements::{gathered, sequence_octets};
 use crate::extra::{Extra, are_placed, are_unknown};
@@ -98,6 +100,8 @@ pub fn rearrange(
     ensures rearrangement { IfOk result (λ answer. (front : List ℕ) × (rest : List ℕ)
         × (octets.now ≡ front ++ rest) × IsRearrangement front answer.items) }
     ensures rejected { IfErr result (IsRejected octets.now order.now extras.now) }
+    ensures no_other { (why : RearrangeError) → IsRejected octets.now order.now extras.now why
+        → why ≢ Memory → IsErrAnd result (λ e. (e ≡ Memory) ⊎ (e ≡ why)) }
 {
     let frame = frame_of(alloc, octets)?;
     if !is_plan(alloc, order, extras, frame.count())? {
