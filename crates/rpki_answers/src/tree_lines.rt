@@ -1,5 +1,5 @@
 //! The verdicts on the certificates among files, for a person.
-ghost use Rattle.std.specs.Prelude.{◌≡◌, ◌≤◌, ◌<◌, ◌+◌, ◌^◌, ◌++◌, Some, IfOk, codes, map, slice_get, option_map, string_bytes};
+ghost use Rattle.std.specs.Prelude.{◌≤◌, ◌<◌, ◌+◌, ◌^◌, ◌++◌, Some, IfOk, codes, map, option_map, string_bytes};
 ghost use Rattle.rpki_files.specs.FaultRules.{rule_of};
 ghost use Rattle.rpki_verdicts.specs.Reasons.{ReasonFields, IsReason, reason};
 ghost use Rattle.rpki_text.specs.Pages.{Appends, AppendsSome, line};

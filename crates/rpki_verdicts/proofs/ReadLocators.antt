@@ -1,6 +1,6 @@
 -- The first of the files given as locators that is none, by what was read of each.
 use Rattle.std.specs.Option.{option_map}
-use Rattle.std.specs.Prelude.{All, Option, Some, Result, Ok, Err, slice_get}
+use Rattle.std.specs.Prelude.{All, Some, Result, Ok, Err, slice_get}
 use Rattle.std.proofs.Common.{◌≡◌, ◌<◌, ◌≤◌, ℕ, Bool, List, [], length, sym, ap, subst, ◌∙◌, arith}
 use Rattle.std.proofs.lemmas.List.Elements.{All-get_or, All-from_get_or}
 use Rattle.std.proofs.lemmas.Option.{slice_get-map, slice_get-get_or, slice_get_within, get_or_from_slice_get}

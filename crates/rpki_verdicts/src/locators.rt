@@ -1,5 +1,5 @@
 //! Files that are given as locators of the trust anchor.
-ghost use Rattle.std.specs.Prelude.{◌≡◌, ◌↔◌, Any, Ok, Err, IfOk, IfErr, IfNone, IfSome, IsOkAnd, IsTrue};
+ghost use Rattle.std.specs.Prelude.{◌≡◌, ◌↔◌, Any, Ok, Err, IfOk, IfErr, IfNone, IfSome, IsTrue};
 ghost use Rattle.rpki_verdicts.specs.GivenLocators.{HasKeyRead, HasTalRead, IsFirst, IsRead};
 
 use rpki::crypto::PublicKey;

@@ -5,7 +5,6 @@ ghost use Rattle.rpki.specs.AskedLists.{by_lists};
 ghost use Rattle.rpki.specs.Folders.{with_cert, with_list};
 ghost use Rattle.rpki.specs.KeptLines.{BecameLines};
 ghost use Rattle.rpki.specs.Lists.{CrlState, IsCertificateList};
-ghost use Rattle.rpki.specs.Locators.{NamedTal};
 ghost use Rattle.rpki.specs.RsaSignatures.{IsSignedByRsa};
 ghost use Rattle.rpki.specs.SaidKinds.{BeginsWithSaid};
 ghost use Rattle.rpki.specs.Verification.{context};
