@@ -5,6 +5,7 @@ mod ListedNames
 mod ListsAmong
 mod NamedFiles
 mod NamedObjects
+mod PassedFiles
 mod PemLines
 mod WholeSources
 mod WrittenTexts

@@ -10,5 +10,6 @@ pub mod Moments
 pub mod Outputs
 pub mod PemTexts
 pub mod RequestRuns
+pub mod PassedFiles
 pub mod SoughtPaths
 pub mod Runs

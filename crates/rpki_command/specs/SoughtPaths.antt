@@ -14,6 +14,7 @@ use Rattle.rpki_answers.specs.AnswerTexts.{tree_question_of}
 use Rattle.rpki_answers.specs.Outcomes.{AreAllRead}
 use Rattle.rpki_command.specs.Messages.{bound_message}
 use Rattle.rpki_command.specs.NamedFiles.{AreRead}
+use Rattle.rpki_command.specs.PassedFiles.{SaysOfFiles}
 use Rattle.rpki_command.specs.ReadFiles.{Reads}
 use Rattle.rpki_command.specs.declared.searching.SoughtNames.{SoughtNames}
 
@@ -60,13 +61,19 @@ IsSearchOf r now files lists locators (Some sought) =
     × IsSought (tree_question_of r now files locators) sought
     × (IsTrue sought.are_all_read ↔ AreAllRead r files lists (locator_files locators))
 
--- what is said of it: which bound it met, if it met one
-abbrev pub search_message : TreeFields → Option SoughtNames → List ℕ
-search_message q None = []
-search_message q (Some sought) = bound_message q sought.ended
+-- what is said in it: of the files, and then which bound it met, if it met one
+abbrev pub SaysOfSought : TreeFields → SoughtNames → List ℕ → Type 0
+SaysOfSought q sought said =
+    (of_files : List ℕ) × SaysOfFiles q.files (word_octets sought.lists.items) of_files
+    × (said ≡ of_files ++ bound_message q sought.ended)
+
+-- and nothing, where nothing was sought
+abbrev pub SaysOfSearch : TreeFields → Option SoughtNames → List ℕ → Type 0
+SaysOfSearch q None said = said ≡ []
+SaysOfSearch q (Some sought) said = SaysOfSought q sought said
 
 -- what a search gives, by what reading files gives, and what is said in it: why files can't be read, and
--- which bound it met
+-- then of those that could be
 pub record IsSearch (reads : Reads) (r : RequestFields) (now : Moment) (sought : Option SoughtNames)
     (said : List ℕ) : Type 0 where
   pub files : List FileFields
@@ -75,4 +82,6 @@ pub record IsSearch (reads : Reads) (r : RequestFields) (now : Moment) (sought :
   pub of_files : List ℕ
   pub are_read : AreRead reads r files lists locators of_files
   pub gives : IsSearchOf r now files lists locators sought
-  pub said_is : said ≡ of_files ++ search_message (tree_question_of r now files locators) sought
+  pub of_search : List ℕ
+  pub says : SaysOfSearch (tree_question_of r now files locators) sought of_search
+  pub said_is : said ≡ of_files ++ of_search

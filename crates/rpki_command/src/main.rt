@@ -19,6 +19,7 @@ mod files;
 mod folders;
 mod inputs;
 mod making;
+mod passed;
 mod pem;
 mod progress;
 mod reading;

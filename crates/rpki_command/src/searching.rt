@@ -10,10 +10,12 @@ ghost use Rattle.rpki_verdicts.specs.Trees.{asked_of};
 ghost use Rattle.rpki_answers.specs.AnswerTexts.{tree_question_of};
 ghost use Rattle.rpki_command.specs.Messages.{bound_message};
 ghost use Rattle.rpki_command.specs.NamedFiles.{AreGiven};
-ghost use Rattle.rpki_command.specs.SoughtPaths.{AreListNames, IsFirstRead, IsSearch, IsSearchOf, IsSought, search_message};
+ghost use Rattle.rpki_command.specs.PassedFiles.{SaysOfFiles};
+ghost use Rattle.rpki_command.specs.SoughtPaths.{AreListNames, IsFirstRead, IsSearch, IsSearchOf, IsSought, SaysOfSearch, SaysOfSought};
 
 use crate::answering::{are_all_read, are_read, tree_question};
 use crate::files::FileSource;
+use crate::passed::{tell_no_list, tell_others};
 use crate::reading::{GivenFiles, read_given};
 use anyhow::{Error, Result};
 use rpki::repository::folder::Ended;
@@ -88,6 +90,26 @@ fn list_names(alloc: Global, files: &[BareObject<'_>]) -> Result<Vec<Vec<u8>>, A
     Ok(names)
 }
 
+// The names of `list_names`. It is said which files are passed over, and where there is no list.
+fn lists_told<E: Write>(
+    alloc: Global,
+    err: &mut E,
+    files: &[BareObject<'_>],
+) -> Result<Vec<Vec<u8>>>
+    ensures lists { IfOk result (λ names. AreListNames files.now (word_octets names.items)) }
+    ensures said { IfOk result (λ names. (said : List ℕ)
+        × SaysOfFiles files.now (word_octets names.items) said
+        × Appends (E.contents err.old) (E.contents err.new) said) }
+{
+    tell_others(alloc, err, files)?;
+    let names = list_names(alloc, files)?;
+    if let Err(error) = tell_no_list(err, &names) {
+        drop(names);
+        return Err(Error::from(error));
+    }
+    Ok(names)
+}
+
 // The names of the files of the path that a question seeks to the first of its files, and how the
 // walk ended that came to no valid path.
 fn path_names(
@@ -156,7 +178,8 @@ fn path_told<E: Write>(
 }
 
 // The path that is sought to the first of these files, and the lists among them, where all files could
-// be read or not. Where the search met a bound, it says so.
+// be read or not. It says which files are passed over, where there is no list, and where the search met a
+// bound.
 fn sought_among<E: Write>(
     alloc: Global,
     err: &mut E,
@@ -170,11 +193,11 @@ fn sought_among<E: Write>(
         (tree_question_of (fields_of request.now) now files.now locators.now)) }
     ensures read { IfOk result (λ sought. sought.are_all_read ≡ are_all_read) }
     ensures said { let q = tree_question_of (fields_of request.now) now files.now locators.now in
-        IfOk result (λ sought.
-        Appends (E.contents err.old) (E.contents err.new) (bound_message q sought.ended)) }
+        IfOk result (λ sought. (said : List ℕ) × SaysOfSought q sought said
+        × Appends (E.contents err.old) (E.contents err.new) said) }
 {
     let question = tree_question(request, now, files, locators);
-    let lists = list_names(alloc, files)?;
+    let lists = lists_told(alloc, err, files)?;
     match path_told(alloc, err, &question) {
         Ok((files, ended)) => Ok(SoughtNames {
             files,
@@ -216,8 +239,8 @@ fn sought_if_read<E: Write>(
     ensures gives { IfOk result
         (IsSearchOf (fields_of request.now) now files.now lists.now locators.now) }
     ensures said { let q = tree_question_of (fields_of request.now) now files.now locators.now in
-        IfOk result (λ sought.
-        Appends (E.contents err.old) (E.contents err.new) (search_message q sought)) }
+        IfOk result (λ sought. (said : List ℕ) × SaysOfSearch q sought said
+        × Appends (E.contents err.old) (E.contents err.new) said) }
 {
     if !is_first_read(&request.files, files) || !are_read(&request.locators, locators.len()) {
         return Ok(None);
@@ -228,9 +251,10 @@ fn sought_if_read<E: Write>(
 }
 
 /// Seeks the path to the first file of a request among the others, as reading them gives them. Of each
-/// that can't be read it says why, and gives none where that is the first file or a locator. Where it
-/// met a bound before it came to a valid path, it says so. Errs only where memory runs out, or this
-/// can't be said.
+/// that can't be read it says why, and gives none where that is the first file or a locator. It says
+/// which of the others are passed over, since they are neither certificates nor lists; where there is no
+/// list; and where it met a bound before it came to a valid path. Errs only where memory runs out, or
+/// this can't be said.
 pub fn names_sought<F: FileSource, E: Write>(
     alloc: Global,
     files: &F,

@@ -1,8 +1,6 @@
 use Rattle.std.proofs.Common.{◌++◌, refl}
 use Rattle.std.proofs.lemmas.List.{map-id}
 use Rattle.rpki_text.specs.CommandLines.Views.{fields_of}
-use Rattle.rpki_answers.specs.AnswerTexts.{tree_question_of}
-use Rattle.rpki_command.specs.SoughtPaths.{search_message}
 use Rattle.rpki_command.proofs.NamedFiles.{are_given}
 use Rattle.rpki_command.proofs.WrittenTexts.{appends_both}
 use Rattle.rpki_command.proofs.searching.names_sought.Goals as goal
@@ -21,8 +19,8 @@ returns g c =
     let given = c.in_ok-given.given in
     let its = c.in_ok-given.ensures in
     let are = rw (map-id given.files.items, map-id given.lists.items) at its.1 in
-    let message = search_message (tree_question_of (fields_of c.args.request.now) c.args.now c.deref.result.now c.deref-3.result.now) c.in_ok-sought.sought in (
-      its.0 ++ message,
+    let (of_search, says, second) = c.in_ok-sought.ensures.said in (
+      its.0 ++ of_search,
       record {
         files = c.deref.result.now;
         lists = c.deref-2.result.now;
@@ -30,7 +28,9 @@ returns g c =
         of_files = its.0;
         are_read = rw (c.deref.ensures.value, c.deref-2.ensures.value, c.deref-3.ensures.value) are;
         gives = c.in_ok-sought.ensures.gives;
+        of_search = of_search;
+        says = says;
         said_is = refl;
       },
-      appends_both (contents c.args.err.now) (contents c.read_given.new.err) (contents c.sought_if_read.new.err) its.0 message its.2 c.in_ok-sought.ensures.said,
+      appends_both (contents c.args.err.now) (contents c.read_given.new.err) (contents c.sought_if_read.new.err) its.0 of_search its.2 second,
     )
