@@ -2,6 +2,7 @@
 mod ContentReads
 mod DerTexts
 mod FaultTables
+mod FirstExtensions
 mod FirstInside
 mod FirstTrue
 mod FlawReads
@@ -14,6 +15,7 @@ mod PemLines
 mod KindsSeen
 mod StopWalks
 mod StopsWithin
+mod TaggedExtensions
 mod ToldPlaces
 mod Turns
 mod TwoAlgorithms

@@ -45,7 +45,7 @@ module _ (octets : List ℕ) where
 
   extension_in : (is_list : Bool) (kinds : List _) (at : Place) (stop : Part) (octet : ℕ) → IsIn at → StopsAtExtension is_list kinds at stop octet → octet ≤ length octets
   extension_in is_list kinds at stop octet h (inl s) = before_in _ _ at stop octet h s
-  extension_in is_list kinds at stop octet h (inr (x, rest, begins, is, told, not)) = begins_in at octet h is
+  extension_in is_list kinds at stop octet h (inr (x, rest, begins, is, told)) = begins_in at octet h is
 
   elements_in : (is_list : Bool) (field_at elements : Place) (stop : Part) (octet : ℕ) → IsIn field_at → IsIn elements → StopsAmongElements is_list field_at.from elements stop octet → octet ≤ length octets
   elements_in is_list field_at elements stop octet f h (inl s) = extension_in is_list _ s.next stop octet (passes_in _ elements s.next h s.read) s.stops

@@ -172,6 +172,7 @@ abbrev pub own_flaws : Part → List Flaw
 own_flaws (part.Field f) = field_flaws f
 own_flaws (part.Kind NoList) = []
 own_flaws (part.Kind k) = map flaw.Extension extension_flaws
+own_flaws (part.Second k) = map flaw.Extension extension_flaws
 own_flaws other = []
 
 -- of a part where these octets stand

@@ -1,7 +1,9 @@
 -- The kinds of extensions that certificates and lists know, by their identifiers.
-use Rattle.std.specs.Prelude.{ℕ, Bool, true, false, if◌then◌else◌, List, [], ◌∷◌, ◌++◌, bytes_eq, codes, Result, Ok, Err}
+use Rattle.std.specs.Prelude.{◌≡◌, ◌⊎◌, ℕ, Bool, true, false, if◌then◌else◌, List, [], ◌∷◌, ◌++◌, bytes_eq, codes, Option, Some, None, Result, Ok, Err}
 use Rattle.rpki_blocks.specs.Addresses.{IsIPAddrBlocks}
 use Rattle.rpki_der.specs.declared.error.DecodeError.{DecodeError}
+use Rattle.rpki_der.specs.declared.error.Field.{Field}
+use Rattle.rpki_der.specs.declared.error.Field.TheVariants as field
 use Rattle.rpki_der.specs.Encoding.{Means}
 use Rattle.rpki_ext.specs.ExtensionKinds.{basic_constraints, subject_key_identifier, authority_key_identifier, key_usage, extended_key_usage, crl_distribution_points, authority_information_access, subject_information_access, certificate_policies, ip_resources, as_resources, crl_number}
 use Rattle.rpki_ext.specs.Kinds.{Flag, IsFlagFor, required}
@@ -109,6 +111,28 @@ HasContent known.NoList content = ⊥
 abbrev pub SaysWhether : {X : Type 0} → Result X DecodeError → Type 0 → Type 0
 SaysWhether (Ok x) P = P
 SaysWhether (Err e) P = Rejects e (¬ P)
+
+-- what faults call the extensions of a kind, if they name it
+abbrev pub called : Kind → Option Field
+called known.BasicConstraints = Some field.BasicConstraints
+called known.SubjectKeyIdentifier = Some field.SubjectKeyIdentifier
+called known.AuthorityKeyIdentifier = Some field.AuthorityKeyIdentifier
+called known.KeyUsage = Some field.KeyUsage
+called known.ExtendedKeyUsage = Some field.ExtendedKeyUsage
+called known.CrlDistributionPoints = Some field.CrlDistributionPoints
+called known.AuthorityInformationAccess = Some field.AuthorityInformationAccess
+called known.SubjectInformationAccess = Some field.SubjectInformationAccess
+called known.CertificatePolicies = Some field.CertificatePolicies
+called known.IpResources = Some field.IpResources
+called known.AsResources = Some field.AsResources
+called known.CrlNumber = Some field.CrlNumber
+called known.Unknown = None
+called known.NoList = None
+
+-- a fault names extensions of this kind: as resources both kinds of them
+abbrev pub IsNamed : Field → Kind → Type 0
+IsNamed field.Resources k = (k ≡ known.IpResources) ⊎ (k ≡ known.AsResources)
+IsNamed f k = called k ≡ Some f
 
 -- the name of a kind (RFC 6487 4.8, 5)
 abbrev pub kind_name : Kind → List ℕ

@@ -4,6 +4,7 @@ pub mod Files
 pub mod Contents
 pub mod LocatorFiles
 pub mod StopPlaces
+pub mod NamedFaults
 pub mod Misreads
 pub mod PolicyPresence
 pub mod FaultTable

@@ -7,6 +7,7 @@ use Rattle.rpki_files.specs.declared.expected.Field.{Field}
 use Rattle.rpki_files.specs.declared.expected.Field.TheVariants as field
 use Rattle.rpki_files.specs.declared.expected.Part.{Part}
 use Rattle.rpki_files.specs.declared.expected.Part.TheVariants as part
+use Rattle.rpki_files.specs.declared.kinds.Kind.{Kind}
 
 -- its name, and what has to stand there, with the section that asks it
 pub record PartFields : Type 0 where
@@ -37,6 +38,10 @@ field_text field.NextUpdate =
 field_text field.SignatureAlgorithm =
     told "the algorithm of the signature" "sha256WithRSAEncryption (RFC 7935 2)"
 
+-- of an extension of a kind
+abbrev pub kind_text : Kind → PartFields
+kind_text k = record { name = kind_name k; wanted = kind_wanted k }
+
 -- of a part
 abbrev pub part_text : Part → PartFields
 part_text part.Outer = told "the outer SEQUENCE" "a SEQUENCE that ends within the file (RFC 5280 4.1, 5.1)"
@@ -48,7 +53,8 @@ part_text part.Entry =
 part_text part.Extensions = told "the extensions" "a SEQUENCE of all that must be there (RFC 6487 4.8, 5)"
 part_text part.Extension =
     told "an extension" "an identifier, a flag where it is true, and an OCTET STRING (RFC 5280 4.1)"
-part_text (part.Kind k) = record { name = kind_name k; wanted = kind_wanted k }
+part_text (part.Kind k) = kind_text k
+part_text (part.Second k) = kind_text k
 part_text part.Behind = told "what follows the extensions" "nothing (RFC 5280 4.1, 5.1)"
 part_text part.OtherAlgorithm =
     told "the algorithm of the signature" "the one inside what is signed (RFC 5280 5.1.1.2)"

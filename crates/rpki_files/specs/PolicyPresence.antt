@@ -4,15 +4,18 @@ use Rattle.std.specs.Prelude.{◌≡◌, ◌⊎◌, ℕ, List, [], ◌∷◌}
 use Rattle.rpki_der.specs.Encoding.{Begins, Means}
 use Rattle.rpki_der.specs.Extensions.{Extension, IsExtension}
 use Rattle.rpki_ext.specs.ExtensionKinds.{as_resources, certificate_policies, ip_resources}
+use Rattle.rpki_blocks.specs.declared.overclaim.Overclaim.{Overclaim}
 use Rattle.rpki_blocks.specs.declared.overclaim.Overclaim.TheVariants.{Refuse, Trim}
+use Rattle.rpki_der.specs.declared.error.Field.{Field}
+use Rattle.rpki_der.specs.declared.error.Field.TheVariants as field
 use Rattle.rpki_der.specs.Reading.{Inside}
 use Rattle.rpki_der.specs.Sequences.{AreEncodings}
 use Rattle.rpki_der.specs.Tags.{INTEGER, SEQUENCE}
 use Rattle.rpki_der.specs.Values.{IsEnc}
-use Rattle.rpki_files.specs.KnownKinds.{HasContent}
+use Rattle.rpki_files.specs.KnownKinds.{HasContent, IsNamed, known_kind}
 use Rattle.rpki_files.specs.declared.kinds.Kind.TheVariants as known
 use Rattle.rpki_files.specs.declared.policies.Wanted.{Wanted}
-use Rattle.rpki_files.specs.declared.policies.Wanted.TheVariants.{Policies, OfRpki}
+use Rattle.rpki_files.specs.declared.policies.Wanted.TheVariants.{Named, OfRpki, Policies, Policy, Resources}
 pub mod Reading
 
 -- the identifiers that resources have (RFC 3779 2.2.1, 3.2.1, RFC 8360 4.2)
@@ -26,14 +29,24 @@ abbrev pub IsOneOf : List (List ℕ) → List ℕ → Type 0
 IsOneOf [] id = ⊥
 IsOneOf (one ∷ more) id = (id ≡ one) ⊎ IsOneOf more id
 
+-- the identifier of the resources that faults call so, under the policy of this mode (RFC 8360 4.2)
+abbrev pub IsOfMode : Field → Overclaim → List ℕ → Type 0
+IsOfMode field.IpResources mode id = id ≡ (ip_resources mode).identifier
+IsOfMode field.AsResources mode id = id ≡ (as_resources mode).identifier
+IsOfMode f mode id = ⊥
+
 -- an extension with this identifier and this content is one that is looked for: Certificate Policies
--- (RFC 5280 4.2.1.4), or resources or the one policy that a certificate of the RPKI has (RFC 6487
--- 4.8.9, 4.8.10, 4.8.11)
+-- (RFC 5280 4.2.1.4); resources or the one policy that a certificate of the RPKI has (RFC 6487
+-- 4.8.9, 4.8.10, 4.8.11); one of a kind that a fault names; resources or the policy of a mode
 abbrev pub IsWanted : Wanted → List ℕ → List ℕ → Type 0
 IsWanted Policies id content = id ≡ certificate_policies.identifier
 IsWanted OfRpki id content =
     IsOneOf resource_identifiers id
     ⊎ ((id ≡ certificate_policies.identifier) × HasContent known.CertificatePolicies content)
+IsWanted (Named f is_list) id content = IsNamed f (known_kind is_list id)
+IsWanted (Resources f mode) id content = IsOfMode f mode id
+IsWanted (Policy mode) id content =
+    (id ≡ certificate_policies.identifier) × Means certificate_policies.format.encodes mode content
 
 -- one of the extensions is one that is looked for
 abbrev pub IsAmong : Wanted → List Extension → Type 0
@@ -74,8 +87,11 @@ HasPolicies octets = (elements : List ℕ) × HasExtensions elements octets × B
 abbrev pub AreExtensions : List ℕ → Type 0
 AreExtensions octets = (xs : List Extension) × AreEncodings IsExtension xs octets
 
+-- the octets are extensions, and nothing else, of which none is one that is looked for
+abbrev pub Lack : Wanted → List ℕ → Type 0
+Lack wanted elements = AreExtensions elements × (BeginsWithOne wanted elements → ⊥)
+
 -- none of its extensions, which are all well formed, is one that only certificates of the RPKI have
 abbrev pub IsOtherCertificate : List ℕ → Type 0
 IsOtherCertificate octets =
-    (elements : List ℕ) × HasExtensions elements octets × AreExtensions elements
-    × (BeginsWithOne OfRpki elements → ⊥)
+    (elements : List ℕ) × HasExtensions elements octets × Lack OfRpki elements

@@ -188,13 +188,21 @@ MayStandBehind is_list kinds (x ∷ xs) =
 abbrev pub AreWellPlaced : Bool → List Extension → List ℕ → Type 0
 AreWellPlaced is_list xs text = AreEncodings IsExtension xs text × MayStandBehind is_list [] xs
 
+-- the part that is told of an extension of this kind that may not stand behind those of these kinds: a
+-- second one of its kind, or else one with another flag or another content
+abbrev pub IsMisplaced : Bool → List Kind → Kind → Bool → List ℕ → Part → Type 0
+IsMisplaced is_list kinds kind critical content stop =
+    ((stop ≡ part.Second kind) × IsSecond kinds kind)
+    ⊎ ((stop ≡ part.Kind kind) × (IsSecond kinds kind → ⊥)
+    × (MayHaveFlag is_list kind critical × HasContent kind content → ⊥))
+
 -- reading stops at what stands next, behind extensions of these kinds: it is none, or one that may
 -- not stand there
 abbrev pub StopsAtExtension : Bool → List Kind → Place → Part → ℕ → Type 0
 StopsAtExtension is_list kinds at stop octet =
     StopsBefore (EncodesSome extension_format) part.Extension at stop octet
     ⊎ ((x : Extension) × (rest : List ℕ) × Begins IsExtension (remaining at) x rest × (octet ≡ at.from)
-    × (stop ≡ part.Kind (kind_of is_list x)) × (MayStand is_list kinds x → ⊥))
+    × IsMisplaced is_list kinds (kind_of is_list x) x.critical x.content stop)
 
 -- reading stops at one of the extensions: those before it were read
 pub record StopsInExtensions (is_list : Bool) (at : Place) (stop : Part) (octet : ℕ) : Type 0 where
@@ -320,6 +328,10 @@ pub record IsStopPlace (is_list : Bool) (octets : List ℕ) (place : ToldPlace) 
   pub field_is : place.field.now ≡ (part_text part_is).name
   pub wanted_is : place.wanted.now ≡ (part_text part_is).wanted
   pub found_is : IsFirstFlaw is_list part_is (drop place.octet octets) place.found
+
+-- what is told of a stop at this part
+abbrev pub IsStopOf : Bool → List ℕ → Part → ToldPlace → Type 0
+IsStopOf is_list octets p place = (is : IsStopPlace is_list octets place) × (is.part_is ≡ p)
 
 -- ---- between functions
 

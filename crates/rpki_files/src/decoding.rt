@@ -1,13 +1,16 @@
 //! Certificates and revocation lists decoded, and where their reading stops otherwise.
-ghost use Rattle.std.specs.Prelude.{◌≡◌, ◌≢◌, false, true, IfErr, IfOk};
+ghost use Rattle.std.specs.Prelude.{◌≡◌, ◌≢◌, ◌≤◌, false, true, length, IfErr, IfOk};
 ghost use Rattle.rpki_cert.specs.Certificates.{IsCertificate};
 ghost use Rattle.rpki_crl.specs.Lists.{IsCertificateList};
 ghost use Rattle.rpki_der.specs.Encoding.{Means};
 ghost use Rattle.rpki_der.specs.declared.error.DecodeError.TheVariants as decoding;
 ghost use Rattle.rpki_files.specs.Misreads.{BeginsAsRead, IsMisread};
+ghost use Rattle.rpki_files.specs.StopPlaces.{IsStopOf};
 
 use crate::contents::{certificate_in, list_in};
-use crate::places::{Place, place_of};
+use crate::expected::Part;
+use crate::naming::kept;
+use crate::places::{Place, stop_of};
 use bytes::Bytes;
 use rpki_cert::Cert;
 use rpki_crl::Crl;
@@ -78,6 +81,20 @@ impl fmt::Debug for Place {
     }
 }
 
+// Why octets can't be read that begin with none, for this fault, where reading stops at this part.
+fn stopped(octets: &Bytes, is_list: bool, fault: DecodeError, part: Part, place: Place) -> Misread
+    requires none { BeginsAsRead is_list octets.now → ⊥ }
+    requires fault { fault ≢ decoding.Memory }
+    requires stops { IsStopOf is_list octets.now part place }
+    requires within { place.octet ≤ length octets.now }
+    ensures { IsMisread is_list octets.now result }
+{
+    match kept(fault, part, octets, place.octet, is_list) {
+        Ok(fault) => Misread::Stopped { fault, place },
+        Err(error) => Misread::from(error),
+    }
+}
+
 // Why octets can't be read that begin with none, for this fault.
 fn why_unread(alloc: Global, octets: &Bytes, is_list: bool, fault: DecodeError) -> Misread
     requires { fault ≢ decoding.Memory → BeginsAsRead is_list octets.now → ⊥ }
@@ -87,8 +104,8 @@ fn why_unread(alloc: Global, octets: &Bytes, is_list: bool, fault: DecodeError) 
         drop(fault);
         return Misread::Memory;
     }
-    match place_of(alloc, octets, is_list) {
-        Ok(place) => Misread::Stopped { fault, place },
+    match stop_of(alloc, octets, is_list) {
+        Ok((part, place)) => stopped(octets, is_list, fault, part, place),
         Err(error) => {
             drop(fault);
             Misread::from(error)

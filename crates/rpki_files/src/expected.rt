@@ -40,8 +40,10 @@ pub enum Part {
     Extensions,
     /// An extension that isn't well formed.
     Extension,
-    /// An extension of this kind.
+    /// An extension of this kind, which may not stand as it stands.
     Kind(Kind),
+    /// An extension of this kind behind another one of it.
+    Second(Kind),
     /// What stands where the extensions, or what is signed, have to end.
     Behind,
     /// The algorithm beside the signature of a list, where it isn't the one inside.
@@ -102,7 +104,7 @@ impl Part {
             Part::Entry => "a revoked certificate",
             Part::Extensions => "the extensions",
             Part::Extension => "an extension",
-            Part::Kind(kind) => kind.name(),
+            Part::Kind(kind) | Part::Second(kind) => kind.name(),
             Part::Behind => "what follows the extensions",
             Part::OtherAlgorithm => "the algorithm of the signature",
             Part::Signature => "the signature",
@@ -123,7 +125,7 @@ impl Part {
             Part::Extension => {
                 "an identifier, a flag where it is true, and an OCTET STRING (RFC 5280 4.1)"
             }
-            Part::Kind(kind) => kind.wanted(),
+            Part::Kind(kind) | Part::Second(kind) => kind.wanted(),
             Part::Behind => "nothing (RFC 5280 4.1, 5.1)",
             Part::OtherAlgorithm => "the one inside what is signed (RFC 5280 5.1.1.2)",
             Part::Signature => {

@@ -488,6 +488,7 @@ fn own_flaw(
         Part::Extensions => Ok(None),
         Part::Extension => Ok(None),
         Part::Kind(kind) => of_kind(alloc, kind, at, is_list),
+        Part::Second(_) => extension_flaw(alloc, at, is_list),
         Part::Behind => Ok(None),
         Part::OtherAlgorithm => Ok(None),
         Part::Signature => Ok(None),

@@ -1,11 +1,11 @@
 //! The kinds of extensions: their names, and whether one may stand as it stands.
-ghost use Rattle.std.specs.Prelude.{◌≡◌, ◌++◌, ◌↔◌, IsTrue, IsOk, MatchResult};
+ghost use Rattle.std.specs.Prelude.{◌≡◌, ◌++◌, ◌↔◌, IsTrue, IsOk, MatchResult, Some};
 ghost use Rattle.rpki_der.specs.Place.{remaining};
-ghost use Rattle.rpki_files.specs.KnownKinds.{kind_among, place_kinds, resource_kinds, known_in_certificates, known_in_lists, known_kind, kind_name, kind_wanted, HasContent, MayHaveFlag, SaysWhether};
+ghost use Rattle.rpki_files.specs.KnownKinds.{IsNamed, kind_among, place_kinds, resource_kinds, known_in_certificates, known_in_lists, known_kind, called, kind_name, kind_wanted, HasContent, MayHaveFlag, SaysWhether};
 ghost use Rattle.rpki_files.specs.declared.kinds.Kind.TheVariants.{Unknown, NoList};
 
 use rpki_blocks::{AsResources, IpResources};
-use rpki_der::{Cursor, DecodeError, Serial, oid};
+use rpki_der::{Cursor, DecodeError, Field, Serial, oid};
 use rpki_ext::{
     take_authority_information_access, take_authority_key_identifier, take_basic_constraints,
     take_certificate_policies, take_crl_distribution_points, take_extended_key_usage,
@@ -103,6 +103,47 @@ impl Kind {
             of_list(identifier)
         } else {
             of_key(identifier)
+        }
+    }
+
+    // What faults call the extensions of this kind, if they name it.
+    fn called(self) -> Option<Field>
+        ensures { result ≡ called self }
+    {
+        match self {
+            Kind::BasicConstraints => Some(Field::BasicConstraints),
+            Kind::SubjectKeyIdentifier => Some(Field::SubjectKeyIdentifier),
+            Kind::AuthorityKeyIdentifier => Some(Field::AuthorityKeyIdentifier),
+            Kind::KeyUsage => Some(Field::KeyUsage),
+            Kind::ExtendedKeyUsage => Some(Field::ExtendedKeyUsage),
+            Kind::CrlDistributionPoints => Some(Field::CrlDistributionPoints),
+            Kind::AuthorityInformationAccess => Some(Field::AuthorityInformationAccess),
+            Kind::SubjectInformationAccess => Some(Field::SubjectInformationAccess),
+            Kind::CertificatePolicies => Some(Field::CertificatePolicies),
+            Kind::IpResources => Some(Field::IpResources),
+            Kind::AsResources => Some(Field::AsResources),
+            Kind::CrlNumber => Some(Field::CrlNumber),
+            Kind::Unknown | Kind::NoList => None,
+        }
+    }
+
+    // Whether faults call the extensions of this kind so.
+    pub(crate) fn is_called(self, field: Field) -> bool
+        ensures { IsTrue result ↔ called self ≡ Some field }
+    {
+        match self.called() {
+            Some(name) => name == field,
+            None => false,
+        }
+    }
+
+    // Whether a fault names extensions of this kind.
+    pub(crate) fn is_named(self, field: Field) -> bool
+        ensures { IsTrue result ↔ IsNamed field self }
+    {
+        match field {
+            Field::Resources => self == Kind::IpResources || self == Kind::AsResources,
+            _ => self.is_called(field),
         }
     }
 

@@ -14,6 +14,7 @@ mod flaws;
 mod found;
 mod kinds;
 mod locators;
+mod naming;
 mod places;
 mod policies;
 pub mod rules;

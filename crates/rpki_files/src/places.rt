@@ -11,9 +11,9 @@ ghost use Rattle.rpki_der.specs.Values.{AreOctets};
 ghost use Rattle.rpki_crl.specs.RevokedEntries.{AreEntries, Entry, IsEntry, entry_format};
 ghost use Rattle.rpki_der.specs.Tags.{SEQUENCE};
 ghost use Rattle.rpki_files.specs.Flaws.{IsFirstFlaw};
-ghost use Rattle.rpki_files.specs.KnownKinds.{SaysWhether, known_kind};
+ghost use Rattle.rpki_files.specs.KnownKinds.{known_kind};
 ghost use Rattle.rpki_files.specs.PartTexts.{part_text};
-ghost use Rattle.rpki_files.specs.StopPlaces.{AlgorithmsDiffer, AnswersWhether, AreComplete, AreFields, AreIncomplete, AreOfKinds, EncodesSome, HasAlgorithm, HasBoth, HasOther, HasTag, IsField, IsNext, IsSecond, IsStop, IsStopPlace, MayStand, MayStandAs, Opens, Passes, ReadsAlgorithm, ReadsEntries, ReadsExtensions, ReadsSigned, ReadsToExtensions, StopsAmong, StopsAmongElements, StopsAt, StopsAtAlgorithm, StopsAtEntries, StopsAtExtension, StopsAtExtensions, StopsBefore, StopsBeforeExtensions, StopsBehind, StopsInEntries, StopsInExtensions, StopsInSigned, StopsInside, extensions_tag, kind_of};
+ghost use Rattle.rpki_files.specs.StopPlaces.{AlgorithmsDiffer, AnswersWhether, AreComplete, AreFields, AreIncomplete, AreOfKinds, EncodesSome, HasAlgorithm, HasBoth, HasOther, HasTag, IsField, IsMisplaced, IsNext, IsSecond, IsStop, IsStopOf, IsStopPlace, MayStand, MayStandAs, Opens, Passes, ReadsAlgorithm, ReadsEntries, ReadsExtensions, ReadsSigned, ReadsToExtensions, StopsAmong, StopsAmongElements, StopsAt, StopsAtAlgorithm, StopsAtEntries, StopsAtExtension, StopsAtExtensions, StopsBefore, StopsBeforeExtensions, StopsBehind, StopsInEntries, StopsInExtensions, StopsInSigned, StopsInside, extensions_tag, kind_of};
 
 use crate::expected::{Field, Part};
 use crate::flaws::Flaw;
@@ -282,24 +282,6 @@ fn is_second(kind: Kind, kinds: &[Kind]) -> bool
     kind != Kind::Unknown && is_among(kind, kinds)
 }
 
-// Whether an extension of this kind may stand behind those of these kinds.
-fn may_stand(
-    alloc: Global,
-    kind: Kind,
-    is_list: bool,
-    critical: bool,
-    content: &mut Cursor<'_>,
-    kinds: &[Kind],
-) -> Result<(), DecodeError>
-    ensures { SaysWhether result
-        (MayStandAs is_list kinds.now kind critical (remaining content.old)) }
-{
-    if is_second(kind, kinds) {
-        return Err(DecodeError::BadValue);
-    }
-    kind.read(alloc, is_list, critical, content)
-}
-
 // The kind of an extension with this identifier, where it may stand behind those of these kinds.
 fn placed(
     alloc: Global,
@@ -311,13 +293,17 @@ fn placed(
     kinds: &[Kind],
 ) -> Result<Kind, Stop>
     ensures stop { let kind = known_kind is_list identifier.now in
-        IfErr result (IsStop (λ stop from. (stop ≡ Part.Kind kind) × (from ≡ octet)
-        × (MayStandAs is_list kinds.now kind critical (remaining content.old) → ⊥))) }
+        let content = remaining content.old in
+        IfErr result (IsStop (λ stop from. (from ≡ octet)
+        × IsMisplaced is_list kinds.now kind critical content stop)) }
     ensures read { IfOk result (λ kind. (kind ≡ known_kind is_list identifier.now)
         × MayStandAs is_list kinds.now kind critical (remaining content.old)) }
 {
     let kind = Kind::of(identifier, is_list);
-    match may_stand(alloc, kind, is_list, critical, content, kinds) {
+    if is_second(kind, kinds) {
+        return Err(Stop::At(Part::Second(kind), octet));
+    }
+    match kind.read(alloc, is_list, critical, content) {
         Ok(()) => Ok(kind),
         Err(fault) => Err(stopped(fault, Part::Kind(kind), octet)),
     }
@@ -472,7 +458,7 @@ fn elements(alloc: Global, inside: &Cursor<'_>, is_list: bool, octet: usize) -> 
 }
 
 // The tag of the extensions: [3], or of a list's [0].
-fn extensions_tag(is_list: bool) -> u8
+pub(crate) fn extensions_tag(is_list: bool) -> u8
     ensures { result ≡ extensions_tag is_list }
 {
     if is_list {
@@ -620,6 +606,34 @@ fn told(
     })
 }
 
+// The part and the octet at which reading stops.
+fn stop_in(alloc: Global, octets: &Bytes, is_list: bool) -> Result<(Part, usize), AllocError>
+    ensures stops { IfOk result (λ stop. StopsAt is_list octets.now stop.0 stop.1) }
+    ensures within { IfOk result (λ stop. stop.1 ≤ length octets.now) }
+{
+    match signature_at(alloc, octets, is_list) {
+        Ok(octet) => Ok((Part::Signature, octet)),
+        Err(Stop::At(part, octet)) => Ok((part, octet)),
+        Err(Stop::Memory) => Err(AllocError),
+    }
+}
+
+/// Tells what `place_of` tells, with the part.
+pub(crate) fn stop_of(
+    alloc: Global,
+    octets: &Bytes,
+    is_list: bool,
+) -> Result<(Part, Place), AllocError>
+    ensures stops { IfOk result (λ stop. IsStopOf is_list octets.now stop.0 stop.1) }
+    ensures within { IfOk result (λ stop. stop.1.octet ≤ length octets.now) }
+{
+    let (part, octet) = stop_in(alloc, octets, is_list)?;
+    match told(alloc, octets, part, octet, is_list) {
+        Ok(place) => Ok((part, place)),
+        Err(error) => Err(error),
+    }
+}
+
 /// Tells where the reading of octets as a certificate, or as a list, stops: the first part that has
 /// not the form that it must have, or else the signature. Tells what is wanted and what is found
 /// there. Errs only where memory runs out.
@@ -627,9 +641,8 @@ pub fn place_of(alloc: Global, octets: &Bytes, is_list: bool) -> Result<Place, A
     ensures stops { IfOk result (IsStopPlace is_list octets.now) }
     ensures within { IfOk result (λ place. place.octet ≤ length octets.now) }
 {
-    match signature_at(alloc, octets, is_list) {
-        Ok(octet) => told(alloc, octets, Part::Signature, octet, is_list),
-        Err(Stop::At(part, octet)) => told(alloc, octets, part, octet, is_list),
-        Err(Stop::Memory) => Err(AllocError),
+    match stop_of(alloc, octets, is_list) {
+        Ok((_, place)) => Ok(place),
+        Err(error) => Err(error),
     }
 }

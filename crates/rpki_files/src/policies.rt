@@ -1,15 +1,18 @@
 //! The extensions of octets that are built as a certificate is, and whether Certificate Policies are
 //! among them.
 ghost use Rattle.std.specs.Prelude.{◌≡◌, ◌↔◌, IsTrue, option_map};
+ghost use Rattle.rpki_der.specs.Encoding.{Means};
 ghost use Rattle.rpki_der.specs.Place.{remaining};
+ghost use Rattle.rpki_ext.specs.ExtensionKinds.{certificate_policies};
 ghost use Rattle.rpki_der.specs.Values.Reading.{value_at};
 ghost use Rattle.rpki_files.specs.KnownKinds.{HasContent};
-ghost use Rattle.rpki_files.specs.PolicyPresence.{AreExtensions, BeginsWithOne, HasPolicies, IsOneOf, IsOtherCertificate, IsWanted, resource_identifiers};
+ghost use Rattle.rpki_files.specs.PolicyPresence.{AreExtensions, BeginsWithOne, HasPolicies, IsOfMode, IsOneOf, IsOtherCertificate, IsWanted, Lack, resource_identifiers};
 ghost use Rattle.rpki_files.specs.PolicyPresence.Reading.{extensions_at, rest_at};
 
 use crate::kinds::Kind;
 use bytes::Bytes;
-use rpki_der::{Cursor, oid, tag, take_extension};
+use rpki_blocks::Overclaim;
+use rpki_der::{Cursor, Field, oid, tag, take_extension};
 use rpki_ext::take_certificate_policies;
 
 // The content of the value with this identifier octet that stands next.
@@ -56,11 +59,17 @@ pub fn extensions_in(octets: &Bytes) -> Option<Cursor<'_>>
 
 // Which extensions are looked for.
 #[derive(Clone, Copy)]
-enum Wanted {
+pub(crate) enum Wanted {
     // Certificate Policies, be they those of the profile or not.
     Policies,
     // Those that only certificates of the RPKI have: resources, and its one policy.
     OfRpki,
+    // Those of a kind that a fault names, in a list or in a certificate.
+    Named(Field, bool),
+    // Those resources, under the identifier that the policy of this mode asks for.
+    Resources(Field, Overclaim),
+    // The policy of this mode.
+    Policy(Overclaim),
 }
 
 // Whether an identifier is one of the four that resources have (RFC 3779 2.2.1, 3.2.1, RFC 8360 4.2).
@@ -80,6 +89,38 @@ fn has_profile_policies(content: &mut Cursor<'_>) -> bool
     take_certificate_policies(content).is_ok()
 }
 
+// Whether it is this mode.
+fn is_mode(mode: Overclaim, this: Overclaim) -> bool
+    ensures { IsTrue result ↔ mode ≡ this }
+{
+    mode == this
+}
+
+// Whether the content begins with the policy of this mode.
+fn has_policy(content: &mut Cursor<'_>, mode: Overclaim) -> bool
+    ensures { IsTrue result
+        ↔ Means certificate_policies.format.encodes mode (remaining content.old) }
+{
+    match take_certificate_policies(content) {
+        Ok(other) => is_mode(other, mode),
+        Err(fault) => {
+            drop(fault);
+            false
+        }
+    }
+}
+
+// Whether it is the identifier of these resources under the policy of this mode.
+fn is_of_mode(identifier: &[u8], field: Field, mode: Overclaim) -> bool
+    ensures { IsTrue result ↔ IsOfMode field mode identifier.now }
+{
+    match field {
+        Field::IpResources => identifier == mode.ip_res_id(),
+        Field::AsResources => identifier == mode.as_res_id(),
+        _ => false,
+    }
+}
+
 impl Wanted {
     // Whether it is an extension with this identifier and this content.
     fn is_met(self, identifier: &[u8], content: &mut Cursor<'_>) -> bool
@@ -91,12 +132,15 @@ impl Wanted {
             Wanted::OfRpki => {
                 is_of_resources(identifier) || (is_policies && has_profile_policies(content))
             }
+            Wanted::Named(field, is_list) => Kind::of(identifier, is_list).is_named(field),
+            Wanted::Resources(field, mode) => is_of_mode(identifier, field, mode),
+            Wanted::Policy(mode) => is_policies && has_policy(content, mode),
         }
     }
 }
 
 // Whether a wanted extension stands among those at the front.
-fn begins_with_one(elements: &Cursor<'_>, wanted: Wanted) -> bool
+pub(crate) fn begins_with_one(elements: &Cursor<'_>, wanted: Wanted) -> bool
     ensures { IsTrue result ↔ BeginsWithOne wanted (remaining elements.now) }
 {
     let mut rest = elements.fork();
@@ -138,12 +182,11 @@ fn are_extensions(elements: &Cursor<'_>) -> bool
     true
 }
 
-// Whether extensions stand there, and nothing else, of which none is one of the RPKI.
-fn are_others(elements: &Cursor<'_>) -> bool
-    ensures { IsTrue result ↔ (AreExtensions (remaining elements.now)
-        × (BeginsWithOne Wanted.OfRpki (remaining elements.now) → ⊥)) }
+// Whether extensions stand there, and nothing else, of which none is wanted.
+pub(crate) fn lack(elements: &Cursor<'_>, wanted: Wanted) -> bool
+    ensures { IsTrue result ↔ Lack wanted (remaining elements.now) }
 {
-    are_extensions(elements) && !begins_with_one(elements, Wanted::OfRpki)
+    are_extensions(elements) && !begins_with_one(elements, wanted)
 }
 
 /// Returns whether an extension with the identifier of Certificate Policies stands among those at
@@ -167,7 +210,7 @@ pub fn is_other_certificate(octets: &Bytes) -> bool
     // For the proof only: what is read are octets.
     let _octets = Cursor::new(octets).rest();
     match extensions_in(octets) {
-        Some(elements) => are_others(&elements),
+        Some(elements) => lack(&elements, Wanted::OfRpki),
         None => false,
     }
 }

@@ -3,7 +3,7 @@ use Rattle.rpki_der.specs.Extensions.{Extension, IsExtension}
 use Rattle.rpki_der.specs.Extensions.Views.{extension_view}
 use Rattle.rpki_der.specs.Place.{remaining}
 use Rattle.rpki_der.proofs.ExtensionReads.{extension_shrinks}
-use Rattle.rpki_files.specs.StopPlaces.{IsNext, MayStandAs, Passes, StopsAtExtension, kind_of}
+use Rattle.rpki_files.specs.StopPlaces.{IsMisplaced, IsNext, MayStandAs, Passes, StopsAtExtension, kind_of}
 use Rattle.rpki_files.specs.declared.expected.Part.TheVariants as part
 use Rattle.rpki_files.specs.declared.kinds.Kind.{Kind}
 use Rattle.rpki_files.proofs.StopWalks.{errs_so, holds_anyway, stops_for, took, values_so}
@@ -15,8 +15,8 @@ returns-in-Ok-clause-stop c =
     let kinds = c.args.kinds.now in
     let x = extension_view (c.in-Ok.identifier, c.in-Ok.critical, c.in-Ok.content) in
     let new = c.take_extension.new.cursor in
-    errs_so (λ stop from. (stop ≡ part.Kind (kind_of is_list x)) × (from ≡ c.at-octet.result) × (MayStandAs is_list kinds (kind_of is_list x) x.critical x.content → ⊥)) (StopsAtExtension is_list kinds c.args.rest.now) c.placed.result c.placed.ensures.stop
-    (λ stop from s. inr (x, remaining new, c.in-Ok.ensures.answers.encoded, s.1 ∙ c.at-octet.ensures.octet, s.0, s.2))
+    errs_so (λ stop from. (from ≡ c.at-octet.result) × IsMisplaced is_list kinds (kind_of is_list x) x.critical x.content stop) (StopsAtExtension is_list kinds c.args.rest.now) c.placed.result c.placed.ensures.stop
+    (λ stop from s. inr (x, remaining new, c.in-Ok.ensures.answers.encoded, s.0 ∙ c.at-octet.ensures.octet, s.1))
 
 pub returns-in-Ok-clause-read : goal.returns-in-Ok-clause-read
 returns-in-Ok-clause-read c =

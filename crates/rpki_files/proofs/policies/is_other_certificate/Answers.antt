@@ -4,7 +4,7 @@ use Rattle.std.proofs.lemmas.Bool.{false≢true}
 use Rattle.rpki_der.specs.Place.{remaining}
 use Rattle.rpki_der.specs.Values.{AreOctets}
 use Rattle.rpki_der.proofs.Octets.{nothing, some_is}
-use Rattle.rpki_files.specs.PolicyPresence.{AreExtensions, BeginsWithOne}
+use Rattle.rpki_files.specs.PolicyPresence.{Lack}
 use Rattle.rpki_files.specs.PolicyPresence.Reading.{extensions_at}
 use Rattle.rpki_files.specs.declared.policies.Wanted.TheVariants.{OfRpki}
 use Rattle.rpki_files.proofs.FoundPolicies.{extensions_take, extensions_again}
@@ -16,9 +16,9 @@ returns-in-Some c =
     let elements = remaining c.in-Some.elements in
     let found : extensions_at octets ≡ Some elements = sym c.in-Some.ensures in
     let fits : AreOctets octets = subst AreOctets (c.rest-octets.ensures.remaining ∙ c.new.ensures.all) c.rest-octets.ensures.octets in (
-      (λ yes. let others = c.are_others.ensures.0 yes in (elements, extensions_take octets elements fits found, others.0, others.1)),
+      (λ yes. (elements, extensions_take octets elements fits found, c.lack.ensures.0 yes)),
       (λ h. let same : h.0 ≡ elements = some_is h.0 elements (sym (extensions_again octets h.0 h.1) ∙ found) in
-          c.are_others.ensures.1 (subst AreExtensions same h.2, subst (λ (x : List ℕ). BeginsWithOne OfRpki x → ⊥) same h.3)),
+          c.lack.ensures.1 (subst (λ (x : List ℕ). Lack OfRpki x) same h.2)),
     )
 
 pub returns-in-None : goal.returns-in-None
