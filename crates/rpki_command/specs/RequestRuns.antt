@@ -10,7 +10,7 @@ use Rattle.rpki_requests.specs.OptionValues.{IsMomentSaid, SaysAtMostOnce}
 use Rattle.rpki_requests.specs.Refusals.{TellsPath}
 use Rattle.rpki_requests.specs.RequestFiles.{InputFields}
 use Rattle.rpki_requests.specs.RequestWords.{AskedFields, AsksHelp, GivenFields, IsRequestLine, values_of}
-use Rattle.rpki_requests.specs.ToldRefusals.{IsSoOf}
+use Rattle.rpki_requests.specs.RefusedErrands.{IsSoOf}
 use Rattle.rpki_requests.specs.declared.fulfilling.Made.{Made}
 use Rattle.rpki_requests.specs.declared.fulfilling.Made.TheVariants.{ToSign, Certificate, RevocationList}
 use Rattle.rpki_requests.specs.declared.refusals.Refusal.{Refusal}
@@ -102,12 +102,12 @@ abbrev pub GivesText : AskedFields → InputFields → Moment → List ℕ → T
 GivesText asked inputs now text =
     (given : Made) × Fulfils asked inputs now given × IsWritten asked.is_pem given text
 
--- it gives nothing, and this is said: why, and what that says of the issuer's path, and of a
--- certificate's options and key, is so
+-- it gives nothing, and this is said: why, and what that says of the issuer's path and of what is
+-- asked is so
 abbrev pub GivesNothing : AskedFields → InputFields → Moment → List ℕ → Type 0
 GivesNothing asked inputs now said =
     (why : Refusal) × ((given : Made) → Fulfils asked inputs now given → ⊥)
-    × TellsPath (context_of asked now) inputs.issuers inputs.lists why × IsSoOf asked inputs why
+    × TellsPath (context_of asked now) inputs.issuers inputs.lists why × IsSoOf asked inputs now why
     × (said ≡ refusal_message why)
 
 -- this is the file of the first of these names, and can't be made for its reason

@@ -5,7 +5,7 @@ ghost use Rattle.std.specs.Io.KnownBytes.{Appends};
 ghost use Rattle.rpki_text.specs.CommandLines.Views.{word_octets};
 ghost use Rattle.rpki_requests.specs.Fulfilment.{Fulfils, context_of};
 ghost use Rattle.rpki_requests.specs.Refusals.{TellsPath};
-ghost use Rattle.rpki_requests.specs.ToldRefusals.{IsSoOf};
+ghost use Rattle.rpki_requests.specs.RefusedErrands.{IsSoOf};
 ghost use Rattle.rpki_requests.specs.RequestMisuses.{misuse_text};
 ghost use Rattle.rpki_requests.specs.RequestWords.Views.{asked_fields};
 ghost use Rattle.rpki_command.specs.Messages.{misuse_message, refusal_message};
@@ -122,7 +122,7 @@ fn text_of(
     ensures told { let inputs = input_fields objects.now in
         let x = context_of (asked_fields order.now) now in
         IfErr result (TellsPath x inputs.issuers inputs.lists) }
-    ensures so { IfErr result (IsSoOf (asked_fields order.now) (input_fields objects.now)) }
+    ensures so { IfErr result (IsSoOf (asked_fields order.now) (input_fields objects.now) now) }
 {
     let made = fulfil(alloc, order, &objects.as_inputs(), now)?;
     Ok(written(alloc, made, order.is_pem)?)

@@ -2,7 +2,7 @@
 use Rattle.std.specs.Prelude.{Result, Ok, Err, IfOk, IfErr}
 use Rattle.std.proofs.Common.{◌≡◌, ◌≢◌, ◌⊎◌, inl, inr, subst}
 use Rattle.rpki_issuing.specs.OnlyValues.{IsOnly}
-use Rattle.rpki_requests.specs.Refusals.{AnswersOnly, AnswersOnlyBy, IsPathless}
+use Rattle.rpki_requests.specs.Refusals.{AnswersOnly, AnswersOnlyBy}
 use Rattle.rpki_requests.specs.declared.refusals.Refusal.{Refusal}
 use Rattle.rpki_requests.specs.declared.refusals.Refusal.TheVariants.{Memory}
 
@@ -30,19 +30,23 @@ may_be MayBe Other Is (Ok a) also answers = answers
 may_be MayBe Other Is (Err why) also answers = (also why answers.0, answers.1)
 
 -- the same of answers that are seen by views
-pub both_only_by : {X Y A B : Type 0} (view : X → A) (look : Y → B) (IsA : A → Type 0) (IsB : B → Type 0) (first : Result X Refusal) (second : Result Y Refusal) (r : Result (X × Y) Refusal) → IfOk r (λ p. (first ≡ Ok p.0) × (second ≡ Ok p.1)) → IfErr r (λ why. (first ≡ Err why) ⊎ (second ≡ Err why)) → AnswersOnlyBy view IsA first → AnswersOnlyBy look IsB second → AnswersOnlyBy (λ (p : X × Y). (view p.0, look p.1)) (λ (p : A × B). IsA p.0 × IsB p.1) r
-both_only_by {X = X} {Y = Y} view look IsA IsB first second (Ok p) are why a b =
-    let one = subst (λ (s : Result X Refusal). AnswersOnlyBy view IsA s) are.0 a in
-    let other = subst (λ (s : Result Y Refusal). AnswersOnlyBy look IsB s) are.1 b in
+pub may_be_by : {X V : Type 0} (MayBe Other : Refusal → Type 0) (view : X → V) (Is : V → Type 0) (r : Result X Refusal) → ((why : Refusal) → MayBe why → Other why) → AnswersOnlyBy MayBe view Is r → AnswersOnlyBy Other view Is r
+may_be_by MayBe Other view Is (Ok x) also answers = answers
+may_be_by MayBe Other view Is (Err why) also answers = (also why answers.0, answers.1)
+
+pub both_only_by : {X Y A B : Type 0} (MayBe : Refusal → Type 0) (view : X → A) (look : Y → B) (IsA : A → Type 0) (IsB : B → Type 0) (first : Result X Refusal) (second : Result Y Refusal) (r : Result (X × Y) Refusal) → IfOk r (λ p. (first ≡ Ok p.0) × (second ≡ Ok p.1)) → IfErr r (λ why. (first ≡ Err why) ⊎ (second ≡ Err why)) → AnswersOnlyBy MayBe view IsA first → AnswersOnlyBy MayBe look IsB second → AnswersOnlyBy MayBe (λ (p : X × Y). (view p.0, look p.1)) (λ (p : A × B). IsA p.0 × IsB p.1) r
+both_only_by {X = X} {Y = Y} MayBe view look IsA IsB first second (Ok p) are why a b =
+    let one = subst (λ (s : Result X Refusal). AnswersOnlyBy MayBe view IsA s) are.0 a in
+    let other = subst (λ (s : Result Y Refusal). AnswersOnlyBy MayBe look IsB s) are.1 b in
     ((one.0, other.0), λ q h. λ i. (one.1 q.0 h.0 i, other.1 q.1 h.1 i))
-both_only_by {X = X} {Y = Y} view look IsA IsB first second (Err why) are (inl is) a b =
-    let none = subst (λ (s : Result X Refusal). AnswersOnlyBy view IsA s) is a in (none.0, λ not q h. none.1 not q.0 h.0)
-both_only_by {X = X} {Y = Y} view look IsA IsB first second (Err why) are (inr is) a b =
-    let none = subst (λ (s : Result Y Refusal). AnswersOnlyBy look IsB s) is b in (none.0, λ not q h. none.1 not q.1 h.1)
+both_only_by {X = X} {Y = Y} MayBe view look IsA IsB first second (Err why) are (inl is) a b =
+    let none = subst (λ (s : Result X Refusal). AnswersOnlyBy MayBe view IsA s) is a in (none.0, λ not q h. none.1 not q.0 h.0)
+both_only_by {X = X} {Y = Y} MayBe view look IsA IsB first second (Err why) are (inr is) a b =
+    let none = subst (λ (s : Result Y Refusal). AnswersOnlyBy MayBe look IsB s) is b in (none.0, λ not q h. none.1 not q.1 h.1)
 
 -- what such an answer says once it is known
-pub by_ok : {X V : Type 0} (view : X → V) (Is : V → Type 0) (r : Result X Refusal) (x : X) → r ≡ Ok x → AnswersOnlyBy view Is r → IsOnly Is (view x)
-by_ok {X = X} view Is r x is only = subst (λ (s : Result X Refusal). AnswersOnlyBy view Is s) is only
+pub by_ok : {X V : Type 0} (MayBe : Refusal → Type 0) (view : X → V) (Is : V → Type 0) (r : Result X Refusal) (x : X) → r ≡ Ok x → AnswersOnlyBy MayBe view Is r → IsOnly Is (view x)
+by_ok {X = X} MayBe view Is r x is only = subst (λ (s : Result X Refusal). AnswersOnlyBy MayBe view Is s) is only
 
-pub by_err : {X V : Type 0} (view : X → V) (Is : V → Type 0) (r : Result X Refusal) (why : Refusal) → r ≡ Err why → AnswersOnlyBy view Is r → IsPathless why × (why ≢ Memory → (v : V) → Is v → ⊥)
-by_err {X = X} view Is r why is only = subst (λ (s : Result X Refusal). AnswersOnlyBy view Is s) is only
+pub by_err : {X V : Type 0} (MayBe : Refusal → Type 0) (view : X → V) (Is : V → Type 0) (r : Result X Refusal) (why : Refusal) → r ≡ Err why → AnswersOnlyBy MayBe view Is r → MayBe why × (why ≢ Memory → (v : V) → Is v → ⊥)
+by_err {X = X} MayBe view Is r why is only = subst (λ (s : Result X Refusal). AnswersOnlyBy MayBe view Is s) is only

@@ -1,8 +1,8 @@
 -- The list before, and what is revoked: the only ones.
-use Rattle.std.specs.Prelude.{Option, Some, None, Result, Ok, Err, IfOk, map}
+use Rattle.std.specs.Prelude.{Option, Some, None, Result, Ok, Err, IfErr, IfOk, map}
 use Rattle.std.specs.declared.vec.Vec.{Vec}
 use Rattle.std.specs.List.{AllZip}
-use Rattle.std.proofs.Common.{◌≡◌, ℕ, List, [], ◌∷◌, ◌++◌, refl, sym, ap, subst, ◌∙◌}
+use Rattle.std.proofs.Common.{◌≡◌, ◌≤◌, ◌⊎◌, inl, inr, ℕ, List, [], ◌∷◌, ◌++◌, length, refl, sym, ap, subst, ◌∙◌, arith}
 use Rattle.std.proofs.lemmas.Simd.{map-map}
 use Rattle.rpki.specs.Certificates.{TbsFields, CertFields, IsCertificate}
 use Rattle.rpki.specs.Lists.{CrlFields, IsCertificateList}
@@ -18,7 +18,12 @@ use Rattle.rpki_requests.specs.RequestFiles.{IsOwnListIn, IsPreviousOf, IsRevoke
 use Rattle.rpki_issuing.specs.Issuers.{IsOwnList}
 use Rattle.rpki_requests.specs.RequestWords.{GivenFields, values_of}
 use Rattle.rpki_requests.specs.declared.words.Setting.TheVariants.{Number, NextUpdate, Serial}
+use Rattle.rpki_requests.specs.Refusals.{AnswersOnlyBy}
+use Rattle.rpki_requests.specs.ToldRefusals.{HasListValue, IsOtherFile, IsUnsaid, IsValueOf, IsWantedFault}
+use Rattle.rpki_requests.specs.declared.refusals.Refusal.{Refusal}
 use Rattle.rpki_issuing.proofs.WholeOctets.{whole_only}
+use Rattle.rpki_requests.proofs.OnlyAnswers.{both_only_by, may_be_by}
+use Rattle.rpki_requests.proofs.RefusalCases.{told_by}
 
 -- ---- the list before
 
@@ -30,6 +35,12 @@ module _ (issuer : TbsFields) (files : List (List ℕ)) where
       only : (other : Option CrlFields) → IsPreviousOf issuer files other → other ≡ None
       only None is = refl
       only (Some list) is = let both : [] ≡ is.octets ∷ [] = sym empty ∙ is.alone in absurd cc
+
+  -- several files are no list
+  pub previous_several : 2 ≤ length files → (other : Option CrlFields) → IsPreviousOf issuer files other → ⊥
+  previous_several many None is = let none : length files ≡ 0 = ap length is in absurd (omega arith)
+  previous_several many (Some list) is =
+      let one : length files ≡ 1 = ap length is.alone in absurd (omega arith)
 
   module _ (octets : List ℕ) (alone : files ≡ given_alone (Some octets)) where
     same_file : (other : List ℕ) → files ≡ other ∷ [] → other ≡ octets
@@ -77,6 +88,15 @@ module _ (given : List GivenFields) (files : List (List ℕ)) (issuer : TbsField
 
   abbrev pub OfNumbers : List ℕ → Type 0
   OfNumbers serials = AllZip IsSerialText serials (values_of Serial given)
+
+  -- both are, or one isn't
+  pub both_revoked : {X Y : Type 0} (view : X → List ℕ) (look : Y → List ℕ) (first : Result X Refusal) (second : Result Y Refusal) (r : Result (X × Y) Refusal) → IfOk r (λ p. (first ≡ Ok p.0) × (second ≡ Ok p.1)) → IfErr r (λ why. (first ≡ Err why) ⊎ (second ≡ Err why)) → AnswersOnlyBy (IsOtherFile issuer files) view OfFiles first → AnswersOnlyBy (IsValueOf Serial) look OfNumbers second → AnswersOnlyBy (IsWantedFault given files issuer) (λ (p : X × Y). (view p.0, look p.1)) (λ (p : List ℕ × List ℕ). OfFiles p.0 × OfNumbers p.1) r
+  both_revoked view look first second r are why by_files by_numbers =
+      let MayBe = IsWantedFault given files issuer in
+      let some = may_be_by (IsOtherFile issuer files) MayBe view OfFiles first (λ w h. inr h) by_files in
+      let said = told_by (HasListValue given) Serial look OfNumbers second (λ h. h) by_numbers in
+      let others = may_be_by (IsUnsaid (HasListValue given)) MayBe look OfNumbers second (λ w h. inl h) said in
+      both_only_by MayBe view look OfFiles OfNumbers first second r are why some others
 
   -- the entries of these serial numbers
   pub entries_ok : (es : List Entry) (by_files by_numbers : List ℕ) → es ≡ map (revoked_at at) (by_files ++ by_numbers) → IsOnly (λ (p : List ℕ × List ℕ). OfFiles p.0 × OfNumbers p.1) (by_files, by_numbers) → IsOnly (GivesEntries given files issuer at) es

@@ -6,3 +6,4 @@ pub mod RequestFiles
 pub mod Fulfilment
 pub mod Refusals
 pub mod ToldRefusals
+pub mod RefusedErrands

@@ -41,9 +41,11 @@ AnswersOnly {V} MayBe Is (Ok v) = IsOnly Is v
 AnswersOnly {V} MayBe Is (Err why) = MayBe why × (why ≢ Memory → (v : V) → Is v → ⊥)
 
 -- the same of an answer that is seen by view
-abbrev pub AnswersOnlyBy : {X V : Type 0} → (X → V) → (V → Type 0) → Result X Refusal → Type 0
-AnswersOnlyBy {X} {V} view Is (Ok x) = IsOnly Is (view x)
-AnswersOnlyBy {X} {V} view Is (Err why) = IsPathless why × (why ≢ Memory → (v : V) → Is v → ⊥)
+abbrev pub AnswersOnlyBy : {X V : Type 0} → (Refusal → Type 0) → (X → V) → (V → Type 0)
+    → Result X Refusal → Type 0
+AnswersOnlyBy {X} {V} MayBe view Is (Ok x) = IsOnly Is (view x)
+AnswersOnlyBy {X} {V} MayBe view Is (Err why) =
+    MayBe why × (why ≢ Memory → (v : V) → Is v → ⊥)
 
 -- the path that the files are is accepted, with these lists, but its last member isn't a CA
 pub record EndsInNoAuthority (x : Context) (files lists : List (List ℕ)) : Type 0 where

@@ -1,21 +1,24 @@
--- Which refusals tell what is so of options and of the key (own).
-use Rattle.std.specs.Prelude.{◌≡◌, ℕ, List, [], ◌∷◌, Option}
+-- What refusals tell of options, of the key, of the list before, of what is revoked and of what is
+-- completed, and that it is so (own).
+use Rattle.std.specs.List.{AllZip}
+use Rattle.std.specs.Prelude.{◌≡◌, ◌⊎◌, ◌<◌, ℕ, List, [], ◌∷◌, get_or, length, take, Option}
+use Rattle.rpki.specs.Certificates.{TbsFields, IsTbsCertificate}
 use Rattle.rpki.specs.KeyForms.{IsUsableKey}
 use Rattle.rpki.specs.Keys.{KeyFields, IsPublicKey}
+use Rattle.rpki.specs.Lists.{CrlFields}
 use Rattle.rpki.specs.Resources.{Resources}
 use Rattle.rpki.specs.Times.{Moment}
 use Rattle.rpki_issuing.specs.BlockTexts.{AreListed, IsAddressesText, IsAsText}
 use Rattle.rpki_issuing.specs.ValueTexts.{IsHttpsText, IsRsyncText, IsSerialText}
 use Rattle.rpki_issuing.specs.declared.values.families.Family.TheVariants.{V4, V6}
+use Rattle.rpki_issuing.specs.declared.wanted.preparing.WantedError.{WantedError}
 use Rattle.rpki_requests.specs.OptionValues.{IsMomentSaid, SaysAtMostOnce, SaysOnce}
-use Rattle.rpki_requests.specs.RequestFiles.{InputFields}
-use Rattle.rpki_requests.specs.RequestWords.{AskedFields, GivenFields, values_of}
+use Rattle.rpki_requests.specs.RequestFiles.{IsPreviousOf, IsRevokedFile}
+use Rattle.rpki_requests.specs.RequestWords.{GivenFields, values_of}
 use Rattle.rpki_requests.specs.declared.refusals.Refusal.{Refusal}
-use Rattle.rpki_requests.specs.declared.refusals.Refusal.TheVariants.{Value, NoKey, UnusedKey, Rejected, NoAuthority, OtherCrl, Memory}
-use Rattle.rpki_requests.specs.declared.words.Errand.{Errand}
-use Rattle.rpki_requests.specs.declared.words.Errand.TheVariants.{RevocationList, Completion}
+use Rattle.rpki_requests.specs.declared.refusals.Refusal.TheVariants.{Value, NoKey, UnusedKey, Rejected, NoAuthority, OtherCrl, OtherList, OtherCertificate, NotToSign, Unfit, Memory}
 use Rattle.rpki_requests.specs.declared.words.Setting.{Setting}
-use Rattle.rpki_requests.specs.declared.words.Setting.TheVariants.{Serial, From, Until, Ipv4, Ipv6, AsNumbers, Repository, Manifest, Notify, Object, IssuerUri, CrlUri}
+use Rattle.rpki_requests.specs.declared.words.Setting.TheVariants.{Serial, From, Until, Ipv4, Ipv6, AsNumbers, Repository, Manifest, Notify, Object, IssuerUri, CrlUri, Number, NextUpdate}
 
 -- ---- an option
 
@@ -47,11 +50,23 @@ HasValue given CrlUri =
     (uri : Option (List ℕ)) × SaysAtMostOnce IsRsyncText (values_of CrlUri given) uri
 HasValue given _ = Unit {0}
 
+-- where a list is prepared, so it is of a list's options
+abbrev pub HasListValue : List GivenFields → Setting → Type 0
+HasListValue given Number =
+    (n : Option ℕ) × SaysAtMostOnce IsSerialText (values_of Number given) n
+HasListValue given NextUpdate = (m : Moment) × SaysOnce IsMomentSaid (values_of NextUpdate given) m
+HasListValue given Serial = (ns : List ℕ) × AllZip IsSerialText ns (values_of Serial given)
+HasListValue given _ = Unit {0}
+
 -- the option of which it is said has none; or memory ran out
+abbrev pub IsUnsaid : (Setting → Type 0) → Refusal → Type 0
+IsUnsaid Has (Value setting) = Has setting → ⊥
+IsUnsaid Has Memory = Unit {0}
+IsUnsaid Has _ = ⊥
+
+-- so it is where a certificate is prepared
 abbrev pub IsOption : List GivenFields → Refusal → Type 0
-IsOption given (Value setting) = HasValue given setting → ⊥
-IsOption given Memory = Unit {0}
-IsOption given _ = ⊥
+IsOption given = IsUnsaid (HasValue given)
 
 -- ---- the key
 
@@ -72,7 +87,7 @@ IsKeyFault files (UnusedKey format) =
 IsKeyFault files Memory = Unit {0}
 IsKeyFault files _ = ⊥
 
--- ---- the whole
+-- ---- the issuer's path
 
 -- it speaks of the issuer's path, or of the lists that this is judged with; or memory ran out
 abbrev pub IsOfPath : Refusal → Type 0
@@ -82,18 +97,45 @@ IsOfPath (OtherCrl place) = Unit {0}
 IsOfPath Memory = Unit {0}
 IsOfPath _ = ⊥
 
--- what it says of an option or of the key's files is so
-abbrev pub IsSo : List GivenFields → List (List ℕ) → Refusal → Type 0
-IsSo given keys (Value setting) = HasValue given setting → ⊥
-IsSo given keys NoKey = IsKeyFault keys NoKey
-IsSo given keys (UnusedKey format) = IsKeyFault keys (UnusedKey format)
-IsSo given keys _ = Unit {0}
+-- ---- the list before, and what is revoked
 
--- the same, where a certificate is prepared; of other errands no more is said here
-abbrev pub IsSoAs : Errand → List GivenFields → List (List ℕ) → Refusal → Type 0
-IsSoAs RevocationList given keys why = Unit {0}
-IsSoAs Completion given keys why = Unit {0}
-IsSoAs _ given keys why = IsSo given keys why
+-- there are files, but not one list that the issuer's key signed, and of that it speaks
+abbrev pub IsOtherList : TbsFields → List (List ℕ) → Refusal → Type 0
+IsOtherList issuer files why =
+    (why ≡ OtherList) × ((list : Option CrlFields) → IsPreviousOf issuer files list → ⊥)
 
-abbrev pub IsSoOf : AskedFields → InputFields → Refusal → Type 0
-IsSoOf asked inputs why = IsSoAs asked.errand asked.given inputs.keys why
+-- the file at this place isn't a certificate that names the issuer's key, and those before it are
+pub record IsFirstOther (issuer : TbsFields) (files : List (List ℕ)) (place : ℕ) : Type 0 where
+  pub low : place < length files
+  pub before : List ℕ
+  pub before_are : AllZip (IsRevokedFile issuer) before (take place files)
+  pub other : (serial : ℕ) → IsRevokedFile issuer serial (get_or files place []) → ⊥
+
+-- memory ran out; or it speaks of the first file that isn't such a certificate
+abbrev pub IsOtherFile : TbsFields → List (List ℕ) → Refusal → Type 0
+IsOtherFile issuer files why =
+    (why ≡ Memory)
+    ⊎ ((place : ℕ) × (why ≡ OtherCertificate place) × IsFirstOther issuer files place)
+
+-- it speaks of an option of the list that is wanted, or of what is revoked
+abbrev pub IsWantedFault : List GivenFields → List (List ℕ) → TbsFields → Refusal → Type 0
+IsWantedFault given files issuer why =
+    IsUnsaid (HasListValue given) why ⊎ IsOtherFile issuer files why
+
+-- ---- what isn't ready, or isn't signed
+
+-- memory ran out; or it says why nothing is prepared or completed, and that is so
+abbrev pub IsUnfit : (WantedError → Type 0) → Refusal → Type 0
+IsUnfit Is why = (why ≡ Memory) ⊎ ((e : WantedError) × (why ≡ Unfit e) × Is e)
+
+-- ---- what is completed
+
+-- the octets aren't a TBSCertificate; or they are one, of a key of this format, which the RPKI
+-- doesn't use; or memory ran out
+abbrev pub IsDataFault : List ℕ → Refusal → Type 0
+IsDataFault octets NotToSign = (f : TbsFields) → IsTbsCertificate f octets → ⊥
+IsDataFault octets (UnusedKey format) =
+    (f : TbsFields) × IsTbsCertificate f octets × (f.key.format ≡ format)
+    × (IsUsableKey f.key → ⊥)
+IsDataFault octets Memory = Unit {0}
+IsDataFault octets _ = ⊥

@@ -1,5 +1,5 @@
 //! What a request gives: the octets that are to be signed, or a certificate or a revocation list.
-ghost use Rattle.std.specs.Prelude.{◌≡◌, ◌≢◌, ◌↔◌, ℕ, List, [], ◌∷◌, option_map, Option, IfErr, IfOk, IsTrue, MatchOption};
+ghost use Rattle.std.specs.Prelude.{◌≡◌, ◌≢◌, ◌⊎◌, ◌↔◌, ℕ, List, [], ◌∷◌, option_map, Option, IfErr, IfOk, IsTrue, MatchOption};
 ghost use Rattle.rpki_files.specs.Files.{contents};
 ghost use Rattle.rpki.specs.Lists.{IsTbsCertList};
 ghost use Rattle.rpki.specs.Verification.{ResourceFields};
@@ -7,9 +7,9 @@ ghost use Rattle.rpki_requests.specs.Fulfilment.{AsksFields, Completes, Complete
 ghost use Rattle.rpki_requests.specs.RequestFiles.{IsCompletedAs, IsIssuerOf, IsOnlyIssuer};
 ghost use Rattle.rpki_requests.specs.RequestWords.Views.{asked_fields};
 ghost use Rattle.rpki_requests.specs.Refusals.{AnswersOnly, IsPathless, TellsPath};
-ghost use Rattle.rpki_requests.specs.RequestWords.{GivenFields};
-ghost use Rattle.rpki_requests.specs.ToldRefusals.{IsOfPath, IsSo, IsSoOf};
-ghost use Rattle.rpki_requests.specs.declared.refusals.Refusal.TheVariants.{Memory};
+ghost use Rattle.rpki_requests.specs.RefusedErrands.{IsFieldsFault, IsListFault, IsMadeListFault, IsSoOf, IsSoOfCertificate, IsSoOfCompletion, IsSoOfEither, IsSoOfListed, IsSoOfMade, IsSoOfPrepared, name_place};
+ghost use Rattle.rpki_requests.specs.ToldRefusals.{IsOfPath};
+ghost use Rattle.rpki_requests.specs.declared.refusals.Refusal.TheVariants.{Memory, OtherName, Unfit};
 ghost use Rattle.rpki_issuing.specs.declared.wanted.preparing.WantedError.TheVariants as wanting;
 
 use crate::issuers::issuer_of;
@@ -75,7 +75,7 @@ pub enum Made {
 pub(crate) fn unfit(error: WantedError) -> Refusal
     ensures memory { result ≢ Memory → error ≢ wanting.Memory }
     ensures pathless { IsPathless result }
-    ensures so { (given : List GivenFields) (keys : List (List ℕ)) → IsSo given keys result }
+    ensures told { (result ≡ Memory) ⊎ (result ≡ Unfit error) }
 {
     match error {
         WantedError::Memory => Refusal::Memory,
@@ -93,7 +93,7 @@ fn fields_of(
 ) -> Result<TbsCert, Refusal>
     ensures { let issuer = option_map (λ r. r.now) issuer.entry in
         let asked = asked_fields order.now in let keys = contents keys.now in
-        AnswersOnly (λ why. IsPathless why × IsSo asked.given keys why)
+        AnswersOnly (IsFieldsFault kind asked.given keys)
         (AsksFields kind asked keys issuer) result }
 {
     let wanted = wanted(alloc, order);
@@ -128,8 +128,9 @@ fn prepared_below(
         IfErr result (λ why. why ≢ Memory → (octets : List ℕ)
         → PreparesBelow kind asked (contents keys.now) at issuer octets → ⊥) }
     ensures pathless { IfErr result IsPathless }
-    ensures so { let asked = asked_fields order.now in
-        IfErr result (IsSo asked.given (contents keys.now)) }
+    ensures so { let issuer = option_map (λ r. r.now) issuer.entry in
+        let asked = asked_fields order.now in
+        IfErr result (IsSoOfCertificate kind asked (contents keys.now) at issuer) }
 {
     let tbs = fields_of(alloc, order, kind, keys, issuer)?;
     let octets = prepare_octets(alloc, &tbs, kind, issuer, order.strict, at);
@@ -177,7 +178,7 @@ fn prepared(
     ensures told { let x = context_of (asked_fields order.now) at in
         IfErr result (TellsPath x inputs.now.issuers inputs.now.lists) }
     ensures so { let asked = asked_fields order.now in
-        IfErr result (IsSo asked.given inputs.now.keys) }
+        IfErr result (IsSoOfPrepared kind asked inputs.now at) }
 {
     let issuer = issuer_asked(alloc, order, inputs, at)?;
     let octets = prepared_below(alloc, order, kind, inputs.keys, issuer.as_ref(), at);
@@ -199,6 +200,8 @@ fn list_prepared_below(
         IfErr result (λ why. why ≢ Memory → (octets : List ℕ)
         → PreparesListBelow asked inputs.now at issuer.now.cert.fields octets → ⊥) }
     ensures pathless { IfErr result IsPathless }
+    ensures so { let asked = asked_fields order.now in
+        IfErr result (IsListFault asked inputs.now at issuer.now.cert.fields) }
 {
     let list = list_asked(alloc, order, inputs, issuer, at)?;
     let octets = prepare_list_octets(alloc, &list, issuer, order.strict, at);
@@ -223,6 +226,8 @@ fn list_prepared(
         → GivesToSign (PreparesList asked inputs.now at) given → ⊥) }
     ensures told { let x = context_of (asked_fields order.now) at in
         IfErr result (TellsPath x inputs.now.issuers inputs.now.lists) }
+    ensures so { let asked = asked_fields order.now in
+        IfErr result (IsSoOfListed asked inputs.now at) }
 {
     let Some(issuer) = issuer_asked(alloc, order, inputs, at)? else {
         return Err(Refusal::NoIssuer);
@@ -246,6 +251,7 @@ fn completed_as(tbs: &TbsCert, issuer: Option<&ResourceCert>) -> Kind
 fn named_otherwise(issuer: Option<&ResourceCert>) -> Refusal
     ensures memory { result ≢ Memory }
     ensures pathless { IsPathless result }
+    ensures place { result ≡ OtherName (name_place (option_map (λ r. r.now) issuer.entry)) }
 {
     match issuer {
         Some(_) => Refusal::OtherName(1),
@@ -270,6 +276,9 @@ fn completed_below(
         IfErr result (λ why. why ≢ Memory → (octets : List ℕ)
         → CompletesBelow asked at issuer prepared.now signature.now octets → ⊥) }
     ensures pathless { IfErr result IsPathless }
+    ensures so { let issuer = option_map (λ r. r.now) issuer.entry in
+        let asked = asked_fields order.now in
+        IfErr result (IsSoOfMade asked at issuer prepared.now signature.now) }
 {
     let tbs = to_sign(alloc, prepared)?;
     if !is_named(&tbs, issuer) {
@@ -312,6 +321,9 @@ fn list_completed_below(
         IfErr result (λ why. why ≢ Memory → (octets : List ℕ)
         → CompletesListBelow asked at issuer prepared.now signature.now octets → ⊥) }
     ensures pathless { IfErr result IsPathless }
+    ensures so { let asked = asked_fields order.now in
+        let issuer = issuer.now.cert.fields in
+        IfErr result (IsMadeListFault asked at issuer prepared.now signature.now) }
 {
     // Called for what it ensures alone.
     laws::lists::unambiguous();
@@ -341,6 +353,9 @@ fn made_below(
         IfErr result (λ why. why ≢ Memory → (given : Made)
         → CompletesAs asked at issuer prepared.now signature.now given → ⊥) }
     ensures pathless { IfErr result IsPathless }
+    ensures so { let issuer = option_map (λ r. r.now) issuer.entry in
+        let asked = asked_fields order.now in
+        IfErr result (IsSoOfEither asked at issuer prepared.now signature.now) }
 {
     let Some(list) = list_to_sign(alloc, prepared)? else {
         let octets = completed_below(alloc, order, issuer, prepared, signature, at)?;
@@ -379,6 +394,8 @@ fn completed(
         → Completes (asked_fields order.now) inputs.now at given → ⊥) }
     ensures told { let x = context_of (asked_fields order.now) at in
         IfErr result (TellsPath x inputs.now.issuers inputs.now.lists) }
+    ensures so { let asked = asked_fields order.now in
+        IfErr result (IsSoOfCompletion asked inputs.now at) }
 {
     let Some((prepared, signature)) = two_files(inputs.files) else {
         return Err(Refusal::Files);
@@ -402,7 +419,7 @@ pub fn fulfil(
         → Fulfils (asked_fields order.now) inputs.now at given → ⊥) }
     ensures told { let x = context_of (asked_fields order.now) at in
         IfErr result (TellsPath x inputs.now.issuers inputs.now.lists) }
-    ensures so { IfErr result (IsSoOf (asked_fields order.now) inputs.now) }
+    ensures so { IfErr result (IsSoOf (asked_fields order.now) inputs.now at) }
 {
     match order.errand {
         Errand::Authority => prepared(alloc, order, Kind::Authority, inputs, at),

@@ -4,8 +4,8 @@ ghost use Rattle.rpki.specs.Certificates.{IsTbsCertificate};
 ghost use Rattle.rpki.specs.KeyForms.{IsUsableKey};
 ghost use Rattle.rpki.specs.Keys.{IsPublicKey};
 ghost use Rattle.rpki_files.specs.Files.{contents};
-ghost use Rattle.rpki_requests.specs.Refusals.{AnswersOnly, IsPathless};
-ghost use Rattle.rpki_requests.specs.ToldRefusals.{IsKeyFault, IsUnreadKey};
+ghost use Rattle.rpki_requests.specs.Refusals.{AnswersOnly};
+ghost use Rattle.rpki_requests.specs.ToldRefusals.{IsDataFault, IsKeyFault, IsUnreadKey};
 ghost use Rattle.rpki_requests.specs.RequestFiles.{IsKeyFile};
 ghost use Rattle.rpki_issuing.specs.PreparedOctets.{IsToSign};
 
@@ -65,7 +65,7 @@ pub(crate) fn subject_key(alloc: Global, files: &[Object<'_>]) -> Result<PublicK
 
 // The fields of the TBSCertificate that the octets are.
 fn read_data(alloc: Global, octets: &Bytes) -> Result<TbsCert, Refusal>
-    ensures { AnswersOnly IsPathless (λ f. IsTbsCertificate f octets.now) result }
+    ensures { AnswersOnly (IsDataFault octets.now) (λ f. IsTbsCertificate f octets.now) result }
 {
     laws::certificates::unambiguous();
     let mut cursor = Cursor::new(octets);
@@ -91,7 +91,7 @@ fn read_data(alloc: Global, octets: &Bytes) -> Result<TbsCert, Refusal>
 
 /// Returns the fields of what is to be signed, whose key has to be one that the RPKI uses.
 pub(crate) fn to_sign(alloc: Global, octets: &Bytes) -> Result<TbsCert, Refusal>
-    ensures { AnswersOnly IsPathless (λ f. IsToSign f octets.now) result }
+    ensures { AnswersOnly (IsDataFault octets.now) (λ f. IsToSign f octets.now) result }
 {
     let tbs = read_data(alloc, octets)?;
     let key = tbs.subject_public_key_info();

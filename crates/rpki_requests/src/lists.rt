@@ -8,9 +8,12 @@ ghost use Rattle.rpki_issuing.specs.OnlyValues.{Finds};
 ghost use Rattle.rpki_issuing.specs.ValueTexts.{IsSerialText};
 ghost use Rattle.rpki_requests.specs.Fulfilment.{AsksList};
 ghost use Rattle.rpki_requests.specs.OptionValues.{GivesEntries, GivesList, given_alone, revoked_at};
-ghost use Rattle.rpki_requests.specs.Refusals.{AnswersOnly, AnswersOnlyBy, IsPathless};
+ghost use Rattle.rpki_requests.specs.RefusedErrands.{IsAskedListFault};
+ghost use Rattle.rpki_requests.specs.Refusals.{AnswersOnly, AnswersOnlyBy};
 ghost use Rattle.rpki_requests.specs.RequestFiles.{IsOwnListIn, IsPreviousOf, IsRevokedFile};
 ghost use Rattle.rpki_requests.specs.RequestWords.{values_of};
+ghost use Rattle.rpki_requests.specs.ToldRefusals.{IsOtherFile, IsOtherList, IsValueOf, IsWantedFault};
+ghost use Rattle.rpki_requests.specs.declared.refusals.Refusal.TheVariants.{OtherList};
 ghost use Rattle.rpki_requests.specs.RequestWords.Views.{asked_fields};
 ghost use Rattle.rpki.specs.RevokedEntries.Views.{entry_of};
 
@@ -49,7 +52,7 @@ fn file_alone<'f, 'n>(files: &'f [Object<'n>]) -> Result<Option<&'f Object<'n>>,
     ensures alone { IfOk result (λ o.
         contents files.now ≡ given_alone (option_map (λ file. file.now.octets) o)) }
     ensures several { IfErr result (λ _. 2 ≤ length (contents files.now)) }
-    ensures pathless { IfErr result IsPathless }
+    ensures other { IfErr result (λ why. why ≡ OtherList) }
 {
     match files {
         [] => Ok(None),
@@ -80,8 +83,9 @@ fn previous_of<'f>(
     issuer: &ResourceCert,
     strict: bool,
 ) -> Result<Option<&'f Crl>, Refusal>
-    ensures { AnswersOnlyBy (λ o. option_map (λ list. list.now.list) o)
-        (IsPreviousOf issuer.now.cert.fields (contents files.now)) result }
+    ensures { let issuer = issuer.now.cert.fields in let files = contents files.now in
+        AnswersOnlyBy (IsOtherList issuer files) (λ o. option_map (λ list. list.now.list) o)
+        (IsPreviousOf issuer files) result }
 {
     let Some(file) = file_alone(files)? else {
         return Ok(None);
@@ -128,8 +132,9 @@ fn push(serials: &mut Vec<Serial>, serial: Serial) -> Result<(), AllocError>
 
 // The serial numbers of the certificates that the files are, which name the issuer's key.
 fn serials_of(alloc: Global, files: &[Object<'_>], issuer: &TbsCert) -> Result<Vec<Serial>, Refusal>
-    ensures { AnswersOnlyBy (λ v. v.items)
-        (λ serials. AllZip (IsRevokedFile issuer.now) serials (contents files.now)) result }
+    ensures { let files = contents files.now in
+        AnswersOnlyBy (IsOtherFile issuer.now files) (λ v. v.items)
+        (λ serials. AllZip (IsRevokedFile issuer.now) serials files) result }
 {
     let mut serials = Vec::new(alloc);
     for (place, file) in files.iter().enumerate() {
@@ -144,7 +149,8 @@ fn serials_of(alloc: Global, files: &[Object<'_>], issuer: &TbsCert) -> Result<V
 // The serial numbers that the texts say.
 fn serials_said(alloc: Global, texts: &[&[u8]]) -> Result<Vec<Serial>, Refusal>
     ensures { let texts = map (λ t. t.now) texts.now in
-        AnswersOnlyBy (λ v. v.items) (λ serials. AllZip IsSerialText serials texts) result }
+        AnswersOnlyBy (IsValueOf Setting.Serial) (λ v. v.items)
+        (λ serials. AllZip IsSerialText serials texts) result }
 {
     let mut serials = Vec::new(alloc);
     for text in texts {
@@ -159,7 +165,8 @@ fn serials_said(alloc: Global, texts: &[&[u8]]) -> Result<Vec<Serial>, Refusal>
 // The serial numbers that options give.
 fn serials_given(alloc: Global, order: &Order<'_>) -> Result<Vec<Serial>, Refusal>
     ensures { let texts = values_of Setting.Serial (asked_fields order.now).given in
-        AnswersOnlyBy (λ v. v.items) (λ serials. AllZip IsSerialText serials texts) result }
+        AnswersOnlyBy (IsValueOf Setting.Serial) (λ v. v.items)
+        (λ serials. AllZip IsSerialText serials texts) result }
 {
     let texts = order.values_of(alloc, Setting::Serial)?;
     let serials = serials_said(alloc, &texts);
@@ -206,9 +213,9 @@ fn entries_revoked(
     issuer: &TbsCert,
     at: Time,
 ) -> Result<Vec<CrlEntry>, Refusal>
-    ensures { let given = (asked_fields order.now).given in
-        AnswersOnlyBy (λ v. map entry_of v.items)
-        (GivesEntries given (contents files.now) issuer.now at) result }
+    ensures { let given = (asked_fields order.now).given in let files = contents files.now in
+        AnswersOnlyBy (IsWantedFault given files issuer.now) (λ v. map entry_of v.items)
+        (GivesEntries given files issuer.now at) result }
 {
     let by_files = serials_of(alloc, files, issuer);
     let by_numbers = serials_given(alloc, order);
@@ -231,8 +238,9 @@ fn wanted_list(
     issuer: &TbsCert,
     at: Time,
 ) -> Result<WantedList, Refusal>
-    ensures { let given = (asked_fields order.now).given in
-        AnswersOnly IsPathless (GivesList given (contents files.now) issuer.now at) result }
+    ensures { let given = (asked_fields order.now).given in let files = contents files.now in
+        AnswersOnly (IsWantedFault given files issuer.now)
+        (GivesList given files issuer.now at) result }
 {
     let number = match at_most_once::<Serial>(alloc, order, Setting::Number) {
         Ok(number) => number,
@@ -259,8 +267,9 @@ pub(crate) fn list_asked(
     issuer: &ResourceCert,
     at: Time,
 ) -> Result<TbsCertList<RevokedCertificates>, Refusal>
-    ensures { AnswersOnly IsPathless
-        (AsksList (asked_fields order.now) inputs.now at issuer.now.cert.fields) result }
+    ensures { let asked = asked_fields order.now in let issuer = issuer.now.cert.fields in
+        AnswersOnly (IsAskedListFault asked.given inputs.now at issuer)
+        (AsksList asked inputs.now at issuer) result }
 {
     let previous = match previous_of(inputs.previous, issuer, order.strict) {
         Ok(previous) => previous,

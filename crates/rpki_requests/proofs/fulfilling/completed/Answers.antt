@@ -1,9 +1,10 @@
-use Rattle.std.specs.Prelude.{option_map}
-use Rattle.std.proofs.Common.{◌≡◌, ℕ, List, [], ◌∷◌, Bor, Option, rules, sym, subst, ◌∙◌}
+use Rattle.std.specs.Prelude.{Err, option_map}
+use Rattle.std.proofs.Common.{◌≡◌, ℕ, List, [], ◌∷◌, Bor, Option, inl, inr, refl, rules, sym, subst, ◌∙◌}
 use Rattle.rpki.specs.Verification.{ResourceFields}
 use Rattle.rpki_files.specs.Files.{contents}
 use Rattle.rpki_issuing.proofs.SameRoles.{on_ok, on_err}
 use Rattle.rpki_requests.specs.Fulfilment.{CompletesAs}
+use Rattle.rpki_requests.specs.RefusedErrands.{IsSoOfEither}
 use Rattle.rpki_requests.specs.RequestFiles.{AreOneIssuer}
 use Rattle.rpki_requests.specs.RequestWords.Views.{asked_fields}
 use Rattle.rpki_requests.proofs.AskedLists.{completes_as_moved}
@@ -44,3 +45,34 @@ returns-clause-refused c =
     below not given (completes_as_moved asked c.args.at c.in-Some.prepared.now c.deref.result.now p.issuer c.as_ref.result given one
     (subst (λ (l : List ℕ). CompletesAs asked c.args.at p.issuer l c.deref.result.now given) first
     (subst (λ (l : List ℕ). CompletesAs asked c.args.at p.issuer p.prepared l given) (second ∙ sym c.deref.ensures) p.completes))))
+
+pub returns-in_default-clause-so : goal.returns-in_default-clause-so
+returns-in_default-clause-so c =
+    let files : contents c.inputs.inside.files.now ≡ c.args.inputs.now.files = search rules in
+    inl (refl, λ prepared signature are. c.in_default.ensures prepared signature (files ∙ are))
+
+pub returns-in_err-issuer-clause-so : goal.returns-in_err-issuer-clause-so
+returns-in_err-issuer-clause-so c =
+    let same : c.from_residual.result ≡ Err c.in_err-issuer.field-0.0 = search rules in
+    rw same (inr (inl c.in_err-issuer.ensures.of_path))
+
+pub returns-clause-so : goal.returns-clause-so
+returns-clause-so c =
+    let asked = asked_fields c.args.order.now in
+    let above = option_map (λ (r : Bor ResourceFields). r.now) c.as_ref.result in
+    let prepared = c.in-Some.prepared.now in
+    let signature = c.in-Some.signature.now in
+    let files : contents c.inputs.inside.files.now ≡ c.args.inputs.now.files = search rules in
+    on_err _ _ c.made_below-made.result c.made_below-made.ensures.so
+    (λ why below. inr (inr (record {
+      issuer = c.in_ok-issuer.issuer;
+      issuer_is = c.in_ok-issuer.ensures.issuer;
+      is_so = record {
+        prepared = prepared;
+        signature = signature;
+        files_are = sym files ∙ c.in-Some.ensures;
+        either =
+            subst (λ (o : Option ResourceFields). IsSoOfEither asked c.args.at o prepared signature why) c.as_ref.ensures.value
+            (subst (λ (l : List ℕ). IsSoOfEither asked c.args.at above prepared l why) c.deref.ensures below);
+      };
+    })))

@@ -1,11 +1,14 @@
 use Rattle.std.specs.Prelude.{Err, Option, option_map}
-use Rattle.std.proofs.Common.{◌≡◌, ℕ, List, Bor, rules, sym, subst}
+use Rattle.std.proofs.Common.{◌≡◌, ℕ, List, Bor, inl, inr, refl, rules, sym, subst}
+use Rattle.std.proofs.lemmas.Result.{err_from_is_err_and}
 use Rattle.rpki.specs.Lists.{IsTbsCertList, ListFields}
 use Rattle.rpki.specs.RevokedEntries.{Revoked}
 use Rattle.rpki.specs.Verification.{ResourceFields}
 use Rattle.rpki_issuing.specs.OnlyValues.{IsOnly}
 use Rattle.rpki_requests.specs.Fulfilment.{CompletesAs, CompletesListBelow}
 use Rattle.rpki_requests.specs.RequestWords.Views.{asked_fields}
+use Rattle.rpki_requests.specs.RefusedErrands.{IsMadeListFault, IsSoOfMadeList}
+use Rattle.rpki_requests.specs.declared.refusals.Refusal.TheVariants.{NoIssuer}
 use Rattle.rpki_requests.proofs.AskedLists.{none_as_certificate, none_as_list, none_without}
 use Rattle.rpki_requests.proofs.fulfilling.made_below.Goals as goal
 
@@ -35,3 +38,36 @@ returns-in_err-octets-2-clause-refused c =
     rw same (λ not given p. none_as_list asked c.args.at prepared signature c.in-Some.list found.0 c.in-Some-issuer.issuer.now
     (λ octets is. c.in_err-octets-2.ensures.refused not octets (subst (λ (l : List ℕ). CompletesListBelow asked c.args.at c.in-Some-issuer.issuer.now.cert.fields l signature octets) (sym c.deref.ensures) is)) given
     (subst (λ (o : Option (Bor ResourceFields)). CompletesAs asked c.args.at (option_map (λ (r : Bor ResourceFields). r.now) o) prepared signature given) c.in-Some-issuer.is p))
+
+pub returns-in_err-list-clause-so : goal.returns-in_err-list-clause-so
+returns-in_err-list-clause-so c =
+    let gives = err_from_is_err_and c.from_residual.result c.from_residual.ensures.1 in
+    rw (gives.1, gives.2) (inl refl)
+
+pub returns-in_err-octets-clause-so : goal.returns-in_err-octets-clause-so
+returns-in_err-octets-clause-so c =
+    let none : (f : ListFields Revoked) → IsTbsCertList f c.args.prepared.now → ⊥ = rw c.in_default.is at c.in_ok-list.ensures in
+    let same : c.from_residual-in_err-octets.result ≡ Err c.in_err-octets.field-0.0 = search rules in
+    rw same (inr (inr (λ list. none list.0 list.1, c.in_err-octets.ensures.so)))
+
+pub returns-in_default-issuer-clause-so : goal.returns-in_default-issuer-clause-so
+returns-in_default-issuer-clause-so c =
+    let prepared = c.args.prepared.now in
+    let found : IsOnly (λ (f : ListFields Revoked). IsTbsCertList f prepared) c.in-Some.list = rw c.in-Some.is at c.in_ok-list.ensures in
+    let asked = asked_fields c.args.order.now in
+    let signature = c.args.signature.now in
+    let so = subst (λ (o : Option (Bor ResourceFields)). IsSoOfMadeList asked c.args.at (option_map (λ (r : Bor ResourceFields). r.now) o) prepared signature NoIssuer) (sym c.in_default-issuer.is) refl in
+    inr (inl ((c.in-Some.list, found.0), so))
+
+pub returns-in_err-octets-2-clause-so : goal.returns-in_err-octets-2-clause-so
+returns-in_err-octets-2-clause-so c =
+    let prepared = c.args.prepared.now in
+    let why = c.in_err-octets-2.field-0.0 in
+    let above = c.in-Some-issuer.issuer.now.cert.fields in
+    let found : IsOnly (λ (f : ListFields Revoked). IsTbsCertList f prepared) c.in-Some.list = rw c.in-Some.is at c.in_ok-list.ensures in
+    let asked = asked_fields c.args.order.now in
+    let signature = c.args.signature.now in
+    let fault = subst (λ (l : List ℕ). IsMadeListFault asked c.args.at above l signature why) c.deref.ensures c.in_err-octets-2.ensures.so in
+    let so = subst (λ (o : Option (Bor ResourceFields)). IsSoOfMadeList asked c.args.at (option_map (λ (r : Bor ResourceFields). r.now) o) prepared signature why) (sym c.in-Some-issuer.is) fault in
+    let same : c.from_residual-in_err-octets-2.result ≡ Err why = search rules in
+    rw same (inr (inl ((c.in-Some.list, found.0), so)))

@@ -1,5 +1,5 @@
 use Rattle.std.specs.Prelude.{Err, option_map}
-use Rattle.std.proofs.Common.{◌≡◌, ℕ, List, Bor, Option, rules, sym, subst}
+use Rattle.std.proofs.Common.{◌≡◌, ℕ, List, Bor, Option, inl, inr, rules, sym, subst}
 use Rattle.rpki.specs.Verification.{ResourceFields}
 use Rattle.rpki_files.specs.Files.{contents}
 use Rattle.rpki_requests.specs.Fulfilment.{Prepares, PreparesBelow}
@@ -7,8 +7,7 @@ use Rattle.rpki_requests.specs.RequestFiles.{AreOneIssuer}
 use Rattle.rpki_requests.specs.RequestWords.Views.{asked_fields}
 use Rattle.rpki_requests.proofs.AskedLists.{none_to_sign}
 use Rattle.rpki_requests.proofs.OneIssuers.{prepares_moved}
-use Rattle.rpki_requests.specs.ToldRefusals.{IsSo}
-use Rattle.rpki_requests.proofs.RefusalCases.{path_so}
+use Rattle.rpki_requests.specs.RefusedErrands.{IsSoOfCertificate}
 use Rattle.rpki_requests.proofs.fulfilling.prepared.Goals as goal
 
 pub returns-in_err-issuer-clause-refused : goal.returns-in_err-issuer-clause-refused
@@ -43,10 +42,16 @@ returns-in_err-octets-clause-refused c =
 pub returns-in_err-issuer-clause-so : goal.returns-in_err-issuer-clause-so
 returns-in_err-issuer-clause-so c =
     let same : c.from_residual.result ≡ Err c.in_err-issuer.field-0.0 = search rules in
-    rw same (path_so (asked_fields c.args.order.now).given c.args.inputs.now.keys c.in_err-issuer.field-0.0 c.in_err-issuer.ensures.of_path)
+    rw same (inl c.in_err-issuer.ensures.of_path)
 
 pub returns-in_err-octets-clause-so : goal.returns-in_err-octets-clause-so
 returns-in_err-octets-clause-so c =
+    let asked = asked_fields c.args.order.now in
+    let above = option_map (λ (r : Bor ResourceFields). r.now) c.as_ref.result in
+    let why = c.in_err-octets.field-0.0 in
     let keys : contents c.inputs.inside.keys.now ≡ c.args.inputs.now.keys = search rules in
-    let same : c.from_residual-in_err-octets.result ≡ Err c.in_err-octets.field-0.0 = search rules in
-    rw same (subst (λ (l : List (List ℕ)). IsSo (asked_fields c.args.order.now).given l c.in_err-octets.field-0.0) keys c.in_err-octets.ensures.so)
+    let same : c.from_residual-in_err-octets.result ≡ Err why = search rules in
+    let below =
+    subst (λ (o : Option ResourceFields). IsSoOfCertificate c.args.kind asked c.args.inputs.now.keys c.args.at o why) c.as_ref.ensures.value
+    (subst (λ (l : List (List ℕ)). IsSoOfCertificate c.args.kind asked l c.args.at above why) keys c.in_err-octets.ensures.so) in
+    rw same (inr (record { issuer = c.in_ok-issuer.issuer; issuer_is = c.in_ok-issuer.ensures.issuer; is_so = below }))

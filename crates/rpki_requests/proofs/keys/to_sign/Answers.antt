@@ -1,5 +1,5 @@
 use Rattle.std.specs.Prelude.{Err}
-use Rattle.std.proofs.Common.{◌≡◌, rules, sym, ap, subst, ◌∙◌}
+use Rattle.std.proofs.Common.{◌≡◌, refl, rules, sym, ap, subst, ◌∙◌}
 use Rattle.std.proofs.lemmas.Bool.{false≢true}
 use Rattle.rpki.specs.Certificates.{TbsFields}
 use Rattle.rpki.specs.KeyForms.{IsUsableKey}
@@ -21,9 +21,12 @@ returns-then-is_usable c = (
 )
 
 pub returns : goal.returns
-returns c = (
-  tt,
-  λ not f h.
-      let key = ap (λ (g : TbsFields). g.key) (c.in_ok-tbs.ensures.1 f h.is_data) ∙ sym c.subject_public_key_info-key.ensures in
-      false≢true (sym c.if-is_usable.false ∙ c.is_usable.ensures.1 (subst (λ (k : KeyFields). IsUsableKey k) key h.usable)),
-)
+returns c =
+    let tbs = c.in_ok-tbs.tbs in
+    let key : c.subject_public_key_info-key.result.now ≡ tbs.key = c.subject_public_key_info-key.ensures in
+    let not_usable : (k : KeyFields) → k ≡ tbs.key → IsUsableKey k → ⊥ = λ k same usable.
+    false≢true (sym c.if-is_usable.false ∙ c.is_usable.ensures.1 (subst (λ (l : KeyFields). IsUsableKey l) (same ∙ sym key) usable)) in
+    let format = ap (λ (k : KeyFields). k.format) (sym key) ∙ sym c.algorithm-format.ensures in (
+      (tbs, c.in_ok-tbs.ensures.0, format, not_usable tbs.key refl),
+      λ not f h. not_usable f.key (ap (λ (g : TbsFields). g.key) (c.in_ok-tbs.ensures.1 f h.is_data)) h.usable,
+    )

@@ -1,11 +1,13 @@
 use Rattle.std.specs.List.{AllZip}
-use Rattle.std.proofs.Common.{◌≡◌, ◌+◌, ◌<◌, ◌≤◌, ◌++◌, ◌∷◌, [], ℕ, List, length, map, refl, rules, sym, subst, arith}
-use Rattle.std.proofs.lemmas.List.{take_all}
+use Rattle.std.proofs.Common.{◌≡◌, ◌+◌, ◌<◌, ◌≤◌, ◌++◌, ◌∷◌, [], ℕ, List, get_or, inl, inr, length, map, refl, rules, sym, ap, subst, ◌∙◌, arith}
+use Rattle.std.proofs.lemmas.List.{get_or-map, take-map, take_all}
 use Rattle.std.proofs.lemmas.Result.{err_from_is_err_and}
-use Rattle.rpki_files.specs.Files.{FileFields}
+use Rattle.rpki_files.specs.Files.{FileFields, contents}
 use Rattle.rpki_issuing.specs.OnlyValues.{IsOnly}
 use Rattle.rpki_issuing.proofs.ZippedTexts.{only_none}
+use Rattle.rpki_verdicts.proofs.MappedItems.{mapped_low}
 use Rattle.rpki_requests.specs.RequestFiles.{IsRevokedFile}
+use Rattle.rpki_requests.specs.ToldRefusals.{IsFirstOther}
 use Rattle.rpki_requests.proofs.PlaceByPlace.{AreOnlySoFar, none_there, one_on}
 use Rattle.rpki_requests.proofs.lists.serials_of.Goals as goal
 
@@ -17,12 +19,26 @@ loop-place-init c =
 pub returns-in_err-push : goal.returns-in_err-push
 returns-in_err-push c =
     let gives = err_from_is_err_and c.from_residual.result c.from_residual.ensures.1 in
-    rw (gives.1, gives.2) (tt, λ not. absurd (not refl))
+    rw (gives.1, gives.2) (inl refl, λ not. absurd (not refl))
 
 pub returns-in_default : goal.returns-in_default
 returns-in_default c =
-    let low : c.loop-place.place < length c.args.files.now = omega arith in
-    (tt, λ not. none_there (IsRevokedFile c.args.issuer.now) (λ (f : FileFields). f.octets) c.args.files.now c.loop-place.place c.index-files-place.result low c.index-files-place.is c.in_default.ensures)
+    let R = IsRevokedFile c.args.issuer.now in
+    let octets = λ (f : FileFields). f.octets in
+    let files = c.args.files.now in
+    let place = c.loop-place.place in
+    let file = c.index-files-place.result in
+    let low : place < length files = omega arith in
+    let before = c.loop-place.serials.items in
+    let there : file.octets ≡ get_or (contents files) place [] =
+    ap octets c.index-files-place.is ∙ sym (get_or-map octets files place file [] low) in
+    let first : IsFirstOther c.args.issuer.now (contents files) place = record {
+      low = mapped_low octets files place low;
+      before = before;
+      before_are = subst (λ (l : List (List ℕ)). AllZip R before l) (sym (take-map octets place files)) c.loop-place.invariant.0;
+      other = λ serial is. c.in_default.ensures serial (subst (λ (l : List ℕ). R serial l) (sym there) is);
+    } in
+    (inr (place, refl, first), λ not. none_there R octets files place file low c.index-files-place.is c.in_default.ensures)
 
 pub loop-place-preserved : goal.loop-place-preserved
 loop-place-preserved c =

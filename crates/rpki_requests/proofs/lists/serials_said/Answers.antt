@@ -1,4 +1,4 @@
-use Rattle.std.proofs.Common.{◌≡◌, ◌+◌, ◌≤◌, ◌++◌, ◌∷◌, [], ℕ, List, Bor, length, map, take, get_or, rules, sym, subst}
+use Rattle.std.proofs.Common.{◌≡◌, ◌+◌, ◌≤◌, ◌++◌, ◌∷◌, [], ℕ, List, Bor, length, map, take, get_or, refl, rules, sym, subst}
 use Rattle.std.specs.List.{AllZip}
 use Rattle.std.proofs.lemmas.List.{take_all}
 use Rattle.rpki_issuing.specs.OnlyValues.{IsOnly}
@@ -14,7 +14,7 @@ loop-text-init c =
 pub returns-in_default : goal.returns-in_default
 returns-in_default c =
     let d : Bor (List ℕ) = record { ref_ptr = (0, 0); now = [] } in
-    (tt, λ not. none_at IsSerialText c.args.texts.now c.loop-text.text-index d c.loop-text-test.true (rw c.in_default.is at c.in_ok-serial.ensures))
+    (refl, λ not. none_at IsSerialText c.args.texts.now c.loop-text.text-index d c.loop-text-test.true (rw c.in_default.is at c.in_ok-serial.ensures))
 
 pub loop-text-preserved : goal.loop-text-preserved
 loop-text-preserved c =

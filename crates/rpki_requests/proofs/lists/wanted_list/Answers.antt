@@ -1,17 +1,28 @@
-use Rattle.std.specs.Prelude.{Err, map}
-use Rattle.std.proofs.Common.{◌≡◌, rules}
+use Rattle.std.specs.Prelude.{Err, map, Option}
+use Rattle.std.proofs.Common.{◌≡◌, ℕ, inl, rules}
+use Rattle.rpki.specs.Times.{Moment}
 use Rattle.rpki_files.specs.Files.{contents}
+use Rattle.rpki_issuing.specs.ValueTexts.{IsSerialText}
+use Rattle.rpki_requests.specs.OptionValues.{IsMomentSaid, SaysAtMostOnce, SaysOnce}
+use Rattle.rpki_requests.specs.RequestWords.{values_of}
 use Rattle.rpki_requests.specs.RequestWords.Views.{given_fields}
+use Rattle.rpki_requests.specs.ToldRefusals.{HasListValue}
+use Rattle.rpki_requests.proofs.RefusalCases.{value_told}
 use Rattle.rpki_requests.proofs.RevokedFiles.{list_ok}
 use Rattle.rpki_requests.specs.declared.words.Setting.TheVariants.{Number, NextUpdate}
-use Rattle.rpki_requests.proofs.RefusalCases.{value_pathless}
 use Rattle.rpki_requests.proofs.lists.wanted_list.Goals as goal
 
 pub returns-in-Err : goal.returns-in-Err
-returns-in-Err c = (value_pathless Number c.in-Err.why c.in-Err.ensures.0, λ not w h. c.in-Err.ensures.1 not w.number h.number_is)
+returns-in-Err c =
+    let given = map given_fields c.args.order.now.given.items in
+    let Is : Option ℕ → Type 0 = λ n. SaysAtMostOnce IsSerialText (values_of Number given) n in
+    (inl (value_told (HasListValue given) Number Is c.in-Err.why (λ h. h) c.in-Err.ensures.0 c.in-Err.ensures.1), λ not w h. c.in-Err.ensures.1 not w.number h.number_is)
 
 pub returns-in-Err-moment : goal.returns-in-Err-moment
-returns-in-Err-moment c = (value_pathless NextUpdate c.in-Err-moment.why c.in-Err-moment.ensures.0, λ not w h. c.in-Err-moment.ensures.1 not w.next_update h.next_update_is)
+returns-in-Err-moment c =
+    let given = map given_fields c.args.order.now.given.items in
+    let Is : Moment → Type 0 = λ m. SaysOnce IsMomentSaid (values_of NextUpdate given) m in
+    (inl (value_told (HasListValue given) NextUpdate Is c.in-Err-moment.why (λ h. h) c.in-Err-moment.ensures.0 c.in-Err-moment.ensures.1), λ not w h. c.in-Err-moment.ensures.1 not w.next_update h.next_update_is)
 
 pub returns-in_err-revoked : goal.returns-in_err-revoked
 returns-in_err-revoked c =

@@ -4,24 +4,24 @@ use Rattle.rpki_requests.specs.RequestWords.Views.{given_fields}
 use Rattle.rpki_requests.proofs.GivenWants.{AreParts, IsFrom, IsSerialGiven, IsUntil, wanted_ok}
 use Rattle.rpki_requests.proofs.OnlyAnswers.{both_only, when_ok, when_err}
 use Rattle.rpki_requests.proofs.RefusalCases.{value_told}
-use Rattle.rpki_requests.specs.ToldRefusals.{IsOption}
+use Rattle.rpki_requests.specs.ToldRefusals.{HasValue, IsOption}
 use Rattle.rpki_requests.specs.declared.words.Setting.TheVariants.{Serial, From, Until}
 use Rattle.rpki_requests.proofs.values.wanted.Goals as goal
 
 pub returns-in-Err : goal.returns-in-Err
 returns-in-Err c =
     let given = map given_fields c.args.order.now.given.items in
-    (value_told given Serial (IsSerialGiven given) c.in-Err.why (λ h. h) c.in-Err.ensures.0 c.in-Err.ensures.1, λ not w h. c.in-Err.ensures.1 not w.serial h.serial_is)
+    (value_told (HasValue given) Serial (IsSerialGiven given) c.in-Err.why (λ h. h) c.in-Err.ensures.0 c.in-Err.ensures.1, λ not w h. c.in-Err.ensures.1 not w.serial h.serial_is)
 
 pub returns-in-Err-moment : goal.returns-in-Err-moment
 returns-in-Err-moment c =
     let given = map given_fields c.args.order.now.given.items in
-    (value_told given From (IsFrom given) c.in-Err-moment.why (λ h. h) c.in-Err-moment.ensures.0 c.in-Err-moment.ensures.1, λ not w h. c.in-Err-moment.ensures.1 not w.not_before h.from_is)
+    (value_told (HasValue given) From (IsFrom given) c.in-Err-moment.why (λ h. h) c.in-Err-moment.ensures.0 c.in-Err-moment.ensures.1, λ not w h. c.in-Err-moment.ensures.1 not w.not_before h.from_is)
 
 pub returns-in-Err-moment-2 : goal.returns-in-Err-moment-2
 returns-in-Err-moment-2 c =
     let given = map given_fields c.args.order.now.given.items in
-    (value_told given Until (IsUntil given) c.in-Err-moment-2.why (λ h. h) c.in-Err-moment-2.ensures.0 c.in-Err-moment-2.ensures.1, λ not w h. c.in-Err-moment-2.ensures.1 not w.not_after h.until_is)
+    (value_told (HasValue given) Until (IsUntil given) c.in-Err-moment-2.why (λ h. h) c.in-Err-moment-2.ensures.0 c.in-Err-moment-2.ensures.1, λ not w h. c.in-Err-moment-2.ensures.1 not w.not_after h.until_is)
 
 pub returns-in-Ok-both : goal.returns-in-Ok-both
 returns-in-Ok-both c =
