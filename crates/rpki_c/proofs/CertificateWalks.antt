@@ -16,13 +16,13 @@ use Rattle.rpki_der.proofs.Lists.{heads}
 use Rattle.rpki_der.proofs.Places.{cut}
 use Rattle.rpki_der.proofs.Values.{one_enc}
 use Rattle.rpki_parts.specs.Algorithms.{Algorithm, IsSignatureAlgorithm, algorithm_format}
-use Rattle.rpki_parts.specs.Keys.{IsPublicKey, public_key_format, whole_bits_format}
+use Rattle.rpki_parts.specs.Keys.{IsPublicKey, KeyFields, key_algorithm_format, public_key_format, whole_bits_format}
 use Rattle.rpki_parts.specs.Names.{name_format, rdn_sequence_format}
 use Rattle.rpki_parts.specs.Validities.{validity_format}
 use Rattle.rpki_parts.proofs.PartFormats.{whole_bits_are}
 use Rattle.rpki_parts.proofs.SignedFormats.{SignedParts, signed_parts}
 use Rattle.rpki_cert.specs.Certificates.{CertFields, IsCertificate, TbsFields, certificate_content_format, tbs_content_format, tbs_format, version_format}
-use Rattle.rpki_c.specs.CertificateSpans.{AreSignedSpans, AreTagged, GoesBehind, HasTag, IsAtFields, IsInside, IsKeySpan, IsSpan, StandsNone, StoodAt}
+use Rattle.rpki_c.specs.CertificateSpans.{AreSignedSpans, AreTagged, BitsStoodAt, GoesBehind, HasBits, HasTag, IsAtFields, IsAtKey, IsInside, IsKeyBits, IsKeySpan, IsSpan, StandsNoBits, StandsNone, StoodAt}
 use Rattle.rpki_folder.specs.Folders.{BeginsNoCertificate}
 
 -- ---- answers, and cursors that go on
@@ -30,6 +30,11 @@ use Rattle.rpki_folder.specs.Folders.{BeginsNoCertificate}
 -- an error that is passed on
 pub err_so : {X : Type 0} (P : Type 0) (r : Result X DecodeError) (e : DecodeError) → r ≡ Err e → P → IfErr r (λ e. P)
 err_so {X} P r e same p = subst (λ (t : Result X DecodeError). IfErr t (λ e. P)) (sym same) p
+
+-- an error of an answer that is passed on
+pub err_then : {X : Type 0} (P Q : Type 0) (r : Result X DecodeError) → (P → Q) → IfErr r (λ e. P) → IfErr r (λ e. Q)
+err_then P Q (Ok x) then h = tt
+err_then P Q (Err e) then h = then h
 
 -- a cursor stays
 pub stays : (at : Place) → MovesOn at at
@@ -186,7 +191,6 @@ pub record HasKey (f : TbsFields) (content : List ℕ) : Type 0 where
   pub info : List ℕ
   pub behind : List ℕ
   pub before_are : AreTagged before_key before
-  pub tagged : HasTag SEQUENCE info
   pub info_is : IsPublicKey f.key info
   pub parts : content ≡ before ++ (info ++ behind)
 
@@ -194,7 +198,7 @@ six_then : (a b c d e f rest : List ℕ) → (a ++ (b ++ (c ++ (d ++ (e ++ (f ++
 six_then a b c d e f rest = simp append_assoc
 
 pub has_key : (f : TbsFields) (content : List ℕ) → (tbs_content_format levels).encodes f content → HasKey f content
-unfolding tbs_content_format version_format algorithm_format name_format rdn_sequence_format validity_format public_key_format
+unfolding tbs_content_format version_format algorithm_format name_format rdn_sequence_format validity_format
 has_key f content (v, from_serial, v_is, (s, from_algorithm, s_is, (g, from_issuer, g_is, (n, from_validity, n_is, (d, from_subject, d_is, (u, from_key, u_is, (info, behind, k_is, x_is, k_then), u_then), d_then), n_then), g_then), s_then), v_then) = record {
   before = v ++ (s ++ (g ++ (n ++ (d ++ (u ++ [])))));
   info = info;
@@ -236,7 +240,6 @@ has_key f content (v, from_serial, v_is, (s, from_algorithm, s_is, (g, from_issu
     ),
     refl,
   );
-  tagged = (k_is.0, k_is.2);
   info_is = k_is;
   parts = v_then
       ∙ ap (λ (t : List ℕ). v ++ t) (s_then
@@ -257,34 +260,73 @@ module _ (octets : List ℕ) (at : Place) (fields : IsAtFields octets at) where
   pub not_before_key : StandsNone (AreTagged before_key) at → BeginsNoCertificate octets
   not_before_key none = λ c means. let k = key_in c means in none k.before (k.info ++ k.behind) k.before_are k.parts
 
-  module _ (next : Place) (behind : GoesBehind (AreTagged before_key) at next) where
-    -- a cursor behind what stands before it
-    at_key : (c : CertFields) (means : Means IsCertificate c octets) → remaining next ≡ (key_in c means).info ++ (key_in c means).behind
-    at_key c means = let k = key_in c means in behind k.before (k.info ++ k.behind) k.before_are k.parts
+  -- a cursor behind what stands before it
+  pub key_next : (next : Place) → GoesBehind (AreTagged before_key) at next → MovesOn at next → IsAtKey octets next
+  key_next next behind moves = record {
+    source = moves.source ∙ fields.source;
+    key = λ c means.
+        let k = key_in c means in
+        (k.behind, record { text = k.info; encoded = k.info_is; parts = behind k.before (k.info ++ k.behind) k.before_are k.parts });
+  }
 
-    -- it isn't there
-    pub no_key : (r : Result (ℕ × ℕ) DecodeError) → IfErr r (λ e. StandsNone (HasTag SEQUENCE) next) → IfErr r (λ e. BeginsNoCertificate octets)
-    no_key (Ok span) none = tt
-    no_key (Err e) none = λ c means. let k = key_in c means in none k.info k.behind k.tagged (at_key c means)
+-- a key is a SEQUENCE of an algorithm and its bits
+record KeyParts (k : KeyFields) (info : List ℕ) : Type 0 where
+  content : List ℕ
+  info_is : IsEnc SEQUENCE content info
+  has : HasBits k.bits content
 
-    -- its span
-    pub key_stood : (r : Result (ℕ × ℕ) DecodeError) → MovesOn at next → IfOk r (IsSpan next.source) → IfOk r (StoodAt (HasTag SEQUENCE) next) → IfOk r (IsKeySpan octets)
-    key_stood (Ok span) moves is stood =
-        let source : next.source ≡ octets = moves.source ∙ fields.source in
+key_parts : (k : KeyFields) (info : List ℕ) → IsPublicKey k info → KeyParts k info
+unfolding public_key_format key_algorithm_format
+key_parts k info (content, (a, b, a_is, b_is, parts), is) = record { content = content; info_is = is; has = (a, b, (a_is.0, a_is.2), b_is, parts) }
+
+module _ (octets : List ℕ) (at : Place) (is : IsAtKey octets at) where
+  parts_at : (c : CertFields) (means : Means IsCertificate c octets) → KeyParts c.fields.key (is.key c means).1.text
+  parts_at c means = key_parts c.fields.key (is.key c means).1.text (is.key c means).1.encoded
+
+  tagged_at : (c : CertFields) (means : Means IsCertificate c octets) → HasTag SEQUENCE (is.key c means).1.text
+  tagged_at c means = let k = parts_at c means in (k.content, k.info_is)
+
+  -- it isn't there
+  pub no_key : StandsNone (HasTag SEQUENCE) at → BeginsNoCertificate octets
+  no_key none = λ c means. let k = is.key c means in none k.1.text k.0 (tagged_at c means) k.1.parts
+
+  pub no_info : ((inner after : List ℕ) → Begins (IsEnc SEQUENCE) (remaining at) inner after → ⊥) → BeginsNoCertificate octets
+  no_info none = no_key (no_value SEQUENCE at none)
+
+  -- its span
+  pub key_stood : (r : Result (ℕ × ℕ) DecodeError) → IfOk r (IsSpan at.source) → IfOk r (StoodAt (HasTag SEQUENCE) at) → IfOk r (IsKeySpan octets)
+  key_stood (Ok span) is_span stood = record {
+    is_span = subst (λ (s : List ℕ). IsSpan s span) is.source is_span;
+    key = λ c means.
+        let k = is.key c means in
+        let there : slice_range octets span.0 span.1 ≡ k.1.text = subst (λ (s : List ℕ). slice_range s span.0 span.1 ≡ k.1.text) is.source (stood k.1.text k.0 (tagged_at c means) k.1.parts) in
+        subst (λ (info : List ℕ). IsPublicKey c.fields.key info) (sym there) k.1.encoded;
+  }
+  key_stood (Err e) is_span stood = tt
+
+  module _ (info after : Place) (read : Begins (IsEnc SEQUENCE) (remaining at) (remaining info) (remaining after)) where
+    -- its bits stand in it
+    bits_in : (c : CertFields) → Means IsCertificate c octets → HasBits c.fields.key.bits (remaining info)
+    bits_in c means =
+        let k = is.key c means in
+        let p = parts_at c means in
+        let same = same_value SEQUENCE p.content k.1.text k.0 (remaining at) (remaining info) (remaining after) p.info_is k.1.parts read in
+        subst (λ (content : List ℕ). HasBits c.fields.key.bits content) (sym same.0) p.has
+
+    pub no_bits : StandsNoBits info → BeginsNoCertificate octets
+    no_bits none = λ c means. none c.fields.key.bits (bits_in c means)
+
+    -- their span
+    pub bits_stood : (r : Result (ℕ × ℕ) DecodeError) → IsWithin info at → IfOk r (IsSpan info.source) → IfOk r (BitsStoodAt info) → IfOk r (IsKeyBits octets)
+    bits_stood (Ok span) within is_span stood =
+        let source : info.source ≡ octets = within.source ∙ is.source in
         record {
-          is_span = subst (λ (s : List ℕ). IsSpan s span) source is;
-          key = λ c means.
-              let k = key_in c means in
-              let there : slice_range octets span.0 span.1 ≡ k.info = subst (λ (s : List ℕ). slice_range s span.0 span.1 ≡ k.info) source (stood k.info k.behind k.tagged (at_key c means)) in
-              subst (λ (info : List ℕ). IsPublicKey c.fields.key info) (sym there) k.info_is;
+          is_span = subst (λ (s : List ℕ). IsSpan s span) source is_span;
+          bits = λ c means. subst (λ (s : List ℕ). slice_range s span.0 span.1 ≡ c.fields.key.bits) source (stood c.fields.key.bits (bits_in c means));
         }
-    key_stood (Err e) moves is stood = tt
+    bits_stood (Err e) within is_span stood = tt
 
--- ---- what is signed, and the signature
-
-algorithm_tagged : (a : Algorithm) (text : List ℕ) → IsSignatureAlgorithm a text → HasTag SEQUENCE text
-unfolding algorithm_format
-algorithm_tagged a text is = (is.0, is.2)
+-- ---- bits behind an algorithm
 
 -- a BIT STRING that stands there begins there
 bits_begin : (bits text octets : List ℕ) → whole_bits_format.encodes bits text → octets ≡ text → (v : ℕ × List ℕ) × Begins IsBits octets v []
@@ -298,6 +340,33 @@ bits_read bits text octets v after is parts b =
     let same = same_value BIT_STRING (0 ∷ bits) text [] octets (v.0 ∷ v.1) after (whole_bits_are bits text is) (parts ∙ sym (append-nil text)) read in
     (heads v.0 0 v.1 bits same.0).1
 
+-- what was read there is a span of the source
+pub bits_span_is : (old mid : Place) → MovesOn old mid → (bits : Place) → IsWithin bits mid → bits.from ≤ bits.to → bits.to ≤ length bits.source → IsSpan old.source (bits.from, bits.to)
+bits_span_is old mid moves bits within order inside = subst (λ (s : List ℕ). IsSpan s (bits.from, bits.to)) (within.source ∙ moves.source) (record { order = order; within = inside })
+
+module _ (old mid : Place) (behind : GoesBehind (HasTag SEQUENCE) old mid) where
+  -- behind the algorithm
+  bits_left : (bits : List ℕ) (has : HasBits bits (remaining old)) → remaining mid ≡ has.1
+  bits_left bits has = behind has.0 has.1 has.2 has.4
+
+  -- they aren't there
+  pub no_bits_behind : ((v : ℕ × List ℕ) (after : List ℕ) → Begins IsBits (remaining mid) v after → ⊥) → StandsNoBits old
+  no_bits_behind none = λ bits has.
+      let begins = bits_begin bits has.1 (remaining mid) has.3 (bits_left bits has) in
+      none begins.0 [] begins.1
+
+  -- where they stand
+  pub bits_there : (unused : ℕ) (bits after : Place) → MovesOn old mid → Begins IsBits (remaining mid) (unused, remaining bits) (remaining after) → IsWithin bits mid → BitsStoodAt old (bits.from, bits.to)
+  bits_there unused bits after moves read within = λ these has.
+      subst (λ (s : List ℕ). slice_range s bits.from bits.to ≡ these) (within.source ∙ moves.source)
+      (bits_read these has.1 (remaining mid) (unused, remaining bits) (remaining after) has.3 (bits_left these has) read)
+
+-- ---- what is signed, and the signature
+
+algorithm_tagged : (a : Algorithm) (text : List ℕ) → IsSignatureAlgorithm a text → HasTag SEQUENCE text
+unfolding algorithm_format
+algorithm_tagged a text is = (is.0, is.2)
+
 module _ (octets : List ℕ) (at : Place) (inside : IsInside octets at) where
   -- what is signed isn't there
   pub no_message : StandsNone (HasTag SEQUENCE) at → BeginsNoCertificate octets
@@ -306,45 +375,32 @@ module _ (octets : List ℕ) (at : Place) (inside : IsInside octets at) where
       none c.signed_data.message (parts.algorithm ++ parts.signature) (message_tagged octets at at inside c means) parts.is
 
   module _ (second : Place) (behind_message : GoesBehind (HasTag SEQUENCE) at second) where
-    at_algorithm : (c : CertFields) (means : Means IsCertificate c octets) → remaining second ≡ (parts_of octets at at inside c means).0.algorithm ++ (parts_of octets at at inside c means).0.signature
-    at_algorithm c means =
-        let parts = (parts_of octets at at inside c means).0 in
-        behind_message c.signed_data.message (parts.algorithm ++ parts.signature) (message_tagged octets at at inside c means) parts.is
+    -- the signature stands behind it
+    signature_left : (c : CertFields) → Means IsCertificate c octets → HasBits c.signed_data.signature.value (remaining second)
+    signature_left c means =
+        let parts = (parts_of octets at at inside c means).0 in (
+          parts.algorithm,
+          parts.signature,
+          algorithm_tagged c.signed_data.signature.algorithm parts.algorithm parts.algorithm_is,
+          parts.signature_is,
+          behind_message c.signed_data.message (parts.algorithm ++ parts.signature) (message_tagged octets at at inside c means) parts.is,
+        )
 
-    -- the algorithm isn't there
-    pub no_algorithm : StandsNone (HasTag SEQUENCE) second → BeginsNoCertificate octets
-    no_algorithm none = λ c means.
-        let parts = (parts_of octets at at inside c means).0 in
-        none parts.algorithm parts.signature (algorithm_tagged c.signed_data.signature.algorithm parts.algorithm parts.algorithm_is) (at_algorithm c means)
+    -- it isn't there
+    pub no_signature : StandsNoBits second → BeginsNoCertificate octets
+    no_signature none = λ c means. none c.signed_data.signature.value (signature_left c means)
 
-    module _ (third : Place) (behind_algorithm : GoesBehind (HasTag SEQUENCE) second third) where
-      at_bits : (c : CertFields) (means : Means IsCertificate c octets) → remaining third ≡ (parts_of octets at at inside c means).0.signature
-      at_bits c means =
-          let parts = (parts_of octets at at inside c means).0 in
-          behind_algorithm parts.algorithm parts.signature (algorithm_tagged c.signed_data.signature.algorithm parts.algorithm parts.algorithm_is) (at_algorithm c means)
-
-      -- the signature isn't there
-      pub no_signature : ((v : ℕ × List ℕ) (after : List ℕ) → Begins IsBits (remaining third) v after → ⊥) → BeginsNoCertificate octets
-      no_signature none = λ c means.
-          let parts = (parts_of octets at at inside c means).0 in
-          let begins = bits_begin c.signed_data.signature.value parts.signature (remaining third) parts.signature_is (at_bits c means) in
-          none begins.0 [] begins.1
-
-      -- both spans
-      pub both_stood : (message : ℕ × ℕ) (unused : ℕ) (bits fourth : Place) → IsSpan at.source message → StoodAt (HasTag SEQUENCE) at message → MovesOn at second → MovesOn second third
-          → Begins IsBits (remaining third) (unused, remaining bits) (remaining fourth) → IsWithin bits third → bits.from ≤ bits.to → bits.to ≤ length bits.source
-          → AreSignedSpans octets message (bits.from, bits.to)
-      both_stood message unused bits fourth is stood one two read within order long =
-          let source : bits.source ≡ octets = within.source ∙ two.source ∙ one.source ∙ inside.source in
-          record {
-            first_is_span = subst (λ (s : List ℕ). IsSpan s message) inside.source is;
-            second_is_span = subst (λ (s : List ℕ). IsSpan s (bits.from, bits.to)) source (record { order = order; within = long });
-            message_is = λ c means.
-                let parts = (parts_of octets at at inside c means).0 in
-                subst (λ (s : List ℕ). slice_range s message.0 message.1 ≡ c.signed_data.message) inside.source
-                (stood c.signed_data.message (parts.algorithm ++ parts.signature) (message_tagged octets at at inside c means) parts.is);
-            signature_is = λ c means.
-                let parts = (parts_of octets at at inside c means).0 in
-                subst (λ (s : List ℕ). slice_range s bits.from bits.to ≡ c.signed_data.signature.value) source
-                (bits_read c.signed_data.signature.value parts.signature (remaining third) (unused, remaining bits) (remaining fourth) parts.signature_is (at_bits c means) read);
-          }
+    -- both spans
+    pub both_stood : (message signature : ℕ × ℕ) → IsSpan at.source message → StoodAt (HasTag SEQUENCE) at message → MovesOn at second → IsSpan second.source signature → BitsStoodAt second signature
+        → AreSignedSpans octets message signature
+    both_stood message signature is stood moves is_too stood_too =
+        let source : second.source ≡ octets = moves.source ∙ inside.source in
+        record {
+          first_is_span = subst (λ (s : List ℕ). IsSpan s message) inside.source is;
+          second_is_span = subst (λ (s : List ℕ). IsSpan s signature) source is_too;
+          message_is = λ c means.
+              let parts = (parts_of octets at at inside c means).0 in
+              subst (λ (s : List ℕ). slice_range s message.0 message.1 ≡ c.signed_data.message) inside.source
+              (stood c.signed_data.message (parts.algorithm ++ parts.signature) (message_tagged octets at at inside c means) parts.is);
+          signature_is = λ c means. subst (λ (s : List ℕ). slice_range s signature.0 signature.1 ≡ c.signed_data.signature.value) source (stood_too c.signed_data.signature.value (signature_left c means));
+        }

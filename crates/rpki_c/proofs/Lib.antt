@@ -1,3 +1,4 @@
+mod AcceptedStrings
 mod AnsweredLists
 mod AnsweredWants
 mod CertificateWalks

@@ -6,6 +6,7 @@ use Rattle.rpki_parts.specs.Signatures.{Verifies}
 use Rattle.rpki_cert.specs.Certificates.{CertFields, IsCertificate}
 use Rattle.rpki_cert.specs.Verification.{context}
 use Rattle.rpki_path.specs.declared.judging.Judged.{Judged}
+use Rattle.rpki_files.specs.Contents.{BeginsWithCertificate}
 use Rattle.rpki_folder.specs.Folders.{BeginsNoCertificate}
 use Rattle.rpki_c.specs.Questions.{HasTerms, HasNoTerms}
 use Rattle.rpki_c.specs.Verdicts.{AnswersStrings, AreStringsOf, DontAddUp, IsUncalled, Refused}
@@ -30,6 +31,15 @@ IsOf issuer member it = AreSame it.key it.message it.signature
 abbrev pub IsAsked : List ℕ → List ℕ → Said → Type 0
 IsAsked issuer member it =
     (i : CertFields) × Means IsCertificate i issuer × (m : CertFields) × Means IsCertificate m member × IsOf i m it
+
+-- where these octets begin with certificates, the caller was asked so of them
+abbrev pub IsAskedIfAny : List ℕ → List ℕ → Said → Type 0
+IsAskedIfAny issuer member it =
+    (i m : CertFields) → Means IsCertificate i issuer → Means IsCertificate m member → IsOf i m it
+
+-- something can be asked
+abbrev pub CanBeAsked : List ℕ → List ℕ → Type 0
+CanBeAsked issuer member = BeginsWithCertificate issuer × BeginsWithCertificate member
 
 -- nothing can be asked, since the issuer's octets or the member's begin with no certificate
 abbrev pub IsUnasked : List ℕ → List ℕ → Type 0

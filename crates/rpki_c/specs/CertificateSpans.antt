@@ -2,9 +2,10 @@
 use Rattle.std.specs.Prelude.{◌≡◌, ◌≤◌, ℕ, List, [], ◌∷◌, ◌++◌, length, slice_range}
 use Rattle.rpki_der.specs.Place.{Place, remaining}
 use Rattle.rpki_der.specs.Skipping.{levels}
+use Rattle.rpki_der.specs.Tags.{SEQUENCE}
 use Rattle.rpki_der.specs.Values.{IsEnc}
 use Rattle.rpki_ext.specs.Kinds.{Means}
-use Rattle.rpki_parts.specs.Keys.{IsPublicKey}
+use Rattle.rpki_parts.specs.Keys.{IsPublicKey, whole_bits_format}
 use Rattle.rpki_cert.specs.Certificates.{CertFields, IsCertificate, certificate_content_format, tbs_content_format}
 
 -- ---- what stands next
@@ -30,6 +31,18 @@ GoesBehind Is old new = (text rest : List ℕ) → Is text → remaining old ≡
 abbrev pub StoodAt : (List ℕ → Type 0) → Place → ℕ × ℕ → Type 0
 StoodAt Is old span = (text rest : List ℕ) → Is text → remaining old ≡ text ++ rest → slice_range old.source span.0 span.1 ≡ text
 
+-- an algorithm, and behind it these bits, none of which is unused
+abbrev pub HasBits : List ℕ → List ℕ → Type 0
+HasBits bits text = (a : List ℕ) × (b : List ℕ) × HasTag SEQUENCE a × whole_bits_format.encodes bits b × (text ≡ a ++ b)
+
+-- where they are all that is left, they stood from the first place to the second
+abbrev pub BitsStoodAt : Place → ℕ × ℕ → Type 0
+BitsStoodAt old span = (bits : List ℕ) → HasBits bits (remaining old) → slice_range old.source span.0 span.1 ≡ bits
+
+-- they aren't
+abbrev pub StandsNoBits : Place → Type 0
+StandsNoBits at = (bits : List ℕ) → HasBits bits (remaining at) → ⊥
+
 -- ---- spans
 
 -- the first place isn't behind the second, nor that behind the octets
@@ -51,11 +64,22 @@ pub record IsAtFields (octets : List ℕ) (fields : Place) : Type 0 where
   pub content : (c : CertFields) → Means IsCertificate c octets
       → (tbs_content_format levels).encodes c.fields (remaining fields)
 
+-- a cursor before the key of the certificate with which the octets begin
+pub record IsAtKey (octets : List ℕ) (at : Place) : Type 0 where
+  pub source : at.source ≡ octets
+  pub key : (c : CertFields) → Means IsCertificate c octets → Means IsPublicKey c.fields.key (remaining at)
+
 -- the span of the key of the certificate with which the octets begin
 pub record IsKeySpan (octets : List ℕ) (span : ℕ × ℕ) : Type 0 where
   pub is_span : IsSpan octets span
   pub key : (c : CertFields) → Means IsCertificate c octets
       → IsPublicKey c.fields.key (slice_range octets span.0 span.1)
+
+-- the span of its bits
+pub record IsKeyBits (octets : List ℕ) (span : ℕ × ℕ) : Type 0 where
+  pub is_span : IsSpan octets span
+  pub bits : (c : CertFields) → Means IsCertificate c octets
+      → slice_range octets span.0 span.1 ≡ c.fields.key.bits
 
 -- the spans of what is signed of the certificate with which the octets begin, and of its signature
 pub record AreSignedSpans (octets : List ℕ) (message signature : ℕ × ℕ) : Type 0 where

@@ -1,9 +1,11 @@
 //! The answer to a question about a path.
-ghost use Rattle.std.specs.Prelude.{◌≡◌, IfOk, IfErr, Err};
+ghost use Rattle.std.specs.List.{All};
+ghost use Rattle.std.specs.Prelude.{◌≡◌, IfOk, IfErr, IsTrue, Err};
 ghost use Rattle.rpki_cert.specs.Verification.{context};
 ghost use Rattle.rpki_path.specs.Judging.{Judges};
 ghost use Rattle.rpki_path.specs.AskedLists.{by_lists};
 ghost use Rattle.rpki_keys.specs.RsaSignatures.{IsSignedByRsa};
+ghost use Rattle.rpki_files.specs.Contents.{BeginsWithCertificate};
 ghost use Rattle.rpki_c.specs.Answered.{AnswersSaid, AnswersSaidMembers, AnswersSaidQuestion};
 ghost use Rattle.rpki_c.specs.Verdicts.{AreStringsOf, DontAddUp, IsUncalled, AnswersListed, AnswersWith, AnswersTrusted, AnswersPath, AnswersStrings, AnswersMembers, AnswersQuestion};
 
@@ -171,7 +173,28 @@ pub(crate) fn judge_question(alloc: Global, question: &RpkiQuestion<'_>) -> Resu
     }
 }
 
-// The answer of these strings, by the signatures that the caller said yes to.
+// The answer of these strings, by the signatures that the caller said yes to. Where each string is
+// supposed to begin with a certificate, none is read for what was asked of it.
+fn judge_supposed(
+    alloc: Global,
+    strings: &[Bytes],
+    question: &RpkiQuestion<'_>,
+    terms: &Terms,
+    yes: &[u8],
+    supposed: bool,
+) -> Result<Judged, Refusal>
+    ensures said { (IsTrue supposed → All BeginsWithCertificate strings.now)
+        → AnswersSaid question.now terms.entry.now strings.now yes.now result }
+    ensures begin { IfOk result (λ _. All BeginsWithCertificate strings.now) }
+{
+    let verifier = answers(alloc, strings, yes, supposed)?;
+    let answer = judge_strings(alloc, strings, question, *terms, &verifier);
+    drop(verifier);
+    answer
+}
+
+// The answer of these strings, by the signatures that the caller said yes to. What is accepted
+// where nothing was read begins with certificates; all else is judged again.
 fn judge_said(
     alloc: Global,
     strings: &[Bytes],
@@ -181,10 +204,10 @@ fn judge_said(
 ) -> Result<Judged, Refusal>
     ensures { AnswersSaid question.now terms strings.now yes.now result }
 {
-    let verifier = answers(alloc, strings, yes)?;
-    let answer = judge_strings(alloc, strings, question, terms, &verifier);
-    drop(verifier);
-    answer
+    match judge_supposed(alloc, strings, question, &terms, yes, true).ok() {
+        Some(judged) => Ok(judged),
+        None => judge_supposed(alloc, strings, question, &terms, yes, false),
+    }
 }
 
 // The answer to the question, which has these terms, by the signatures that the caller said yes to.

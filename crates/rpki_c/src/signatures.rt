@@ -1,17 +1,17 @@
 //! The signatures that a path asks for, as places in the caller's octets, and what the caller said
 //! of them.
-ghost use Rattle.std.specs.List.{concat};
-ghost use Rattle.std.specs.Prelude.{◌≡◌, ◌≢◌, ◌≤◌, ◌<◌, ◌+◌, ◌^◌, IfErr, IfOk, MatchOption, OnOk};
+ghost use Rattle.std.specs.List.{All, concat};
+ghost use Rattle.std.specs.Prelude.{◌≡◌, ◌≢◌, ◌≤◌, ◌<◌, ◌+◌, ◌^◌, slice_range, IfErr, IfOk, IsFalse, IsTrue, MatchOption, OnOk};
 ghost use Rattle.rpki_der.specs.declared.error.DecodeError.TheVariants.{Memory};
-ghost use Rattle.rpki_ext.specs.Kinds.{Means};
-ghost use Rattle.rpki_cert.specs.Certificates.{CertFields, IsCertificate};
-ghost use Rattle.rpki_c.specs.Answered.{AreSaid, IsAdded, IsAsked, IsOf, IsUnasked};
+ghost use Rattle.rpki_c.specs.Answered.{AreSaid, CanBeAsked, IsAdded, IsAsked, IsAskedIfAny, IsUnasked};
+ghost use Rattle.rpki_c.specs.CertificateSpans.{IsSpan};
+ghost use Rattle.rpki_files.specs.Contents.{BeginsWithCertificate};
 ghost use Rattle.rpki_folder.specs.Folders.{BeginsNoCertificate};
 ghost use Rattle.rpki_c.specs.SignaturePlaces.{AnswersSignatures, IsToldSignatures, StandsAt, TellsSignature};
 
 use crate::answers::{Answers, Said};
 use crate::faults::{BAD_CALL, MEMORY, NONE, of_decoding};
-use crate::spans::{key_span, signed_spans};
+use crate::spans::{key_bits, key_span, signed_spans};
 use crate::strings::{RpkiStrings, cut};
 use bytes::Bytes;
 use rpki_cert::Cert;
@@ -127,65 +127,93 @@ pub extern "C" fn rpki_path_signatures(
     put_all(alloc, members, out)
 }
 
-// The certificate that the octets begin with.
+// Whether the octets begin with a certificate.
 #[tactic(auto, using(crate::proofs::Unread::unless_memory))]
-fn certificate(alloc: Global, octets: &Bytes) -> Result<Option<Cert>, AllocError>
-    ensures { IfOk result (λ it. MatchOption it (BeginsNoCertificate octets.now)
-        (λ cert. Means IsCertificate cert octets.now)) }
+fn begins(alloc: Global, octets: &Bytes) -> Result<bool, AllocError>
+    ensures some { IfOk result (λ it. IsTrue it → BeginsWithCertificate octets.now) }
+    ensures none { IfOk result (λ it. IsFalse it → BeginsNoCertificate octets.now) }
 {
     match Cert::decode_shared(alloc, octets.clone()?) {
-        Ok(cert) => Ok(Some(cert)),
+        Ok(cert) => {
+            drop(cert);
+            Ok(true)
+        }
         Err(error) => {
             let is_memory = error.is_memory();
             drop(error);
-            if is_memory { Err(AllocError) } else { Ok(None) }
+            if is_memory {
+                Err(AllocError)
+            } else {
+                Ok(false)
+            }
         }
     }
 }
 
-// The key of a certificate, and what is signed of another one with its signature.
-fn said_of(alloc: Global, issuer: &Cert, member: &Cert) -> Result<Said, AllocError>
-    ensures { IfOk result (IsOf issuer.now member.now) }
+// Whether both begin with a certificate. Where they are supposed to, neither is read.
+fn both_begin(
+    alloc: Global,
+    issuer: &Bytes,
+    member: &Bytes,
+    supposed: bool,
+) -> Result<bool, AllocError>
+    ensures some { IfOk result (λ it. IsTrue it → (IsTrue supposed → CanBeAsked issuer.now member.now)
+        → CanBeAsked issuer.now member.now) }
+    ensures none { IfOk result (λ it. IsFalse it → IsUnasked issuer.now member.now) }
 {
-    let signed = member.signed_data();
-    let bits = issuer.as_tbs().subject_public_key_info().bits();
-    let key = Bytes::copy_from_slice(alloc, bits)?;
-    let message = Bytes::copy_from_slice(alloc, signed.data())?;
-    let signature = Bytes::copy_from_slice(alloc, signed.signature().value())?;
-    Ok(Said {
+    if supposed {
+        return Ok(true);
+    }
+    if !begins(alloc, issuer)? {
+        return Ok(false);
+    }
+    begins(alloc, member)
+}
+
+// The octets of a span.
+fn part(octets: &Bytes, span: (usize, usize)) -> Result<Bytes, AllocError>
+    requires { IsSpan octets.now span }
+    ensures { IfOk result (λ it. it ≡ slice_range octets.now span.0 span.1) }
+{
+    octets.slice(span.0..span.1)
+}
+
+// What the caller is asked of the octets of a member below those of its issuer, by its places.
+fn asked(issuer: &Bytes, member: &Bytes) -> Result<Option<Said>, AllocError>
+    ensures { IfOk result (λ it. MatchOption it (IsUnasked issuer.now member.now)
+        (IsAskedIfAny issuer.now member.now)) }
+{
+    let Ok(key) = key_bits(issuer) else {
+        return Ok(None);
+    };
+    let Ok((message, signature)) = signed_spans(member) else {
+        return Ok(None);
+    };
+    let key = part(issuer, key)?;
+    let message = part(member, message)?;
+    let signature = part(member, signature)?;
+    Ok(Some(Said {
         key,
         message,
         signature,
-    })
+    }))
 }
 
-// What the caller is asked of the certificate that the octets begin with, below this issuer.
-fn said_below(alloc: Global, issuer: &Cert, member: &Bytes) -> Result<Option<Said>, AllocError>
-    ensures { IfOk result (λ it. MatchOption it (BeginsNoCertificate member.now)
-        (λ said. (m : CertFields) × Means IsCertificate m member.now × IsOf issuer.now m said)) }
-{
-    match certificate(alloc, member)? {
-        Some(cert) => {
-            let said = said_of(alloc, issuer, &cert);
-            drop(cert);
-            Ok(Some(said?))
-        }
-        None => Ok(None),
-    }
-}
-
-// What the caller is asked of the octets of a member, below those of its issuer.
-fn said(alloc: Global, issuer: &Bytes, member: &Bytes) -> Result<Option<Said>, AllocError>
+// What the caller is asked of the octets of a member, below those of its issuer. Where both are
+// supposed to begin with a certificate, neither is read.
+fn said(
+    alloc: Global,
+    issuer: &Bytes,
+    member: &Bytes,
+    supposed: bool,
+) -> Result<Option<Said>, AllocError>
     ensures { IfOk result (λ it. MatchOption it (IsUnasked issuer.now member.now)
-        (IsAsked issuer.now member.now)) }
+        (λ said. (IsTrue supposed → CanBeAsked issuer.now member.now) → IsAsked issuer.now member.now said)) }
 {
-    match certificate(alloc, issuer)? {
-        Some(cert) => {
-            let said = said_below(alloc, &cert, member);
-            drop(cert);
-            said
-        }
-        None => Ok(None),
+    if both_begin(alloc, issuer, member, supposed)? {
+        asked(issuer, member)
+    } else {
+        Ok(None)
     }
 }
 
@@ -195,29 +223,37 @@ fn put_said(
     issuer: &Bytes,
     member: &Bytes,
     answer: u8,
+    supposed: bool,
     all: &mut Vec<Said>,
 ) -> Result<(), AllocError>
-    ensures yes { OnOk result
-        (answer ≡ 1 → IsAdded issuer.now member.now all.old.items all.new.items) }
+    ensures yes { OnOk result (answer ≡ 1 → (IsTrue supposed → CanBeAsked issuer.now member.now)
+        → IsAdded issuer.now member.now all.old.items all.new.items) }
     ensures no { OnOk result (answer ≢ 1 → all.new.items ≡ all.old.items) }
 {
     if answer != 1 {
         return Ok(());
     }
-    if let Some(said) = said(alloc, issuer, member)? {
+    if let Some(said) = said(alloc, issuer, member, supposed)? {
         all.push(said)?;
     }
     Ok(())
 }
 
-/// What the caller said yes to, by an octet for each member: 1 for yes.
-pub(crate) fn answers(alloc: Global, strings: &[Bytes], yes: &[u8]) -> Result<Answers, AllocError>
-    ensures { IfOk result (λ it. AreSaid strings.now yes.now it.said.items) }
+/// What the caller said yes to, by an octet for each member: 1 for yes. Where each of the strings
+/// is supposed to begin with a certificate, none is read.
+pub(crate) fn answers(
+    alloc: Global,
+    strings: &[Bytes],
+    yes: &[u8],
+    supposed: bool,
+) -> Result<Answers, AllocError>
+    ensures { IfOk result (λ it. (IsTrue supposed → All BeginsWithCertificate strings.now)
+        → AreSaid strings.now yes.now it.said.items) }
 {
     let mut all = Vec::new(alloc);
     for at in 0..strings.len().min(yes.len()) {
         let issuer = &strings[at.saturating_sub(1)];
-        put_said(alloc, issuer, &strings[at], yes[at], &mut all)?;
+        put_said(alloc, issuer, &strings[at], yes[at], supposed, &mut all)?;
     }
     Ok(Answers { said: all })
 }

@@ -4,7 +4,7 @@ ghost use Rattle.rpki_der.specs.Place.{MovesOn};
 ghost use Rattle.rpki_der.specs.Tags.{SEQUENCE};
 ghost use Rattle.rpki_der.specs.declared.error.DecodeError.TheVariants.{Memory};
 ghost use Rattle.rpki_folder.specs.Folders.{BeginsNoCertificate};
-ghost use Rattle.rpki_c.specs.CertificateSpans.{AreSignedSpans, AreTagged, GoesBehind, HasTag, IsAtFields, IsInside, IsKeySpan, IsSpan, StandsNone, StoodAt};
+ghost use Rattle.rpki_c.specs.CertificateSpans.{AreSignedSpans, AreTagged, BitsStoodAt, GoesBehind, HasTag, IsAtFields, IsAtKey, IsInside, IsKeyBits, IsKeySpan, IsSpan, StandsNone, StandsNoBits, StoodAt};
 
 use bytes::Bytes;
 use rpki_der::{Cursor, DecodeError, tag};
@@ -58,6 +58,18 @@ fn sequence_span(cursor: &mut Cursor<'_>) -> Result<(usize, usize), DecodeError>
     Ok((from, to))
 }
 
+// Where the bits stand behind the algorithm that stands next.
+fn bits_span(cursor: &mut Cursor<'_>) -> Result<(usize, usize), DecodeError>
+    ensures span { IfOk result (IsSpan cursor.old.source) }
+    ensures stood { IfOk result (BitsStoodAt cursor.old) }
+    ensures none { IfErr result (λ _. StandsNoBits cursor.old) }
+    ensures fault { IfErr result (λ e. e ≢ Memory) }
+{
+    let _algorithm = sequence_span(cursor)?;
+    let (_, bits) = cursor.take_bits()?;
+    Ok(bits.span())
+}
+
 // What stands in the SEQUENCE of a certificate.
 fn inside(octets: &Bytes) -> Result<Cursor<'_>, DecodeError>
     ensures inside { IfOk result (IsInside octets.now) }
@@ -77,15 +89,36 @@ fn fields(octets: &Bytes) -> Result<Cursor<'_>, DecodeError>
     rest.take_sequence()
 }
 
+// A cursor before the key of a certificate.
+fn at_key(octets: &Bytes) -> Result<Cursor<'_>, DecodeError>
+    ensures key { IfOk result (IsAtKey octets.now) }
+    ensures none { IfErr result (λ _. BeginsNoCertificate octets.now) }
+    ensures fault { IfErr result (λ e. e ≢ Memory) }
+{
+    let mut rest = fields(octets)?;
+    skip(&mut rest, BEFORE_KEY)?;
+    Ok(rest)
+}
+
 /// The span of the SubjectPublicKeyInfo of a certificate.
 pub(crate) fn key_span(octets: &Bytes) -> Result<(usize, usize), DecodeError>
     ensures key { IfOk result (IsKeySpan octets.now) }
     ensures none { IfErr result (λ _. BeginsNoCertificate octets.now) }
     ensures fault { IfErr result (λ e. e ≢ Memory) }
 {
-    let mut rest = fields(octets)?;
-    skip(&mut rest, BEFORE_KEY)?;
+    let mut rest = at_key(octets)?;
     sequence_span(&mut rest)
+}
+
+/// The span of the bits of the key of a certificate.
+pub(crate) fn key_bits(octets: &Bytes) -> Result<(usize, usize), DecodeError>
+    ensures bits { IfOk result (IsKeyBits octets.now) }
+    ensures none { IfErr result (λ _. BeginsNoCertificate octets.now) }
+    ensures fault { IfErr result (λ e. e ≢ Memory) }
+{
+    let mut rest = at_key(octets)?;
+    let mut info = rest.take_sequence()?;
+    bits_span(&mut info)
 }
 
 /// The spans of what is signed of a certificate, and of its signature.
@@ -96,7 +129,6 @@ pub(crate) fn signed_spans(octets: &Bytes) -> Result<((usize, usize), (usize, us
 {
     let mut rest = inside(octets)?;
     let message = sequence_span(&mut rest)?;
-    let _algorithm = sequence_span(&mut rest)?;
-    let (_, bits) = rest.take_bits()?;
-    Ok((message, bits.span()))
+    let signature = bits_span(&mut rest)?;
+    Ok((message, signature))
 }

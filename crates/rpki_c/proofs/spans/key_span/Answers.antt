@@ -1,20 +1,16 @@
-use Rattle.std.proofs.Common.{◌≡◌, Err, rules}
+use Rattle.rpki_der.specs.Tags.{SEQUENCE}
 use Rattle.rpki_folder.specs.Folders.{BeginsNoCertificate}
-use Rattle.rpki_c.proofs.CertificateWalks.{err_so, key_stood, no_key, not_before_key}
+use Rattle.rpki_c.specs.CertificateSpans.{HasTag, StandsNone}
+use Rattle.rpki_c.proofs.CertificateWalks.{err_then, key_stood, no_key}
 use Rattle.rpki_c.proofs.spans.key_span.Goals as goal
 
 pub returns-clause-key : goal.returns-clause-key
 returns-clause-key c =
     let s = c.sequence_span in
-    let skipped = c.in_ok-skip.ensures in
-    key_stood c.args.octets.now c.in_ok-rest.rest c.in_ok-rest.ensures.fields c.skip.new.cursor skipped.behind s.result skipped.moves s.ensures.span s.ensures.stood
+    key_stood c.args.octets.now c.in_ok-rest.rest c.in_ok-rest.ensures.key s.result s.ensures.span s.ensures.stood
 
 pub returns-clause-none : goal.returns-clause-none
 returns-clause-none c =
     let s = c.sequence_span in
-    no_key c.args.octets.now c.in_ok-rest.rest c.in_ok-rest.ensures.fields c.skip.new.cursor c.in_ok-skip.ensures.behind s.result s.ensures.none
-
-pub returns-in_err-skip-clause-none : goal.returns-in_err-skip-clause-none
-returns-in_err-skip-clause-none c =
-    let same : c.from_residual-in_err-skip.result ≡ Err c.in_err-skip.field-0.0 = search rules in
-    err_so (BeginsNoCertificate c.args.octets.now) _ _ same (not_before_key c.args.octets.now c.in_ok-rest.rest c.in_ok-rest.ensures.fields c.in_err-skip.ensures.none)
+    let at = c.in_ok-rest.rest in
+    err_then (StandsNone (HasTag SEQUENCE) at) (BeginsNoCertificate c.args.octets.now) s.result (no_key c.args.octets.now at c.in_ok-rest.ensures.key) s.ensures.none
