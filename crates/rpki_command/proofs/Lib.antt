@@ -6,5 +6,6 @@ mod ListsAmong
 mod NamedFiles
 mod NamedObjects
 mod PemLines
+mod WholeAnswers
 mod WholeSources
 mod WrittenTexts
