@@ -7,5 +7,6 @@ mod NamedFiles
 mod NamedObjects
 mod PassedFiles
 mod PemLines
+mod WholeAnswers
 mod WholeSources
 mod WrittenTexts

@@ -1,11 +1,12 @@
 -- The parts of a request, by the sort of their first word.
-use Rattle.std.specs.List.{before_first, after_first, position, position_or_len}
-use Rattle.std.specs.Prelude.{codes, Option, Some, None, cond, nat_lt, Result, Ok, Err, OnOk}
+use Rattle.std.specs.List.{before_first, after_first, position_or_len}
+use Rattle.std.specs.Prelude.{codes, Option, Some, None, cond, Result, Ok, Err, OnOk}
 use Rattle.std.specs.Str.{bytes_eq}
-use Rattle.std.proofs.Common.{◌≡◌, ◌==◌, ℕ, Bool, true, false, List, [], ◌∷◌, ◌++◌, length, refl, sym, ap, ◌∙◌, subst, take, drop, inl, inr, lit<}
+use Rattle.std.proofs.Common.{◌≡◌, ℕ, Bool, true, false, List, [], ◌∷◌, ◌++◌, refl, sym, ap, ◌∙◌, subst, take, drop, inl, inr, lit<}
 use Rattle.std.proofs.lemmas.List.{take-append-drop, append-nil}
 use Rattle.std.proofs.lemmas.Slice.Eq.{bytes_eq-Decides}
 use Rattle.rpki_text.specs.WordParts.{AddsPart, BeginsNoPart, IsOption, GivesValue, Joins}
+use Rattle.rpki_text.proofs.JoinedNames.{is_equals}
 use Rattle.rpki_text.proofs.PartsOfWords.{Sort, single, before, joining, Grammar, Shape, IsClear, alone_is, given_is}
 use Rattle.rpki_requests.specs.declared.words.Setting.{Setting}
 use Rattle.rpki_requests.specs.declared.words.Setting.TheVariants.{Issuer, Key, Serial, From, Until, Ipv4, Ipv6, AsNumbers, Repository, Manifest, Notify, Object, IssuerUri, CrlUri, Crl, Previous, Number, Revoke, NextUpdate, At, Out}
@@ -19,10 +20,6 @@ use Rattle.rpki_requests.proofs.Settings.{setting_of, first_named, settings, fou
 -- what a first word is
 abbrev pub RequestSort : Type 0
 RequestSort = Sort RequestPart Setting
-
--- the character `=`
-abbrev pub is_equals : ℕ → Bool
-is_equals c = c == 0x3D
 
 -- the option without a value that has this name
 switch_of : List ℕ → Option Switch
@@ -81,7 +78,7 @@ joined At value = refl
 joined Out value = refl
 
 -- what stands before its first `=` is its name
-front_is : (setting : Setting) (value : List ℕ) → before_first is_equals (setting_name setting ++ codes "=" ++ value) ≡ setting_name setting
+pub front_is : (setting : Setting) (value : List ℕ) → before_first is_equals (setting_name setting ++ codes "=" ++ value) ≡ setting_name setting
 front_is Issuer value = refl
 front_is Key value = refl
 front_is Serial value = refl
@@ -103,15 +100,6 @@ front_is Revoke value = refl
 front_is NextUpdate value = refl
 front_is At value = refl
 front_is Out value = refl
-
-place_is : (b : Bool) (n place : ℕ) → cond b (Some n) None ≡ Some place → n ≡ place
-place_is true n place is = cc
-place_is false n place is = cc
-
-pub front_named : (word : List ℕ) (place : ℕ) (found : Option ℕ) → found ≡ position is_equals word → found ≡ Some place → (setting : Setting) (value : List ℕ) → Joins (setting_name setting) value word → take place word ≡ setting_name setting
-front_named word place found is some setting value joins =
-    let same : position_or_len is_equals word ≡ place = place_is (nat_lt (position_or_len is_equals word) (length word)) (position_or_len is_equals word) place (sym is ∙ some) in
-    ap (λ (n : ℕ). take n word) (sym same) ∙ ap (λ (w : List ℕ). before_first is_equals w) joins ∙ front_is setting value
 
 -- ---- a file
 

@@ -1,5 +1,5 @@
 //! Which words ask for a certificate or a revocation list to be prepared, or to be completed.
-ghost use Rattle.std.specs.Prelude.{◌≡◌, ◌≢◌, ◌↔◌, ◌==◌, ℕ, List, [], ◌∷◌, ◌++◌, codes, count_by, filter, Contains, length, map, fold, position, IfErr, IfNone, IfOk, IfSome, IsTrue, MatchOption, OnOk, Some};
+ghost use Rattle.std.specs.Prelude.{◌≡◌, ◌≢◌, ◌↔◌, ℕ, List, [], ◌∷◌, ◌++◌, codes, count_by, filter, Contains, length, map, fold, IfErr, IfNone, IfOk, IfSome, IsTrue, MatchOption, OnOk, Some};
 ghost use Rattle.std.specs.Fmt.{WritesOnOk};
 ghost use Rattle.rpki_text.specs.CommandLines.Views.{word_octets};
 ghost use Rattle.rpki_text.specs.WordParts.{AddsPart, AddsParts, AreInOrder, BeginsNoPart, IsFirstWrong, Joins};
@@ -8,7 +8,7 @@ ghost use Rattle.rpki_requests.specs.RequestWords.{AskedFields, AsksHelp, Begins
 ghost use Rattle.rpki_requests.specs.RequestWords.Views.{asked_fields, given_fields};
 
 use rpki_text::Characters;
-use rpki_text::command_line::parts::{around_dashes, is, is_option};
+use rpki_text::command_line::parts::{around_dashes, is, is_option, place_of_equals};
 use std::alloc::{AllocError, Global};
 use std::fmt;
 
@@ -318,13 +318,6 @@ fn setting_of(word: &[u8]) -> Option<Setting>
         }
     }
     None
-}
-
-// The place of the first `=` of a word.
-fn place_of_equals(word: &[u8]) -> Option<usize>
-    ensures { result ≡ position (λ c. c == 0x3D) word.now }
-{
-    word.iter().position(|c| *c == b'=')
 }
 
 // The option and its value that a word gives with `=` between them.
