@@ -48,10 +48,10 @@
 //!   of a store are asked, as `revocation` does.
 //!
 //! Trust anchor locators:
-//! - `locator MODE HEX KEY`: a file; each of its URIs in their order, its key, and whether the public
-//!   key KEY (all of a SubjectPublicKeyInfo) is that key, `none` where KEY is `-`.
-//! - `located YYYYMMDDhhmmss MODE STORE LOCATOR ta:HEX ca:HEX .. ee:HEX`: as `revocation`, where the
-//!   path is that of the locator's trust anchor; and whether that has the locator's key.
+//! - `locator MODE HEX KEY`: a file; each of its URIs in their order, its key, and whether the
+//!   public key KEY (all of a SubjectPublicKeyInfo) is that key, `none` where KEY is `-`.
+//! - `located YYYYMMDDhhmmss MODE STORE LOCATOR ta:HEX ca:HEX .. ee:HEX`: as `revocation`, where
+//!   the path is that of the locator's trust anchor; and whether that has the locator's key.
 //! - `folder MODE YYYYMMDDhhmmss DEPTH STEPS LOCATOR ta:HEX HEX HEX ..`: the walk down from the
 //!   locator's trust anchor, of at most this depth and so many steps, through a folder with what
 //!   these octets are; `real-folder` with RSA signatures. An answer tells how it ended (`whole`,
@@ -84,8 +84,8 @@
 //!
 //! Values of DER, by one call of a cursor; TAG is an octet in hexadecimal:
 //! - `value TAG HEX`, `optional-value TAG HEX`.
-//! - `sequence`, `optional-sequence`, `octets`, `bits`, `unsigned`, `oid`, `u32`, `null`, `boolean`,
-//!   `skip`, `skip-all`, `capture`, `capture-rest` and `finish`, each with HEX.
+//! - `sequence`, `optional-sequence`, `octets`, `bits`, `unsigned`, `oid`, `u32`, `null`,
+//!   `boolean`, `skip`, `skip-all`, `capture`, `capture-rest` and `finish`, each with HEX.
 //! - `identifier HEX`: the content of an OBJECT IDENTIFIER.
 //! - `write value TAG HEX`, `write parts TAG HEX HEX`, `write boolean yes`, `write unsigned HEX`,
 //!   `write bits UNUSED HEX`, `write oid HEX`, `write extension HEX critical HEX` (or `plain`).
