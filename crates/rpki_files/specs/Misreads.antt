@@ -12,8 +12,8 @@ abbrev pub BeginsAsRead : Bool → List ℕ → Type 0
 BeginsAsRead false octets = BeginsWithCertificate octets
 BeginsAsRead true octets = BeginsWithList octets
 
--- memory ran out; or they begin with none, the fault is another, and reading stops at the place, which
--- is one of the octets or their end
+-- memory ran out; or they begin with none, the fault is another, and reading stops at the place,
+-- which is one of the octets or their end
 abbrev pub IsMisread : Bool → List ℕ → Misread → Type 0
 IsMisread is_list octets misread.Memory = Unit {0}
 IsMisread is_list octets (misread.Stopped fault place) =

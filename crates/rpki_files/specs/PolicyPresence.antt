@@ -26,9 +26,9 @@ abbrev pub IsOneOf : List (List ℕ) → List ℕ → Type 0
 IsOneOf [] id = ⊥
 IsOneOf (one ∷ more) id = (id ≡ one) ⊎ IsOneOf more id
 
--- an extension with this identifier and this content is one that is looked for: Certificate Policies
--- (RFC 5280 4.2.1.4), or resources or the one policy that a certificate of the RPKI has (RFC 6487
--- 4.8.9, 4.8.10, 4.8.11)
+-- an extension with this identifier and this content is one that is looked for: Certificate
+-- Policies (RFC 5280 4.2.1.4), or resources or the one policy that a certificate of the RPKI has
+-- (RFC 6487 4.8.9, 4.8.10, 4.8.11)
 abbrev pub IsWanted : Wanted → List ℕ → List ℕ → Type 0
 IsWanted Policies id content = id ≡ certificate_policies.identifier
 IsWanted OfRpki id content =

@@ -107,7 +107,8 @@ fn write_dotted<W: fmt::Write>(f: &mut fmt::Formatter<W>, id: &[u8]) -> fmt::Res
 }
 
 /// An object identifier by the octets of its content: its numbers with dots between them, as
-/// `1.2.840`, or its octets in hexadecimal with colons between them where one number is 2^64 or more.
+/// `1.2.840`, or its octets in hexadecimal with colons between them where one number is 2^64 or
+/// more.
 #[derive(Drop)]
 pub struct Identifier<'a>(pub &'a [u8]);
 
