@@ -103,7 +103,8 @@ fn address_len(last: u32) -> u8
     3 + octets_kept(last)
 }
 
-// Appends the BIT STRING of an address without its last bits, or a part of it where memory runs out.
+// Appends the BIT STRING of an address without its last bits, or a part of it where memory runs
+// out.
 fn put_address(out: &mut Vec<u8>, address: u128, last: u32) -> Result<(), AllocError>
     requires { last ≤ 128 }
     ensures ok { OnOk result (out.new.items ≡ out.old.items ++ without last address) }

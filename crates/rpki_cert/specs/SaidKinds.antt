@@ -43,8 +43,8 @@ IsKindOf kind strict c =
 abbrev pub BeginsWithKind : Kind → List ℕ → Type 0
 BeginsWithKind kind octets = (c : CertFields) × Means IsCertificate c octets × SaysKind kind c.fields
 
--- what a certificate says of its place among others: its kind, the identifier of its own key, and that
--- of the key that it names as the one that signs it (RFC 5280 4.2.1.1)
+-- what a certificate says of its place among others: its kind, the identifier of its own key, and
+-- that of the key that it names as the one that signs it (RFC 5280 4.2.1.1)
 pub record IsSaid (said : Said) (f : TbsFields) : Type 0 where
   pub kind_is : SaysKind said.kind f
   pub key_is : said.key ≡ f.extensions.subject_key_identifier

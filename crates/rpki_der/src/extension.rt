@@ -152,9 +152,9 @@ fn enclose_extension(
 }
 
 /// Ends an extension with this identifier and flag whose content was appended behind the first
-/// `start` octets, with this outcome (RFC 5280 4.1). Makes the extension of it where that went well;
-/// else cuts the octets back to the first `start` and hands the error on. Errs with `TooLong` also
-/// where the extension would have a content of 2^32 octets or more.
+/// `start` octets, with this outcome (RFC 5280 4.1). Makes the extension of it where that went
+/// well; else cuts the octets back to the first `start` and hands the error on. Errs with `TooLong`
+/// also where the extension would have a content of 2^32 octets or more.
 pub fn end_extension(
     out: &mut Vec<u8>,
     start: usize,

@@ -151,8 +151,8 @@ fn has_four_or_ended(content: &[u8]) -> bool
     }
 }
 
-/// Returns whether these are whole subidentifiers, each without a leading `80`. Identifiers of three
-/// and of eight octets, as extensions have them, are tested without a loop.
+/// Returns whether these are whole subidentifiers, each without a leading `80`. Identifiers of
+/// three and of eight octets, as extensions have them, are tested without a loop.
 #[inline(always)]
 pub(crate) fn is_oid(content: &[u8]) -> bool
     ensures { result ≡ is_oid content.now }

@@ -69,8 +69,8 @@ bare identifier usage overclaim = record {
   as_resources = missing;
 }
 
--- The value of each kind, in the order of the table: of URIs of Subject Information Access, addresses
--- and AS numbers the one that is there
+-- The value of each kind, in the order of the table: of URIs of Subject Information Access,
+-- addresses and AS numbers the one that is there
 abbrev pub values : ExtensionFields → Option Access → Option Ip → Option Resources → Values certificate_kinds
 values f access ip numbers =
     f.basic_ca

@@ -39,8 +39,8 @@ pub(crate) fn is(identifier: &[u8], known: &[u8]) -> bool
     identifier.last() == known.last() && identifier == known
 }
 
-/// Returns whether readers of certificates know the kind of extension with this identifier (RFC 6487
-/// 4.8, RFC 8360 4.2).
+/// Returns whether readers of certificates know the kind of extension with this identifier (RFC
+/// 6487 4.8, RFC 8360 4.2).
 pub fn is_known(identifier: &[u8]) -> bool
     ensures { result ≡ list_any (bytes_eq identifier.now) known }
 {

@@ -1,5 +1,5 @@
--- What the octets of a file begin with, where what follows is ignored; and whether they are a list, and
--- nothing follows.
+-- What the octets of a file begin with, where what follows is ignored; and whether they are a list,
+-- and nothing follows.
 use Rattle.std.specs.Prelude.{◌≡◌, ◌≢◌, ◌⊎◌, ℕ, Bool, List, ◌∷◌, length, Option, Some, None}
 use Rattle.rpki_der.specs.declared.error.DecodeError.TheVariants as decoding
 use Rattle.rpki_der.specs.Encoding.{Begins, Means}
@@ -22,8 +22,8 @@ BeginsWithCertificate octets = (c : CertFields) × Means IsCertificate c octets
 abbrev pub BeginsWithList : List ℕ → Type 0
 BeginsWithList octets = (l : CrlFields) × Means IsCertificateList l octets
 
--- the octets are a revocation list, and none stands behind it: a file is asked as a list only so (own),
--- since what stands there may be a list that revokes
+-- the octets are a revocation list, and none stands behind it: a file is asked as a list only so
+-- (own), since what stands there may be a list that revokes
 abbrev pub IsList : List ℕ → Type 0
 IsList octets = (l : CrlFields) × IsCertificateList l octets
 

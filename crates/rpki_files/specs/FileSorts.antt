@@ -18,16 +18,17 @@ pub mod Reading
 
 -- ---- values of DER, one behind the other or one inside the other
 
--- the content of the OBJECT IDENTIFIER of a type: id-signedData 1.2.840.113549.1.7.2 (RFC 5652 5.1),
--- and below 1.2.840.113549.1.9.16.1 id-ct-routeOriginAuthz 24 (RFC 9582 3), id-ct-rpkiManifest 26
--- (RFC 9286 4.1) and id-ct-rpkiGhostbusters 35 (RFC 6493 5)
+-- the content of the OBJECT IDENTIFIER of a type: id-signedData 1.2.840.113549.1.7.2 (RFC 5652
+-- 5.1), and below 1.2.840.113549.1.9.16.1 id-ct-routeOriginAuthz 24 (RFC 9582 3),
+-- id-ct-rpkiManifest 26 (RFC 9286 4.1) and id-ct-rpkiGhostbusters 35 (RFC 6493 5)
 abbrev pub type_octets : ContentType → List ℕ
 type_octets of.SignedData = 0x2A ∷ 0x86 ∷ 0x48 ∷ 0x86 ∷ 0xF7 ∷ 0x0D ∷ 0x01 ∷ 0x07 ∷ 0x02 ∷ []
 type_octets of.Roa = 0x2A ∷ 0x86 ∷ 0x48 ∷ 0x86 ∷ 0xF7 ∷ 0x0D ∷ 0x01 ∷ 0x09 ∷ 0x10 ∷ 0x01 ∷ 0x18 ∷ []
 type_octets of.Manifest = 0x2A ∷ 0x86 ∷ 0x48 ∷ 0x86 ∷ 0xF7 ∷ 0x0D ∷ 0x01 ∷ 0x09 ∷ 0x10 ∷ 0x01 ∷ 0x1A ∷ []
 type_octets of.Ghostbusters = 0x2A ∷ 0x86 ∷ 0x48 ∷ 0x86 ∷ 0xF7 ∷ 0x0D ∷ 0x01 ∷ 0x09 ∷ 0x10 ∷ 0x01 ∷ 0x23 ∷ []
 
--- values stand at the front of the octets: over one, into one, or over an OBJECT IDENTIFIER of a type
+-- values stand at the front of the octets: over one, into one, or over an OBJECT IDENTIFIER of a
+-- type
 abbrev pub BeginSo : List Turn → List ℕ → Type 0
 BeginSo [] octets = Unit {0}
 BeginSo (Over tag ∷ turns) octets =
@@ -37,9 +38,9 @@ BeginSo (Into tag ∷ turns) octets =
 BeginSo (Named type ∷ turns) octets =
     (rest : List ℕ) × Begins (IsEnc OBJECT_IDENTIFIER) octets (type_octets type) rest × BeginSo turns rest
 
--- ContentInfo ::= SEQUENCE { contentType ContentType, content [0] EXPLICIT ANY DEFINED BY contentType }
--- (RFC 5652 3), of SignedData ::= SEQUENCE { version CMSVersion, digestAlgorithms SET,
--- encapContentInfo EncapsulatedContentInfo, .. }, EncapsulatedContentInfo ::= SEQUENCE {
+-- ContentInfo ::= SEQUENCE { contentType ContentType, content [0] EXPLICIT ANY DEFINED BY
+-- contentType } (RFC 5652 3), of SignedData ::= SEQUENCE { version CMSVersion, digestAlgorithms
+-- SET, encapContentInfo EncapsulatedContentInfo, .. }, EncapsulatedContentInfo ::= SEQUENCE {
 -- eContentType ContentType, .. } (5.1, 5.2)
 abbrev pub signed_data : Turn → List Turn
 signed_data turn =
@@ -61,7 +62,8 @@ rsa_private_key =
 abbrev pub curve_private_key : List Turn
 curve_private_key = Into SEQUENCE ∷ Over INTEGER ∷ Over OCTET_STRING ∷ []
 
--- SubjectPublicKeyInfo ::= SEQUENCE { algorithm SEQUENCE, subjectPublicKey BIT STRING } (RFC 5280 4.1)
+-- SubjectPublicKeyInfo ::= SEQUENCE { algorithm SEQUENCE, subjectPublicKey BIT STRING } (RFC 5280
+-- 4.1)
 abbrev pub public_key : List Turn
 public_key = Into SEQUENCE ∷ Over SEQUENCE ∷ Over BIT_STRING ∷ []
 

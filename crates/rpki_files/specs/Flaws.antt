@@ -1,5 +1,5 @@
--- What is found where reading stops: the first flaw of the octets of the file from there on (X.690 8.1,
--- 8.3, 10.1, 11.7, 11.8; RFC 5280 4.1, 4.2).
+-- What is found where reading stops: the first flaw of the octets of the file from there on (X.690
+-- 8.1, 8.3, 10.1, 11.7, 11.8; RFC 5280 4.1, 4.2).
 use Rattle.std.specs.Int.Digits.{number_from_digits}
 use Rattle.std.specs.Prelude.{◌≡◌, ◌≢◌, ◌≤◌, ◌<◌, ◌⊎◌, ◌^◌, ℕ, Bool, true, false, List, [], ◌∷◌, ◌++◌, Contains, map, Option, Some, None}
 use Rattle.rpki_der.specs.Encoding.{Begins, Means}
@@ -45,8 +45,8 @@ field_openings field.ThisUpdate = UTC_TIME ∷ GENERALIZED_TIME ∷ []
 field_openings field.NextUpdate = UTC_TIME ∷ GENERALIZED_TIME ∷ []
 field_openings other = SEQUENCE ∷ []
 
--- those with which a part may begin; none where nothing may be left. At the extensions reading stops at
--- their tag, or inside it at their SEQUENCE
+-- those with which a part may begin; none where nothing may be left. At the extensions reading
+-- stops at their tag, or inside it at their SEQUENCE
 abbrev pub openings : Bool → Part → List ℕ
 openings is_list (part.Field f) = field_openings f
 openings true part.Extensions = CONTEXT_CONSTRUCTED 0 ∷ SEQUENCE ∷ []
@@ -114,8 +114,8 @@ IsSecondTimeFlaw octets f = (m : Moment) × (rest : List ℕ) × Begins IsTime o
 abbrev pub extension_of : List ℕ → Bool → List ℕ → Extension
 extension_of identifier critical content = record { identifier = identifier; critical = critical; content = content }
 
--- of an extension: its flag is one that its kind may not have, or its content; or both are well, and so
--- it stands behind another one of its kind
+-- of an extension: its flag is one that its kind may not have, or its content; or both are well,
+-- and so it stands behind another one of its kind
 abbrev pub IsExtensionFlaw : Bool → Extension → ExtensionFlaw → Type 0
 IsExtensionFlaw is_list x Critical = (x.critical ≡ true) × (MayHaveFlag is_list (known_kind is_list x.identifier) true → ⊥)
 IsExtensionFlaw is_list x NotCritical = (x.critical ≡ false) × (MayHaveFlag is_list (known_kind is_list x.identifier) false → ⊥)

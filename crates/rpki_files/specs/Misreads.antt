@@ -19,8 +19,8 @@ abbrev pub StopsFor : Bool → List ℕ → DecodeError → Place → Type 0
 StopsFor is_list octets fault place =
     (stops : IsStopPlace is_list octets place) × NamesTruly is_list stops.part_is (drop place.octet octets) fault
 
--- memory ran out; or they begin with none, the fault is another, and reading stops for it at the place,
--- which is one of the octets or their end
+-- memory ran out; or they begin with none, the fault is another, and reading stops for it at the
+-- place, which is one of the octets or their end
 abbrev pub IsMisread : Bool → List ℕ → Misread → Type 0
 IsMisread is_list octets misread.Memory = Unit {0}
 IsMisread is_list octets (misread.Stopped fault place) =

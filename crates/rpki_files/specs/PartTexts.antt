@@ -1,5 +1,5 @@
--- What is told of the parts at which reading may stop: a table, in the order in which the types name
--- them.
+-- What is told of the parts at which reading may stop: a table, in the order in which the types
+-- name them.
 use Prim.Native.String.{String}
 use Rattle.std.specs.Prelude.{ℕ, List, codes}
 use Rattle.rpki_files.specs.KnownKinds.{kind_name, kind_wanted}

@@ -35,9 +35,9 @@ IsOfMode field.IpResources mode id = id ≡ (ip_resources mode).identifier
 IsOfMode field.AsResources mode id = id ≡ (as_resources mode).identifier
 IsOfMode f mode id = ⊥
 
--- an extension with this identifier and this content is one that is looked for: Certificate Policies
--- (RFC 5280 4.2.1.4); resources or the one policy that a certificate of the RPKI has (RFC 6487
--- 4.8.9, 4.8.10, 4.8.11); one of a kind that a fault names; resources or the policy of a mode
+-- an extension with this identifier and this content is one that is looked for: Certificate
+-- Policies (RFC 5280 4.2.1.4); resources or the one policy that a certificate of the RPKI has (RFC
+-- 6487 4.8.9, 4.8.10, 4.8.11); one of a kind that a fault names; resources or the policy of a mode
 abbrev pub IsWanted : Wanted → List ℕ → List ℕ → Type 0
 IsWanted Policies id content = id ≡ certificate_policies.identifier
 IsWanted OfRpki id content =

@@ -5,8 +5,8 @@ use Rattle.rpki_files.specs.FaultRules.{RuleFields}
 use Rattle.rpki_files.specs.declared.sorts.Sort.{Sort}
 use Rattle.rpki_files.specs.declared.sorts.Sort.TheVariants as sort
 
--- its name, what it is for a reader who wants a certificate, the section that says what files of the
--- sort are, and what to do
+-- its name, what it is for a reader who wants a certificate, the section that says what files of
+-- the sort are, and what to do
 pub record DescriptionFields : Type 0 where
   pub name : List ℕ
   pub says : List ℕ

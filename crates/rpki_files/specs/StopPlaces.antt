@@ -1,6 +1,7 @@
--- Where the reading of a file stops: at which part of a certificate or of a list, and at which octet
--- of the file. What stands before that octet was read as the parts before; from there on no value of
--- the part begins, or the one that begins may not stand there (RFC 5280 4.1, 5.1, RFC 6487 4, 5).
+-- Where the reading of a file stops: at which part of a certificate or of a list, and at which
+-- octet of the file. What stands before that octet was read as the parts before; from there on no
+-- value of the part begins, or the one that begins may not stand there (RFC 5280 4.1, 5.1, RFC 6487
+-- 4, 5).
 use Rattle.std.specs.Prelude.{◌≡◌, ◌≢◌, ◌≤◌, ◌<◌, ◌⊎◌, ℕ, Bool, true, false, List, [], ◌∷◌, ◌++◌, Contains, drop, length, map, slice_range, Result, Ok, Err}
 use Rattle.rpki_parts.specs.Algorithms.{Algorithm, algorithm_format}
 use Rattle.rpki_der.specs.BasicFormats.{serial_format, time_format}
@@ -135,8 +136,8 @@ pub record ReadsEntries (at next : Place) : Type 0 where
   pub passes : Passes (EncodesSome revoked_format) at next
   pub absent : next.from ≡ at.from → BeginsOther SEQUENCE (remaining at)
 
--- where revokedCertificates SEQUENCE OF .. OPTIONAL may stand (RFC 5280 5.1): a SEQUENCE begins that
--- is none, or reading stops inside it
+-- where revokedCertificates SEQUENCE OF .. OPTIONAL may stand (RFC 5280 5.1): a SEQUENCE begins
+-- that is none, or reading stops inside it
 abbrev pub StopsAtEntries : Place → Part → ℕ → Type 0
 StopsAtEntries at stop octet =
     ((BeginsOther SEQUENCE (remaining at) → ⊥) × StopsBefore (HasTag SEQUENCE) part.Entries at stop octet)
@@ -163,8 +164,8 @@ StopsBeforeExtensions true at stop octet =
 abbrev pub kind_of : Bool → Extension → Kind
 kind_of is_list x = known_kind is_list x.identifier
 
--- one of a known kind that is among these (RFC 5280 4.2); of those that certificates don't know there
--- may be several (own)
+-- one of a known kind that is among these (RFC 5280 4.2); of those that certificates don't know
+-- there may be several (own)
 abbrev pub IsSecond : List Kind → Kind → Type 0
 IsSecond kinds kind = (kind ≢ Unknown) × Contains kinds kind
 
@@ -229,8 +230,8 @@ abbrev pub extensions_tag : Bool → ℕ
 extensions_tag false = CONTEXT_CONSTRUCTED 3
 extensions_tag true = CONTEXT_CONSTRUCTED 0
 
--- reading stops at the extensions in their SEQUENCE: at one of them, or, where they don't give all that
--- must be there, at the octet at which their field begins
+-- reading stops at the extensions in their SEQUENCE: at one of them, or, where they don't give all
+-- that must be there, at the octet at which their field begins
 abbrev pub StopsAmongElements : Bool → ℕ → Place → Part → ℕ → Type 0
 StopsAmongElements is_list field_octet elements stop octet =
     StopsInExtensions is_list elements stop octet
@@ -282,12 +283,14 @@ HasAlgorithm a signed = Means (then version_2 algorithm_format).encodes (tt, a) 
 abbrev pub HasOther : Algorithm → List ℕ → Type 0
 HasOther a octets = (b : Algorithm) × Means algorithm_format.encodes b octets × (a ≢ b)
 
--- the algorithm inside a list isn't the one that stands here, beside its signature (RFC 5280 5.1.1.2)
+-- the algorithm inside a list isn't the one that stands here, beside its signature (RFC 5280
+-- 5.1.1.2)
 abbrev pub AlgorithmsDiffer : Bool → Place → Place → Type 0
 AlgorithmsDiffer false signed at = ⊥
 AlgorithmsDiffer true signed at = (a : Algorithm) × HasAlgorithm a (remaining signed) × HasOther a (remaining at)
 
--- reading stops at the algorithm beside the signature: it isn't there, or is another one than inside
+-- reading stops at the algorithm beside the signature: it isn't there, or is another one than
+-- inside
 abbrev pub StopsAtAlgorithm : Bool → Place → Place → Part → ℕ → Type 0
 StopsAtAlgorithm is_list signed at stop octet =
     StopsBefore (IsField field.SignatureAlgorithm) (part.Field field.SignatureAlgorithm) at stop octet
@@ -298,8 +301,8 @@ pub record ReadsAlgorithm (is_list : Bool) (signed at next : Place) : Type 0 whe
   pub passes : Passes (IsField field.SignatureAlgorithm) at next
   pub same : AlgorithmsDiffer is_list signed at → ⊥
 
--- Reading stops behind what is signed: at the algorithm, or behind it at the signature, which is told
--- where all before it was read
+-- Reading stops behind what is signed: at the algorithm, or behind it at the signature, which is
+-- told where all before it was read
 abbrev pub StopsBehindSigned : Bool → Place → Place → Part → ℕ → Type 0
 StopsBehindSigned is_list signed at stop octet =
     StopsAtAlgorithm is_list signed at stop octet

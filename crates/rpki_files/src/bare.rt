@@ -25,8 +25,8 @@ pub enum Front {
 }
 
 /// An object without what was read of it, which would take as much memory as its octets: its file's
-/// name, its octets, in DER, what it is among others, and how many octets stand behind the certificate
-/// or the list that they begin with.
+/// name, its octets, in DER, what it is among others, and how many octets stand behind the
+/// certificate or the list that they begin with.
 #[derive(Drop)]
 pub struct BareObject<'a> {
     name: &'a str,
@@ -96,16 +96,16 @@ impl<'a> BareObject<'a> {
         &self.octets
     }
 
-    /// Returns what the octets are among others: a certificate where they begin with one, a revocation
-    /// list where they are one, or neither.
+    /// Returns what the octets are among others: a certificate where they begin with one, a
+    /// revocation list where they are one, or neither.
     pub fn front(&self) -> Front
         ensures { IsFront self.now.octets result }
     {
         self.front
     }
 
-    /// Returns how many octets stand behind the certificate or the list that the octets begin with, and
-    /// 0 where they begin with neither.
+    /// Returns how many octets stand behind the certificate or the list that the octets begin with,
+    /// and 0 where they begin with neither.
     pub fn left(&self) -> usize
         ensures { StandBehind self.now.octets result }
     {
@@ -148,8 +148,8 @@ impl<'a> BareObject<'a> {
         }
     }
 
-    /// Reads the revocation list that the octets are, if they are one: none stands behind it. Errs only
-    /// where memory runs out.
+    /// Reads the revocation list that the octets are, if they are one: none stands behind it. Errs
+    /// only where memory runs out.
     pub fn whole_list(&self, alloc: Global) -> Result<Option<Crl>, AllocError>
         ensures { let octets = self.now.octets in IfOk result (λ found.
             MatchOption found (IsList octets → ⊥) (λ l. IsCertificateList l.list octets)) }

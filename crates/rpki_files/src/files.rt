@@ -60,8 +60,8 @@ impl<'a> Object<'a> {
         &self.content
     }
 
-    /// Returns the sort of the octets, where they begin with neither a certificate nor a list and are
-    /// of one.
+    /// Returns the sort of the octets, where they begin with neither a certificate nor a list and
+    /// are of one.
     pub fn sort(&self) -> Option<Sort>
         ensures { IsToldSort self.now.octets result }
     {

@@ -29,7 +29,8 @@ pub fn read_locator(
     }
 }
 
-/// Tells whether octets look like a locator, be they one or not: they begin with a comment or a URI.
+/// Tells whether octets look like a locator, be they one or not: they begin with a comment or a
+/// URI.
 pub fn looks_like_locator(octets: &[u8]) -> bool
     ensures { result ≡ looks_like_locator octets.now }
 {

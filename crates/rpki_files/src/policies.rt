@@ -1,5 +1,5 @@
-//! The extensions of octets that are built as a certificate is, and whether Certificate Policies are
-//! among them.
+//! The extensions of octets that are built as a certificate is, and whether Certificate Policies
+//! are among them.
 ghost use Rattle.std.specs.Prelude.{◌≡◌, ◌↔◌, IsTrue, option_map};
 ghost use Rattle.rpki_der.specs.Encoding.{Means};
 ghost use Rattle.rpki_der.specs.Place.{remaining};
@@ -72,7 +72,8 @@ pub(crate) enum Wanted {
     Policy(Overclaim),
 }
 
-// Whether an identifier is one of the four that resources have (RFC 3779 2.2.1, 3.2.1, RFC 8360 4.2).
+// Whether an identifier is one of the four that resources have (RFC 3779 2.2.1, 3.2.1, RFC 8360
+// 4.2).
 fn is_of_resources(identifier: &[u8]) -> bool
     ensures { IsTrue result ↔ IsOneOf resource_identifiers identifier.now }
 {

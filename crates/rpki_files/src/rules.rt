@@ -19,7 +19,8 @@ pub struct Rule {
     pub section: &'static str,
 }
 
-// A line for each fault: its name, what it means, and the section that it breaks; and one for others.
+// A line for each fault: its name, what it means, and the section that it breaks; and one for
+// others.
 macro_rules! rules {
     ($fault:ident: $faults:ident;
         $($name:ident $(($part:tt))? => $says:literal, $section:literal;)*

@@ -1,5 +1,5 @@
--- Blocks of addresses and of AS numbers as texts, and what is listed of a kind of numbers: as what is
--- shown of a certificate has them (own).
+-- Blocks of addresses and of AS numbers as texts, and what is listed of a kind of numbers: as what
+-- is shown of a certificate has them (own).
 use Rattle.std.specs.List.{AllZip, position}
 use Rattle.std.specs.Net.Addr.{ipv4_bits, ipv6_bits}
 use Rattle.std.specs.Net.Grammar.{IsIpv4Text, IsIpv6Text}
@@ -73,8 +73,8 @@ abbrev pub bits_of : Family → ℕ
 bits_of V4 = 32
 bits_of V6 = 128
 
--- how many addresses of 128 bits begin with one of the family: an IPv4 address stands in the upper 32
--- bits
+-- how many addresses of 128 bits begin with one of the family: an IPv4 address stands in the upper
+-- 32 bits
 abbrev pub size_of : Family → ℕ
 size_of V4 = 2 ^ 96
 size_of V6 = 1
@@ -84,8 +84,8 @@ abbrev pub IsAddressText : Family → ℕ → List ℕ → Type 0
 IsAddressText V4 n text = (a : Ipv4Addr) × IsIpv4Text text a × (n ≡ ipv4_bits a)
 IsAddressText V6 n text = (a : Ipv6Addr) × IsIpv6Text text a × (n ≡ ipv6_bits a)
 
--- the texts of an address and of how many of its bits are the prefix; no bit is set behind these (RFC
--- 4632 3.1, RFC 4291 2.3)
+-- the texts of an address and of how many of its bits are the prefix; no bit is set behind these
+-- (RFC 4632 3.1, RFC 4291 2.3)
 pub record IsPrefix (family : Family) (before behind : List ℕ) (b : Block) : Type 0 where
   pub address : ℕ
   pub address_is : IsAddressText family address before
@@ -130,8 +130,8 @@ IsAddressesText family b text = IsPrefixText family b text ⊎ IsRangeText famil
 abbrev pub inherit_texts : List (List ℕ)
 inherit_texts = codes "inherit" ∷ []
 
--- The issuer's; or the numbers of the blocks that the texts are, in any order. Where there is no text,
--- none are listed.
+-- The issuer's; or the numbers of the blocks that the texts are, in any order. Where there is no
+-- text, none are listed.
 abbrev pub AreListed : (Block → List ℕ → Type 0) → Resources → List (List ℕ) → Type 0
 AreListed IsText r texts =
     ((texts ≡ inherit_texts) × (r ≡ inherit))

@@ -1,4 +1,5 @@
--- What is asked of who issues: its fields, its name, and the lists that are its own (RFC 6487 4.4, 5).
+-- What is asked of who issues: its fields, its name, and the lists that are its own (RFC 6487 4.4,
+-- 5).
 use Rattle.std.specs.Prelude.{◌≡◌, Option, option_map}
 use Rattle.rpki_cert.specs.Certificates.{TbsFields}
 use Rattle.rpki_cert.specs.Verification.{IsSignedBy, ResourceFields}

@@ -73,14 +73,16 @@ IsListFault x issuer list Memory = Unit {0}
 abbrev pub IsListSignature : Verifies → TbsFields → ListFields Revoked → List ℕ → Type 0
 IsListSignature V issuer f value = V issuer.key f.algorithm (list_encoding f) value
 
--- that the signature isn't one of these octets, or that it is too long with it; or memory was wanted
+-- that the signature isn't one of these octets, or that it is too long with it; or memory was
+-- wanted
 abbrev pub IsListSignatureFault : Verifies → TbsFields → ListFields Revoked → List ℕ → ListError → Type 0
 IsListSignatureFault V issuer f value (Invalid revocation.BadSignature) = IsListSignature V issuer f value → ⊥
 IsListSignatureFault V issuer f value (Invalid _) = ⊥
 IsListSignatureFault V issuer f value TooLong = IsTooLongList (list_signed_with f value)
 IsListSignatureFault V issuer f value Memory = Unit {0}
 
--- each certificate of the issuer whose serial number isn't on the list passes each check of the list
+-- each certificate of the issuer whose serial number isn't on the list passes each check of the
+-- list
 abbrev pub LeavesOthers : Context → TbsFields → CrlFields → Type 0
 LeavesOthers x issuer list = (serial : ℕ) → (IsRevoked serial list.fields.revoked.entries → ⊥) → IsVerified (ListCheck x issuer serial list) revocation_checks
 

@@ -40,8 +40,8 @@ pub record IsNext (old : ListFields Revoked) (added : List Entry) (gone : List �
 
 -- ---- why there is none
 
--- what is asked of the number and the moments, named by the error where it isn't so (RFC 5280 5.2.3;
--- own: the next update isn't before this one)
+-- what is asked of the number and the moments, named by the error where it isn't so (RFC 5280
+-- 5.2.3; own: the next update isn't before this one)
 abbrev pub NextCheck : ListFields Revoked → ℕ → Moment → Moment → NextListError → Type 0
 NextCheck old number this_update next_update Number = old.extensions.crl_number < number
 NextCheck old number this_update next_update LongNumber = HasAtMostTwentyOctets number

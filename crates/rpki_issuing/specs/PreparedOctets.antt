@@ -33,8 +33,8 @@ HasNoRole kind issuer = (role : Role) → IsRoleOf kind issuer role → ⊥
 
 -- ---- what is prepared
 
--- the fields are ready to be signed as a certificate of this kind below this issuer, and these are the
--- octets that are to be signed
+-- the fields are ready to be signed as a certificate of this kind below this issuer, and these are
+-- the octets that are to be signed
 pub record IsPrepared (kind : Kind) (issuer : Option ResourceFields) (at : Moment) (strict : Bool) (f : TbsFields) (octets : List ℕ) : Type 0 where
   pub role : Role
   pub role_is : IsRoleOf kind issuer role
@@ -72,7 +72,8 @@ pub record IsCompleted (kind : Kind) (issuer : Option ResourceFields) (at : Mome
   pub short : length (signed_content (signed_with f signature).signed_data) < 2 ^ 32
   pub octets_are : octets ≡ signed_data (signed_with f signature).signed_data
 
--- the signature isn't one of what is prepared in its role, or makes it too long; or memory was wanted
+-- the signature isn't one of what is prepared in its role, or makes it too long; or memory was
+-- wanted
 abbrev pub IsUnsignedAs : Role → TbsFields → List ℕ → WantedError → Type 0
 IsUnsignedAs role f signature (error.Unsigned e) = IsSignatureFault IsSignedByRsa role f signature e
 IsUnsignedAs role f signature error.Memory = Unit {0}

@@ -71,7 +71,8 @@ IsIncomplete x role f value TooLong = IsTooLong (signed_with f value)
 IsIncomplete x role f value (Invalid e) = IsInvalidAs x role (signed_with f value) (Invalid e)
 IsIncomplete x role f value Memory = Unit {0}
 
--- that the signature isn't one of these octets, or that it is too long with it; or memory was wanted
+-- that the signature isn't one of these octets, or that it is too long with it; or memory was
+-- wanted
 abbrev pub IsSignatureFault : Verifies → Role → TbsFields → List ℕ → IssuingError → Type 0
 IsSignatureFault V role f value (Invalid (Verification BadSignature)) = IsSignatureOf V role f value → ⊥
 IsSignatureFault V role f value TooLong = IsTooLong (signed_with f value)

@@ -1,5 +1,5 @@
-//! Certificates and revocation lists that are wanted: their values, the fields that these make, what
-//! is to be signed of them, and what is completed by its signature.
+//! Certificates and revocation lists that are wanted: their values, the fields that these make,
+//! what is to be signed of them, and what is completed by its signature.
 
 pub mod issuers;
 mod lists;

@@ -105,8 +105,8 @@ uri_line label uri = line_if_any label (option_map characters_text uri)
 
 -- ---- a certificate
 
--- its version and its algorithm, which are those of every certificate (RFC 6487 4.1, RFC 7935 2), its
--- number and its names
+-- its version and its algorithm, which are those of every certificate (RFC 6487 4.1, RFC 7935 2),
+-- its number and its names
 unfoldable pub names_text : TbsFields → List ℕ
 names_text f = concat (
     line (codes "Version") (codes "3")

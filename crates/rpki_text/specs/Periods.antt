@@ -9,8 +9,8 @@ use Rattle.rpki_der.specs.Timestamps.{timestamp}
 abbrev pub seconds_between : Moment → Moment → ℕ
 seconds_between m n = unsigned_abs (timestamp m -ℤ timestamp n)
 
--- so many seconds: from 48 hours on in days of 86,400 seconds, from an hour on in hours and minutes,
--- from a minute on in minutes, else in seconds; what is left over isn't told
+-- so many seconds: from 48 hours on in days of 86,400 seconds, from an hour on in hours and
+-- minutes, from a minute on in minutes, else in seconds; what is left over isn't told
 abbrev pub duration_text : ℕ → List ℕ
 duration_text s =
     if nat_le 172_800 s then decimal (s / 86_400) ++ codes " days"

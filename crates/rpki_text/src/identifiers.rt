@@ -7,7 +7,8 @@ use rpki_parts::Dotted;
 use std::fmt;
 
 /// An object identifier by the octets of its content: its numbers with dots between them, as
-/// `1.2.840`, or its octets in hexadecimal with colons between them where one number is 2^64 or more.
+/// `1.2.840`, or its octets in hexadecimal with colons between them where one number is 2^64 or
+/// more.
 #[derive(Drop)]
 pub struct Identifier<'a>(pub &'a [u8]);
 

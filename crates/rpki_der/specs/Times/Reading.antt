@@ -23,7 +23,8 @@ two_at [] = None
 two_at (a ∷ []) = None
 two_at (a ∷ b ∷ text) = if is_digit a && is_digit b then Some ((a - 48) * 10 + (b - 48), text) else None
 
--- two octets are the decimal digits of a number below 100; or one is no digit, and n is not below 100
+-- two octets are the decimal digits of a number below 100; or one is no digit, and n is not below
+-- 100
 abbrev pub IsPair : ℕ → ℕ → ℕ → Type 0
 IsPair tens ones n = (rest : List ℕ) → two_at (tens ∷ ones ∷ rest) ≡ (if nat_lt n 100 then Some (n, rest) else None)
 

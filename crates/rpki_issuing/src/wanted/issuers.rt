@@ -39,8 +39,8 @@ pub fn is_named(tbs: &TbsCert, issuer: Option<&ResourceCert>) -> bool
     tbs.issuer().as_bytes() == name.as_bytes()
 }
 
-/// Returns whether the list is one of the issuer: it names the issuer's key, which signed it. It may
-/// be stale.
+/// Returns whether the list is one of the issuer: it names the issuer's key, which signed it. It
+/// may be stale.
 pub fn is_own(list: &Crl, issuer: &ResourceCert, strict: bool) -> bool
     ensures { IsTrue result ↔ IsOwnList issuer.now.cert.fields list.now.list }
 {

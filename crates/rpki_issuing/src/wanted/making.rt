@@ -16,7 +16,8 @@ use rpki_parts::{KeyIdentifier, Name, PublicKey, Validity};
 use std::alloc::{AllocError, Global};
 use std::fmt;
 
-// What stands before the text of a router's name: a CommonName, with a PrintableString of 15 octets.
+// What stands before the text of a router's name: a CommonName, with a PrintableString of 15
+// octets.
 const BEFORE_TEXT: [u8; 13] = [
     0x30, 0x1A, 0x31, 0x18, 0x30, 0x16, 0x06, 0x03, 0x55, 0x04, 0x03, 0x13, 0x0F,
 ];

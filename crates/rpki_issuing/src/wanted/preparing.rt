@@ -165,8 +165,8 @@ fn completed(
 }
 
 /// Completes what was prepared of these fields by its signature: returns the octets of the
-/// certificate, exactly where these are the octets that are prepared of the fields, only the signature
-/// is missing, and the key of who issues signed them.
+/// certificate, exactly where these are the octets that are prepared of the fields, only the
+/// signature is missing, and the key of who issues signed them.
 pub fn complete_octets(
     alloc: Global,
     tbs: &TbsCert,

@@ -133,8 +133,8 @@ fn of_certificate(alloc: Global, octets: &Bytes, cert: &Cert) -> Result<Vec<Note
 
 /// Returns what is taken of the certificate that a file begins with although a standard forbids it:
 /// exactly the notes whose rules it breaks, in the order of [`Note`]. There are none where the file
-/// begins with no certificate. Takes time linear in the octets. Errs where memory runs out, which it
-/// does too where resources take 2^32 octets or more to write.
+/// begins with no certificate. Takes time linear in the octets. Errs where memory runs out, which
+/// it does too where resources take 2^32 octets or more to write.
 pub fn notes_of(alloc: Global, object: &Object<'_>) -> Result<Vec<Note>, AllocError>
     ensures { IfOk result (λ notes. AreNotes object.now.octets notes.items) }
 {
