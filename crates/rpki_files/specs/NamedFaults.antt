@@ -35,13 +35,13 @@ abbrev pub IsOtherFlag : Bool → Bool → List ℕ → Bool → Type 0
 IsOtherFlag is_list this identifier critical =
     (critical ≡ this) × (MayHaveFlag is_list (known_kind is_list identifier) critical → ⊥)
 
--- this holds of what stands where extensions do, in the two tags of their field, with which the octets
--- begin (RFC 5280 4.1, 5.1)
+-- this holds of what stands where extensions do, in the two tags of their field, with which the
+-- octets begin (RFC 5280 4.1, 5.1)
 abbrev pub ExtensionsAre : Bool → (List ℕ → Type 0) → List ℕ → Type 0
 ExtensionsAre is_list Are octets = Encloses (extensions_tag is_list) (Encloses SEQUENCE Are) octets
 
--- resources that faults call so are there, under the identifier that the policy of a mode asks for, and
--- that policy isn't (RFC 8360 4.2)
+-- resources that faults call so are there, under the identifier that the policy of a mode asks for,
+-- and that policy isn't (RFC 8360 4.2)
 abbrev pub HasOtherMode : Field → List ℕ → Type 0
 HasOtherMode f elements =
     (mode : Overclaim) × BeginsWithOne (Resources f mode) elements × Lack (Policy mode) elements

@@ -189,8 +189,8 @@ MayStandBehind is_list kinds (x ∷ xs) =
 abbrev pub AreWellPlaced : Bool → List Extension → List ℕ → Type 0
 AreWellPlaced is_list xs text = AreEncodings IsExtension xs text × MayStandBehind is_list [] xs
 
--- the part that is told of an extension of this kind that may not stand behind those of these kinds: a
--- second one of its kind, or else one with another flag or another content
+-- the part that is told of an extension of this kind that may not stand behind those of these
+-- kinds: a second one of its kind, or else one with another flag or another content
 abbrev pub IsMisplaced : Bool → List Kind → Kind → Bool → List ℕ → Part → Type 0
 IsMisplaced is_list kinds kind critical content stop =
     ((stop ≡ part.Second kind) × IsSecond kinds kind)

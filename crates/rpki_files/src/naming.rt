@@ -326,8 +326,8 @@ fn holds_at(
     Ok(holds)
 }
 
-/// Keeps a fault where what it names is true of the part at which reading stops, and else answers the
-/// plain `BadValue`.
+/// Keeps a fault where what it names is true of the part at which reading stops, and else answers
+/// the plain `BadValue`.
 pub(crate) fn kept(
     fault: DecodeError,
     part: Part,
