@@ -90,3 +90,80 @@ fn of_a_list_of_version_3(rt: HostRuntime) {
     let printed = "unexpected identifier: the version, from octet 7";
     assert_no_cert(&rt, rt.alloc(), &octets, printed, wanted);
 }
+
+// That octets can't be read for the fault that is printed so.
+fn assert_fault<T: Drop>(
+    rt: &impl Abort,
+    alloc: Global,
+    answer: Result<T, Misread>,
+    printed: &str,
+) {
+    let why = answer.err().expect(rt, "they begin with none");
+    let told = format!(in alloc; "{why}").expect(rt, "memory");
+    assert!(rt; told.as_str().starts_with(printed));
+    drop(why);
+}
+
+// The OBJECT IDENTIFIER of an extension up to its last octet: id-ce (RFC 5280 4.2.1), and id-pe
+// (RFC 5280 4.2.2).
+const CE: &[u8] = b"\x06\x03\x55\x1d";
+
+const PE: &[u8] = b"\x06\x08\x2b\x06\x01\x05\x05\x07\x01";
+
+// Where the identifier ends that begins so and whose last octet is this one.
+fn end_of_identifier(octets: &[u8], begin: &[u8], last: u8) -> Option<usize> {
+    for place in 0..octets.len() {
+        let read = octets.get(..place)?;
+        if read.ends_with(begin) && octets.get(place) == Some(&last) {
+            return Some(place);
+        }
+    }
+    None
+}
+
+// The octets with that extension under another identifier.
+fn renamed(
+    rt: &impl Abort,
+    alloc: Global,
+    octets: &[u8],
+    begin: &[u8],
+    last: u8,
+    other: u8,
+) -> Bytes {
+    let place = end_of_identifier(octets, begin, last).expect(rt, "an extension");
+    altered(rt, alloc, octets, place, other)
+}
+
+// Key Usage as a second Subject Key Identifier and as an unknown one, Subject Key Identifier as an
+// unknown one, which may stand there, and addresses under the identifier of the other policy (RFC
+// 3779 2.2.1).
+#[test]
+fn of_extensions_under_other_identifiers(rt: HostRuntime) {
+    let alloc = rt.alloc();
+    let octets = octets(&rt, alloc);
+    let second = renamed(&rt, alloc, &octets, CE, 0x0f, 0x0e);
+    let printed = "duplicate SubjectKeyIdentifier: Subject Key Identifier";
+    assert_fault(&rt, alloc, decode_cert(alloc, &second), printed);
+    let unknown = renamed(&rt, alloc, &octets, CE, 0x0f, 0x7f);
+    let printed = "unexpected critical extension 551d7f: an unknown extension";
+    assert_fault(&rt, alloc, decode_cert(alloc, &unknown), printed);
+    let missing = renamed(&rt, alloc, &octets, CE, 0x0e, 0x7f);
+    let printed = "missing SubjectKeyIdentifier: the extensions";
+    assert_fault(&rt, alloc, decode_cert(alloc, &missing), printed);
+    let wrong = renamed(&rt, alloc, &octets, PE, 0x1c, 0x07);
+    let printed = "wrong identifier of IpResources: the extensions";
+    assert_fault(&rt, alloc, decode_cert(alloc, &wrong), printed);
+}
+
+// CRL Number as a second Authority Key Identifier, and as another one.
+#[test]
+fn of_a_lists_extensions_under_other_identifiers(rt: HostRuntime) {
+    let alloc = rt.alloc();
+    let octets = samples::shared(alloc, TWO).expect(&rt, "memory");
+    let second = renamed(&rt, alloc, &octets, CE, 0x14, 0x23);
+    let printed = "duplicate AuthorityKeyIdentifier: Authority Key Identifier";
+    assert_fault(&rt, alloc, decode_crl(alloc, &second), printed);
+    let other = renamed(&rt, alloc, &octets, CE, 0x14, 0x7f);
+    let printed = "invalid extension 551d7f: an unknown extension";
+    assert_fault(&rt, alloc, decode_crl(alloc, &other), printed);
+}
