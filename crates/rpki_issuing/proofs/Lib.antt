@@ -15,5 +15,6 @@ pub mod RouterNames
 pub mod SameRoles
 pub mod SignedLists
 mod ToldFaults
+mod ToldLists
 pub mod WantedEntries
 pub mod WholeOctets
