@@ -20,6 +20,7 @@ use Rattle.rpki_files.specs.FaultRules.{IsFileRule, RuleFields, rule_of, tal_rul
 use Rattle.rpki_files.specs.FileSorts.{IsToldSort}
 use Rattle.rpki_files.specs.Files.{FileFields}
 use Rattle.rpki_files.specs.LocatorFiles.{IsWhyNoLocator, looks_like_locator}
+use Rattle.rpki_files.specs.Misreads.{StopsFor}
 use Rattle.rpki_files.specs.SortTexts.{sort_rule}
 use Rattle.rpki_text.specs.KeyTexts.{IsLocatorKey, locator_key_text}
 use Rattle.rpki_text.specs.ListTexts.{list_text}
@@ -35,7 +36,6 @@ use Rattle.rpki_text.specs.Notes.{AreNotes}
 use Rattle.rpki_text.specs.declared.notes.fact.Fact.{Fact}
 use Rattle.rpki_text.specs.declared.notes.note.Note.{Note}
 use Rattle.rpki_files.specs.FlawTexts.{flaw_text}
-use Rattle.rpki_files.specs.StopPlaces.{IsStopPlace}
 use Rattle.rpki_files.specs.declared.flaws.Flaw.{Flaw}
 use Rattle.rpki_files.specs.declared.places.Place.{Place}
 use Rattle.rpki_files.specs.declared.rules.Rule.{Rule}
@@ -186,7 +186,7 @@ abbrev pub IsToldAsList : Option Sort → List ℕ → Type 0
 IsToldAsList sort octets = LooksLikeList octets × (sort ≢ Some Version1)
 
 -- why octets begin with neither: their sort, a fault of reading, what is said, and where reading
--- stops
+-- stops, of which it is true what the fault names
 pub record IsRejection (octets : List ℕ) (sort : Option Sort) (rule : Rule) (place : Place) : Type 0 where
   pub sort_is : IsToldSort octets sort
   pub fault : DecodeError
@@ -194,7 +194,7 @@ pub record IsRejection (octets : List ℕ) (sort : Option Sort) (rule : Rule) (p
   pub is_list : Bool
   pub is_list_by : IsTrue is_list ↔ IsToldAsList sort octets
   pub rule_is : IsToldRule sort is_list fault octets (rule_of rule)
-  pub place_is : IsStopPlace is_list octets place
+  pub place_is : StopsFor is_list octets fault place
 
 -- the text of a file that begins with neither, and doesn't look like a locator; how a fault is
 -- named, no definition says

@@ -10,6 +10,7 @@ ghost use Rattle.rpki_files.specs.Contents.{BeginsBefore, BeginsWithEither, CanB
 ghost use Rattle.rpki_files.specs.FaultRules.{rule_of};
 ghost use Rattle.rpki_files.specs.Files.{contents};
 ghost use Rattle.rpki_files.specs.LocatorFiles.{IsWhyNoLocator};
+ghost use Rattle.rpki_files.specs.Misreads.{kept_fault};
 ghost use Rattle.rpki_files.specs.declared.sorts.Sort.TheVariants.{Version1};
 ghost use Rattle.rpki_text.specs.Facts.{AreFacts, fact_view};
 ghost use Rattle.rpki_text.specs.Notes.{AreNotes};
@@ -32,7 +33,7 @@ use rpki::repository::x509::Time;
 use rpki::repository::{Cert, Crl};
 use rpki_files::rules::{Rule, of_file};
 use rpki_files::{
-    Content, Flaw, Form, Object, Place, Sort, describe, looks_like, looks_like_locator, place_of,
+    Content, Flaw, Form, Object, Place, Sort, describe, looks_like, looks_like_locator, place_for,
     read_locator,
 };
 use rpki_text::notes::{Fact, Note, facts_of, notes_of};
@@ -147,7 +148,16 @@ fn rule_of_file(sort: Option<Sort>, fault: &DecodeError, octets: &Bytes, is_list
     }
 }
 
-/// Finds what is said of a fault of a file that begins with neither a certificate nor a list.
+// The fault that is told: this one where it is true, and else the plain one.
+fn told<'a>(fault: &'a DecodeError, plain: &'a DecodeError, is_true: bool) -> &'a DecodeError
+    requires { plain.now ≡ decoding.BadValue }
+    ensures { result.now ≡ kept_fault fault.now is_true }
+{
+    if is_true { fault } else { plain }
+}
+
+/// Finds what is said of a fault of a file that begins with neither a certificate nor a list. What
+/// isn't true where reading stops isn't said.
 pub fn rejection_of(
     alloc: Global,
     object: &Object<'_>,
@@ -159,11 +169,14 @@ pub fn rejection_of(
     let octets = object.octets();
     let sort = object.sort();
     let is_list = is_told_as_list(octets, sort);
-    let place = place_of(alloc, octets, is_list)?;
+    let (place, is_true) = place_for(alloc, octets, is_list, fault)?;
+    let plain = DecodeError::BadValue;
+    let fault = told(fault, &plain, is_true);
     let rule = rule_of_file(sort, fault, octets, is_list);
-    let why = format!(in alloc; "{fault}")?;
+    let why = format!(in alloc; "{fault}");
+    drop(plain);
     Ok(Rejection {
-        why,
+        why: why?,
         sort,
         rule,
         place,

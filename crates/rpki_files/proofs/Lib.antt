@@ -9,6 +9,7 @@ mod FlawReads
 mod FoundFlaws
 pub mod FoundOctets
 pub mod FoundPolicies
+pub mod KeptFaults
 pub mod NothingRead
 mod NumberedTimes
 mod PemLines

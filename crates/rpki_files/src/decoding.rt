@@ -4,12 +4,10 @@ ghost use Rattle.rpki_cert.specs.Certificates.{IsCertificate};
 ghost use Rattle.rpki_crl.specs.Lists.{IsCertificateList};
 ghost use Rattle.rpki_der.specs.Encoding.{Means};
 ghost use Rattle.rpki_der.specs.declared.error.DecodeError.TheVariants as decoding;
-ghost use Rattle.rpki_files.specs.Misreads.{BeginsAsRead, IsMisread};
-ghost use Rattle.rpki_files.specs.StopPlaces.{IsStopOf};
+ghost use Rattle.rpki_files.specs.Misreads.{BeginsAsRead, IsMisread, TellsTruth, kept_fault};
 
 use crate::contents::{certificate_in, list_in};
-use crate::expected::Part;
-use crate::naming::kept;
+use crate::naming::holds_at;
 use crate::places::{Place, stop_of};
 use bytes::Bytes;
 use rpki_cert::Cert;
@@ -81,18 +79,32 @@ impl fmt::Debug for Place {
     }
 }
 
-// Why octets can't be read that begin with none, for this fault, where reading stops at this part.
-fn stopped(octets: &Bytes, is_list: bool, fault: DecodeError, part: Part, place: Place) -> Misread
-    requires none { BeginsAsRead is_list octets.now → ⊥ }
-    requires fault { fault ≢ decoding.Memory }
-    requires stops { IsStopOf is_list octets.now part place }
-    requires within { place.octet ≤ length octets.now }
-    ensures { IsMisread is_list octets.now result }
+/// Tells where the reading of octets as a certificate, or as a list, stops: the first part that has
+/// not the form that it must have, or else the signature. Tells what is wanted and what is found
+/// there, and whether what a fault names is true of it. Errs only where memory runs out.
+pub fn place_for(
+    alloc: Global,
+    octets: &Bytes,
+    is_list: bool,
+    fault: &DecodeError,
+) -> Result<(Place, bool), AllocError>
+    ensures told { IfOk result (TellsTruth is_list octets.now fault.now) }
+    ensures within { IfOk result (λ stop. stop.0.octet ≤ length octets.now) }
 {
-    match kept(fault, part, octets, place.octet, is_list) {
-        Ok(fault) => Misread::Stopped { fault, place },
-        Err(error) => Misread::from(error),
+    let (part, place) = stop_of(alloc, octets, is_list)?;
+    let is_true = holds_at(fault, part, octets, place.octet, is_list)?;
+    Ok((place, is_true))
+}
+
+// Keeps a fault that is true, and else answers the plain `BadValue`.
+fn kept(fault: DecodeError, is_true: bool) -> DecodeError
+    ensures { result ≡ kept_fault fault is_true }
+{
+    if is_true {
+        return fault;
     }
+    drop(fault);
+    DecodeError::BadValue
 }
 
 // Why octets can't be read that begin with none, for this fault.
@@ -104,8 +116,11 @@ fn why_unread(alloc: Global, octets: &Bytes, is_list: bool, fault: DecodeError) 
         drop(fault);
         return Misread::Memory;
     }
-    match stop_of(alloc, octets, is_list) {
-        Ok((part, place)) => stopped(octets, is_list, fault, part, place),
+    match place_for(alloc, octets, is_list, &fault) {
+        Ok((place, is_true)) => Misread::Stopped {
+            fault: kept(fault, is_true),
+            place,
+        },
         Err(error) => {
             drop(fault);
             Misread::from(error)

@@ -22,10 +22,10 @@ mod sorts;
 
 pub use bare::{BareObject, Front, read_bare_object};
 pub use contents::{Content, Form, looks_like};
-pub use decoding::{Misread, decode_cert, decode_crl};
+pub use decoding::{Misread, decode_cert, decode_crl, place_for};
 pub use files::{Object, read_object};
 pub use flaws::{ExtensionFlaw, Flaw, SerialFlaw, TimeFlaw, VersionFlaw};
 pub use locators::{looks_like_locator, read_locator};
-pub use places::{Place, place_of};
+pub use places::Place;
 pub use policies::extensions_in;
 pub use sorts::{Description, Sort, describe};

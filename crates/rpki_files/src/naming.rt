@@ -1,10 +1,9 @@
 //! Whether what a fault of reading names is true of the place where reading stops.
-ghost use Rattle.std.specs.Prelude.{◌≡◌, ◌≢◌, ◌≤◌, ◌↔◌, ℕ, List, true, IfOk, IsTrue, MatchOption, drop, length};
+ghost use Rattle.std.specs.Prelude.{◌≡◌, ◌≤◌, ◌↔◌, ℕ, List, true, IfOk, IsTrue, MatchOption, drop, length};
 ghost use Rattle.rpki_der.specs.Encoding.{Means};
 ghost use Rattle.rpki_der.specs.Extensions.{Extension, IsExtension};
 ghost use Rattle.rpki_der.specs.Place.{remaining};
 ghost use Rattle.rpki_der.specs.Values.{IsEnc};
-ghost use Rattle.rpki_der.specs.declared.error.DecodeError.TheVariants as decoding;
 ghost use Rattle.rpki_files.specs.Flaws.{extension_of};
 ghost use Rattle.rpki_files.specs.NamedFaults.{ExtensionsAre, FirstIs, HasOtherMode, IsOfField, IsOtherFlag, IsSecondOf, NamesTruly};
 ghost use Rattle.rpki_files.specs.PolicyPresence.{BeginsWithOne, Lack};
@@ -308,8 +307,8 @@ fn begins_truly(fault: &DecodeError, part: Part, octets: &Bytes, is_list: bool) 
     names_truly(fault, part, &at, is_list)
 }
 
-// Whether what a fault names is true of this part, which begins at this octet.
-fn holds_at(
+/// Tells whether what a fault names is true of this part, which begins at this octet.
+pub(crate) fn holds_at(
     fault: &DecodeError,
     part: Part,
     octets: &Bytes,
@@ -324,33 +323,4 @@ fn holds_at(
     let holds = begins_truly(fault, part, &rest, is_list);
     drop(rest);
     Ok(holds)
-}
-
-/// Keeps a fault where what it names is true of the part at which reading stops, and else answers
-/// the plain `BadValue`.
-pub(crate) fn kept(
-    fault: DecodeError,
-    part: Part,
-    octets: &Bytes,
-    octet: usize,
-    is_list: bool,
-) -> Result<DecodeError, AllocError>
-    requires within { octet ≤ length octets.now }
-    requires fault { fault ≢ decoding.Memory }
-    ensures truly { IfOk result (NamesTruly is_list part (drop octet octets.now)) }
-    ensures kept { NamesTruly is_list part (drop octet octets.now) fault
-        → IfOk result (λ told. told ≡ fault) }
-    ensures fault { IfOk result (λ told. told ≢ decoding.Memory) }
-{
-    match holds_at(&fault, part, octets, octet, is_list) {
-        Ok(true) => Ok(fault),
-        Ok(false) => {
-            drop(fault);
-            Ok(DecodeError::BadValue)
-        }
-        Err(error) => {
-            drop(fault);
-            Err(error)
-        }
-    }
 }

@@ -13,7 +13,7 @@ ghost use Rattle.rpki_der.specs.Tags.{SEQUENCE};
 ghost use Rattle.rpki_files.specs.Flaws.{IsFirstFlaw};
 ghost use Rattle.rpki_files.specs.KnownKinds.{known_kind};
 ghost use Rattle.rpki_files.specs.PartTexts.{part_text};
-ghost use Rattle.rpki_files.specs.StopPlaces.{AlgorithmsDiffer, AnswersWhether, AreComplete, AreFields, AreIncomplete, AreOfKinds, EncodesSome, HasAlgorithm, HasBoth, HasOther, HasTag, IsField, IsMisplaced, IsNext, IsSecond, IsStop, IsStopOf, IsStopPlace, MayStand, MayStandAs, Opens, Passes, ReadsAlgorithm, ReadsEntries, ReadsExtensions, ReadsSigned, ReadsToExtensions, StopsAmong, StopsAmongElements, StopsAt, StopsAtAlgorithm, StopsAtEntries, StopsAtExtension, StopsAtExtensions, StopsBefore, StopsBeforeExtensions, StopsBehind, StopsInEntries, StopsInExtensions, StopsInSigned, StopsInside, extensions_tag, kind_of};
+ghost use Rattle.rpki_files.specs.StopPlaces.{AlgorithmsDiffer, AnswersWhether, AreComplete, AreFields, AreIncomplete, AreOfKinds, EncodesSome, HasAlgorithm, HasBoth, HasOther, HasTag, IsField, IsMisplaced, IsNext, IsSecond, IsStop, IsStopOf, MayStand, MayStandAs, Opens, Passes, ReadsAlgorithm, ReadsEntries, ReadsExtensions, ReadsSigned, ReadsToExtensions, StopsAmong, StopsAmongElements, StopsAt, StopsAtAlgorithm, StopsAtEntries, StopsAtExtension, StopsAtExtensions, StopsBefore, StopsBeforeExtensions, StopsBehind, StopsInEntries, StopsInExtensions, StopsInSigned, StopsInside, extensions_tag, kind_of};
 
 use crate::expected::{Field, Part};
 use crate::flaws::Flaw;
@@ -618,7 +618,9 @@ fn stop_in(alloc: Global, octets: &Bytes, is_list: bool) -> Result<(Part, usize)
     }
 }
 
-/// Tells what `place_of` tells, with the part.
+/// Tells where the reading of octets as a certificate, or as a list, stops: the first part that has
+/// not the form that it must have, or else the signature. Tells what is wanted and what is found
+/// there. Errs only where memory runs out.
 pub(crate) fn stop_of(
     alloc: Global,
     octets: &Bytes,
@@ -630,19 +632,6 @@ pub(crate) fn stop_of(
     let (part, octet) = stop_in(alloc, octets, is_list)?;
     match told(alloc, octets, part, octet, is_list) {
         Ok(place) => Ok((part, place)),
-        Err(error) => Err(error),
-    }
-}
-
-/// Tells where the reading of octets as a certificate, or as a list, stops: the first part that has
-/// not the form that it must have, or else the signature. Tells what is wanted and what is found
-/// there. Errs only where memory runs out.
-pub fn place_of(alloc: Global, octets: &Bytes, is_list: bool) -> Result<Place, AllocError>
-    ensures stops { IfOk result (IsStopPlace is_list octets.now) }
-    ensures within { IfOk result (λ place. place.octet ≤ length octets.now) }
-{
-    match stop_of(alloc, octets, is_list) {
-        Ok((_, place)) => Ok(place),
         Err(error) => Err(error),
     }
 }
