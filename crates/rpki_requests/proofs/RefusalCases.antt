@@ -137,7 +137,7 @@ list_pathless given inputs at issuer why (inr (inl (inl option))) = unsaid_pathl
 list_pathless given inputs at issuer why (inr (inl (inr (inl memory)))) = is_pathless why Memory memory tt
 list_pathless given inputs at issuer why (inr (inl (inr (inr other)))) =
     is_pathless why (OtherCertificate other.0) other.1 tt
-list_pathless given inputs at issuer why (inr (inr unfit)) = unfit_pathless (λ e. MayNotFollow given inputs at issuer) why unfit
+list_pathless given inputs at issuer why (inr (inr unfit)) = unfit_pathless (MayNotFollow given inputs at issuer) why unfit
 
 -- ---- what isn't ready
 

@@ -12,7 +12,7 @@ use Rattle.rpki.specs.Verification.{ResourceFields}
 use Rattle.rpki_issuing.specs.AskedFields.{subject_asked}
 use Rattle.rpki_issuing.specs.Issuers.{IsNamed}
 use Rattle.rpki_issuing.specs.PreparedOctets.{IsToSign, IsUncompleted, IsUnprepared}
-use Rattle.rpki_issuing.specs.WantedLists.{IsListCompleted, IsListPrepared, IsListWanted, WantedListFields}
+use Rattle.rpki_issuing.specs.WantedLists.{IsListCompleted, IsListPrepared, IsListUncompleted, IsListUnprepared, IsListWanted, IsNoList, WantedListFields}
 use Rattle.rpki_issuing.specs.declared.wanted.preparing.WantedError.{WantedError}
 use Rattle.rpki_issuing.specs.declared.wanted.wanted.Wanted.{Wanted}
 use Rattle.rpki_requests.specs.Fulfilment.{AsksFields, AsksList, context_of}
@@ -73,9 +73,9 @@ IsSoOfPrepared kind asked inputs at why =
 -- ---- a list is prepared
 
 -- options and files say what is wanted of this issuer's list, and no such list may follow the one
--- before
+-- before, for this
 pub record MayNotFollow (given : List GivenFields) (inputs : InputFields) (at : Moment)
-    (issuer : TbsFields) : Type 0 where
+    (issuer : TbsFields) (e : WantedError) : Type 0 where
   pub previous : Option CrlFields
   pub previous_is : IsPreviousOf issuer inputs.previous previous
   pub wanted : WantedListFields
@@ -83,26 +83,29 @@ pub record MayNotFollow (given : List GivenFields) (inputs : InputFields) (at : 
   pub none :
       (f : ListFields Revoked)
       → IsListWanted wanted (option_map (λ list. list.fields) previous) issuer f → ⊥
+  pub reason : IsNoList wanted (option_map (λ list. list.fields) previous) e
 
--- it speaks of the list before, of an option or of what is revoked; or no such list may follow
+-- it speaks of the list before, of an option or of what is revoked; or no such list may follow, for
+-- what it says
 abbrev pub IsAskedListFault : List GivenFields → InputFields → Moment → TbsFields → Refusal → Type 0
 IsAskedListFault given inputs at issuer why =
     IsOtherList issuer inputs.previous why
     ⊎ (IsWantedFault given inputs.revoked issuer why
-    ⊎ IsUnfit (λ e. MayNotFollow given inputs at issuer) why)
+    ⊎ IsUnfit (MayNotFollow given inputs at issuer) why)
 
--- nothing is prepared of the fields that are asked for
+-- nothing is prepared of the fields that are asked for, for this
 pub record IsListUnready (asked : AskedFields) (inputs : InputFields) (at : Moment)
-    (issuer : TbsFields) : Type 0 where
+    (issuer : TbsFields) (e : WantedError) : Type 0 where
   pub fields : ListFields Revoked
   pub asks : AsksList asked inputs at issuer fields
   pub unprepared : (octets : List ℕ) → IsListPrepared at asked.strict issuer fields octets → ⊥
+  pub reason : IsListUnprepared at asked.strict issuer fields e
 
 -- what it says of this issuer's list is so
 abbrev pub IsListFault : AskedFields → InputFields → Moment → TbsFields → Refusal → Type 0
 IsListFault asked inputs at issuer why =
     IsAskedListFault asked.given inputs at issuer why
-    ⊎ IsUnfit (λ e. IsListUnready asked inputs at issuer) why
+    ⊎ IsUnfit (IsListUnready asked inputs at issuer) why
 
 -- there is no issuer, and of that it speaks; or what it says of this issuer's list is so
 abbrev pub IsSoOfList : AskedFields → InputFields → Moment → Refusal → Option ResourceFields
@@ -152,21 +155,22 @@ pub record IsListNamedOtherwise (issuer : TbsFields) (prepared : List ℕ) : Typ
   pub fields_are : IsTbsCertList fields prepared
   pub unnamed : fields.issuer ≡ issuer.subject → ⊥
 
--- they are one, which isn't completed by this signature below this issuer
+-- they are one, which isn't completed by this signature below this issuer, for this
 pub record IsListUnmade (asked : AskedFields) (at : Moment) (issuer : TbsFields)
-    (prepared signature : List ℕ) : Type 0 where
+    (prepared signature : List ℕ) (e : WantedError) : Type 0 where
   pub fields : ListFields Revoked
   pub fields_are : IsTbsCertList fields prepared
   pub named : fields.issuer ≡ issuer.subject
   pub uncompleted :
       (octets : List ℕ)
       → IsListCompleted at asked.strict issuer fields prepared signature octets → ⊥
+  pub reason : IsListUncompleted at asked.strict issuer fields prepared signature e
 
 -- it says that the list is named otherwise than this issuer, or isn't ready or signed
 abbrev pub IsMadeListFault : AskedFields → Moment → TbsFields → List ℕ → List ℕ → Refusal → Type 0
 IsMadeListFault asked at issuer prepared signature why =
     ((why ≡ OtherName 1) × IsListNamedOtherwise issuer prepared)
-    ⊎ IsUnfit (λ e. IsListUnmade asked at issuer prepared signature) why
+    ⊎ IsUnfit (IsListUnmade asked at issuer prepared signature) why
 
 -- what it says of the list that is completed below this issuer is so
 abbrev pub IsSoOfMadeList : AskedFields → Moment → Option ResourceFields → List ℕ → List ℕ

@@ -32,11 +32,12 @@ returns-then-not-is_list_named-clause-so c =
 
 pub returns-in-Err-clause-so : goal.returns-in-Err-clause-so
 returns-in-Err-clause-so c =
-    let Is : WantedError → Type 0 = λ e. IsListUnmade (asked_fields c.args.order.now) c.args.at c.args.issuer.now.cert.fields c.args.prepared.now c.args.signature.now in
+    let Is : WantedError → Type 0 = IsListUnmade (asked_fields c.args.order.now) c.args.at c.args.issuer.now.cert.fields c.args.prepared.now c.args.signature.now in
     inr (unfit_so Is _ _ c.unfit.ensures.told
     (λ not. record {
       fields = c.args.list.now;
       fields_are = c.requires;
       named = c.is_list_named.ensures.0 c.if-not-is_list_named.false;
       uncompleted = c.in-Err.ensures.refused (c.unfit.ensures.memory not);
+      reason = c.in-Err.ensures.told;
     }))

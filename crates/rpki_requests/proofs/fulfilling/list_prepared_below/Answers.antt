@@ -33,6 +33,11 @@ returns-in_err-list-clause-so c =
 
 pub returns-in-Err-clause-so : goal.returns-in-Err-clause-so
 returns-in-Err-clause-so c =
-    let Is : WantedError → Type 0 = λ e. IsListUnready (asked_fields c.args.order.now) c.args.inputs.now c.args.at c.args.issuer.now.cert.fields in
+    let Is : WantedError → Type 0 = IsListUnready (asked_fields c.args.order.now) c.args.inputs.now c.args.at c.args.issuer.now.cert.fields in
     inr (unfit_so Is _ _ c.unfit.ensures.told
-    (λ not. record { fields = c.in_ok-list.list; asks = c.in_ok-list.ensures.0; unprepared = c.in-Err.ensures.refused (c.unfit.ensures.memory not) }))
+    (λ not. record {
+      fields = c.in_ok-list.list;
+      asks = c.in_ok-list.ensures.0;
+      unprepared = c.in-Err.ensures.refused (c.unfit.ensures.memory not);
+      reason = c.in-Err.ensures.told;
+    }))

@@ -5,7 +5,7 @@ use Rattle.rpki.specs.Lists.{CrlFields, CrlState, ListFields}
 use Rattle.rpki.specs.RevokedEntries.{Revoked}
 use Rattle.rpki_files.specs.Files.{contents}
 use Rattle.rpki_issuing.specs.OnlyValues.{IsOnly}
-use Rattle.rpki_issuing.specs.WantedLists.{IsListWanted}
+use Rattle.rpki_issuing.specs.WantedLists.{IsListWanted, IsNoList}
 use Rattle.rpki_issuing.specs.declared.wanted.preparing.WantedError.{WantedError}
 use Rattle.rpki_requests.specs.OptionValues.{GivesList}
 use Rattle.rpki_requests.specs.RequestFiles.{IsPreviousOf}
@@ -66,7 +66,8 @@ returns-in-Err-list c =
     (subst (λ (i : TbsFields). IsOnly (GivesList asked.given (contents c.inputs.inside.revoked.now) i c.args.at) c.in_ok-wanted.wanted) issuer c.in_ok-wanted.ensures) in
     let none : c.unfit.result ≢ Memory → (f : ListFields Revoked) → IsListWanted c.in_ok-wanted.wanted (option_map (λ (l : CrlFields). l.fields) before) above f → ⊥ = λ not f is.
     c.in-Err-list.ensures.refused (c.unfit.ensures.memory not) f (subst (λ (o : Option (ListFields Revoked)). IsListWanted c.in_ok-wanted.wanted o above f) (fields_before c.in-Ok.previous) is) in
-    let Is : WantedError → Type 0 = λ e. MayNotFollow asked.given c.args.inputs.now c.args.at above in
+    let reason = subst (λ (o : Option (ListFields Revoked)). IsNoList c.in_ok-wanted.wanted o c.in-Err-list.error) (sym (fields_before c.in-Ok.previous)) c.in-Err-list.ensures.told in
+    let Is : WantedError → Type 0 = MayNotFollow asked.given c.args.inputs.now c.args.at above in
     let follows = unfit_so Is _ _ c.unfit.ensures.told
-    (λ not. record { previous = before; previous_is = one.0; wanted = c.in_ok-wanted.wanted; wanted_is = only.0; none = none not }) in
+    (λ not. record { previous = before; previous_is = one.0; wanted = c.in_ok-wanted.wanted; wanted_is = only.0; none = none not; reason = reason }) in
     (inr (inr follows), λ not. asks_no_list asked c.args.inputs.now c.args.at above before one c.in_ok-wanted.wanted only (none not))
