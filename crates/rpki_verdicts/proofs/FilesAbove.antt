@@ -1,6 +1,6 @@
 -- What stands above a file to which no valid path leads.
-use Rattle.std.specs.Prelude.{Some, None, slice_get}
-use Rattle.std.proofs.Common.{◌≡◌, ◌≢◌, ◌+◌, ◌↔◌, ℕ, Bool, true, false, List, [], ◌∷◌, ◌++◌, sym, ap, subst, ◌∙◌, inl, inr, append_assoc}
+use Rattle.std.specs.Prelude.{Option, Some, None, MatchOption, slice_get}
+use Rattle.std.proofs.Common.{◌≡◌, ◌≢◌, ◌+◌, ◌↔◌, ℕ, true, false, List, [], ◌∷◌, ◌++◌, sym, ap, subst, ◌∙◌, inl, inr, append_assoc}
 use Rattle.std.proofs.lemmas.List.{append-nil}
 use Rattle.rpki.specs.Certificates.{CertFields, IsCertificate}
 use Rattle.rpki.specs.Folders.{NamesSigner}
@@ -8,7 +8,6 @@ use Rattle.rpki.specs.SaidKinds.{BeginsWithSaid}
 use Rattle.rpki.specs.Said.{Said}
 use Rattle.rpki.specs.Values.{IsUnambiguous}
 use Rattle.rpki_der.proofs.Formats.{one_meant}
-use Rattle.rpki_files.specs.Contents.{BeginsWithCertificate}
 use Rattle.rpki_files.specs.Files.{FileFields}
 use Rattle.rpki_verdicts.specs.Searches.{AreAbove, no_more, no_issuer, accepted, at_top, named, HasKeyNamed, HasNoIssuer, HaveNoneKeyed, IsFirstKeyed, IsIssuerAt, above_by, files_at}
 use Rattle.rpki_verdicts.specs.Trees.{certs_of}
@@ -36,30 +35,27 @@ module _ (one : IsUnambiguous IsCertificate) (file : FileFields) (said : Said) (
     λ is. record { cert = begins.0; begins = begins.1; names = sym begins.2.signer_is ∙ is },
   )
 
--- a file without a certificate says nothing of them
-module _ (file : FileFields) (no : BeginsWithCertificate file.octets → ⊥) where
-  pub no_key : (key : List ℕ) → HasKeyNamed key file → ⊥
-  no_key key h = no (h.cert, h.begins)
-
-  pub no_signer : (key : List ℕ) → NamesSigner key file.octets ↔ (None ≡ Some key)
-  no_signer key = (λ h. absurd (no (h.cert, h.begins)), λ is. absurd cc)
-
 -- ---- the issuer
 
 module _ (tree : Tree) (file : FileFields) where
   abbrev pub HasIssuerAt : ℕ → Type 0
   HasIssuerAt place = (issuer : FileFields) × IsIssuerAt tree file place issuer
 
-  module _ (key : List ℕ) (names : NamesSigner key file.octets) where
-    pub first_accepted : (place : ℕ) → IsFirstKeyed tree key true place → HasIssuerAt place
-    first_accepted place first = (first.0.0.0, record { key = key; names = names; taken = inl first; issuer_is = first.0.0.1 })
+  -- the file names this key as the one that signs it, where there is one, and no other
+  module _ (signer : Option (List ℕ)) (says : (key : List ℕ) → NamesSigner key file.octets ↔ (signer ≡ Some key)) where
+    pub unsigned : signer ≡ None → HasNoIssuer tree file
+    unsigned none = λ key names place has. let is = (says key).0 names in absurd cc
 
-    pub first_of_all : HaveNoneKeyed tree key true → (place : ℕ) → IsFirstKeyed tree key false place → HasIssuerAt place
-    first_of_all none place first = (first.0.0.0, record { key = key; names = names; taken = inr (none, first); issuer_is = first.0.0.1 })
+    module _ (key : List ℕ) (is : signer ≡ Some key) where
+      pub first_accepted : (place : ℕ) → IsFirstKeyed tree key true place → HasIssuerAt place
+      first_accepted place first = (first.0.0.0, record { key = key; names = (says key).1 is; taken = inl first; issuer_is = first.0.0.1 })
 
-  -- no other key is named
-  pub none_of_key : (key : List ℕ) → ((k : List ℕ) → NamesSigner k file.octets → k ≡ key) → HaveNoneKeyed tree key false → HasNoIssuer tree file
-  none_of_key key only none k names = subst (λ (l : List ℕ). HaveNoneKeyed tree l false) (sym (only k names)) none
+      pub first_of_all : HaveNoneKeyed tree key true → (found : Option ℕ) → MatchOption found (HaveNoneKeyed tree key false) (IsFirstKeyed tree key false) → MatchOption found (HasNoIssuer tree file) HasIssuerAt
+      first_of_all none (Some place) first = (first.0.0.0, record { key = key; names = (says key).1 is; taken = inr (none, first); issuer_is = first.0.0.1 })
+      first_of_all none None others = λ k names.
+          let other = (says k).0 names in
+          let same : key ≡ k = cc in
+          subst (λ (l : List ℕ). HaveNoneKeyed tree l false) same others
 
   -- ---- the files
 
