@@ -1,5 +1,6 @@
 -- Lemmas of the proofs about verdicts.
 mod FiledFiles
+mod FilesAbove
 mod FirstItems
 mod FoundLocators
 mod GivenKinds

@@ -22,7 +22,7 @@ use Rattle.rpki.specs.Walks.{Root, AreAdmitted, IsAcceptedAs, IsReached, IsRight
 use Rattle.rpki.specs.Folders.{octets_at}
 use Rattle.rpki_files.specs.Contents.{BeginsWithCertificate}
 use Rattle.rpki_files.specs.Files.{FileFields, contents}
-use Rattle.rpki_verdicts.specs.Searches.{EndsIn, HasNoValidPath, IsSoughtPath, alone, below_wrong, valid, invalid, IsTreeWith, IsValidAmong, IsValidPathTo, Leads, StandsAlone, above_by, files_at}
+use Rattle.rpki_verdicts.specs.Searches.{HasNoValidPath, IsNamedPath, IsSoughtPath, alone, below_wrong, valid, invalid, IsTreeWith, IsValidAmong, IsValidPathTo, Leads, StandsAlone, above_by, files_at}
 use Rattle.rpki_verdicts.specs.Trees.{AreCertificatesOf, IsTreeOf, IsWrongAnchor, TreeFields, certs_of, every}
 use Rattle.rpki_verdicts.proofs.ReachedFiles.{reached_files}
 use Rattle.rpki_verdicts.specs.declared.path.Fault.{Fault}
@@ -135,11 +135,9 @@ module _ (x : Context) (q : TreeFields) (file : FileFields) (tree : Tree) (is : 
       some_there tree.lines low
 
   -- it doesn't: none leads there
-  pub invalid_by : above_by (slice_get tree.lines 0) ≡ None → HasNoValidPath x q file tree.ended
+  pub invalid_by : above_by (slice_get tree.lines 0) ≡ None → HasNoValidPath x q file tree
   invalid_by e = record {
-    tree = tree;
     is = is;
-    ended_is = refl;
     none = λ above covers leads.
         line_denies is.grown.told 0 (slice_get tree.lines 0) first_line.0 first_line.1 e kept_first above
         (is.grown.tells.complete above 0 covers (all_admitted [] (above ++ 0 ∷ [])) leads);
@@ -149,8 +147,8 @@ module _ (x : Context) (q : TreeFields) (file : FileFields) (tree : Tree) (is : 
   pub valid_in : (above : List ℕ) (path : List FileFields) → above_by (slice_get tree.lines 0) ≡ Some above → path ≡ files_at (certs_of tree) (tree.anchor ∷ above) ++ file ∷ [] → IsSoughtPath x q file path Whole
   valid_in above path e path_is = valid path (valid_by above path e path_is)
 
-  pub invalid_in : (path : List FileFields) → above_by (slice_get tree.lines 0) ≡ None → EndsIn file path → IsSoughtPath x q file path tree.ended
-  invalid_in path e ends = invalid path tree.ended (invalid_by e) ends
+  pub invalid_in : (path : List FileFields) → above_by (slice_get tree.lines 0) ≡ None → IsNamedPath tree file path → IsSoughtPath x q file path tree.ended
+  invalid_in path e named = invalid path tree (invalid_by e) named
 
 -- ---- a file alone, and one below a trust anchor that is wrong
 

@@ -1,12 +1,13 @@
 -- The path to one file that is sought among others, in no order (RFC 6487 7.2, RFC 8630 3; own: the
 -- bounds).
-use Rattle.std.specs.Prelude.{◌≡◌, ◌⊎◌, ◌+◌, ℕ, All, List, [], ◌∷◌, ◌++◌, length, slice_get, filter_map, Option, Some, None}
+use Rattle.std.specs.Prelude.{◌≡◌, ◌≢◌, ◌⊎◌, ◌+◌, ◌<◌, ℕ, Bool, true, false, All, List, [], ◌∷◌, ◌++◌, length, slice_get, filter_map, Option, Some, None, IsSome, IsTrue}
 use Rattle.rpki.specs.Asking.{RevocationChecks}
 use Rattle.rpki.specs.AskedLists.{by_lists}
 use Rattle.rpki.specs.Certificates.{CertFields, IsCertificate}
 use Rattle.rpki.specs.Encoding.{Means}
 use Rattle.rpki.specs.Ended.{Ended}
 use Rattle.rpki.specs.Ended.TheVariants.{Whole}
+use Rattle.rpki.specs.Folders.{NamesSigner}
 use Rattle.rpki.specs.GivenPaths.{PathStrings}
 use Rattle.rpki.specs.Judged.{Judged}
 use Rattle.rpki.specs.Judging.{IsAcceptedWith}
@@ -56,12 +57,11 @@ pub record IsValidPathTo (x : Context) (q : TreeFields) (file : FileFields) (pat
   pub path_is : path ≡ is.grown.anchor ∷ (files_at (certs_of tree) above ++ file ∷ [])
   pub is_valid : IsValidAmong x (by_lists x is.grown.lists) (contents path)
 
--- there is none, of those that the walk of the tree looked at, which ended so
-pub record HasNoValidPath (x : Context) (q : TreeFields) (file : FileFields) (ended : Ended) : Type 0 where
-  pub tree : Tree
+-- there is none, of those that the walk of the tree looked at
+pub record HasNoValidPath (x : Context) (q : TreeFields) (file : FileFields)
+    (tree : Tree) : Type 0 where
   pub is : IsTreeWith x q file tree
-  pub ended_is : tree.ended ≡ ended
-  pub none : (above : List ℕ) → Covers ended q.depth (length above + 1)
+  pub none : (above : List ℕ) → Covers tree.ended q.depth (length above + 1)
       → Leads x q tree is.grown above → ⊥
 
 -- ---- lines
@@ -71,7 +71,7 @@ abbrev pub above_by : Option Line → Option (List ℕ)
 above_by (Some (line.Accepted above)) = Some above.items
 above_by _ = None
 
--- ---- the path that is sought
+-- ---- what stands above a file to which no valid path leads
 
 -- the file begins with a certificate that has the key of this identifier (RFC 5280 4.2.1.2)
 pub record HasKeyNamed (key : List ℕ) (file : FileFields) : Type 0 where
@@ -79,9 +79,67 @@ pub record HasKeyNamed (key : List ℕ) (file : FileFields) : Type 0 where
   pub begins : Means IsCertificate cert file.octets
   pub key_is : cert.fields.extensions.subject_key_identifier ≡ key
 
--- the path ends in the file
-abbrev pub EndsIn : FileFields → List FileFields → Type 0
-EndsIn file path = (above : List FileFields) × (path ≡ above ++ file ∷ [])
+-- the certificate at the place has the key, and is accepted, where that is asked
+abbrev pub HasKeyAt : Tree → List ℕ → Bool → ℕ → Type 0
+HasKeyAt tree key accepted place =
+    ((file : FileFields) × (slice_get (certs_of tree) place ≡ Some file) × HasKeyNamed key file)
+    × (IsTrue accepted → IsSome (above_by (slice_get tree.lines place)))
+
+-- no certificate is such
+abbrev pub HaveNoneKeyed : Tree → List ℕ → Bool → Type 0
+HaveNoneKeyed tree key accepted = (place : ℕ) → HasKeyAt tree key accepted place → ⊥
+
+-- the first such stands at this place
+abbrev pub IsFirstKeyed : Tree → List ℕ → Bool → ℕ → Type 0
+IsFirstKeyed tree key accepted place =
+    HasKeyAt tree key accepted place
+    × ((k : ℕ) → k < place → HasKeyAt tree key accepted k → ⊥)
+
+-- this is the issuer of a file, and its place: of the certificates that have the key which the file
+-- names as the one that signs it, the first that is accepted, or, where none is, the first (own)
+pub record IsIssuerAt (tree : Tree) (file : FileFields) (place : ℕ)
+    (issuer : FileFields) : Type 0 where
+  pub key : List ℕ
+  pub names : NamesSigner key file.octets
+  pub taken : IsFirstKeyed tree key true place
+      ⊎ (HaveNoneKeyed tree key true × IsFirstKeyed tree key false place)
+  pub issuer_is : slice_get (certs_of tree) place ≡ Some issuer
+
+-- the file has none
+abbrev pub HasNoIssuer : Tree → FileFields → Type 0
+HasNoIssuer tree file =
+    (key : List ℕ) → NamesSigner key file.octets → HaveNoneKeyed tree key false
+
+-- These files stand above a file, from the top down, at most so many beside those of a valid path:
+-- none, where there may be no more, or the file has no issuer; else the issuer is the last one.
+-- Above that stand those of a valid path, where it is accepted; none, where it is the trust anchor;
+-- and else what stands above it, likewise.
+pub data AreAbove (tree : Tree) : ℕ → FileFields → List FileFields → Type 0 where
+  no_more : (file : FileFields) → AreAbove tree 0 file []
+  no_issuer : (most : ℕ) (file : FileFields) → HasNoIssuer tree file
+      → AreAbove tree (most + 1) file []
+  accepted : (most : ℕ) (file issuer : FileFields) (place : ℕ) (above : List ℕ)
+      → IsIssuerAt tree file place issuer → above_by (slice_get tree.lines place) ≡ Some above
+      → AreAbove tree (most + 1) file
+      (files_at (certs_of tree) (tree.anchor ∷ above) ++ issuer ∷ [])
+  at_top : (most : ℕ) (file issuer : FileFields) → IsIssuerAt tree file tree.anchor issuer
+      → above_by (slice_get tree.lines tree.anchor) ≡ None
+      → AreAbove tree (most + 1) file (issuer ∷ [])
+  named : (most : ℕ) (file issuer : FileFields) (place : ℕ) (above : List FileFields)
+      → IsIssuerAt tree file place issuer → above_by (slice_get tree.lines place) ≡ None
+      → place ≢ tree.anchor → AreAbove tree most issuer above
+      → AreAbove tree (most + 1) file (above ++ issuer ∷ [])
+
+-- how many are told at most
+abbrev pub most_above : ℕ
+most_above = 32
+
+-- the path is what stands above the file, and that file
+abbrev pub IsNamedPath : Tree → FileFields → List FileFields → Type 0
+IsNamedPath tree file path =
+    (above : List FileFields) × AreAbove tree most_above file above × (path ≡ above ++ file ∷ [])
+
+-- ---- the path that is sought
 
 -- the file stands alone: it has the key of a locator; or no valid path leads to it, since it is no
 -- certificate, or there is no list, or no trust anchor
@@ -92,13 +150,14 @@ StandsAlone q file =
     ⊎ (All (λ f. IsList f.octets → ⊥) q.files ⊎ HasNoAnchor q))
 
 -- The path that is sought to the first of the files: that one alone; below a trust anchor that is
--- wrong; a valid path, as of its certificates and lists; or, where there is none, some files that
--- end in it, of which the verdict tells what is wrong. Beside it stands how far that was looked
--- for: a bound can only have been met where no valid path was found.
-pub data IsSoughtPath (x : Context) (q : TreeFields) (file : FileFields) : List FileFields → Ended → Type 0 where
+-- wrong; a valid path, as of its certificates and lists; or, where there is none, the file below
+-- those that name one another as signers, of which the verdict tells what is wrong. Beside it
+-- stands how far a valid one was looked for: a bound can only have been met where none was found.
+pub data IsSoughtPath (x : Context) (q : TreeFields) (file : FileFields)
+    : List FileFields → Ended → Type 0 where
   alone : StandsAlone q file → IsSoughtPath x q file (file ∷ []) Whole
   below_wrong : (anchor : FileFields) (fault : Fault) → IsWrongAnchor x q anchor fault
       → IsSoughtPath x q file (anchor ∷ file ∷ []) Whole
   valid : (path : List FileFields) → IsValidPathTo x q file path → IsSoughtPath x q file path Whole
-  invalid : (path : List FileFields) (ended : Ended) → HasNoValidPath x q file ended
-      → EndsIn file path → IsSoughtPath x q file path ended
+  invalid : (path : List FileFields) (tree : Tree) → HasNoValidPath x q file tree
+      → IsNamedPath tree file path → IsSoughtPath x q file path tree.ended

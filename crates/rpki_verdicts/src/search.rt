@@ -1,14 +1,16 @@
 //! The path to one file that is sought among others, in no order.
-ghost use Rattle.std.specs.Prelude.{◌≡◌, ◌<◌, ◌++◌, ◌∷◌, [], All, List, length, Some, map, option_map, slice_get, IfNone, IfOk, IfSome, IsFalse, IsTrue, OnOk};
+ghost use Rattle.std.specs.Prelude.{◌≡◌, ◌<◌, ◌↔◌, ◌++◌, ◌∷◌, [], ℕ, All, List, length, Some, map, option_map, slice_get, IfOk, IfSome, IsFalse, IsTrue, MatchOption, OnOk};
+ghost use Rattle.rpki.specs.Folders.{NamesSigner};
 ghost use Rattle.rpki.specs.RsaSignatures.{IsSignedByRsa};
 ghost use Rattle.rpki.specs.Verification.{context};
 ghost use Rattle.rpki_files.specs.Contents.{BeginsWithCertificate, IsList};
 ghost use Rattle.rpki_files.specs.Files.{FileFields};
-ghost use Rattle.rpki_verdicts.specs.Searches.{EndsIn, HasKeyNamed, IsSoughtPath, IsTreeWith, StandsAlone, above_by, files_at};
+ghost use Rattle.rpki_verdicts.specs.Searches.{AreAbove, HasKeyAt, HasKeyNamed, HasNoIssuer, HaveNoneKeyed, IsFirstKeyed, IsIssuerAt, IsNamedPath, IsSoughtPath, IsTreeWith, StandsAlone, above_by, files_at};
 ghost use Rattle.rpki_verdicts.specs.Trees.{IsTreeAnswer, asked_of, certs_of};
 
 use crate::unordered::{Tree, TreeAnswer, TreeQuestion, judge_all, locator_of};
 use rpki::crypto::KeyIdentifier;
+use rpki::laws;
 use rpki::repository::folder::{Ended, Line};
 use rpki_files::{BareObject, Front};
 use std::alloc::{AllocError, Global};
@@ -170,35 +172,63 @@ fn path_down<'q, 'n>(
 
 // Whether the file begins with a certificate that has the key of this identifier.
 fn has_key(file: &BareObject<'_>, key: &KeyIdentifier) -> bool
-    ensures { IsTrue result → HasKeyNamed key.now file.now }
+    ensures { IsTrue result ↔ HasKeyNamed key.now file.now }
 {
+    laws::certificates::unambiguous();
     match file.front() {
         Front::Certificate(said) => said.key == *key,
         Front::List | Front::Neither => false,
     }
 }
 
-// The place of a certificate whose key the file names as the one that signs it: the first that is
-// accepted, or else the first.
-fn issuer_of(tree: &Tree<'_, '_>, file: &BareObject<'_>) -> Option<usize>
-    ensures { IfSome result (λ place. place < length tree.now.certs.items) }
+// The key that the file names as the one that signs it, where it begins with a certificate that
+// names one.
+fn signer_of(file: &BareObject<'_>) -> Option<KeyIdentifier>
+    ensures { (key : List ℕ) → NamesSigner key file.now.octets ↔ (result ≡ Some key) }
 {
-    let Front::Certificate(said) = file.front() else {
-        return None;
-    };
-    let key = said.signer?;
-    let mut found = None;
-    for (place, other) in tree.certs.iter().enumerate() {
-        if has_key(*other, &key) {
-            if above_at(tree, place).is_some() {
-                return Some(place);
-            }
-            if found.is_none() {
-                found = Some(place);
-            }
+    laws::certificates::unambiguous();
+    match file.front() {
+        Front::Certificate(said) => said.signer,
+        Front::List | Front::Neither => None,
+    }
+}
+
+// Whether the certificate at a place has the key, and is accepted, where that is asked.
+fn has_key_at(tree: &Tree<'_, '_>, key: &KeyIdentifier, accepted: bool, place: usize) -> bool
+    requires { place < length tree.now.certs.items }
+    ensures { IsTrue result ↔ HasKeyAt tree.now key.now accepted place }
+{
+    has_key(tree.certs[place], key) && (!accepted || above_at(tree, place).is_some())
+}
+
+// The place of the first certificate that has the key, and is accepted, where that is asked.
+fn first_keyed(tree: &Tree<'_, '_>, key: &KeyIdentifier, accepted: bool) -> Option<usize>
+    ensures first { MatchOption result (HaveNoneKeyed tree.now key.now accepted)
+        (IsFirstKeyed tree.now key.now accepted) }
+    ensures place { IfSome result (λ place. place < length tree.now.certs.items) }
+{
+    for place in 0..tree.certs.len() {
+        if has_key_at(tree, key, accepted, place) {
+            return Some(place);
         }
     }
-    found
+    None
+}
+
+// The place of the file's issuer: of the certificates whose key the file names as the one that
+// signs it the first that is accepted, or else the first.
+fn issuer_of(tree: &Tree<'_, '_>, file: &BareObject<'_>) -> Option<usize>
+    ensures issuer { MatchOption result (HasNoIssuer tree.now file.now)
+        (λ place. (issuer : FileFields) × IsIssuerAt tree.now file.now place issuer) }
+    ensures place { IfSome result (λ place. place < length tree.now.certs.items) }
+{
+    let Some(key) = signer_of(file) else {
+        return None;
+    };
+    if let Some(place) = first_keyed(tree, &key, true) {
+        return Some(place);
+    }
+    first_keyed(tree, &key, false)
 }
 
 // Adds what stands above a file to which no valid path leads, as it and those above it name their
@@ -208,24 +238,25 @@ fn push_above<'q, 'n>(
     tree: &Tree<'q, 'n>,
     file: &'q BareObject<'n>,
     most: usize,
-) -> Result<(), AllocError> {
+) -> Result<(), AllocError>
+    ensures { OnOk result ((above : List FileFields) × AreAbove tree.now most file.now above
+        × (map (λ f. f.now) path.new.items ≡ map (λ f. f.now) path.old.items ++ above)) }
+{
     if most == 0 {
         return Ok(());
     }
     let Some(place) = issuer_of(tree, file) else {
         return Ok(());
     };
-    let issuer = tree.certs[place];
-    match above_at(tree, place) {
-        Some(above) => push_down(path, tree, above)?,
-        None => {
-            if place != tree.anchor {
-                push_above(path, tree, issuer, most - 1)?;
-            }
-        }
+    if let Some(above) = above_at(tree, place) {
+        push_down(path, tree, above)?;
+        return push_one(path, &tree.certs, place);
     }
-    path.push(issuer)?;
-    Ok(())
+    if place == tree.anchor {
+        return push_one(path, &tree.certs, place);
+    }
+    push_above(path, tree, tree.certs[place], most - 1)?;
+    push_one(path, &tree.certs, place)
 }
 
 // The file below what stands above it, where no valid path leads to it.
@@ -234,7 +265,7 @@ fn path_named<'q, 'n>(
     tree: &Tree<'q, 'n>,
     file: &'q BareObject<'n>,
 ) -> Result<Vec<&'q BareObject<'n>>, AllocError>
-    ensures { IfOk result (λ path. EndsIn file.now (map (λ f. f.now) path.items)) }
+    ensures { IfOk result (λ path. IsNamedPath tree.now file.now (map (λ f. f.now) path.items)) }
 {
     let mut path = Vec::new(alloc);
     push_above(&mut path, tree, file, MOST_ABOVE)?;

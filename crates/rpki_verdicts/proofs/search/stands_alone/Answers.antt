@@ -1,4 +1,4 @@
-use Rattle.std.proofs.Common.{rules, inl, inr, sym, ◌∙◌}
+use Rattle.std.proofs.Common.{inl, inr, sym, ◌∙◌}
 use Rattle.std.proofs.lemmas.Bool.{false≢true}
 use Rattle.rpki_verdicts.proofs.SearchSteps.{no_list_here}
 use Rattle.rpki_verdicts.proofs.search.stands_alone.Goals as goal
