@@ -31,36 +31,56 @@ fn judged(alloc: Global, answer: Result<(), AllocError>, tbs: TbsCert) -> Option
     Some(Told::standing(answer, is_same == is_refused))
 }
 
-// What the call of this name answers.
-fn set(alloc: Global, name: &str, tbs: &mut TbsCert) -> Option<Result<(), AllocError>> {
+// What the call of this path answers, where it sets resources.
+fn set(alloc: Global, path: &str, tbs: &mut TbsCert) -> Option<Result<(), AllocError>> {
     let [first, second] = addresses();
     let [high, low] = numbers();
-    Some(match name {
-        "v4_resources_from_iter" => tbs.v4_resources_from_iter(alloc, [first, second]),
-        "v6_resources_from_iter" => tbs.v6_resources_from_iter(alloc, [first, second]),
-        "as_resources_from_iter" => tbs.as_resources_from_iter(alloc, [high, low]),
-        "build_v4_resource_blocks" => tbs.build_v4_resource_blocks(alloc, |blocks| {
-            blocks.push(first)?;
-            blocks.push(second)
-        }),
-        "build_v6_resource_blocks" => tbs.build_v6_resource_blocks(alloc, |blocks| {
-            blocks.push(first)?;
-            blocks.push(second)
-        }),
-        "build_as_resource_blocks" => tbs.build_as_resource_blocks(alloc, |blocks| {
-            blocks.push(high)?;
-            blocks.push(low)
-        }),
+    Some(match path {
+        "rpki_cert::TbsCert::v4_resources_from_iter" => tbs.v4_resources_from_iter(
+            alloc,
+            [first, second],
+        ),
+        "rpki_cert::TbsCert::v6_resources_from_iter" => tbs.v6_resources_from_iter(
+            alloc,
+            [first, second],
+        ),
+        "rpki_cert::TbsCert::as_resources_from_iter" => tbs.as_resources_from_iter(
+            alloc,
+            [high, low],
+        ),
+        "rpki_cert::TbsCert::build_v4_resource_blocks" => tbs.build_v4_resource_blocks(
+            alloc,
+            |blocks| {
+                blocks.push(first)?;
+                blocks.push(second)
+            },
+        ),
+        "rpki_cert::TbsCert::build_v6_resource_blocks" => tbs.build_v6_resource_blocks(
+            alloc,
+            |blocks| {
+                blocks.push(first)?;
+                blocks.push(second)
+            },
+        ),
+        "rpki_cert::TbsCert::build_as_resource_blocks" => tbs.build_as_resource_blocks(
+            alloc,
+            |blocks| {
+                blocks.push(high)?;
+                blocks.push(low)
+            },
+        ),
         _ => return None,
     })
 }
 
 /// The calls of `rpki_cert` that set resources.
 pub fn told(alloc: Global, path: &str) -> Option<Told> {
-    let name = path.strip_prefix("rpki_cert::TbsCert::")?;
+    if !path.starts_with("rpki_cert::TbsCert::") {
+        return None;
+    }
     let mut tbs = samples::anchor(alloc)?;
     begin(alloc);
-    match set(alloc, name, &mut tbs) {
+    match set(alloc, path, &mut tbs) {
         Some(answer) => judged(alloc, answer, tbs),
         None => {
             drop(tbs);
