@@ -1,11 +1,11 @@
 #!/usr/bin/env python3
-"""Brings the sizes in docs/ARCHITECTURE.md, "What has to be believed", up to date.
+"""Brings the sizes in docs/DEFINITIONS.md up to date.
 
     docs/sizes.py            writes the lines of each file of definitions behind its name
     docs/sizes.py --check    writes nothing, and exits with 1 where a size is another
 
-Both tell the names behind which a size stands and that no file has. Both tell which crates of
-crates.txt the table of crates lacks, and which crates and modules it has that aren't there. The check
+Both print the names that have a size and no file. Both print which crates of crates.txt the table
+of crates in docs/ARCHITECTURE.md lacks, and which crates and modules it has that aren't there. The check
 exits with 1 then. Plain Python 3, standard library alone.
 """
 import re
@@ -13,7 +13,8 @@ import sys
 from pathlib import Path
 
 ROOT = Path(__file__).resolve().parent.parent
-PAGE = ROOT / "docs" / "ARCHITECTURE.md"
+PAGE = ROOT / "docs" / "DEFINITIONS.md"
+MAP = ROOT / "docs" / "ARCHITECTURE.md"
 
 
 def lines_of(crate, name):
@@ -36,9 +37,9 @@ def wrong_rows(text):
 
 
 def main():
-    text = PAGE.read_text()
-    layers = text[text.index("## Layers"):text.index("## A crate")]
-    start = text.index("## What has to be believed")
+    text, architecture = PAGE.read_text(), MAP.read_text()
+    layers = architecture[architecture.index("## Layers"):architecture.index("## A crate")]
+    start = text.index("- `rpki_der`:")
     end = text.index("The other files compute", start)
     crate, told = None, list(wrong_rows(layers))
 

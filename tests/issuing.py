@@ -3,7 +3,7 @@
 
     tests/issuing.py [--program PATH] [--count N] [--lists N] [--seed N]
 
-Runs the lines of README's section "Issuing" as they stand there, and examples/make.sh, whose files
+Runs the lines of docs/ISSUING.md as they are there, and examples/make.sh, whose files
 have to be as those of examples/. Asks for certificates and lists that are refused, with the fault
 that `validate` tells of such a certificate where one can be made. Has signatures refused that are
 another key's, over other octets, cut, or of another form. Asks for N random certificates, 200 if it
@@ -155,19 +155,18 @@ def told(path, at=AT):
     return json.loads(done.stdout).get('rejected', {}).get('fault')
 
 
-# ---- the round of README
+# ---- the round of docs/ISSUING.md
 
-def lines_of_readme():
-    """The indented lines of its section."""
-    section = re.search(r'\n## Issuing\n(.*?)\n## ', (TOP / 'README.md').read_text(), re.S)
-    return ''.join(line[4:] + '\n' for line in section.group(1).split('\n')
-                   if line.startswith('    '))
+def lines_of_page():
+    """Its indented lines."""
+    lines = (TOP / 'docs' / 'ISSUING.md').read_text().split('\n')
+    return ''.join(line[4:] + '\n' for line in lines if line.startswith('    '))
 
 
-def run_readme():
+def run_page():
     os.symlink(program, 'rpki')
-    done = subprocess.run(['sh', '-eu'], input=lines_of_readme().encode(), capture_output=True)
-    check('the round of README ends with success', done.returncode == 0, done.stderr)
+    done = subprocess.run(['sh', '-eu'], input=lines_of_page().encode(), capture_output=True)
+    check('the round of ISSUING.md ends with success', done.returncode == 0, done.stderr)
     check('its path is accepted', b'Path:                     accepted' in done.stdout,
           done.stdout)
     check('its router is revoked', b'(Revoked)' in done.stdout, done.stdout)
@@ -935,7 +934,7 @@ with tempfile.TemporaryDirectory() as room:
     else:
         os.mkdir('round')
         os.chdir('round')
-        run_readme()
+        run_page()
         os.chdir(room)
         make_keys()
         make_issuers()

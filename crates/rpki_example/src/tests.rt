@@ -1,4 +1,4 @@
-//! What the README's examples answer, asked as any caller of the crate `rpki` would.
+//! What the examples of docs/RATTLE.md answer, asked as any caller of the crate `rpki` would.
 
 use crate::asking::holds_as;
 use crate::issuing::{Places, issue};
