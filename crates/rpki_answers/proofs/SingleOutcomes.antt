@@ -1,8 +1,8 @@
 -- Files have at most one outcome.
 use Rattle.std.proofs.Common.{◌≡◌, ◌∷◌, ◌++◌, [], ℕ, List, inl, inr, refl, sym, subst, ◌∙◌}
-use Rattle.rpki.specs.GivenPaths.{PathStrings}
-use Rattle.rpki.specs.Judged.{Judged}
-use Rattle.rpki.specs.Verification.{Context}
+use Rattle.rpki_path.specs.GivenPaths.{PathStrings}
+use Rattle.rpki_path.specs.declared.judging.Judged.{Judged}
+use Rattle.rpki_cert.specs.Verification.{Context}
 use Rattle.rpki_text.specs.declared.command_line.arguments.Task.{Task}
 use Rattle.rpki_text.specs.declared.command_line.arguments.Task.TheVariants.{Show, Validate, Tree, Help, Version}
 use Rattle.rpki_answers.specs.declared.outcomes.Outcome.{Outcome}

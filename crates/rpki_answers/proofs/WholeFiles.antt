@@ -4,20 +4,20 @@ use Rattle.std.specs.Option.{option_map}
 use Rattle.std.specs.Prelude.{Option, Some, None, codes}
 use Rattle.std.proofs.Common.{◌==◌, ℕ, List, ◌++◌, refl}
 use Rattle.serde_json.specs.Data.{Data}
-use Rattle.rpki.specs.AddressBits.{is_prefix, prefix_bits}
-use Rattle.rpki.specs.CertificateExtensions.{ExtensionFields}
-use Rattle.rpki.specs.Certificates.{TbsFields}
-use Rattle.rpki.specs.KeyForm.{KeyForm}
-use Rattle.rpki.specs.KeyForm.TheVariants.{RsaKey, EvenModulus, NoRsaKey, Point, OffCurve, CompressedPoint, NoPoint}
-use Rattle.rpki.specs.Keys.{KeyFields}
-use Rattle.rpki.specs.Lists.{ListFields}
-use Rattle.rpki.specs.Locators.{TalFields}
-use Rattle.rpki.specs.Resources.{Resources, missing, inherit, blocks}
-use Rattle.rpki.specs.RevokedEntries.{Entry, Revoked}
-use Rattle.rpki.specs.Sets.{Block}
-use Rattle.rpki.specs.TalError.{TalError}
-use Rattle.rpki.specs.Timestamps.{timestamp}
-use Rattle.rpki.specs.Verification.{ResourceFields}
+use Rattle.rpki_blocks.specs.AddressBits.{is_prefix, prefix_bits}
+use Rattle.rpki_ext.specs.CertificateExtensions.{ExtensionFields}
+use Rattle.rpki_cert.specs.Certificates.{TbsFields}
+use Rattle.rpki_keys.specs.declared.form.KeyForm.{KeyForm}
+use Rattle.rpki_keys.specs.declared.form.KeyForm.TheVariants.{RsaKey, EvenModulus, NoRsaKey, Point, OffCurve, CompressedPoint, NoPoint}
+use Rattle.rpki_parts.specs.Keys.{KeyFields}
+use Rattle.rpki_crl.specs.Lists.{ListFields}
+use Rattle.rpki_keys.specs.Locators.{TalFields}
+use Rattle.rpki_blocks.specs.Resources.{Resources, missing, inherit, blocks}
+use Rattle.rpki_crl.specs.RevokedEntries.{Entry, Revoked}
+use Rattle.rpki_blocks.specs.Sets.{Block}
+use Rattle.rpki_keys.specs.declared.tal.tal_error.TalError.{TalError}
+use Rattle.rpki_der.specs.Timestamps.{timestamp}
+use Rattle.rpki_cert.specs.Verification.{ResourceFields}
 use Rattle.rpki_cert.proofs.Reordering.{all_append}
 use Rattle.rpki_answers.specs.JsonBlocks.{ends_json, block_json, numbers_json, resource_items, listed_items, held_items}
 use Rattle.rpki_answers.specs.JsonFiles.{head_members, profiles_json, name_members, key_members, uri_member, uri_members, certificate_json, entry_json, list_json, location_json, locator_json, no_locator_file_json, rejection_json, sort_members}

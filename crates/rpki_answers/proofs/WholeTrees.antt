@@ -4,9 +4,9 @@ use Rattle.std.specs.List.{AllByRecursion}
 use Rattle.std.specs.Prelude.{Option, Some, None, codes}
 use Rattle.std.proofs.Common.{◌≡◌, ◌==◌, ℕ, Bool, true, false, List, [], ◌∷◌, inl, inr, refl, subst, sym}
 use Rattle.serde_json.specs.Data.{Data}
-use Rattle.rpki.specs.Line.{Line}
-use Rattle.rpki.specs.Line.TheVariants as line
-use Rattle.rpki.specs.Times.{Moment}
+use Rattle.rpki_folder.specs.declared.lines.Line.{Line}
+use Rattle.rpki_folder.specs.declared.lines.Line.TheVariants as line
+use Rattle.rpki_der.specs.Times.{Moment}
 use Rattle.rpki_cert.proofs.Reordering.{all_append}
 use Rattle.rpki_verdicts.specs.Reasons.{ReasonFields}
 use Rattle.rpki_files.specs.Files.{FileFields}

@@ -8,11 +8,11 @@ use Rattle.rpki_cert.proofs.Reordering.{all_append}
 use Rattle.rpki_files.specs.Files.{FileFields}
 use Rattle.rpki_verdicts.specs.GivenLocators.{LocatorFields}
 use Rattle.rpki_verdicts.specs.PathFiles.{QuestionFields}
-use Rattle.rpki.specs.Certificates.{CertFields}
-use Rattle.rpki.specs.Locators.{NamedTal}
-use Rattle.rpki.specs.TalError.{TalError}
-use Rattle.rpki.specs.Times.{Moment}
-use Rattle.rpki.specs.Verification.{ResourceFields}
+use Rattle.rpki_cert.specs.Certificates.{CertFields}
+use Rattle.rpki_keys.specs.Locators.{NamedTal}
+use Rattle.rpki_keys.specs.declared.tal.tal_error.TalError.{TalError}
+use Rattle.rpki_der.specs.Times.{Moment}
+use Rattle.rpki_cert.specs.Verification.{ResourceFields}
 use Rattle.rpki_answers.specs.JsonDetails.{cause_members, details_members, member_details, order_member}
 use Rattle.rpki_answers.specs.JsonValues.{Pair}
 use Rattle.rpki_answers.specs.JsonVerdicts.{AreAcceptedMembers, AreAnswerMembers, IsLeftItem, IsNoteItem, IsOtherItem, left_items, left_json, names_json, note_items, fault_json, no_list_json, no_locator_items, no_locator_json, router_json, verdict_json, IsVerdictJson}

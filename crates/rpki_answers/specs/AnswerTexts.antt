@@ -1,8 +1,8 @@
 -- What is answered of the files that a request names.
 use Rattle.std.specs.Prelude.{◌≡◌, ◌*◌, ◌^◌, ◌-◌, min, unwrap_or, ℕ, length, List, []}
-use Rattle.rpki.specs.RsaSignatures.{IsSignedByRsa}
-use Rattle.rpki.specs.Times.{Moment}
-use Rattle.rpki.specs.Verification.{context}
+use Rattle.rpki_keys.specs.RsaSignatures.{IsSignedByRsa}
+use Rattle.rpki_der.specs.Times.{Moment}
+use Rattle.rpki_cert.specs.Verification.{context}
 use Rattle.rpki_text.specs.CommandLines.{RequestFields}
 use Rattle.rpki_files.specs.Files.{FileFields}
 use Rattle.rpki_verdicts.specs.GivenLocators.{LocatorFields}

@@ -1,10 +1,10 @@
 -- What is shown of files as JSON.
 use Rattle.std.specs.Prelude.{◌≡◌, ◌==◌, ℕ, Bool, List, [], ◌∷◌, length, map, Option}
 use Rattle.serde_json.specs.Data.{Data}
-use Rattle.rpki.specs.Certificates.{CertFields, IsCertificate}
-use Rattle.rpki.specs.Lists.{CrlFields, IsCertificateList}
-use Rattle.rpki.specs.Locators.{IsLocator, TalFields}
-use Rattle.rpki.specs.TalError.{TalError}
+use Rattle.rpki_cert.specs.Certificates.{CertFields, IsCertificate}
+use Rattle.rpki_crl.specs.Lists.{CrlFields, IsCertificateList}
+use Rattle.rpki_keys.specs.Locators.{IsLocator, TalFields}
+use Rattle.rpki_keys.specs.declared.tal.tal_error.TalError.{TalError}
 use Rattle.rpki_files.specs.Contents.{BeginsBefore, BeginsWithEither}
 use Rattle.rpki_files.specs.FaultRules.{rule_of, tal_rule}
 use Rattle.rpki_files.specs.Files.{FileFields}

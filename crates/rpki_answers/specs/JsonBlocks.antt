@@ -1,11 +1,11 @@
 -- Blocks of addresses and AS numbers as JSON.
 use Rattle.std.specs.Prelude.{ℕ, ◌==◌, if◌then◌else◌, List, [], ◌∷◌, map, codes}
 use Rattle.serde_json.specs.Data.{Data, string}
-use Rattle.rpki.specs.AddressBits.{is_prefix, prefix_bits}
-use Rattle.rpki.specs.CertificateExtensions.{ExtensionFields}
-use Rattle.rpki.specs.Resources.{Resources, missing, inherit, blocks}
-use Rattle.rpki.specs.Sets.{Block}
-use Rattle.rpki.specs.Verification.{ResourceFields}
+use Rattle.rpki_blocks.specs.AddressBits.{is_prefix, prefix_bits}
+use Rattle.rpki_ext.specs.CertificateExtensions.{ExtensionFields}
+use Rattle.rpki_blocks.specs.Resources.{Resources, missing, inherit, blocks}
+use Rattle.rpki_blocks.specs.Sets.{Block}
+use Rattle.rpki_cert.specs.Verification.{ResourceFields}
 use Rattle.rpki_text.specs.BlockLines.{family_address_text, family_text}
 use Rattle.rpki_answers.specs.JsonValues.{count_json, member_of, object_of, object_with, flattened}
 use Rattle.rpki_text.specs.declared.blocks.Family.{Family}

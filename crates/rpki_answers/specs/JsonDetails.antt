@@ -1,8 +1,8 @@
 -- What a rejection tells beside its rule, as members of JSON.
 use Rattle.std.specs.Option.{option_map}
 use Rattle.std.specs.Prelude.{ℕ, Bool, if◌then◌else◌, List, [], ◌++◌, codes, Option, Some, None}
-use Rattle.rpki.specs.Certificates.{CertFields}
-use Rattle.rpki.specs.Times.{Moment}
+use Rattle.rpki_cert.specs.Certificates.{CertFields}
+use Rattle.rpki_der.specs.Times.{Moment}
 use Rattle.rpki_answers.specs.JsonFiles.{sort_members, uri_member}
 use Rattle.rpki_answers.specs.JsonValues.{Pair, member_of, moment_json, text_member, text_member_if_any}
 use Rattle.rpki_answers.specs.RejectionDetails.{issuer_key, order_text, own_key}

@@ -3,24 +3,24 @@ use Rattle.std.specs.Option.{option_map}
 use Rattle.std.specs.Prelude.{◌≡◌, ℕ, Bool, List, [], ◌∷◌, map, codes, Option, Some, None}
 use Rattle.sha2.specs.Sha256.{sha256}
 use Rattle.serde_json.specs.Data.{Data, string}
-use Rattle.rpki.specs.CertificateExtensions.{ExtensionFields}
-use Rattle.rpki.specs.Certificates.{CertFields, TbsFields}
-use Rattle.rpki.specs.Inspection.{inspection_error_name}
-use Rattle.rpki.specs.InspectionError.{InspectionError}
-use Rattle.rpki.specs.KeyUsage.{KeyUsage}
-use Rattle.rpki.specs.KeyUsage.TheVariants.{Ca, Ee}
-use Rattle.rpki.specs.Kind.{Kind}
-use Rattle.rpki.specs.Kind.TheVariants.{Anchor, Authority, EndEntity, Detached, Router}
-use Rattle.rpki.specs.Keys.{key_identifier}
-use Rattle.rpki.specs.Lists.{ListFields}
-use Rattle.rpki.specs.Locators.{TalFields}
-use Rattle.rpki.specs.NameTexts.{name_text}
-use Rattle.rpki.specs.Overclaim.{Overclaim}
-use Rattle.rpki.specs.Overclaim.TheVariants.{Refuse, Trim}
-use Rattle.rpki.specs.RevokedEntries.{Entry, Revoked}
-use Rattle.rpki.specs.TalError.{TalError}
-use Rattle.rpki.specs.TalErrors.{tal_error_name}
-use Rattle.rpki.specs.Texts.{serial_text}
+use Rattle.rpki_ext.specs.CertificateExtensions.{ExtensionFields}
+use Rattle.rpki_cert.specs.Certificates.{CertFields, TbsFields}
+use Rattle.rpki_ext.specs.Inspection.{inspection_error_name}
+use Rattle.rpki_ext.specs.declared.inspection.InspectionError.{InspectionError}
+use Rattle.rpki_ext.specs.declared.key_usage.KeyUsage.{KeyUsage}
+use Rattle.rpki_ext.specs.declared.key_usage.KeyUsage.TheVariants.{Ca, Ee}
+use Rattle.rpki_cert.specs.declared.inspect.Kind.{Kind}
+use Rattle.rpki_cert.specs.declared.inspect.Kind.TheVariants.{Anchor, Authority, EndEntity, Detached, Router}
+use Rattle.rpki_parts.specs.Keys.{key_identifier}
+use Rattle.rpki_crl.specs.Lists.{ListFields}
+use Rattle.rpki_keys.specs.Locators.{TalFields}
+use Rattle.rpki_parts.specs.NameTexts.{name_text}
+use Rattle.rpki_blocks.specs.declared.overclaim.Overclaim.{Overclaim}
+use Rattle.rpki_blocks.specs.declared.overclaim.Overclaim.TheVariants.{Refuse, Trim}
+use Rattle.rpki_crl.specs.RevokedEntries.{Entry, Revoked}
+use Rattle.rpki_keys.specs.declared.tal.tal_error.TalError.{TalError}
+use Rattle.rpki_keys.specs.TalErrors.{tal_error_name}
+use Rattle.rpki_der.specs.Texts.{serial_text}
 use Rattle.rpki_files.specs.SortTexts.{description}
 use Rattle.rpki_text.specs.CertificateTexts.{AreFindings}
 use Rattle.rpki_text.specs.KeyTexts.{IsLocatorKey}
@@ -30,7 +30,7 @@ use Rattle.rpki_answers.specs.JsonNotes.{notes_json}
 use Rattle.rpki_answers.specs.FactTexts.{facts_json}
 use Rattle.rpki_answers.specs.JsonValues.{Pair, count_json, moment_json, array_of, member_of, text_member, text_member_if_any, count_member_if_any, object_of, rule_members, place_members, flattened}
 use Rattle.rpki_text.specs.Pages.{characters_text, colons_text}
-use Rattle.rpki.specs.Digits.{base64_of}
+use Rattle.rpki_keys.specs.Digits.{base64_of}
 use Rattle.rpki_text.specs.declared.notes.fact.Fact.{Fact}
 use Rattle.rpki_text.specs.declared.notes.note.Note.{Note}
 use Rattle.rpki_text.specs.declared.certificate.Answers.{Answers}

@@ -1,9 +1,9 @@
 -- A key as JSON.
 use Rattle.std.specs.Prelude.{ℕ, List, [], ◌∷◌, ◌++◌, codes, Option, Some, None}
 use Rattle.serde_json.specs.Data.{Data, boolean}
-use Rattle.rpki.specs.KeyForm.{KeyForm}
-use Rattle.rpki.specs.KeyForm.TheVariants.{RsaKey, EvenModulus, NoRsaKey, Point, OffCurve, CompressedPoint, NoPoint}
-use Rattle.rpki.specs.Keys.{KeyFields}
+use Rattle.rpki_keys.specs.declared.form.KeyForm.{KeyForm}
+use Rattle.rpki_keys.specs.declared.form.KeyForm.TheVariants.{RsaKey, EvenModulus, NoRsaKey, Point, OffCurve, CompressedPoint, NoPoint}
+use Rattle.rpki_parts.specs.Keys.{KeyFields}
 use Rattle.rpki_text.specs.KeyTexts.{point_text}
 use Rattle.rpki_answers.specs.JsonValues.{Pair, count_json, member_of, text_member, text_member_if_any, object_of, flattened}
 use Rattle.rpki_text.specs.declared.keys.KeyAnswer.{KeyAnswer}

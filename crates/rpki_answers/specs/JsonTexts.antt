@@ -5,8 +5,8 @@ use Rattle.std.specs.Prelude.{ℕ, Bool, false, ◌/◌, ◌%◌, ◌==◌, ◌|
 use Rattle.std.specs.Str.{chars}
 use Rattle.json.specs.Layout.{pretty}
 use Rattle.json.specs.Tree.{json_tokens}
-use Rattle.rpki.specs.NameTexts.{is_visible}
-use Rattle.rpki.specs.Texts.{hexadecimal}
+use Rattle.rpki_parts.specs.NameTexts.{is_visible}
+use Rattle.rpki_der.specs.Texts.{hexadecimal}
 use Rattle.serde_json.specs.Data.{Data}
 use Rattle.serde_json.specs.Written.{compact_text, outline}
 use Rattle.rpki_text.specs.Pages.{line_feed}

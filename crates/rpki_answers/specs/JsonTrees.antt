@@ -3,11 +3,11 @@ use Rattle.std.specs.Bool.{MatchBool}
 use Rattle.std.specs.List.{flat_map}
 use Rattle.std.specs.Prelude.{◌≡◌, ◌==◌, ◌+◌, ◌⊎◌, ℕ, false, List, [], ◌∷◌, ◌++◌, length, codes, slice_get, Option, None, Some}
 use Rattle.serde_json.specs.Data.{Data, boolean, string}
-use Rattle.rpki.specs.Ended.{Ended}
-use Rattle.rpki.specs.Ended.TheVariants.{Whole, TooDeep, OutOfSteps}
-use Rattle.rpki.specs.Line.{Line}
-use Rattle.rpki.specs.Line.TheVariants as line
-use Rattle.rpki.specs.Times.{Moment}
+use Rattle.rpki_folder.specs.declared.bounds.Ended.{Ended}
+use Rattle.rpki_folder.specs.declared.bounds.Ended.TheVariants.{Whole, TooDeep, OutOfSteps}
+use Rattle.rpki_folder.specs.declared.lines.Line.{Line}
+use Rattle.rpki_folder.specs.declared.lines.Line.TheVariants as line
+use Rattle.rpki_der.specs.Times.{Moment}
 use Rattle.rpki_files.specs.Contents.{BeginsWithCertificate, IsList, StandBehind}
 use Rattle.rpki_verdicts.specs.Reasons.{ReasonFields, IsReason}
 use Rattle.rpki_files.specs.Files.{FileFields}

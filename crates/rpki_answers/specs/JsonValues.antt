@@ -6,8 +6,8 @@ use Rattle.serde_json.specs.Data.{Data, number, unsigned, string, array, object,
 use Rattle.serde_json.specs.Find.{of_integer}
 use Rattle.serde_json.specs.View.{view, items_of, members_view}
 use Rattle.serde_json.specs.declared.value.Value.{Value}
-use Rattle.rpki.specs.Times.{Moment}
-use Rattle.rpki.specs.Timestamps.{timestamp}
+use Rattle.rpki_der.specs.Times.{Moment}
+use Rattle.rpki_der.specs.Timestamps.{timestamp}
 use Rattle.rpki_files.specs.FlawTexts.{flaw_text}
 use Rattle.rpki_files.specs.declared.flaws.Flaw.{Flaw}
 use Rattle.rpki_files.specs.declared.places.Place.{Place}

@@ -1,9 +1,9 @@
 -- How a run of the command ends, and its exit status (own). What a file holds are octets, in DER.
 use Rattle.std.specs.Prelude.{◌≡◌, ◌⊎◌, ℕ, Bool, List, [], All, Result, Ok, Err}
-use Rattle.rpki.specs.RsaSignatures.{IsSignedByRsa}
-use Rattle.rpki.specs.Times.{Moment}
-use Rattle.rpki.specs.Judged.{Judged}
-use Rattle.rpki.specs.Verification.{Context, context}
+use Rattle.rpki_keys.specs.RsaSignatures.{IsSignedByRsa}
+use Rattle.rpki_der.specs.Times.{Moment}
+use Rattle.rpki_path.specs.declared.judging.Judged.{Judged}
+use Rattle.rpki_cert.specs.Verification.{Context, context}
 use Rattle.rpki_text.specs.declared.command_line.arguments.Task.{Task}
 use Rattle.rpki_text.specs.declared.command_line.arguments.Task.TheVariants.{Show, Validate, Tree}
 use Rattle.rpki_answers.specs.declared.outcomes.Outcome.{Outcome}

@@ -3,12 +3,12 @@
 -- files stand the other way round.
 use Rattle.std.specs.Option.{option_map}
 use Rattle.std.specs.Prelude.{◌≡◌, ◌↔◌, ◌-◌, ℕ, Bool, IsTrue, if◌then◌else◌, List, [], ◌++◌, length, codes, slice_get, Option, Some, None}
-use Rattle.rpki.specs.Certificates.{CertFields, IsCertificate}
-use Rattle.rpki.specs.Encoding.{Means}
-use Rattle.rpki.specs.Kind.TheVariants.{Anchor}
-use Rattle.rpki.specs.Profiles.{MeetsProfile}
-use Rattle.rpki.specs.Texts.{time_text}
-use Rattle.rpki.specs.Times.{Moment}
+use Rattle.rpki_cert.specs.Certificates.{CertFields, IsCertificate}
+use Rattle.rpki_der.specs.Encoding.{Means}
+use Rattle.rpki_cert.specs.declared.inspect.Kind.TheVariants.{Anchor}
+use Rattle.rpki_cert.specs.Profiles.{MeetsProfile}
+use Rattle.rpki_der.specs.Texts.{time_text}
+use Rattle.rpki_der.specs.Times.{Moment}
 use Rattle.rpki_files.specs.FileSorts.{IsToldSort}
 use Rattle.rpki_files.specs.Files.{FileFields}
 use Rattle.rpki_files.specs.SortTexts.{description}

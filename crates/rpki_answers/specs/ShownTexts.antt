@@ -4,16 +4,16 @@ use Rattle.std.specs.List.{concat, flat_map}
 use Rattle.std.specs.Prelude.{◌≡◌, ◌≢◌, ◌↔◌, ◌⊎◌, ℕ, Bool, IsTrue, IsFalse, ◌==◌, if◌then◌else◌, List, [], ◌∷◌, ◌++◌, map, option_map, codes, Option, Some, None}
 use Rattle.hex.specs.Hex.{encode_lower}
 use Rattle.sha2.specs.Sha256.{sha256}
-use Rattle.rpki.specs.Certificates.{CertFields, TbsFields, IsCertificate}
-use Rattle.rpki.specs.DecodeError.{DecodeError}
-use Rattle.rpki.specs.DecodeError.TheVariants.{Memory}
-use Rattle.rpki.specs.Keys.{key_identifier}
-use Rattle.rpki.specs.Lists.{CrlFields, ListFields, IsCertificateList}
-use Rattle.rpki.specs.Locators.{IsLocator, TalFields}
-use Rattle.rpki.specs.RevokedEntries.{Revoked}
-use Rattle.rpki.specs.TalError.{TalError}
-use Rattle.rpki.specs.TalErrors.{tal_error_name}
-use Rattle.rpki.specs.Times.{Moment}
+use Rattle.rpki_cert.specs.Certificates.{CertFields, TbsFields, IsCertificate}
+use Rattle.rpki_der.specs.declared.error.DecodeError.{DecodeError}
+use Rattle.rpki_der.specs.declared.error.DecodeError.TheVariants.{Memory}
+use Rattle.rpki_parts.specs.Keys.{key_identifier}
+use Rattle.rpki_crl.specs.Lists.{CrlFields, ListFields, IsCertificateList}
+use Rattle.rpki_keys.specs.Locators.{IsLocator, TalFields}
+use Rattle.rpki_crl.specs.RevokedEntries.{Revoked}
+use Rattle.rpki_keys.specs.declared.tal.tal_error.TalError.{TalError}
+use Rattle.rpki_keys.specs.TalErrors.{tal_error_name}
+use Rattle.rpki_der.specs.Times.{Moment}
 use Rattle.rpki_text.specs.CertificateTexts.{AreFindings, certificate_text}
 use Rattle.rpki_files.specs.Contents.{BeginsBefore, BeginsWithEither, CanBeShown, LooksLikeList}
 use Rattle.rpki_files.specs.FaultRules.{IsFileRule, RuleFields, rule_of, tal_rule}

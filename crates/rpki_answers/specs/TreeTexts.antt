@@ -5,11 +5,11 @@ use Rattle.std.specs.List.{concat, flat_map}
 use Rattle.std.specs.Option.{option_map}
 use Rattle.std.specs.Prelude.{◌≡◌, ◌==◌, ◌+◌, ◌⊎◌, ℕ, if◌then◌else◌, All, List, [], ◌∷◌, ◌++◌, length, codes, slice_get, unwrap_or, Option, Some}
 use Rattle.std.specs.Bool.{MatchBool}
-use Rattle.rpki.specs.Ended.{Ended}
-use Rattle.rpki.specs.Ended.TheVariants.{Whole, TooDeep, OutOfSteps}
-use Rattle.rpki.specs.Line.{Line}
-use Rattle.rpki.specs.Line.TheVariants as line
-use Rattle.rpki.specs.Verification.{Context}
+use Rattle.rpki_folder.specs.declared.bounds.Ended.{Ended}
+use Rattle.rpki_folder.specs.declared.bounds.Ended.TheVariants.{Whole, TooDeep, OutOfSteps}
+use Rattle.rpki_folder.specs.declared.lines.Line.{Line}
+use Rattle.rpki_folder.specs.declared.lines.Line.TheVariants as line
+use Rattle.rpki_cert.specs.Verification.{Context}
 use Rattle.rpki_files.specs.Contents.{BeginsWithCertificate, IsList, StandBehind}
 use Rattle.rpki_verdicts.specs.Reasons.{ReasonFields, IsReason}
 use Rattle.rpki_files.specs.Files.{FileFields}

@@ -3,18 +3,18 @@ use Rattle.std.specs.Fmt.{decimal}
 use Rattle.std.specs.List.{concat, flat_map}
 use Rattle.std.specs.Option.{option_map}
 use Rattle.std.specs.Prelude.{◌≡◌, ℕ, Bool, ◌==◌, if◌then◌else◌, All, ◌⊎◌, List, [], ◌∷◌, ◌++◌, length, codes, slice_get, Option, Some, None, MatchOption, Result, Ok, Err}
-use Rattle.rpki.specs.BlockTexts.{v4_block_text, v6_block_text}
-use Rattle.rpki.specs.Certificates.{CertFields, IsCertificate}
-use Rattle.rpki.specs.Encoding.{Begins, Means}
-use Rattle.rpki.specs.Judged.{Judged}
-use Rattle.rpki.specs.Kind.{Kind}
-use Rattle.rpki.specs.Lists.{IsCertificateList}
-use Rattle.rpki.specs.Keys.{key_identifier}
-use Rattle.rpki.specs.Locators.{NamedTal, TalFields}
-use Rattle.rpki.specs.TalError.{TalError}
-use Rattle.rpki.specs.Texts.{serial_text, time_text}
-use Rattle.rpki.specs.Times.{Moment}
-use Rattle.rpki.specs.Verification.{Context, ResourceFields}
+use Rattle.rpki_blocks.specs.BlockTexts.{v4_block_text, v6_block_text}
+use Rattle.rpki_cert.specs.Certificates.{CertFields, IsCertificate}
+use Rattle.rpki_der.specs.Encoding.{Begins, Means}
+use Rattle.rpki_path.specs.declared.judging.Judged.{Judged}
+use Rattle.rpki_cert.specs.declared.inspect.Kind.{Kind}
+use Rattle.rpki_crl.specs.Lists.{IsCertificateList}
+use Rattle.rpki_parts.specs.Keys.{key_identifier}
+use Rattle.rpki_keys.specs.Locators.{NamedTal, TalFields}
+use Rattle.rpki_keys.specs.declared.tal.tal_error.TalError.{TalError}
+use Rattle.rpki_der.specs.Texts.{serial_text, time_text}
+use Rattle.rpki_der.specs.Times.{Moment}
+use Rattle.rpki_cert.specs.Verification.{Context, ResourceFields}
 use Rattle.rpki_answers.specs.NoteLines.{notes_lines}
 use Rattle.rpki_answers.specs.RejectionDetails.{AreDetails, details_text}
 use Rattle.rpki_text.specs.Notes.{AreNotes}
@@ -23,7 +23,7 @@ use Rattle.rpki_text.specs.BlockLines.{as_numbers_text, blocks_lines, resources_
 use Rattle.rpki_text.specs.CertificateTexts.{certificate_kind_text}
 use Rattle.rpki_files.specs.Contents.{IsList}
 use Rattle.rpki_files.specs.Files.{FileFields, contents}
-use Rattle.rpki.specs.SaidKinds.{IsKindOf}
+use Rattle.rpki_cert.specs.SaidKinds.{IsKindOf}
 use Rattle.rpki_files.specs.LocatorFiles.{AreLocator}
 use Rattle.rpki_verdicts.specs.GivenLocators.{LocatorFields, locator_octets}
 use Rattle.rpki_verdicts.specs.PathFiles.{QuestionFields, IsAnchorLocator, demands_of}

@@ -5,11 +5,10 @@ ghost use Rattle.rpki_text.specs.CertificateTexts.{uri_line};
 ghost use Rattle.rpki_text.specs.Pages.{colons_text, line, line_if_any};
 ghost use Rattle.rpki_answers.specs.RejectionDetails.{AreDetails, IsAnchor, IsCause, IsCertificateAt, IsSortAt, TellsOrder, bound_text, cause_text, details_text, member_details, order_line, own_key, sort_lines};
 
-use rpki::crypto::KeyIdentifier;
-use rpki::repository::Cert;
-use rpki::repository::x509::Time;
-use rpki::uri::Rsync;
+use rpki_cert::Cert;
+use rpki_der::Time;
 use rpki_files::{Object, Sort, describe};
+use rpki_parts::{KeyIdentifier, Rsync};
 use rpki_text::certificate::write_key_identifier;
 use rpki_text::{Characters, write_line};
 use rpki_verdicts::{Fault, Question};

@@ -1,8 +1,8 @@
 //! Laws about the definitions. Each is the contract of a function with no parameters.
 ghost use Rattle.std.specs.Prelude.{◌≡◌, ℕ, Bool, List};
-ghost use Rattle.rpki.specs.RsaSignatures.{IsSignedByRsa};
-ghost use Rattle.rpki.specs.Times.{Moment};
-ghost use Rattle.rpki.specs.Verification.{context};
+ghost use Rattle.rpki_keys.specs.RsaSignatures.{IsSignedByRsa};
+ghost use Rattle.rpki_der.specs.Times.{Moment};
+ghost use Rattle.rpki_cert.specs.Verification.{context};
 ghost use Rattle.rpki_verdicts.specs.PathFiles.{Demands};
 ghost use Rattle.rpki_answers.specs.Outcomes.{IsOutcomeOf};
 ghost use Rattle.rpki_text.specs.declared.command_line.arguments.Task.{Task};

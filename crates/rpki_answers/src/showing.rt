@@ -2,9 +2,9 @@
 ghost use Rattle.std.specs.Prelude.{◌≡◌, ◌≢◌, ◌↔◌, All, Bool, IfOk, IsTrue, OnOk, Some, codes, map, string_bytes};
 ghost use Rattle.hex.specs.Hex.{encode_lower};
 ghost use Rattle.sha2.specs.Sha256.{sha256};
-ghost use Rattle.rpki.specs.Certificates.{IsCertificate};
-ghost use Rattle.rpki.specs.DecodeError.TheVariants as decoding;
-ghost use Rattle.rpki.specs.Lists.{IsCertificateList};
+ghost use Rattle.rpki_cert.specs.Certificates.{IsCertificate};
+ghost use Rattle.rpki_der.specs.declared.error.DecodeError.TheVariants as decoding;
+ghost use Rattle.rpki_crl.specs.Lists.{IsCertificateList};
 ghost use Rattle.rpki_text.specs.CertificateTexts.{AreFindings};
 ghost use Rattle.rpki_files.specs.Contents.{BeginsBefore, BeginsWithEither, CanBeShown};
 ghost use Rattle.rpki_files.specs.FaultRules.{rule_of};
@@ -27,15 +27,15 @@ use crate::notes::print_notes;
 use crate::outcomes::{Answer, Outcome};
 use bytes::Bytes;
 use locators::{print_locator, print_no_locator};
-use rpki::der::DecodeError;
-use rpki::repository::tal::TalError;
-use rpki::repository::x509::Time;
-use rpki::repository::{Cert, Crl};
+use rpki_cert::Cert;
+use rpki_crl::Crl;
+use rpki_der::{DecodeError, Time};
 use rpki_files::rules::{Rule, of_file};
 use rpki_files::{
     Content, Flaw, Form, Object, Place, Sort, describe, looks_like, looks_like_locator, place_for,
     read_locator,
 };
+use rpki_keys::tal::TalError;
 use rpki_text::notes::{Fact, Note, facts_of, notes_of};
 use rpki_text::{FileName, Page, certificate, list};
 use sha2::{Digest, Sha256};

@@ -16,10 +16,10 @@ use crate::trees::TreeFinding;
 use crate::verdict_lines::{
     print_behind_list, print_moment, print_no_locator, print_other_locators,
 };
-use rpki::repository::folder::{Ended, Line};
-use rpki::repository::path::PathFault;
 use rpki_files::rules::Rule;
 use rpki_files::{BareObject, Front};
+use rpki_folder::{Ended, Line};
+use rpki_path::PathFault;
 use rpki_text::{FileName, Page};
 use rpki_verdicts::reasons::of_path;
 use rpki_verdicts::{Fault, Tree, TreeAnswer, TreeQuestion};

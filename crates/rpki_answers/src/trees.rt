@@ -1,8 +1,8 @@
 //! The verdicts on the certificates among files, for a person or as JSON, and how a run ends by
 //! them.
 ghost use Rattle.std.specs.Prelude.{◌≡◌, ◌≢◌, ◌↔◌, All, IfOk, IsTrue, MatchOption, string_bytes};
-ghost use Rattle.rpki.specs.RsaSignatures.{IsSignedByRsa};
-ghost use Rattle.rpki.specs.Verification.{context};
+ghost use Rattle.rpki_keys.specs.RsaSignatures.{IsSignedByRsa};
+ghost use Rattle.rpki_cert.specs.Verification.{context};
 ghost use Rattle.rpki_answers.specs.AnswerTexts.{IsTreeJsonBy, IsTreeTextBy};
 ghost use Rattle.rpki_answers.specs.JsonTrees.{IsTreeJson};
 ghost use Rattle.rpki_answers.specs.Outcomes.{IsOutcomeOfTree};

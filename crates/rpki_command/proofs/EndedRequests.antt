@@ -2,7 +2,7 @@
 use Rattle.std.specs.Io.KnownBytes.{Appends}
 use Rattle.std.specs.Prelude.{Option, bytes_eq, codes, if◌then◌else◌}
 use Rattle.std.proofs.Common.{◌≡◌, ℕ, Bool, false, true, List, [], ◌∷◌, inr, refl, subst, sym}
-use Rattle.rpki.specs.Times.{Moment}
+use Rattle.rpki_der.specs.Times.{Moment}
 use Rattle.rpki_answers.specs.declared.outcomes.Outcome.{Outcome}
 use Rattle.rpki_answers.specs.declared.outcomes.Outcome.TheVariants.{Success, Rejection, WrongUse, Unread}
 use Rattle.rpki_requests.specs.RequestFiles.{InputFields}

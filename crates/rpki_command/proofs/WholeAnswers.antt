@@ -1,7 +1,7 @@
 -- The answer to what could be read of what a request names.
 use Rattle.std.specs.Prelude.{◌≡◌, ◌≢◌, ℕ, List, map}
 use Rattle.std.proofs.lemmas.List.{map-id}
-use Rattle.rpki.specs.Times.{Moment}
+use Rattle.rpki_der.specs.Times.{Moment}
 use Rattle.rpki_files.specs.Files.{FileFields}
 use Rattle.rpki_verdicts.specs.GivenLocators.{LocatorFields, locator_files}
 use Rattle.rpki_text.specs.CommandLines.{RequestFields}

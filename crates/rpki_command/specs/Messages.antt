@@ -1,8 +1,8 @@
 -- What a run says on standard error of words, of requests, of folders and of a search (own).
 use Rattle.std.specs.Fmt.{decimal}
 use Rattle.std.specs.Prelude.{◌≡◌, ℕ, List, [], ◌++◌, ◌==◌, codes, if◌then◌else◌}
-use Rattle.rpki.specs.Ended.{Ended}
-use Rattle.rpki.specs.Ended.TheVariants.{Whole, TooDeep, OutOfSteps}
+use Rattle.rpki_folder.specs.declared.bounds.Ended.{Ended}
+use Rattle.rpki_folder.specs.declared.bounds.Ended.TheVariants.{Whole, TooDeep, OutOfSteps}
 use Rattle.rpki_text.specs.Misuses.{IsMisuse}
 use Rattle.rpki_text.specs.MisuseTexts as line
 use Rattle.rpki_text.specs.declared.command_line.arguments.Misuse as arguments

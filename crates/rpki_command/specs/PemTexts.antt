@@ -1,7 +1,7 @@
 -- A certificate or a revocation list in PEM (RFC 7468 2, 3, 5, 6).
 use Rattle.std.specs.List.{flat_map}
 use Rattle.std.specs.Prelude.{◌≡◌, ◌<◌, ℕ, All, List, [], ◌∷◌, ◌++◌, length, codes}
-use Rattle.rpki.specs.Digits.{base64_of}
+use Rattle.rpki_keys.specs.Digits.{base64_of}
 
 -- the line and its end
 abbrev pub ended : List ℕ → List ℕ

@@ -2,7 +2,7 @@
 -- reading files gives and by what a clock tells (own).
 use Rattle.std.specs.List.{AllZip, Contains}
 use Rattle.std.specs.Prelude.{◌≡◌, ◌≢◌, ◌⊎◌, ℕ, List, [], ◌∷◌, Option, Some, Bool, true, IsFalse, bytes_eq, codes}
-use Rattle.rpki.specs.Times.{Moment}
+use Rattle.rpki_der.specs.Times.{Moment}
 use Rattle.rpki_text.specs.CommandLines.{usual_size}
 use Rattle.rpki_files.specs.PemFiles.{IsObjectOf}
 use Rattle.rpki_requests.specs.Fulfilment.{Fulfils, context_of}

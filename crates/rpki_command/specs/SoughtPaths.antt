@@ -1,8 +1,8 @@
 -- A path that is sought: what is read of the files among which it is, and which files it has (own).
 use Rattle.std.specs.Prelude.{◌≡◌, ◌⊎◌, ◌↔◌, ℕ, List, [], ◌∷◌, ◌++◌, Option, Some, None, IsTrue}
-use Rattle.rpki.specs.RsaSignatures.{IsSignedByRsa}
-use Rattle.rpki.specs.Times.{Moment}
-use Rattle.rpki.specs.Verification.{context}
+use Rattle.rpki_keys.specs.RsaSignatures.{IsSignedByRsa}
+use Rattle.rpki_der.specs.Times.{Moment}
+use Rattle.rpki_cert.specs.Verification.{context}
 use Rattle.rpki_text.specs.CommandLines.{RequestFields}
 use Rattle.rpki_text.specs.CommandLines.Views.{word_octets}
 use Rattle.rpki_files.specs.Contents.{IsList}

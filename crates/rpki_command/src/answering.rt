@@ -1,8 +1,8 @@
 //! What is answered of files.
 ghost use Rattle.std.specs.Prelude.{◌≡◌, ◌≢◌, ◌↔◌, ◌⊎◌, [], All, List, length, map, IfOk, IsFalse, IsTrue, string_bytes};
 ghost use Rattle.std.specs.Bool.{MatchBool};
-ghost use Rattle.rpki.specs.RsaSignatures.{IsSignedByRsa};
-ghost use Rattle.rpki.specs.Verification.{context};
+ghost use Rattle.rpki_keys.specs.RsaSignatures.{IsSignedByRsa};
+ghost use Rattle.rpki_cert.specs.Verification.{context};
 ghost use Rattle.rpki_answers.specs.AnswerTexts.{IsJsonBy, IsTextBy, IsTreeJsonBy, IsTreeTextBy, options_of, question_of, tree_question_of};
 ghost use Rattle.rpki_text.specs.CommandLines.Views.{fields_of};
 ghost use Rattle.rpki_answers.specs.JsonAnswers.{IsJsonOfFiles, is_single};
@@ -16,8 +16,8 @@ ghost use Rattle.rpki_verdicts.specs.GivenLocators.{IsRead, LocatorFields, locat
 ghost use Rattle.rpki_verdicts.specs.PathFiles.{demands_of};
 ghost use Rattle.rpki_verdicts.specs.Trees.{asked_of};
 
-use rpki::repository::x509::Time;
 use rpki_answers::{Answer, Options, Outcome, answer_files, shown, treed, validated};
+use rpki_der::Time;
 use rpki_files::{BareObject, Object};
 use rpki_text::command_line::{Format, Request, Task};
 use rpki_verdicts::{GivenLocator, Question, TreeQuestion};

@@ -3,14 +3,14 @@ ghost use Rattle.std.specs.Prelude.{IfOk};
 ghost use Rattle.rpki_command.specs.Moments.{IsMomentBy};
 
 use anyhow::{Context, Result, anyhow};
-use rpki::repository::x509::Time;
+use rpki_der::Time;
 use rpki_text::moments;
 use std::rt::Clock;
 use std::time::{SystemTime, UNIX_EPOCH};
 
 /// Who tells the moment. Which it is is the relation `tells`, which who implements this states.
 pub trait MomentSource {
-    ghost use Rattle.rpki.specs.Times.{Moment};
+    ghost use Rattle.rpki_der.specs.Times.{Moment};
 
     /// The moment that is told may be this one.
     ghost tells: { Self → Moment → Type 0 };
@@ -22,7 +22,7 @@ pub trait MomentSource {
 
 /// The system's clock tells a day and a time of the calendar.
 impl MomentSource for HostRuntime {
-    ghost use Rattle.rpki.specs.Times.{IsMoment};
+    ghost use Rattle.rpki_der.specs.Times.{IsMoment};
 
     ghost tells = { λ _ now. IsMoment now };
 

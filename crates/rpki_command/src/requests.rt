@@ -24,8 +24,8 @@ use crate::pem::pem_text;
 use crate::reading::tell;
 use anyhow::{Result, anyhow};
 use bytes::Bytes;
-use rpki::repository::x509::Time;
 use rpki_answers::Outcome;
+use rpki_der::Time;
 use rpki_requests::{
     Made, Misuse, Order, Refusal, Setting, asks_help, fulfil, named_moment, read_request,
 };

@@ -1,8 +1,8 @@
 //! A path that is sought: the names of its files, and of the lists beside them.
 ghost use Rattle.std.specs.Prelude.{◌≡◌, ◌↔◌, ◌++◌, ◌∷◌, [], List, ℕ, map, IfOk, IsTrue, Ok, OnOk};
 ghost use Rattle.std.specs.Io.KnownBytes.{Appends};
-ghost use Rattle.rpki.specs.RsaSignatures.{IsSignedByRsa};
-ghost use Rattle.rpki.specs.Verification.{context};
+ghost use Rattle.rpki_keys.specs.RsaSignatures.{IsSignedByRsa};
+ghost use Rattle.rpki_cert.specs.Verification.{context};
 ghost use Rattle.rpki_text.specs.CommandLines.Views.{fields_of, word_octets};
 ghost use Rattle.rpki_files.specs.Files.{FileFields, file_names};
 ghost use Rattle.rpki_verdicts.specs.Searches.{IsSoughtPath};
@@ -18,9 +18,9 @@ use crate::files::FileSource;
 use crate::passed::{tell_no_list, tell_others};
 use crate::reading::{GivenFiles, read_given};
 use anyhow::{Error, Result};
-use rpki::repository::folder::Ended;
-use rpki::repository::x509::Time;
+use rpki_der::Time;
 use rpki_files::BareObject;
+use rpki_folder::Ended;
 use rpki_text::command_line::Request;
 use rpki_verdicts::{GivenLocator, Sought, TreeQuestion, seek};
 use std::alloc::{AllocError, Global};

@@ -1,11 +1,11 @@
 -- The list that a request asks for, and what is completed as one.
 use Rattle.std.specs.Prelude.{option_map, Option, Some, None}
 use Rattle.std.proofs.Common.{◌≡◌, ℕ, List, Bor, refl, sym, subst, ◌∙◌}
-use Rattle.rpki.specs.Certificates.{TbsFields, CertFields}
-use Rattle.rpki.specs.Lists.{CrlFields, CrlState, IsTbsCertList, ListFields}
-use Rattle.rpki.specs.RevokedEntries.{Revoked}
-use Rattle.rpki.specs.Times.{Moment}
-use Rattle.rpki.specs.Verification.{ResourceFields}
+use Rattle.rpki_cert.specs.Certificates.{TbsFields, CertFields}
+use Rattle.rpki_crl.specs.Lists.{CrlFields, CrlState, IsTbsCertList, ListFields}
+use Rattle.rpki_crl.specs.RevokedEntries.{Revoked}
+use Rattle.rpki_der.specs.Times.{Moment}
+use Rattle.rpki_cert.specs.Verification.{ResourceFields}
 use Rattle.rpki_issuing.specs.OnlyValues.{IsOnly}
 use Rattle.rpki_verdicts.specs.PathAnswers.{HoldSame}
 use Rattle.rpki_issuing.specs.WantedLists.{IsListWanted, WantedListFields}

@@ -1,8 +1,8 @@
 -- What options say: of one option, and of all of them.
 use Rattle.std.specs.Prelude.{Option, Some, None}
 use Rattle.std.proofs.Common.{◌≡◌, ℕ, List}
-use Rattle.rpki.specs.Resources.{Resources}
-use Rattle.rpki.specs.Times.{Moment}
+use Rattle.rpki_blocks.specs.Resources.{Resources}
+use Rattle.rpki_der.specs.Times.{Moment}
 use Rattle.rpki_issuing.specs.BlockTexts.{AreListed, IsAddressesText, IsAsText}
 use Rattle.rpki_issuing.specs.OnlyValues.{IsOnly}
 use Rattle.rpki_issuing.specs.ValueTexts.{IsSerialText, IsRsyncText, IsHttpsText}

@@ -2,11 +2,11 @@
 use Rattle.std.specs.Prelude.{IsSome, Option, Some, None}
 use Rattle.std.proofs.Common.{◌≡◌, ℕ, List, [], ◌∷◌, ◌++◌, inl, inr, subst}
 use Rattle.std.proofs.lemmas.Bool.{false≢true}
-use Rattle.rpki.specs.Certificates.{CertFields}
-use Rattle.rpki.specs.GivenPaths.{PathStrings}
-use Rattle.rpki.specs.Judged.{Judged}
-use Rattle.rpki.specs.Verification.{Context, ResourceFields}
-use Rattle.rpki.specs.SaidKinds.{SaysAuthority}
+use Rattle.rpki_cert.specs.Certificates.{CertFields}
+use Rattle.rpki_path.specs.GivenPaths.{PathStrings}
+use Rattle.rpki_path.specs.declared.judging.Judged.{Judged}
+use Rattle.rpki_cert.specs.Verification.{Context, ResourceFields}
+use Rattle.rpki_cert.specs.SaidKinds.{SaysAuthority}
 use Rattle.rpki_verdicts.specs.PathAnswers.{AreSame, IsVerdictBy}
 use Rattle.rpki_verdicts.specs.PathFiles.{IsGivenBy}
 use Rattle.rpki_verdicts.specs.declared.path.Fault.{Fault}

@@ -1,10 +1,10 @@
 -- No octets are both a TBSCertList and a TBSCertificate.
 use Rattle.std.proofs.Common.{◌≡◌, ℕ, List, [], ◌∷◌, ◌++◌, sym, ap, ◌∙◌, arith}
-use Rattle.rpki.specs.Certificates.{TbsFields, IsTbsCertificate, tbs_content_format, version_format}
-use Rattle.rpki.specs.Lists.{IsTbsCertList, ListFields, list_content_format, list_format, version_2}
-use Rattle.rpki.specs.RevokedEntries.{Revoked}
-use Rattle.rpki.specs.Tags.{CONTEXT_CONSTRUCTED, INTEGER, SEQUENCE}
-use Rattle.rpki.specs.Values.{enc}
+use Rattle.rpki_cert.specs.Certificates.{TbsFields, IsTbsCertificate, tbs_content_format, version_format}
+use Rattle.rpki_crl.specs.Lists.{IsTbsCertList, ListFields, list_content_format, list_format, version_2}
+use Rattle.rpki_crl.specs.RevokedEntries.{Revoked}
+use Rattle.rpki_der.specs.Tags.{CONTEXT_CONSTRUCTED, INTEGER, SEQUENCE}
+use Rattle.rpki_der.specs.Values.{enc}
 use Rattle.rpki_der.proofs.Values.{enc_is_one, one_enc}
 
 -- the one begins with an INTEGER, the other with a tag of its own

@@ -1,12 +1,12 @@
 -- The fields that a request asks for, and what is completed, are one.
 use Rattle.std.specs.Prelude.{Option, Some, None}
 use Rattle.std.proofs.Common.{◌≡◌, ℕ, Bool, List, sym, ap, subst, ◌∙◌}
-use Rattle.rpki.specs.Certificates.{TbsFields}
-use Rattle.rpki.specs.Keys.{KeyFields}
-use Rattle.rpki.specs.Kind.{Kind}
-use Rattle.rpki.specs.Names.{IsName}
-use Rattle.rpki.specs.Times.{Moment}
-use Rattle.rpki.specs.Verification.{ResourceFields}
+use Rattle.rpki_cert.specs.Certificates.{TbsFields}
+use Rattle.rpki_parts.specs.Keys.{KeyFields}
+use Rattle.rpki_cert.specs.declared.inspect.Kind.{Kind}
+use Rattle.rpki_parts.specs.Names.{IsName}
+use Rattle.rpki_der.specs.Times.{Moment}
+use Rattle.rpki_cert.specs.Verification.{ResourceFields}
 use Rattle.rpki_issuing.specs.OnlyValues.{IsOnly}
 use Rattle.rpki_cert.proofs.SaidOnce.{says_one}
 use Rattle.rpki_issuing.specs.AskedFields.{fields_asked, subject_asked}

@@ -2,18 +2,18 @@
 -- its numbers.
 use Rattle.std.specs.Prelude.{option_map}
 use Rattle.std.proofs.Common.{◌≡◌, ℕ, Bool, List, [], ◌∷◌, Bor, Option, Some, None, refl, sym, ap, subst, ◌∙◌}
-use Rattle.rpki.specs.Certificates.{TbsFields, CertFields, encoding}
-use Rattle.rpki.specs.Kind.{Kind}
-use Rattle.rpki.specs.Readiness.{IsReady, but_signature, unsigned}
-use Rattle.rpki.specs.Role.{Role}
-use Rattle.rpki.specs.Role.TheVariants.{Anchor, Authority, EndEntity, Detached, Router}
-use Rattle.rpki.specs.Roles.{kind_of, signing_key}
-use Rattle.rpki.specs.RsaSignatures.{IsSignedByRsa}
-use Rattle.rpki.specs.Keys.{KeyFields}
-use Rattle.rpki.specs.Times.{Moment}
-use Rattle.rpki.specs.Verification.{Check, CheckUnder, Context, IsVerified, ResourceFields, held_by, issued_checks, router_checks}
-use Rattle.rpki.specs.VerificationError.{VerificationError}
-use Rattle.rpki.specs.VerificationError.TheVariants.{NotYetValid, Expired, InheritedV4, InheritedV6, InheritedAs, MissingKeyId, WrongKeyId, MissingIssuerUri, BadSignature, OverclaimV4, OverclaimV6, OverclaimAs, Memory}
+use Rattle.rpki_cert.specs.Certificates.{TbsFields, CertFields, encoding}
+use Rattle.rpki_cert.specs.declared.inspect.Kind.{Kind}
+use Rattle.rpki_issuing.specs.Readiness.{IsReady, but_signature, unsigned}
+use Rattle.rpki_issuing.specs.declared.role.Role.{Role}
+use Rattle.rpki_issuing.specs.declared.role.Role.TheVariants.{Anchor, Authority, EndEntity, Detached, Router}
+use Rattle.rpki_issuing.specs.Roles.{kind_of, signing_key}
+use Rattle.rpki_keys.specs.RsaSignatures.{IsSignedByRsa}
+use Rattle.rpki_parts.specs.Keys.{KeyFields}
+use Rattle.rpki_der.specs.Times.{Moment}
+use Rattle.rpki_cert.specs.Verification.{Check, CheckUnder, Context, IsVerified, ResourceFields, held_by, issued_checks, router_checks}
+use Rattle.rpki_cert.specs.declared.verification_error.VerificationError.{VerificationError}
+use Rattle.rpki_cert.specs.declared.verification_error.VerificationError.TheVariants.{NotYetValid, Expired, InheritedV4, InheritedV6, InheritedAs, MissingKeyId, WrongKeyId, MissingIssuerUri, BadSignature, OverclaimV4, OverclaimV6, OverclaimAs, Memory}
 use Rattle.rpki_verdicts.specs.PathAnswers.{HoldSame}
 use Rattle.rpki_issuing.specs.AskedFields.{fields_asked, issuer_name}
 use Rattle.rpki_issuing.specs.PreparedOctets.{IsCompleted, IsPrepared, issuer_in}

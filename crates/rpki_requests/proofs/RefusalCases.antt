@@ -1,9 +1,9 @@
 -- Refusals by cases: what is known of one says more of it.
 use Rattle.std.specs.Prelude.{Result, Ok, Err}
 use Rattle.std.proofs.Common.{◌≡◌, ◌≢◌, ◌⊎◌, inl, inr, ℕ, List, refl, sym, subst, ◌∙◌}
-use Rattle.rpki.specs.Certificates.{TbsFields}
-use Rattle.rpki.specs.Kind.{Kind}
-use Rattle.rpki.specs.Times.{Moment}
+use Rattle.rpki_cert.specs.Certificates.{TbsFields}
+use Rattle.rpki_cert.specs.declared.inspect.Kind.{Kind}
+use Rattle.rpki_der.specs.Times.{Moment}
 use Rattle.rpki_issuing.specs.declared.wanted.preparing.WantedError.{WantedError}
 use Rattle.rpki_requests.specs.RefusedErrands.{IsAskedListFault, IsFieldsFault, MayNotFollow}
 use Rattle.rpki_requests.specs.Refusals.{AnswersOnly, AnswersOnlyBy, IsPathless}

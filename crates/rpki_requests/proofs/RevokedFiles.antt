@@ -4,13 +4,13 @@ use Rattle.std.specs.declared.vec.Vec.{Vec}
 use Rattle.std.specs.List.{AllZip}
 use Rattle.std.proofs.Common.{◌≡◌, ◌≤◌, ◌⊎◌, inl, inr, ℕ, List, [], ◌∷◌, ◌++◌, length, refl, sym, ap, subst, ◌∙◌, arith}
 use Rattle.std.proofs.lemmas.Simd.{map-map}
-use Rattle.rpki.specs.Certificates.{TbsFields, CertFields, IsCertificate}
-use Rattle.rpki.specs.Lists.{CrlFields, IsCertificateList}
-use Rattle.rpki.specs.RevokedEntries.{Entry}
-use Rattle.rpki.specs.RevokedEntries.Views.{entry_of}
+use Rattle.rpki_cert.specs.Certificates.{TbsFields, CertFields, IsCertificate}
+use Rattle.rpki_crl.specs.Lists.{CrlFields, IsCertificateList}
+use Rattle.rpki_crl.specs.RevokedEntries.{Entry}
+use Rattle.rpki_crl.specs.RevokedEntries.Views.{entry_of}
 use Rattle.rpki_crl.specs.declared.entry.CrlEntry.{CrlEntry}
-use Rattle.rpki.specs.Times.{Moment}
-use Rattle.rpki.specs.Values.{IsUnambiguous}
+use Rattle.rpki_der.specs.Times.{Moment}
+use Rattle.rpki_der.specs.Values.{IsUnambiguous}
 use Rattle.rpki_issuing.specs.OnlyValues.{IsOnly}
 use Rattle.rpki_issuing.specs.ValueTexts.{IsSerialText}
 use Rattle.rpki_requests.specs.OptionValues.{GivesEntries, GivesList, IsMomentSaid, SaysAtMostOnce, SaysOnce, given_alone, revoked_at}

@@ -1,16 +1,16 @@
 -- What a request gives: the octets that are to be signed, or a certificate or a revocation list
 -- (own).
 use Rattle.std.specs.Prelude.{◌≡◌, ℕ, List, [], ◌∷◌, option_map, Option, Some}
-use Rattle.rpki.specs.Certificates.{TbsFields}
-use Rattle.rpki.specs.Keys.{KeyFields}
-use Rattle.rpki.specs.Kind.{Kind}
-use Rattle.rpki.specs.Kind.TheVariants as kind
-use Rattle.rpki.specs.Lists.{CrlFields, IsTbsCertList, ListFields}
-use Rattle.rpki.specs.Names.{IsName}
-use Rattle.rpki.specs.RevokedEntries.{Revoked}
-use Rattle.rpki.specs.RsaSignatures.{IsSignedByRsa}
-use Rattle.rpki.specs.Times.{Moment}
-use Rattle.rpki.specs.Verification.{Context, ResourceFields, context}
+use Rattle.rpki_cert.specs.Certificates.{TbsFields}
+use Rattle.rpki_parts.specs.Keys.{KeyFields}
+use Rattle.rpki_cert.specs.declared.inspect.Kind.{Kind}
+use Rattle.rpki_cert.specs.declared.inspect.Kind.TheVariants as kind
+use Rattle.rpki_crl.specs.Lists.{CrlFields, IsTbsCertList, ListFields}
+use Rattle.rpki_parts.specs.Names.{IsName}
+use Rattle.rpki_crl.specs.RevokedEntries.{Revoked}
+use Rattle.rpki_keys.specs.RsaSignatures.{IsSignedByRsa}
+use Rattle.rpki_der.specs.Times.{Moment}
+use Rattle.rpki_cert.specs.Verification.{Context, ResourceFields, context}
 use Rattle.rpki_issuing.specs.AskedFields.{fields_asked, subject_asked}
 use Rattle.rpki_issuing.specs.Issuers.{IsNamed, fields_above}
 use Rattle.rpki_issuing.specs.PreparedOctets.{IsCompleted, IsPrepared, IsToSign}

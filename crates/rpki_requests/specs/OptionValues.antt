@@ -2,9 +2,9 @@
 -- moment (own).
 use Rattle.std.specs.List.{AllZip}
 use Rattle.std.specs.Prelude.{◌≡◌, ℕ, List, [], ◌∷◌, ◌++◌, map, Option, Some, None}
-use Rattle.rpki.specs.Certificates.{TbsFields}
-use Rattle.rpki.specs.RevokedEntries.{Entry}
-use Rattle.rpki.specs.Times.{Moment, IsMoment}
+use Rattle.rpki_cert.specs.Certificates.{TbsFields}
+use Rattle.rpki_crl.specs.RevokedEntries.{Entry}
+use Rattle.rpki_der.specs.Times.{Moment, IsMoment}
 use Rattle.rpki_text.specs.MomentTexts.{IsMomentText}
 use Rattle.rpki_issuing.specs.BlockTexts.{AreListed, IsAddressesText, IsAsText}
 use Rattle.rpki_issuing.specs.ValueTexts.{IsSerialText, IsRsyncText, IsHttpsText}

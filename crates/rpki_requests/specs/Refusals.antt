@@ -1,17 +1,17 @@
 -- Why a request gives nothing, and what is said of it (own).
 use Rattle.std.specs.Prelude.{◌≢◌, ℕ, List, ◌++◌, Result, Ok, Err, codes}
 use Rattle.std.specs.Fmt.{decimal}
-use Rattle.rpki.specs.Inspection.{inspection_error_name}
-use Rattle.rpki.specs.IssuingError.{IssuingError}
-use Rattle.rpki.specs.IssuingError.TheVariants as issuing
-use Rattle.rpki.specs.ListError.{ListError}
-use Rattle.rpki.specs.ListError.TheVariants as listing
-use Rattle.rpki.specs.NextListError.{NextListError}
-use Rattle.rpki.specs.NextListError.TheVariants as next
-use Rattle.rpki.specs.Revocation.{revocation_error_name}
-use Rattle.rpki.specs.Judged.{Judged}
-use Rattle.rpki.specs.ValidationError.TheVariants.{Inspection, Verification}
-use Rattle.rpki.specs.Verification.{Context, verification_error_name}
+use Rattle.rpki_ext.specs.Inspection.{inspection_error_name}
+use Rattle.rpki_issuing.specs.declared.issuing_error.IssuingError.{IssuingError}
+use Rattle.rpki_issuing.specs.declared.issuing_error.IssuingError.TheVariants as issuing
+use Rattle.rpki_issuing.specs.declared.list_error.ListError.{ListError}
+use Rattle.rpki_issuing.specs.declared.list_error.ListError.TheVariants as listing
+use Rattle.rpki_issuing.specs.declared.next.NextListError.{NextListError}
+use Rattle.rpki_issuing.specs.declared.next.NextListError.TheVariants as next
+use Rattle.rpki_crl.specs.Revocation.{revocation_error_name}
+use Rattle.rpki_path.specs.declared.judging.Judged.{Judged}
+use Rattle.rpki_cert.specs.declared.validation_error.ValidationError.TheVariants.{Inspection, Verification}
+use Rattle.rpki_cert.specs.Verification.{Context, verification_error_name}
 use Rattle.rpki_files.specs.FaultRules.{RuleFields, inspection_rule, key_rule, name_rule, revocation_rule, rule_of, verification_rule}
 use Rattle.rpki_issuing.specs.OnlyValues.{IsOnly}
 use Rattle.rpki_verdicts.specs.PathAnswers.{IsVerdictBy}

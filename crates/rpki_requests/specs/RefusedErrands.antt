@@ -1,14 +1,14 @@
 -- What a refusal says of a request, errand by errand, and that it is so (own).
 use Rattle.std.specs.Prelude.{◌≡◌, ◌⊎◌, ℕ, List, [], ◌∷◌, option_map, Option, Some, None}
-use Rattle.rpki.specs.Certificates.{TbsFields}
-use Rattle.rpki.specs.Keys.{KeyFields}
-use Rattle.rpki.specs.Kind.{Kind}
-use Rattle.rpki.specs.Kind.TheVariants as kind
-use Rattle.rpki.specs.Lists.{CrlFields, IsTbsCertList, ListFields}
-use Rattle.rpki.specs.Names.{IsName}
-use Rattle.rpki.specs.RevokedEntries.{Revoked}
-use Rattle.rpki.specs.Times.{Moment}
-use Rattle.rpki.specs.Verification.{ResourceFields}
+use Rattle.rpki_cert.specs.Certificates.{TbsFields}
+use Rattle.rpki_parts.specs.Keys.{KeyFields}
+use Rattle.rpki_cert.specs.declared.inspect.Kind.{Kind}
+use Rattle.rpki_cert.specs.declared.inspect.Kind.TheVariants as kind
+use Rattle.rpki_crl.specs.Lists.{CrlFields, IsTbsCertList, ListFields}
+use Rattle.rpki_parts.specs.Names.{IsName}
+use Rattle.rpki_crl.specs.RevokedEntries.{Revoked}
+use Rattle.rpki_der.specs.Times.{Moment}
+use Rattle.rpki_cert.specs.Verification.{ResourceFields}
 use Rattle.rpki_issuing.specs.AskedFields.{subject_asked}
 use Rattle.rpki_issuing.specs.Issuers.{IsNamed}
 use Rattle.rpki_issuing.specs.PreparedOctets.{IsToSign, IsUncompleted, IsUnprepared}

@@ -1,16 +1,16 @@
 -- What the files of a request are: the issuer's path, the subject's key, the issuer's list before,
 -- what is revoked, what is completed (own).
 use Rattle.std.specs.Prelude.{◌≡◌, ◌⊎◌, ◌<◌, ℕ, All, List, [], ◌∷◌, true, get_or, length, IsSome, Option, Some, None}
-use Rattle.rpki.specs.Certificates.{TbsFields, CertFields, IsCertificate}
-use Rattle.rpki.specs.Judged.{Judged}
-use Rattle.rpki.specs.KeyForms.{IsUsableKey}
-use Rattle.rpki.specs.Keys.{KeyFields, IsPublicKey}
-use Rattle.rpki.specs.Kind.{Kind}
-use Rattle.rpki.specs.Kind.TheVariants.{Anchor}
-use Rattle.rpki.specs.Lists.{CrlFields, IsCertificateList}
-use Rattle.rpki.specs.Verification.{Context, ResourceFields}
+use Rattle.rpki_cert.specs.Certificates.{TbsFields, CertFields, IsCertificate}
+use Rattle.rpki_path.specs.declared.judging.Judged.{Judged}
+use Rattle.rpki_keys.specs.KeyForms.{IsUsableKey}
+use Rattle.rpki_parts.specs.Keys.{KeyFields, IsPublicKey}
+use Rattle.rpki_cert.specs.declared.inspect.Kind.{Kind}
+use Rattle.rpki_cert.specs.declared.inspect.Kind.TheVariants.{Anchor}
+use Rattle.rpki_crl.specs.Lists.{CrlFields, IsCertificateList}
+use Rattle.rpki_cert.specs.Verification.{Context, ResourceFields}
 use Rattle.rpki_files.specs.Contents.{IsList}
-use Rattle.rpki.specs.SaidKinds.{SaysAuthority, SaysKind}
+use Rattle.rpki_cert.specs.SaidKinds.{SaysAuthority, SaysKind}
 use Rattle.rpki_verdicts.specs.PathFiles.{Demands}
 use Rattle.rpki_verdicts.specs.PathAnswers.{HoldSame, IsVerdictBy}
 use Rattle.rpki_verdicts.specs.declared.path.Verdict.TheVariants.{Accepted}

@@ -2,12 +2,12 @@
 -- completed, and that it is so (own).
 use Rattle.std.specs.List.{AllZip}
 use Rattle.std.specs.Prelude.{◌≡◌, ◌⊎◌, ◌<◌, ℕ, List, [], ◌∷◌, get_or, length, take, Option}
-use Rattle.rpki.specs.Certificates.{TbsFields, IsTbsCertificate}
-use Rattle.rpki.specs.KeyForms.{IsUsableKey}
-use Rattle.rpki.specs.Keys.{KeyFields, IsPublicKey}
-use Rattle.rpki.specs.Lists.{CrlFields}
-use Rattle.rpki.specs.Resources.{Resources}
-use Rattle.rpki.specs.Times.{Moment}
+use Rattle.rpki_cert.specs.Certificates.{TbsFields, IsTbsCertificate}
+use Rattle.rpki_keys.specs.KeyForms.{IsUsableKey}
+use Rattle.rpki_parts.specs.Keys.{KeyFields, IsPublicKey}
+use Rattle.rpki_crl.specs.Lists.{CrlFields}
+use Rattle.rpki_blocks.specs.Resources.{Resources}
+use Rattle.rpki_der.specs.Times.{Moment}
 use Rattle.rpki_issuing.specs.BlockTexts.{AreListed, IsAddressesText, IsAsText}
 use Rattle.rpki_issuing.specs.ValueTexts.{IsHttpsText, IsRsyncText, IsSerialText}
 use Rattle.rpki_issuing.specs.declared.values.families.Family.TheVariants.{V4, V6}

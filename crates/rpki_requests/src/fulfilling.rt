@@ -1,8 +1,8 @@
 //! What a request gives: the octets that are to be signed, or a certificate or a revocation list.
 ghost use Rattle.std.specs.Prelude.{◌≡◌, ◌≢◌, ◌⊎◌, ◌↔◌, ℕ, List, [], ◌∷◌, option_map, Option, IfErr, IfOk, IsTrue, MatchOption};
 ghost use Rattle.rpki_files.specs.Files.{contents};
-ghost use Rattle.rpki.specs.Lists.{IsTbsCertList};
-ghost use Rattle.rpki.specs.Verification.{ResourceFields};
+ghost use Rattle.rpki_crl.specs.Lists.{IsTbsCertList};
+ghost use Rattle.rpki_cert.specs.Verification.{ResourceFields};
 ghost use Rattle.rpki_requests.specs.Fulfilment.{AsksFields, Completes, CompletesAs, CompletesBelow, CompletesListBelow, Fulfils, GivesToSign, Prepares, PreparesBelow, PreparesList, PreparesListBelow, context_of};
 ghost use Rattle.rpki_requests.specs.RequestFiles.{IsCompletedAs, IsIssuerOf, IsOnlyIssuer};
 ghost use Rattle.rpki_requests.specs.RequestWords.Views.{asked_fields};
@@ -19,10 +19,9 @@ use crate::refusals::Refusal;
 use crate::values::{both, wanted};
 use crate::words::{Errand, Order};
 use bytes::Bytes;
-use rpki::laws;
-use rpki::repository::cert::{Kind, ResourceCert, TbsCert, said_kind};
-use rpki::repository::crl::{RevokedCertificates, TbsCertList};
-use rpki::repository::x509::Time;
+use rpki_cert::{Kind, ResourceCert, TbsCert, said_kind};
+use rpki_crl::{RevokedCertificates, TbsCertList, laws};
+use rpki_der::Time;
 use rpki_files::Object;
 use rpki_issuing::wanted::issuers::{above, is_named};
 use rpki_issuing::wanted::{
@@ -326,7 +325,7 @@ fn list_completed_below(
         IfErr result (IsMadeListFault asked at issuer prepared.now signature.now) }
 {
     // Called for what it ensures alone.
-    laws::lists::unambiguous();
+    laws::unambiguous();
     if !is_list_named(list, issuer) {
         return Err(Refusal::OtherName(1));
     }

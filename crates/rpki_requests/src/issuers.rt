@@ -1,20 +1,20 @@
 //! Who issues: the last of the CAs of a path.
 ghost use Rattle.std.specs.Prelude.{◌≡◌, ◌≢◌, All, Option, None, IfErr, IfOk, MatchOption};
-ghost use Rattle.rpki.specs.RsaSignatures.{IsSignedByRsa};
-ghost use Rattle.rpki.specs.Verification.{ResourceFields, context};
+ghost use Rattle.rpki_keys.specs.RsaSignatures.{IsSignedByRsa};
+ghost use Rattle.rpki_cert.specs.Verification.{ResourceFields, context};
 ghost use Rattle.rpki_files.specs.Contents.{IsList};
 ghost use Rattle.rpki_files.specs.Files.{contents};
-ghost use Rattle.rpki.specs.SaidKinds.{SaysAuthority};
+ghost use Rattle.rpki_cert.specs.SaidKinds.{SaysAuthority};
 ghost use Rattle.rpki_requests.specs.Refusals.{TellsPath};
 ghost use Rattle.rpki_requests.specs.RequestFiles.{IsIssuerOf, IsNoAuthority, IsNoListAt, IsOnlyIssuer, IsOnlyPathIssuer, IsPathIssuer};
 ghost use Rattle.rpki_requests.specs.ToldRefusals.{IsOfPath};
 ghost use Rattle.rpki_requests.specs.declared.refusals.Refusal.TheVariants.{Memory, NoAuthority};
 
 use crate::refusals::Refusal;
-use rpki::repository::cert::ResourceCert;
-use rpki::repository::path::Judged;
-use rpki::repository::x509::Time;
+use rpki_cert::ResourceCert;
+use rpki_der::Time;
 use rpki_files::Object;
+use rpki_path::Judged;
 use rpki_verdicts::{Question, Verdict, judge, one_acceptance, one_answer};
 use std::alloc::Global;
 

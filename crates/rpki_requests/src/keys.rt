@@ -1,8 +1,8 @@
 //! The keys of a request's files, which the RPKI uses: the subject's, and that of what is signed.
 ghost use Rattle.std.specs.Prelude.{◌≡◌, IfErr, IfOk};
-ghost use Rattle.rpki.specs.Certificates.{IsTbsCertificate};
-ghost use Rattle.rpki.specs.KeyForms.{IsUsableKey};
-ghost use Rattle.rpki.specs.Keys.{IsPublicKey};
+ghost use Rattle.rpki_cert.specs.Certificates.{IsTbsCertificate};
+ghost use Rattle.rpki_keys.specs.KeyForms.{IsUsableKey};
+ghost use Rattle.rpki_parts.specs.Keys.{IsPublicKey};
 ghost use Rattle.rpki_files.specs.Files.{contents};
 ghost use Rattle.rpki_requests.specs.Refusals.{AnswersOnly};
 ghost use Rattle.rpki_requests.specs.ToldRefusals.{IsDataFault, IsKeyFault, IsUnreadKey};
@@ -11,12 +11,11 @@ ghost use Rattle.rpki_issuing.specs.PreparedOctets.{IsToSign};
 
 use crate::refusals::Refusal;
 use bytes::Bytes;
-use rpki::crypto::PublicKey;
-use rpki::crypto::keys::is_usable;
-use rpki::der::Cursor;
-use rpki::laws;
-use rpki::repository::cert::TbsCert;
+use rpki_cert::{TbsCert, laws};
+use rpki_der::Cursor;
 use rpki_files::Object;
+use rpki_keys::is_usable;
+use rpki_parts::PublicKey;
 use std::alloc::Global;
 
 // The key, if the RPKI uses it.
@@ -67,7 +66,7 @@ pub(crate) fn subject_key(alloc: Global, files: &[Object<'_>]) -> Result<PublicK
 fn read_data(alloc: Global, octets: &Bytes) -> Result<TbsCert, Refusal>
     ensures { AnswersOnly (IsDataFault octets.now) (λ f. IsTbsCertificate f octets.now) result }
 {
-    laws::certificates::unambiguous();
+    laws::unambiguous();
     let mut cursor = Cursor::new(octets);
     match TbsCert::from_constructed(alloc, &mut cursor) {
         Ok(tbs) => {

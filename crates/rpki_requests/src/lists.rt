@@ -1,8 +1,8 @@
 //! The revocation list that options and files ask for, and the one that is completed.
 ghost use Rattle.std.specs.List.{AllZip};
 ghost use Rattle.std.specs.Prelude.{◌≡◌, ◌↔◌, ◌≤◌, ◌++◌, ◌∷◌, [], length, map, option_map, Some, IfErr, IfOk, IsTrue, MatchOption, OnOk};
-ghost use Rattle.rpki.specs.Certificates.{CertFields, IsCertificate};
-ghost use Rattle.rpki.specs.Lists.{CrlFields, IsCertificateList, IsTbsCertList};
+ghost use Rattle.rpki_cert.specs.Certificates.{CertFields, IsCertificate};
+ghost use Rattle.rpki_crl.specs.Lists.{CrlFields, IsCertificateList, IsTbsCertList};
 ghost use Rattle.rpki_files.specs.Files.{contents};
 ghost use Rattle.rpki_issuing.specs.OnlyValues.{Finds};
 ghost use Rattle.rpki_issuing.specs.ValueTexts.{IsSerialText};
@@ -15,19 +15,16 @@ ghost use Rattle.rpki_requests.specs.RequestWords.{values_of};
 ghost use Rattle.rpki_requests.specs.ToldRefusals.{IsOtherFile, IsOtherList, IsValueOf, IsWantedFault};
 ghost use Rattle.rpki_requests.specs.declared.refusals.Refusal.TheVariants.{OtherList};
 ghost use Rattle.rpki_requests.specs.RequestWords.Views.{asked_fields};
-ghost use Rattle.rpki.specs.RevokedEntries.Views.{entry_of};
+ghost use Rattle.rpki_crl.specs.RevokedEntries.Views.{entry_of};
 
 use crate::fulfilling::{Inputs, unfit};
 use crate::refusals::Refusal;
 use crate::values::{at_most_once, both, moment};
 use crate::words::{Order, Setting};
 use bytes::Bytes;
-use rpki::der::Cursor;
-use rpki::laws;
-use rpki::repository::Crl;
-use rpki::repository::cert::{Cert, ResourceCert, TbsCert};
-use rpki::repository::crl::{CrlEntry, RevokedCertificates, TbsCertList};
-use rpki::repository::x509::{Serial, Time};
+use rpki_cert::{Cert, ResourceCert, TbsCert};
+use rpki_crl::{Crl, CrlEntry, RevokedCertificates, TbsCertList};
+use rpki_der::{Cursor, Serial, Time};
 use rpki_files::Object;
 use rpki_issuing::values::Textual;
 use rpki_issuing::wanted::issuers::is_own;
@@ -40,7 +37,7 @@ fn whole_certificate<'f>(file: &'f Object<'_>) -> Option<&'f Cert>
         (λ cert. IsCertificate cert.now file.now.octets) }
 {
     // Called for what it ensures alone.
-    laws::certificates::unambiguous();
+    rpki_cert::laws::unambiguous();
     let Some((cert, left)) = file.certificate() else {
         return None;
     };
@@ -67,7 +64,7 @@ fn own_list<'f>(file: &'f Object<'_>, issuer: &ResourceCert, strict: bool) -> Op
         (option_map (λ list. list.now.list) result) }
 {
     // Called for what it ensures alone.
-    laws::lists::unambiguous();
+    rpki_crl::laws::unambiguous();
     let Some(list) = file.whole_list() else {
         return None;
     };
@@ -112,7 +109,7 @@ fn serial_of(file: &Object<'_>, issuer: &TbsCert) -> Option<Serial>
     ensures { Finds (λ serial. IsRevokedFile issuer.now serial file.now.octets) result }
 {
     // Called for what it ensures alone.
-    laws::certificates::unambiguous();
+    rpki_cert::laws::unambiguous();
     let Some(cert) = whole_certificate(file) else {
         return None;
     };
@@ -292,7 +289,7 @@ pub(crate) fn list_to_sign(
     ensures { IfOk result (λ found. Finds (λ f. IsTbsCertList f octets.now) found) }
 {
     // Called for what it ensures alone.
-    laws::lists::unambiguous();
+    rpki_crl::laws::unambiguous();
     let mut cursor = Cursor::new(octets);
     match TbsCertList::take_from(alloc, &mut cursor) {
         Ok(list) => {

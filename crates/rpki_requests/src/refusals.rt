@@ -6,11 +6,11 @@ ghost use Rattle.rpki_requests.specs.Refusals.{fault_text, issuing_text, list_te
 ghost use Rattle.rpki_requests.specs.declared.refusals.Refusal.TheVariants.{Memory};
 
 use crate::words::Setting;
-use rpki::crypto::PublicKeyFormat;
-use rpki::repository::error::ValidationError;
-use rpki::repository::issuing::{IssuingError, ListError, NextListError};
+use rpki_cert::ValidationError;
 use rpki_files::rules::{Rule, of_inspection, of_key, of_name, of_revocation, of_verification};
 use rpki_issuing::wanted::WantedError;
+use rpki_issuing::{IssuingError, ListError, NextListError};
+use rpki_parts::PublicKeyFormat;
 use rpki_verdicts::Fault;
 use std::alloc::AllocError;
 use std::fmt;

@@ -10,11 +10,11 @@ ghost use Rattle.rpki_requests.specs.declared.refusals.Refusal.TheVariants.{Memo
 
 use crate::refusals::Refusal;
 use crate::words::{Order, Setting};
-use rpki::repository::resources::{Bound, Resources};
-use rpki::repository::x509::{Serial, Time};
-use rpki::uri::{Https, Rsync};
+use rpki_blocks::{Bound, Resources};
+use rpki_der::{Serial, Time};
 use rpki_issuing::values::{AsTexts, BlockText, Textual, V4Texts, V6Texts, listed};
 use rpki_issuing::wanted::{Numbers, Places, Wanted};
+use rpki_parts::{Https, Rsync};
 use rpki_text::moments;
 use std::alloc::Global;
 

@@ -3,8 +3,8 @@
 use Rattle.std.specs.Prelude.{Result, Ok, Err, OnOk}
 use Rattle.std.proofs.Common.{◌≡◌, ℕ, List, [], ◌∷◌, ◌++◌, true, refl, sym, ap, subst, inl, inr, ◌∙◌}
 use Rattle.std.proofs.lemmas.List.{map-append}
-use Rattle.rpki.specs.Folders.{FolderFields, with_cert, with_list}
-use Rattle.rpki.specs.Lists.{CrlFields, CrlState, IsCertificateList}
+use Rattle.rpki_folder.specs.Folders.{FolderFields, with_cert, with_list}
+use Rattle.rpki_crl.specs.Lists.{CrlFields, CrlState, IsCertificateList}
 use Rattle.rpki_files.specs.Contents.{BeginsWithCertificate, IsList}
 use Rattle.rpki_files.specs.Files.{FileFields, contents}
 use Rattle.rpki_verdicts.specs.PathFiles.{AreListsOf}

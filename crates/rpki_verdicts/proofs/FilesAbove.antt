@@ -2,11 +2,11 @@
 use Rattle.std.specs.Prelude.{Option, Some, None, MatchOption, slice_get}
 use Rattle.std.proofs.Common.{◌≡◌, ◌≢◌, ◌+◌, ◌↔◌, ℕ, true, false, List, [], ◌∷◌, ◌++◌, sym, ap, subst, ◌∙◌, inl, inr, append_assoc}
 use Rattle.std.proofs.lemmas.List.{append-nil}
-use Rattle.rpki.specs.Certificates.{CertFields, IsCertificate}
-use Rattle.rpki.specs.Folders.{NamesSigner}
-use Rattle.rpki.specs.SaidKinds.{BeginsWithSaid}
-use Rattle.rpki.specs.Said.{Said}
-use Rattle.rpki.specs.Values.{IsUnambiguous}
+use Rattle.rpki_cert.specs.Certificates.{CertFields, IsCertificate}
+use Rattle.rpki_folder.specs.Folders.{NamesSigner}
+use Rattle.rpki_cert.specs.SaidKinds.{BeginsWithSaid}
+use Rattle.rpki_cert.specs.declared.saying.Said.{Said}
+use Rattle.rpki_der.specs.Values.{IsUnambiguous}
 use Rattle.rpki_der.proofs.Formats.{one_meant}
 use Rattle.rpki_files.specs.Files.{FileFields}
 use Rattle.rpki_verdicts.specs.Searches.{AreAbove, no_more, no_issuer, accepted, at_top, named, HasKeyNamed, HasNoIssuer, HaveNoneKeyed, IsFirstKeyed, IsIssuerAt, above_by, files_at}

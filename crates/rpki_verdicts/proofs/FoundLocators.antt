@@ -2,12 +2,12 @@
 use Rattle.std.specs.Prelude.{All, IsOkAnd, Option, Some, None, is_none, Result, Ok, Err}
 use Rattle.std.proofs.Common.{◌≡◌, ◌≢◌, ◌↔◌, ℕ, Bool, true, false, List, [], ◌∷◌, length, refl, sym, ap, ◌∙◌}
 use Rattle.std.proofs.lemmas.Bool.{true≢false, false≢true}
-use Rattle.rpki.specs.Certificates.{CertFields, IsCertificate}
-use Rattle.rpki.specs.Encoding.{Means}
-use Rattle.rpki.specs.LocatedPaths.{IsLocatorOf}
-use Rattle.rpki.specs.Locators.{IsLocator, NamedTal, TalFields}
-use Rattle.rpki.specs.TalError.{TalError}
-use Rattle.rpki.specs.Values.{IsUnambiguous}
+use Rattle.rpki_cert.specs.Certificates.{CertFields, IsCertificate}
+use Rattle.rpki_der.specs.Encoding.{Means}
+use Rattle.rpki_path.specs.LocatedPaths.{IsLocatorOf}
+use Rattle.rpki_keys.specs.Locators.{IsLocator, NamedTal, TalFields}
+use Rattle.rpki_keys.specs.declared.tal.tal_error.TalError.{TalError}
+use Rattle.rpki_der.specs.Values.{IsUnambiguous}
 use Rattle.rpki_files.specs.Contents.{BeginsWithCertificate}
 use Rattle.rpki_files.specs.Files.{FileFields}
 use Rattle.rpki_der.proofs.Formats.{one_meant}

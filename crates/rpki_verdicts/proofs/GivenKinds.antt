@@ -2,15 +2,15 @@
 use Rattle.std.specs.Prelude.{Option, Some, None, Result, Ok, Err, IfOk, MatchOption}
 use Rattle.std.proofs.Common.{◌≡◌, ◌≢◌, ◌+◌, ◌≤◌, ℕ, List, [], ◌∷◌, ◌++◌, length, refl, sym, ap, subst, ◌∙◌, inl, inr, arith}
 use Rattle.std.proofs.lemmas.List.{length-append, length-map, map-append, same_from_push}
-use Rattle.rpki.specs.AskedLists.{by_lists}
-use Rattle.rpki.specs.GivenPaths.{PathStrings, CanEndIn, IsSplitAs, path_to}
-use Rattle.rpki.specs.Kind.{Kind}
-use Rattle.rpki.specs.Kind.TheVariants.{Anchor, Authority, EndEntity, Detached, Router}
-use Rattle.rpki.specs.Lists.{CrlState}
-use Rattle.rpki.specs.PathFault.{PathFault}
-use Rattle.rpki.specs.PathFault.TheVariants.{Decode, Inspect, Verify, Revocation, Memory}
-use Rattle.rpki.specs.Paths.{UnlessMemory}
-use Rattle.rpki.specs.Verification.{Context}
+use Rattle.rpki_path.specs.AskedLists.{by_lists}
+use Rattle.rpki_path.specs.GivenPaths.{PathStrings, CanEndIn, IsSplitAs, path_to}
+use Rattle.rpki_cert.specs.declared.inspect.Kind.{Kind}
+use Rattle.rpki_cert.specs.declared.inspect.Kind.TheVariants.{Anchor, Authority, EndEntity, Detached, Router}
+use Rattle.rpki_crl.specs.Lists.{CrlState}
+use Rattle.rpki_path.specs.declared.path_fault.PathFault.{PathFault}
+use Rattle.rpki_path.specs.declared.path_fault.PathFault.TheVariants.{Decode, Inspect, Verify, Revocation, Memory}
+use Rattle.rpki_path.specs.Paths.{UnlessMemory}
+use Rattle.rpki_cert.specs.Verification.{Context}
 use Rattle.rpki_files.specs.Files.{FileFields, contents}
 use Rattle.rpki_verdicts.specs.PathFiles.{IsJudgedAs, Demands, IsGivenBy, AreListsOf}
 use Rattle.rpki_verdicts.specs.PathAnswers.{IsPathVerdict, IsVerdictBy}

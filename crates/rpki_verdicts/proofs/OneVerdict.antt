@@ -2,19 +2,19 @@
 use Rattle.std.specs.Prelude.{Option, Some, None}
 use Rattle.std.proofs.Common.{◌≡◌, ◌+◌, ◌++◌, ◌∷◌, [], ℕ, List, length, inl, inr, refl, sym, ap, subst, ◌∙◌, arith}
 use Rattle.std.proofs.lemmas.List.{same_from_push, length-append}
-use Rattle.rpki.specs.Asking.{RevocationChecks, nobody}
-use Rattle.rpki.specs.AskedLists.{by_lists}
-use Rattle.rpki.specs.Certificates.{CertFields, IsCertificate}
-use Rattle.rpki.specs.GivenPaths.{PathStrings, path_to, anchor_alone}
-use Rattle.rpki.specs.Judged.{Judged}
-use Rattle.rpki.specs.Judging.{IsAcceptedWith, IsRouterIfAny}
-use Rattle.rpki.specs.KeyForms.{IsUsableKey}
-use Rattle.rpki.specs.Kind.{Kind}
-use Rattle.rpki.specs.Lists.{CrlFields, CrlState, IsCertificateList}
-use Rattle.rpki.specs.NameChains.{strings_below}
-use Rattle.rpki.specs.Paths.{Path, Candidate, HasHeld, IsAccepted, certificate_at, last}
-use Rattle.rpki.specs.Values.{IsUnambiguous}
-use Rattle.rpki.specs.Verification.{Context, ResourceFields}
+use Rattle.rpki_path.specs.Asking.{RevocationChecks, nobody}
+use Rattle.rpki_path.specs.AskedLists.{by_lists}
+use Rattle.rpki_cert.specs.Certificates.{CertFields, IsCertificate}
+use Rattle.rpki_path.specs.GivenPaths.{PathStrings, path_to, anchor_alone}
+use Rattle.rpki_path.specs.declared.judging.Judged.{Judged}
+use Rattle.rpki_path.specs.Judging.{IsAcceptedWith, IsRouterIfAny}
+use Rattle.rpki_keys.specs.KeyForms.{IsUsableKey}
+use Rattle.rpki_cert.specs.declared.inspect.Kind.{Kind}
+use Rattle.rpki_crl.specs.Lists.{CrlFields, CrlState, IsCertificateList}
+use Rattle.rpki_path.specs.NameChains.{strings_below}
+use Rattle.rpki_path.specs.Paths.{Path, Candidate, HasHeld, IsAccepted, certificate_at, last}
+use Rattle.rpki_der.specs.Values.{IsUnambiguous}
+use Rattle.rpki_cert.specs.Verification.{Context, ResourceFields}
 use Rattle.rpki_cert.proofs.SaidOnce.{begins_one}
 use Rattle.rpki_der.proofs.Formats.{one_meant}
 use Rattle.rpki_path.proofs.Rejections as paths

@@ -5,25 +5,25 @@ use Rattle.std.proofs.Common.{◌≡◌, ℕ, zero, suc, List, [], ◌∷◌, �
 use Rattle.std.specs.Option.{option_map}
 use Rattle.std.proofs.lemmas.List.{append-nil, map-append}
 use Rattle.std.proofs.lemmas.Option.{slice_get-map, get_or_from_slice_get}
-use Rattle.rpki.specs.Asking.{RevocationChecks}
-use Rattle.rpki.specs.Certificates.{CertFields, IsCertificate}
-use Rattle.rpki.specs.Encoding.{Means}
-use Rattle.rpki.specs.Folders.{octets_at, cas_at}
-use Rattle.rpki.specs.GivenPaths.{path_to}
-use Rattle.rpki.specs.Judged.{Judged}
-use Rattle.rpki.specs.Judging.{IsAcceptedWith, IsRouterIfAny}
-use Rattle.rpki.specs.Kind.{Kind}
-use Rattle.rpki.specs.Kind.TheVariants.{Anchor, Authority, EndEntity, Detached, Router}
-use Rattle.rpki.specs.LocatedPaths.{IsAcceptedFrom}
-use Rattle.rpki.specs.Locators.{NamedTal}
-use Rattle.rpki.specs.Paths.{Candidate, candidate, Member, IsAccepted, IsMember}
-use Rattle.rpki.specs.SignedDatas.{signed_data}
-use Rattle.rpki.specs.Values.{enc}
-use Rattle.rpki.specs.Verification.{Context, ResourceFields}
-use Rattle.rpki.specs.Walks.{IsAcceptedAs, IsReached, LeadsTo, at_anchor}
+use Rattle.rpki_path.specs.Asking.{RevocationChecks}
+use Rattle.rpki_cert.specs.Certificates.{CertFields, IsCertificate}
+use Rattle.rpki_der.specs.Encoding.{Means}
+use Rattle.rpki_folder.specs.Folders.{octets_at, cas_at}
+use Rattle.rpki_path.specs.GivenPaths.{path_to}
+use Rattle.rpki_path.specs.declared.judging.Judged.{Judged}
+use Rattle.rpki_path.specs.Judging.{IsAcceptedWith, IsRouterIfAny}
+use Rattle.rpki_cert.specs.declared.inspect.Kind.{Kind}
+use Rattle.rpki_cert.specs.declared.inspect.Kind.TheVariants.{Anchor, Authority, EndEntity, Detached, Router}
+use Rattle.rpki_path.specs.LocatedPaths.{IsAcceptedFrom}
+use Rattle.rpki_keys.specs.Locators.{NamedTal}
+use Rattle.rpki_path.specs.Paths.{Candidate, candidate, Member, IsAccepted, IsMember}
+use Rattle.rpki_parts.specs.SignedDatas.{signed_data}
+use Rattle.rpki_der.specs.Values.{enc}
+use Rattle.rpki_cert.specs.Verification.{Context, ResourceFields}
+use Rattle.rpki_folder.specs.Walks.{IsAcceptedAs, IsReached, LeadsTo, at_anchor}
 use Rattle.rpki_cert.proofs.CertificateFormats.{certificate_is}
 use Rattle.rpki_files.specs.Files.{FileFields, contents}
-use Rattle.rpki.specs.SaidKinds.{BeginsWithKind}
+use Rattle.rpki_cert.specs.SaidKinds.{BeginsWithKind}
 use Rattle.rpki_verdicts.specs.Searches.{IsValidAmong, files_at}
 
 -- ---- places

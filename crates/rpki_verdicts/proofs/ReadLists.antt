@@ -1,7 +1,7 @@
 -- Files that are lists, one after the other.
 use Rattle.std.proofs.Common.{◌≡◌, ◌+◌, ◌<◌, ◌≤◌, ℕ, List, [], ◌∷◌, ◌++◌, length, take, get_or, true, refl, sym, ap, subst, inl, inr}
 use Rattle.std.proofs.lemmas.List.{take_all}
-use Rattle.rpki.specs.Lists.{CrlState, IsCertificateList}
+use Rattle.rpki_crl.specs.Lists.{CrlState, IsCertificateList}
 use Rattle.rpki_files.specs.Contents.{IsList}
 use Rattle.rpki_path.proofs.LatestLists.{gone_over}
 use Rattle.rpki_verdicts.specs.PathFiles.{AreListsOf}

@@ -4,8 +4,8 @@ use Rattle.std.specs.Prelude.{All, Some, Result, Ok, Err, slice_get}
 use Rattle.std.proofs.Common.{◌≡◌, ◌<◌, ◌≤◌, ℕ, Bool, List, [], length, sym, ap, subst, ◌∙◌, arith}
 use Rattle.std.proofs.lemmas.List.Elements.{All-get_or, All-from_get_or}
 use Rattle.std.proofs.lemmas.Option.{slice_get-map, slice_get-get_or, slice_get_within, get_or_from_slice_get}
-use Rattle.rpki.specs.Locators.{NamedTal}
-use Rattle.rpki.specs.TalError.{TalError}
+use Rattle.rpki_keys.specs.Locators.{NamedTal}
+use Rattle.rpki_keys.specs.declared.tal.tal_error.TalError.{TalError}
 use Rattle.rpki_verdicts.specs.Reasons.{tal_reason}
 use Rattle.rpki_files.specs.Files.{FileFields}
 use Rattle.rpki_files.specs.LocatorFiles.{AreLocator, IsReadAs}

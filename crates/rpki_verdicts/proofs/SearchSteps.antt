@@ -5,21 +5,21 @@ use Rattle.std.proofs.Common.{◌≡◌, ◌<◌, ℕ, Bool, true, false, not, L
 use Rattle.std.proofs.lemmas.List.{append_assoc}
 use Rattle.std.proofs.lemmas.List.Elements.{All-from_recursion}
 use Rattle.std.proofs.lemmas.Option.{slice_get_within, get_or_from_slice_get}
-use Rattle.rpki.specs.AskedLists.{by_lists}
-use Rattle.rpki.specs.Asking.{RevocationChecks}
-use Rattle.rpki.specs.Ended.{Ended}
-use Rattle.rpki.specs.Ended.TheVariants.{Whole}
-use Rattle.rpki.specs.Kind.{Kind}
-use Rattle.rpki.specs.Paths.{Candidate}
-use Rattle.rpki.specs.SaidKinds.{BeginsWithKind}
-use Rattle.rpki.specs.Judged.{Judged}
-use Rattle.rpki.specs.KeptLines.{AreLines, IsLine, IsRejectedWithin}
-use Rattle.rpki.specs.Line.{Line}
-use Rattle.rpki.specs.Line.TheVariants as line
-use Rattle.rpki.specs.PathFault.{PathFault}
-use Rattle.rpki.specs.Verification.{Context}
-use Rattle.rpki.specs.Walks.{Root, AreAdmitted, IsAcceptedAs, IsReached, IsRight, IsRightOf, IsTold, Told, at_anchor, members_at}
-use Rattle.rpki.specs.Folders.{octets_at}
+use Rattle.rpki_path.specs.AskedLists.{by_lists}
+use Rattle.rpki_path.specs.Asking.{RevocationChecks}
+use Rattle.rpki_folder.specs.declared.bounds.Ended.{Ended}
+use Rattle.rpki_folder.specs.declared.bounds.Ended.TheVariants.{Whole}
+use Rattle.rpki_cert.specs.declared.inspect.Kind.{Kind}
+use Rattle.rpki_path.specs.Paths.{Candidate}
+use Rattle.rpki_cert.specs.SaidKinds.{BeginsWithKind}
+use Rattle.rpki_path.specs.declared.judging.Judged.{Judged}
+use Rattle.rpki_folder.specs.KeptLines.{AreLines, IsLine, IsRejectedWithin}
+use Rattle.rpki_folder.specs.declared.lines.Line.{Line}
+use Rattle.rpki_folder.specs.declared.lines.Line.TheVariants as line
+use Rattle.rpki_path.specs.declared.path_fault.PathFault.{PathFault}
+use Rattle.rpki_cert.specs.Verification.{Context}
+use Rattle.rpki_folder.specs.Walks.{Root, AreAdmitted, IsAcceptedAs, IsReached, IsRight, IsRightOf, IsTold, Told, at_anchor, members_at}
+use Rattle.rpki_folder.specs.Folders.{octets_at}
 use Rattle.rpki_files.specs.Contents.{BeginsWithCertificate}
 use Rattle.rpki_files.specs.Files.{FileFields, contents}
 use Rattle.rpki_verdicts.specs.Searches.{HasNoValidPath, IsNamedPath, IsSoughtPath, alone, below_wrong, valid, invalid, IsTreeWith, IsValidAmong, IsValidPathTo, Leads, StandsAlone, above_by, files_at}

@@ -3,12 +3,12 @@ use Rattle.std.specs.Option.{option_map}
 use Rattle.std.specs.Prelude.{Any, IfNone, IfSome, IsOkAnd, Option, Some, None, Result, slice_get}
 use Rattle.std.proofs.Common.{◌≡◌, ◌+◌, ◌≤◌, ℕ, List, length, map, sym, ap, subst, ◌∙◌, arith, below_more}
 use Rattle.std.proofs.lemmas.Option.{slice_get-map}
-use Rattle.rpki.specs.Certificates.{CertFields, IsCertificate}
-use Rattle.rpki.specs.Encoding.{Means}
-use Rattle.rpki.specs.Keys.{KeyFields}
-use Rattle.rpki.specs.Locators.{NamedTal}
-use Rattle.rpki.specs.TalError.{TalError}
-use Rattle.rpki.specs.Values.{IsUnambiguous}
+use Rattle.rpki_cert.specs.Certificates.{CertFields, IsCertificate}
+use Rattle.rpki_der.specs.Encoding.{Means}
+use Rattle.rpki_parts.specs.Keys.{KeyFields}
+use Rattle.rpki_keys.specs.Locators.{NamedTal}
+use Rattle.rpki_keys.specs.declared.tal.tal_error.TalError.{TalError}
+use Rattle.rpki_der.specs.Values.{IsUnambiguous}
 use Rattle.rpki_der.proofs.Formats.{one_meant}
 use Rattle.rpki_files.specs.Files.{FileFields}
 use Rattle.rpki_verdicts.specs.GivenLocators.{LocatorFields, HasKeyRead, HasTalRead}

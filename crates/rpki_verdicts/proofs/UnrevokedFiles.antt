@@ -3,19 +3,19 @@ use Rattle.std.specs.Prelude.{Any, Option, Some, None}
 use Rattle.std.specs.List.{AllZip}
 use Rattle.std.proofs.Common.{◌≡◌, ◌+◌, ◌<◌, ℕ, zero, suc, List, [], ◌∷◌, ◌++◌, length, map, get_or, refl, sym, ap, subst, ◌∙◌, inl, inr, arith}
 use Rattle.std.proofs.lemmas.Slice.Zip.{all_zipped_more}
-use Rattle.rpki.specs.Asking.{RevocationChecks, IsUnrevokedBy}
-use Rattle.rpki.specs.AskedLists.{LeavesUnrevoked, by_lists}
-use Rattle.rpki.specs.Encoding.{Means}
-use Rattle.rpki.specs.Certificates.{CertFields, IsCertificate}
-use Rattle.rpki.specs.GivenPaths.{PathStrings, path_to}
-use Rattle.rpki.specs.Judged.{Judged}
-use Rattle.rpki.specs.Judging.{IsAcceptedWith, IsRouterIfAny}
-use Rattle.rpki.specs.Kind.{Kind}
-use Rattle.rpki.specs.Kind.TheVariants.{Anchor, Authority, EndEntity, Detached, Router}
-use Rattle.rpki.specs.Lists.{CrlState, IsCertificateList}
-use Rattle.rpki.specs.Paths.{Member, Path, Candidate, candidate, IsMember, IsValidPath, IsAccepted}
-use Rattle.rpki.specs.Routers.{IsRouterUnder}
-use Rattle.rpki.specs.Verification.{Context, ResourceFields}
+use Rattle.rpki_path.specs.Asking.{RevocationChecks, IsUnrevokedBy}
+use Rattle.rpki_path.specs.AskedLists.{LeavesUnrevoked, by_lists}
+use Rattle.rpki_der.specs.Encoding.{Means}
+use Rattle.rpki_cert.specs.Certificates.{CertFields, IsCertificate}
+use Rattle.rpki_path.specs.GivenPaths.{PathStrings, path_to}
+use Rattle.rpki_path.specs.declared.judging.Judged.{Judged}
+use Rattle.rpki_path.specs.Judging.{IsAcceptedWith, IsRouterIfAny}
+use Rattle.rpki_cert.specs.declared.inspect.Kind.{Kind}
+use Rattle.rpki_cert.specs.declared.inspect.Kind.TheVariants.{Anchor, Authority, EndEntity, Detached, Router}
+use Rattle.rpki_crl.specs.Lists.{CrlState, IsCertificateList}
+use Rattle.rpki_path.specs.Paths.{Member, Path, Candidate, candidate, IsMember, IsValidPath, IsAccepted}
+use Rattle.rpki_path.specs.Routers.{IsRouterUnder}
+use Rattle.rpki_cert.specs.Verification.{Context, ResourceFields}
 use Rattle.rpki_path.proofs.AskedList.{left_by_asked}
 use Rattle.rpki_verdicts.specs.PathFiles.{IsGivenBy, AreListsOf}
 use Rattle.rpki_verdicts.specs.UnrevokedMembers.{IsGivenAmong, IsUnrevokedBelow, AreUnrevokedBelow, AreUnrevoked}

@@ -1,9 +1,9 @@
 -- Files that are given as locators, and whether a trust anchor is one's (RFC 8630 3).
 use Rattle.std.specs.Prelude.{◌≡◌, ◌<◌, ℕ, Bool, Any, IsOkAnd, List, [], ◌∷◌, map, slice_get, Option, Some, None, Result, Ok}
-use Rattle.rpki.specs.Keys.{KeyFields}
-use Rattle.rpki.specs.LocatedPaths.{IsLocatorOf}
-use Rattle.rpki.specs.Locators.{NamedTal}
-use Rattle.rpki.specs.TalError.{TalError}
+use Rattle.rpki_parts.specs.Keys.{KeyFields}
+use Rattle.rpki_path.specs.LocatedPaths.{IsLocatorOf}
+use Rattle.rpki_keys.specs.Locators.{NamedTal}
+use Rattle.rpki_keys.specs.declared.tal.tal_error.TalError.{TalError}
 use Rattle.rpki_files.specs.Files.{FileFields, contents}
 use Rattle.rpki_files.specs.LocatorFiles.{IsReadAs}
 

@@ -1,22 +1,22 @@
 -- What the command answers of the files of a path.
 use Rattle.std.specs.Prelude.{◌≡◌, ◌≢◌, ◌↔◌, ◌⊎◌, ◌+◌, ℕ, Bool, IsTrue, List, [], ◌∷◌, length, Option, Some, None, slice_get}
-use Rattle.rpki.specs.Asking.{RevocationChecks, nobody}
-use Rattle.rpki.specs.AskedLists.{by_lists}
-use Rattle.rpki.specs.Certificates.{CertFields}
-use Rattle.rpki.specs.GivenPaths.{PathStrings}
-use Rattle.rpki.specs.Judged.{Judged}
-use Rattle.rpki.specs.Judging.{IsAcceptedWith, IsFaultOf}
-use Rattle.rpki.specs.KeyForms.{IsUsableKey}
-use Rattle.rpki.specs.Keys.{KeyFields}
-use Rattle.rpki.specs.Lists.{CrlState}
-use Rattle.rpki.specs.LocatorFaults.{IsTalFault}
-use Rattle.rpki.specs.PathError.{PathError}
-use Rattle.rpki.specs.PathFault.{PathFault}
-use Rattle.rpki.specs.PathFault.TheVariants.{Memory}
-use Rattle.rpki.specs.Sets.{Has}
-use Rattle.rpki.specs.TalError.{TalError}
-use Rattle.rpki.specs.Verification.{Context, ResourceFields}
-use Rattle.rpki.specs.NameChains.{BeginChained, IsUnchained, strings_below}
+use Rattle.rpki_path.specs.Asking.{RevocationChecks, nobody}
+use Rattle.rpki_path.specs.AskedLists.{by_lists}
+use Rattle.rpki_cert.specs.Certificates.{CertFields}
+use Rattle.rpki_path.specs.GivenPaths.{PathStrings}
+use Rattle.rpki_path.specs.declared.judging.Judged.{Judged}
+use Rattle.rpki_path.specs.Judging.{IsAcceptedWith, IsFaultOf}
+use Rattle.rpki_keys.specs.KeyForms.{IsUsableKey}
+use Rattle.rpki_parts.specs.Keys.{KeyFields}
+use Rattle.rpki_crl.specs.Lists.{CrlState}
+use Rattle.rpki_keys.specs.LocatorFaults.{IsTalFault}
+use Rattle.rpki_path.specs.declared.path_fault.PathError.{PathError}
+use Rattle.rpki_path.specs.declared.path_fault.PathFault.{PathFault}
+use Rattle.rpki_path.specs.declared.path_fault.PathFault.TheVariants.{Memory}
+use Rattle.rpki_blocks.specs.Sets.{Has}
+use Rattle.rpki_keys.specs.declared.tal.tal_error.TalError.{TalError}
+use Rattle.rpki_cert.specs.Verification.{Context, ResourceFields}
+use Rattle.rpki_path.specs.NameChains.{BeginChained, IsUnchained, strings_below}
 use Rattle.rpki_files.specs.Contents.{BeginsWithCertificate}
 use Rattle.rpki_files.specs.FaultRules.{rule_of}
 use Rattle.rpki_verdicts.specs.Reasons.{ReasonFields, reason, IsReason, key_reason, locator_reason, name_reason, tal_reason}

@@ -1,13 +1,13 @@
 -- What is asked of files: the path that they are, and the lists that are given (own).
 use Rattle.std.specs.Prelude.{◌≡◌, ◌⊎◌, ℕ, List, [], ◌∷◌, Bool, true, slice_get, Option, Some, None}
-use Rattle.rpki.specs.Times.{Moment}
-use Rattle.rpki.specs.Kind.{Kind}
-use Rattle.rpki.specs.Kind.TheVariants.{Authority}
-use Rattle.rpki.specs.SaidKinds.{BeginsWithKind}
-use Rattle.rpki.specs.Lists.{CrlState, IsCertificateList}
-use Rattle.rpki.specs.Folders.{BeginsNoCertificate}
-use Rattle.rpki.specs.GivenPaths.{PathStrings, anchor_alone, HasLast}
-use Rattle.rpki.specs.LocatedPaths.{IsLocatorOf}
+use Rattle.rpki_der.specs.Times.{Moment}
+use Rattle.rpki_cert.specs.declared.inspect.Kind.{Kind}
+use Rattle.rpki_cert.specs.declared.inspect.Kind.TheVariants.{Authority}
+use Rattle.rpki_cert.specs.SaidKinds.{BeginsWithKind}
+use Rattle.rpki_crl.specs.Lists.{CrlState, IsCertificateList}
+use Rattle.rpki_folder.specs.Folders.{BeginsNoCertificate}
+use Rattle.rpki_path.specs.GivenPaths.{PathStrings, anchor_alone, HasLast}
+use Rattle.rpki_path.specs.LocatedPaths.{IsLocatorOf}
 use Rattle.rpki_files.specs.Contents.{IsList}
 use Rattle.rpki_files.specs.Files.{FileFields, contents}
 use Rattle.rpki_verdicts.specs.GivenLocators.{LocatorFields, IsFirst, locator_octets}

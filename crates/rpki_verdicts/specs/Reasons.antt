@@ -1,15 +1,15 @@
 -- Why a path is rejected: the step at which a fault comes, its name, and what it means (own).
 use Rattle.std.specs.Prelude.{◌≡◌, ℕ, List, codes}
-use Rattle.rpki.specs.ErrorNames.{decode_error_name}
-use Rattle.rpki.specs.FaultNames.{path_fault_name}
-use Rattle.rpki.specs.Inspection.{inspection_error_name}
-use Rattle.rpki.specs.PathFault.{PathFault}
-use Rattle.rpki.specs.PathFault.TheVariants as path
-use Rattle.rpki.specs.PublicKeyFormat.{PublicKeyFormat}
-use Rattle.rpki.specs.Revocation.{revocation_error_name}
-use Rattle.rpki.specs.TalError.{TalError}
-use Rattle.rpki.specs.TalErrors.{tal_error_name}
-use Rattle.rpki.specs.Verification.{verification_error_name}
+use Rattle.rpki_der.specs.ErrorNames.{decode_error_name}
+use Rattle.rpki_path.specs.FaultNames.{path_fault_name}
+use Rattle.rpki_ext.specs.Inspection.{inspection_error_name}
+use Rattle.rpki_path.specs.declared.path_fault.PathFault.{PathFault}
+use Rattle.rpki_path.specs.declared.path_fault.PathFault.TheVariants as path
+use Rattle.rpki_parts.specs.declared.key.PublicKeyFormat.{PublicKeyFormat}
+use Rattle.rpki_crl.specs.Revocation.{revocation_error_name}
+use Rattle.rpki_keys.specs.declared.tal.tal_error.TalError.{TalError}
+use Rattle.rpki_keys.specs.TalErrors.{tal_error_name}
+use Rattle.rpki_cert.specs.Verification.{verification_error_name}
 use Rattle.rpki_files.specs.FaultRules.{RuleFields, IsReadingRule, inspection_rule, key_rule, name_rule, no_memory, other_key, revocation_rule, tal_rule, verification_rule}
 
 -- the step at which a fault comes, its name, and its rule

@@ -1,20 +1,20 @@
 -- The path to one file that is sought among others, in no order (RFC 6487 7.2, RFC 8630 3; own: the
 -- bounds).
 use Rattle.std.specs.Prelude.{◌≡◌, ◌≢◌, ◌⊎◌, ◌+◌, ◌<◌, ℕ, Bool, true, false, All, List, [], ◌∷◌, ◌++◌, length, slice_get, filter_map, Option, Some, None, IsSome, IsTrue}
-use Rattle.rpki.specs.Asking.{RevocationChecks}
-use Rattle.rpki.specs.AskedLists.{by_lists}
-use Rattle.rpki.specs.Certificates.{CertFields, IsCertificate}
-use Rattle.rpki.specs.Encoding.{Means}
-use Rattle.rpki.specs.Ended.{Ended}
-use Rattle.rpki.specs.Ended.TheVariants.{Whole}
-use Rattle.rpki.specs.Folders.{NamesSigner}
-use Rattle.rpki.specs.GivenPaths.{PathStrings}
-use Rattle.rpki.specs.Judged.{Judged}
-use Rattle.rpki.specs.Judging.{IsAcceptedWith}
-use Rattle.rpki.specs.Line.{Line}
-use Rattle.rpki.specs.Line.TheVariants as line
-use Rattle.rpki.specs.Verification.{Context}
-use Rattle.rpki.specs.Walks.{Covers, IsReached, at_anchor}
+use Rattle.rpki_path.specs.Asking.{RevocationChecks}
+use Rattle.rpki_path.specs.AskedLists.{by_lists}
+use Rattle.rpki_cert.specs.Certificates.{CertFields, IsCertificate}
+use Rattle.rpki_der.specs.Encoding.{Means}
+use Rattle.rpki_folder.specs.declared.bounds.Ended.{Ended}
+use Rattle.rpki_folder.specs.declared.bounds.Ended.TheVariants.{Whole}
+use Rattle.rpki_folder.specs.Folders.{NamesSigner}
+use Rattle.rpki_path.specs.GivenPaths.{PathStrings}
+use Rattle.rpki_path.specs.declared.judging.Judged.{Judged}
+use Rattle.rpki_path.specs.Judging.{IsAcceptedWith}
+use Rattle.rpki_folder.specs.declared.lines.Line.{Line}
+use Rattle.rpki_folder.specs.declared.lines.Line.TheVariants as line
+use Rattle.rpki_cert.specs.Verification.{Context}
+use Rattle.rpki_folder.specs.Walks.{Covers, IsReached, at_anchor}
 use Rattle.rpki_files.specs.Contents.{BeginsWithCertificate, IsList}
 use Rattle.rpki_files.specs.Files.{FileFields, contents}
 use Rattle.rpki_verdicts.specs.PathFiles.{IsGivenBy}

@@ -1,22 +1,22 @@
 -- What is answered of files in no order: the trust anchor among them, and a line for each
 -- certificate (RFC 6487 7.2, RFC 8630 3; own: the bounds).
 use Rattle.std.specs.Prelude.{◌≡◌, ◌≢◌, ◌⊎◌, ◌<◌, ℕ, List, [], ◌∷◌, length, map, slice_get, Any, Some, Ok, Bool, true, false, IsTrue, count_by}
-use Rattle.rpki.specs.AskedLists.{by_lists}
-use Rattle.rpki.specs.Folders.{FolderFields}
-use Rattle.rpki.specs.KeptLines.{AreLines}
-use Rattle.rpki.specs.Line.{Line}
-use Rattle.rpki.specs.Line.TheVariants as line
-use Rattle.rpki.specs.Ended.TheVariants.{Whole}
-use Rattle.rpki.specs.Lists.{CrlState}
-use Rattle.rpki.specs.LocatedError.{LocatedError}
-use Rattle.rpki.specs.LocatedError.TheVariants.{OtherKey, Path as path}
-use Rattle.rpki.specs.LocatedPaths.{BeginsWithKey}
-use Rattle.rpki.specs.Locators.{NamedTal}
-use Rattle.rpki.specs.Times.{Moment}
-use Rattle.rpki.specs.Verification.{Context}
-use Rattle.rpki.specs.WalkError.{WalkError}
-use Rattle.rpki.specs.WalkError.TheVariants.{Anchor}
-use Rattle.rpki.specs.Walks.{Told, Tells, IsValidAnchor, IsWhyNone, at_anchor}
+use Rattle.rpki_path.specs.AskedLists.{by_lists}
+use Rattle.rpki_folder.specs.Folders.{FolderFields}
+use Rattle.rpki_folder.specs.KeptLines.{AreLines}
+use Rattle.rpki_folder.specs.declared.lines.Line.{Line}
+use Rattle.rpki_folder.specs.declared.lines.Line.TheVariants as line
+use Rattle.rpki_folder.specs.declared.bounds.Ended.TheVariants.{Whole}
+use Rattle.rpki_crl.specs.Lists.{CrlState}
+use Rattle.rpki_path.specs.declared.located.LocatedError.{LocatedError}
+use Rattle.rpki_path.specs.declared.located.LocatedError.TheVariants.{OtherKey, Path as path}
+use Rattle.rpki_path.specs.LocatedPaths.{BeginsWithKey}
+use Rattle.rpki_keys.specs.Locators.{NamedTal}
+use Rattle.rpki_der.specs.Times.{Moment}
+use Rattle.rpki_cert.specs.Verification.{Context}
+use Rattle.rpki_folder.specs.declared.walk_error.WalkError.{WalkError}
+use Rattle.rpki_folder.specs.declared.walk_error.WalkError.TheVariants.{Anchor}
+use Rattle.rpki_folder.specs.Walks.{Told, Tells, IsValidAnchor, IsWhyNone, at_anchor}
 use Rattle.rpki_files.specs.Contents.{BeginsWithCertificate}
 use Rattle.rpki_verdicts.specs.Reasons.{IsReason, locator_reason}
 use Rattle.rpki_files.specs.Files.{FileFields, contents}

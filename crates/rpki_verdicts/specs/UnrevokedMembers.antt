@@ -1,10 +1,10 @@
 -- What the lists that were given say of the members of an accepted path (RFC 6487 7.2).
 use Rattle.std.specs.Prelude.{List, [], ◌∷◌, ℕ, Any}
-use Rattle.rpki.specs.Encoding.{Means}
-use Rattle.rpki.specs.Certificates.{CertFields, IsCertificate}
-use Rattle.rpki.specs.Lists.{CrlFields, IsCertificateList}
-use Rattle.rpki.specs.AskedLists.{LeavesUnrevoked}
-use Rattle.rpki.specs.Verification.{Context}
+use Rattle.rpki_der.specs.Encoding.{Means}
+use Rattle.rpki_cert.specs.Certificates.{CertFields, IsCertificate}
+use Rattle.rpki_crl.specs.Lists.{CrlFields, IsCertificateList}
+use Rattle.rpki_path.specs.AskedLists.{LeavesUnrevoked}
+use Rattle.rpki_cert.specs.Verification.{Context}
 
 -- one of the files is the list
 abbrev pub IsGivenAmong : List (List ℕ) → CrlFields → Type 0

@@ -2,9 +2,9 @@
 ghost use Rattle.std.specs.Prelude.{◌≡◌, ◌↔◌, Any, Ok, Err, IfOk, IfErr, IfNone, IfSome, IsTrue};
 ghost use Rattle.rpki_verdicts.specs.GivenLocators.{HasKeyRead, HasTalRead, IsFirst, IsRead};
 
-use rpki::crypto::PublicKey;
-use rpki::repository::tal::{Tal, TalError};
 use rpki_files::read_locator;
+use rpki_keys::tal::{Tal, TalError};
+use rpki_parts::PublicKey;
 use std::alloc::{AllocError, Global};
 use std::marker::Model;
 

@@ -1,14 +1,14 @@
 //! A path of files, from a trust anchor down.
 ghost use Rattle.std.specs.Prelude.{◌≡◌, ◌≢◌, ◌<◌, ℕ, Bool, true, All, List, [], ◌∷◌, length, option_map, IfOk, OnOk, IsFalse, IsTrue, MatchOption};
-ghost use Rattle.rpki.specs.Certificates.{IsCertificate};
-ghost use Rattle.rpki.specs.Encoding.{Means};
-ghost use Rattle.rpki.specs.Times.{Moment};
-ghost use Rattle.rpki.specs.RsaSignatures.{IsSignedByRsa};
-ghost use Rattle.rpki.specs.Verification.{context};
-ghost use Rattle.rpki.specs.Judged.{Judged as Holding};
-ghost use Rattle.rpki.specs.Paths.{UnlessMemory};
-ghost use Rattle.rpki.specs.PathFault.TheVariants.{Memory};
-ghost use Rattle.rpki.specs.NameChains.{BeginPath, IsUnchained, strings_below};
+ghost use Rattle.rpki_cert.specs.Certificates.{IsCertificate};
+ghost use Rattle.rpki_der.specs.Encoding.{Means};
+ghost use Rattle.rpki_der.specs.Times.{Moment};
+ghost use Rattle.rpki_keys.specs.RsaSignatures.{IsSignedByRsa};
+ghost use Rattle.rpki_cert.specs.Verification.{context};
+ghost use Rattle.rpki_path.specs.declared.judging.Judged.{Judged as Holding};
+ghost use Rattle.rpki_path.specs.Paths.{UnlessMemory};
+ghost use Rattle.rpki_path.specs.declared.path_fault.PathFault.TheVariants.{Memory};
+ghost use Rattle.rpki_path.specs.NameChains.{BeginPath, IsUnchained, strings_below};
 ghost use Rattle.rpki_files.specs.Contents.{BeginsWithCertificate};
 ghost use Rattle.rpki_verdicts.specs.Reasons.{locator_reason, name_reason, tal_reason};
 ghost use Rattle.rpki_files.specs.Files.{contents};
@@ -23,20 +23,16 @@ ghost use Rattle.rpki_verdicts.specs.declared.path.Fault.{Fault as Faulty};
 
 use crate::locators::{GivenLocator, place_of_key};
 use crate::reasons::of_path;
-use rpki::crypto::keys::is_usable;
-use rpki::crypto::{PublicKey, RsaVerifier};
-use rpki::laws;
-use rpki::repository::Cert;
-use rpki::repository::cert::{Kind, said_kind};
-use rpki::repository::crl::Crl;
-use rpki::repository::path::{
-    GivenPath, Judged, Member, PathError, first_unchained, judge as judge_path,
-};
-use rpki::repository::revocation::{GivenLists, NobodyAsked, RevocationSource};
-use rpki::repository::tal::TalError;
-use rpki::repository::x509::Time;
+use rpki_cert::{Cert, Kind, said_kind};
+use rpki_crl::Crl;
+use rpki_der::Time;
 use rpki_files::Object;
 use rpki_files::rules::{Rule, of_key, of_name, of_other_key, of_tal};
+use rpki_keys::tal::TalError;
+use rpki_keys::{RsaVerifier, is_usable};
+use rpki_parts::PublicKey;
+use rpki_path::revocation::{GivenLists, NobodyAsked, RevocationSource};
+use rpki_path::{GivenPath, Judged, Member, PathError, first_unchained, judge as judge_path};
 use std::alloc::{AllocError, Global};
 use std::marker::Model;
 
@@ -229,8 +225,8 @@ fn place_of_locator(question: &Question<'_, '_>) -> Option<usize>
     requires { All (IsRead question.now.strict) question.now.locators }
     ensures { IsPlaceOfLocator question.now result }
 {
-    laws::certificates::unambiguous();
-    laws::locators::unambiguous();
+    rpki_cert::laws::unambiguous();
+    rpki_keys::tal::laws::unambiguous();
     match anchor_certificate(question) {
         Some(cert) => place_of_key(question.locators, cert.as_tbs().subject_public_key_info()),
         None => None,
@@ -385,7 +381,7 @@ fn verdict_on<R: RevocationSource>(
         IfOk result (λ o. MatchOption o (members.now ≡ [])
         (IsPathVerdict x (R.asks asked.now x) (demands_of question.now) members.now)) }
 {
-    laws::certificates::unambiguous();
+    rpki_cert::laws::unambiguous();
     let Some(path) = GivenPath::of(members, kind) else {
         return Ok(None);
     };
@@ -467,8 +463,8 @@ pub fn one_answer()
         (j : Holding) (f : Faulty) → let x = context IsSignedByRsa now strict in
         IsVerdictBy x d files lists (Accepted j) → IsVerdictBy x d files lists (Rejected f) → ⊥ }
 {
-    laws::certificates::unambiguous();
-    laws::lists::unambiguous();
+    rpki_cert::laws::unambiguous();
+    rpki_crl::laws::unambiguous();
 }
 
 /// Says that an accepted path is accepted with one certificate last, which holds the same numbers.
@@ -478,6 +474,6 @@ pub fn one_acceptance()
         IsVerdictBy x d files lists (Accepted j) → IsVerdictBy x d files lists (Accepted i)
         → AreSame j i }
 {
-    laws::certificates::unambiguous();
-    laws::lists::unambiguous();
+    rpki_cert::laws::unambiguous();
+    rpki_crl::laws::unambiguous();
 }

@@ -3,10 +3,10 @@ ghost use Rattle.rpki_files.specs.FaultRules.{rule_of};
 ghost use Rattle.rpki_verdicts.specs.Reasons.{IsReason, reason};
 
 use bytes::Bytes;
-use rpki::repository::path::PathFault;
 use rpki_files::rules::{
     Rule, of_inspection, of_reading, of_revocation, of_verification, out_of_memory,
 };
+use rpki_path::PathFault;
 
 /// Tells of a fault of a path's member, which has these octets, at which step it came, its name,
 /// and what it means.

@@ -1,18 +1,18 @@
 //! The path to one file that is sought among others, in no order.
 ghost use Rattle.std.specs.Prelude.{◌≡◌, ◌<◌, ◌↔◌, ◌++◌, ◌∷◌, [], ℕ, All, List, length, Some, map, option_map, slice_get, IfOk, IfSome, IsFalse, IsTrue, MatchOption, OnOk};
-ghost use Rattle.rpki.specs.Folders.{NamesSigner};
-ghost use Rattle.rpki.specs.RsaSignatures.{IsSignedByRsa};
-ghost use Rattle.rpki.specs.Verification.{context};
+ghost use Rattle.rpki_folder.specs.Folders.{NamesSigner};
+ghost use Rattle.rpki_keys.specs.RsaSignatures.{IsSignedByRsa};
+ghost use Rattle.rpki_cert.specs.Verification.{context};
 ghost use Rattle.rpki_files.specs.Contents.{BeginsWithCertificate, IsList};
 ghost use Rattle.rpki_files.specs.Files.{FileFields};
 ghost use Rattle.rpki_verdicts.specs.Searches.{AreAbove, HasKeyAt, HasKeyNamed, HasNoIssuer, HaveNoneKeyed, IsFirstKeyed, IsIssuerAt, IsNamedPath, IsSoughtPath, IsTreeWith, StandsAlone, above_by, files_at};
 ghost use Rattle.rpki_verdicts.specs.Trees.{IsTreeAnswer, asked_of, certs_of};
 
 use crate::unordered::{Tree, TreeAnswer, TreeQuestion, judge_all, locator_of};
-use rpki::crypto::KeyIdentifier;
-use rpki::laws;
-use rpki::repository::folder::{Ended, Line};
+use rpki_cert::laws;
 use rpki_files::{BareObject, Front};
+use rpki_folder::{Ended, Line};
+use rpki_parts::KeyIdentifier;
 use std::alloc::{AllocError, Global};
 
 /// How many files are put above one to which no valid path leads, unless they end sooner.
@@ -174,7 +174,7 @@ fn path_down<'q, 'n>(
 fn has_key(file: &BareObject<'_>, key: &KeyIdentifier) -> bool
     ensures { IsTrue result ↔ HasKeyNamed key.now file.now }
 {
-    laws::certificates::unambiguous();
+    laws::unambiguous();
     match file.front() {
         Front::Certificate(said) => said.key == *key,
         Front::List | Front::Neither => false,
@@ -186,7 +186,7 @@ fn has_key(file: &BareObject<'_>, key: &KeyIdentifier) -> bool
 fn signer_of(file: &BareObject<'_>) -> Option<KeyIdentifier>
     ensures { (key : List ℕ) → NamesSigner key file.now.octets ↔ (result ≡ Some key) }
 {
-    laws::certificates::unambiguous();
+    laws::unambiguous();
     match file.front() {
         Front::Certificate(said) => said.signer,
         Front::List | Front::Neither => None,

@@ -1,15 +1,15 @@
 //! Files in no order: the trust anchor among them, and the verdict on every certificate below it,
 //! with real signatures and with the revocation lists among them.
 ghost use Rattle.std.specs.Prelude.{◌≡◌, ◌↔◌, ◌++◌, ◌∷◌, [], true, List, length, map, IfOk, IfErr, IfSome, IfNone, OnOk, IsTrue};
-ghost use Rattle.rpki.specs.AskedLists.{by_lists};
-ghost use Rattle.rpki.specs.Folders.{with_cert, with_list};
-ghost use Rattle.rpki.specs.KeptLines.{BecameLines};
-ghost use Rattle.rpki.specs.Lists.{CrlState, IsCertificateList};
-ghost use Rattle.rpki.specs.RsaSignatures.{IsSignedByRsa};
-ghost use Rattle.rpki.specs.SaidKinds.{BeginsWithSaid};
-ghost use Rattle.rpki.specs.Verification.{context};
-ghost use Rattle.rpki.specs.WalkError.TheVariants.{Anchor};
-ghost use Rattle.rpki.specs.Walks.{Told, Tells, IsValidAnchor, IsWhyNone, at_anchor};
+ghost use Rattle.rpki_path.specs.AskedLists.{by_lists};
+ghost use Rattle.rpki_folder.specs.Folders.{with_cert, with_list};
+ghost use Rattle.rpki_folder.specs.KeptLines.{BecameLines};
+ghost use Rattle.rpki_crl.specs.Lists.{CrlState, IsCertificateList};
+ghost use Rattle.rpki_keys.specs.RsaSignatures.{IsSignedByRsa};
+ghost use Rattle.rpki_cert.specs.SaidKinds.{BeginsWithSaid};
+ghost use Rattle.rpki_cert.specs.Verification.{context};
+ghost use Rattle.rpki_folder.specs.declared.walk_error.WalkError.TheVariants.{Anchor};
+ghost use Rattle.rpki_folder.specs.Walks.{Told, Tells, IsValidAnchor, IsWhyNone, at_anchor};
 ghost use Rattle.rpki_files.specs.Contents.{IsList};
 ghost use Rattle.rpki_files.specs.Files.{FileFields};
 ghost use Rattle.rpki_verdicts.specs.Trees.{AllAccepted, accepted_count, accepts, asked_of, HasLocator, HasNoneBelow, IsAnchorAt, IsAnchorOf, IsAnchorReason, IsFolderOf, IsTreeAnswer, every};
@@ -17,15 +17,14 @@ ghost use Rattle.rpki_verdicts.specs.Trees.{AllAccepted, accepted_count, accepts
 use crate::locators::{GivenLocator, tal_of_key};
 use crate::path::{Fault, other_key, with_table};
 use crate::reasons::of_path;
-use rpki::crypto::RsaVerifier;
-use rpki::laws;
-use rpki::repository::cert::Said;
-use rpki::repository::crl::Crl;
-use rpki::repository::folder::{AllAdmitted, Bounds, Ended, Folder, Line, Lines, Walk, WalkError};
-use rpki::repository::path::{LocatedError, Member};
-use rpki::repository::tal::Tal;
-use rpki::repository::x509::Time;
+use rpki_cert::{Said, laws};
+use rpki_crl::Crl;
+use rpki_der::Time;
 use rpki_files::{BareObject, Front};
+use rpki_folder::{AllAdmitted, Bounds, Ended, Folder, Line, Lines, Walk, WalkError};
+use rpki_keys::RsaVerifier;
+use rpki_keys::tal::Tal;
+use rpki_path::{LocatedError, Member};
 use std::alloc::{AllocError, Global};
 
 /// What is asked of files in no order: the files, the locators, whether they are read strictly, the
@@ -153,7 +152,7 @@ pub(crate) fn locator_of<'q>(
         IfSome tal (λ t. IsAnchorOf locators.now t.now file.now)) }
     ensures none { IfOk result (λ tal. IfNone tal (HasLocator locators.now file.now → ⊥)) }
 {
-    laws::certificates::unambiguous();
+    laws::unambiguous();
     match file.certificate(alloc)? {
         Some(cert) => {
             let found = tal_of_key(locators, cert.as_tbs().subject_public_key_info());

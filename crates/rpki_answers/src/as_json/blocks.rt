@@ -7,10 +7,8 @@ ghost use Rattle.rpki_answers.specs.JsonBlocks.{ends_json, block_json, numbers_j
 ghost use Rattle.rpki_answers.specs.JsonValues.{Pushes, object_with};
 
 use crate::as_json::objects::{Members, object_of, value_of};
-use rpki::repository::cert::{ResourceCert, TbsCert};
-use rpki::repository::resources::{
-    Addr, AsBlock, AsBlocks, AsResources, IpBlock, IpBlocks, IpResources,
-};
+use rpki_blocks::{Addr, AsBlock, AsBlocks, AsResources, IpBlock, IpBlocks, IpResources};
+use rpki_cert::{ResourceCert, TbsCert};
 use rpki_text::Page;
 use rpki_text::blocks::{Family, ip_block, ip_end};
 use serde_json::Value;

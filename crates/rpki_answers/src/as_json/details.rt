@@ -8,9 +8,9 @@ ghost use Rattle.rpki_answers.specs.RejectionDetails.{own_key};
 use crate::as_json::objects::Members;
 use crate::as_json::{put_sort, rsync};
 use crate::details::{Cause, Details, ORDER};
-use rpki::crypto::KeyIdentifier;
-use rpki::repository::Cert;
-use rpki::repository::x509::Time;
+use rpki_cert::Cert;
+use rpki_der::Time;
+use rpki_parts::KeyIdentifier;
 use std::alloc::AllocError;
 
 #[tactic(auto, unfolding(crate::specs::JsonValues::put_all))]

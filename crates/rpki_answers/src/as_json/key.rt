@@ -6,8 +6,8 @@ ghost use Rattle.rpki_answers.specs.JsonValues.{Puts, text_member_if_any};
 ghost use Rattle.rpki_text.specs.KeyTexts.{point_text};
 
 use crate::as_json::objects::Members;
-use rpki::crypto::keys::KeyForm;
-use rpki::crypto::{PublicKey, PublicKeyFormat};
+use rpki_keys::KeyForm;
+use rpki_parts::{PublicKey, PublicKeyFormat};
 use rpki_text::keys::KeyAnswer;
 use serde_json::Value;
 use std::alloc::{AllocError, Global};

@@ -1,16 +1,16 @@
 //! A trust anchor's locator, and a file that looks like one, for a person.
 ghost use Rattle.std.specs.Prelude.{◌≡◌};
 ghost use Rattle.std.specs.List.{flat_map};
-ghost use Rattle.rpki.specs.Locators.{uri_text};
+ghost use Rattle.rpki_keys.specs.Locators.{uri_text};
 ghost use Rattle.rpki_files.specs.FaultRules.{rule_of, tal_rule};
 ghost use Rattle.rpki_text.specs.KeyTexts.{IsLocatorKey};
 ghost use Rattle.rpki_text.specs.Pages.{Appends};
 ghost use Rattle.rpki_answers.specs.ShownTexts.{location_line, locator_file_text, no_locator_file_text, tal_text};
 
 use crate::showing::begun;
-use rpki::repository::tal::{Tal, TalError, TalUri};
 use rpki_files::Object;
 use rpki_files::rules::of_tal;
+use rpki_keys::tal::{Tal, TalError, TalUri};
 use rpki_text::keys::{LocatorKey, answer_of_locator};
 use rpki_text::{Characters, Colons, Page};
 

@@ -1,10 +1,10 @@
 -- What one step of judging files gives.
 use Rattle.std.specs.Prelude.{◌≡◌, ◌≤◌, ◌⊎◌, ℕ, Bool, List, [], ◌∷◌, ◌++◌, length}
-use Rattle.rpki.specs.Judged.{Judged}
-use Rattle.rpki.specs.KeyForms.{IsUsableKey}
-use Rattle.rpki.specs.Kind.{Kind}
-use Rattle.rpki.specs.Kind.TheVariants.{Authority}
-use Rattle.rpki.specs.GivenPaths.{PathStrings}
+use Rattle.rpki_path.specs.declared.judging.Judged.{Judged}
+use Rattle.rpki_keys.specs.KeyForms.{IsUsableKey}
+use Rattle.rpki_cert.specs.declared.inspect.Kind.{Kind}
+use Rattle.rpki_cert.specs.declared.inspect.Kind.TheVariants.{Authority}
+use Rattle.rpki_path.specs.GivenPaths.{PathStrings}
 use Rattle.rpki_verdicts.specs.Reasons.{key_reason}
 use Rattle.rpki_verdicts.specs.PathFiles.{IsJudgedAs}
 use Rattle.rpki_verdicts.specs.PathAnswers.{last_key, reason_of, AreChained, IsOtherName}

@@ -1,6 +1,6 @@
 use Rattle.std.proofs.Common.{◌∙◌, ap, map, sym}
 use Rattle.std.proofs.lemmas.Simd.{map-map}
-use Rattle.rpki.specs.Locators.{uri_text}
+use Rattle.rpki_keys.specs.Locators.{uri_text}
 use Rattle.rpki_answers.specs.JsonFiles.{location_json, locator_json}
 use Rattle.rpki_answers.proofs.PutMembers.{then_put, last_put, object_made}
 use Rattle.rpki_answers.proofs.as_json.known_locator.Goals as goal

@@ -1,6 +1,6 @@
 use Rattle.std.proofs.Common.{◌≡◌, map, take}
 use Rattle.serde_json.specs.View.{view}
-use Rattle.rpki.specs.Locators.{uri_text}
+use Rattle.rpki_keys.specs.Locators.{uri_text}
 use Rattle.rpki_answers.specs.JsonFiles.{location_json}
 use Rattle.rpki_answers.proofs.as_json.locations.Given as goal
 

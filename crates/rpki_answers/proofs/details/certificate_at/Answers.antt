@@ -1,8 +1,8 @@
 use Rattle.std.specs.Prelude.{Some, None}
 use Rattle.std.proofs.Common.{◌≡◌, ◌∙◌, length, refl, sym, subst}
 use Rattle.std.proofs.lemmas.Option.{slice_get_past, slice_get_read}
-use Rattle.rpki.specs.Certificates.{IsCertificate}
-use Rattle.rpki.specs.Encoding.{Means}
+use Rattle.rpki_cert.specs.Certificates.{IsCertificate}
+use Rattle.rpki_der.specs.Encoding.{Means}
 use Rattle.rpki_files.specs.Files.{FileFields}
 use Rattle.rpki_answers.proofs.details.certificate_at.Goals as goal
 

@@ -1,6 +1,6 @@
 use Rattle.std.proofs.lemmas.Bool.{false≢true}
-use Rattle.rpki.specs.Kind.TheVariants.{Anchor}
-use Rattle.rpki.specs.Profiles.{Lacks, faults}
+use Rattle.rpki_cert.specs.declared.inspect.Kind.TheVariants.{Anchor}
+use Rattle.rpki_cert.specs.Profiles.{Lacks, faults}
 use Rattle.rpki_cert.proofs.Checks.{first_not_all}
 use Rattle.rpki_answers.proofs.details.is_anchor.Goals as goal
 

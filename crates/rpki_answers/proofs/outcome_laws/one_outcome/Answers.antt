@@ -1,5 +1,5 @@
-use Rattle.rpki.specs.RsaSignatures.{IsSignedByRsa}
-use Rattle.rpki.specs.Verification.{context}
+use Rattle.rpki_keys.specs.RsaSignatures.{IsSignedByRsa}
+use Rattle.rpki_cert.specs.Verification.{context}
 use Rattle.rpki_answers.proofs.SingleOutcomes.{one_outcome}
 use Rattle.rpki_answers.proofs.outcome_laws.one_outcome.Goals as goal
 

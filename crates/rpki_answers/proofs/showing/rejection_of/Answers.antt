@@ -1,7 +1,7 @@
 use Rattle.std.specs.Prelude.{IsTrue}
 use Rattle.std.proofs.Common.{◌≢◌, ◌↔◌, ℕ, List, subst, sym}
-use Rattle.rpki.specs.DecodeError.{DecodeError}
-use Rattle.rpki.specs.DecodeError.TheVariants.{Memory}
+use Rattle.rpki_der.specs.declared.error.DecodeError.{DecodeError}
+use Rattle.rpki_der.specs.declared.error.DecodeError.TheVariants.{Memory}
 use Rattle.rpki_files.specs.FaultRules.{rule_of}
 use Rattle.rpki_files.specs.Misreads.{StopsFor}
 use Rattle.rpki_files.proofs.KeptFaults.{kept_not_memory, stops_for_kept}

@@ -3,8 +3,8 @@ use Rattle.std.proofs.Common.{◌≡◌, ◌↔◌, Bool, true, false, Some, Non
 use Rattle.std.proofs.lemmas.Bool.{false≢true}
 use Rattle.std.proofs.lemmas.List.Elements.{All-get_or}
 use Rattle.std.proofs.lemmas.Option.{slice_get_within, get_or_from_slice_get}
-use Rattle.rpki.specs.RsaSignatures.{IsSignedByRsa}
-use Rattle.rpki.specs.Verification.{Context, context}
+use Rattle.rpki_keys.specs.RsaSignatures.{IsSignedByRsa}
+use Rattle.rpki_cert.specs.Verification.{Context, context}
 use Rattle.rpki_files.specs.Files.{contents}
 use Rattle.rpki_answers.specs.Outcomes.{IsOutcomeOfValidate}
 use Rattle.rpki_answers.specs.VerdictTexts.{IsAcceptedFinding, IsFinding}

@@ -1,7 +1,7 @@
 use Rattle.std.specs.Io.KnownBytes.{Appends}
 use Rattle.std.proofs.Common.{◌≡◌, ◌∷◌, ◌++◌, List, refl, subst}
-use Rattle.rpki.specs.RsaSignatures.{IsSignedByRsa}
-use Rattle.rpki.specs.Verification.{context}
+use Rattle.rpki_keys.specs.RsaSignatures.{IsSignedByRsa}
+use Rattle.rpki_cert.specs.Verification.{context}
 use Rattle.rpki_text.specs.CommandLines.Views.{fields_of, word_octets}
 use Rattle.rpki_files.specs.Files.{FileFields, file_names}
 use Rattle.rpki_verdicts.specs.Searches.{IsSoughtPath}

@@ -1,6 +1,6 @@
 use Rattle.std.specs.Prelude.{Err, option_map}
 use Rattle.std.proofs.Common.{◌≡◌, ℕ, List, [], ◌∷◌, Bor, Option, inl, inr, refl, rules, sym, subst, ◌∙◌}
-use Rattle.rpki.specs.Verification.{ResourceFields}
+use Rattle.rpki_cert.specs.Verification.{ResourceFields}
 use Rattle.rpki_files.specs.Files.{contents}
 use Rattle.rpki_issuing.proofs.SameRoles.{on_ok, on_err}
 use Rattle.rpki_requests.specs.Fulfilment.{CompletesAs}

@@ -1,8 +1,8 @@
 use Rattle.std.specs.Prelude.{Err, option_map}
 use Rattle.std.proofs.Common.{◌≡◌, ℕ, List, Bor, inl, inr, rules, sym, subst, ◌∙◌}
 use Rattle.std.proofs.lemmas.Bool.{false≢true}
-use Rattle.rpki.specs.Certificates.{TbsFields}
-use Rattle.rpki.specs.Verification.{ResourceFields}
+use Rattle.rpki_cert.specs.Certificates.{TbsFields}
+use Rattle.rpki_cert.specs.Verification.{ResourceFields}
 use Rattle.rpki_issuing.specs.PreparedOctets.{IsUncompleted}
 use Rattle.rpki_requests.specs.RefusedErrands.{IsNamedOtherwise, IsUnmade}
 use Rattle.rpki_requests.specs.RequestFiles.{IsCompletedAs}

@@ -1,8 +1,8 @@
 use Rattle.std.specs.Prelude.{option_map}
 use Rattle.std.proofs.Common.{Bor, Option, ap, inl, inr, refl, ◌∙◌}
 use Rattle.std.proofs.lemmas.Result.{err_from_is_err_and}
-use Rattle.rpki.specs.Certificates.{TbsFields}
-use Rattle.rpki.specs.Verification.{ResourceFields}
+use Rattle.rpki_cert.specs.Certificates.{TbsFields}
+use Rattle.rpki_cert.specs.Verification.{ResourceFields}
 use Rattle.rpki_files.specs.Files.{contents}
 use Rattle.rpki_issuing.specs.AskedFields.{fields_asked}
 use Rattle.rpki_requests.specs.OptionValues.{GivesWanted}

@@ -1,6 +1,6 @@
 use Rattle.std.specs.Prelude.{IfErr, IfOk, Option}
 use Rattle.std.proofs.Common.{◌≡◌, ◌≢◌, ℕ, List, rules, subst}
-use Rattle.rpki.specs.Verification.{ResourceFields}
+use Rattle.rpki_cert.specs.Verification.{ResourceFields}
 use Rattle.rpki_files.specs.Files.{contents}
 use Rattle.rpki_requests.specs.Fulfilment.{context_of}
 use Rattle.rpki_requests.specs.Refusals.{TellsPath}

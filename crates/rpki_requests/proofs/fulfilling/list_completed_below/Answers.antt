@@ -1,7 +1,7 @@
 use Rattle.std.proofs.Common.{ap, inl, inr, refl, subst, sym, ◌∙◌}
 use Rattle.std.proofs.lemmas.Bool.{false≢true}
-use Rattle.rpki.specs.Lists.{IsTbsCertList, ListFields}
-use Rattle.rpki.specs.RevokedEntries.{Revoked}
+use Rattle.rpki_crl.specs.Lists.{IsTbsCertList, ListFields}
+use Rattle.rpki_crl.specs.RevokedEntries.{Revoked}
 use Rattle.rpki_issuing.specs.WantedLists.{IsListCompleted}
 use Rattle.rpki_issuing.proofs.WholeOctets.{whole_only}
 use Rattle.rpki_issuing.specs.declared.wanted.preparing.WantedError.{WantedError}

@@ -1,6 +1,6 @@
 use Rattle.std.specs.Prelude.{Err, Some, None, Option}
 use Rattle.std.proofs.Common.{◌≡◌, inl, inr, refl, rules, subst}
-use Rattle.rpki.specs.Verification.{ResourceFields}
+use Rattle.rpki_cert.specs.Verification.{ResourceFields}
 use Rattle.rpki_requests.specs.Fulfilment.{PreparesList, context_of}
 use Rattle.rpki_requests.specs.RequestFiles.{AreOneIssuer, IsIssuerOf}
 use Rattle.rpki_requests.specs.RequestWords.Views.{asked_fields}

@@ -1,7 +1,7 @@
 use Rattle.std.specs.Prelude.{Err}
 use Rattle.std.proofs.Common.{◌≡◌, inl, inr, rules, subst}
-use Rattle.rpki.specs.Lists.{ListFields}
-use Rattle.rpki.specs.RevokedEntries.{Revoked}
+use Rattle.rpki_crl.specs.Lists.{ListFields}
+use Rattle.rpki_crl.specs.RevokedEntries.{Revoked}
 use Rattle.rpki_issuing.specs.WantedLists.{IsListPrepared}
 use Rattle.rpki_issuing.specs.declared.wanted.preparing.WantedError.{WantedError}
 use Rattle.rpki_requests.specs.RefusedErrands.{IsListUnready}

@@ -1,9 +1,9 @@
 use Rattle.std.specs.Prelude.{Err, Option, option_map}
 use Rattle.std.proofs.Common.{◌≡◌, ℕ, List, Bor, inl, inr, refl, rules, sym, subst}
 use Rattle.std.proofs.lemmas.Result.{err_from_is_err_and}
-use Rattle.rpki.specs.Lists.{IsTbsCertList, ListFields}
-use Rattle.rpki.specs.RevokedEntries.{Revoked}
-use Rattle.rpki.specs.Verification.{ResourceFields}
+use Rattle.rpki_crl.specs.Lists.{IsTbsCertList, ListFields}
+use Rattle.rpki_crl.specs.RevokedEntries.{Revoked}
+use Rattle.rpki_cert.specs.Verification.{ResourceFields}
 use Rattle.rpki_issuing.specs.OnlyValues.{IsOnly}
 use Rattle.rpki_requests.specs.Fulfilment.{CompletesAs, CompletesListBelow}
 use Rattle.rpki_requests.specs.RequestWords.Views.{asked_fields}

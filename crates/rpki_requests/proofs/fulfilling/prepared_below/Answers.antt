@@ -1,7 +1,7 @@
 use Rattle.std.specs.Prelude.{Err, option_map}
 use Rattle.std.proofs.Common.{◌≡◌, Bor, inl, inr, rules, subst}
-use Rattle.rpki.specs.Certificates.{TbsFields}
-use Rattle.rpki.specs.Verification.{ResourceFields}
+use Rattle.rpki_cert.specs.Certificates.{TbsFields}
+use Rattle.rpki_cert.specs.Verification.{ResourceFields}
 use Rattle.rpki_issuing.specs.PreparedOctets.{IsPrepared}
 use Rattle.rpki_files.specs.Files.{contents}
 use Rattle.rpki_requests.specs.RefusedErrands.{AreUnready}

@@ -1,5 +1,5 @@
 use Rattle.std.proofs.Common.{rules}
-use Rattle.rpki.specs.Keys.{IsPublicKey, public_key_format}
+use Rattle.rpki_parts.specs.Keys.{IsPublicKey, public_key_format}
 use Rattle.rpki_der.proofs.FormatAnswers.{alone_means}
 use Rattle.rpki_parts.proofs.PartFormats.{public_key_alone}
 use Rattle.rpki_issuing.proofs.WholeOctets.{whole_only}

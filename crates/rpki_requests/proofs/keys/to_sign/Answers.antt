@@ -1,9 +1,9 @@
 use Rattle.std.specs.Prelude.{Err}
 use Rattle.std.proofs.Common.{◌≡◌, refl, rules, sym, ap, subst, ◌∙◌}
 use Rattle.std.proofs.lemmas.Bool.{false≢true}
-use Rattle.rpki.specs.Certificates.{TbsFields}
-use Rattle.rpki.specs.KeyForms.{IsUsableKey}
-use Rattle.rpki.specs.Keys.{KeyFields}
+use Rattle.rpki_cert.specs.Certificates.{TbsFields}
+use Rattle.rpki_keys.specs.KeyForms.{IsUsableKey}
+use Rattle.rpki_parts.specs.Keys.{KeyFields}
 use Rattle.rpki_requests.proofs.keys.to_sign.Goals as goal
 
 pub returns-in_err-tbs : goal.returns-in_err-tbs

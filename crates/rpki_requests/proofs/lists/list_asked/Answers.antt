@@ -1,8 +1,8 @@
 use Rattle.std.specs.Prelude.{Err, option_map, Option}
 use Rattle.std.proofs.Common.{◌≡◌, ◌≢◌, ℕ, List, Bor, inl, inr, rules, sym, subst}
-use Rattle.rpki.specs.Certificates.{TbsFields}
-use Rattle.rpki.specs.Lists.{CrlFields, CrlState, ListFields}
-use Rattle.rpki.specs.RevokedEntries.{Revoked}
+use Rattle.rpki_cert.specs.Certificates.{TbsFields}
+use Rattle.rpki_crl.specs.Lists.{CrlFields, CrlState, ListFields}
+use Rattle.rpki_crl.specs.RevokedEntries.{Revoked}
 use Rattle.rpki_files.specs.Files.{contents}
 use Rattle.rpki_issuing.specs.OnlyValues.{IsOnly}
 use Rattle.rpki_issuing.specs.WantedLists.{IsListWanted, IsNoList}

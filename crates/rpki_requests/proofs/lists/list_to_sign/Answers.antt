@@ -1,7 +1,7 @@
 use Rattle.std.proofs.Common.{sym, ◌∙◌}
 use Rattle.std.proofs.lemmas.Bool.{false≢true}
-use Rattle.rpki.specs.Lists.{IsTbsCertList}
-use Rattle.rpki.specs.Place.{remaining}
+use Rattle.rpki_crl.specs.Lists.{IsTbsCertList}
+use Rattle.rpki_der.specs.Place.{remaining}
 use Rattle.rpki_issuing.proofs.WholeOctets.{none_whole, unread_whole, whole_is, whole_only}
 use Rattle.rpki_requests.proofs.lists.list_to_sign.Goals as goal
 

@@ -1,6 +1,6 @@
 use Rattle.std.specs.Prelude.{Err}
 use Rattle.std.proofs.Common.{◌≡◌, Option, refl, rules}
-use Rattle.rpki.specs.Lists.{CrlFields}
+use Rattle.rpki_crl.specs.Lists.{CrlFields}
 use Rattle.rpki_files.specs.Files.{contents}
 use Rattle.rpki_requests.specs.RequestFiles.{IsPreviousOf}
 use Rattle.rpki_requests.proofs.RevokedFiles.{previous_none, previous_not, previous_one, previous_several}

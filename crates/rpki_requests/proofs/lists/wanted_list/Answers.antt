@@ -1,6 +1,6 @@
 use Rattle.std.specs.Prelude.{Err, map, Option}
 use Rattle.std.proofs.Common.{◌≡◌, ℕ, inl, rules}
-use Rattle.rpki.specs.Times.{Moment}
+use Rattle.rpki_der.specs.Times.{Moment}
 use Rattle.rpki_files.specs.Files.{contents}
 use Rattle.rpki_issuing.specs.ValueTexts.{IsSerialText}
 use Rattle.rpki_requests.specs.OptionValues.{IsMomentSaid, SaysAtMostOnce, SaysOnce}

@@ -1,4 +1,4 @@
-use Rattle.rpki.specs.Certificates.{IsCertificate}
+use Rattle.rpki_cert.specs.Certificates.{IsCertificate}
 use Rattle.rpki_files.proofs.FoundOctets.{found_none, found_part, found_whole}
 use Rattle.rpki_requests.proofs.lists.whole_certificate.Goals as goal
 

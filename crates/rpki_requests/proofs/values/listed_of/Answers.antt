@@ -1,6 +1,6 @@
 use Rattle.std.specs.Prelude.{map}
 use Rattle.std.proofs.Common.{◌≡◌, ℕ, List, Bor, refl, sym, ap, subst, ◌∙◌}
-use Rattle.rpki.specs.Resources.{Resources}
+use Rattle.rpki_blocks.specs.Resources.{Resources}
 use Rattle.rpki_issuing.specs.BlockTexts.{AreListed}
 use Rattle.rpki_issuing.specs.OnlyValues.{IsOnly}
 use Rattle.rpki_requests.specs.RequestWords.{values_of}

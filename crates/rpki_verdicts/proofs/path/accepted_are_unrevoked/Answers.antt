@@ -1,6 +1,6 @@
 use Rattle.std.proofs.Common.{◌∷◌}
-use Rattle.rpki.specs.RsaSignatures.{IsSignedByRsa}
-use Rattle.rpki.specs.Verification.{context}
+use Rattle.rpki_keys.specs.RsaSignatures.{IsSignedByRsa}
+use Rattle.rpki_cert.specs.Verification.{context}
 use Rattle.rpki_verdicts.proofs.UnrevokedFiles.{accepted_unrevoked}
 use Rattle.rpki_verdicts.proofs.path.accepted_are_unrevoked.Goals as goal
 

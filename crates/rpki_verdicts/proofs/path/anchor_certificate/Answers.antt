@@ -1,7 +1,7 @@
 use Rattle.std.specs.Prelude.{Some, slice_get}
 use Rattle.std.proofs.Common.{rules, ◌≡◌, ◌∷◌, ◌∙◌, [], ℕ, List, sym, ap, subst}
-use Rattle.rpki.specs.Certificates.{IsCertificate}
-use Rattle.rpki.specs.Encoding.{Means}
+use Rattle.rpki_cert.specs.Certificates.{IsCertificate}
+use Rattle.rpki_der.specs.Encoding.{Means}
 use Rattle.rpki_files.specs.Files.{FileFields, contents}
 use Rattle.rpki_verdicts.specs.PathFiles.{QuestionFields}
 use Rattle.rpki_verdicts.proofs.path.anchor_certificate.Goals as goal

@@ -3,10 +3,10 @@ use Rattle.std.proofs.Common.{◌≡◌, [], List, length, sym, subst, ◌∙◌
 use Rattle.std.proofs.lemmas.Bool.{false≢true}
 use Rattle.std.proofs.lemmas.Bool.Decides.{Decides-eqb}
 use Rattle.std.proofs.lemmas.List.{length-map}
-use Rattle.rpki.specs.AskedLists.{by_lists}
-use Rattle.rpki.specs.Lists.{CrlState}
-use Rattle.rpki.specs.RsaSignatures.{IsSignedByRsa}
-use Rattle.rpki.specs.Verification.{context}
+use Rattle.rpki_path.specs.AskedLists.{by_lists}
+use Rattle.rpki_crl.specs.Lists.{CrlState}
+use Rattle.rpki_keys.specs.RsaSignatures.{IsSignedByRsa}
+use Rattle.rpki_cert.specs.Verification.{context}
 use Rattle.rpki_files.specs.Files.{contents}
 use Rattle.rpki_verdicts.specs.PathFiles.{QuestionFields, AreListsOf, demands_of}
 use Rattle.rpki_verdicts.specs.PathAnswers.{IsPathVerdict}

@@ -1,6 +1,6 @@
 use Rattle.std.proofs.Common.{subst, inl}
-use Rattle.rpki.specs.Certificates.{TbsFields}
-use Rattle.rpki.specs.SaidKinds.{SaysKind}
+use Rattle.rpki_cert.specs.Certificates.{TbsFields}
+use Rattle.rpki_cert.specs.SaidKinds.{SaysKind}
 use Rattle.rpki_verdicts.proofs.path.judged_as.Goals as goal
 
 pub returns-in-Some : goal.returns-in-Some

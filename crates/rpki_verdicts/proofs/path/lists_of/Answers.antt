@@ -1,5 +1,5 @@
 use Rattle.std.proofs.Common.{◌+◌, List, take, sym, subst}
-use Rattle.rpki.specs.Lists.{CrlFields, CrlState, IsCertificateList}
+use Rattle.rpki_crl.specs.Lists.{CrlFields, CrlState, IsCertificateList}
 use Rattle.rpki_files.specs.Contents.{IsList}
 use Rattle.rpki_verdicts.specs.PathFiles.{AreListsOf}
 use Rattle.rpki_files.specs.Files.{contents}

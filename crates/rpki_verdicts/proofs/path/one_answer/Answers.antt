@@ -1,5 +1,5 @@
-use Rattle.rpki.specs.RsaSignatures.{IsSignedByRsa}
-use Rattle.rpki.specs.Verification.{context}
+use Rattle.rpki_keys.specs.RsaSignatures.{IsSignedByRsa}
+use Rattle.rpki_cert.specs.Verification.{context}
 use Rattle.rpki_verdicts.proofs.OneVerdict.{never_both}
 use Rattle.rpki_verdicts.proofs.path.one_answer.Goals as goal
 

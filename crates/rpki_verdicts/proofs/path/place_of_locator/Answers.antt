@@ -1,6 +1,6 @@
 use Rattle.std.proofs.Common.{◌∙◌, ap, subst}
-use Rattle.rpki.specs.Certificates.{TbsFields}
-use Rattle.rpki.specs.Keys.{KeyFields}
+use Rattle.rpki_cert.specs.Certificates.{TbsFields}
+use Rattle.rpki_parts.specs.Keys.{KeyFields}
 use Rattle.rpki_verdicts.specs.GivenLocators.{HasKeyRead, IsFirst, locator_octets}
 use Rattle.rpki_verdicts.specs.PathFiles.{QuestionFields}
 use Rattle.rpki_verdicts.proofs.FoundLocators.{first_locator, none_of_other}

@@ -1,5 +1,5 @@
 use Rattle.std.proofs.lemmas.Bool.{false≢true}
-use Rattle.rpki.specs.NameChains.{strings_below}
+use Rattle.rpki_path.specs.NameChains.{strings_below}
 use Rattle.rpki_path.proofs.UnchainedNames.{all_read}
 use Rattle.rpki_verdicts.proofs.path.unchained.Goals as goal
 

@@ -1,9 +1,9 @@
 use Rattle.std.proofs.Common.{◌≡◌, ◌+◌, ◌-◌, ℕ, List, length, inl, inr, sym, ap, subst, ◌∙◌, arith}
 use Rattle.std.proofs.lemmas.Bool.{false≢true}
-use Rattle.rpki.specs.GivenPaths.{PathStrings}
-use Rattle.rpki.specs.Judging.{IsAcceptedWith}
-use Rattle.rpki.specs.RsaSignatures.{IsSignedByRsa}
-use Rattle.rpki.specs.Verification.{context}
+use Rattle.rpki_path.specs.GivenPaths.{PathStrings}
+use Rattle.rpki_path.specs.Judging.{IsAcceptedWith}
+use Rattle.rpki_keys.specs.RsaSignatures.{IsSignedByRsa}
+use Rattle.rpki_cert.specs.Verification.{context}
 use Rattle.rpki_files.specs.Contents.{BeginsWithCertificate}
 use Rattle.rpki_files.specs.Files.{contents}
 use Rattle.rpki_path.proofs.UnchainedNames.{accepted_begin}

@@ -1,6 +1,6 @@
 use Rattle.std.proofs.Common.{inr, map}
-use Rattle.rpki.specs.RsaSignatures.{IsSignedByRsa}
-use Rattle.rpki.specs.Verification.{context}
+use Rattle.rpki_keys.specs.RsaSignatures.{IsSignedByRsa}
+use Rattle.rpki_cert.specs.Verification.{context}
 use Rattle.rpki_verdicts.specs.Trees.{asked_of}
 use Rattle.rpki_verdicts.proofs.SearchSteps.{alone_in, wrong_in, with_first}
 use Rattle.rpki_verdicts.proofs.search.path_by.Goals as goal

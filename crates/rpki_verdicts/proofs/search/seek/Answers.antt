@@ -1,7 +1,7 @@
 use Rattle.std.proofs.Common.{map}
-use Rattle.rpki.specs.Ended.TheVariants.{Whole}
-use Rattle.rpki.specs.RsaSignatures.{IsSignedByRsa}
-use Rattle.rpki.specs.Verification.{context}
+use Rattle.rpki_folder.specs.declared.bounds.Ended.TheVariants.{Whole}
+use Rattle.rpki_keys.specs.RsaSignatures.{IsSignedByRsa}
+use Rattle.rpki_cert.specs.Verification.{context}
 use Rattle.rpki_verdicts.specs.Trees.{asked_of}
 use Rattle.rpki_verdicts.proofs.SearchSteps.{alone_in, of_first}
 use Rattle.rpki_verdicts.proofs.search.seek.Goals as goal

@@ -1,11 +1,11 @@
 use Rattle.std.specs.Prelude.{Ok}
 use Rattle.std.proofs.Common.{[], ℕ, List, length, map, sym, ap, subst, ◌∙◌}
 use Rattle.std.proofs.lemmas.List.{length-map}
-use Rattle.rpki.specs.AskedLists.{by_lists}
-use Rattle.rpki.specs.RsaSignatures.{IsSignedByRsa}
-use Rattle.rpki.specs.Verification.{context}
-use Rattle.rpki.specs.WalkError.{WalkError}
-use Rattle.rpki.specs.Walks.{Tells, at_anchor}
+use Rattle.rpki_path.specs.AskedLists.{by_lists}
+use Rattle.rpki_keys.specs.RsaSignatures.{IsSignedByRsa}
+use Rattle.rpki_cert.specs.Verification.{context}
+use Rattle.rpki_folder.specs.declared.walk_error.WalkError.{WalkError}
+use Rattle.rpki_folder.specs.Walks.{Tells, at_anchor}
 use Rattle.rpki_files.specs.Files.{FileFields}
 use Rattle.rpki_verdicts.specs.Trees.{HasNoneBelow, IsAnchorAt, every}
 use Rattle.rpki_verdicts.proofs.unordered.grown.Goals as goal

@@ -1,5 +1,5 @@
 use Rattle.std.proofs.Common.{refl, sym, subst, []}
-use Rattle.rpki.specs.Folders.{FolderFields}
+use Rattle.rpki_folder.specs.Folders.{FolderFields}
 use Rattle.rpki_verdicts.specs.Trees.{IsFolderOf}
 use Rattle.rpki_verdicts.proofs.unordered.judge_all.Goals as goal
 

@@ -1,5 +1,5 @@
 use Rattle.std.proofs.Common.{ap, ◌∙◌}
-use Rattle.rpki.specs.Certificates.{TbsFields}
+use Rattle.rpki_cert.specs.Certificates.{TbsFields}
 use Rattle.rpki_verdicts.proofs.TreeAnchors.{anchor_found, none_found, none_of_no_certificate}
 use Rattle.rpki_verdicts.proofs.unordered.locator_of.Goals as goal
 

@@ -2,8 +2,8 @@ use Rattle.std.specs.Prelude.{codes, if◌then◌else◌}
 use Rattle.std.proofs.Common.{◌≡◌, ◌∙◌, Bool, true, sym, ap}
 use Rattle.std.proofs.lemmas.Result.{IfOk-weaker}
 use Rattle.serde_json.specs.Data.{Data, string}
-use Rattle.rpki.specs.AddressBits.{is_prefix, prefix_bits}
-use Rattle.rpki.specs.Sets.{Block}
+use Rattle.rpki_blocks.specs.AddressBits.{is_prefix, prefix_bits}
+use Rattle.rpki_blocks.specs.Sets.{Block}
 use Rattle.rpki_text.specs.BlockLines.{family_address_text, family_text}
 use Rattle.rpki_answers.specs.JsonBlocks.{ends_json, block_json}
 use Rattle.rpki_answers.specs.JsonValues.{object_with}

@@ -1,7 +1,7 @@
 use Rattle.std.proofs.Common.{◌⊎◌, Result, ℕ, List, ⊎_elim, inl, inr, refl, subst, ◌∙◌}
 use Rattle.std.proofs.lemmas.Bool.{false≢true}
-use Rattle.rpki.specs.Locators.{IsLocator, NamedTal}
-use Rattle.rpki.specs.TalError.{TalError}
+use Rattle.rpki_keys.specs.Locators.{IsLocator, NamedTal}
+use Rattle.rpki_keys.specs.declared.tal.tal_error.TalError.{TalError}
 use Rattle.rpki_files.specs.Contents.{CanBeShown}
 use Rattle.rpki_files.specs.LocatorFiles.{IsReadAs, IsWhyNoLocator}
 use Rattle.rpki_answers.proofs.as_json.files.value_of_neither.Goals as goal

@@ -1,6 +1,6 @@
 use Rattle.std.specs.Prelude.{OnOk, Option, Some, None}
 use Rattle.std.proofs.Common.{ℕ, List, refl, subst}
-use Rattle.rpki.specs.Lists.{IsCertificateList}
+use Rattle.rpki_crl.specs.Lists.{IsCertificateList}
 use Rattle.rpki_answers.specs.JsonValues.{Pushes}
 use Rattle.rpki_answers.specs.JsonVerdicts.{IsLeftItem, left_items}
 use Rattle.rpki_answers.proofs.PushedItems.{left_pushed, none_pushed}

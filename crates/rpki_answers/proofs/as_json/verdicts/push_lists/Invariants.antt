@@ -1,5 +1,5 @@
 use Rattle.std.proofs.Common.{take}
-use Rattle.rpki.specs.Lists.{IsCertificateList}
+use Rattle.rpki_crl.specs.Lists.{IsCertificateList}
 use Rattle.rpki_answers.specs.JsonVerdicts.{IsLeftItem, PushesSome}
 use Rattle.rpki_answers.specs.VerdictTexts.{SaysOfEach}
 use Rattle.rpki_answers.proofs.as_json.verdicts.push_lists.Given as goal

@@ -1,5 +1,5 @@
 use Rattle.std.proofs.Common.{[], refl}
-use Rattle.rpki.specs.Certificates.{IsCertificate}
+use Rattle.rpki_cert.specs.Certificates.{IsCertificate}
 use Rattle.rpki_answers.specs.JsonVerdicts.{IsLeftItem}
 use Rattle.rpki_answers.specs.VerdictTexts.{SaysOfEach}
 use Rattle.rpki_answers.proofs.PushedItems.{none_pushed, item_more, items_said}

@@ -1,6 +1,6 @@
 use Rattle.std.proofs.Common.{rules, ◌≡◌, List, ℕ, sym, subst}
-use Rattle.rpki.specs.Locators.{uri_text}
-use Rattle.rpki.specs.TalUri.{TalUri}
+use Rattle.rpki_keys.specs.Locators.{uri_text}
+use Rattle.rpki_keys.specs.declared.tal.tal_uri.TalUri.{TalUri}
 use Rattle.rpki_text.specs.Pages.{Appends}
 use Rattle.rpki_answers.specs.ShownTexts.{location_line}
 use Rattle.rpki_answers.proofs.AppendedTexts.{then_appended}

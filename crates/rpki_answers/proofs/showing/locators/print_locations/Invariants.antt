@@ -1,6 +1,6 @@
 use Rattle.std.specs.List.{flat_map}
 use Rattle.std.proofs.Common.{take}
-use Rattle.rpki.specs.Locators.{uri_text}
+use Rattle.rpki_keys.specs.Locators.{uri_text}
 use Rattle.rpki_text.specs.Pages.{Appends}
 use Rattle.rpki_answers.specs.ShownTexts.{location_line}
 use Rattle.rpki_answers.proofs.showing.locators.print_locations.Given as goal

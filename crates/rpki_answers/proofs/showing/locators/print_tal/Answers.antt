@@ -1,8 +1,8 @@
 use Rattle.std.specs.List.{flat_map}
 use Rattle.std.proofs.Common.{rules, ◌≡◌, ℕ, List, ap, sym, subst, ◌∙◌}
 use Rattle.std.proofs.lemmas.List.Folds.{flat_map-map}
-use Rattle.rpki.specs.Keys.{key_identifier}
-use Rattle.rpki.specs.Locators.{uri_text}
+use Rattle.rpki_parts.specs.Keys.{key_identifier}
+use Rattle.rpki_keys.specs.Locators.{uri_text}
 use Rattle.rpki_text.specs.Pages.{Appends}
 use Rattle.rpki_answers.specs.ShownTexts.{location_line}
 use Rattle.rpki_answers.proofs.AppendedTexts.{then_appended, last_appended}

@@ -1,6 +1,6 @@
 use Rattle.std.specs.Prelude.{slice_get, Some, IsTrue}
 use Rattle.std.proofs.Common.{◌≡◌, ◌≢◌, ◌<◌, ℕ}
-use Rattle.rpki.specs.Line.{Line}
+use Rattle.rpki_folder.specs.declared.lines.Line.{Line}
 use Rattle.rpki_verdicts.specs.Trees.{accepts}
 use Rattle.rpki_verdicts.proofs.unordered.Tree.is_accepted.Given as goal
 
