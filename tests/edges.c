@@ -977,10 +977,10 @@ static uint32_t said(struct file path, const size_t *parts, size_t members, uint
 }
 
 /* a router below an anchor of AS1 to AS10: validation.vectors says what is valid there */
-static void routers(struct file anchor, struct file router, struct file trimming) {
-    struct file path = both(anchor, router), over = both(anchor, trimming);
+static void routers(struct file anchor, struct file router, struct file refusing) {
+    struct file path = both(anchor, router), over = both(anchor, refusing);
     const size_t parts[] = {anchor.length, router.length};
-    const size_t over_parts[] = {anchor.length, trimming.length};
+    const size_t over_parts[] = {anchor.length, refusing.length};
     static const uint8_t yes[] = {1, 1}, no[] = {1, 0}, neither[] = {0, 1};
     static const struct rpki_time before = {2019, 4, 30, 23, 59, 59, 0};
     struct rpki_as_range asn[2];
@@ -1731,8 +1731,8 @@ int main(int count, char **words) {
     struct file second = contents(words[1], "second.cer"), object = contents(words[1], "object.cer");
     struct file list = contents(words[1], "revoked.crl"), empty = contents(words[1], "first.crl");
     struct file above = contents(words[2], "anchor-asns.der");
-    struct file router = contents(words[2], "router.der");
-    struct file trimming = contents(words[2], "router-trimming.der");
+    struct file router = contents(words[2], "router-trimming.der");
+    struct file refusing = contents(words[2], "router.der");
     check(rpki_abi_version() == RPKI_ABI, "the library fits the header");
     cut_short(first, list);
     more(first);
@@ -1754,14 +1754,14 @@ int main(int count, char **words) {
     asked(anchor, first, empty, list);
     behind(anchor, first, empty, list);
     orders(words[3]);
-    routers(above, router, trimming);
+    routers(above, router, refusing);
     no_router(anchor, first, second, empty);
     chains(words[3], list);
     locators(words[3], list);
     folders(words[1]);
     issuing(anchor);
     issuing_lists(anchor, first, empty, list);
-    const struct file files[] = {anchor, first, second, object, list, empty, above, router, trimming};
+    const struct file files[] = {anchor, first, second, object, list, empty, above, router, refusing};
     for (size_t i = 0; i < sizeof files / sizeof *files; i++) free(files[i].octets);
     printf("%u passed, %u failed\n", passed, failed);
     return failed > 0;
