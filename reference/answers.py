@@ -378,6 +378,37 @@ def revocation_list(words):
     return line(first, ('asked', answers), ('cached', 'same'), *others)
 
 
+def stale(words):
+    try:
+        crl = ref.decode_crl(words.octets(1))
+    except ref.DecodeError as fault:
+        return refused(fault)
+    moments = map(show.moment_of, words.at(2).split(','))
+    return line('ok', *(('stale', show.yes(crl.tbs.is_stale(now))) for now in moments))
+
+
+def store(words):
+    """The list under a URI; a table of serial numbers walks over no list of three entries or more."""
+    store, tables, caches = ref.CrlStore(), [], False
+    for pair in words.at(1).split(';'):
+        if pair == 'cache':
+            caches = True
+        else:
+            [(uri, crl)] = pairs_of(pair)
+            store.push(uri, crl)
+            tables.append((crl, caches))
+    crl = store.get(words.octets(2))
+    if crl is None:
+        return 'none'
+    asked = [ref.contains_counted(crl.tbs.revoked, int(word, 16), False)
+             for word in words.at(3).split(',')]
+    has_table = next(cached for pushed, cached in tables if pushed is crl)
+    walked = not has_table and asked[-1][1] == len(list(crl.entries()))
+    return line('ok', ('crl-number', show.serial(crl.tbs.crl_number)),
+                *(('has', show.yes(hit)) for hit, _ in asked),
+                ('walked', show.yes(walked)))
+
+
 def fault_of(take, octets):
     try:
         take(octets)
@@ -500,6 +531,7 @@ WORDS = {
     'inspect': inspect, 'verify': verify, 'validate': validate,
     'extension': extension, 'compare': compare, 'write': write,
     'list': revocation_list, 'shared': lambda words: 'same', 'cut': cut,
+    'stale': stale, 'store': store,
     'path': path, 'names': names, 'run': run, 'run-unnamed': run_unnamed,
     'rearrange': rearrange, 'revocation': revocation, 'real-path': real_path,
     'real-revocation': lambda w: revocation(w, rsa.verifier),

@@ -2,11 +2,13 @@
 use crate::answer::Answer;
 use crate::certificates::captured;
 use crate::parts::{algorithm, key_identifier, serial, time};
+use crate::revocation::store_of;
 use crate::show::{Show, Twin, read, read_optional};
-use crate::words::{Words, octets};
+use crate::words::{Words, hexadecimal, moment, octets};
 use bytes::Bytes;
-use rpki_crl::{Crl, RevokedCertificates, TbsCertList};
+use rpki_crl::{Crl, CrlStore, RevokedCertificates, TbsCertList};
 use rpki_der::{Cursor, DecodeError, Serial};
+use rpki_parts::Rsync;
 use std::alloc::{AllocError, Global};
 
 fn head(out: &mut Answer, data: &TbsCertList<RevokedCertificates>) {
@@ -229,6 +231,65 @@ pub fn cut(words: &Words<'_>, out: &mut Answer) {
     out.name(name);
     out.text(":");
     out.range(from, octets.len().wrapping_sub(1));
+}
+
+fn stale_at(words: &Words<'_>, out: &mut Answer, crl: &Crl) {
+    out.text("ok");
+    for word in words.at(2).split(',') {
+        match moment(word) {
+            Some(now) => out.field("stale").yes(crl.as_cert_list().is_stale(now)),
+            None => out.text(" unfit"),
+        }
+    }
+}
+
+/// Answers whether a list is stale, at each of some moments.
+pub fn stale(words: &Words<'_>, out: &mut Answer) {
+    let octets = words.octets(out, 1);
+    match Crl::decode(out.alloc(), &octets) {
+        Ok(crl) => {
+            stale_at(words, out, &crl);
+            drop(crl);
+        }
+        Err(error) => out.refused(&error),
+    }
+}
+
+// Whether the list has each of some serial numbers, and whether to tell the last took a look at each
+// of its entries.
+fn kept(words: &Words<'_>, out: &mut Answer, crl: &Crl) {
+    let data = crl.as_cert_list();
+    out.text("ok");
+    serial(out.field("crl-number"), data.crl_number());
+    let mut last = 0usize;
+    for word in words.at(3).split(',') {
+        let (is_in, looks) = crl.contains_counted(Serial::from(hexadecimal(word)));
+        out.field("has").yes(is_in);
+        last = looks;
+    }
+    out.field("walked")
+        .yes(last == length(data.revoked_certs()));
+}
+
+fn kept_under(words: &Words<'_>, out: &mut Answer, store: &CrlStore) {
+    match Rsync::from_bytes(words.bytes(out, 2)) {
+        Ok(uri) => match store.get(&uri) {
+            Some(crl) => kept(words, out, crl),
+            None => out.text("none"),
+        },
+        Err(_) => out.text("unfit"),
+    }
+}
+
+/// Answers which list a store has under a URI, and what that list says of some serial numbers.
+pub fn store(words: &Words<'_>, out: &mut Answer) {
+    match store_of(out, words.at(1), false) {
+        Some(store) => {
+            kept_under(words, out, &store);
+            drop(store);
+        }
+        None => out.text("unfit"),
+    }
 }
 
 /// Answers whether octets that are shared are answered as octets that are copied.

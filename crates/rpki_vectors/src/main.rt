@@ -63,6 +63,11 @@
 //! - `list HEX SERIALS`: a list, by each of the calls that read one, and of each serial number
 //!   whether it is revoked and how many entries are looked at; SERIALS is HEX,HEX,..
 //! - `cut HEX`: what each front of a list answers, and for which lengths.
+//! - `stale HEX MOMENT,MOMENT,..`: whether a list is stale, at each of these moments.
+//! - `store STORE URI SERIAL,SERIAL,..`: the number of the list that is found under a URI (HEX) of a
+//!   store, as above, in which `cache` among the pairs turns on the table of those pushed from there
+//!   on; whether it has each serial number (hexadecimal digits); and whether telling the last took a
+//!   look at each of its entries.
 //!
 //! Extensions:
 //! - `extension HEX`: identifier, flag and content.
@@ -171,6 +176,8 @@ fn of_several(words: &Words<'_>, out: &mut Answer) -> bool {
         "list" => lists::list(words, out),
         "shared" => shared(words, out),
         "cut" => lists::cut(words, out),
+        "stale" => lists::stale(words, out),
+        "store" => lists::store(words, out),
         "rearrange" => rearranging::rearrange(words, out),
         "path" => paths::path(words, out),
         "names" => paths::names(words, out),

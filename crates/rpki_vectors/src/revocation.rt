@@ -32,7 +32,7 @@ fn store_pair(out: &mut Answer, store: &mut CrlStore, pair: &str) -> Option<()> 
     Some(())
 }
 
-/// Returns the store of a word; `-` for one without lists.
+/// Returns the store of a word; `-` for one without lists. Lists behind a `cache` get a table.
 pub fn store_of(out: &mut Answer, word: &str, is_cached: bool) -> Option<CrlStore> {
     let mut store = CrlStore::new(out.alloc());
     if is_cached {
@@ -43,7 +43,11 @@ pub fn store_of(out: &mut Answer, word: &str, is_cached: bool) -> Option<CrlStor
     }
     let mut is_fit = true;
     for pair in word.split(';') {
-        is_fit = is_fit && store_pair(out, &mut store, pair).is_some();
+        if pair == "cache" {
+            store.enable_serial_caching();
+        } else {
+            is_fit = is_fit && store_pair(out, &mut store, pair).is_some();
+        }
     }
     if is_fit {
         Some(store)
