@@ -4,7 +4,7 @@
     docs/make_api.py            writes the pages
     docs/make_api.py --check    writes nothing, and exits with 1 where a page isn't up to date
 
-Both exit with 1 where a public name has no section.
+Both exit with 1 if a public name has no section, or a definition that a clause cites has no line.
 
 A page has each public item of its module: the comment, the signature, the clauses of the contract,
 and where the definitions stand that the clauses cite. Plain Python 3, standard library alone.
@@ -24,6 +24,10 @@ OF_TRAIT = re.compile(r"impl(?:<[^{]*?>)? ((?:fmt::)?[A-Z][A-Za-z]*(?:<[^{]*>)?)
 PRIVATE = {"view", "inverse", "inverse_ok", "laws", "Value", "invariant"}
 # Views, which definitions have, and comparing, which the page of that name has.
 ELSEWHERE = {"Model", "PartialEq", "Eq", "PartialOrd", "Ord", "Hash", "Clone"}
+# A line at which a clause begins.
+CLAUSE = re.compile(r"\s*(?:requires|ensures)\b")
+# What may stand before a definition's name.
+DEFINES = re.compile(r"(?:(?:abbrev|unfoldable|data|record|pub) )*")
 FROM = re.compile(r"impl(?:<[^{]*?>)? (From<.*>|FromIterator<.*>|fmt::Display|Display) for ([A-Z][A-Za-z0-9]*)")
 
 
@@ -52,21 +56,38 @@ class Source:
         return " ".join(reversed(found))
 
     def signature(self, at):
-        """A function's head with its clauses, without its body."""
+        """A function's head with its clauses, without its body. The braces of a clause are closed
+        before the body's opens."""
+        indent = len(self.lines[at]) - len(self.lines[at].lstrip())
+        taken, open_braces = [], 0
+        for line in self.lines[at:]:
+            bare = line[indent:] if line[:indent].strip() == "" else line
+            of_clause = open_braces or CLAUSE.match(bare)
+            if not of_clause and bare.rstrip() in ("{", "{}", "{ }"):
+                break
+            if not of_clause and bare.endswith((" {", " {}")):
+                taken.append(bare.rpartition(" {")[0])
+                break
+            taken.append(bare)
+            if of_clause:
+                open_braces += bare.count("{") - bare.count("}")
+            elif bare.endswith(";"):
+                break
+        return taken
+
+    def constant(self, at):
+        """A constant's declaration, to its semicolon."""
         indent = len(self.lines[at]) - len(self.lines[at].lstrip())
         taken = []
         for line in self.lines[at:]:
-            bare = line[indent:] if line[:indent].strip() == "" else line
-            if bare in ("{", "{}", "{ }") or bare.rstrip() == "{}":
+            taken.append(line[indent:])
+            if line.endswith(";"):
                 break
-            if bare.endswith(" {") and not bare.lstrip().startswith("ensures"):
-                taken.append(bare[:-2])
-                break
-            if bare.endswith(" {}"):
-                taken.append(bare[:-3])
-                break
-            taken.append(bare)
         return taken
+
+    def declaration(self, kind, at):
+        """What a call or a constant of a type is shown by."""
+        return self.constant(at) if kind == "const" else self.signature(at)
 
     def promises(self, at):
         """What an impl of a trait promises in its own words: its lines `ghost NAME = { .. };`."""
@@ -136,6 +157,8 @@ class Library:
 
 
 LIBRARIES = {}
+# The definitions whose lines weren't found.
+UNPLACED = set()
 
 
 def library(crate):
@@ -152,14 +175,23 @@ def declared(crate, name):
 
 
 def definition(crate, module, name):
-    """Where a definition stands: a path from the root, with its line."""
+    """Where a definition stands: a path from the root, with its line. One that a file hands on is
+    looked for in the file that has it; a constructor stands inside its type."""
     path = CRATES / crate / "specs" / (module.replace(".", "/") + ".antt")
     if not path.exists():
         return None
-    wanted = re.compile(r"(?:abbrev |data |record )*pub (?:record |data |abbrev )*" + re.escape(name) + r"\b")
-    for number, line in enumerate(path.read_text().split("\n"), 1):
-        if wanted.match(line):
-            return f"{path.relative_to(ROOT)}#L{number}"
+    text = path.read_text()
+    handed = re.search(r"^pub use Rattle\.(rpki_\w+)\.specs\.([\w.]+)\.\{[^}]*\b" + re.escape(name) + r"\b[^}]*\}",
+                       text, flags=re.M)
+    if handed:
+        return definition(*handed.groups(), name)
+    wanted = re.compile(DEFINES.pattern + r"pub " + DEFINES.pattern + re.escape(name) + r"\b")
+    inside = re.compile(r"  (?:\w+ )*" + re.escape(name) + r" (?:\w+ )*:")
+    for line_is in (wanted, inside):
+        for number, line in enumerate(text.split("\n"), 1):
+            if line_is.match(line):
+                return f"{path.relative_to(ROOT)}#L{number}"
+    UNPLACED.add(f"{name} in {path.relative_to(ROOT)}")
     return str(path.relative_to(ROOT))
 
 
@@ -198,7 +230,15 @@ def entry(page, title, source, at, code, level):
     return out
 
 
-def of_item(page, crate, name, public):
+def is_public(trait, home):
+    """Whether callers can name a trait: a library's own is one that the facade hands on."""
+    name = re.match(r"(?:\w+::)*(\w+)", trait).group(1)
+    own = {crate for crate, lib in LIBRARIES.items()
+           if any(kind == "trait" for _, kind, _, _ in lib.items.get(name, []))}
+    return not own or any(crate in own and path.rpartition("::")[2] == name for crate, path in home)
+
+
+def of_item(page, crate, name, public, home):
     lib = library(crate)
     if lib.item(name) is None:
         return None
@@ -210,10 +250,12 @@ def of_item(page, crate, name, public):
     if gives:
         out += wrapped("Implements " + ", ".join(gives) + ".") + [""]
     for trait, where, line in lib.promised.get(name, []):
+        if not is_public(trait, home):
+            continue
         code = [where.lines[line].rstrip(" {")] + where.promises(line)
         out += entry(page, f"`{trait}` of `{public}`", where, line, code, 3)
-    for _, call, where, line in lib.calls.get(name, []):
-        out += entry(page, f"`{public}::{call}`", where, line, where.signature(line), 3)
+    for kind, call, where, line in lib.calls.get(name, []):
+        out += entry(page, f"`{public}::{call}`", where, line, where.declaration(kind, line), 3)
     return out
 
 
@@ -277,7 +319,7 @@ def pages(missing):
             if at != page:
                 body += [f"- `{public}`: [here]({at.relative_to(page.parent)})"]
                 continue
-            sections = of_item(page, crate, name, public) or of_module(page, crate, name, public)
+            sections = of_item(page, crate, name, public, home) or of_module(page, crate, name, public)
             if not sections:
                 missing.append(f"{module}::{public}")
             body += sections
@@ -317,8 +359,10 @@ def main():
     index += ["", "## By name", ""]
     index += by_name(calls)
     made[PAGES / "README.md"] = "\n".join(index) + "\n"
-    for name in missing:
-        print(f"no section: {name}")
+    missing = [f"no section: {name}" for name in missing]
+    missing += [f"no line: {name}" for name in sorted(UNPLACED)]
+    for line in missing:
+        print(line)
     if "--check" in sys.argv[1:]:
         stale = [page for page, text in made.items() if not page.exists() or page.read_text() != text]
         stale += [page for page in PAGES.rglob("*.md") if page not in made]
