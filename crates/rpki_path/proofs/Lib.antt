@@ -20,3 +20,8 @@ pub mod LatestLists
 pub mod AskedList
 pub mod SameLists
 pub mod AskedAlike
+-- ---- issuers that come twice
+pub mod AskedByEntity
+pub mod CutPaths
+mod ComparedIssuers
+pub mod UnrepeatedPaths

@@ -11,3 +11,5 @@ pub mod LocatedPaths
 -- ---- who answers for revocation
 pub mod Asking
 pub mod AskedLists
+-- ---- issuers that come twice
+pub mod Repeats

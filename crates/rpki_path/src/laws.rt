@@ -1,6 +1,6 @@
 //! Laws about paths. Each is the contract of a function with no parameters, whose body names at
 //! most the law that it stands on.
-ghost use Rattle.std.specs.Prelude.{◌≡◌, ◌≤◌, ◌↔◌, ℕ, Bool, List, [], ◌∷◌, ◌++◌};
+ghost use Rattle.std.specs.Prelude.{◌≡◌, ◌+◌, ◌-◌, ◌<◌, ◌≤◌, ◌↔◌, ℕ, Bool, List, [], ◌∷◌, ◌++◌};
 ghost use Rattle.rpki_der.specs.Times.{Moment};
 ghost use Rattle.rpki_cert.specs.Certificates.{CertFields, IsCertificate};
 ghost use Rattle.rpki_cert.specs.Validation.{IsValidBelow};
@@ -11,6 +11,7 @@ ghost use Rattle.rpki_path.specs.Asking.{IsUnrevokedBy};
 ghost use Rattle.rpki_path.specs.NameChains.{IsNamedBelow, IsSelfNamed, NamesChain};
 ghost use Rattle.rpki_path.specs.Paths.{Member, member, longer, certificate_at, candidate, HasHeld, IsValidPath, IsAccepted};
 ghost use Rattle.rpki_path.specs.Paths.{Path, last, NumberKind, greatest_number, Holds, HeldAt, Candidate, IsPathOf, PassesMore};
+ghost use Rattle.rpki_path.specs.Repeats.{AreOneEntity, AsksByEntity, HasNoRepeat, IsShortened, IsWalkable, without};
 
 use crate::revocation::RevocationSource;
 use rpki_cert::laws;
@@ -68,4 +69,36 @@ pub fn names_step_by_step()
         → NamesChain (record { anchor = c; below = [] }) ↔ IsSelfNamed c }
     ensures below { (p : Path) (m : Member) → NamesChain (longer p m)
         ↔ (NamesChain p × IsNamedBelow (certificate_at p (last p)) m.cert) }
+{}
+
+/// Says that a walkable path on which one entity stands twice stays walkable without the
+/// certificates between (`walkable`), is shorter by these (`shorter`), holds at least as much
+/// (`holds`), and ends in the same certificate, unless that is the second of the two (`end`). The
+/// first premise is about who is asked for revocation
+/// ([`crate::revocation::laws::asks_by_entity`]).
+pub fn cut_is_walkable<R: RevocationSource, V: Verifier>()
+    ensures walkable { (verifier : V) (source : R) (now : Moment) (strict names : Bool)
+        (p : Path) (i j : ℕ)
+        → let x = context (V.verifies verifier) now strict in
+        let asked = R.asks source x in
+        AsksByEntity names asked → IsWalkable x asked names p → i < j → j ≤ last p
+        → AreOneEntity names (certificate_at p i) (certificate_at p j)
+        → IsWalkable x asked names (without p i j) }
+    ensures shorter { (p : Path) (i j : ℕ) → i < j → j ≤ last p
+        → last (without p i j) + (j - i) ≡ last p }
+    ensures holds { (p : Path) (i j : ℕ) → i < j → j ≤ last p → (k : NumberKind) (n : ℕ)
+        → Holds p (last p) k n → Holds (without p i j) (last (without p i j)) k n }
+    ensures end { (p : Path) (i j : ℕ) → i < j → j < last p
+        → certificate_at (without p i j) (last (without p i j)) ≡ certificate_at p (last p) }
+{}
+
+/// Says that each certificate to which a walkable path leads has one on which no issuer stands
+/// twice, made of certificates of the first path, which isn't longer and whose last certificate
+/// holds at least as much. So a walk that goes on below no entity that stands above loses nothing.
+pub fn has_no_repeat<R: RevocationSource, V: Verifier>()
+    ensures { (verifier : V) (source : R) (now : Moment) (strict names : Bool) (p : Path)
+        → let x = context (V.verifies verifier) now strict in
+        let asked = R.asks source x in
+        AsksByEntity names asked → IsWalkable x asked names p
+        → (q : Path) × IsWalkable x asked names q × HasNoRepeat names q × IsShortened p q }
 {}

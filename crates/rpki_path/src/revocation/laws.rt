@@ -5,8 +5,10 @@ ghost use Rattle.rpki_cert.specs.Certificates.{TbsFields, CertFields};
 ghost use Rattle.rpki_cert.specs.Verification.{context};
 ghost use Rattle.rpki_crl.specs.Lists.{CrlState};
 ghost use Rattle.rpki_crl.specs.declared.revocation_error.RevocationError.{RevocationError};
-ghost use Rattle.rpki_path.specs.Asking.{IsUnrevokedBy};
+ghost use Rattle.rpki_crl.specs.Stores.{Stored};
+ghost use Rattle.rpki_path.specs.Asking.{IsUnrevokedBy, nobody, by_uri};
 ghost use Rattle.rpki_path.specs.AskedLists.{AreSameLists, by_lists, LeavesUnrevoked};
+ghost use Rattle.rpki_path.specs.Repeats.{AsksByEntity};
 
 use rpki_parts::Verifier;
 
@@ -33,4 +35,15 @@ pub fn blind_to_order<V: Verifier>()
         (issuer : TbsFields) (c : CertFields)
         → let x = context (V.verifies v) now strict in AreSameLists lists others
         → IsUnrevokedBy (by_lists x lists) issuer c ↔ IsUnrevokedBy (by_lists x others) issuer c }
+{}
+
+/// Says that who is asked here looks at no more of an issuer than its key and its identifier:
+/// nobody, the lists of a store, and given lists. So two certificates of one CA's key ask the same
+/// of what stands below ([`crate::laws::cut_is_walkable`]).
+pub fn asks_by_entity<V: Verifier>()
+    ensures nobody { (names : Bool) → AsksByEntity names nobody }
+    ensures uri { (v : V) (now : Moment) (strict names : Bool) (pairs : List Stored)
+        → let x = context (V.verifies v) now strict in AsksByEntity names (by_uri x pairs) }
+    ensures lists { (v : V) (now : Moment) (strict names : Bool) (lists : List CrlState)
+        → let x = context (V.verifies v) now strict in AsksByEntity names (by_lists x lists) }
 {}
