@@ -1,8 +1,9 @@
 #!/usr/bin/env python3
 """Writes what callers read of the tables of faults in crates/rpki_files: the numbers of parts and
-faults in include/rpki.h, and the names of faults in the documentation of callers/rust.
+faults in include/rpki.h, the enums FaultCode of callers/python and callers/rust, and the names of
+faults in the documentation of callers/rust.
 
-    docs/make_header.py            writes both
+    docs/make_header.py            writes all
     docs/make_header.py --check    writes nothing, and exits with 1 where one isn't up to date
 
 A comment that stands above a number of the header, or behind it, stays with the number. Plain
@@ -17,6 +18,8 @@ ROOT = Path(__file__).resolve().parent.parent
 TABLES = ROOT / "crates" / "rpki_files" / "src" / "faults.rt"
 HEADER = ROOT / "include" / "rpki.h"
 CRATE = ROOT / "callers" / "rust" / "src" / "fault.rs"
+RUST_CODES = ROOT / "callers" / "rust" / "src" / "code.rs"
+PYTHON_CODES = ROOT / "callers" / "python" / "rpki" / "_faults.py"
 PREFIXES = {
     "GENERAL": "",
     "READING": "DECODE_",
@@ -120,6 +123,57 @@ def documented(crate, kind, names):
     return crate[: above.start(1)] + told + crate[above.end(1) :]
 
 
+PYTHON_HEAD = '''\
+"""The numbers of faults, as enum rpki_fault of rpki.h has them. docs/make_header.py writes this."""
+
+import enum
+
+
+class FaultCode(enum.IntEnum):
+    """The number of a fault, by its name in rpki.h without RPKI_. A fault of reading that speaks of a
+    part (DECODE_MISSING, DECODE_DUPLICATE ..) is here without the part's number."""
+
+'''
+
+RUST_HEAD = '''\
+//! The numbers of faults, as enum rpki_fault of rpki.h has them. docs/make_header.py writes this.
+
+/// The number of a fault, by its name in rpki.h. A fault of reading that speaks of a part
+/// (`DecodeMissing`, `DecodeDuplicate` ..) is here without the part's number.
+#[derive(Clone, Copy, Debug, PartialEq, Eq, Hash, PartialOrd, Ord)]
+#[non_exhaustive]
+#[repr(u32)]
+pub enum FaultCode {
+'''
+
+RUST_MIDDLE = '''\
+}
+
+impl FaultCode {
+    /// Returns the code with this number, if there is one.
+    pub fn of(number: u32) -> Option<FaultCode> {
+        ALL.iter().copied().find(|it| *it as u32 == number)
+    }
+}
+
+const ALL: &[FaultCode] = &[
+'''
+
+
+def python_codes(codes):
+    """The source of Python's enum of these numbers and names."""
+    return PYTHON_HEAD + "".join(f"    {name[5:]} = {number}\n" for number, name in codes)
+
+
+def rust_codes(codes):
+    """The source of Rust's enum of these numbers and names."""
+    named = [(number, name[5:].title().replace("_", "")) for number, name in codes]
+    variants = "".join(f"    /// `RPKI_{name[5:]}` of rpki.h.\n    {rust} = {number},\n"
+                       for (_, name), (number, rust) in zip(codes, named))
+    listed = "".join(f"    FaultCode::{rust},\n" for _, rust in named)
+    return f"{RUST_HEAD}{variants}{RUST_MIDDLE}{listed}];\n"
+
+
 def main():
     text, header, crate = TABLES.read_text(), HEADER.read_text(), CRATE.read_text()
     made = enum(header, "rpki_field", list(parts(text)))
@@ -127,10 +181,13 @@ def main():
     told = crate
     for kind, table in KINDS.items():
         told = documented(told, kind, re.findall(r'^    \d+ "(\w+)"', rows(text, table), re.M))
+    codes = [it for it in sorted(faults(text)) if it[0] != 0]
+    files = {HEADER: made, CRATE: told, RUST_CODES: rust_codes(codes),
+             PYTHON_CODES: python_codes(codes)}
     if sys.argv[1:] == ["--check"]:
-        return 0 if (made, told) == (header, crate) else 1
-    HEADER.write_text(made)
-    CRATE.write_text(told)
+        return 0 if all(it.exists() and it.read_text() == files[it] for it in files) else 1
+    for file, written in files.items():
+        file.write_text(written)
     return 0
 
 

@@ -259,7 +259,7 @@ class Package:
         at = datetime(*question.moment(), tzinfo=timezone.utc)
         try:
             last = self.last[question.kinds[-1]]
-            held = self.rpki.validate(question.members, last=last, lists=None, at=at)
+            held = self.rpki.validate(question.members, last=last, lists=None, locator=None, at=at)
         except self.rpki.Fault as fault:
             return Answer(fault.member, self.known.checked(fault.number, fault.name))
         four, six = (tuple((int(low), int(high)) for low, high in it.ranges)

@@ -23,9 +23,11 @@ Exceptions. str(fault) is such as "member 2: certificate revoked (Revoked)":
     NamesFault           its issuer isn't the subject of the member above it
     LocatorFault         the file is no locator, or the trust anchor has another key
     IssuingFault         no certificate or list can be issued so
-    TypeError            octets are wanted, and a text, a path or another value was given
-    ValueError           the call itself is wrong: no members, a moment without a time zone ..
+    TypeError            an argument has another type: a text for bytes, 1 for a Kind ..
+    ValueError           the call itself is wrong: no members, a time without a time zone ..
     MemoryError          memory ran out
+
+`fault.code` is a member of FaultCode, which names every number: FaultCode.REVOCATION_REVOKED.
 
 Kinds, as which a certificate is judged (help(rpki.Kind) says when):
 
@@ -78,16 +80,19 @@ where the system looks for libraries. ImportError says where it isn't.
 
 from __future__ import annotations
 
+import bisect
 import enum
+import io
 import ipaddress
 import os
 from collections.abc import Iterable, Iterator, Mapping, Sequence
 from dataclasses import dataclass
 from datetime import datetime, timezone
 from functools import cached_property
-from typing import Generic, TypeVar, Union, cast
+from typing import BinaryIO, Generic, TypeVar, Union, cast
 
 from . import _library as raw
+from ._faults import FaultCode
 
 __all__ = [
     "Addresses",
@@ -96,6 +101,7 @@ __all__ = [
     "DecodeFault",
     "Entry",
     "Fault",
+    "FaultCode",
     "Folder",
     "INHERIT",
     "Inherit",
@@ -136,6 +142,8 @@ class Fault(Exception):
         is a locator's or a list's.
     revocation_list: the place, among the lists that were given, of one that can't be read; else
         None.
+    argument: the argument of `prepare`, `complete`, `prepare_list` or `complete_list` that is wrong,
+        such as `key`, `uris['crl']` or `not_after`; else None.
     octet: where the reading of a certificate or a list stops: what stands before this octet was
         read, and from there on stands none of the part that has to come next. None of all faults
         but a DecodeFault, and of one that other octets stand behind a list.
@@ -146,7 +154,8 @@ class Fault(Exception):
         None.
 
     str() of it has place, sentence and name: `member 2: certificate revoked (Revoked)`. Without a
-    place it begins with the sentence, and of a list that can't be read with `list 1: `.
+    place it begins with the sentence, of a list that can't be read with `list 1: `, and of a wrong
+    argument with its name: `key: no public key (NoKey)`.
     """
 
     number: int
@@ -154,6 +163,7 @@ class Fault(Exception):
     sentence: str
     member: int | None
     revocation_list: int | None
+    argument: str | None
     octet: int | None
     field: str | None
     wanted: str | None
@@ -165,21 +175,30 @@ class Fault(Exception):
         member: int | None = None,
         revocation_list: int | None = None,
         stop: _Stop | None = None,
+        argument: str | None = None,
     ) -> None:
         self.number = number
         self.name = raw.fault_name(number)
         self.sentence = raw.fault_sentence(number)
         self.member = member
         self.revocation_list = revocation_list
+        self.argument = argument
         self.octet, self.field, self.wanted, self.found = stop or (None, None, None, None)
         self._stop = stop
-        places = [("member", member), ("list", revocation_list)]
-        place = "".join(f"{what} {at}: " for what, at in places if at is not None)
+        places = [("member ", member), ("list ", revocation_list), ("", argument)]
+        place = "".join(f"{what}{at}: " for what, at in places if at is not None)
         super().__init__(f"{place}{self.sentence} ({self.name})")
 
-    def __reduce__(self) -> tuple[type[Fault], tuple[int, int | None, int | None, _Stop | None]]:
+    @property
+    def code(self) -> FaultCode:
+        """The number, by its name in rpki.h. A fault of reading that speaks of a part has a number
+        of its own for each part; this is the one without the part."""
+        return FaultCode(_without_part(self.number))
+
+    def __reduce__(self) -> tuple[type[Fault], tuple[object, ...]]:
         """Makes it anew of what it was made of, in another process too."""
-        return type(self), (self.number, self.member, self.revocation_list, self._stop)
+        made = self.number, self.member, self.revocation_list, self._stop, self.argument
+        return type(self), made
 
 
 class DecodeFault(Fault):
@@ -211,6 +230,11 @@ class IssuingFault(Fault):
     """The key, the fields or the octets are none of a certificate or list that can be issued."""
 
 
+def _without_part(number: int) -> int:
+    """The number of a fault of reading, without that of the part that it speaks of."""
+    return number - number % 20 if 120 <= number < 220 else number
+
+
 # by the number, or by its hundreds
 _FAULTS: dict[int, type[Fault]] = {
     1: DecodeFault,
@@ -230,10 +254,11 @@ def _fault(
     member: int | None = None,
     revocation_list: int | None = None,
     stop: _Stop | None = None,
+    argument: str | None = None,
 ) -> Fault:
     """The exception of a fault."""
     kind = _FAULTS.get(number, _FAULTS.get(number // 100, Fault))
-    return kind(number, member, revocation_list, stop)
+    return kind(number, member, revocation_list, stop, argument)
 
 
 def _stop(octets: bytes, is_list: bool) -> _Stop | None:
@@ -253,9 +278,10 @@ def _raise(
     member: int | None = None,
     revocation_list: int | None = None,
     unread: tuple[bytes, bool] | None = None,
+    argument: str | None = None,
 ) -> None:
-    """Raises the exception of a fault, where there is one: of reading these octets, or of another
-    kind. They are read as a list, or as a certificate."""
+    """Raises the exception of a fault, if there is one: of reading these octets, as a list or as a
+    certificate; of an argument; or of another kind."""
     if fault == raw.OK:
         return
     if fault == raw.MEMORY:
@@ -263,7 +289,7 @@ def _raise(
     if fault == raw.BAD_CALL:
         raise ValueError("lengths or numbers of the call don't fit")
     stop = _stop(*unread) if unread is not None and 100 <= fault < 300 else None
-    raise _fault(fault, member, revocation_list, stop)
+    raise _fault(fault, member, revocation_list, stop, argument)
 
 
 def _raise_at(fault: int, index: int, members: Sequence[bytes], lists: Sequence[bytes]) -> None:
@@ -296,13 +322,26 @@ class Addresses(Generic[Address]):
         for first, last in self.ranges:
             yield from ipaddress.summarize_address_range(first, last)
 
-    def __contains__(self, what: Address | Network) -> bool:
-        """Tells whether an address, or all of a network, is in the set."""
-        first, last = (what[0], what[-1]) if isinstance(what, _NETWORKS) else (what, what)
-        return any(
-            first.version == low.version and int(low) <= int(first) and int(last) <= int(high)
-            for low, high in self.ranges
-        )
+    def __contains__(self, what: Address | Network | str) -> bool:
+        """Returns whether an address, or all of a network, is in the set. A text is that of either:
+        `"10.0.0.0/24" in held.ipv4`."""
+        network = ipaddress.ip_network(what) if isinstance(what, str) else what
+        first, last = (network[0], network[-1]) if isinstance(network, _NETWORKS) else (what, what)
+        at = bisect.bisect_right(self._firsts, int(first)) - 1
+        if at < 0 or first.version != self.ranges[at][0].version:
+            return False
+        return int(last) <= int(self.ranges[at][1])
+
+    contains = __contains__
+
+    @cached_property
+    def _firsts(self) -> list[int]:
+        return [int(first) for first, _ in self.ranges]
+
+    @cached_property
+    def networks(self) -> tuple[Network, ...]:
+        """The fewest networks that make it up, in ascending order."""
+        return tuple(self)
 
     def __bool__(self) -> bool:
         return bool(self.ranges)
@@ -325,8 +364,15 @@ class AsNumbers:
         return iter(self.ranges)
 
     def __contains__(self, number: int) -> bool:
-        """Tells whether an AS number is in the set."""
-        return any(number in numbers for numbers in self.ranges)
+        """Returns whether an AS number is in the set."""
+        at = bisect.bisect_right(self._firsts, number) - 1
+        return at >= 0 and number in self.ranges[at]
+
+    contains = __contains__
+
+    @cached_property
+    def _firsts(self) -> list[int]:
+        return [numbers[0] for numbers in self.ranges]
 
     def __bool__(self) -> bool:
         return bool(self.ranges)
@@ -343,6 +389,17 @@ class Resources:
     ipv4: Addresses[ipaddress.IPv4Address]
     ipv6: Addresses[ipaddress.IPv6Address]
     as_numbers: AsNumbers
+
+    def allows(
+        self, as_number: int | None = None, prefix: Network | str | None = None
+    ) -> bool:
+        """Returns whether both are held: the AS number, and all of the prefix. One that isn't given
+        is not asked."""
+        if prefix is not None:
+            network = ipaddress.ip_network(prefix) if isinstance(prefix, str) else prefix
+            if network not in (self.ipv4 if network.version == 4 else self.ipv6):
+                return False
+        return as_number is None or as_number in self.as_numbers
 
 
 def _ipv4(ranges: Sequence[raw.IpRange]) -> Addresses[ipaddress.IPv4Address]:
@@ -361,22 +418,43 @@ def _as_numbers(ranges: Sequence[raw.AsRange]) -> AsNumbers:
 
 # ---- certificates
 
-Octets = Union[bytes, bytearray, memoryview]
+Octets = Union[bytes, bytearray, memoryview, "os.PathLike[str]", "BinaryIO"]
 
 
 def _bytes(octets: Octets, name: str = "octets") -> bytes:
-    """The octets of a bytes-like object as they are now. Of a number, of which bytes() makes zeros,
-    of a text and of a path this raises TypeError, which names the argument."""
+    """The bytes of a bytes-like object as they are now, of the file that a Path names, or of a file
+    object that is open in binary mode, from where it is to its end. Raises TypeError, which names
+    the argument, for everything else: for a text too, since it may be a name or the content."""
     if isinstance(octets, bytes):
         return octets
-    if isinstance(octets, (str, os.PathLike)):
-        given = type(octets).__name__
-        remedy = "Path(..).read_bytes() gives those of a file"
-        raise TypeError(f"{name}: octets are wanted, not {given}: {remedy}")
+    if isinstance(octets, os.PathLike):
+        with open(octets, "rb") as file:
+            return file.read()
+    if hasattr(octets, "read"):
+        read = octets.read()
+        if not isinstance(read, bytes):
+            raise TypeError(f"{name}: the file is open in text mode; open it with mode 'rb'")
+        return read
+    remedy = "; Path(..) names a file" if isinstance(octets, str) else ""
     try:
         return bytes(memoryview(octets))
     except TypeError as error:
-        raise TypeError(f"{name}: octets are wanted, not {type(octets).__name__}") from error
+        given = type(octets).__name__
+        raise TypeError(f"{name}: expected bytes or a Path, not {given}{remedy}") from error
+
+
+def _kind(kind: Kind, name: str) -> int:
+    """The number of a Kind. Raises TypeError for everything else: for 1 and True too."""
+    if not isinstance(kind, Kind):
+        raise TypeError(f"{name}: expected a Kind, not {type(kind).__name__}")
+    return kind.value
+
+
+def _flag(flag: bool, name: str) -> bool:
+    """True or False. Raises TypeError for everything else: for "no" too."""
+    if not isinstance(flag, bool):
+        raise TypeError(f"{name}: expected True or False, not {type(flag).__name__}")
+    return flag
 
 
 class Kind(enum.Enum):
@@ -417,14 +495,17 @@ def _moment(it: raw.Time) -> datetime:
     return datetime(*parts, tzinfo=timezone.utc)
 
 
-def _time(moment: datetime) -> raw.Time:
+def _time(moment: datetime, name: str = "at") -> raw.Time:
+    if not isinstance(moment, datetime):
+        given = type(moment).__name__
+        raise TypeError(f"{name}: expected a datetime with a time zone, not {given}")
     # without an offset, astimezone() takes the moment as one of this machine's zone
     if moment.utcoffset() is None:
-        raise ValueError("the moment has no time zone: datetime.now(timezone.utc) has")
+        raise ValueError(f"{name}: the time has no time zone; datetime.now(timezone.utc) has one")
     try:
         it = moment.astimezone(timezone.utc)
     except OverflowError as error:
-        raise ValueError("the moment is outside the years 1 to 9999 of UTC") from error
+        raise ValueError(f"{name}: the time is outside the years 1 to 9999 of UTC") from error
     return raw.Time(it.year, it.month, it.day, it.hour, it.minute, it.second)
 
 
@@ -451,27 +532,27 @@ class Certificate:
     def __hash__(self) -> int:
         return hash(self.octets)
 
-    @property
+    @cached_property
     def serial_number(self) -> int:
         """The serial number."""
         return int.from_bytes(bytes(self._read.serial), "big")
 
-    @property
+    @cached_property
     def not_before(self) -> datetime:
         """The first second at which it is valid, in UTC."""
         return _moment(self._read.not_before)
 
-    @property
+    @cached_property
     def not_after(self) -> datetime:
         """The last second at which it is valid, in UTC."""
         return _moment(self._read.not_after)
 
-    @property
+    @cached_property
     def subject_key_identifier(self) -> bytes:
         """The identifier of its key."""
         return bytes(self._read.subject_key)
 
-    @property
+    @cached_property
     def authority_key_identifier(self) -> bytes | None:
         """The identifier of its issuer's key, or None."""
         return bytes(self._read.authority_key) if self._read.has_authority_key else None
@@ -532,7 +613,7 @@ class Certificate:
     def inspect(self, kind: Kind, strict: bool = True) -> None:
         """Checks that it meets the profile of a kind, and raises InspectionFault where it doesn't.
         Leniently, names may have other strings than RFC 6487 4.4 asks."""
-        _raise(raw.inspect(self.octets, Kind(kind).value, strict))
+        _raise(raw.inspect(self.octets, _kind(kind, "kind"), _flag(strict, "strict")))
 
     def meets(self, kind: Kind, strict: bool = True) -> bool:
         """Tells whether it meets the profile of a kind."""
@@ -564,6 +645,7 @@ class RevocationList:
     def __init__(self, octets: Octets) -> None:
         self.octets = _bytes(octets)
         """The octets that were given."""
+        self._asked = 0
         try:
             self._read = raw.revocation_list(self.octets)
         except raw.Called as error:
@@ -572,22 +654,22 @@ class RevocationList:
     def __repr__(self) -> str:
         return f"<rpki.RevocationList {self.number:X}>"
 
-    @property
+    @cached_property
     def number(self) -> int:
         """The CRL number."""
         return int.from_bytes(bytes(self._read.number), "big")
 
-    @property
+    @cached_property
     def this_update(self) -> datetime:
         """When it was issued, in UTC."""
         return _moment(self._read.this_update)
 
-    @property
+    @cached_property
     def next_update(self) -> datetime:
         """Until when the next one is issued, in UTC."""
         return _moment(self._read.next_update)
 
-    @property
+    @cached_property
     def authority_key_identifier(self) -> bytes:
         """The identifier of its issuer's key."""
         return bytes(self._read.authority_key)
@@ -605,13 +687,41 @@ class RevocationList:
         for it in raw.entries(self.octets):
             yield Entry(int.from_bytes(bytes(it.serial), "big"), _moment(it.date))
 
+    def __eq__(self, other: object) -> bool:
+        return isinstance(other, RevocationList) and self.octets == other.octets
+
+    def __hash__(self) -> int:
+        return hash(self.octets)
+
+    @cached_property
+    def serial_numbers(self) -> frozenset[int]:
+        """The serial numbers of its entries."""
+        return raw.serial_numbers(self.octets, len(self))
+
     def __contains__(self, what: int | Certificate) -> bool:
-        """Tells whether a serial number, or a certificate's, is on the list. Whose list it is isn't
-        asked."""
-        number = what.serial_number if isinstance(what, Certificate) else what
-        if not 0 <= number < 1 << 160:
-            return False
-        return raw.is_revoked(self.octets, number.to_bytes(20, "big"))
+        """Returns whether a serial number, or a certificate's, is on the list. Whose list it is
+        isn't checked. From the third question on `serial_numbers` answers."""
+        number = _serial(what)
+        self._asked += 1
+        if self._asked > 2:
+            return number in self.serial_numbers
+        return self.revoked((number,))[0]
+
+    def revoked(self, serials: Iterable[int | Certificate]) -> list[bool]:
+        """Returns for each serial number, or certificate's, whether it is on the list, by one call
+        of the library."""
+        numbers = [_serial(it) for it in serials]
+        fit = [0 <= it < 1 << 160 for it in numbers]
+        asked = [it.to_bytes(20, "big") if is_fit else bytes(20) for it, is_fit in zip(numbers, fit)]
+        answers = raw.are_revoked(self.octets, asked)
+        return [answer and is_fit for answer, is_fit in zip(answers, fit)]
+
+
+def _serial(what: int | Certificate) -> int:
+    number = what.serial_number if isinstance(what, Certificate) else what
+    if not isinstance(number, int):
+        raise TypeError(f"expected a serial number or a Certificate, not {type(what).__name__}")
+    return number
 
 
 # ---- paths
@@ -621,14 +731,14 @@ def _octets(what: Octets | Certificate | RevocationList, name: str) -> bytes:
     return what.octets if isinstance(what, (Certificate, RevocationList)) else _bytes(what, name)
 
 
-_SINGLE = (bytes, bytearray, memoryview, str, os.PathLike)
+_SINGLE = (bytes, bytearray, memoryview, str, os.PathLike, io.IOBase)
 
 
 def _all_octets(many: Sequence[Octets | Certificate | RevocationList], name: str) -> list[bytes]:
     """The octets of each of an argument, which isn't one of them itself."""
     if isinstance(many, (*_SINGLE, Certificate, RevocationList)):
         given = type(many).__name__
-        raise TypeError(f"{name}: a list of octets is wanted, not {given}: [..] makes one of it")
+        raise TypeError(f"{name}: expected a list, not {given}; [..] makes one of it")
     return [_octets(it, f"{name}[{at}]") for at, it in enumerate(many)]
 
 
@@ -646,7 +756,7 @@ def validate(
     *,
     last: Kind,
     lists: Sequence[Octets | RevocationList] | None,
-    locator: Octets | None = None,
+    locator: Octets | None,
     at: datetime | None = None,
     strict: bool = True,
     chain_names: bool = True,
@@ -660,30 +770,32 @@ def validate(
     `lists` are revocation lists, in any order: each member below the trust anchor has to be unrevoked
     by the latest list of its issuer that has begun. Each stands alone: behind one nothing may stand,
     since that may be another one. They have to be given; `lists=None` says that nothing of
-    revocation is asked, so that a revoked member is accepted.
+    revocation is checked, so that a revoked member is accepted.
 
-    `locator` is the file of a trust anchor locator (RFC 8630): then the trust anchor has to have its
-    key. With None, the trust anchor is taken as given.
+    `locator` is the file of a trust anchor locator (TAL, RFC 8630), whose key the trust anchor has
+    to have. It has to be given; `locator=None` says that the trust anchor is taken as given, so that
+    anybody's is accepted.
 
-    `at` is the moment of the question; now, where it isn't given. It needs a time zone, as
-    `datetime(2026, 6, 1, tzinfo=timezone.utc)` has one. `strict` asks
-    names for the strings of RFC 6487 4.4, and the locator for UTF-8. `chain_names` asks that each
-    issuer is the subject of the member above it (RFC 6487 7.2).
+    `at` is the validation time, by default now. It needs a time zone, as `datetime(2026, 6, 1,
+    tzinfo=timezone.utc)` has one. `strict` requires the strings of RFC 6487 4.4 of names, and UTF-8
+    of the TAL. `chain_names` requires that each issuer is the subject of the member above it (RFC
+    6487 7.2).
 
     Raises the Fault of the first wrong member, or of the locator or a list that can't be read.
-    Raises ValueError where there are too few members, where the last of several is to be a trust
-    anchor, and where `at` has no time zone; TypeError where a text or a path stands for octets.
+    Raises ValueError if there are too few members, if the last of several is to be a trust anchor,
+    and if `at` has no time zone; TypeError if an argument has another type.
     """
     all_members = _all_octets(members, "members")
     now = _time(datetime.now(timezone.utc) if at is None else at)
     all_lists = None if lists is None else _all_octets(lists, "lists")
     key = None if locator is None else _bytes(locator, "locator")
-    asked = raw.question(all_members, Kind(last).value, now, strict, all_lists, key)
+    number, is_strict = _kind(last, "last"), _flag(strict, "strict")
+    asked = raw.question(all_members, number, now, is_strict, all_lists, key)
     fault, index, held = raw.judge(asked)
     if fault == raw.BAD_CALL:
-        raise ValueError(_why_no_path(len(all_members), Kind(last)))
+        raise ValueError(_why_no_path(len(all_members), last))
     _raise_at(fault, index, all_members, all_lists or ())
-    if chain_names:
+    if _flag(chain_names, "chain_names"):
         _raise(*raw.names(all_members))
     return Resources(_ipv4(held[0]), _ipv6(held[1]), _as_numbers(held[2]))
 
@@ -777,9 +889,12 @@ def judge_folder(
     """
     strings = _all_octets(octets, "octets")
     now = _time(datetime.now(timezone.utc) if at is None else at)
-    if depth < 1 or (steps is not None and steps < 1):
-        raise ValueError("a walk of no depth or without steps looks at nothing")
-    asked = raw.folder_question(strings, _bytes(locator, "locator"), now, strict, depth, steps or 0)
+    for name, bound in (("depth", depth), ("steps", 1 if steps is None else steps)):
+        if not 1 <= bound < 1 << 64:
+            raise ValueError(f"{name}: expected a number from 1 to 2^64 - 1, not {bound}")
+    is_strict = _flag(strict, "strict")
+    tal = _bytes(locator, "locator")
+    asked = raw.folder_question(strings, tal, now, is_strict, depth, steps or 0)
     walk, lines = raw.judge_folder(asked)
     place = walk.anchor if 100 <= walk.fault < 600 else None
     _raise(walk.fault, place)
@@ -788,12 +903,13 @@ def judge_folder(
 
 # ---- issuing
 
-AddressRange = Union[Network, tuple[Address, Address]]
+AddressRange = Union[Network, str, tuple[Address, Address]]
 
 
 def _ends(what: AddressRange[Address]) -> tuple[int, bytes, bytes]:
     """The version, and the first and the last address, of a network or a range."""
-    first, last = (what[0], what[-1]) if isinstance(what, _NETWORKS) else what
+    network = ipaddress.ip_network(what) if isinstance(what, str) else what
+    first, last = (network[0], network[-1]) if isinstance(network, _NETWORKS) else network
     if first.version != last.version:
         raise ValueError("a range has addresses of two families")
     return first.version, first.packed, last.packed
@@ -832,7 +948,16 @@ def _issuer(
     all_lists = None if lists is None else _all_octets(lists, "lists")
     now = _time(datetime.now(timezone.utc) if at is None else at)
     file = None if locator is None else _bytes(locator, "locator")
-    return raw.question(members, last.value, now, strict, all_lists, file)
+    return raw.question(members, last.value, now, _flag(strict, "strict"), all_lists, file)
+
+
+def _check_names(issuers: Sequence[Octets | Certificate], chain_names: bool) -> None:
+    """Raises the NamesFault of the issuer's path, if its names don't chain and have to."""
+    if _flag(chain_names, "chain_names") and issuers:
+        fault, place = raw.names(_all_octets(issuers, "issuers"))
+        # octets that are no certificate have another fault, which the call below raises
+        if _FAULTS.get(fault) is NamesFault:
+            _raise(fault, place)
 
 
 def _kind_above(kind: Kind) -> Kind:
@@ -840,6 +965,47 @@ def _kind_above(kind: Kind) -> Kind:
     and nothing of it is asked."""
     return Kind.TRUST_ANCHOR if kind is Kind.TRUST_ANCHOR else Kind.AUTHORITY
 
+
+# the argument that a fault of what is to be issued speaks of
+_ARGUMENTS = {
+    FaultCode.INSPECTION_KEY_ALGORITHM: "key",
+    FaultCode.INSPECTION_MISSING_CA_REPOSITORY: "uris['repository']",
+    FaultCode.INSPECTION_MISSING_MANIFEST: "uris['manifest']",
+    FaultCode.INSPECTION_MANIFEST_NOT_CHILD: "uris['manifest']",
+    FaultCode.INSPECTION_SIGNED_OBJECT_PRESENT: "uris['signed_object']",
+    FaultCode.INSPECTION_CRL_URI_PRESENT: "uris['crl']",
+    FaultCode.INSPECTION_CA_ISSUER_PRESENT: "uris['ca_issuer']",
+    FaultCode.INSPECTION_MISSING_CRL_URI: "uris['crl']",
+    FaultCode.INSPECTION_CA_REPOSITORY_PRESENT: "uris['repository']",
+    FaultCode.INSPECTION_MANIFEST_PRESENT: "uris['manifest']",
+    FaultCode.INSPECTION_MISSING_SIGNED_OBJECT: "uris['signed_object']",
+    FaultCode.INSPECTION_SUBJECT_INFORMATION_PRESENT: "uris",
+    FaultCode.INSPECTION_IP_RESOURCES_PRESENT: "ipv4 or ipv6",
+    FaultCode.INSPECTION_MISSING_AS_RESOURCES: "as_numbers",
+    FaultCode.INSPECTION_INHERITED_AS_RESOURCES: "as_numbers",
+    FaultCode.VERIFICATION_NOT_YET_VALID: "not_before",
+    FaultCode.VERIFICATION_EXPIRED: "not_after",
+    FaultCode.VERIFICATION_INHERITED_V4: "ipv4",
+    FaultCode.VERIFICATION_INHERITED_V6: "ipv6",
+    FaultCode.VERIFICATION_INHERITED_AS: "as_numbers",
+    FaultCode.VERIFICATION_MISSING_ISSUER_URI: "uris['ca_issuer']",
+    FaultCode.VERIFICATION_BAD_SIGNATURE: "signature",
+    FaultCode.VERIFICATION_OVERCLAIM_V4: "ipv4",
+    FaultCode.VERIFICATION_OVERCLAIM_V6: "ipv6",
+    FaultCode.VERIFICATION_OVERCLAIM_AS: "as_numbers",
+    FaultCode.REVOCATION_BAD_SIGNATURE: "signature",
+    FaultCode.REVOCATION_STALE: "next_update",
+    FaultCode.ISSUING_NO_KEY: "key",
+    FaultCode.ISSUING_UNUSED_KEY: "key",
+    FaultCode.ISSUING_NO_NAME: "as_numbers",
+    FaultCode.ISSUING_UNWRITABLE: "ipv4, ipv6 or as_numbers",
+    FaultCode.ISSUING_NOT_TO_SIGN: "prepared",
+    FaultCode.ISSUING_OTHER_OCTETS: "prepared",
+    FaultCode.ISSUING_OTHER_LIST: "previous",
+    FaultCode.ISSUING_NUMBER: "number",
+    FaultCode.ISSUING_LONG_NUMBER: "number",
+    FaultCode.ISSUING_UPDATE_ORDER: "next_update",
+}
 
 _NO_CERTIFICATE = (
     "the serial number isn't above 0 and below 2^159, nothing is listed, a range ends before it "
@@ -857,9 +1023,11 @@ def _raise_issued(
     if told.fault == raw.BAD_CALL:
         raise ValueError(no_call)
     if told.fault == raw.BAD_URI:
-        raise ValueError(f"the URI {raw.URIS[told.index]} isn't one")
-    # a list that can't be read stands behind the members, and so does what is issued
+        raise ValueError(f"uris[{raw.URIS[told.index]!r}]: expected a URI")
+    # a list that can't be read is behind the members, and so is what is issued
     members = _all_octets(issuers, "issuers")
+    if told.fault != raw.OK and told.index == len(members) and told.fault in _ARGUMENTS:
+        _raise(told.fault, argument=_ARGUMENTS[told.fault])
     _raise_at(told.fault, told.index, members, _all_octets(lists or (), "lists"))
 
 
@@ -876,10 +1044,11 @@ def prepare(
     as_numbers: Iterable[int | range] | Inherit | None = None,
     uris: Mapping[str, str] | None = None,
     trims_resources: bool = False,
-    lists: Sequence[Octets | RevocationList] | None = None,
-    locator: Octets | None = None,
+    lists: Sequence[Octets | RevocationList] | None,
+    locator: Octets | None,
     at: datetime | None = None,
     strict: bool = True,
+    chain_names: bool = True,
 ) -> bytes:
     """Prepares a certificate for its signature, and gives the octets that are to be signed by the
     issuer's key (RSASSA-PKCS1-v1_5 with SHA-256, RFC 7935). The key may lie elsewhere: in a file of
@@ -898,6 +1067,8 @@ def prepare(
     what is wrong, with the place of the member of the issuer's path that has it, or else with that of
     the certificate behind them all; and ValueError where a value is none.
     """
+    _kind(kind, "kind")
+    _check_names(issuers, chain_names)
     named = dict(uris or {})
     texts = [named.pop(name, "").encode() for name in raw.URIS]
     if named:
@@ -905,12 +1076,12 @@ def prepare(
     if not 0 <= serial_number < 1 << 160:
         raise ValueError("the serial number isn't above 0 and below 2^159")
     asked = raw.wanted(
-        _issuer(_kind_above(Kind(kind)), issuers, lists, locator, at, strict),
-        Kind(kind).value,
+        _issuer(_kind_above(kind), issuers, lists, locator, at, strict),
+        kind.value,
         _bytes(key, "key"),
         (_addresses(4, ipv4), _addresses(6, ipv6), _systems(as_numbers)),
         texts,
-        (_time(not_before), _time(not_after)),
+        (_time(not_before, "not_before"), _time(not_after, "not_after")),
         serial_number.to_bytes(20, "big"),
         trims_resources,
     )
@@ -925,10 +1096,11 @@ def complete(
     issuers: Sequence[Octets | Certificate],
     prepared: Octets,
     signature: Octets,
-    lists: Sequence[Octets | RevocationList] | None = None,
-    locator: Octets | None = None,
+    lists: Sequence[Octets | RevocationList] | None,
+    locator: Octets | None,
     at: datetime | None = None,
     strict: bool = True,
+    chain_names: bool = True,
 ) -> Certificate:
     """Completes a certificate that was prepared by its signature, and gives it, exactly where the
     issuer's key (of a trust anchor its own) signed what was prepared. The others are as for
@@ -937,9 +1109,11 @@ def complete(
     Raises VerificationFault with the name BadSignature where the signature isn't good, and else the
     Fault of what is wrong.
     """
+    _kind(kind, "kind")
+    _check_names(issuers, chain_names)
     asked = raw.completion(
-        _issuer(_kind_above(Kind(kind)), issuers, lists, locator, at, strict),
-        Kind(kind).value,
+        _issuer(_kind_above(kind), issuers, lists, locator, at, strict),
+        kind.value,
         _bytes(prepared, "prepared"),
         _bytes(signature, "signature"),
     )
@@ -974,10 +1148,11 @@ def prepare_list(
     revoked: Iterable[int | Certificate | Entry] = (),
     previous: Octets | RevocationList | None = None,
     number: int | None = None,
-    lists: Sequence[Octets | RevocationList] | None = None,
-    locator: Octets | None = None,
+    lists: Sequence[Octets | RevocationList] | None,
+    locator: Octets | None,
     at: datetime | None = None,
     strict: bool = True,
+    chain_names: bool = True,
 ) -> bytes:
     """Prepares the issuer's next revocation list for its signature, or its first one, and gives the
     octets that are to be signed by the issuer's key, as `prepare` does.
@@ -991,6 +1166,7 @@ def prepare_list(
     Raises the Fault of what is wrong: of the issuer's path with its place, and else IssuingFault or
     RevocationFault with the place behind the path; and ValueError where a value is none.
     """
+    _check_names(issuers, chain_names)
     now = datetime.now(timezone.utc) if at is None else at
     since = now if this_update is None else this_update
     if number is not None and number < 1:
@@ -999,7 +1175,7 @@ def prepare_list(
         _issuer(Kind.AUTHORITY, issuers, lists, locator, now, strict),
         b"" if previous is None else _octets(previous, "previous"),
         [_revoked(it, since) for it in revoked],
-        (_time(since), _time(next_update)),
+        (_time(since, "this_update"), _time(next_update, "next_update")),
         _list_number(number or 0, "the number of a list"),
     )
     told, octets = raw.prepare_list(asked)
@@ -1012,10 +1188,11 @@ def complete_list(
     issuers: Sequence[Octets | Certificate],
     prepared: Octets,
     signature: Octets,
-    lists: Sequence[Octets | RevocationList] | None = None,
-    locator: Octets | None = None,
+    lists: Sequence[Octets | RevocationList] | None,
+    locator: Octets | None,
     at: datetime | None = None,
     strict: bool = True,
+    chain_names: bool = True,
 ) -> RevocationList:
     """Completes a revocation list that was prepared by its signature, and gives it, exactly where
     the issuer's key signed what was prepared. The others are as for `prepare_list`; they are asked
@@ -1024,6 +1201,7 @@ def complete_list(
     Raises RevocationFault with the name BadSignature where the signature isn't good, and else the
     Fault of what is wrong.
     """
+    _check_names(issuers, chain_names)
     asked = raw.list_completion(
         _issuer(Kind.AUTHORITY, issuers, lists, locator, at, strict),
         _bytes(prepared, "prepared"),

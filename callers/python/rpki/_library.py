@@ -257,7 +257,7 @@ Element = TypeVar("Element", bound=ctypes.Structure)
 
 
 class Called(Exception):
-    """A call answered the number of a fault."""
+    """A call answered the number of a fault, and not that memory ran out."""
 
     def __init__(self, fault: int) -> None:
         super().__init__(fault)
@@ -265,8 +265,9 @@ class Called(Exception):
 
 
 def octets_of(data: bytes) -> tuple[Any, c_size_t]:
-    """A pointer and a length."""
-    return (c_uint8 * len(data)).from_buffer_copy(data), c_size_t(len(data))
+    """A pointer to the bytes, which are not copied, and their length. The library only reads them;
+    the pointer keeps them alive."""
+    return ctypes.cast(ctypes.c_char_p(data), ctypes.POINTER(c_uint8)), c_size_t(len(data))
 
 
 def strings_of(parts: Sequence[bytes]) -> Strings:
@@ -297,14 +298,15 @@ def question(
     )
 
 
-def room_for(out: Verdict) -> Room:
-    """Room for all ranges that a verdict counts."""
-    v4, v6, asn = (IpRange * out.v4)(), (IpRange * out.v6)(), (AsRange * out.asn)()
-    return Room(v4, out.v4, v6, out.v6, asn, out.asn)
+def room_for(v4: int, v6: int, asn: int) -> Room:
+    """Room for so many ranges."""
+    return Room((IpRange * v4)(), v4, (IpRange * v6)(), v6, (AsRange * asn)(), asn)
 
 
 def call(function: Any, *words: Any) -> None:
     fault = function(*words)
+    if fault == MEMORY:
+        raise MemoryError
     if fault != OK:
         raise Called(fault)
 
@@ -375,15 +377,24 @@ def entries(octets: bytes) -> list[Entry]:
     return all_of(Entry, lib.rpki_list_entries, *octets_of(octets))
 
 
+def serial_numbers(octets: bytes, count: int) -> frozenset[int]:
+    """The serial numbers of a list's entries, of which there are so many."""
+    room, written = (Entry * count)(), ctypes.byref(c_uint64())
+    call(lib.rpki_list_entries, *octets_of(octets), room, c_size_t(count), written)
+    data, size, at = bytes(room), ctypes.sizeof(Entry), Entry.serial.offset
+    places = range(at, len(data), size)
+    return frozenset(int.from_bytes(data[place : place + 20], "big") for place in places)
+
+
 def list_issuer(octets: bytes) -> bytes:
     return bytes_of(lib.rpki_list_issuer, *octets_of(octets))
 
 
-def is_revoked(octets: bytes, serial: bytes) -> bool:
-    """Whether the list has a serial number of 20 octets."""
-    answer = (c_uint8 * 1)()
-    call(lib.rpki_list_ask, *octets_of(octets), *octets_of(serial), answer, c_size_t(1))
-    return bool(answer[0])
+def are_revoked(octets: bytes, serials: Sequence[bytes]) -> list[bool]:
+    """Whether the list has each of these serial numbers of 20 octets."""
+    answers, count = (c_uint8 * len(serials))(), c_size_t(len(serials))
+    call(lib.rpki_list_ask, *octets_of(octets), *octets_of(b"".join(serials)), answers, count)
+    return [bool(it) for it in answers]
 
 
 def stop_text(octets: bytes, is_list: bool, which: int) -> tuple[int, str]:
@@ -400,16 +411,16 @@ Held = tuple[list[IpRange], list[IpRange], list[AsRange]]
 
 def judge(asked: Question) -> tuple[int, int, Held]:
     """The fault of a path, the place of the member that has it, and the ranges that are held. A
-    first call counts the ranges, and a second one writes them."""
-    out = Verdict()
-    held: Held = ([], [], [])
+    second call has room for more than 64 ranges of a kind."""
+    out, room = Verdict(), room_for(64, 64, 64)
     for _ in range(2):
-        room = room_for(out)
         words = (asked, room, out)
         if lib.rpki_path_validate(*map(ctypes.byref, words)) != OK:
             return out.fault, out.index, ([], [], [])
-        held = (room.v4[: room.v4_room], room.v6[: room.v6_room], room.asn[: room.asn_room])
-    return OK, 0, held
+        if out.v4 <= room.v4_room and out.v6 <= room.v6_room and out.asn <= room.asn_room:
+            break
+        room = room_for(out.v4, out.v6, out.asn)
+    return OK, 0, (room.v4[: out.v4], room.v6[: out.v6], room.asn[: out.asn])
 
 
 def names(members: Sequence[bytes]) -> tuple[int, int]:

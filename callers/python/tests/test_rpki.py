@@ -6,6 +6,7 @@ tests/files.
 
 import copy
 import functools
+import io
 import ipaddress
 import pickle
 import shutil
@@ -23,16 +24,19 @@ from rpki import (
     AsNumbers,
     Certificate,
     Entry,
+    FaultCode,
     Kind,
     Line,
     RevocationList,
     State,
-    complete,
-    complete_list,
     judge_folder,
-    prepare,
-    prepare_list,
-    validate,
+)
+
+# most tests check neither the TAL's key nor, where they issue, CRLs
+validate = functools.partial(rpki.validate, locator=None)
+prepare, complete, prepare_list, complete_list = (
+    functools.partial(call, lists=None, locator=None)
+    for call in (rpki.prepare, rpki.complete, rpki.prepare_list, rpki.complete_list)
 )
 
 TOP = Path(__file__).resolve().parents[3]
@@ -103,10 +107,12 @@ class Certificates(unittest.TestCase):
     def test_numbers_as_modes_and_kinds(self) -> None:
         it = Certificate((TOP / "tests" / "files" / "odd_name_utf8.cer").read_bytes())
         kind = next(kind for kind in Kind if it.meets(kind, strict=False))
-        for strict in (True, 1, 256, 1 << 32, 1 << 64, "", None):
-            self.assertFalse(it.meets(kind, cast(Any, strict)))
-        for none in (5, (1 << 32) + kind.value, INHERIT, None):
-            with self.assertRaises(ValueError):
+        self.assertFalse(it.meets(kind, True))
+        for strict in (1, 0, 256, 1 << 32, 1 << 64, "", "no", None):
+            with self.assertRaisesRegex(TypeError, "^strict: expected True or False, not "):
+                it.meets(kind, cast(Any, strict))
+        for none in (kind.value, float(kind.value), True, 5, INHERIT, None, "AUTHORITY"):
+            with self.assertRaisesRegex(TypeError, "^kind: expected a Kind, not "):
                 it.meets(cast(Any, none), strict=False)
 
     def test_other_octets(self) -> None:
@@ -143,6 +149,22 @@ class Lists(unittest.TestCase):
         for other in (2, -3, 3 + (1 << 160)):
             self.assertNotIn(other, it)
         self.assertEqual(len(RevocationList(octets("first.crl"))), 0)
+        for none in ("3", None, b"3"):
+            with self.assertRaises(TypeError):
+                self.assertNotIn(cast(Any, none), it)
+
+    def test_many_questions(self) -> None:
+        it = RevocationList(octets("revoked.crl"))
+        asked = [3, 2, -3, 3 + (1 << 160), 3, Certificate(octets("second.cer"))]
+        wanted = [True, False, False, False, True, True]
+        self.assertEqual(it.revoked(asked), wanted)
+        # the first two by the library, the others by the set of serial numbers
+        self.assertEqual([number in it for number in asked], wanted)
+        self.assertEqual(it.serial_numbers, {3})
+        self.assertEqual(it.revoked([]), [])
+        same = RevocationList(octets("revoked.crl"))
+        self.assertEqual((it, hash(it)), (same, hash(same)))
+        self.assertNotEqual(it, RevocationList(octets("first.crl")))
 
     def test_other_octets(self) -> None:
         with self.assertRaises(rpki.DecodeFault):
@@ -187,26 +209,33 @@ class Paths(unittest.TestCase):
             with self.assertRaises(TypeError):
                 validate(self.members, lists=None, locator=cast(Any, no_locator), **asked)
 
-    def test_texts_and_paths_are_no_octets(self) -> None:
-        asked: dict[str, Any] = {"last": Kind.END_ENTITY, "at": self.noon}
-        for other in ("anchor.cer", Path("anchor.cer")):
-            kind = type(other).__name__
-            text = rf"^octets: octets are wanted, not {kind}: Path\(..\).read_bytes\(\)"
+    def test_files_and_texts(self) -> None:
+        asked: dict[str, Any] = {"last": Kind.END_ENTITY, "lists": None, "at": self.noon}
+        names = [f"{name}.cer" for name in ("anchor", "first", "second", "object")]
+        paths = [TOP / "examples" / name for name in names]
+        self.assertTrue(validate(paths, **asked).ipv4)
+        with open(paths[0], "rb") as anchor:
+            self.assertTrue(validate([anchor, *paths[1:]], **asked).ipv4)
+        self.assertEqual(Certificate(paths[1]).octets, self.members[1])
+        with self.assertRaises(FileNotFoundError):
+            Certificate(Path("none.cer"))
+        with self.assertRaisesRegex(TypeError, "^octets: the file is open in text mode"):
+            Certificate(cast(Any, io.StringIO("text")))
+        wrong: list[tuple[str, Any, dict[str, Any]]] = [
+            (r"^members\[1\]: expected bytes or a Path, not str; ", [paths[0], "a.cer"], {}),
+            (r"^members: expected a list, not str; ", "a.cer", {}),
+            (r"^members: expected a list, not PosixPath; ", paths[0], {}),
+            (r"^lists\[0\]: expected bytes or a Path, not str; ", paths, {"lists": ["a.crl"]}),
+            (r"^lists: expected a list, not bytes; ", paths, {"lists": self.lists[0]}),
+            (r"^locator: expected bytes or a Path, not int$", paths, {"locator": 5}),
+            (r"^last: expected a Kind, not int$", paths, {"last": 2}),
+            (r"^strict: expected True or False, not str$", paths, {"strict": "no"}),
+            (r"^chain_names: expected True or False, not int$", paths, {"chain_names": 0}),
+            (r"^at: expected a datetime with a time zone, not str$", paths, {"at": "2026-06-01"}),
+        ]
+        for text, members, changes in wrong:
             with self.assertRaisesRegex(TypeError, text):
-                Certificate(cast(Any, other))
-            with self.assertRaisesRegex(TypeError, rf"^members\[1\]: octets .* {kind}: Path"):
-                validate([self.members[0], cast(Any, other)], lists=None, **asked)
-            with self.assertRaisesRegex(TypeError, rf"^lists\[0\]: octets .* {kind}: Path"):
-                validate(self.members, lists=[cast(Any, other)], **asked)
-            with self.assertRaisesRegex(TypeError, rf"^locator: octets .* {kind}: Path"):
-                validate(self.members, lists=None, locator=cast(Any, other), **asked)
-            with self.assertRaisesRegex(TypeError, rf"^members: a list .*, not {kind}: "):
-                validate(cast(Any, other), lists=None, **asked)
-        one = RevocationList(self.lists[0])
-        with self.assertRaisesRegex(TypeError, "^lists: a list .*, not RevocationList: "):
-            validate(self.members, lists=cast(Any, one), **asked)
-        with self.assertRaisesRegex(TypeError, "^locator: octets are wanted, not int$"):
-            validate(self.members, lists=None, locator=cast(Any, 5), **asked)
+                validate(members, **(asked | changes))
 
     def rejects(
         self,
@@ -244,17 +273,39 @@ class Paths(unittest.TestCase):
         latin = b"# \xe9\n" + octets("anchor.tal")
         asked: dict[str, Any] = {"last": Kind.AUTHORITY, "locator": latin, "at": self.noon}
         self.assertTrue(validate(self.members[:1], lists=None, strict=False, **asked))
-        for strict in (True, 1 << 32, None):
-            members = self.members[:1]
-            self.rejects("NoText", rpki.LocatorFault, None, members, locator=latin, strict=strict)
+        members = self.members[:1]
+        self.rejects("NoText", rpki.LocatorFault, None, members, locator=latin, strict=True)
 
     def test_faults_go_between_processes(self) -> None:
         faults = [rpki.VerificationFault(408, 2), rpki.DecodeFault(102, None, 1), rpki.Fault(700)]
+        faults.append(rpki.IssuingFault(800, argument="key"))
         for it in faults:
             self.assertEqual((it.octet, it.field, it.wanted, it.found), (None, None, None, None))
             for again in (pickle.loads(pickle.dumps(it)), copy.copy(it)):
                 self.assertEqual((type(again), str(again)), (type(it), str(it)))
                 self.assertEqual(vars(again), vars(it))
+
+    def test_codes(self) -> None:
+        self.assertEqual(rpki.VerificationFault(408).code, FaultCode.VERIFICATION_BAD_SIGNATURE)
+        # a fault of reading has a number of its own for each part
+        missing = [rpki.DecodeFault(number).code for number in (120, 132)]
+        self.assertEqual(missing, [FaultCode.DECODE_MISSING] * 2)
+        for code in FaultCode:
+            if code not in (FaultCode.MEMORY, FaultCode.BAD_CALL):
+                self.assertEqual(rpki.Fault(code).code, code)
+
+    def test_what_is_held(self) -> None:
+        held = validate(self.members[:2], last=Kind.AUTHORITY, lists=None, at=self.noon)
+        for prefix, number in (("10.0.0.0/12", None), (None, 64500), ("2001:db8::/48", 64510)):
+            self.assertTrue(held.allows(number, prefix), (prefix, number))
+        for prefix, number in (("10.0.0.0/8", 64500), ("10.0.0.0/12", 64499), ("::/0", None)):
+            self.assertFalse(held.allows(number, prefix), (prefix, number))
+        inside = ("10.15.255.255", ipaddress.ip_address("10.32.0.0"), "10.40.0.0/16")
+        self.assertTrue(all(it in held.ipv4 for it in inside))
+        outside = ("10.16.0.0", "9.255.255.255", "10.40.0.0/15", "2001:db8::")
+        self.assertFalse(any(it in held.ipv4 for it in outside))
+        self.assertEqual(held.ipv4.networks, tuple(held.ipv4))
+        self.assertFalse(64509 in held.as_numbers or 0 in held.as_numbers)
 
     def test_lists_that_are_none(self) -> None:
         with self.assertRaises(rpki.DecodeFault) as caught:
@@ -298,9 +349,10 @@ class Paths(unittest.TestCase):
         self.assertEqual(fault.found, "a negative number")
 
     def test_lists_are_asked_for(self) -> None:
-        without: Any = validate
-        with self.assertRaises(TypeError):
-            without(self.members, last=Kind.END_ENTITY, at=self.noon)
+        without: Any = rpki.validate
+        for given in ({"lists": None}, {"locator": None}, {}):
+            with self.assertRaises(TypeError):
+                without(self.members, last=Kind.END_ENTITY, at=self.noon, **given)
 
     def test_wrong_calls(self) -> None:
         wrong: list[tuple[list[bytes], Kind, str]] = [
@@ -527,31 +579,50 @@ class Issuing(unittest.TestCase):
             for name in ("ee", "router"):
                 openssl(*words, "-untrusted", f"{folder}/ca", f"{folder}/{name}")
 
-    def refuses(self, name: str, member: int, call: Any, *words: Any, **changes: Any) -> rpki.Fault:
+    def refuses(
+        self, name: str, where: int | str, call: Any, *words: Any, **changes: Any
+    ) -> rpki.Fault:
+        """Where is the place of a member of the issuer's path, or the name of an argument."""
         with self.assertRaises(rpki.Fault) as caught:
             call(*words, **changes)
-        self.assertEqual((caught.exception.name, caught.exception.member), (name, member))
-        return caught.exception
+        it = caught.exception
+        self.assertEqual((it.name, it.member if it.argument is None else it.argument), (name, where))
+        return it
 
     def test_refused_before_a_signature_is_asked(self) -> None:
         anchor = self.anchor
         other = [ipaddress.IPv4Network("11.0.0.0/16")]
         outside = {"repository": f"{SITE}/ca/", "manifest": f"{SITE}/other/ca.mft"}
-        wrong: list[tuple[str, dict[str, Any]]] = [
-            ("OverclaimV4", {"ipv4": other}),
-            ("OverclaimAs", {"as_numbers": [64512]}),
-            ("ManifestNotChild", {"uris": outside | self.above}),
-            ("MissingManifest", {"uris": {**self.above, "repository": f"{SITE}/ca/"}}),
-            ("MissingCrlUri", {"uris": {**self.places, "ca_issuer": f"{SITE}/anchor.cer"}}),
-            ("NotYetValid", {"not_before": self.at + timedelta(seconds=1)}),
-            ("Expired", {"not_after": self.at - timedelta(seconds=1)}),
-            ("Unwritable", {"ipv4": None, "ipv6": None, "as_numbers": None}),
+        wrong: list[tuple[str, str, dict[str, Any]]] = [
+            ("OverclaimV4", "ipv4", {"ipv4": other}),
+            ("OverclaimAs", "as_numbers", {"as_numbers": [64512]}),
+            ("ManifestNotChild", "uris['manifest']", {"uris": outside | self.above}),
+            (
+                "MissingManifest",
+                "uris['manifest']",
+                {"uris": {**self.above, "repository": f"{SITE}/ca/"}},
+            ),
+            (
+                "MissingCrlUri",
+                "uris['crl']",
+                {"uris": {**self.places, "ca_issuer": f"{SITE}/anchor.cer"}},
+            ),
+            ("NotYetValid", "not_before", {"not_before": self.at + timedelta(seconds=1)}),
+            ("Expired", "not_after", {"not_after": self.at - timedelta(seconds=1)}),
+            (
+                "Unwritable",
+                "ipv4, ipv6 or as_numbers",
+                {"ipv4": None, "ipv6": None, "as_numbers": None},
+            ),
         ]
-        for name, changes in wrong:
+        for name, argument, changes in wrong:
             wanted = self.ca(**changes)
-            self.refuses(name, 1, self.prepared, Kind.AUTHORITY, "ca", [anchor], **wanted)
+            fault = self.refuses(
+                name, argument, self.prepared, Kind.AUTHORITY, "ca", [anchor], **wanted
+            )
+            self.assertEqual(str(fault), f"{argument}: {fault.sentence} ({name})")
         wanted = self.ca(uris=self.places, ipv4=INHERIT)
-        self.refuses("InheritedV4", 0, self.prepared, Kind.TRUST_ANCHOR, "anchor", [], **wanted)
+        self.refuses("InheritedV4", "ipv4", self.prepared, Kind.TRUST_ANCHOR, "anchor", [], **wanted)
         # the issuer's path comes first
         late: dict[str, Any] = {"at": END + timedelta(days=1)}
         self.refuses("Expired", 0, self.prepared, Kind.AUTHORITY, "ca", [anchor], **self.ca(**late))
@@ -569,6 +640,7 @@ class Issuing(unittest.TestCase):
             {"serial_number": -1},
             {"ipv4": []},
             {"ipv4": [back]},
+            {"ipv4": ["10.0.0.1/8"]},
             {"ipv4": [ipaddress.ip_network("2001:db8::/64")]},
             {"as_numbers": [1 << 32]},
             {"as_numbers": [range(2, 2)]},
@@ -587,7 +659,17 @@ class Issuing(unittest.TestCase):
             with self.assertRaises(rpki.IssuingFault) as caught:
                 wanted = self.ca(serial_number=5, not_before=BEGIN, not_after=END, at=self.at)
                 prepare(Kind.AUTHORITY, issuers=[anchor], key=key, **wanted)
-            self.assertEqual(caught.exception.name, "NoKey")
+            self.assertEqual((caught.exception.name, caught.exception.argument), ("NoKey", "key"))
+        texts = self.ca(ipv4=["10.0.0.0/15"], ipv6=["2001:db8::/125"])
+        same = self.prepared(Kind.AUTHORITY, "ca", [anchor], **self.ca())
+        self.assertEqual(self.prepared(Kind.AUTHORITY, "ca", [anchor], **texts), same)
+        for mistyped in ({"not_after": "2036-01-01"}, {"strict": 1}, {"chain_names": None}):
+            with self.assertRaises(TypeError):
+                self.prepared(Kind.AUTHORITY, "ca", [anchor], **self.ca(**mistyped))
+        for missing in ({"lists": None}, {"locator": None}):
+            without: Any = rpki.prepare
+            with self.assertRaises(TypeError):
+                without(Kind.AUTHORITY, issuers=[anchor], key=public("ca"), **missing, **wanted)
 
     def test_wrong_signatures(self) -> None:
         anchor = self.anchor
@@ -598,11 +680,11 @@ class Issuing(unittest.TestCase):
         words: dict[str, Any] = {"issuers": [anchor], "prepared": prepared, "at": self.at}
         for signature in others:
             asked = {**words, "signature": signature}
-            self.refuses("BadSignature", 1, complete, Kind.AUTHORITY, **asked)
+            self.refuses("BadSignature", "signature", complete, Kind.AUTHORITY, **asked)
         complete(Kind.AUTHORITY, **words, signature=good)
         for name, octets_signed in (("NotToSign", prepared[:-1]), ("NotToSign", b"")):
             asked = {**words, "prepared": octets_signed, "signature": good}
-            self.refuses(name, 1, complete, Kind.AUTHORITY, **asked)
+            self.refuses(name, "prepared", complete, Kind.AUTHORITY, **asked)
         with self.assertRaises(rpki.InspectionFault):
             complete(Kind.END_ENTITY, **words, signature=good)
 
@@ -658,18 +740,19 @@ class Issuing(unittest.TestCase):
         first = self.listed("anchor", [anchor], number=3)
         of_ca = self.listed("ca", [anchor, below])
         second = timedelta(seconds=1)
-        wrong: list[tuple[str, dict[str, Any]]] = [
-            ("OtherList", {"previous": of_ca}),
-            ("OtherList", {"previous": b"no list"}),
-            ("OtherList", {"previous": first.octets[:-1] + bytes([first.octets[-1] ^ 1])}),
-            ("Number", {"previous": first, "number": 3}),
-            ("LongNumber", {"number": 1 << 159}),
-            ("LongNumber", {"previous": first, "number": (1 << 160) - 1}),
-            ("UpdateOrder", {"next_update": self.at - second}),
-            ("Stale", {"this_update": BEGIN, "next_update": self.at - second}),
+        damaged = first.octets[:-1] + bytes([first.octets[-1] ^ 1])
+        wrong: list[tuple[str, str, dict[str, Any]]] = [
+            ("OtherList", "previous", {"previous": of_ca}),
+            ("OtherList", "previous", {"previous": b"no list"}),
+            ("OtherList", "previous", {"previous": damaged}),
+            ("Number", "number", {"previous": first, "number": 3}),
+            ("LongNumber", "number", {"number": 1 << 159}),
+            ("LongNumber", "number", {"previous": first, "number": (1 << 160) - 1}),
+            ("UpdateOrder", "next_update", {"next_update": self.at - second}),
+            ("Stale", "next_update", {"this_update": BEGIN, "next_update": self.at - second}),
         ]
-        for name, changes in wrong:
-            self.refuses(name, 1, self.list_prepared, [anchor], **changes)
+        for name, argument, changes in wrong:
+            self.refuses(name, argument, self.list_prepared, [anchor], **changes)
         self.refuses("Expired", 0, self.list_prepared, [anchor], at=END + second)
         no_calls: list[tuple[list[bytes], dict[str, Any]]] = [
             ([], {}),
@@ -688,17 +771,21 @@ class Issuing(unittest.TestCase):
         flipped = bytes([good[0] ^ 1]) + good[1:]
         for signature in (sign(prepared, "ca"), sign(prepared + b"0", "anchor"), flipped, b""):
             asked = {**words, "signature": signature}
-            self.refuses("BadSignature", 1, complete_list, **asked)
+            self.refuses("BadSignature", "signature", complete_list, **asked)
         certificate = self.prepared(Kind.AUTHORITY, "ca", [anchor], **self.ca())
         others = [
-            ("NotToSign", prepared[:-1]),
-            ("NotToSign", certificate),
-            ("OtherOctets", prepared + b"0"),
-            ("WrongKeyId", prepared.replace(Certificate(anchor).subject_key_identifier, bytes(20))),
+            ("NotToSign", "prepared", prepared[:-1]),
+            ("NotToSign", "prepared", certificate),
+            ("OtherOctets", "prepared", prepared + b"0"),
+            (
+                "WrongKeyId",
+                1,
+                prepared.replace(Certificate(anchor).subject_key_identifier, bytes(20)),
+            ),
         ]
-        for name, octets_signed in others:
+        for name, where, octets_signed in others:
             asked = {**words, "prepared": octets_signed, "signature": sign(octets_signed, "anchor")}
-            self.refuses(name, 1, complete_list, **asked)
+            self.refuses(name, where, complete_list, **asked)
         words["signature"] = good
         self.refuses("OtherName", 2, complete_list, **(words | {"issuers": [anchor, below]}))
         self.refuses("Expired", 0, complete_list, **(words | {"at": END + second}))

@@ -37,7 +37,7 @@ fn print_fault(fault: &Fault) -> io::Result<()> {
     let place = match fault.place() {
         Some(Place::Member(at)) => format!("member {at}"),
         Some(Place::List(at)) => format!("list {at}"),
-        None => "locator".to_owned(),
+        _ => "locator".to_owned(),
     };
     let (number, name, sentence) = (fault.number(), fault.name(), fault.sentence());
     let mut out = io::stdout().lock();
@@ -45,20 +45,12 @@ fn print_fault(fault: &Fault) -> io::Result<()> {
     out.flush()
 }
 
-/// The beginning of a day that is written YYYY-MM-DD. Whether the calendar has it is left to the
-/// library.
+/// The beginning of a day that is written YYYY-MM-DD.
 fn moment(day: &str) -> Result<Moment, String> {
-    let octets = day.as_bytes();
-    let is_in_place = |(at, octet): (usize, &u8)| match at {
-        4 | 7 => *octet == b'-',
-        _ => octet.is_ascii_digit(),
-    };
-    if octets.len() != 10 || !octets.iter().enumerate().all(is_in_place) {
-        return Err(format!("{day}: the day isn't YYYY-MM-DD"));
+    match day.parse() {
+        Ok(moment) if day.len() == 10 => Ok(moment),
+        _ => Err(format!("{day}: not a day; expected YYYY-MM-DD")),
     }
-    let number = |digits: &[u8]| digits.iter().fold(0, |n, it| n * 10 + u16::from(it - b'0'));
-    let (month, day) = (number(&octets[5..7]) as u8, number(&octets[8..]) as u8);
-    Ok(Moment::new(number(&octets[..4]), month, day, 0, 0, 0))
 }
 
 /// The kind of the last member.

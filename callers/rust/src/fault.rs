@@ -1,5 +1,5 @@
 //! Why something is rejected.
-use crate::sys;
+use crate::{sys, FaultCode, Uri};
 use std::error::Error;
 use std::fmt;
 
@@ -9,8 +9,8 @@ use std::fmt;
 pub enum FaultKind {
     /// Memory ran out. Its name is `Memory`.
     Memory,
-    /// There are too few members, the last of several is to be a trust anchor, or there is no such
-    /// moment, range or serial number. No member is at fault. Its name is `BadCall`.
+    /// The call itself is wrong: there are too few certificates, or a range or a serial number isn't
+    /// one. The sentence says what. Its name is `BadCall`.
     BadCall,
     /// The octets begin with no certificate, or with no revocation list; or others stand behind a
     /// list of a path.
@@ -61,11 +61,16 @@ pub enum FaultKind {
 
 /// Where in a question a fault is.
 #[derive(Clone, Copy, Debug, PartialEq, Eq, Hash)]
+#[non_exhaustive]
 pub enum Place {
-    /// This member of the path, the trust anchor at 0; or this one of the octets of a folder.
+    /// This certificate of the path, the trust anchor at 0; or this one of the octets of a folder.
     Member(usize),
     /// This one of the lists that were given.
     List(usize),
+    /// The certificate or the list that is to be issued.
+    Issued,
+    /// This URI of the certificate that is to be issued.
+    Uri(Uri),
 }
 
 /// Where the reading of octets stops.
@@ -90,12 +95,14 @@ impl Stop {
 
 /// Why something is rejected. Displayed it has place, sentence and name: `member 2: certificate
 /// revoked (Revoked)`, or `list 1: truncated value (Truncated)`; without a place it begins with the
-/// sentence. Of `FaultKind::BadCall` it is a sentence alone.
+/// sentence.
 #[derive(Clone, PartialEq, Eq, Hash)]
 pub struct Fault {
     number: u32,
     place: Option<Place>,
     stop: Option<Stop>,
+    // what is wrong of a call
+    why: Option<&'static str>,
 }
 
 impl Fault {
@@ -108,6 +115,15 @@ impl Fault {
             number,
             place,
             stop: None,
+            why: None,
+        }
+    }
+
+    // Of a call that is wrong, since this is so.
+    pub(crate) fn bad_call(why: &'static str) -> Fault {
+        Fault {
+            why: Some(why),
+            ..Fault::new(sys::BAD_CALL)
         }
     }
 
@@ -147,9 +163,11 @@ impl Fault {
         lists: &[&[u8]],
     ) -> Fault {
         match number {
-            sys::MEMORY | sys::BAD_CALL | sys::BAD_URI | 700..=799 => Fault::new(number),
-            // a list that can't be read stands behind the members
+            sys::MEMORY | sys::BAD_CALL | 700..=799 => Fault::new(number),
+            sys::BAD_URI => Fault::at(number, Uri::of(index).map(Place::Uri)),
+            // a list that can't be read is behind the members
             100..=299 => Fault::of_path(number, index, members, lists),
+            _ if index >= members.len() => Fault::at(number, Some(Place::Issued)),
             _ => Fault::at(number, Some(Place::Member(index))),
         }
     }
@@ -166,6 +184,15 @@ impl Fault {
     /// never gets another meaning.
     pub fn number(&self) -> u32 {
         self.number
+    }
+
+    /// Returns the number by its name in rpki.h, without the part that a fault of reading speaks of.
+    pub fn code(&self) -> FaultCode {
+        let number = match self.number {
+            120..=219 => self.number - self.number % 20,
+            number => number,
+        };
+        FaultCode::of(number).unwrap_or(FaultCode::BadCall)
     }
 
     /// Returns which certificate or list is wrong, if it is one of a path or a folder. Of a locator
@@ -221,7 +248,10 @@ impl Fault {
 
     /// Returns what it means.
     pub fn sentence(&self) -> String {
-        text(sys::fault_sentence(self.number))
+        match self.why {
+            Some(why) => why.to_owned(),
+            None => text(sys::fault_sentence(self.number)),
+        }
     }
 }
 
@@ -246,15 +276,10 @@ impl fmt::Display for Fault {
         match self.place {
             Some(Place::Member(at)) => write!(f, "member {at}: ")?,
             Some(Place::List(at)) => write!(f, "list {at}: ")?,
-            None => {}
+            Some(Place::Uri(which)) => write!(f, "the URI {which:?}: ")?,
+            Some(Place::Issued) | None => {}
         }
-        match self.kind() {
-            FaultKind::BadCall => f.write_str(
-                "there are too few members, the last of several is to be a trust anchor, \
-                 or there is no such moment, range or serial number",
-            ),
-            _ => write!(f, "{} ({})", self.sentence(), self.name()),
-        }
+        write!(f, "{} ({})", self.sentence(), self.name())
     }
 }
 

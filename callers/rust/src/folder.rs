@@ -3,6 +3,7 @@ use crate::{check_library, slices, sys, Fault, Moment};
 
 /// What became of one of the octets of a folder.
 #[derive(Clone, Debug, PartialEq, Eq, Hash)]
+#[non_exhaustive]
 pub enum Line {
     /// A certificate that no accepted CA signed, or that a bound kept from being judged.
     Unseen,
@@ -55,6 +56,7 @@ impl Line {
 
 /// What became of the octets of a folder.
 #[derive(Clone, Debug, PartialEq, Eq, Hash)]
+#[non_exhaustive]
 pub struct Judged {
     /// A line for each of the octets, in their order.
     pub lines: Vec<Line>,

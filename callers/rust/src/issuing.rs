@@ -93,6 +93,7 @@ pub struct Issuer<'a> {
     lists: Option<Vec<&'a [u8]>>,
     locator: Option<&'a [u8]>,
     strict: bool,
+    chain_names: bool,
     now: Moment,
 }
 
@@ -117,6 +118,7 @@ impl<'a> Issuer<'a> {
             lists: None,
             locator: None,
             strict: true,
+            chain_names: true,
             now,
         }
     }
@@ -142,6 +144,24 @@ impl<'a> Issuer<'a> {
         self
     }
 
+    /// Doesn't check that each issuer of the path is the subject of the certificate above it (RFC 6487
+    /// 7.2).
+    pub fn without_names(mut self) -> Issuer<'a> {
+        self.chain_names = false;
+        self
+    }
+
+    // The fault of names that don't chain and have to. Octets that are no certificate have another
+    // fault, which the call behind this one finds.
+    fn check_names(&self) -> Result<(), Fault> {
+        match sys::names(&self.path) {
+            Err((number, index)) if number == sys::OTHER_NAME && self.chain_names => {
+                Err(Fault::of_path(number, index, &self.path, &[]))
+            }
+            _ => Ok(()),
+        }
+    }
+
     fn question(&self, kind: Kind) -> sys::Question<'_> {
         let last = match kind {
             Kind::TrustAnchor => Kind::TrustAnchor,
@@ -157,6 +177,26 @@ impl<'a> Issuer<'a> {
         }
     }
 
+    // Why there is no such certificate below this issuer, whatever is signed.
+    fn why_unwanted(&self, wanted: &Wanted<'_>) -> Option<&'static str> {
+        fn is_bad<T>(of: &Resources<Vec<T>>, is_back: impl Fn(&T) -> bool) -> bool {
+            matches!(of, Resources::Listed(listed) if listed.is_empty() || listed.iter().any(is_back))
+        }
+        let serial = &wanted.serial_number;
+        if *serial == [0; 20] || serial[0] >= 0x80 {
+            Some("the serial number isn't above 0 and below 2^159")
+        } else if is_bad(&wanted.ipv4, |it| it.1 < it.0)
+            || is_bad(&wanted.ipv6, |it| it.1 < it.0)
+            || is_bad(&wanted.as_numbers, |it| it.end() < it.start())
+        {
+            Some("resources are listed, and there are none, or a range ends before it begins")
+        } else if (wanted.kind == Kind::TrustAnchor) != self.path.is_empty() {
+            Some("a trust anchor has no issuer, and every other certificate has one")
+        } else {
+            None
+        }
+    }
+
     // A number and an index, of what is issued or of who issues.
     fn fault(&self, (number, index): (u32, usize)) -> Fault {
         let lists = self.lists.as_deref().unwrap_or_default();
@@ -165,10 +205,14 @@ impl<'a> Issuer<'a> {
 
     /// Prepares a certificate for its signature: returns what the issuer's key has to sign
     /// (RSASSA-PKCS1-v1_5 with SHA-256, RFC 7935). All is checked that its validators will check, but
-    /// for the signature. Errs with the fault of a member of the path, or of the certificate behind
-    /// them.
+    /// for the signature. Errs with the fault of a certificate of the path, or of the one that is to be
+    /// issued (`Place::Issued`, or `Place::Uri` for one of its URIs).
     pub fn prepare(&self, wanted: &Wanted<'_>) -> Result<Vec<u8>, Fault> {
         check_library();
+        self.check_names()?;
+        if let Some(why) = self.why_unwanted(wanted) {
+            return Err(Fault::bad_call(why));
+        }
         let mut uris: [&[u8]; 6] = [&[]; 6];
         for (which, uri) in wanted.uris {
             uris[*which as usize] = uri.as_bytes();
@@ -198,6 +242,7 @@ impl<'a> Issuer<'a> {
         signature: &[u8],
     ) -> Result<Certificate, Fault> {
         check_library();
+        self.check_names()?;
         let asked = sys::Completion {
             issuer: self.question(kind),
             prepared,
@@ -207,15 +252,20 @@ impl<'a> Issuer<'a> {
         let octets = sys::complete(&asked).map_err(|it| self.fault(it))?;
         Certificate::read(&octets)
     }
+
     /// Prepares the issuer's next revocation list for its signature, or its first one: returns what
     /// the issuer's key has to sign, as [`Issuer::prepare`] does. All entries of the list before
     /// stay, and those that are revoked now come in behind them, each serial number once.
     pub fn prepare_list(&self, wanted: &WantedList<'_>) -> Result<Vec<u8>, Fault> {
         check_library();
+        self.check_names()?;
         let entry = |it: &Entry| sys::Entry {
             date: it.revoked_at.0,
             serial: it.serial_number,
         };
+        if self.path.is_empty() {
+            return Err(Fault::bad_call("a list has an issuer, and there is none"));
+        }
         let asked = sys::WantedList {
             issuer: self.question(Kind::Authority),
             previous: wanted.previous.unwrap_or_default(),
@@ -235,6 +285,7 @@ impl<'a> Issuer<'a> {
         signature: &[u8],
     ) -> Result<RevocationList, Fault> {
         check_library();
+        self.check_names()?;
         let asked = sys::ListCompletion {
             issuer: self.question(Kind::Authority),
             prepared,

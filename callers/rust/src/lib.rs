@@ -14,7 +14,7 @@
 //!     let locator = std::fs::read("anchor.tal")?;
 //!     let asked = Revocation::by_lists(&lists);
 //!     let path = Path::new(&members, Kind::Authority, asked).locator(&locator);
-//!     match path.validate(Moment::new(2026, 6, 1, 12, 0, 0)) {
+//!     match path.validate(Moment::now()) {
 //!         Ok(held) => {
 //!             for (min, max) in held.ipv4 {
 //!                 println!("{min} to {max}");
@@ -46,18 +46,20 @@
 //! ```
 //!
 //! Each call checks first that the library is of this crate's interface, and panics where it isn't.
+mod code;
 mod fault;
 mod folder;
 mod issuing;
 mod moment;
 mod sys;
 
+pub use code::FaultCode;
 pub use fault::{Fault, FaultKind, Place};
 pub use folder::{Folder, Judged, Line};
 pub use issuing::{Issuer, Wanted, WantedList};
-pub use moment::Moment;
+pub use moment::{Moment, NoMoment};
 
-use std::net::{Ipv4Addr, Ipv6Addr};
+use std::net::{IpAddr, Ipv4Addr, Ipv6Addr};
 use std::ops::RangeInclusive;
 use std::sync::Once;
 
@@ -77,6 +79,7 @@ fn check_library() {
 /// What a certificate is judged as. As another kind than its own it is rejected, with a fault of
 /// `FaultKind::Inspection`.
 #[derive(Clone, Copy, Debug, PartialEq, Eq, Hash)]
+#[non_exhaustive]
 pub enum Kind {
     /// A trust anchor.
     TrustAnchor = 0,
@@ -94,6 +97,7 @@ pub enum Kind {
 
 /// A URI of a certificate.
 #[derive(Clone, Copy, Debug, PartialEq, Eq, Hash)]
+#[non_exhaustive]
 pub enum Uri {
     /// Where its issuer's certificate is.
     CaIssuer = 0,
@@ -107,6 +111,15 @@ pub enum Uri {
     SignedObject = 4,
     /// Where the notification file of RRDP is.
     Notify = 5,
+}
+
+impl Uri {
+    // By its number in enum rpki_uri.
+    fn of(number: usize) -> Option<Uri> {
+        use Uri::*;
+        let all = [CaIssuer, Crl, Repository, Manifest, SignedObject, Notify];
+        all.get(number).copied()
+    }
 }
 
 /// The ranges of a set. They ascend, and neither overlap nor touch.
@@ -139,6 +152,7 @@ impl<T> Resources<T> {
 
 /// The numbers that a path holds.
 #[derive(Clone, Debug, Default, PartialEq, Eq, Hash)]
+#[non_exhaustive]
 pub struct Holdings {
     /// IPv4 addresses.
     pub ipv4: Ipv4Ranges,
@@ -146,6 +160,44 @@ pub struct Holdings {
     pub ipv6: Ipv6Ranges,
     /// AS numbers.
     pub as_numbers: AsRanges,
+}
+
+impl Holdings {
+    /// Returns whether this address is held.
+    pub fn contains(&self, address: IpAddr) -> bool {
+        let length = if address.is_ipv4() { 32 } else { 128 };
+        self.contains_prefix(address, length)
+    }
+
+    /// Returns whether all of a prefix is held. A prefix that is longer than its family's addresses
+    /// is not.
+    pub fn contains_prefix(&self, address: IpAddr, length: u8) -> bool {
+        match address {
+            IpAddr::V4(it) if length <= 32 => {
+                let host = u32::MAX.checked_shr(length.into()).unwrap_or(0);
+                let first = u32::from(it) & !host;
+                covers(&self.ipv4, &first.into(), &(first | host).into())
+            }
+            IpAddr::V6(it) if length <= 128 => {
+                let host = u128::MAX.checked_shr(length.into()).unwrap_or(0);
+                let first = u128::from(it) & !host;
+                covers(&self.ipv6, &first.into(), &(first | host).into())
+            }
+            _ => false,
+        }
+    }
+
+    /// Returns whether this AS number is held.
+    pub fn contains_as(&self, number: u32) -> bool {
+        let behind = self.as_numbers.partition_point(|it| *it.start() <= number);
+        behind > 0 && self.as_numbers[behind - 1].contains(&number)
+    }
+}
+
+// Whether one of these ranges, which ascend, has all from the first to the last.
+fn covers<T: Ord>(ranges: &[(T, T)], first: &T, last: &T) -> bool {
+    let behind = ranges.partition_point(|(min, _)| min <= first);
+    behind > 0 && *last <= ranges[behind - 1].1
 }
 
 fn ipv4(ranges: Vec<sys::IpRange>) -> Ipv4Ranges {
@@ -270,6 +322,29 @@ impl Certificate {
     }
 }
 
+impl TryFrom<&[u8]> for Certificate {
+    type Error = Fault;
+
+    fn try_from(octets: &[u8]) -> Result<Certificate, Fault> {
+        Certificate::read(octets)
+    }
+}
+
+/// Two are equal if their octets are.
+impl PartialEq for Certificate {
+    fn eq(&self, other: &Certificate) -> bool {
+        self.octets == other.octets
+    }
+}
+
+impl Eq for Certificate {}
+
+impl std::hash::Hash for Certificate {
+    fn hash<H: std::hash::Hasher>(&self, state: &mut H) {
+        self.octets.hash(state);
+    }
+}
+
 impl AsRef<[u8]> for Certificate {
     fn as_ref(&self) -> &[u8] {
         self.as_bytes()
@@ -354,9 +429,39 @@ impl RevocationList {
         Ok(entries.into_iter().map(entry).collect())
     }
 
-    /// Tells whether the serial number is on the list. Whose list it is isn't asked.
+    /// Returns whether the serial number is on the list. Whose list it is isn't checked. Each call
+    /// reads the list: [`RevocationList::contains_each`] reads it once for many serial numbers.
     pub fn contains(&self, serial_number: &[u8; 20]) -> Result<bool, Fault> {
-        sys::is_revoked(&self.octets, serial_number).map_err(Fault::new)
+        self.contains_each(std::slice::from_ref(serial_number))
+            .map(|answers| answers[0])
+    }
+
+    /// Returns for each of these serial numbers whether it is on the list.
+    pub fn contains_each(&self, serial_numbers: &[[u8; 20]]) -> Result<Vec<bool>, Fault> {
+        sys::are_revoked(&self.octets, serial_numbers).map_err(Fault::new)
+    }
+}
+
+impl TryFrom<&[u8]> for RevocationList {
+    type Error = Fault;
+
+    fn try_from(octets: &[u8]) -> Result<RevocationList, Fault> {
+        RevocationList::read(octets)
+    }
+}
+
+/// Two are equal if their octets are.
+impl PartialEq for RevocationList {
+    fn eq(&self, other: &RevocationList) -> bool {
+        self.octets == other.octets
+    }
+}
+
+impl Eq for RevocationList {}
+
+impl std::hash::Hash for RevocationList {
+    fn hash<H: std::hash::Hasher>(&self, state: &mut H) {
+        self.octets.hash(state);
     }
 }
 
@@ -367,7 +472,8 @@ impl AsRef<[u8]> for RevocationList {
 }
 
 /// What is asked about revocation. It has no default, since either choice decides what is accepted.
-#[derive(Clone, Debug)]
+#[derive(Clone, Debug, PartialEq, Eq, Hash)]
+#[non_exhaustive]
 pub enum Revocation<'a> {
     /// These revocation lists, in any order: each member below the trust anchor has to be unrevoked by
     /// the latest list of its issuer that has begun. Each stands alone: behind one nothing may stand,
@@ -406,7 +512,7 @@ where
 /// }
 /// let locator = std::fs::read("anchor.tal")?;
 /// let path = Path::new(&members, Kind::EndEntity, Revocation::NotAsked).locator(&locator);
-/// match path.validate(Moment::new(2026, 6, 1, 12, 0, 0)) {
+/// match path.validate("2026-06-01T12:00:00Z".parse()?) {
 ///     Ok(held) => println!("{:?}", held.as_numbers),
 ///     Err(fault) => println!("{fault}: {:?}", fault.place()),
 /// }
@@ -463,6 +569,18 @@ impl<'a> Path<'a> {
         self
     }
 
+    // Why so many certificates aren't a path that ends in one of the kind.
+    fn why_no_path(&self) -> Option<&'static str> {
+        match (self.members.len(), self.last) {
+            (0, _) => Some("there are no certificates"),
+            (1, Kind::EndEntity | Kind::Detached | Kind::Router) => {
+                Some("there are too few certificates: one of this kind has an issuer")
+            }
+            (2.., Kind::TrustAnchor) => Some("the last of several certificates is a trust anchor"),
+            _ => None,
+        }
+    }
+
     /// Validates the path, with signatures (RFC 7935), and returns what its last member holds; of a
     /// router's certificate, what the member above it holds. Errs with the fault of the first wrong
     /// member. Whether the RPKI uses the last member's own key isn't asked; `rpki validate` asks it.
@@ -483,6 +601,9 @@ impl<'a> Path<'a> {
             let lists = question.lists.unwrap_or_default();
             Fault::of_path(number, index, &self.members, lists)
         };
+        if let Some(why) = self.why_no_path() {
+            return Err(Fault::bad_call(why));
+        }
         let held = sys::judge(&question).map_err(of_path)?;
         if self.chain_names {
             sys::names(&self.members).map_err(of_path)?;

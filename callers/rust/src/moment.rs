@@ -7,11 +7,32 @@ use std::time::{SystemTime, UNIX_EPOCH};
 #[derive(Clone, Copy, Debug, PartialEq, Eq)]
 pub struct Moment(pub(crate) sys::Time);
 
+/// The seconds from 1970 to the end of the year 9999.
+const LAST: u64 = 253_402_300_799;
+
 impl Moment {
-    /// Makes a moment. Whether the calendar and the clock have it is asked by the call that takes it,
-    /// whose fault is then a bad call.
-    pub fn new(year: u16, month: u8, day: u8, hour: u8, minute: u8, second: u8) -> Moment {
-        Moment(sys::Time {
+    /// Makes a time of UTC; `None` if the calendar or the clock doesn't have it, or its year is above
+    /// 9999.
+    pub const fn new(
+        year: u16,
+        month: u8,
+        day: u8,
+        hour: u8,
+        minute: u8,
+        second: u8,
+    ) -> Option<Moment> {
+        let is_leap = year % 4 == 0 && (year % 100 != 0 || year % 400 == 0);
+        let days = match month {
+            2 if is_leap => 29,
+            2 => 28,
+            4 | 6 | 9 | 11 => 30,
+            1..=12 => 31,
+            _ => 0,
+        };
+        if year > 9999 || day == 0 || day > days || hour > 23 || minute > 59 || second > 59 {
+            return None;
+        }
+        Some(Moment(sys::Time {
             year,
             month,
             day,
@@ -19,18 +40,23 @@ impl Moment {
             minute,
             second,
             unused: 0,
-        })
+        }))
     }
 
-    /// Returns the moment of the system's clock. A clock before 1970 counts as of 1970.
+    /// Returns the time of the system's clock. A clock before 1970 counts as of 1970.
     pub fn now() -> Moment {
         let passed = SystemTime::now().duration_since(UNIX_EPOCH);
-        Moment::from_timestamp(passed.map_or(0, |it| it.as_secs()))
+        Moment::of_seconds(passed.map_or(0, |it| it.as_secs()).min(LAST))
     }
 
-    /// Returns the moment so many seconds after 1970-01-01T00:00:00Z, without leap seconds. Behind
-    /// the year 9999 there is none: a call that takes what is returned there has a bad call's fault.
-    pub fn from_timestamp(seconds: u64) -> Moment {
+    /// Returns the time so many seconds after 1970-01-01T00:00:00Z, without leap seconds; `None`
+    /// behind the year 9999.
+    pub fn from_timestamp(seconds: u64) -> Option<Moment> {
+        (seconds <= LAST).then(|| Moment::of_seconds(seconds))
+    }
+
+    // Of at most LAST seconds.
+    fn of_seconds(seconds: u64) -> Moment {
         let (days, rest) = (seconds / 86_400, seconds % 86_400);
         // the days from 1 March of the year 0, in eras of 400 years
         let shifted = days + 719_468;
@@ -45,14 +71,15 @@ impl Moment {
             from_march - 9
         };
         let year = era * 400 + year + u64::from(month <= 2);
-        Moment::new(
-            u16::try_from(year).unwrap_or(u16::MAX),
-            month as u8,
-            day as u8,
-            (rest / 3_600) as u8,
-            (rest / 60 % 60) as u8,
-            (rest % 60) as u8,
-        )
+        Moment(sys::Time {
+            year: year as u16,
+            month: month as u8,
+            day: day as u8,
+            hour: (rest / 3_600) as u8,
+            minute: (rest / 60 % 60) as u8,
+            second: (rest % 60) as u8,
+            unused: 0,
+        })
     }
 
     /// Returns the year, the month and the day.
@@ -95,5 +122,58 @@ impl fmt::Display for Moment {
             f,
             "{year:04}-{month:02}-{day:02}T{hour:02}:{minute:02}:{second:02}Z"
         )
+    }
+}
+
+/// A text or a time that isn't a [`Moment`].
+#[derive(Clone, Copy, Debug, PartialEq, Eq)]
+pub struct NoMoment;
+
+impl fmt::Display for NoMoment {
+    fn fmt(&self, f: &mut fmt::Formatter<'_>) -> fmt::Result {
+        f.write_str("not a time of UTC; expected YYYY-MM-DD or YYYY-MM-DDTHH:MM:SSZ")
+    }
+}
+
+impl std::error::Error for NoMoment {}
+
+/// Reads `YYYY-MM-DDTHH:MM:SSZ`, or `YYYY-MM-DD` for its first second.
+impl std::str::FromStr for Moment {
+    type Err = NoMoment;
+
+    fn from_str(text: &str) -> Result<Moment, NoMoment> {
+        let octets = text.as_bytes();
+        let form: &[u8] = match octets.len() {
+            10 => b"0000-00-00",
+            20 => b"0000-00-00T00:00:00Z",
+            _ => return Err(NoMoment),
+        };
+        let fits = |(it, of): (&u8, &u8)| {
+            if *of == b'0' {
+                it.is_ascii_digit()
+            } else {
+                it == of
+            }
+        };
+        if !octets.iter().zip(form).all(fits) {
+            return Err(NoMoment);
+        }
+        let number = |at: usize| (octets[at] - b'0') * 10 + octets[at + 1] - b'0';
+        let year = u16::from(number(0)) * 100 + u16::from(number(2));
+        let (hour, minute, second) = match octets.len() {
+            20 => (number(11), number(14), number(17)),
+            _ => (0, 0, 0),
+        };
+        Moment::new(year, number(5), number(8), hour, minute, second).ok_or(NoMoment)
+    }
+}
+
+/// Fails before 1970 and behind the year 9999. Parts of a second are cut off.
+impl TryFrom<SystemTime> for Moment {
+    type Error = NoMoment;
+
+    fn try_from(time: SystemTime) -> Result<Moment, NoMoment> {
+        let passed = time.duration_since(UNIX_EPOCH).map_err(|_| NoMoment)?;
+        Moment::from_timestamp(passed.as_secs()).ok_or(NoMoment)
     }
 }

@@ -10,6 +10,7 @@ pub const ABI: u32 = 3;
 pub const OK: u32 = 0;
 pub const MEMORY: u32 = 1;
 pub const BAD_CALL: u32 = 2;
+pub const OTHER_NAME: u32 = 600;
 pub const BAD_URI: u32 = 802;
 /// enum rpki_fate of rpki.h.
 pub const ANCHOR: u32 = 1;
@@ -357,25 +358,30 @@ fn all_of<T: Clone + Default>(write: impl Fn(*mut T, usize, *mut u64) -> u32) ->
 }
 
 pub fn abi_version() -> u32 {
+    // SAFETY: it takes nothing
     unsafe { rpki_abi_version() }
 }
 
 pub fn fault_name(fault: u32) -> Called<Vec<u8>> {
+    // SAFETY: the octets are those of one slice, and `all_of` gives room for as many as it says
     all_of(|out, room, count| unsafe { rpki_fault_name(fault, out, room, count) })
 }
 
 pub fn fault_sentence(fault: u32) -> Called<Vec<u8>> {
+    // SAFETY: the octets are those of one slice, and `all_of` gives room for as many as it says
     all_of(|out, room, count| unsafe { rpki_fault_sentence(fault, out, room, count) })
 }
 
 pub fn certificate(octets: &[u8]) -> Called<Certificate> {
     let mut out = Certificate::default();
+    // SAFETY: each pointer is that of a value, or of a slice with the length beside it
     let fault = unsafe { rpki_certificate_read(octets.as_ptr(), octets.len(), &mut out) };
     answered(fault, out)
 }
 
 pub fn inspect(octets: &[u8], kind: u32, strict: bool) -> Called<()> {
     let (at, length) = (octets.as_ptr(), octets.len());
+    // SAFETY: each pointer is that of a value, or of a slice with the length beside it
     answered(
         unsafe { rpki_certificate_inspect(at, length, kind, strict.into()) },
         (),
@@ -384,6 +390,7 @@ pub fn inspect(octets: &[u8], kind: u32, strict: bool) -> Called<()> {
 
 pub fn addresses(octets: &[u8], family: u32) -> Called<Vec<IpRange>> {
     let (at, length) = (octets.as_ptr(), octets.len());
+    // SAFETY: the octets are those of one slice, and `all_of` gives room for as many as it says
     all_of(|out, room, count| unsafe {
         rpki_certificate_addresses(at, length, family, out, room, count)
     })
@@ -391,41 +398,49 @@ pub fn addresses(octets: &[u8], family: u32) -> Called<Vec<IpRange>> {
 
 pub fn as_numbers(octets: &[u8]) -> Called<Vec<AsRange>> {
     let (at, length) = (octets.as_ptr(), octets.len());
+    // SAFETY: the octets are those of one slice, and `all_of` gives room for as many as it says
     all_of(|out, room, count| unsafe { rpki_certificate_as_numbers(at, length, out, room, count) })
 }
 
 pub fn certificate_uri(octets: &[u8], which: u32) -> Called<Vec<u8>> {
     let (at, length) = (octets.as_ptr(), octets.len());
+    // SAFETY: the octets are those of one slice, and `all_of` gives room for as many as it says
     all_of(|out, room, count| unsafe { rpki_certificate_uri(at, length, which, out, room, count) })
 }
 
 pub fn certificate_name(octets: &[u8], which: u32) -> Called<Vec<u8>> {
     let (at, length) = (octets.as_ptr(), octets.len());
+    // SAFETY: the octets are those of one slice, and `all_of` gives room for as many as it says
     all_of(|out, room, count| unsafe { rpki_certificate_name(at, length, which, out, room, count) })
 }
 
 pub fn list(octets: &[u8]) -> Called<List> {
     let mut out = List::default();
+    // SAFETY: each pointer is that of a value, or of a slice with the length beside it
     let fault = unsafe { rpki_list_read(octets.as_ptr(), octets.len(), &mut out) };
     answered(fault, out)
 }
 
 pub fn entries(octets: &[u8]) -> Called<Vec<Entry>> {
     let (at, length) = (octets.as_ptr(), octets.len());
+    // SAFETY: the octets are those of one slice, and `all_of` gives room for as many as it says
     all_of(|out, room, count| unsafe { rpki_list_entries(at, length, out, room, count) })
 }
 
 pub fn list_issuer(octets: &[u8]) -> Called<Vec<u8>> {
     let (at, length) = (octets.as_ptr(), octets.len());
+    // SAFETY: the octets are those of one slice, and `all_of` gives room for as many as it says
     all_of(|out, room, count| unsafe { rpki_list_issuer(at, length, out, room, count) })
 }
 
-/// Whether the list has the serial number.
-pub fn is_revoked(octets: &[u8], serial: &[u8; 20]) -> Called<bool> {
-    let mut answer = 0;
-    let (at, length) = (octets.as_ptr(), octets.len());
-    let fault = unsafe { rpki_list_ask(at, length, serial.as_ptr(), 20, &mut answer, 1) };
-    answered(fault, answer != 0)
+/// Whether the list has each of the serial numbers.
+pub fn are_revoked(octets: &[u8], serials: &[[u8; 20]]) -> Called<Vec<bool>> {
+    let mut answers = vec![0; serials.len()];
+    let (at, length, count) = (octets.as_ptr(), octets.len(), serials.len());
+    let (asked, out) = (serials.as_ptr().cast(), answers.as_mut_ptr());
+    // SAFETY: `serials` has 20 times `count` octets, and `answers` has `count`
+    let fault = unsafe { rpki_list_ask(at, length, asked, 20 * count, out, count) };
+    answered(fault, answers.into_iter().map(|it| it != 0).collect())
 }
 
 /// Where the reading of octets stops, and the texts about the part there.
@@ -442,6 +457,7 @@ pub fn stop(octets: &[u8], is_list: bool) -> Called<Option<Stop>> {
     let (at, length) = (octets.as_ptr(), octets.len());
     let stop = Cell::new(CStop::default());
     let text = |which| {
+        // SAFETY: the octets are those of one slice, and `all_of` gives room for as many as it says
         all_of(|out, room, count| unsafe {
             let is_list = is_list.into();
             rpki_stop_text(at, length, is_list, which, stop.as_ptr(), out, room, count)
@@ -526,6 +542,12 @@ pub struct Held {
 }
 
 impl Held {
+    fn resize(&mut self, v4: usize, v6: usize, asn: usize) {
+        self.v4.resize(v4, IpRange::default());
+        self.v6.resize(v6, IpRange::default());
+        self.asn.resize(asn, AsRange::default());
+    }
+
     fn room(&mut self) -> Room {
         Room {
             v4: self.v4.as_mut_ptr(),
@@ -538,27 +560,33 @@ impl Held {
     }
 }
 
-/// What the last member holds, or a fault and its place: a first call counts the ranges, and a
-/// second one writes them.
+/// What the last member holds, or a fault and its place: a second call has room for more than 64
+/// ranges of a kind.
 pub fn judge(question: &Question<'_>) -> Result<Held, (u32, usize)> {
     let strings = question.strings();
     let asked = question.lent(&strings);
     let mut held = Held::default();
-    for _ in 0..2 {
+    held.resize(64, 64, 64);
+    loop {
         let mut out = Verdict::default();
+        // SAFETY: `asked` points into `question` and `strings`, and the room is that of `held`
         let fault = unsafe { rpki_path_validate(&asked, &mut held.room(), &mut out) };
         answered(fault, ()).map_err(|fault| (fault, out.index as usize))?;
-        held.v4.resize(out.v4 as usize, IpRange::default());
-        held.v6.resize(out.v6 as usize, IpRange::default());
-        held.asn.resize(out.asn as usize, AsRange::default());
+        let counts = (out.v4 as usize, out.v6 as usize, out.asn as usize);
+        let is_whole =
+            counts.0 <= held.v4.len() && counts.1 <= held.v6.len() && counts.2 <= held.asn.len();
+        held.resize(counts.0, counts.1, counts.2);
+        if is_whole {
+            return Ok(held);
+        }
     }
-    Ok(held)
 }
 
 /// Whether names chain: else a fault and its place.
 pub fn names(members: &[&[u8]]) -> Result<(), (u32, usize)> {
     let members = Strings::of(members);
     let mut place = 0;
+    // SAFETY: each pointer is that of a value, or of a slice with the length beside it
     let fault = unsafe { rpki_path_names(&members.lent(), &mut place) };
     answered(fault, ()).map_err(|fault| (fault, place as usize))
 }
@@ -588,6 +616,7 @@ pub fn judge_folder(question: &FolderQuestion<'_>) -> Result<(Walk, Vec<Line>), 
     };
     let mut lines = vec![Line::default(); question.strings.len()];
     let mut out = Walk::default();
+    // SAFETY: each pointer is that of a value, or of a slice with the length beside it
     let fault = unsafe { rpki_folder_judge(&asked, lines.as_mut_ptr(), lines.len(), &mut out) };
     answered(fault, ()).map_err(|fault| (fault, out.anchor as usize))?;
     Ok((out, lines))
@@ -666,6 +695,7 @@ pub fn prepare(wanted: &Wanted<'_>) -> Result<Vec<u8>, (u32, usize)> {
         kind: wanted.kind,
         overclaim: wanted.trims.into(),
     };
+    // SAFETY: `asked` points into slices that live on, and `issued` gives as much room as it says
     issued(|out, room, told| unsafe { rpki_prepare(&asked, out, room, told) })
 }
 
@@ -679,6 +709,7 @@ pub fn complete(completion: &Completion<'_>) -> Result<Vec<u8>, (u32, usize)> {
         signature: octets_of(completion.signature),
         kind: completion.kind,
     };
+    // SAFETY: `asked` points into slices that live on, and `issued` gives as much room as it says
     issued(|out, room, told| unsafe { rpki_complete(&asked, out, room, told) })
 }
 
@@ -712,6 +743,7 @@ pub fn prepare_list(wanted: &WantedList<'_>) -> Result<Vec<u8>, (u32, usize)> {
         next_update: wanted.next_update,
         number: wanted.number,
     };
+    // SAFETY: `asked` points into slices that live on, and `issued` gives as much room as it says
     issued(|out, room, told| unsafe { rpki_prepare_list(&asked, out, room, told) })
 }
 
@@ -724,5 +756,6 @@ pub fn complete_list(completion: &ListCompletion<'_>) -> Result<Vec<u8>, (u32, u
         prepared: octets_of(completion.prepared),
         signature: octets_of(completion.signature),
     };
+    // SAFETY: `asked` points into slices that live on, and `issued` gives as much room as it says
     issued(|out, room, told| unsafe { rpki_complete_list(&asked, out, room, told) })
 }

@@ -1,16 +1,17 @@
 //! Tests the crate over the files of examples/, whose contents examples/make.sh says.
 use gonxebhula::{
-    Certificate, Fault, FaultKind, Folder, Judged, Kind, Line, Moment, Path, Place, Resources,
-    Revocation, RevocationList, Uri,
+    Certificate, Fault, FaultCode, FaultKind, Folder, Judged, Kind, Line, Moment, Path, Place,
+    Resources, Revocation, RevocationList, Uri,
 };
-use std::net::{Ipv4Addr, Ipv6Addr};
+use std::net::{IpAddr, Ipv4Addr, Ipv6Addr};
+use std::time::{Duration, UNIX_EPOCH};
 
 const NOON: [u16; 6] = [2026, 6, 1, 12, 0, 0];
 
 fn at(parts: [u16; 6]) -> Moment {
     let [year, month, day, hour, minute, second] = parts;
     let parts = [month, day, hour, minute, second].map(|part| part as u8);
-    Moment::new(year, parts[0], parts[1], parts[2], parts[3], parts[4])
+    Moment::new(year, parts[0], parts[1], parts[2], parts[3], parts[4]).unwrap()
 }
 
 fn octets(name: &str) -> Vec<u8> {
@@ -83,6 +84,12 @@ fn lists_are_read() {
     assert_eq!(entries[0].serial_number, number(3));
     assert_eq!(entries[0].revoked_at.to_string(), "2026-02-01T00:00:00Z");
     assert!(it.contains(&number(3)).unwrap() && !it.contains(&number(2)).unwrap());
+    let asked = [number(2), number(3), [0; 20], number(3)];
+    assert_eq!(
+        it.contains_each(&asked).unwrap(),
+        [false, true, false, true]
+    );
+    assert!(it.contains_each(&[]).unwrap().is_empty());
 }
 
 #[test]
@@ -301,18 +308,27 @@ fn anchors_of_folders_are_asked() {
 #[test]
 fn wrong_calls_are_told() {
     let members = ["anchor.cer", "first.cer"].map(octets);
-    let to = |count, last| Path::new(&members[..count], last, Revocation::NotAsked);
-    let too_few = to(1, Kind::EndEntity).validate(at(NOON));
-    assert_eq!(too_few.unwrap_err().kind(), FaultKind::BadCall);
-    let no_day = to(1, Kind::Authority).validate(at([2026, 2, 29, 0, 0, 0]));
-    assert_eq!(no_day.unwrap_err().kind(), FaultKind::BadCall);
-    assert!(to(0, Kind::Authority).validate(at(NOON)).is_err());
-    let below = to(2, Kind::TrustAnchor).validate(at(NOON));
-    assert_eq!(
-        below.unwrap_err().to_string(),
-        "there are too few members, the last of several is to be a trust anchor, \
-         or there is no such moment, range or serial number"
-    );
+    for (count, last, text) in [
+        (0, Kind::Authority, "there are no certificates (BadCall)"),
+        (
+            1,
+            Kind::EndEntity,
+            "there are too few certificates: one of this kind has an issuer (BadCall)",
+        ),
+        (
+            2,
+            Kind::TrustAnchor,
+            "the last of several certificates is a trust anchor (BadCall)",
+        ),
+    ] {
+        let path = Path::new(&members[..count], last, Revocation::NotAsked);
+        let fault = path.validate(at(NOON)).unwrap_err();
+        assert_eq!(
+            (fault.kind(), fault.code()),
+            (FaultKind::BadCall, FaultCode::BadCall)
+        );
+        assert_eq!(fault.to_string(), text);
+    }
 }
 
 #[test]
@@ -325,29 +341,100 @@ fn moments_are_those_of_the_calendar() {
         (4_107_542_400, "2100-03-01T00:00:00Z"),
         (253_402_300_799, "9999-12-31T23:59:59Z"),
     ] {
-        assert_eq!(Moment::from_timestamp(seconds).to_string(), text);
+        let moment = Moment::from_timestamp(seconds).unwrap();
+        assert_eq!(moment.to_string(), text);
+        assert_eq!(text.parse(), Ok(moment));
+        let time = UNIX_EPOCH + Duration::from_secs(seconds);
+        assert_eq!(Moment::try_from(time), Ok(moment));
     }
     assert!(Moment::now() > at([2024, 1, 1, 0, 0, 0]));
+    assert_eq!("2026-06-01".parse(), Ok(at([2026, 6, 1, 0, 0, 0])));
 }
 
 #[test]
-fn moments_behind_the_calendar_are_none() {
-    let members = [octets("anchor.cer")];
-    let path = Path::new(&members, Kind::TrustAnchor, Revocation::NotAsked);
+fn there_are_no_other_moments() {
     let noon = 1_780_315_200;
-    assert_eq!(Moment::from_timestamp(noon), at(NOON));
-    assert!(path.validate(Moment::from_timestamp(noon)).is_ok());
+    assert_eq!(Moment::from_timestamp(noon), Some(at(NOON)));
     // noon of the year 67562, whose low 16 bits are those of 2026
     let later = 2_069_896_680_000;
-    for seconds in [
-        253_402_300_800,
-        later,
-        noon * 1_000,
-        noon * 1_000_000,
-        u64::MAX,
+    for seconds in [253_402_300_800, later, noon * 1_000, u64::MAX] {
+        assert_eq!(Moment::from_timestamp(seconds), None);
+    }
+    assert!(Moment::try_from(UNIX_EPOCH - Duration::from_secs(1)).is_err());
+    for parts in [
+        (2026, 2, 29, 0, 0, 0),
+        (2100, 2, 29, 0, 0, 0),
+        (2026, 4, 31, 0, 0, 0),
+        (2026, 13, 1, 0, 0, 0),
+        (2026, 0, 1, 0, 0, 0),
+        (2026, 1, 0, 0, 0, 0),
+        (2026, 1, 1, 24, 0, 0),
+        (2026, 1, 1, 0, 60, 0),
+        (2026, 1, 1, 0, 0, 60),
+        (10_000, 1, 1, 0, 0, 0),
+        (2026, 99, 99, 99, 99, 99),
     ] {
-        let fault = path.validate(Moment::from_timestamp(seconds)).unwrap_err();
-        assert_eq!(fault.kind(), FaultKind::BadCall, "{seconds}");
+        let (year, month, day, hour, minute, second) = parts;
+        let moment = Moment::new(year, month, day, hour, minute, second);
+        assert_eq!(moment, None, "{parts:?}");
+    }
+    assert!(Moment::new(2000, 2, 29, 23, 59, 59).is_some());
+    for text in [
+        "",
+        "2026-02-30",
+        "2026-6-1",
+        "2026-06-01T12:00:00",
+        "2026-06-01 12:00:00Z",
+        "2026-06-01T12:00:00z",
+        "2026/06/01",
+        "٢٠٢٦-٠٦",
+    ] {
+        assert!(text.parse::<Moment>().is_err(), "{text}");
+    }
+}
+
+#[test]
+fn what_is_held_can_be_asked() {
+    let members = ["anchor.cer", "first.cer"].map(octets);
+    let path = Path::new(&members, Kind::Authority, Revocation::NotAsked);
+    let held = path.validate(at(NOON)).unwrap();
+    let address = |text: &str| text.parse::<IpAddr>().unwrap();
+    for text in ["10.0.0.0", "10.15.255.255", "10.32.0.0", "2001:db8::1"] {
+        assert!(held.contains(address(text)), "{text}");
+    }
+    for text in ["9.255.255.255", "10.16.0.0", "2001:db9::"] {
+        assert!(!held.contains(address(text)), "{text}");
+    }
+    for (text, length, wanted) in [
+        ("10.0.0.0", 12, true),
+        ("10.15.1.2", 12, true),
+        ("10.0.0.0", 11, false),
+        ("0.0.0.0", 0, false),
+        ("10.0.0.0", 33, false),
+        ("2001:db8::", 40, true),
+        ("2001:db8::", 39, false),
+        ("::", 0, false),
+        ("2001:db8::", 129, false),
+    ] {
+        assert_eq!(
+            held.contains_prefix(address(text), length),
+            wanted,
+            "{text}/{length}"
+        );
+    }
+    assert!(held.contains_as(64500) && held.contains_as(64510));
+    assert!(!held.contains_as(64499) && !held.contains_as(64509) && !held.contains_as(u32::MAX));
+}
+
+#[test]
+fn values_are_made_and_compared() {
+    let octets = octets("first.cer");
+    let it = Certificate::try_from(&octets[..]).unwrap();
+    assert_eq!(it, Certificate::read(&octets).unwrap());
+    let fault = RevocationList::try_from(&octets[..]).unwrap_err();
+    assert_eq!(fault.kind(), FaultKind::Decode);
+    for number in [120, 132] {
+        assert_eq!(FaultCode::of(number).is_some(), number == 120);
     }
 }
 

@@ -5,6 +5,7 @@ use gonxebhula::{
 };
 use std::io::Write;
 use std::net::Ipv4Addr;
+use std::ops::RangeInclusive;
 use std::path::PathBuf;
 use std::process::{Command, Stdio};
 
@@ -62,8 +63,13 @@ impl Drop for Key {
     }
 }
 
+/// The first day of a month.
+fn day(year: u16, month: u8) -> Moment {
+    Moment::new(year, month, 1, 0, 0, 0).unwrap()
+}
+
 fn now() -> Moment {
-    Moment::new(2026, 6, 1, 0, 0, 0)
+    day(2026, 6)
 }
 
 fn wanted<'a>(kind: Kind, key: &'a Key, uris: &'a [(Uri, &'a str)], block: u8) -> Wanted<'a> {
@@ -77,8 +83,8 @@ fn wanted<'a>(kind: Kind, key: &'a Key, uris: &'a [(Uri, &'a str)], block: u8) -
         kind,
         key: &key.public,
         serial_number,
-        not_before: Moment::new(2026, 1, 1, 0, 0, 0),
-        not_after: Moment::new(2036, 1, 1, 0, 0, 0),
+        not_before: day(2026, 1),
+        not_after: day(2036, 1),
         ipv4: Resources::Listed(vec![range]),
         ipv6: Resources::Missing,
         as_numbers: Resources::Listed(vec![64500..=64503]),
@@ -127,7 +133,7 @@ fn certificates_are_issued() {
         assert_eq!(it.uri(which).unwrap().as_deref(), Some(uri));
     }
 
-    let certificate = Some(Place::Member(1));
+    let certificate = Some(Place::Issued);
     let refused = |signature: &[u8]| {
         let fault = issuer
             .complete(Kind::Authority, &octets, signature)
@@ -161,7 +167,7 @@ fn what_is_wrong_is_refused_before_it_is_signed() {
         &wrong,
         "OverclaimAs",
         FaultKind::Verification,
-        member(1),
+        Some(Place::Issued),
     );
     let mut wrong = good.clone();
     wrong.uris = &URIS[..2];
@@ -170,18 +176,38 @@ fn what_is_wrong_is_refused_before_it_is_signed() {
         &wrong,
         "MissingCrlUri",
         FaultKind::Inspection,
-        member(1),
+        Some(Place::Issued),
     );
     let mut wrong = good.clone();
     wrong.uris = &[(Uri::Crl, "http://rpki.example.net/")];
-    refused(&issuer, &wrong, "BadUri", FaultKind::Issuing, None);
+    let uri = Some(Place::Uri(Uri::Crl));
+    refused(&issuer, &wrong, "BadUri", FaultKind::Issuing, uri);
+    let fault = issuer.prepare(&wrong).unwrap_err();
+    assert!(fault.to_string().starts_with("the URI Crl: "), "{fault}");
     let mut wrong = good.clone();
     wrong.key = b"";
-    refused(&issuer, &wrong, "NoKey", FaultKind::Issuing, member(1));
+    let issued = Some(Place::Issued);
+    refused(&issuer, &wrong, "NoKey", FaultKind::Issuing, issued);
+    let bad_call = |wanted: &Wanted<'_>, text: &str| {
+        let fault = issuer.prepare(wanted).unwrap_err();
+        assert_eq!((fault.kind(), fault.place()), (FaultKind::BadCall, None));
+        assert!(fault.sentence().starts_with(text), "{fault}");
+    };
+    for serial_number in [[0; 20], [255; 20]] {
+        let mut wrong = good.clone();
+        wrong.serial_number = serial_number;
+        bad_call(&wrong, "the serial number isn't above 0");
+    }
+    let back = RangeInclusive::new(9, 5);
+    for as_numbers in [vec![], vec![back]] {
+        let mut wrong = good.clone();
+        wrong.as_numbers = Resources::Listed(as_numbers);
+        bad_call(&wrong, "resources are listed");
+    }
     let mut wrong = good.clone();
-    wrong.serial_number = [0; 20];
-    refused(&issuer, &wrong, "BadCall", FaultKind::BadCall, None);
-    let late = Issuer::new([&anchor], Moment::new(2040, 1, 1, 0, 0, 0));
+    wrong.kind = Kind::TrustAnchor;
+    bad_call(&wrong, "a trust anchor has no issuer");
+    let late = Issuer::new([&anchor], day(2040, 1));
     refused(&late, &good, "Expired", FaultKind::Verification, member(0));
     let alone = Issuer::of_anchor(now());
     refused(&alone, &good, "BadCall", FaultKind::BadCall, None);
@@ -201,7 +227,7 @@ fn list_wanted<'a>(previous: Option<&'a RevocationList>, revoked: &'a [Entry]) -
         previous: previous.map(RevocationList::as_bytes),
         revoked,
         this_update: now(),
-        next_update: Moment::new(2036, 1, 1, 0, 0, 0),
+        next_update: day(2036, 1),
         number: None,
     }
 }
@@ -223,7 +249,7 @@ fn lists_are_issued() {
         serial_number: serial(last),
         revoked_at,
     };
-    let early = Moment::new(2026, 2, 1, 0, 0, 0);
+    let early = day(2026, 2);
     let first = made(&list_wanted(None, &[entry(7, early)]));
     assert_eq!(first.number(), serial(1));
     assert_eq!(first.issuer().unwrap(), anchor.subject().unwrap());
@@ -248,9 +274,10 @@ fn lists_are_issued() {
     let fault = judged(&[&first, &second]).unwrap_err();
     let member = Some(Place::Member(1));
     is_fault(fault, "Revoked", FaultKind::Revocation, member);
+    let issued = Some(Place::Issued);
 
     let refused = |wanted: &WantedList<'_>, name, kind| {
-        is_fault(issuer.prepare_list(wanted).unwrap_err(), name, kind, member);
+        is_fault(issuer.prepare_list(wanted).unwrap_err(), name, kind, issued);
     };
     let mut wrong = list_wanted(None, &[]);
     wrong.previous = Some(b"no list");
@@ -268,10 +295,10 @@ fn lists_are_issued() {
     let octets = issuer.prepare_list(&list_wanted(None, &[])).unwrap();
     for signature in [&below.sign(&octets), &above.sign(b"other octets"), &b""[..]] {
         let fault = issuer.complete_list(&octets, signature).unwrap_err();
-        is_fault(fault, "BadSignature", FaultKind::Revocation, member);
+        is_fault(fault, "BadSignature", FaultKind::Revocation, issued);
     }
     let fault = issuer.complete_list(b"", b"").unwrap_err();
-    is_fault(fault, "NotToSign", FaultKind::Issuing, member);
+    is_fault(fault, "NotToSign", FaultKind::Issuing, issued);
     let fault = Issuer::of_anchor(now()).prepare_list(&wrong).unwrap_err();
     is_fault(fault, "BadCall", FaultKind::BadCall, None);
 }
