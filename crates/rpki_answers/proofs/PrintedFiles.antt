@@ -5,7 +5,7 @@ use Rattle.std.proofs.Common.{◌≡◌, ◌+◌, ◌<◌, ℕ, List, [], ◌∷
 use Rattle.std.proofs.lemmas.List.{take_more}
 use Rattle.std.proofs.lemmas.Option.{slice_get-map}
 use Rattle.rpki_files.specs.Files.{FileFields}
-use Rattle.rpki_text.specs.Pages.{Appends, AppendsSome, file_name_text, line_feed}
+use Rattle.rpki_text.specs.Pages.{Appends, AppendsSome, inner_name_text, line_feed}
 use Rattle.rpki_verdicts.specs.declared.unordered.Tree.{Tree}
 use Rattle.rpki_answers.specs.TreeTexts.{AreFileLines, IsFileLine, name_text_at}
 use Rattle.rpki_answers.proofs.AppendedTexts.{both_appended, nothing_more, order_more, such_appended, then_appended}
@@ -29,5 +29,5 @@ line_printed name Says old a b c new p q says ends =
 -- where there is no certificate at a place, there is no name
 pub no_name : {R : Type 0} (now : R → FileFields) (certs : List R) (place : ℕ) (page : Option (List ℕ)) → slice_get certs place ≡ None → Appends page (name_text_at (map now certs) place) page
 no_name now certs place page none =
-    subst (λ (o : Option FileFields). Appends page (unwrap_or (option_map (λ file. file_name_text file.name) o) []) page) (sym (slice_get-map now certs place ∙ ap (option_map now) none))
+    subst (λ (o : Option FileFields). Appends page (unwrap_or (option_map (λ file. inner_name_text file.name) o) []) page) (sym (slice_get-map now certs place ∙ ap (option_map now) none))
     (inl (nothing_more page))

@@ -14,7 +14,7 @@ use Rattle.rpki_files.specs.Contents.{BeginsWithCertificate, IsList, StandBehind
 use Rattle.rpki_verdicts.specs.Reasons.{ReasonFields, IsReason}
 use Rattle.rpki_files.specs.Files.{FileFields}
 use Rattle.rpki_files.specs.LocatorFiles.{AreLocator}
-use Rattle.rpki_text.specs.Pages.{file_name_text, line_feed, line as label_line}
+use Rattle.rpki_text.specs.Pages.{inner_name_text, line_feed, line as label_line}
 use Rattle.rpki_verdicts.specs.GivenLocators.{locator_octets}
 use Rattle.rpki_verdicts.specs.PathAnswers.{IsNoLocator, reason_of}
 use Rattle.rpki_verdicts.specs.Trees.{TreeFields, IsAccepting, IsTreeAnswer, accepted_count, certs_of}
@@ -30,7 +30,7 @@ use Rattle.rpki_answers.specs.declared.trees.TreeFinding.TheVariants.{NotALocato
 
 -- the name of the certificate's file at a place
 abbrev pub name_text_at : List FileFields → ℕ → List ℕ
-name_text_at certs place = unwrap_or (option_map (λ file. file_name_text file.name) (slice_get certs place)) []
+name_text_at certs place = unwrap_or (option_map (λ file. inner_name_text file.name) (slice_get certs place)) []
 
 -- those below the trust anchor, from the top down
 abbrev pub further_text : List FileFields → List ℕ → List ℕ
@@ -92,7 +92,7 @@ SaysOfFile tree place next file said =
 
 -- a line: the file's name, and what is said of it
 abbrev pub file_line : List ℕ → List ℕ → List ℕ
-file_line name said = file_name_text name ++ (codes ": " ++ (said ++ line_feed))
+file_line name said = inner_name_text name ++ (codes ": " ++ (said ++ line_feed))
 
 abbrev pub IsFileLine : Tree → ℕ → ℕ → FileFields → List ℕ → Type 0
 IsFileLine tree place next file text =

@@ -28,7 +28,7 @@ use Rattle.rpki_files.specs.LocatorFiles.{AreLocator}
 use Rattle.rpki_verdicts.specs.GivenLocators.{LocatorFields, locator_octets}
 use Rattle.rpki_verdicts.specs.PathFiles.{QuestionFields, IsAnchorLocator, demands_of}
 use Rattle.rpki_text.specs.KeyTexts.{IsKeyAnswer, key_text}
-use Rattle.rpki_text.specs.Pages.{colons_text, line, count_text, file_name_text}
+use Rattle.rpki_text.specs.Pages.{colons_text, line, count_text, file_name_text, inner_name_text}
 use Rattle.rpki_verdicts.specs.PathAnswers.{IsAcceptance, IsNoLocator, IsVerdictBy}
 use Rattle.rpki_text.specs.declared.keys.KeyAnswer.{KeyAnswer}
 use Rattle.rpki_answers.specs.declared.details.Details.{Details}
@@ -54,7 +54,7 @@ Leaves {V} encodes octets None = (v : V) → Means encodes v octets → ⊥
 -- how many octets of a file stand behind what it begins with
 abbrev pub left_of_text : List ℕ → ℕ → List ℕ
 left_of_text name left =
-    file_name_text name
+    inner_name_text name
     ++ (codes ", " ++ (count_text left (codes " octet") (codes " octets") ++ codes " not read"))
 
 -- the line that says it, where some do
@@ -102,7 +102,7 @@ behind_list_text left =
 -- such a file, and what to do
 abbrev pub part_list_text : List ℕ → ℕ → List ℕ
 part_list_text name left =
-    file_name_text name
+    inner_name_text name
     ++ (behind_list_text left ++ codes ": is it two lists in one file? give each in a file of its own")
 
 -- the line of a file that is none: its name, and why, where it begins with one
@@ -127,7 +127,7 @@ locators_text locators = flat_map (λ l. locator_part l.file.name l.read) locato
 -- a locator: its name, how many URIs it has, and the identifier of its key
 abbrev pub locator_text : List ℕ → TalFields → List ℕ
 locator_text name tal =
-    file_name_text name ++ (codes ", " ++ (count_text (length tal.uris) (codes " URI") (codes " URIs")
+    inner_name_text name ++ (codes ", " ++ (count_text (length tal.uris) (codes " URI") (codes " URIs")
     ++ (codes ", key " ++ colons_text (key_identifier tal.key))))
 
 -- the line of a file of which this was read, where it is a locator

@@ -20,7 +20,7 @@ use rpki_files::rules::Rule;
 use rpki_files::{BareObject, Front};
 use rpki_folder::{Ended, Line};
 use rpki_path::PathFault;
-use rpki_text::{FileName, Page};
+use rpki_text::{InnerName, Page};
 use rpki_verdicts::reasons::of_path;
 use rpki_verdicts::{Fault, Tree, TreeAnswer, TreeQuestion};
 use std::alloc::{AllocError, Global};
@@ -51,7 +51,7 @@ fn print_name_at(page: &mut Page, certs: &[&BareObject<'_>], place: usize)
     ensures { Appends page.old (name_text_at (map (λ f. f.now) certs.now) place) page.new }
 {
     match certs.get(place) {
-        Some(file) => page.value(&FileName(file.name())),
+        Some(file) => page.value(&InnerName(file.name())),
         None => {}
     }
 }
@@ -198,7 +198,7 @@ fn print_file(page: &mut Page, tree: &Tree<'_, '_>, place: usize, file: &BareObj
     ensures next { result ≤ place + 1 }
     ensures line { AppendsSome (IsFileLine tree.now place result file.now) page.old page.new }
 {
-    page.value(&FileName(file.name()));
+    page.value(&InnerName(file.name()));
     page.text(": ");
     let next = print_said(page, tree, place, file);
     page.end();
@@ -283,7 +283,7 @@ fn print_wrong_anchor(page: &mut Page, anchor: &BareObject<'_>, fault: &Fault)
     ensures { let said = codes "trust anchor, " ++ rejection_text (reason_of fault.now) in
         Appends page.old (file_line anchor.now.name said) page.new }
 {
-    page.value(&FileName(anchor.name()));
+    page.value(&InnerName(anchor.name()));
     page.text(": ");
     page.text("trust anchor, ");
     page.value(&Rejection {

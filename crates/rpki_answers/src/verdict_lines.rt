@@ -25,7 +25,7 @@ use rpki_text::blocks::{Family, as_blocks, ip_blocks, write_as_resources};
 use rpki_text::certificate::{key_identifier, kind_name};
 use rpki_text::keys::answer_of;
 use rpki_text::notes::{Note, notes_of};
-use rpki_text::{FileName, Page};
+use rpki_text::{FileName, InnerName, Page};
 use rpki_verdicts::{Fault, GivenLocator, Question, Verdict, located};
 use std::alloc::{AllocError, Global};
 use std::fmt;
@@ -75,7 +75,7 @@ impl fmt::Display for OtherMember<'_> {
 fn print_count(page: &mut Page, name: &str, left: usize)
     ensures { Appends page.old (left_of_text name.now left) page.new }
 {
-    page.value(&FileName(name));
+    page.value(&InnerName(name));
     page.text(", ");
     page.count(left as u64, " octet", " octets");
     page.text(" not read");
@@ -178,7 +178,7 @@ pub fn print_behind_list(page: &mut Page, left: usize)
 fn print_part_list(page: &mut Page, name: &str, left: usize)
     ensures { Appends page.old (part_list_text name.now left) page.new }
 {
-    page.value(&FileName(name));
+    page.value(&InnerName(name));
     print_behind_list(page, left);
     page.text(": is it two lists in one file? give each in a file of its own");
 }
@@ -242,7 +242,7 @@ pub fn print_other_locators(page: &mut Page, locators: &[GivenLocator<'_>])
 fn print_tal(page: &mut Page, name: &str, tal: &Tal)
     ensures { Appends page.old (locator_text name.now tal.now.tal) page.new }
 {
-    page.value(&FileName(name));
+    page.value(&InnerName(name));
     page.text(", ");
     page.count(tal.uris().len() as u64, " URI", " URIs");
     page.text(", key ");

@@ -2,7 +2,7 @@
 use Rattle.std.specs.Fmt.{decimal}
 use Rattle.std.specs.List.{AllByRecursion, flat_map}
 use Rattle.std.specs.Option.{option_map}
-use Rattle.std.specs.Prelude.{◌≡◌, ℕ, ◌-◌, ◌==◌, ◌&&◌, not, IsTrue, if◌then◌else◌, List, [], ◌∷◌, ◌++◌, length, replicate, codes, Option, Some, None, ◌⊎◌}
+use Rattle.std.specs.Prelude.{◌≡◌, ℕ, ◌-◌, ◌==◌, ◌&&◌, ◌||◌, Bool, not, IsTrue, if◌then◌else◌, List, [], ◌∷◌, ◌++◌, length, replicate, codes, Option, Some, None, ◌⊎◌}
 use Rattle.rpki_parts.specs.NameTexts.{is_visible}
 use Rattle.rpki_der.specs.Texts.{hexadecimal}
 
@@ -68,3 +68,20 @@ characters_text octets = flat_map character_text octets
 -- the name of a file: its octets as characters
 abbrev pub file_name_text : List ℕ → List ℕ
 file_name_text name = characters_text name
+
+-- what sets parts of a line apart: a colon, a comma, `>`, an opening parenthesis
+abbrev pub separates : ℕ → Bool
+separates octet = octet == 58 || octet == 44 || octet == 62 || octet == 40
+
+-- an octet of a name behind which more follows in its line: a separator as `\x` and two hexadecimal
+-- digits too (own)
+abbrev pub inner_character_text : ℕ → List ℕ
+inner_character_text octet = if separates octet then 92 ∷ 120 ∷ hexadecimal (octet ∷ []) else character_text octet
+
+-- the name of a file behind which more follows in its line
+abbrev pub inner_name_text : List ℕ → List ℕ
+inner_name_text name = flat_map inner_character_text name
+
+-- a text that no separator is in
+abbrev pub IsUnseparated : List ℕ → Type 0
+IsUnseparated text = AllByRecursion (λ octet. IsTrue (not (separates octet))) text

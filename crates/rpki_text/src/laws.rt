@@ -1,7 +1,7 @@
 //! Laws about the definitions, each the contract of a function with no parameters and no body.
-ghost use Rattle.std.specs.Prelude.{◌≡◌, ℕ, List};
+ghost use Rattle.std.specs.Prelude.{◌≡◌, ◌++◌, ◌∷◌, ℕ, IsTrue, List};
 ghost use Rattle.rpki_der.specs.Values.{AreOctets};
-ghost use Rattle.rpki_text.specs.Pages.{AreVisible, file_name_text};
+ghost use Rattle.rpki_text.specs.Pages.{AreVisible, IsUnseparated, file_name_text, inner_name_text, separates};
 
 /// Says that a file's name is printed as visible characters of ASCII and spaces alone, so that it
 /// stays in its line, and that no two names are printed alike.
@@ -9,4 +9,16 @@ pub fn file_names()
     ensures visible { (name : List ℕ) → AreOctets name → AreVisible (file_name_text name) }
     ensures apart { (one other : List ℕ) → AreOctets one → AreOctets other
         → file_name_text one ≡ file_name_text other → one ≡ other }
+{}
+
+/// Says the same of a file's name behind which more follows in its line, and that no separator is
+/// in it: where two lines that have a separator behind a name are one, the names are one, and so
+/// is what follows. So no name adds to its line, or imitates what is printed behind another.
+pub fn inner_names()
+    ensures visible { (name : List ℕ) → AreOctets name → AreVisible (inner_name_text name) }
+    ensures unseparated { (name : List ℕ) → AreOctets name → IsUnseparated (inner_name_text name) }
+    ensures apart { (one other : List ℕ) (c d : ℕ) (behind after : List ℕ)
+        → AreOctets one → AreOctets other → IsTrue (separates c) → IsTrue (separates d)
+        → inner_name_text one ++ c ∷ behind ≡ inner_name_text other ++ d ∷ after
+        → (one ≡ other) × (c ∷ behind ≡ d ∷ after) }
 {}

@@ -16,5 +16,5 @@ pub mod notes;
 mod page;
 
 pub use identifiers::Identifier;
-pub use lines::{Characters, Colons, FileName, write_line};
+pub use lines::{Characters, Colons, FileName, InnerName, write_line};
 pub use page::Page;

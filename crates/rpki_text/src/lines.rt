@@ -1,8 +1,8 @@
 //! Lines: labels, and values from column 26 on.
-ghost use Rattle.std.specs.Prelude.{[], ◌∷◌, Some, IfSome, replicate};
+ghost use Rattle.std.specs.Prelude.{◌≡◌, [], ◌∷◌, Some, IfSome, replicate};
 ghost use Rattle.std.specs.Fmt.{WritesOnOk};
 ghost use Rattle.rpki_der.specs.Texts.{hexadecimal};
-ghost use Rattle.rpki_text.specs.Pages.{label_text, line, further_line, count_text, colons_text, character_text, characters_text, file_name_text};
+ghost use Rattle.rpki_text.specs.Pages.{character_text, characters_text, colons_text, count_text, file_name_text, further_line, inner_character_text, inner_name_text, label_text, line, separates};
 
 use std::fmt;
 
@@ -149,8 +149,8 @@ impl fmt::Display for Characters<'_> {
     }
 }
 
-/// The name of a file. Whoever made the file chose it, so it is printed as octets are, and can't
-/// end its line, move the cursor or hide a letter.
+/// The name of a file, at the end of a line. Whoever made the file chose it, so it is printed as
+/// octets are, and can't end its line, move the cursor or hide a letter.
 #[derive(Drop)]
 pub struct FileName<'a>(pub &'a str);
 
@@ -159,5 +159,45 @@ impl fmt::Display for FileName<'_> {
 
     fn fmt<W: fmt::Write>(&self, f: &mut fmt::Formatter<W>) -> fmt::Result {
         write_characters(f, self.0.as_bytes())
+    }
+}
+
+// Whether the octet sets parts of a line apart.
+fn separates(octet: u8) -> bool
+    ensures { result ≡ separates octet }
+{
+    octet == b':' || octet == b',' || octet == b'>' || octet == b'('
+}
+
+fn write_inner_character<W: fmt::Write>(f: &mut fmt::Formatter<W>, octet: u8) -> fmt::Result
+    ensures { WritesOnOk W.write_str_gives f.old result (inner_character_text octet) f.new }
+{
+    if separates(octet) {
+        f.write_str("\\x")?;
+        write_octet(f, octet)
+    } else {
+        write_character(f, octet)
+    }
+}
+
+fn write_inner_name<W: fmt::Write>(f: &mut fmt::Formatter<W>, octets: &[u8]) -> fmt::Result
+    ensures { WritesOnOk W.write_str_gives f.old result (inner_name_text octets.now) f.new }
+{
+    for octet in octets {
+        write_inner_character(f, *octet)?;
+    }
+    Ok(())
+}
+
+/// The name of a file behind which more follows in its line. A colon, a comma, `>` and an opening
+/// parenthesis are printed as `\xHH` too, so that the name can't look like what follows.
+#[derive(Drop)]
+pub struct InnerName<'a>(pub &'a str);
+
+impl fmt::Display for InnerName<'_> {
+    ghost output = { λ name. Some (inner_name_text name.0.now) };
+
+    fn fmt<W: fmt::Write>(&self, f: &mut fmt::Formatter<W>) -> fmt::Result {
+        write_inner_name(f, self.0.as_bytes())
     }
 }
