@@ -11,3 +11,4 @@ pub mod PickedLists
 pub mod ListPlaces
 pub mod IssuersList
 pub mod UnaskedSteps
+pub mod IsolatedPaths

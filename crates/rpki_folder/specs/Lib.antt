@@ -5,3 +5,4 @@ pub mod Walks
 pub mod WalkFaults
 pub mod KeptLines
 pub mod Searches
+pub mod Strangers
