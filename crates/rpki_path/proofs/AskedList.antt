@@ -1,126 +1,34 @@
--- The checks of the lists that are asked are those of the certificate.
-use Rattle.std.specs.Prelude.{Any, Some, Result, Ok, Err, Contains}
-use Rattle.std.proofs.Common.{◌≡◌, ℕ, List, refl, sym, ◌∙◌, inl, inr, arith}
+-- The same of lists whose names aren't asked.
+use Rattle.std.specs.Prelude.{false, Result, Contains}
+use Rattle.std.proofs.Common.{List}
 use Rattle.rpki_parts.specs.Conditions.{IsFirstFalse, Tests}
-use Rattle.rpki_parts.specs.ValidAt.{IsNotAfter}
 use Rattle.rpki_cert.specs.Certificates.{TbsFields, CertFields}
 use Rattle.rpki_cert.specs.Verification.{Context, IsSignedBy}
 use Rattle.rpki_crl.specs.Lists.{CrlState}
-use Rattle.rpki_crl.specs.Revocation.{NamesIssuer, ListCheck, revocation_checks}
+use Rattle.rpki_crl.specs.Revocation.{NamesIssuer, revocation_checks}
 use Rattle.rpki_crl.specs.declared.revocation_error.RevocationError.{RevocationError}
-use Rattle.rpki_crl.specs.declared.revocation_error.RevocationError.TheVariants.{NoCrl, WrongKeyId, BadSignature, Stale, Revoked}
-use Rattle.rpki_path.specs.Asking.{IsUnrevokedBy}
-use Rattle.rpki_path.specs.AskedLists.{IsFor, IsEligible, Revokes, HaveNone, IsLatest, IsAskedOf, by_lists, FailsBy, IsSaidBy, LeavesUnrevoked}
+use Rattle.rpki_crl.specs.declared.revocation_error.RevocationError.TheVariants.{NoCrl, BadSignature, Stale}
+use Rattle.rpki_path.specs.AskedLists.{IsFor, IsEligible, HaveNone, IsLatest, by_lists, IsSaidBy}
 use Rattle.rpki_path.specs.AskedLists.Steps.{EachHas}
-use Rattle.rpki_path.proofs.ListOrder.{Alike, alike}
-
-one_key : (k l : List ℕ) → Some k ≡ Some l → k ≡ l
-one_key k l e = cc e
+use Rattle.rpki_path.proofs.AskedNamedList as named
 
 module _ (x : Context) (lists : List CrlState) (issuer : TbsFields) (c : CertFields) where
   abbrev Fits : CrlState → Type 0
   Fits l = IsEligible x.verifies x.now issuer c l
 
-  abbrev IsAsked : CrlState → Type 0
-  IsAsked l = IsAskedOf x lists issuer c l
-
-  asked_inside : (l : CrlState) → IsAsked l → Contains lists l
-  asked_inside l (inl h) = h.inside
-  asked_inside l (inr h) = h.1
-
-  asked_for : (l : CrlState) → IsAsked l → IsFor c l
-  asked_for l (inl h) = h.has.0
-  asked_for l (inr h) = h.2
-
-  -- ---- no list is for the certificate
-
-  pub no_list : HaveNone (IsFor c) lists → IsFirstFalse (by_lists x lists issuer c) revocation_checks NoCrl
-  no_list none = inl (refl, λ h. none h.0 (asked_inside h.0 h.1) (asked_for h.0 h.1))
-
-  -- ---- this list is asked
-
-  module _ (l : CrlState) (is : IsAsked l) where
-    pub wrong_key : (NamesIssuer issuer l.list → ⊥) → IsFirstFalse (by_lists x lists issuer c) revocation_checks WrongKeyId
-    wrong_key not = inr ((l, is), inl (refl, λ h. not (h l is)))
-
-    -- they all name the key that the certificate names
-    named : NamesIssuer issuer l.list → (k : CrlState) → IsAsked k → NamesIssuer issuer k.list
-    named names k at = one_key k.list.fields.extensions.authority_key_identifier l.list.fields.extensions.authority_key_identifier (sym (asked_for k at) ∙ asked_for l is) ∙ names
-
-  -- ---- no list is eligible, and this one is for the certificate
-
   abbrev Signs : CrlState → Type 0
   Signs l = IsSignedBy x.verifies issuer.key l.list.signed_data
 
-  module _ (none : HaveNone Fits lists) (l : CrlState) (one : Contains lists l × IsFor c l) (names : NamesIssuer issuer l.list) where
-    asked_too : IsAsked l
-    asked_too = inr (none, one.0, one.1)
+  pub no_list : HaveNone (IsFor c) lists → IsFirstFalse (by_lists x lists issuer c) revocation_checks NoCrl
+  no_list none = named.no_list false x lists issuer c none
 
+  module _ (none : HaveNone Fits lists) (l : CrlState) (one : Contains lists l × IsFor c l) (key : NamesIssuer issuer l.list) where
     pub unsigned : (EachHas (IsFor c) Signs lists → ⊥) → IsFirstFalse (by_lists x lists issuer c) revocation_checks BadSignature
-    unsigned not = inr ((l, asked_too), inr (named l asked_too names, inl (refl, λ h. not (λ k inside is. h k (inr (none, inside, is))))))
+    unsigned not = named.unsigned false x lists issuer c none l one key not
 
     pub not_begun : EachHas (IsFor c) Signs lists → IsFirstFalse (by_lists x lists issuer c) revocation_checks Stale
-    not_begun signed = inr (
-      (l, asked_too),
-      inr (
-        named l asked_too names,
-        inr ((λ k at. signed k (asked_inside k at) (asked_for k at)), inl (refl, λ h. none l one.0 (one.1, signed l one.0 one.1, h.0 l asked_too))),
-      ),
-    )
+    not_begun signed = named.not_begun false x lists issuer c none l one key signed
 
-  -- ---- this list is the latest that is eligible
-
-  module _ (l : CrlState) (last : IsLatest Fits c lists l) where
-    -- each that is asked is such a one
-    latest_too : (k : CrlState) → IsAsked k → IsLatest Fits c lists k
-    latest_too k (inl h) = h
-    latest_too k (inr h) = absurd (h.0 l last.inside last.has)
-
-    alike_too : (k : CrlState) → IsAsked k → Alike c l k
-    alike_too k at = let h = latest_too k at in alike c l k (h.stays l last.inside last.has) (last.stays k h.inside h.has)
-
-    module _ (names : NamesIssuer issuer l.list) where
-      signed : (k : CrlState) → IsAsked k → Signs k
-      signed k at = (latest_too k at).has.1
-
-      stale : (IsNotAfter x.now l.list.fields.next_update → ⊥) → IsFirstFalse (by_lists x lists issuer c) revocation_checks Stale
-      stale not = inr ((l, inl last), inr (named l (inl last) names, inr (signed, inl (refl, λ h. not (h.1 l (inl last))))))
-
-      module _ (lasts : IsNotAfter x.now l.list.fields.next_update) where
-        current : by_lists x lists issuer c Stale
-        current = ((λ k at. (latest_too k at).has.2), (λ k at. omega (arith, lasts, (alike_too k at).next_update)))
-
-        revoked : Revokes c l → IsFirstFalse (by_lists x lists issuer c) revocation_checks Revoked
-        revoked has = inr ((l, inl last), inr (named l (inl last) names, inr (signed, inr (current, inl (refl, λ h. h l (inl last) has)))))
-
-        unrevoked : (Revokes c l → ⊥) → IsUnrevokedBy (by_lists x lists) issuer c
-        unrevoked not = ((l, inl last), (named l (inl last) names, (signed, (current, ((λ k at has. not ((alike_too k at).revokes.1 has)), tt)))))
-
-      failed : (e : RevocationError) → FailsBy x.now c l e → IsFirstFalse (by_lists x lists issuer c) revocation_checks e
-      failed NoCrl f = absurd f
-      failed WrongKeyId f = absurd f
-      failed BadSignature f = absurd f
-      failed Stale f = stale f
-      failed Revoked f = revoked f.0 f.1
-
-      -- what it says is answered
-      pub answered : {T : Type 0} (r : Result T RevocationError) → IsSaidBy x.now c l r → Tests (by_lists x lists issuer c) revocation_checks r
-      answered (Ok v) h = unrevoked h.0 h.1
-      answered (Err e) f = failed e f
-
-  -- ---- one of the lists is asked
-
-  -- what is asked of it leaves the certificate unrevoked
-  pub left_by_asked : IsUnrevokedBy (by_lists x lists) issuer c → Any (λ l. LeavesUnrevoked x issuer c l.list) lists
-  left_by_asked h =
-      let l = h.0.0 in
-      let is = h.0.1 in
-      let inside = asked_inside l is in
-      (inside.0, l, inside.1, inside.2, record { begun = h.1.1.1.0.0 l is; checks = check_of })
-    where
-      check_of : (e : RevocationError) → ListCheck x issuer c.fields.serial h.0.0.list e
-      check_of NoCrl = tt
-      check_of WrongKeyId = h.1.0 h.0.0 h.0.1
-      check_of BadSignature = h.1.1.0 h.0.0 h.0.1
-      check_of Stale = h.1.1.1.0.1 h.0.0 h.0.1
-      check_of Revoked = h.1.1.1.1.0 h.0.0 h.0.1
+  -- what the latest list says is answered
+  pub answered : (l : CrlState) → IsLatest Fits c lists l → NamesIssuer issuer l.list → {T : Type 0} (r : Result T RevocationError) → IsSaidBy x.now c l r → Tests (by_lists x lists issuer c) revocation_checks r
+  answered l last key r said = named.answered false x lists issuer c l last key r said

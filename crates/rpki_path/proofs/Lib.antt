@@ -17,6 +17,7 @@ pub mod LocatedPaths
 -- ---- who answers for revocation
 mod ListOrder
 pub mod LatestLists
+pub mod AskedNamedList
 pub mod AskedList
 pub mod SameLists
 pub mod AskedAlike

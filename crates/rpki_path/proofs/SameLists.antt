@@ -1,4 +1,5 @@
 -- The same lists in another order answer alike.
+use Rattle.std.specs.Prelude.{Bool, false}
 use Rattle.std.proofs.Common.{◌↔◌, List, inl, inr}
 use Rattle.rpki_cert.specs.Certificates.{TbsFields, CertFields}
 use Rattle.rpki_cert.specs.Verification.{Context}
@@ -8,28 +9,32 @@ use Rattle.rpki_crl.specs.Revocation.{revocation_checks}
 use Rattle.rpki_crl.specs.declared.revocation_error.RevocationError.{RevocationError}
 use Rattle.rpki_crl.specs.declared.revocation_error.RevocationError.TheVariants.{NoCrl, WrongKeyId, BadSignature, Stale, Revoked}
 use Rattle.rpki_path.specs.Asking.{IsUnrevokedBy}
-use Rattle.rpki_path.specs.AskedLists.{AreSameLists, IsAskedOf, by_lists}
+use Rattle.rpki_path.specs.AskedLists.{AreSameLists, IsAskedOf, by_lists, by_named_lists}
 
 turned : (lists others : List CrlState) → AreSameLists lists others → AreSameLists others lists
 turned lists others same l = ((same l).1, (same l).0)
 
-module _ (x : Context) (issuer : TbsFields) (c : CertFields) where
-  asked_there : (lists others : List CrlState) → AreSameLists lists others → (l : CrlState) → IsAskedOf x lists issuer c l → IsAskedOf x others issuer c l
+module _ (names : Bool) (x : Context) (issuer : TbsFields) (c : CertFields) where
+  asked_there : (lists others : List CrlState) → AreSameLists lists others → (l : CrlState) → IsAskedOf names x lists issuer c l → IsAskedOf names x others issuer c l
   asked_there lists others same l (inl h) = inl (record { inside = (same l).0 h.inside; has = h.has; stays = λ other at. h.stays other ((same other).1 at) })
   asked_there lists others same l (inr h) = inr ((λ other at. h.0 other ((same other).1 at)), (same l).0 h.1, h.2)
 
-  check_there : (lists others : List CrlState) → AreSameLists lists others → (e : RevocationError) → by_lists x lists issuer c e → by_lists x others issuer c e
+  check_there : (lists others : List CrlState) → AreSameLists lists others → (e : RevocationError) → by_named_lists names x lists issuer c e → by_named_lists names x others issuer c e
   check_there lists others same NoCrl h = (h.0, asked_there lists others same h.0 h.1)
   check_there lists others same WrongKeyId h = λ l at. h l (asked_there others lists (turned lists others same) l at)
   check_there lists others same BadSignature h = λ l at. h l (asked_there others lists (turned lists others same) l at)
   check_there lists others same Stale h = ((λ l at. h.0 l (asked_there others lists (turned lists others same) l at)), (λ l at. h.1 l (asked_there others lists (turned lists others same) l at)))
   check_there lists others same Revoked h = λ l at. h l (asked_there others lists (turned lists others same) l at)
 
-  pub checks_there : (lists others : List CrlState) → AreSameLists lists others → (e : RevocationError) → by_lists x lists issuer c e ↔ by_lists x others issuer c e
+  pub checks_there : (lists others : List CrlState) → AreSameLists lists others → (e : RevocationError) → by_named_lists names x lists issuer c e ↔ by_named_lists names x others issuer c e
   checks_there lists others same e = (check_there lists others same e, check_there others lists (turned lists others same) e)
 
-  pub unrevoked_there : (lists others : List CrlState) → AreSameLists lists others → IsUnrevokedBy (by_lists x lists) issuer c → IsUnrevokedBy (by_lists x others) issuer c
-  unrevoked_there lists others same = all_map (by_lists x lists issuer c) (by_lists x others issuer c) revocation_checks (check_there lists others same)
+  pub named_there : (lists others : List CrlState) → AreSameLists lists others → IsUnrevokedBy (by_named_lists names x lists) issuer c → IsUnrevokedBy (by_named_lists names x others) issuer c
+  named_there lists others same = all_map (by_named_lists names x lists issuer c) (by_named_lists names x others issuer c) revocation_checks (check_there lists others same)
 
-  pub unrevoked_alike : (lists others : List CrlState) → AreSameLists lists others → IsUnrevokedBy (by_lists x lists) issuer c ↔ IsUnrevokedBy (by_lists x others) issuer c
-  unrevoked_alike lists others same = (unrevoked_there lists others same, unrevoked_there others lists (turned lists others same))
+  pub unrevoked_alike : (lists others : List CrlState) → AreSameLists lists others → IsUnrevokedBy (by_named_lists names x lists) issuer c ↔ IsUnrevokedBy (by_named_lists names x others) issuer c
+  unrevoked_alike lists others same = (named_there lists others same, named_there others lists (turned lists others same))
+
+-- without names
+pub unrevoked_there : (x : Context) (issuer : TbsFields) (c : CertFields) (lists others : List CrlState) → AreSameLists lists others → IsUnrevokedBy (by_lists x lists) issuer c → IsUnrevokedBy (by_lists x others) issuer c
+unrevoked_there x issuer c lists others same h = named_there false x issuer c lists others same h

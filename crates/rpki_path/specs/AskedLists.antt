@@ -1,6 +1,7 @@
 -- Lists as a caller gives them: which of them is asked of a certificate below its issuer, and what
--- (RFC 6487 5, 7.2, RFC 5280 6.3.3). Their order says nothing.
-use Rattle.std.specs.Prelude.{◌≡◌, ◌⊎◌, ◌↔◌, ◌<◌, List, Some, Result, Ok, Err, Contains}
+-- (RFC 6487 5, 7.2, RFC 5280 6.3.3). Their order says nothing. Whether the issuer's name of a list
+-- is compared too is the caller's to say (own), as of the names of certificates (NameChains).
+use Rattle.std.specs.Prelude.{◌≡◌, ◌⊎◌, ◌↔◌, ◌<◌, Bool, true, false, List, Some, Result, Ok, Err, Contains, IsTrue}
 use Rattle.rpki_der.specs.Times.{Moment, second_number}
 use Rattle.rpki_parts.specs.Signatures.{Verifies}
 use Rattle.rpki_parts.specs.ValidAt.{IsNotAfter}
@@ -14,6 +15,11 @@ use Rattle.rpki_crl.specs.declared.revocation_error.RevocationError.TheVariants.
 use Rattle.rpki_path.specs.Asking.{RevocationChecks}
 pub mod Steps
 
+-- what a contract sees of lists that are given, and whether names are asked
+pub record GivenFields : Type 0 where
+  pub lists : List CrlState
+  pub names : Bool
+
 -- ---- one list and one certificate
 
 -- the certificate names the key that signs it, and the list names that key (RFC 5280 5.2.1)
@@ -22,6 +28,16 @@ IsFor c l =
     c.fields.extensions.authority_key_identifier
     ≡ Some l.list.fields.extensions.authority_key_identifier
 
+-- the list's issuer is the subject of the certificate whose key has to have signed it (RFC 5280 6.3.3
+-- (b) (1), 5.1.2.3); names are compared octet by octet, as by NameChains (own)
+abbrev pub IsNamedBy : TbsFields → CrlFields → Type 0
+IsNamedBy issuer list = list.fields.issuer ≡ issuer.subject
+
+-- the list is for the certificate, and has the issuer's name, if names are asked
+abbrev pub IsForBelow : Bool → TbsFields → CertFields → CrlState → Type 0
+IsForBelow false issuer c l = IsFor c l
+IsForBelow true issuer c l = IsFor c l × IsNamedBy issuer l.list
+
 -- the time of the list has begun: its thisUpdate is neither after the moment nor after its own
 -- nextUpdate (RFC 5280 5.1.2.4, 5.1.2.5, 6.3.3)
 abbrev pub HasBegun : Moment → CrlFields → Type 0
@@ -29,11 +45,16 @@ HasBegun now list =
     IsNotAfter list.fields.this_update now
     × IsNotAfter list.fields.this_update list.fields.next_update
 
--- the list can be asked of the certificate below the issuer: it is for the certificate, the
--- issuer's key signed it, and its time has begun
+-- the list can be asked of the certificate below the issuer: it is for the certificate, with the
+-- issuer's name if names are asked, the issuer's key signed it, and its time has begun
+abbrev pub IsEligibleNamed : Bool → Verifies → Moment → TbsFields → CertFields → CrlState → Type 0
+IsEligibleNamed names verifies now issuer c l =
+    IsForBelow names issuer c l × IsSignedBy verifies issuer.key l.list.signed_data
+    × HasBegun now l.list
+
+-- the same, where no names are asked
 abbrev pub IsEligible : Verifies → Moment → TbsFields → CertFields → CrlState → Type 0
-IsEligible verifies now issuer c l =
-    IsFor c l × IsSignedBy verifies issuer.key l.list.signed_data × HasBegun now l.list
+IsEligible = IsEligibleNamed false
 
 -- the list has the serial number of the certificate
 abbrev pub Revokes : CertFields → CrlState → Type 0
@@ -83,20 +104,25 @@ AreSameLists lists others = (l : CrlState) → Contains lists l ↔ Contains oth
 -- ---- which list is asked, and what
 
 -- The list is asked of the certificate below the issuer: of those that are eligible the latest;
--- where none is, each that is for the certificate, one of which then fails a check (own).
-abbrev pub IsAskedOf : Context → List CrlState → TbsFields → CertFields → CrlState → Type 0
-IsAskedOf x lists issuer c l =
-    let P = IsEligible x.verifies x.now issuer c in
-    IsLatest P c lists l ⊎ (HaveNone P lists × Contains lists l × IsFor c l)
+-- where none is, each that is for the certificate, one of which then fails a check (own). A list of
+-- another name is none, if names are asked: where there is no other, there is none to be asked.
+abbrev pub IsAskedOf : Bool → Context → List CrlState → TbsFields → CertFields → CrlState → Type 0
+IsAskedOf names x lists issuer c l =
+    let P = IsEligibleNamed names x.verifies x.now issuer c in
+    IsLatest P c lists l ⊎ (HaveNone P lists × Contains lists l × IsForBelow names issuer c l)
 
 -- the checks of a certificate with the lists that were given: those of the lists that are asked of
 -- it, whose time has also to have begun
+abbrev pub by_named_lists : Bool → Context → List CrlState → RevocationChecks
+by_named_lists names x lists issuer c Stale =
+    ((l : CrlState) → IsAskedOf names x lists issuer c l → HasBegun x.now l.list)
+    × RevocationCheck x issuer c.fields.serial (IsAskedOf names x lists issuer c) Stale
+by_named_lists names x lists issuer c e =
+    RevocationCheck x issuer c.fields.serial (IsAskedOf names x lists issuer c) e
+
+-- the same, where no names are asked
 abbrev pub by_lists : Context → List CrlState → RevocationChecks
-by_lists x lists issuer c Stale =
-    ((l : CrlState) → IsAskedOf x lists issuer c l → HasBegun x.now l.list)
-    × RevocationCheck x issuer c.fields.serial (IsAskedOf x lists issuer c) Stale
-by_lists x lists issuer c e =
-    RevocationCheck x issuer c.fields.serial (IsAskedOf x lists issuer c) e
+by_lists = by_named_lists false
 
 -- a check that the certificate fails, as the latest list says
 abbrev pub FailsBy : Moment → CertFields → CrlState → RevocationError → Type 0
@@ -111,9 +137,10 @@ IsSaidBy now c l (Ok v) = IsNotAfter now l.list.fields.next_update × (Revokes c
 IsSaidBy now c l (Err e) = FailsBy now c l e
 
 -- the list leaves the certificate below the issuer unrevoked: it names the issuer's key, that key
--- signed it, its time has begun and its next update isn't due, and it doesn't have the serial
--- number
-pub record LeavesUnrevoked (x : Context) (issuer : TbsFields) (c : CertFields)
+-- signed it, it has the issuer's name if names are asked, its time has begun and its next update
+-- isn't due, and it doesn't have the serial number
+pub record LeavesUnrevoked (names : Bool) (x : Context) (issuer : TbsFields) (c : CertFields)
     (list : CrlFields) : Type 0 where
+  pub named : IsTrue names → IsNamedBy issuer list
   pub begun : HasBegun x.now list
   pub checks : (e : RevocationError) → ListCheck x issuer c.fields.serial list e

@@ -22,5 +22,6 @@ pub use members::Member;
 pub use names::{first_unchained, is_self_named, names_chain};
 pub use path_fault::{PathError, PathFault};
 pub use router::validate_router;
+pub use rpki_crl::RevocationError;
 pub use validating::{Leaf, validate_path, validate_path_with};
 pub use validator::{Role, Validator};

@@ -1,11 +1,11 @@
 //! Lists as a caller gives them, of which the issuer's latest is asked.
-ghost use Rattle.std.specs.Prelude.{◌≡◌, ◌<◌, ◌↔◌, IsTrue, IfSome, option_copied};
+ghost use Rattle.std.specs.Prelude.{◌≡◌, ◌<◌, ◌↔◌, false, IsTrue, IfSome, option_copied};
 ghost use Rattle.std.specs.Ordering.{MatchOrdering};
 ghost use Rattle.rpki_der.specs.Times.{second_number};
 ghost use Rattle.rpki_parts.specs.Conditions.{IsFirstFalse};
 ghost use Rattle.rpki_cert.specs.Verification.{context, IsSignedBy};
 ghost use Rattle.rpki_crl.specs.Revocation.{revocation_checks};
-ghost use Rattle.rpki_path.specs.AskedLists.{IsFor, HasBegun, IsEligible, Revokes, HaveNone, IsLater, SupersedesEqual, Supersedes, IsSaidBy, by_lists};
+ghost use Rattle.rpki_path.specs.AskedLists.{IsFor, IsForBelow, IsNamedBy, HasBegun, IsEligibleNamed, Revokes, HaveNone, IsLater, SupersedesEqual, Supersedes, IsSaidBy, by_named_lists};
 ghost use Rattle.rpki_path.specs.AskedLists.Steps.{IsLatestIfAny, IsOneIfAny, EachHas};
 
 use crate::revocation::source::RevocationSource;
@@ -19,36 +19,49 @@ use std::marker::Model;
 /// Revocation lists as a caller gives them, in any order and of any issuers. Of a certificate below
 /// its issuer the issuer's latest list is asked: of the lists that name the key that signed the
 /// certificate, that the issuer's key signed, and that aren't from after the moment or from after
-/// their own next update, the one with the greatest number (RFC 6487 5). Of lists of one number,
-/// which RFC 5280 5.2.3 forbids, one that revokes the certificate goes first, then the one of the
-/// later thisUpdate, then the one of the later nextUpdate (own). A list that another key signed, or
-/// whose time hasn't begun, hides none. Where there is no such list, each that names the key is
-/// asked, and one fails a check: `BadSignature` where another key signed one of them, else `Stale`,
-/// as their time hasn't begun; where none names it, the answer is `NoCrl`. The answer is the same
-/// for every order of the lists ([`crate::revocation::laws::blind_to_order`]).
+/// their own next update, the one with the greatest number (RFC 6487 5). If names are checked, only
+/// the lists count whose issuer is the subject of the issuer's certificate (RFC 5280 6.3.3 (b)
+/// (1)). Of lists of one number, which RFC 5280 5.2.3 forbids, one that revokes the certificate
+/// goes first, then the one of the later thisUpdate, then the one of the later nextUpdate (own). A
+/// list that another key signed, or whose time hasn't begun, hides none. If there is no such list,
+/// each that names the key is asked, and one fails a check: `BadSignature` if another key signed one
+/// of them, else `Stale`, as their time hasn't begun; if none names the key (and, if names are
+/// checked, the issuer), the answer is `NoCrl`. The answer is the same for every order of the lists
+/// ([`crate::revocation::laws::blind_to_order`]).
 ///
 /// A list is looked up in its table where its serial numbers are cached ([`Crl::cache_serials`]),
 /// and else walked. Each signature is verified at most once a question. Asking takes no memory.
 #[derive(Drop)]
 pub struct GivenLists<'l> {
     lists: &'l [Crl],
+    names: bool,
 }
 
 impl<'l> Model for GivenLists<'l> {
-    ghost use Rattle.std.specs.Prelude.{List};
-    ghost use Rattle.rpki_crl.specs.Lists.{CrlState};
+    ghost use Rattle.rpki_path.specs.AskedLists.{GivenFields};
 
-    ghost Value = { List CrlState };
+    ghost Value = { GivenFields };
 
-    ghost view = { λ given. given.lists.now };
+    ghost view = { λ given. record { lists = given.lists.now; names = given.names } };
 }
 
 impl<'l> GivenLists<'l> {
-    /// Makes a source of these lists.
+    /// Makes a source of these lists, whose issuer names aren't compared.
     pub fn new(lists: &'l [Crl]) -> GivenLists<'l>
-        ensures { result ≡ lists.now }
+        ensures { result ≡ record { lists = lists.now; names = false } }
     {
-        GivenLists { lists }
+        GivenLists {
+            lists,
+            names: false,
+        }
+    }
+
+    /// Makes a source of these lists, whose issuer names are compared with their issuers' subjects
+    /// if `names` is true. It is to be true if the names of certificates are checked.
+    pub fn with_names(lists: &'l [Crl], names: bool) -> GivenLists<'l>
+        ensures { result ≡ record { lists = lists.now; names = names } }
+    {
+        GivenLists { lists, names }
     }
 }
 
@@ -58,6 +71,26 @@ fn is_for(list: &Crl, cert: &Cert) -> bool
 {
     let named = *list.as_cert_list().authority_key_identifier();
     cert.as_tbs().authority_key_identifier() == Some(named)
+}
+
+// Whether the list's issuer is the issuer's subject (RFC 5280 6.3.3 (b) (1)). Names are compared
+// octet by octet.
+fn is_named_by(list: &Crl, issuer: &ResourceCert) -> bool
+    ensures { IsTrue result ↔ IsNamedBy issuer.now.cert.fields list.now.list }
+{
+    let subject = issuer.as_cert().as_tbs().subject();
+    list.as_cert_list().issuer().as_bytes() == subject.as_bytes()
+}
+
+// Whether the list is for the certificate, and has the issuer's name, if names are checked.
+fn is_for_below(list: &Crl, cert: &Cert, issuer: &ResourceCert, names: bool) -> bool
+    ensures { let fields = issuer.now.cert.fields in
+        IsTrue result ↔ IsForBelow names fields cert.now list.now }
+{
+    if names {
+        return is_for(list, cert) && is_named_by(list, issuer);
+    }
+    is_for(list, cert)
 }
 
 /// Tells whether the time of the list has begun: its thisUpdate is neither after the moment nor
@@ -170,14 +203,16 @@ fn is_next<V: Verifier>(
     kept: Option<&Crl>,
     cert: &Cert,
     issuer: &ResourceCert,
+    names: bool,
     now: Time,
     verifier: &V,
 ) -> bool
     ensures { let verifies = V.verifies verifier.now in
-        IsTrue result ↔ (IsEligible verifies now issuer.now.cert.fields cert.now list.now
+        let fields = issuer.now.cert.fields in
+        IsTrue result ↔ (IsEligibleNamed names verifies now fields cert.now list.now
         × IfSome (option_copied kept.entry) (Supersedes cert.now list.now)) }
 {
-    is_for(list, cert)
+    is_for_below(list, cert, issuer, names)
         && has_begun(list, now)
         && goes_first(list, kept, cert)
         && is_signed_by(list, issuer, verifier)
@@ -188,16 +223,18 @@ fn latest<'l, V: Verifier>(
     lists: &'l [Crl],
     cert: &Cert,
     issuer: &ResourceCert,
+    names: bool,
     now: Time,
     verifier: &V,
 ) -> Option<&'l Crl>
     ensures { let verifies = V.verifies verifier.now in
-        let eligible = IsEligible verifies now issuer.now.cert.fields cert.now in
+        let fields = issuer.now.cert.fields in
+        let eligible = IsEligibleNamed names verifies now fields cert.now in
         IsLatestIfAny eligible cert.now lists.now (option_copied result) }
 {
     let mut kept: Option<&'l Crl> = None;
     for list in lists {
-        if !is_next(list, kept, cert, issuer, now, verifier) {
+        if !is_next(list, kept, cert, issuer, names, now, verifier) {
             continue;
         }
         kept = Some(list);
@@ -205,12 +242,13 @@ fn latest<'l, V: Verifier>(
     kept
 }
 
-// A list for the certificate, whoever signed it.
-fn one_for<'l>(lists: &'l [Crl], cert: &Cert) -> Option<&'l Crl>
-    ensures { IsOneIfAny (IsFor cert.now) lists.now (option_copied result) }
+// A list for the certificate, with the issuer's name if names are checked, whoever signed it.
+fn one_for<'l>(lists: &'l [Crl], cert: &Cert, issuer: &ResourceCert, names: bool) -> Option<&'l Crl>
+    ensures { let is_for = IsForBelow names issuer.now.cert.fields cert.now in
+        IsOneIfAny is_for lists.now (option_copied result) }
 {
     for list in lists {
-        if is_for(list, cert) {
+        if is_for_below(list, cert, issuer, names) {
             return Some(list);
         }
     }
@@ -223,16 +261,19 @@ fn is_signed_if_for<V: Verifier>(
     list: &Crl,
     cert: &Cert,
     issuer: &ResourceCert,
+    names: bool,
     now: Time,
     verifier: &V,
 ) -> bool
     requires { let verifies = V.verifies verifier.now in
-        IsEligible verifies now issuer.now.cert.fields cert.now list.now → ⊥ }
+        let fields = issuer.now.cert.fields in
+        IsEligibleNamed names verifies now fields cert.now list.now → ⊥ }
     ensures { let key = issuer.now.cert.fields.key in
         let signed = IsSignedBy (V.verifies verifier.now) key list.now.list.signed_data in
-        IsTrue result ↔ (IsFor cert.now list.now → signed) }
+        let fields = issuer.now.cert.fields in
+        IsTrue result ↔ (IsForBelow names fields cert.now list.now → signed) }
 {
-    if !is_for(list, cert) {
+    if !is_for_below(list, cert, issuer, names) {
         return true;
     }
     !has_begun(list, now) && is_signed_by(list, issuer, verifier)
@@ -243,17 +284,19 @@ fn are_signed<V: Verifier>(
     lists: &[Crl],
     cert: &Cert,
     issuer: &ResourceCert,
+    names: bool,
     now: Time,
     verifier: &V,
 ) -> bool
     requires { let verifies = V.verifies verifier.now in
-        HaveNone (IsEligible verifies now issuer.now.cert.fields cert.now) lists.now }
+        let fields = issuer.now.cert.fields in
+        HaveNone (IsEligibleNamed names verifies now fields cert.now) lists.now }
     ensures { let key = issuer.now.cert.fields.key in
-        IsTrue result ↔ EachHas (IsFor cert.now)
+        IsTrue result ↔ EachHas (IsForBelow names issuer.now.cert.fields cert.now)
         (λ l. IsSignedBy (V.verifies verifier.now) key l.list.signed_data) lists.now }
 {
     for list in lists {
-        if !is_signed_if_for(list, cert, issuer, now, verifier) {
+        if !is_signed_if_for(list, cert, issuer, names, now, verifier) {
             return false;
         }
     }
@@ -265,23 +308,25 @@ fn why_none<V: Verifier>(
     lists: &[Crl],
     cert: &Cert,
     issuer: &ResourceCert,
+    names: bool,
     strict: bool,
     now: Time,
     verifier: &V,
 ) -> RevocationError
     requires { let verifies = V.verifies verifier.now in
-        HaveNone (IsEligible verifies now issuer.now.cert.fields cert.now) lists.now }
+        let fields = issuer.now.cert.fields in
+        HaveNone (IsEligibleNamed names verifies now fields cert.now) lists.now }
     ensures { let x = context (V.verifies verifier.now) now strict in
-        let checks = by_lists x lists.now issuer.now.cert.fields cert.now in
+        let checks = by_named_lists names x lists.now issuer.now.cert.fields cert.now in
         IsFirstFalse checks revocation_checks result }
 {
-    let Some(list) = one_for(lists, cert) else {
+    let Some(list) = one_for(lists, cert, issuer, names) else {
         return RevocationError::NoCrl;
     };
     if list.verify_issuer_claim(issuer, strict).is_err() {
         return RevocationError::WrongKeyId;
     }
-    if !are_signed(lists, cert, issuer, now, verifier) {
+    if !are_signed(lists, cert, issuer, names, now, verifier) {
         return RevocationError::BadSignature;
     }
     RevocationError::Stale
@@ -302,9 +347,9 @@ pub fn said_by(list: &Crl, cert: &Cert, now: Time) -> Result<(), RevocationError
 }
 
 impl<'l> RevocationSource for GivenLists<'l> {
-    ghost use Rattle.rpki_path.specs.AskedLists.{by_lists};
+    ghost use Rattle.rpki_path.specs.AskedLists.{by_named_lists};
 
-    ghost asks = { λ lists x. by_lists x lists };
+    ghost asks = { λ given x. by_named_lists given.names x given.lists };
 
     fn ask<V: Verifier>(
         &self,
@@ -314,8 +359,9 @@ impl<'l> RevocationSource for GivenLists<'l> {
         now: Time,
         verifier: &V,
     ) -> Result<(), RevocationError> {
-        let Some(list) = latest(self.lists, cert, issuer, now, verifier) else {
-            return Err(why_none(self.lists, cert, issuer, strict, now, verifier));
+        let (lists, names) = (self.lists, self.names);
+        let Some(list) = latest(lists, cert, issuer, names, now, verifier) else {
+            return Err(why_none(lists, cert, issuer, names, strict, now, verifier));
         };
         if list.verify_issuer_claim(issuer, strict).is_err() {
             return Err(RevocationError::WrongKeyId);

@@ -7,19 +7,19 @@ ghost use Rattle.rpki_crl.specs.Lists.{CrlState};
 ghost use Rattle.rpki_crl.specs.declared.revocation_error.RevocationError.{RevocationError};
 ghost use Rattle.rpki_crl.specs.Stores.{Stored};
 ghost use Rattle.rpki_path.specs.Asking.{IsUnrevokedBy, nobody, by_uri};
-ghost use Rattle.rpki_path.specs.AskedLists.{AreSameLists, by_lists, LeavesUnrevoked};
+ghost use Rattle.rpki_path.specs.AskedLists.{AreSameLists, by_lists, by_named_lists, LeavesUnrevoked};
 ghost use Rattle.rpki_path.specs.Repeats.{AsksByEntity};
 
 use rpki_parts::Verifier;
 
 /// Says that a certificate that given lists leave unrevoked is left so by one list among them: it
-/// names the issuer's key, that key signed it, the moment lies between its two updates, and it
-/// doesn't have the serial number (RFC 5280 6.3.3).
+/// names the issuer's key, that key signed it, it has the issuer's name if names are checked, the
+/// moment lies between its two updates, and it doesn't have the serial number (RFC 5280 6.3.3).
 pub fn left_by_one<V: Verifier>()
-    ensures { (v : V) (now : Moment) (strict : Bool) (lists : List CrlState)
+    ensures { (v : V) (now : Moment) (strict names : Bool) (lists : List CrlState)
         (issuer : TbsFields) (c : CertFields) → let x = context (V.verifies v) now strict in
-        IsUnrevokedBy (by_lists x lists) issuer c
-        → Any (λ l. LeavesUnrevoked x issuer c l.list) lists }
+        IsUnrevokedBy (by_named_lists names x lists) issuer c
+        → Any (λ l. LeavesUnrevoked names x issuer c l.list) lists }
 {}
 
 /// Says that what given lists answer doesn't depend on their order, nor on how often each of them
@@ -27,18 +27,19 @@ pub fn left_by_one<V: Verifier>()
 /// (`checks`). So they leave the same certificates unrevoked (`unrevoked`), and the first check
 /// that fails is the same.
 pub fn blind_to_order<V: Verifier>()
-    ensures checks { (v : V) (now : Moment) (strict : Bool) (lists others : List CrlState)
+    ensures checks { (v : V) (now : Moment) (strict names : Bool) (lists others : List CrlState)
         (issuer : TbsFields) (c : CertFields) (e : RevocationError)
         → let x = context (V.verifies v) now strict in AreSameLists lists others
-        → by_lists x lists issuer c e ↔ by_lists x others issuer c e }
-    ensures unrevoked { (v : V) (now : Moment) (strict : Bool) (lists others : List CrlState)
-        (issuer : TbsFields) (c : CertFields)
+        → by_named_lists names x lists issuer c e ↔ by_named_lists names x others issuer c e }
+    ensures unrevoked { (v : V) (now : Moment) (strict names : Bool)
+        (lists others : List CrlState) (issuer : TbsFields) (c : CertFields)
         → let x = context (V.verifies v) now strict in AreSameLists lists others
-        → IsUnrevokedBy (by_lists x lists) issuer c ↔ IsUnrevokedBy (by_lists x others) issuer c }
+        → IsUnrevokedBy (by_named_lists names x lists) issuer c
+        ↔ IsUnrevokedBy (by_named_lists names x others) issuer c }
 {}
 
-/// Says that who is asked here looks at no more of an issuer than its key and its identifier:
-/// nobody, the lists of a store, and given lists. So two certificates of one CA's key ask the same
+/// Says that who is asked here looks at no more of an issuer than its key and its identifier, and at
+/// its subject if names are checked: nobody, the lists of a store, and given lists. So two certificates of one CA's key ask the same
 /// of what stands below ([`crate::laws::cut_is_walkable`]).
 pub fn asks_by_entity<V: Verifier>()
     ensures nobody { (names : Bool) → AsksByEntity names nobody }
@@ -46,4 +47,7 @@ pub fn asks_by_entity<V: Verifier>()
         → let x = context (V.verifies v) now strict in AsksByEntity names (by_uri x pairs) }
     ensures lists { (v : V) (now : Moment) (strict names : Bool) (lists : List CrlState)
         → let x = context (V.verifies v) now strict in AsksByEntity names (by_lists x lists) }
+    ensures named { (v : V) (now : Moment) (strict names : Bool) (lists : List CrlState)
+        → let x = context (V.verifies v) now strict in
+        AsksByEntity names (by_named_lists names x lists) }
 {}

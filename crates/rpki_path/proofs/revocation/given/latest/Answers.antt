@@ -2,14 +2,14 @@ use Rattle.std.specs.Prelude.{List, Some, option_copied}
 use Rattle.std.proofs.Common.{take, refl, sym, subst}
 use Rattle.std.proofs.lemmas.Bool.{both_ways}
 use Rattle.rpki_crl.specs.Lists.{CrlState}
-use Rattle.rpki_path.specs.AskedLists.{IsEligible}
+use Rattle.rpki_path.specs.AskedLists.{IsEligibleNamed}
 use Rattle.rpki_path.specs.AskedLists.Steps.{IsLatestIfAny}
 use Rattle.rpki_path.proofs.LatestLists.{gone_over, kept_next, kept_same}
 use Rattle.rpki_path.proofs.revocation.given.latest.Goals as goal
 
 pub loop-list-preserved-then-not-is_next : goal.loop-list-preserved-then-not-is_next
 loop-list-preserved-then-not-is_next g c =
-    let fits = IsEligible (g.V.Verifier.verifies c.args.verifier.now) c.args.now c.args.issuer.now.cert.fields c.args.cert.now in
+    let fits = IsEligibleNamed c.args.names (g.V.Verifier.verifies c.args.verifier.now) c.args.now c.args.issuer.now.cert.fields c.args.cert.now in
     let lists = c.args.lists.now in
     let i = c.loop-list.list-index in
     let list = c.list-item.result in
@@ -19,7 +19,7 @@ loop-list-preserved-then-not-is_next g c =
 
 pub loop-list-preserved : goal.loop-list-preserved
 loop-list-preserved g c =
-    let fits = IsEligible (g.V.Verifier.verifies c.args.verifier.now) c.args.now c.args.issuer.now.cert.fields c.args.cert.now in
+    let fits = IsEligibleNamed c.args.names (g.V.Verifier.verifies c.args.verifier.now) c.args.now c.args.issuer.now.cert.fields c.args.cert.now in
     let lists = c.args.lists.now in
     let i = c.loop-list.list-index in
     let list = c.list-item.result in
