@@ -6,6 +6,7 @@ use Rattle.rpki_der.specs.declared.error.DecodeError.{DecodeError}
 use Rattle.rpki_der.specs.declared.error.DecodeError.TheVariants as decoding
 use Rattle.rpki_der.specs.declared.error.Field.{Field}
 use Rattle.rpki_ext.specs.declared.inspection.InspectionError.{InspectionError}
+use Rattle.rpki_ext.specs.declared.inspection.InspectionError.TheVariants as inspection
 use Rattle.rpki_parts.specs.declared.key.PublicKeyFormat.{PublicKeyFormat}
 use Rattle.rpki_parts.specs.declared.key.PublicKeyFormat.TheVariants.{Rsa, EcdsaP256}
 use Rattle.rpki_crl.specs.declared.revocation_error.RevocationError.{RevocationError}
@@ -13,7 +14,7 @@ use Rattle.rpki_keys.specs.declared.tal.tal_error.TalError.{TalError}
 use Rattle.rpki_cert.specs.declared.verification_error.VerificationError.{VerificationError}
 use Rattle.rpki_files.specs.FaultTable.{FaultFields, field_number, inspection_fault, locator_fault, part_numbered, reading_fault, revocation_fault, fault_named, section_in, verification_fault}
 use Rattle.rpki_files.specs.declared.faults.FaultKind.TheVariants as kind
-use Rattle.rpki_files.specs.PolicyPresence.{HasPolicies}
+use Rattle.rpki_files.specs.PolicyPresence.{HasPolicies, HasPurposes}
 use Rattle.rpki_files.specs.declared.rules.Rule.{Rule}
 
 -- a sentence, and the section that asks it
@@ -42,6 +43,23 @@ no_memory = fault_rule (fault_named kind.General (codes "Memory"))
 -- of one of any kind, of a CA, an end entity or a router
 abbrev pub inspection_rule : InspectionError → RuleFields
 inspection_rule e = fault_rule (inspection_fault e)
+
+-- a key of another algorithm, where Extended Key Usage is there: only a router's certificate has it,
+-- whose key is on the curve P-256
+abbrev pub purposes_rule : RuleFields
+purposes_rule =
+    rule "it has Extended Key Usage, as only a router's certificate, but no key on the curve P-256"
+    "RFC 6487 4.8.5"
+
+-- of one that has Extended Key Usage, or hasn't
+abbrev pub profile_rule : InspectionError → Bool → RuleFields
+profile_rule inspection.KeyAlgorithm true = purposes_rule
+profile_rule e purposes = inspection_rule e
+
+-- of these octets, which begin with a certificate
+abbrev pub IsProfileRule : InspectionError → List ℕ → RuleFields → Type 0
+IsProfileRule e octets r =
+    (purposes : Bool) × (IsTrue purposes ↔ HasPurposes octets) × (r ≡ profile_rule e purposes)
 
 -- of a trust anchor, or below an issuer
 abbrev pub verification_rule : VerificationError → RuleFields

@@ -87,8 +87,7 @@ reading_faults =
     "it doesn't begin with a certificate of the profile" "RFC 6487 4" ∷
     fault 104 "Trailing" "trailing octets"
     "it doesn't begin with a certificate of the profile" "RFC 6487 4" ∷
-    fault 105 "TooDeep" "values nested too deep"
-    "it doesn't begin with a certificate of the profile" "RFC 6487 4" ∷
+    fault 105 "TooDeep" "values nested too deep" "its values are nested too deep" "own rule" ∷
     fault 106 "AlgorithmMismatch" "signature algorithm mismatch"
     "it doesn't begin with a certificate of the profile" "RFC 6487 4" ∷
     fault 107 "UnexpectedCritical" "unexpected critical extension"
@@ -126,7 +125,7 @@ inspection_faults =
     fault 310 "MissingManifest" "missing manifest"
     "the URI of the manifest is missing" "RFC 6487 4.8.8.1" ∷
     fault 311 "ManifestNotChild" "manifest outside the repository"
-    "the manifest stands outside the repository" "RFC 6487 4.8.8.1" ∷
+    "the manifest isn't directly in the repository's directory" "own rule" ∷
     fault 312 "SignedObjectPresent" "signed object present"
     "the URI of a signed object must be absent" "RFC 6487 4.8.8.1" ∷
     fault 313 "AuthorityKeyIdentifier" "authority key identifier mismatch"

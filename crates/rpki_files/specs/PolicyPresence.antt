@@ -1,6 +1,6 @@
 -- Whether octets that are built as a certificate is have Certificate Policies, be it one of the
--- profile or not, or an extension that only certificates of the RPKI have.
-use Rattle.std.specs.Prelude.{◌≡◌, ◌⊎◌, ℕ, List, [], ◌∷◌}
+-- profile or not, Extended Key Usage, or an extension that only certificates of the RPKI have.
+use Rattle.std.specs.Prelude.{◌≡◌, ◌⊎◌, ℕ, false, List, [], ◌∷◌}
 use Rattle.rpki_der.specs.Encoding.{Begins, Means}
 use Rattle.rpki_der.specs.Extensions.{Extension, IsExtension}
 use Rattle.rpki_ext.specs.ExtensionKinds.{as_resources, certificate_policies, ip_resources}
@@ -82,6 +82,12 @@ pub record HasExtensions (elements octets : List ℕ) : Type 0 where
 -- one of its extensions has the identifier of Certificate Policies (RFC 6487 4.8.9)
 abbrev pub HasPolicies : List ℕ → Type 0
 HasPolicies octets = (elements : List ℕ) × HasExtensions elements octets × BeginsWithOne Policies elements
+
+-- one of its extensions has the identifier of Extended Key Usage (RFC 6487 4.8.5)
+abbrev pub HasPurposes : List ℕ → Type 0
+HasPurposes octets =
+    (elements : List ℕ) × HasExtensions elements octets
+    × BeginsWithOne (Named field.ExtendedKeyUsage false) elements
 
 -- the octets are extensions, and nothing else
 abbrev pub AreExtensions : List ℕ → Type 0

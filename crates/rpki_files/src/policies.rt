@@ -6,7 +6,7 @@ ghost use Rattle.rpki_der.specs.Place.{remaining};
 ghost use Rattle.rpki_ext.specs.ExtensionKinds.{certificate_policies};
 ghost use Rattle.rpki_der.specs.Values.Reading.{value_at};
 ghost use Rattle.rpki_files.specs.KnownKinds.{HasContent};
-ghost use Rattle.rpki_files.specs.PolicyPresence.{AreExtensions, BeginsWithOne, HasPolicies, IsOfMode, IsOneOf, IsOtherCertificate, IsWanted, Lack, resource_identifiers};
+ghost use Rattle.rpki_files.specs.PolicyPresence.{AreExtensions, BeginsWithOne, HasPolicies, HasPurposes, IsOfMode, IsOneOf, IsOtherCertificate, IsWanted, Lack, resource_identifiers};
 ghost use Rattle.rpki_files.specs.PolicyPresence.Reading.{extensions_at, rest_at};
 
 use crate::kinds::Kind;
@@ -199,6 +199,21 @@ pub fn has_policies(octets: &Bytes) -> bool
     let _octets = Cursor::new(octets).rest();
     match extensions_in(octets) {
         Some(elements) => begins_with_one(&elements, Wanted::Policies),
+        None => false,
+    }
+}
+
+/// Returns whether an extension with the identifier of Extended Key Usage stands among those at the
+/// front of a certificate's.
+pub fn has_purposes(octets: &Bytes) -> bool
+    ensures { IsTrue result ↔ HasPurposes octets.now }
+{
+    // For the proof only: what is read are octets.
+    let _octets = Cursor::new(octets).rest();
+    match extensions_in(octets) {
+        Some(elements) => {
+            begins_with_one(&elements, Wanted::Named(Field::ExtendedKeyUsage, false))
+        }
         None => false,
     }
 }

@@ -1,10 +1,10 @@
 //! What a fault means for a person, and the section of the standard that it breaks.
 ghost use Rattle.std.specs.Prelude.{◌≡◌};
 ghost use Rattle.rpki_files.specs.FaultTable.{fault_fields};
-ghost use Rattle.rpki_files.specs.FaultRules.{IsFileRule, IsReadingRule, field_section, inspection_rule, key_rule, list_rule, name_rule, no_memory, other_key, reading_rule, revocation_rule, fault_rule, rule_of, tal_rule, verification_rule};
+ghost use Rattle.rpki_files.specs.FaultRules.{IsFileRule, IsProfileRule, IsReadingRule, field_section, inspection_rule, key_rule, list_rule, name_rule, no_memory, other_key, profile_rule, reading_rule, revocation_rule, fault_rule, rule_of, tal_rule, verification_rule};
 
 use crate::faults::{self, Fault, FaultKind, numbered_part, part_number};
-use crate::policies::has_policies;
+use crate::policies::{has_policies, has_purposes};
 use bytes::Bytes;
 use rpki_cert::{InspectionError, VerificationError};
 use rpki_crl::RevocationError;
@@ -56,6 +56,26 @@ pub fn of_inspection(fault: InspectionError) -> Rule
     ensures { rule_of result ≡ inspection_rule fault }
 {
     rule_in(faults::of_inspection(fault))
+}
+
+// What a fault of inspection of a certificate means, which has Extended Key Usage, or hasn't.
+fn of_profile(fault: InspectionError, purposes: bool) -> Rule
+    ensures { rule_of result ≡ profile_rule fault purposes }
+{
+    match fault {
+        InspectionError::KeyAlgorithm if purposes => meaning(
+            "it has Extended Key Usage, as only a router's certificate, but no key on the curve P-256",
+            "RFC 6487 4.8.5",
+        ),
+        _ => of_inspection(fault),
+    }
+}
+
+/// Tells what a fault of inspection of the certificate with which these octets begin means.
+pub fn of_inspected(fault: InspectionError, octets: &Bytes) -> Rule
+    ensures { IsProfileRule fault octets.now (rule_of result) }
+{
+    of_profile(fault, has_purposes(octets))
 }
 
 /// Tells what a fault of verification means.
