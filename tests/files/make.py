@@ -255,10 +255,10 @@ def certificate(key, issuer, serial, extensions, *, subject=None, issuer_name=No
     return signed(data, issuer, damage=damage)
 
 
-def revocation_list(issuer, count, revoked=(), begin=BEGIN, end=END):
+def revocation_list(issuer, count, revoked=(), begin=BEGIN, end=END, name=None):
     entries = [seq(number(serial), moment(at)) for serial, at in revoked]
     more = [authority_key(issuer), extension('2.5.29.20', number(count))]
-    data = seq(number(1), RSA_SHA256, issuer.name(), moment(begin), moment(end),
+    data = seq(number(1), RSA_SHA256, name or issuer.name(), moment(begin), moment(end),
                seq(*entries) if entries else b'', der(0xa0, seq(*more)))
     return signed(data, issuer)
 
@@ -444,6 +444,37 @@ def sharing(ta, ca, leaf):
     yield 'ta_exchanged.crl', revocation_list(ta, 8, begin='250101000000Z', end=BEGIN)
 
 
+def nobody(ta, ca):
+    """Apart from the others: CRLs of a trust anchor, some of which name another issuer, though its
+    key signed them and they name it (RFC 5280 6.3.3 (b) (1))."""
+    anchor = ca_extensions('ta', ta, ta, 'ta', ['0.0.0.0/0'], ['::/0'], [(0, 2**32 - 1)])
+    yield 'ta.cer', certificate(ta, ta, 1, changed(anchor, aki=None, lists=None, issuer=None))
+    yield 'ca.cer', certificate(ca, ta, 0xbf01, changed(ca_extensions('ca', ca, ta, 'ta', **CA1)))
+    other, revoked = common_name('nobody'), [(0xbf01, '231213120054Z')]
+    yield 'plain.crl', revocation_list(ta, 7)
+    yield 'revoking.crl', revocation_list(ta, 7, revoked)
+    yield 'not_yet.crl', revocation_list(ta, 7, begin='400101000000Z')
+    yield 'older.crl', revocation_list(ta, 6, name=other)
+    yield 'newer.crl', revocation_list(ta, 8, name=other)
+    yield 'newer_revoking.crl', revocation_list(ta, 8, revoked, name=other)
+    yield 'newer_stale.crl', revocation_list(ta, 8, end='250101000000Z', name=other)
+
+
+def empty(ta, ca):
+    """Apart from the others: trust anchors that hold no resources (RFC 8630 2.3), a CA below, and
+    their locator."""
+    anchor = ca_extensions('ta', ta, ta, 'ta', [], [], [])
+    parts = dict(aki=None, lists=None, issuer=None)
+    yield 'ta.cer', certificate(ta, ta, 1, changed(anchor, **parts))
+    yield 'ta_of_no_family.cer', certificate(ta, ta, 2, changed(
+        anchor, ip=addresses(), **{'as': None}, **parts))
+    yield 'ta_with_one.cer', certificate(ta, ta, 3, changed(
+        anchor, **{'as': systems([64496])}, **parts))
+    full = ca_extensions('ca', ca, ta, 'ta', 'inherit', 'inherit', 'inherit')
+    yield 'ca.cer', certificate(ca, ta, 0xcf01, changed(full))
+    yield 'ta.tal', locator(f'{SITE}/ta.cer', ta)
+
+
 def noted(ca, key):
     """Apart from the others: certificates of one key below a CA, each with one thing that is taken
     although a standard forbids it. tests/notes tells which."""
@@ -572,7 +603,9 @@ def uris(ca, key):
 
 
 # The folders, and the keys that the files of each take.
-FOLDERS = {'twins': (twins, ('ta', 'ca')), 'sharing': (sharing, ('ta', 'ca', 'leaf')),
+FOLDERS = {'twins': (twins, ('ta', 'ca')), 'nobody': (nobody, ('ta', 'ca')),
+           'empty': (empty, ('ta', 'ca')),
+           'sharing': (sharing, ('ta', 'ca', 'leaf')),
            'noted': (noted, ('ca', 'key')), 'wide': (wide, ('ta',)),
            'named': (named, ('ta', 'ca', 'below')), 'uris': (uris, ('ca', 'key')),
            'keyed': (keyed, ('ta', 'router', 'compressed', '2048', '1024', '3072', 'exponent_3'))}

@@ -2,7 +2,7 @@
 use Rattle.std.specs.Prelude.{Option, Some, None, Result, Ok, Err, IfOk, MatchOption}
 use Rattle.std.proofs.Common.{◌≡◌, ◌≢◌, ◌+◌, ◌≤◌, ℕ, List, [], ◌∷◌, ◌++◌, length, refl, sym, ap, subst, ◌∙◌, inl, inr, arith}
 use Rattle.std.proofs.lemmas.List.{length-append, length-map, map-append, same_from_push}
-use Rattle.rpki_path.specs.AskedLists.{by_lists}
+use Rattle.rpki_path.specs.AskedLists.{by_named_lists}
 use Rattle.rpki_path.specs.GivenPaths.{PathStrings, CanEndIn, IsSplitAs, path_to}
 use Rattle.rpki_cert.specs.declared.inspect.Kind.{Kind}
 use Rattle.rpki_cert.specs.declared.inspect.Kind.TheVariants.{Anchor, Authority, EndEntity, Detached, Router}
@@ -97,7 +97,7 @@ begins_at files kind g (inr h) =
 
 -- a verdict by the lists that were read is one by the files that were given
 pub verdict_by : {E : Type 0} (x : Context) (d : Demands) (None_given : Type 0) (files lists : List (List ℕ)) (read : List CrlState) → (length lists ≡ 0 → ⊥) → AreListsOf lists read → (r : Result (Option Verdict) E)
-    → IfOk r (λ o. MatchOption o None_given (IsPathVerdict x (by_lists x read) d files)) → IfOk r (λ o. MatchOption o None_given (IsVerdictBy x d files lists))
+    → IfOk r (λ o. MatchOption o None_given (IsPathVerdict x (by_named_lists d.names x read) d files)) → IfOk r (λ o. MatchOption o None_given (IsVerdictBy x d files lists))
 verdict_by x d None_given files [] read some are r h = absurd (some refl)
 verdict_by x d None_given files (list ∷ lists) read some are (Ok None) h = h
 verdict_by x d None_given files (list ∷ lists) read some are (Ok (Some v)) h = (read, are, h)

@@ -3,7 +3,7 @@ use Rattle.std.specs.Prelude.{Option, Some, None}
 use Rattle.std.proofs.Common.{◌≡◌, ◌+◌, ◌++◌, ◌∷◌, [], ℕ, List, length, inl, inr, refl, sym, ap, subst, ◌∙◌, arith}
 use Rattle.std.proofs.lemmas.List.{same_from_push, length-append}
 use Rattle.rpki_path.specs.Asking.{RevocationChecks, nobody}
-use Rattle.rpki_path.specs.AskedLists.{by_lists}
+use Rattle.rpki_path.specs.AskedLists.{by_named_lists}
 use Rattle.rpki_cert.specs.Certificates.{CertFields, IsCertificate}
 use Rattle.rpki_path.specs.GivenPaths.{PathStrings, path_to, anchor_alone}
 use Rattle.rpki_path.specs.declared.judging.Judged.{Judged}
@@ -158,8 +158,8 @@ module _ (one_certificate : IsUnambiguous IsCertificate) where
     never_both x d files (list ∷ lists) j fault a b =
         let read = same_lists (list ∷ lists) a.0 b.0 a.1 b.1 in
         let paths = one_path files a.2.0 b.2.0 a.2.1 b.2.1 in
-        let usable = subst (λ (g : PathStrings). IsUsablePath x (by_lists x a.0) d g j) paths a.2.2 in
-        b.2.2.0 j (subst (λ (ls : List CrlState). IsUsablePath x (by_lists x ls) d b.2.0 j) read usable)
+        let usable = subst (λ (g : PathStrings). IsUsablePath x (by_named_lists d.names x a.0) d g j) paths a.2.2 in
+        b.2.2.0 j (subst (λ (ls : List CrlState). IsUsablePath x (by_named_lists d.names x ls) d b.2.0 j) read usable)
 
     -- files are accepted with one certificate, which holds the same numbers
     pub ever_same : (x : Context) (d : Demands) (files lists : List (List ℕ)) (j i : Judged) → IsVerdictBy x d files lists (Accepted j) → IsVerdictBy x d files lists (Accepted i) → AreSame j i
@@ -167,5 +167,5 @@ module _ (one_certificate : IsUnambiguous IsCertificate) where
     ever_same x d files (list ∷ lists) j i a b =
         let read = same_lists (list ∷ lists) a.0 b.0 a.1 b.1 in
         let paths = one_path files a.2.0 b.2.0 a.2.1 b.2.1 in
-        let usable = subst (λ (g : PathStrings). IsUsablePath x (by_lists x a.0) d g j) paths a.2.2 in
-        all_same x (by_lists x b.0) d b.2.0 j i (subst (λ (ls : List CrlState). IsUsablePath x (by_lists x ls) d b.2.0 j) read usable) b.2.2
+        let usable = subst (λ (g : PathStrings). IsUsablePath x (by_named_lists d.names x a.0) d g j) paths a.2.2 in
+        all_same x (by_named_lists d.names x b.0) d b.2.0 j i (subst (λ (ls : List CrlState). IsUsablePath x (by_named_lists d.names x ls) d b.2.0 j) read usable) b.2.2

@@ -1,10 +1,10 @@
 -- The members of an accepted path are unrevoked by lists that were given.
-use Rattle.std.specs.Prelude.{Any, Option, Some, None}
+use Rattle.std.specs.Prelude.{Any, Bool, Option, Some, None}
 use Rattle.std.specs.List.{AllZip}
 use Rattle.std.proofs.Common.{◌≡◌, ◌+◌, ◌<◌, ℕ, zero, suc, List, [], ◌∷◌, ◌++◌, length, map, get_or, refl, sym, ap, subst, ◌∙◌, inl, inr, arith}
 use Rattle.std.proofs.lemmas.Slice.Zip.{all_zipped_more}
 use Rattle.rpki_path.specs.Asking.{RevocationChecks, IsUnrevokedBy}
-use Rattle.rpki_path.specs.AskedLists.{LeavesUnrevoked, by_lists}
+use Rattle.rpki_path.specs.AskedLists.{LeavesUnrevoked, by_named_lists}
 use Rattle.rpki_der.specs.Encoding.{Means}
 use Rattle.rpki_cert.specs.Certificates.{CertFields, IsCertificate}
 use Rattle.rpki_path.specs.GivenPaths.{PathStrings, path_to}
@@ -16,7 +16,7 @@ use Rattle.rpki_crl.specs.Lists.{CrlState, IsCertificateList}
 use Rattle.rpki_path.specs.Paths.{Member, Path, Candidate, candidate, IsMember, IsValidPath, IsAccepted}
 use Rattle.rpki_path.specs.Routers.{IsRouterUnder}
 use Rattle.rpki_cert.specs.Verification.{Context, ResourceFields}
-use Rattle.rpki_path.proofs.AskedList.{left_by_asked}
+use Rattle.rpki_path.proofs.AskedNamedList.{left_by_asked}
 use Rattle.rpki_verdicts.specs.PathFiles.{IsGivenBy, AreListsOf}
 use Rattle.rpki_verdicts.specs.UnrevokedMembers.{IsGivenAmong, IsUnrevokedBelow, AreUnrevokedBelow, AreUnrevoked}
 
@@ -45,13 +45,13 @@ module _ (P : CrlState → Type 0) where
 
 -- ---- one member
 
-module _ (x : Context) (lists : List (List ℕ)) (read : List CrlState) (are : AreListsOf lists read) where
+module _ (names : Bool) (x : Context) (lists : List (List ℕ)) (read : List CrlState) (are : AreListsOf lists read) where
   abbrev ByThese : RevocationChecks
-  ByThese = by_lists x read
+  ByThese = by_named_lists names x read
 
-  one_unrevoked : (above octets : List ℕ) (issuer c : CertFields) → Means IsCertificate issuer above → Means IsCertificate c octets → IsUnrevokedBy ByThese issuer.fields c → IsUnrevokedBelow x lists above octets
+  one_unrevoked : (above octets : List ℕ) (issuer c : CertFields) → Means IsCertificate issuer above → Means IsCertificate c octets → IsUnrevokedBy ByThese issuer.fields c → IsUnrevokedBelow names x lists above octets
   one_unrevoked above octets issuer c i b h =
-      let given = given_of (λ l. LeavesUnrevoked x issuer.fields c l.list) lists read are (left_by_asked x read issuer.fields c h) in
+      let given = given_of (λ l. LeavesUnrevoked names x issuer.fields c l.list) lists read are (left_by_asked names x read issuer.fields c h) in
       record {
         issuer = issuer;
         issuer_begins = i;
@@ -86,7 +86,7 @@ module _ (x : Context) (lists : List (List ℕ)) (read : List CrlState) (are : A
   chain_more issuer [] c h u = (u, tt)
   chain_more issuer (d ∷ ds) c h u = (h.0, chain_more d ds c h.1 u)
 
-  files_unrevoked : (above : List ℕ) (issuer : CertFields) → Means IsCertificate issuer above → (cs : List CertFields) (files : List (List ℕ)) → AllZip (λ c octets. Means IsCertificate c octets) cs files → Chain issuer cs → AreUnrevokedBelow x lists above files
+  files_unrevoked : (above : List ℕ) (issuer : CertFields) → Means IsCertificate issuer above → (cs : List CertFields) (files : List (List ℕ)) → AllZip (λ c octets. Means IsCertificate c octets) cs files → Chain issuer cs → AreUnrevokedBelow names x lists above files
   files_unrevoked above issuer i [] [] z h = tt
   files_unrevoked above issuer i [] (o ∷ os) z h = absurd z
   files_unrevoked above issuer i (c ∷ cs) [] z h = absurd z
@@ -120,7 +120,7 @@ module _ (x : Context) (lists : List (List ℕ)) (read : List CrlState) (are : A
   mapped_alone [] = refl
   mapped_alone (o ∷ os) = ap (λ (l : List (List ℕ)). o ∷ l) (mapped_alone os)
 
-  members_unrevoked : (anchor : List ℕ) (below : List Candidate) (files : List (List ℕ)) (r : ResourceFields) → IsAccepted x ByThese anchor below [] r → map (λ (s : Candidate). s.octets) below ≡ files → AreUnrevokedBelow x lists anchor files
+  members_unrevoked : (anchor : List ℕ) (below : List Candidate) (files : List (List ℕ)) (r : ResourceFields) → IsAccepted x ByThese anchor below [] r → map (λ (s : Candidate). s.octets) below ≡ files → AreUnrevokedBelow names x lists anchor files
   members_unrevoked anchor below files r h is =
       let certs = map (λ (m : Member). m.cert) h.path.below in
       let begin = subst (λ (os : List (List ℕ)). AllZip (λ c octets. Means IsCertificate c octets) certs os) is (certs_begin h.path.below below h.path_of.members) in
@@ -128,7 +128,7 @@ module _ (x : Context) (lists : List (List ℕ)) (read : List CrlState) (are : A
 
   -- with a router below the last member
   router_unrevoked : (anchor : List ℕ) (below : List Candidate) (files : List (List ℕ)) (router : List ℕ) (r : ResourceFields) (c : CertFields) → IsAccepted x ByThese anchor below [] r → map (λ (s : Candidate). s.octets) below ≡ files
-      → Means IsCertificate c router → IsRouterUnder x ByThese r c → AreUnrevokedBelow x lists anchor (files ++ router ∷ [])
+      → Means IsCertificate c router → IsRouterUnder x ByThese r c → AreUnrevokedBelow names x lists anchor (files ++ router ∷ [])
   router_unrevoked anchor below files router r c h is begins under =
       let p = h.path in
       let certs = map (λ (m : Member). m.cert) p.below in
@@ -138,11 +138,11 @@ module _ (x : Context) (lists : List (List ℕ)) (read : List CrlState) (are : A
       files_unrevoked anchor p.anchor h.path_of.anchor_begins (certs ++ c ∷ []) (files ++ router ∷ []) (all_zipped_more (λ (c : CertFields) (octets : List ℕ). Means IsCertificate c octets) certs files c router begin begins)
       (chain_more p.anchor certs c (chain_of p h.is_valid) unrevoked)
 
-  to_router : (anchor : List ℕ) (cas : List (List ℕ)) (octets : List ℕ) (r : ResourceFields) (router : Option CertFields) → IsAccepted x ByThese anchor (map (candidate Authority) cas) [] r → IsRouterIfAny x ByThese r (Some octets) router → AreUnrevokedBelow x lists anchor (cas ++ octets ∷ [])
+  to_router : (anchor : List ℕ) (cas : List (List ℕ)) (octets : List ℕ) (r : ResourceFields) (router : Option CertFields) → IsAccepted x ByThese anchor (map (candidate Authority) cas) [] r → IsRouterIfAny x ByThese r (Some octets) router → AreUnrevokedBelow names x lists anchor (cas ++ octets ∷ [])
   to_router anchor cas octets r None h b = absurd b
   to_router anchor cas octets r (Some c) h b = router_unrevoked anchor (map (candidate Authority) cas) cas octets r c h (mapped_alone cas) b.0 b.1
 
-  to_last : (anchor : List ℕ) (cas : List (List ℕ)) (octets : List ℕ) (kind : Kind) (j : Judged) → IsAcceptedWith x ByThese (path_to anchor cas kind octets) j → AreUnrevokedBelow x lists anchor (cas ++ octets ∷ [])
+  to_last : (anchor : List ℕ) (cas : List (List ℕ)) (octets : List ℕ) (kind : Kind) (j : Judged) → IsAcceptedWith x ByThese (path_to anchor cas kind octets) j → AreUnrevokedBelow names x lists anchor (cas ++ octets ∷ [])
   to_last anchor cas octets Router j h = to_router anchor cas octets j.holder j.router h.accepted h.router
   to_last anchor cas octets EndEntity j h = members_unrevoked anchor (map (candidate Authority) cas ++ candidate EndEntity octets ∷ []) (cas ++ octets ∷ []) j.holder h.accepted (authorities_octets cas (candidate EndEntity octets ∷ []))
   to_last anchor cas octets Detached j h = members_unrevoked anchor (map (candidate Authority) cas ++ candidate Detached octets ∷ []) (cas ++ octets ∷ []) j.holder h.accepted (authorities_octets cas (candidate Detached octets ∷ []))
@@ -150,9 +150,9 @@ module _ (x : Context) (lists : List (List ℕ)) (read : List CrlState) (are : A
   to_last anchor cas octets Anchor j h = members_unrevoked anchor (map (candidate Authority) cas ++ candidate Anchor octets ∷ []) (cas ++ octets ∷ []) j.holder h.accepted (authorities_octets cas (candidate Anchor octets ∷ []))
 
   -- each member of a path that is accepted is left unrevoked by a list that was given
-  pub accepted_unrevoked : (files : List (List ℕ)) (g : PathStrings) (j : Judged) → IsGivenBy files g → IsAcceptedWith x ByThese g j → AreUnrevoked x lists files
-  accepted_unrevoked files g j (inl h) a = subst (λ (fs : List (List ℕ)). AreUnrevoked x lists fs) (sym h.1) tt
+  pub accepted_unrevoked : (files : List (List ℕ)) (g : PathStrings) (j : Judged) → IsGivenBy files g → IsAcceptedWith x ByThese g j → AreUnrevoked names x lists files
+  accepted_unrevoked files g j (inl h) a = subst (λ (fs : List (List ℕ)). AreUnrevoked names x lists fs) (sym h.1) tt
   accepted_unrevoked files g j (inr h) a =
       let s = h.split in
       let under = to_last s.anchor s.cas s.octets h.kind j (subst (λ (k : PathStrings). IsAcceptedWith x ByThese k j) s.path_is a) in
-      subst (λ (fs : List (List ℕ)). AreUnrevoked x lists fs) (sym s.strings_are) under
+      subst (λ (fs : List (List ℕ)). AreUnrevoked names x lists fs) (sym s.strings_are) under

@@ -1,7 +1,7 @@
 -- What the command answers of the files of a path.
 use Rattle.std.specs.Prelude.{◌≡◌, ◌≢◌, ◌↔◌, ◌⊎◌, ◌+◌, ℕ, Bool, IsTrue, List, [], ◌∷◌, length, Option, Some, None, slice_get}
 use Rattle.rpki_path.specs.Asking.{RevocationChecks, nobody}
-use Rattle.rpki_path.specs.AskedLists.{by_lists}
+use Rattle.rpki_path.specs.AskedLists.{by_named_lists}
 use Rattle.rpki_cert.specs.Certificates.{CertFields}
 use Rattle.rpki_path.specs.GivenPaths.{PathStrings}
 use Rattle.rpki_path.specs.declared.judging.Judged.{Judged}
@@ -148,7 +148,7 @@ abbrev pub IsVerdictBy : Context → Demands → List (List ℕ) → List (List 
 IsVerdictBy x d files [] verdict = IsPathVerdict x nobody d files verdict
 IsVerdictBy x d files (list ∷ lists) verdict =
     (read : List CrlState) × AreListsOf (list ∷ lists) read
-    × IsPathVerdict x (by_lists x read) d files verdict
+    × IsPathVerdict x (by_named_lists d.names x read) d files verdict
 
 -- ---- one acceptance
 

@@ -10,7 +10,7 @@ use Rattle.rpki_crl.specs.Revocation.{revocation_error_name}
 use Rattle.rpki_keys.specs.declared.tal.tal_error.TalError.{TalError}
 use Rattle.rpki_keys.specs.TalErrors.{tal_error_name}
 use Rattle.rpki_cert.specs.Verification.{verification_error_name}
-use Rattle.rpki_files.specs.FaultRules.{RuleFields, IsReadingRule, inspection_rule, key_rule, name_rule, no_memory, other_key, revocation_rule, tal_rule, verification_rule}
+use Rattle.rpki_files.specs.FaultRules.{RuleFields, IsProfileRule, IsReadingRule, key_rule, name_rule, no_memory, other_key, revocation_rule, tal_rule, verification_rule}
 
 -- the step at which a fault comes, its name, and its rule
 pub record ReasonFields : Type 0 where
@@ -27,7 +27,9 @@ abbrev pub IsReason : PathFault → List ℕ → ReasonFields → Type 0
 IsReason (path.Decode e) octets r =
     (its_rule : RuleFields) × IsReadingRule e octets its_rule
     × (r ≡ reason (codes "reading") (decode_error_name e) its_rule)
-IsReason (path.Inspect e) octets r = r ≡ reason (codes "profile") (inspection_error_name e) (inspection_rule e)
+IsReason (path.Inspect e) octets r =
+    (its_rule : RuleFields) × IsProfileRule e octets its_rule
+    × (r ≡ reason (codes "profile") (inspection_error_name e) its_rule)
 IsReason (path.Verify e) octets r = r ≡ reason (codes "verification") (verification_error_name e) (verification_rule e)
 IsReason (path.Revocation e) octets r = r ≡ reason (codes "revocation") (revocation_error_name e) (revocation_rule e)
 IsReason path.Memory octets r = r ≡ reason (codes "memory") (path_fault_name path.Memory) no_memory

@@ -428,8 +428,9 @@ fn judged_by<R: RevocationSource>(
 }
 
 /// Validates a path of files with real signatures, from the trust anchor of a locator where some
-/// are given (RFC 8630 3), with the revocation lists where some are given, and with names that
-/// chain (RFC 6487 7.2) where that is asked. Gives `None` where there is no file.
+/// are given (RFC 8630 3), with the revocation lists where some are given, and, if names are
+/// checked, with names that chain (RFC 6487 7.2) and lists that have their issuers' names (RFC 5280
+/// 6.3.3). Gives `None` where there is no file.
 pub fn judge(alloc: Global, question: &Question<'_, '_>) -> Result<Option<Verdict>, AllocError>
     requires { All (IsRead question.now.strict) question.now.locators }
     ensures { let x = context IsSignedByRsa question.now.at question.now.strict in
@@ -442,19 +443,20 @@ pub fn judge(alloc: Global, question: &Question<'_, '_>) -> Result<Option<Verdic
         return judged_by(alloc, question, &NobodyAsked);
     }
     let lists = lists_of(alloc, question.lists)?;
-    let given = GivenLists::new(&lists);
+    let given = GivenLists::with_names(&lists, question.names);
     let verdict = judged_by(alloc, question, &given);
     drop(lists);
     verdict
 }
 
 /// Says that where lists were given, each member of an accepted path but the trust anchor is left
-/// unrevoked by one of them: the key of the member above signed it, it is current, and it doesn't
-/// have the member's serial number.
+/// unrevoked by one of them: the key of the member above signed it, it has that member's name if
+/// names are checked, it is current, and it doesn't have the member's serial number.
 pub fn accepted_are_unrevoked()
     ensures { (now : Moment) (strict : Bool) (d : Demands) (files lists : List (List ℕ))
         (list : List ℕ) (j : Holding) → let x = context IsSignedByRsa now strict in
-        IsVerdictBy x d files (list ∷ lists) (Accepted j) → AreUnrevoked x (list ∷ lists) files }
+        IsVerdictBy x d files (list ∷ lists) (Accepted j)
+        → AreUnrevoked d.names x (list ∷ lists) files }
 {}
 
 /// Says that files aren't both accepted and rejected.

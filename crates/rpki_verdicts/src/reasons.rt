@@ -4,7 +4,7 @@ ghost use Rattle.rpki_verdicts.specs.Reasons.{IsReason, reason};
 
 use bytes::Bytes;
 use rpki_files::rules::{
-    Rule, of_inspection, of_reading, of_revocation, of_verification, out_of_memory,
+    Rule, of_inspected, of_reading, of_revocation, of_verification, out_of_memory,
 };
 use rpki_path::PathFault;
 
@@ -16,7 +16,7 @@ pub fn of_path(fault: &PathFault, octets: &Bytes) -> (&'static str, &'static str
 {
     match fault {
         PathFault::Decode(fault) => ("reading", fault.name(), of_reading(fault, octets)),
-        PathFault::Inspect(fault) => ("profile", fault.name(), of_inspection(*fault)),
+        PathFault::Inspect(fault) => ("profile", fault.name(), of_inspected(*fault, octets)),
         PathFault::Verify(fault) => ("verification", fault.name(), of_verification(fault)),
         PathFault::Revocation(fault) => ("revocation", fault.name(), of_revocation(fault)),
         PathFault::Memory => ("memory", fault.name(), out_of_memory()),
