@@ -1,6 +1,6 @@
 -- Files that strangers add change no path on which no issuer has a key of theirs.
 use Rattle.std.specs.List.{AllByRecursion}
-use Rattle.std.specs.Prelude.{Contains, Some}
+use Rattle.std.specs.Prelude.{Contains, Some, false}
 use Rattle.std.proofs.Common.{◌≡◌, ◌⊎◌, ◌↔◌, ◌+◌, ◌<◌, ℕ, zero, suc, List, [], ◌∷◌, length, map, get_or, refl, sym, ap, subst, ◌∙◌, inl, inr, arith}
 use Rattle.rpki_parts.specs.Keys.{KeyFields}
 use Rattle.rpki_cert.specs.Certificates.{TbsFields, CertFields}
@@ -46,16 +46,16 @@ module _ (x : Context) (issuer : TbsFields) (c : CertFields) where
       pub back : (k : CrlState) → Contains others k → Eligible k → (l : CrlState) × Contains lists l × (l.list ≡ k.list)
 
   -- a list whose checks are all true can be asked
-  all_true : (lists : List CrlState) → IsUnrevokedBy (by_lists x lists) issuer c → (l : CrlState) → Contains lists l → IsAskedOf x lists issuer c l → IsFor c l → Eligible l
+  all_true : (lists : List CrlState) → IsUnrevokedBy (by_lists x lists) issuer c → (l : CrlState) → Contains lists l → IsAskedOf false x lists issuer c l → IsFor c l → Eligible l
   all_true lists free l inside asked is_for = (is_for, free.1.1.0 l asked, free.1.1.1.0.0 l asked)
 
   -- the list that is asked can be asked, where none is revoked
-  asked_eligible : (lists : List CrlState) → IsUnrevokedBy (by_lists x lists) issuer c → (l : CrlState) → IsAskedOf x lists issuer c l → Eligible l
+  asked_eligible : (lists : List CrlState) → IsUnrevokedBy (by_lists x lists) issuer c → (l : CrlState) → IsAskedOf false x lists issuer c l → Eligible l
   asked_eligible lists free l (inl latest) = latest.has
   asked_eligible lists free l (inr none) = all_true lists free l none.1 (inr none) none.2
 
   module _ (lists others : List CrlState) (same : SameEligible lists others) (free : IsUnrevokedBy (by_lists x lists) issuer c) where
-    latest_there : (l : CrlState) → IsAskedOf x lists issuer c l → (k : CrlState) → Contains others k → k.list ≡ l.list → IsAskedOf x others issuer c k
+    latest_there : (l : CrlState) → IsAskedOf false x lists issuer c l → (k : CrlState) → Contains others k → k.list ≡ l.list → IsAskedOf false x others issuer c k
     latest_there l (inl latest) k inside is = inl (record {
       inside = inside;
       has = eligible_same l k is latest.has;
@@ -66,7 +66,7 @@ module _ (x : Context) (issuer : TbsFields) (c : CertFields) where
     })
     latest_there l (inr none) k inside is = absurd (none.0 l none.1 (asked_eligible lists free l (inr none)))
 
-    inside_of : (l : CrlState) → IsAskedOf x lists issuer c l → Contains lists l
+    inside_of : (l : CrlState) → IsAskedOf false x lists issuer c l → Contains lists l
     inside_of l (inl latest) = latest.inside
     inside_of l (inr none) = none.1
 
@@ -75,7 +75,7 @@ module _ (x : Context) (issuer : TbsFields) (c : CertFields) where
       list : CrlState
       inside : Contains others list
       eligible : Eligible list
-      asked : IsAskedOf x others issuer c list
+      asked : IsAskedOf false x others issuer c list
 
     asked_there : Asked
     asked_there =
@@ -85,7 +85,7 @@ module _ (x : Context) (issuer : TbsFields) (c : CertFields) where
         record { list = k.0; inside = k.1; eligible = eligible_same l.0 k.0 k.2 eligible; asked = latest_there l.0 l.1 k.0 k.1 k.2 }
 
     -- what is asked of the second is asked of the first
-    asked_back : (k : CrlState) → IsAskedOf x others issuer c k → (l : CrlState) × IsAskedOf x lists issuer c l × (l.list ≡ k.list)
+    asked_back : (k : CrlState) → IsAskedOf false x others issuer c k → (l : CrlState) × IsAskedOf false x lists issuer c l × (l.list ≡ k.list)
     asked_back k (inl latest) =
         let l = same.back k latest.inside latest.has in (
           l.0,
@@ -101,10 +101,10 @@ module _ (x : Context) (issuer : TbsFields) (c : CertFields) where
         )
     asked_back k (inr none) = absurd (none.0 asked_there.list asked_there.inside asked_there.eligible)
 
-    checked : (e : RevocationError) → ((l : CrlState) → IsAskedOf x lists issuer c l → ListCheck x issuer c.fields.serial l.list e) → (k : CrlState) → IsAskedOf x others issuer c k → ListCheck x issuer c.fields.serial k.list e
+    checked : (e : RevocationError) → ((l : CrlState) → IsAskedOf false x lists issuer c l → ListCheck x issuer c.fields.serial l.list e) → (k : CrlState) → IsAskedOf false x others issuer c k → ListCheck x issuer c.fields.serial k.list e
     checked e check k at = let l = asked_back k at in subst (λ (list : CrlFields). ListCheck x issuer c.fields.serial list e) l.2 (check l.0 l.1)
 
-    begun : (k : CrlState) → IsAskedOf x others issuer c k → HasBegun x.now k.list
+    begun : (k : CrlState) → IsAskedOf false x others issuer c k → HasBegun x.now k.list
     begun k at = let l = asked_back k at in subst (λ (list : CrlFields). HasBegun x.now list) l.2 (free.1.1.1.0.0 l.0 l.1)
 
     pub unrevoked_there : IsUnrevokedBy (by_lists x others) issuer c
