@@ -59,6 +59,9 @@ extern "C" {
 /* What rpki_abi_version answers where this header fits the library. */
 #define RPKI_ABI 3
 
+/* The version of Gonxebhula that this header is of: MAJOR.MINOR.PATCH. */
+#define RPKI_VERSION "0.2.0"
+
 /* Tells the number of the library's interface. */
 uint32_t rpki_abi_version(void);
 

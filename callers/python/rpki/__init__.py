@@ -94,6 +94,8 @@ from typing import BinaryIO, Generic, TypeVar, Union, cast
 from . import _library as raw
 from ._faults import FaultCode
 
+__version__ = "0.2.0"
+
 __all__ = [
     "Addresses",
     "AsNumbers",

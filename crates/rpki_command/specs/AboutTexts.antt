@@ -44,7 +44,7 @@ usage_text = concat (
 
 -- its version, with the name of the package, which isn't that of the Rust crate
 abbrev pub version_text : List ℕ
-version_text = codes "rpki (Gonxebhula) 0.1\nlogic: dac8208d650f15bf\n"
+version_text = codes "rpki (Gonxebhula) 0.2.0\nlogic: dac8208d650f15bf\n"
 
 -- what is printed where nothing is asked of files
 abbrev pub about_text : Task → List ℕ

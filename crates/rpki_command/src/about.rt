@@ -31,7 +31,7 @@ or --trim; prepare and complete also take --crl FILE (with which the issuer's pa
 Behind -- each word is a file.
 ";
 
-const VERSION: &str = "rpki (Gonxebhula) 0.1\nlogic: dac8208d650f15bf\n";
+const VERSION: &str = "rpki (Gonxebhula) 0.2.0\nlogic: dac8208d650f15bf\n";
 
 /// Returns the text that says how the command is used.
 pub fn usage() -> &'static str
