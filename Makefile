@@ -8,6 +8,7 @@
 #   make install-program   installs the command, its page and its completions
 #   make install-lib       installs the libraries, the header, its pages and rpki.pc
 #   make uninstall         removes what these have installed
+#   make dist              makes the files for users without the kit, in dist/ (packaging/dist)
 #
 # Files go below PREFIX, and all that below DESTDIR:
 #   make install PREFIX=$HOME/.local
@@ -35,6 +36,8 @@ ifneq (,$(unfit))
 $(error the name of a folder has $(unfit): nothing is installed or removed)
 endif
 
+# what tells whether both are proved and built as the sources are now
+built = ./rpki built
 # what `./rpki prove` and `./rpki library` build
 tool = crates/rpki_command/out/rpki_command
 library = callers/out
@@ -56,11 +59,11 @@ check:
 
 # both are asked for before anything is installed
 install:
-	@./rpki built
+	@$(built)
 	@$(MAKE) install-program install-lib
 
 install-program:
-	@./rpki built program
+	@$(built) program
 	$(INSTALL) -d "$(DESTDIR)$(BINDIR)" "$(DESTDIR)$(MANDIR)/man1"
 	$(INSTALL) -m 755 $(tool) "$(DESTDIR)$(BINDIR)/rpki"
 	$(INSTALL) -m 644 docs/rpki.1 "$(DESTDIR)$(MANDIR)/man1/rpki.1"
@@ -70,7 +73,7 @@ install-program:
 	$(INSTALL) -m 644 completions/rpki.fish "$(DESTDIR)$(FISHDIR)/rpki.fish"
 
 install-lib:
-	@./rpki built library
+	@$(built) library
 	$(INSTALL) -d "$(DESTDIR)$(LIBDIR)" "$(DESTDIR)$(INCLUDEDIR)" "$(DESTDIR)$(PKGCONFIGDIR)"
 	$(INSTALL) -m 644 $(library)/rpki.h "$(DESTDIR)$(INCLUDEDIR)/rpki.h"
 	$(INSTALL) -m 644 $(library)/librpki.a "$(DESTDIR)$(LIBDIR)/librpki.a"
@@ -97,4 +100,7 @@ uninstall:
 	    "$(DESTDIR)$(LIBDIR)/librpki.so.$$($(abi))"
 	for name in librpki $$($(calls)); do rm -f "$(DESTDIR)$(MANDIR)/man3/$$name.3" || exit; done
 
-.PHONY: all program library check install install-program install-lib uninstall
+dist:
+	@packaging/dist
+
+.PHONY: all program library check install install-program install-lib uninstall dist

@@ -1,5 +1,6 @@
-//! Links to librpki: of the folder that RPKI_LIBRARY names, or of the one that pkg-config knows, or
-//! where the linker looks for libraries.
+//! Links to librpki: of the folder that RPKI_LIBRARY names; or to the static one that a release of
+//! this crate has in `lib`; or of the folder that pkg-config knows, or where the linker looks for
+//! libraries.
 use std::env;
 use std::path::{Path, PathBuf};
 use std::process::Command;
@@ -15,17 +16,19 @@ fn of_pkg_config() -> Option<PathBuf> {
 
 fn main() {
     println!("cargo:rerun-if-env-changed=RPKI_LIBRARY");
-    let is_static = env::var_os("CARGO_FEATURE_STATIC").is_some();
-    let (form, file) = match is_static {
+    let own = env::var_os("CARGO_MANIFEST_DIR").map(|it| PathBuf::from(it).join("lib"));
+    let own = own.filter(|it| it.join("librpki.a").is_file());
+    let named = env::var_os("RPKI_LIBRARY").map(PathBuf::from);
+    let has_own = named.is_none() && own.is_some();
+    let (form, file) = match has_own || env::var_os("CARGO_FEATURE_STATIC").is_some() {
         true => ("static", "librpki.a"),
         false => ("dylib", "librpki.so"),
     };
-    let named = env::var_os("RPKI_LIBRARY").map(PathBuf::from);
     if let Some(folder) = named.as_ref().filter(|it| !it.join(file).is_file()) {
         let folder = folder.display();
         println!("cargo:warning=RPKI_LIBRARY is {folder}, and there is no {file}");
     }
-    match named.or_else(of_pkg_config) {
+    match named.or(own).or_else(of_pkg_config) {
         Some(folder) => println!("cargo:rustc-link-search=native={}", folder.display()),
         None if Path::new("/usr/local/lib").join(file).is_file() => {}
         None => println!(

@@ -232,9 +232,13 @@ class Issued(ctypes.Structure):
 
 
 def _load() -> ctypes.CDLL:
-    """The library: of the folder RPKI_LIBRARY, or where the system looks for libraries."""
+    """The library: of the folder RPKI_LIBRARY, or the one that a wheel has beside this file, or where
+    the system looks for libraries."""
     folder = os.environ.get("RPKI_LIBRARY")
     path = os.path.join(folder, "librpki.so") if folder else f"librpki.so.{ABI}"
+    beside = os.path.join(os.path.dirname(os.path.abspath(__file__)), path)
+    if not folder and os.path.isfile(beside):
+        path = beside
     try:
         library = ctypes.CDLL(path)
     except OSError as error:
