@@ -460,21 +460,6 @@ def nobody(ta, ca):
     yield 'newer_stale.crl', revocation_list(ta, 8, end='250101000000Z', name=other)
 
 
-def empty(ta, ca):
-    """Apart from the others: trust anchors that hold no resources (RFC 8630 2.3), a CA below, and
-    their locator."""
-    anchor = ca_extensions('ta', ta, ta, 'ta', [], [], [])
-    parts = dict(aki=None, lists=None, issuer=None)
-    yield 'ta.cer', certificate(ta, ta, 1, changed(anchor, **parts))
-    yield 'ta_of_no_family.cer', certificate(ta, ta, 2, changed(
-        anchor, ip=addresses(), **{'as': None}, **parts))
-    yield 'ta_with_one.cer', certificate(ta, ta, 3, changed(
-        anchor, **{'as': systems([64496])}, **parts))
-    full = ca_extensions('ca', ca, ta, 'ta', 'inherit', 'inherit', 'inherit')
-    yield 'ca.cer', certificate(ca, ta, 0xcf01, changed(full))
-    yield 'ta.tal', locator(f'{SITE}/ta.cer', ta)
-
-
 def noted(ca, key):
     """Apart from the others: certificates of one key below a CA, each with one thing that is taken
     although a standard forbids it. tests/notes tells which."""
@@ -604,7 +589,6 @@ def uris(ca, key):
 
 # The folders, and the keys that the files of each take.
 FOLDERS = {'twins': (twins, ('ta', 'ca')), 'nobody': (nobody, ('ta', 'ca')),
-           'empty': (empty, ('ta', 'ca')),
            'sharing': (sharing, ('ta', 'ca', 'leaf')),
            'noted': (noted, ('ca', 'key')), 'wide': (wide, ('ta',)),
            'named': (named, ('ta', 'ca', 'below')), 'uris': (uris, ('ca', 'key')),
