@@ -20,6 +20,9 @@ use Rattle.rpki_answers.proofs.PushedValues.{then_pushed}
 pub none_pushed : (Holds : List Data → Type 0) (old : List Value) → Holds [] → PushesSome Holds old old
 none_pushed Holds old holds = ([], holds, sym (append-nil (map view old)))
 
+pub value_pushed : (old new : List Value) (value : Value) (item : Data) → new ≡ old ++ value ∷ [] → view value ≡ item → Pushes (item ∷ []) old new
+value_pushed old new value item is shown = ap (map view) is ∙ map-append view old (value ∷ []) ∙ ap (λ (d : Data). map view old ++ d ∷ []) shown
+
 -- one value
 pub one_pushed : (Holds : List Data → Type 0) (old new : List Value) (value : Value) (item : Data) → Holds (item ∷ []) → new ≡ old ++ value ∷ [] → view value ≡ item → PushesSome Holds old new
 one_pushed Holds old new value item holds is shown = (item ∷ [], holds, ap (map view) is ∙ map-append view old (value ∷ []) ∙ ap (λ (d : Data). map view old ++ d ∷ []) shown)

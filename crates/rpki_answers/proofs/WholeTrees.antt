@@ -1,6 +1,6 @@
 -- The values of files in no order have no floats.
 use Rattle.std.specs.Bool.{MatchBool}
-use Rattle.std.specs.List.{AllByRecursion}
+use Rattle.std.specs.List.{AllByRecursion, flat_map}
 use Rattle.std.specs.Prelude.{Option, Some, None, codes}
 use Rattle.std.proofs.Common.{◌≡◌, ◌==◌, ℕ, Bool, true, false, List, [], ◌∷◌, inl, inr, refl, subst, sym}
 use Rattle.serde_json.specs.Data.{Data}
@@ -13,8 +13,9 @@ use Rattle.rpki_files.specs.Files.{FileFields}
 use Rattle.rpki_verdicts.specs.Trees.{TreeFields, certs_of}
 use Rattle.rpki_verdicts.specs.PathAnswers.{reason_of}
 use Rattle.rpki_verdicts.specs.declared.unordered.Tree.{Tree}
-use Rattle.rpki_verdicts.specs.declared.unordered.TreeAnswer.TheVariants.{NoAnchor, WrongAnchor, Walked}
-use Rattle.rpki_answers.specs.JsonTrees.{AreFileMembers, AreFrontMembers, AreLineMembers, AreTreeItems, IsFileItem, accepted_members, end_members, name_item, name_items, no_anchor_json, rejected_members, summary_members, unjudged_members, wrong_anchor_json}
+use Rattle.rpki_verdicts.specs.declared.unordered.TreeAnswer.TheVariants.{NoAnchor, Walked}
+use Rattle.rpki_verdicts.specs.declared.unordered.WrongAnchor.{WrongAnchor}
+use Rattle.rpki_answers.specs.JsonTrees.{AreFileMembers, AreFrontMembers, AreLineMembers, AreTreeItems, IsFileItem, accepted_members, end_members, name_item, name_items, no_anchor_json, rejected_members, summary_members, unjudged_members, unseen_word, why_json, wrong_anchor_json, wrong_items}
 use Rattle.rpki_answers.specs.JsonValues.{Pair, count_member_if_any, text_member}
 use Rattle.rpki_answers.specs.TreeTexts.{SaysInOrder}
 use Rattle.rpki_answers.specs.VerdictTexts.{file_name_at}
@@ -53,8 +54,8 @@ word_whole word pairs is = subst AreWhole (sym is) (then_whole _ _ _ refl none_w
 line_whole : (tree : Tree) (file : FileFields) (its : Option Line) (pairs : List Pair) → AreLineMembers tree file its pairs → AreWhole pairs
 line_whole tree file (Some (line.Accepted above)) pairs is = subst AreWhole (sym is) (accepted_whole tree above.items)
 line_whole tree file (Some (line.Rejected member fault)) pairs is = subst AreWhole (sym is.2) (rejected_whole member is.0)
-line_whole tree file (Some line.Unseen) pairs is = word_whole (codes "no_issuer") pairs is
-line_whole tree file None pairs is = word_whole (codes "no_issuer") pairs is
+line_whole tree file (Some line.Unseen) pairs is = word_whole (unseen_word tree.ended) pairs is
+line_whole tree file None pairs is = word_whole (unseen_word tree.ended) pairs is
 
 certificate_whole : (b : Bool) (tree : Tree) (file : FileFields) (its : Option Line) (pairs : List Pair) → MatchBool b (pairs ≡ text_member (codes "verdict") (codes "trust_anchor")) (AreLineMembers tree file its pairs) → AreWhole pairs
 certificate_whole true tree file its pairs is = word_whole (codes "trust_anchor") pairs is
@@ -85,10 +86,15 @@ order_whole Says whole place last (file ∷ files) items is =
 none_of : (items : List Data) → items ≡ [] → AllByRecursion IsWhole items
 none_of items is = subst (λ (l : List Data). AllByRecursion IsWhole l) (sym is) tt
 
+wrong_whole : (wrong : List WrongAnchor) → AllWhole (flat_map wrong_items wrong)
+unfolding AllWhole wrong_items
+wrong_whole [] = tt
+wrong_whole (w ∷ wrong) = (object_whole _ (then_whole _ _ _ refl (rejected_whole 0 (reason_of w.fault))), wrong_whole wrong)
+
 pub tree_whole : (q : TreeFields) (finding : TreeFinding) (items : List Data) → AreTreeItems q finding items → AllByRecursion IsWhole items
 tree_whole q (NotALocator fault) items is = none_of items is
-tree_whole q (Answered NoAnchor) items is = none_of items is
-tree_whole q (Answered (WrongAnchor anchor fault)) items is = none_of items is
+tree_whole q (Answered (NoAnchor wrong)) items is =
+    subst (λ (l : List Data). AllByRecursion IsWhole l) (sym is) (items_whole _ (wrong_whole wrong.items))
 tree_whole q (Answered (Walked tree)) items is =
     items_whole items (order_whole (IsFileItem tree) (item_whole tree) 0 is.0 q.files items is.1)
 
@@ -108,6 +114,10 @@ unfolding wrong_anchor_json
 wrong_anchor_whole anchor r =
     object_whole _ (then_whole _ _ _ refl (then_whole _ _ _ refl (then_whole _ _ _ refl (then_whole _ _ _ refl (then_whole _ _ _ refl none_whole)))))
 
+why_whole : (wrong : List WrongAnchor) → IsWhole (why_json wrong)
+why_whole [] = no_anchor_whole
+why_whole (w ∷ wrong) = wrong_anchor_whole w.file.now (reason_of w.fault)
+
 unjudged_whole : (q : TreeFields) (why : Data) → IsWhole why → AreWhole (unjudged_members q why)
 unfolding unjudged_members
 unjudged_whole q why whole =
@@ -115,8 +125,7 @@ unjudged_whole q why whole =
 
 summary_whole : (q : TreeFields) (finding : TreeFinding) → AreWhole (summary_members q finding)
 summary_whole q (NotALocator fault) = unjudged_whole q _ (no_locator_whole fault)
-summary_whole q (Answered NoAnchor) = unjudged_whole q _ no_anchor_whole
-summary_whole q (Answered (WrongAnchor anchor fault)) = unjudged_whole q _ (wrong_anchor_whole anchor.now (reason_of fault))
+summary_whole q (Answered (NoAnchor wrong)) = unjudged_whole q _ (why_whole wrong.items)
 summary_whole q (Answered (Walked tree)) = end_whole q.at tree
 
 pub summary_pairs_whole : (q : TreeFields) (finding : TreeFinding) → AllByRecursion (λ pair. IsWhole pair.1) (summary_members q finding)

@@ -14,7 +14,8 @@ use Rattle.rpki_files.specs.Files.{FileFields}
 use Rattle.rpki_verdicts.specs.PathAnswers.{reason_of}
 use Rattle.rpki_verdicts.specs.Trees.{TreeFields, accepted_count, certs_of}
 use Rattle.rpki_verdicts.specs.declared.unordered.Tree.{Tree}
-use Rattle.rpki_verdicts.specs.declared.unordered.TreeAnswer.TheVariants.{NoAnchor, WrongAnchor, Walked}
+use Rattle.rpki_verdicts.specs.declared.unordered.TreeAnswer.TheVariants.{NoAnchor, Walked}
+use Rattle.rpki_verdicts.specs.declared.unordered.WrongAnchor.{WrongAnchor}
 use Rattle.rpki_answers.specs.JsonTexts.{json_lines, value_text}
 use Rattle.rpki_answers.specs.JsonValues.{Pair, array_of, count_json, count_member_if_any, flattened, member_of, moment_json, object_of, text_member}
 use Rattle.rpki_answers.specs.JsonVerdicts.{no_locator_json, no_locators_json}
@@ -55,12 +56,17 @@ rejected_members member r = flattened (
     ∷ text_member (codes "standard") r.rule.section
     ∷ [])
 
+-- the walk didn't come to it: it has no accepted issuer; or a limit was reached before
+abbrev pub unseen_word : Ended → List ℕ
+unseen_word Whole = codes "no_issuer"
+unseen_word _ = codes "not_reached"
+
 -- what its line says
 abbrev pub AreLineMembers : Tree → FileFields → Option Line → List Pair → Type 0
 AreLineMembers tree file (Some (line.Accepted above)) pairs = pairs ≡ accepted_members tree above.items
 AreLineMembers tree file (Some (line.Rejected member fault)) pairs =
     (r : ReasonFields) × IsReason fault file.octets r × (pairs ≡ rejected_members member r)
-AreLineMembers tree file _ pairs = pairs ≡ text_member (codes "verdict") (codes "no_issuer")
+AreLineMembers tree file _ pairs = pairs ≡ text_member (codes "verdict") (unseen_word tree.ended)
 
 -- what is said of the certificate at a place: whether it is the trust anchor, and else its line
 abbrev pub AreCertificateMembers : Tree → ℕ → FileFields → List Pair → Type 0
@@ -132,6 +138,18 @@ wrong_anchor_json anchor r = object_of (flattened (
     ∷ text_member (codes "standard") r.rule.section
     ∷ []))
 
+-- why nothing is judged where no trust anchor is valid: what is wrong with the first of those that
+-- have the key of a locator, if there is one
+abbrev pub why_json : List WrongAnchor → Data
+why_json [] = no_anchor_json
+why_json (w ∷ wrong) = wrong_anchor_json w.file.now (reason_of w.fault)
+
+-- the value of one of these
+unfoldable pub wrong_items : WrongAnchor → List Data
+wrong_items w =
+    object_of (text_member (codes "file") w.file.now.name ++ rejected_members 0 (reason_of w.fault))
+    ∷ []
+
 -- nothing is judged: the moment, the files given as locators that are none, and why
 unfoldable pub unjudged_members : TreeFields → Data → List Pair
 unjudged_members q why = flattened (
@@ -143,14 +161,15 @@ unjudged_members q why = flattened (
 -- what is said of all files: the end of the walk, or why nothing is judged
 abbrev pub summary_members : TreeFields → TreeFinding → List Pair
 summary_members q (NotALocator fault) = unjudged_members q (no_locator_json fault)
-summary_members q (Answered NoAnchor) = unjudged_members q no_anchor_json
-summary_members q (Answered (WrongAnchor anchor fault)) = unjudged_members q (wrong_anchor_json anchor.now (reason_of fault))
+summary_members q (Answered (NoAnchor wrong)) = unjudged_members q (why_json wrong.items)
 summary_members q (Answered (Walked tree)) = end_members q.at tree
 
--- the values of the files, where they are judged
+-- the values of the files, where they are judged: of all, or of those that are wrong as trust
+-- anchors
 abbrev pub AreTreeItems : TreeFields → TreeFinding → List Data → Type 0
 AreTreeItems q (Answered (Walked tree)) items = (last : ℕ) × SaysInOrder (IsFileItem tree) 0 last q.files items
-AreTreeItems q _ items = items ≡ []
+AreTreeItems q (Answered (NoAnchor wrong)) items = items ≡ flat_map wrong_items wrong.items
+AreTreeItems q (NotALocator fault) items = items ≡ []
 
 -- in `jsonl` each of these on a line, and then the object of what is said of all; else one object
 -- that has both

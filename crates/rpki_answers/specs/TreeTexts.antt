@@ -20,7 +20,8 @@ use Rattle.rpki_verdicts.specs.PathAnswers.{IsNoLocator, reason_of}
 use Rattle.rpki_verdicts.specs.Trees.{TreeFields, IsAccepting, IsTreeAnswer, accepted_count, certs_of}
 use Rattle.rpki_verdicts.specs.declared.unordered.Tree.{Tree}
 use Rattle.rpki_verdicts.specs.declared.unordered.TreeAnswer.{TreeAnswer}
-use Rattle.rpki_verdicts.specs.declared.unordered.TreeAnswer.TheVariants.{NoAnchor, WrongAnchor, Walked}
+use Rattle.rpki_verdicts.specs.declared.unordered.TreeAnswer.TheVariants.{NoAnchor, Walked}
+use Rattle.rpki_verdicts.specs.declared.unordered.WrongAnchor.{WrongAnchor}
 use Rattle.rpki_answers.specs.ShownTexts.{left_text}
 use Rattle.rpki_answers.specs.VerdictTexts.{behind_list_text, locators_text, moment_line, no_locator_text}
 use Rattle.rpki_answers.specs.declared.trees.TreeFinding.{TreeFinding}
@@ -46,12 +47,17 @@ abbrev pub rejection_text : ReasonFields → List ℕ
 rejection_text r =
     codes "rejected at " ++ (r.step ++ (codes ", " ++ (r.name ++ (codes ": " ++ (r.rule.says ++ (codes " (" ++ (r.rule.section ++ codes ")")))))))
 
+-- the walk didn't come to it: it has no accepted issuer; or a limit was reached before
+abbrev pub unseen_text : Ended → List ℕ
+unseen_text Whole = codes "no accepted issuer here"
+unseen_text _ = codes "not reached before the limit"
+
 -- what its line says
 abbrev pub SaysOfLine : Tree → FileFields → Option Line → List ℕ → Type 0
 SaysOfLine tree file (Some (line.Accepted above)) said = said ≡ accepted_text tree above.items
 SaysOfLine tree file (Some (line.Rejected step fault)) said =
     (r : ReasonFields) × IsReason fault file.octets r × (said ≡ rejection_text r)
-SaysOfLine tree file _ said = said ≡ codes "no accepted issuer here"
+SaysOfLine tree file _ said = said ≡ unseen_text tree.ended
 
 -- what is said of the certificate at a place: whether it is the trust anchor, and else its line
 abbrev pub SaysOfCertificate : Tree → ℕ → FileFields → List ℕ → Type 0
@@ -132,15 +138,20 @@ end_text q tree = concat (
     ∷ label_line (codes "Not asked") (codes "whether names match, and whether the RPKI uses the last keys")
     ∷ [])
 
--- no file is the trust anchor of a locator
-abbrev pub no_anchor_text : List ℕ
-no_anchor_text = label_line (codes "Trust anchor") (codes "no file has the key of a locator")
+-- the line of a file that has the key of a locator, and is wrong as its trust anchor
+unfoldable pub wrong_anchor_line : WrongAnchor → List ℕ
+wrong_anchor_line w =
+    file_line w.file.now.name (codes "trust anchor, " ++ rejection_text (reason_of w.fault))
+
+-- why there is no trust anchor: what is wrong with each file that has the key of a locator; or none
+-- has
+abbrev pub no_anchor_text : List WrongAnchor → List ℕ
+no_anchor_text [] = label_line (codes "Trust anchor") (codes "no file has the key of a locator")
+no_anchor_text (w ∷ wrong) = flat_map wrong_anchor_line (w ∷ wrong)
 
 -- what is said of the answer: the lines of the files and the end; or why there is no trust anchor
 abbrev pub IsAnswerText : TreeFields → TreeAnswer → List ℕ → Type 0
-IsAnswerText q NoAnchor text = text ≡ no_anchor_text
-IsAnswerText q (WrongAnchor anchor fault) text =
-    text ≡ file_line anchor.now.name (codes "trust anchor, " ++ rejection_text (reason_of fault))
+IsAnswerText q (NoAnchor wrong) text = text ≡ no_anchor_text wrong.items
 IsAnswerText q (Walked tree) text =
     (last : ℕ) × (lines : List ℕ) × AreFileLines tree 0 last q.files lines
     × (text ≡ lines ++ end_text q tree)

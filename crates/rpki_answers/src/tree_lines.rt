@@ -1,5 +1,6 @@
 //! The verdicts on the certificates among files, for a person.
-ghost use Rattle.std.specs.Prelude.{◌≤◌, ◌<◌, ◌+◌, ◌^◌, ◌++◌, Some, IfOk, codes, map, option_map, string_bytes};
+ghost use Rattle.std.specs.List.{flat_map};
+ghost use Rattle.std.specs.Prelude.{◌≡◌, ◌≤◌, ◌<◌, ◌+◌, ◌^◌, ◌++◌, Some, IfOk, codes, map, option_map, string_bytes};
 ghost use Rattle.rpki_files.specs.FaultRules.{rule_of};
 ghost use Rattle.rpki_verdicts.specs.Reasons.{ReasonFields, IsReason, reason};
 ghost use Rattle.rpki_text.specs.Pages.{Appends, AppendsSome, line};
@@ -8,7 +9,7 @@ ghost use Rattle.rpki_verdicts.specs.PathAnswers.{reason_of};
 ghost use Rattle.rpki_verdicts.specs.Trees.{asked_of};
 ghost use Rattle.rpki_verdicts.specs.declared.unordered.TreeAnswer.TheVariants.{Walked};
 ghost use Rattle.rpki_answers.specs.ShownTexts.{left_text};
-ghost use Rattle.rpki_answers.specs.TreeTexts.{AreFileLines, IsAnswerText, IsFileLine, IsTreeText, SaysOfBegun, SaysOfCertificate, SaysOfFile, SaysOfFront, SaysOfLine, accepted_text, behind_text, end_text, ended_text, file_line, further_text, name_text_at, neither_text, rejection_text, since_text};
+ghost use Rattle.rpki_answers.specs.TreeTexts.{AreFileLines, IsAnswerText, IsFileLine, IsTreeText, SaysOfBegun, SaysOfCertificate, SaysOfFile, SaysOfFront, SaysOfLine, accepted_text, behind_text, end_text, ended_text, further_text, name_text_at, neither_text, no_anchor_text, rejection_text, since_text, unseen_text, wrong_anchor_line};
 ghost use Rattle.rpki_answers.specs.VerdictTexts.{locators_text, moment_line, no_locator_text};
 
 use crate::showing::left_over;
@@ -22,7 +23,7 @@ use rpki_folder::{Ended, Line};
 use rpki_path::PathFault;
 use rpki_text::{InnerName, Page};
 use rpki_verdicts::reasons::of_path;
-use rpki_verdicts::{Fault, Tree, TreeAnswer, TreeQuestion};
+use rpki_verdicts::{Fault, Tree, TreeAnswer, TreeQuestion, WrongAnchor};
 use std::alloc::{AllocError, Global};
 use std::fmt;
 
@@ -84,6 +85,16 @@ fn print_rejected(page: &mut Page, file: &BareObject<'_>, fault: &PathFault)
     page.value(&Rejection { step, name, rule });
 }
 
+// What is said of a certificate to which the walk didn't come.
+fn unseen_text(ended: Ended) -> &'static str
+    ensures { result.now ≡ unseen_text ended }
+{
+    match ended {
+        Ended::Whole => "no accepted issuer here",
+        Ended::TooDeep | Ended::OutOfSteps => "not reached before the limit",
+    }
+}
+
 // What the line of a certificate says.
 fn print_line(page: &mut Page, tree: &Tree<'_, '_>, file: &BareObject<'_>, line: Option<&Line>)
     ensures { let its = option_map (λ l. l.now) line.entry in
@@ -92,7 +103,7 @@ fn print_line(page: &mut Page, tree: &Tree<'_, '_>, file: &BareObject<'_>, line:
     match line {
         Some(Line::Accepted(above)) => print_accepted(page, tree, above),
         Some(Line::Rejected(_, fault)) => print_rejected(page, file, fault),
-        Some(Line::Unseen) | None => page.text("no accepted issuer here"),
+        Some(Line::Unseen) | None => page.text(unseen_text(tree.ended)),
     }
 }
 
@@ -278,20 +289,39 @@ fn print_end(page: &mut Page, question: &TreeQuestion<'_, '_>, tree: &Tree<'_, '
     );
 }
 
-// That the trust anchor is wrong, and why.
-fn print_wrong_anchor(page: &mut Page, anchor: &BareObject<'_>, fault: &Fault)
-    ensures { let said = codes "trust anchor, " ++ rejection_text (reason_of fault.now) in
-        Appends page.old (file_line anchor.now.name said) page.new }
+// That a trust anchor is wrong, and why.
+fn print_wrong_anchor(page: &mut Page, anchor: &WrongAnchor<'_, '_>)
+    ensures { Appends page.old (wrong_anchor_line anchor.now) page.new }
 {
-    page.value(&InnerName(anchor.name()));
+    page.value(&InnerName(anchor.file.name()));
     page.text(": ");
     page.text("trust anchor, ");
     page.value(&Rejection {
-        step: fault.step,
-        name: fault.name,
-        rule: fault.rule,
+        step: anchor.fault.step,
+        name: anchor.fault.name,
+        rule: anchor.fault.rule,
     });
     page.end();
+}
+
+// What is wrong with each of these trust anchors.
+fn print_wrong_anchors(page: &mut Page, wrong: &[WrongAnchor<'_, '_>])
+    ensures { Appends page.old (flat_map wrong_anchor_line wrong.now) page.new }
+{
+    for anchor in wrong {
+        print_wrong_anchor(page, anchor);
+    }
+}
+
+// Why there is no trust anchor.
+fn print_no_anchor(page: &mut Page, wrong: &[WrongAnchor<'_, '_>])
+    ensures { Appends page.old (no_anchor_text wrong.now) page.new }
+{
+    if wrong.is_empty() {
+        page.line("Trust anchor", "no file has the key of a locator");
+        return;
+    }
+    print_wrong_anchors(page, wrong);
 }
 
 fn print_tree(page: &mut Page, question: &TreeQuestion<'_, '_>, tree: &Tree<'_, '_>)
@@ -305,8 +335,7 @@ fn print_answer(page: &mut Page, question: &TreeQuestion<'_, '_>, answer: &TreeA
     ensures { AppendsSome (IsAnswerText (asked_of question.now) answer.now) page.old page.new }
 {
     match answer {
-        TreeAnswer::NoAnchor => page.line("Trust anchor", "no file has the key of a locator"),
-        TreeAnswer::WrongAnchor(anchor, fault) => print_wrong_anchor(page, anchor, fault),
+        TreeAnswer::NoAnchor(wrong) => print_no_anchor(page, wrong),
         TreeAnswer::Walked(tree) => print_tree(page, question, tree),
     }
 }

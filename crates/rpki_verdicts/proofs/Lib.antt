@@ -11,4 +11,5 @@ mod ReachedFiles
 mod ReadLocators
 mod SearchSteps
 mod TreeAnchors
+mod TriedAnchors
 mod UnrevokedFiles

@@ -22,11 +22,11 @@ use Rattle.rpki_folder.specs.Walks.{Root, AreAdmitted, IsAcceptedAs, IsReached, 
 use Rattle.rpki_folder.specs.Folders.{octets_at}
 use Rattle.rpki_files.specs.Contents.{BeginsWithCertificate}
 use Rattle.rpki_files.specs.Files.{FileFields, contents}
-use Rattle.rpki_verdicts.specs.Searches.{HasNoValidPath, IsNamedPath, IsSoughtPath, alone, below_wrong, valid, invalid, IsTreeWith, IsValidAmong, IsValidPathTo, Leads, StandsAlone, above_by, files_at}
-use Rattle.rpki_verdicts.specs.Trees.{AreCertificatesOf, IsTreeOf, IsWrongAnchor, TreeFields, certs_of, every}
+use Rattle.rpki_verdicts.specs.Searches.{HasNoValidPath, IsNamedPath, IsSoughtPath, alone, no_anchor, valid, invalid, IsTreeWith, IsValidAmong, IsValidPathTo, Leads, StandsAlone, above_by, files_at, first_wrong}
+use Rattle.rpki_verdicts.specs.Trees.{AreCertificatesOf, HasNoAnchor, IsTreeOf, TreeFields, certs_of, every}
 use Rattle.rpki_verdicts.proofs.ReachedFiles.{reached_files}
-use Rattle.rpki_verdicts.specs.declared.path.Fault.{Fault}
 use Rattle.rpki_verdicts.specs.declared.unordered.Tree.{Tree}
+use Rattle.rpki_verdicts.specs.declared.unordered.WrongAnchor.{WrongAnchor}
 
 -- ---- files at places
 
@@ -117,7 +117,7 @@ module _ (x : Context) (q : TreeFields) (file : FileFields) (tree : Tree) (is : 
 
   pub valid_by : (above : List ℕ) (path : List FileFields) → above_by (slice_get tree.lines 0) ≡ Some above → path ≡ files_at (certs_of tree) (tree.anchor ∷ above) ++ file ∷ [] → IsValidPathTo x q file path
   valid_by above path e path_is =
-      let files = path_is ∙ ap (λ (o : Option FileFields). cons_option o (files_at (certs_of tree) above) ++ file ∷ []) is.grown.anchor_is.anchor_is in
+      let files = path_is ∙ ap (λ (o : Option FileFields). cons_option o (files_at (certs_of tree) above) ++ file ∷ []) is.grown.anchor_is.valid.candidate.file_is in
       let asked = by_lists x is.grown.lists in
       record {
         tree = tree;
@@ -150,14 +150,14 @@ module _ (x : Context) (q : TreeFields) (file : FileFields) (tree : Tree) (is : 
   pub invalid_in : (path : List FileFields) → above_by (slice_get tree.lines 0) ≡ None → IsNamedPath tree file path → IsSoughtPath x q file path tree.ended
   invalid_in path e named = invalid path tree (invalid_by e) named
 
--- ---- a file alone, and one below a trust anchor that is wrong
+-- ---- a file alone, and one where no trust anchor is valid
 
 module _ (x : Context) (q : TreeFields) (file : FileFields) (path : List FileFields) where
   pub alone_in : StandsAlone q file → path ≡ file ∷ [] → IsSoughtPath x q file path Whole
   alone_in stands path_is = subst (λ (l : List FileFields). IsSoughtPath x q file l Whole) (sym path_is) (alone stands)
 
-  pub wrong_in : (anchor : FileFields) (fault : Fault) → IsWrongAnchor x q anchor fault → path ≡ anchor ∷ file ∷ [] → IsSoughtPath x q file path Whole
-  wrong_in anchor fault is path_is = subst (λ (l : List FileFields). IsSoughtPath x q file l Whole) (sym path_is) (below_wrong anchor fault is)
+  pub no_anchor_in : (wrong : List WrongAnchor) → HasNoAnchor x q wrong → path ≡ first_wrong wrong ++ file ∷ [] → IsSoughtPath x q file path Whole
+  no_anchor_in wrong is path_is = subst (λ (l : List FileFields). IsSoughtPath x q file l Whole) (sym path_is) (no_anchor wrong is)
 
 -- what is sought to the first of the files is sought to whichever that is
 pub of_first : (x : Context) (q : TreeFields) (path : List FileFields) (ended : Ended) (all rest : List FileFields) (file : FileFields) → all ≡ file ∷ rest → IsSoughtPath x q file path ended → (first : FileFields) (more : List FileFields) → all ≡ first ∷ more → IsSoughtPath x q first path ended

@@ -1,7 +1,7 @@
 -- The locator of a file's certificate.
 use Rattle.std.specs.Option.{option_map}
 use Rattle.std.specs.Prelude.{Any, IfNone, IfSome, IsOkAnd, Option, Some, None, Result, slice_get}
-use Rattle.std.proofs.Common.{◌≡◌, ◌+◌, ◌≤◌, ℕ, List, length, map, sym, ap, subst, ◌∙◌, arith, below_more}
+use Rattle.std.proofs.Common.{◌≡◌, ℕ, List, map, sym, ap, subst, ◌∙◌}
 use Rattle.std.proofs.lemmas.Option.{slice_get-map}
 use Rattle.rpki_cert.specs.Certificates.{CertFields, IsCertificate}
 use Rattle.rpki_der.specs.Encoding.{Means}
@@ -12,7 +12,7 @@ use Rattle.rpki_der.specs.Values.{IsUnambiguous}
 use Rattle.rpki_der.proofs.Formats.{one_meant}
 use Rattle.rpki_files.specs.Files.{FileFields}
 use Rattle.rpki_verdicts.specs.GivenLocators.{LocatorFields, HasKeyRead, HasTalRead}
-use Rattle.rpki_verdicts.specs.Trees.{HasLocator, HasNoneBelow, IsAnchorOf}
+use Rattle.rpki_verdicts.specs.Trees.{HasLocator, IsAnchorOf}
 
 module _ (locators : List LocatorFields) (file : FileFields) (cert : CertFields) (begins : Means IsCertificate cert file.octets) (key : KeyFields) (key_is : key ≡ cert.fields.key) where
   -- what was read of a locator of its key
@@ -38,20 +38,8 @@ module _ (locators : List LocatorFields) (file : FileFields) (cert : CertFields)
 pub none_of_no_certificate : (locators : List LocatorFields) (file : FileFields) → ((c : CertFields) → Means IsCertificate c file.octets → ⊥) → HasLocator locators file → ⊥
 none_of_no_certificate locators file none has = none has.1.1.cert has.1.1.begins
 
--- ---- the first certificate that has one
+-- ---- certificates at places
 
 -- the file at a place, by the reference there
 pub mapped_at : {R : Type 0} (now : R → FileFields) (xs : List R) (k : ℕ) (x : R) → slice_get xs k ≡ Some x → slice_get (map now xs) k ≡ Some (now x)
 mapped_at now xs k x is = slice_get-map now xs k ∙ ap (option_map now) is
-
-module _ (locators : List LocatorFields) (certs : List FileFields) where
-  -- one more has none
-  pub none_more : (place : ℕ) (file : FileFields) → slice_get certs place ≡ Some file → (HasLocator locators file → ⊥) → HasNoneBelow locators certs place → HasNoneBelow locators certs (place + 1)
-  none_more place file there none so_far = below_more _ _ so_far (λ earlier is has.
-      let both : Some file ≡ Some earlier = sym there ∙ is in
-      let same : file ≡ earlier = cc in
-      none (subst (λ (f : FileFields). HasLocator locators f) (sym same) has))
-
-  -- behind the last
-  pub none_of_all : (n : ℕ) → length certs ≤ n → HasNoneBelow locators certs n → HasNoneBelow locators certs (length certs)
-  none_of_all n high so_far = λ k low. so_far k (omega (arith, low, high))

@@ -18,9 +18,9 @@ use Rattle.rpki_folder.specs.Walks.{Covers, IsReached, at_anchor}
 use Rattle.rpki_files.specs.Contents.{BeginsWithCertificate, IsList}
 use Rattle.rpki_files.specs.Files.{FileFields, contents}
 use Rattle.rpki_verdicts.specs.PathFiles.{IsGivenBy}
-use Rattle.rpki_verdicts.specs.Trees.{HasLocator, HasNoAnchor, IsTreeOf, IsWrongAnchor, TreeFields, certs_of}
-use Rattle.rpki_verdicts.specs.declared.path.Fault.{Fault}
+use Rattle.rpki_verdicts.specs.Trees.{HasLocator, HasNoAnchor, IsTreeOf, TreeFields, certs_of}
 use Rattle.rpki_verdicts.specs.declared.unordered.Tree.{Tree}
+use Rattle.rpki_verdicts.specs.declared.unordered.WrongAnchor.{WrongAnchor}
 
 -- ---- valid paths
 
@@ -142,22 +142,26 @@ IsNamedPath tree file path =
 -- ---- the path that is sought
 
 -- the file stands alone: it has the key of a locator; or no valid path leads to it, since it is no
--- certificate, or there is no list, or no trust anchor
+-- certificate, or there is no list
 abbrev pub StandsAlone : TreeFields → FileFields → Type 0
 StandsAlone q file =
     HasLocator q.locators file
-    ⊎ ((BeginsWithCertificate file.octets → ⊥)
-    ⊎ (All (λ f. IsList f.octets → ⊥) q.files ⊎ HasNoAnchor q))
+    ⊎ ((BeginsWithCertificate file.octets → ⊥) ⊎ All (λ f. IsList f.octets → ⊥) q.files)
 
--- The path that is sought to the first of the files: that one alone; below a trust anchor that is
--- wrong; a valid path, as of its certificates and lists; or, where there is none, the file below
+-- the first of the files that are wrong as trust anchors, where there is one
+abbrev pub first_wrong : List WrongAnchor → List FileFields
+first_wrong [] = []
+first_wrong (w ∷ wrong) = w.file.now ∷ []
+
+-- The path that is sought to the first of the files: that one alone; where no trust anchor is valid,
+-- below one that is wrong, or alone if there is none; a valid path, as of its certificates and lists; or, where there is none, the file below
 -- those that name one another as signers, of which the verdict tells what is wrong. Beside it
 -- stands how far a valid one was looked for: a bound can only have been met where none was found.
 pub data IsSoughtPath (x : Context) (q : TreeFields) (file : FileFields)
     : List FileFields → Ended → Type 0 where
   alone : StandsAlone q file → IsSoughtPath x q file (file ∷ []) Whole
-  below_wrong : (anchor : FileFields) (fault : Fault) → IsWrongAnchor x q anchor fault
-      → IsSoughtPath x q file (anchor ∷ file ∷ []) Whole
+  no_anchor : (wrong : List WrongAnchor) → HasNoAnchor x q wrong
+      → IsSoughtPath x q file (first_wrong wrong ++ file ∷ []) Whole
   valid : (path : List FileFields) → IsValidPathTo x q file path → IsSoughtPath x q file path Whole
   invalid : (path : List FileFields) (tree : Tree) → HasNoValidPath x q file tree
       → IsNamedPath tree file path → IsSoughtPath x q file path tree.ended

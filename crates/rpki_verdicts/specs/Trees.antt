@@ -1,7 +1,15 @@
 -- What is answered of files in no order: the trust anchor among them, and a line for each
 -- certificate (RFC 6487 7.2, RFC 8630 3; own: the bounds).
-use Rattle.std.specs.Prelude.{◌≡◌, ◌≢◌, ◌⊎◌, ◌<◌, ℕ, List, [], ◌∷◌, length, map, slice_get, Any, Some, Ok, Bool, true, false, IsTrue, count_by}
+use Rattle.std.specs.Cmp.Lexicographic.{slice_cmp}
+use Rattle.std.specs.List.{AllByRecursion}
+use Rattle.std.specs.Ordering.{nat_cmp, ordering_then}
+use Rattle.std.specs.declared.cmp.Ordering.{Ordering}
+use Rattle.std.specs.declared.cmp.Ordering.TheVariants.{Less}
+use Rattle.std.specs.Prelude.{◌≡◌, ◌≢◌, ◌⊎◌, ℕ, List, [], ◌∷◌, length, map, slice_get, Any, Some, Ok, Bool, true, false, IsTrue, count_by}
+use Rattle.rpki_path.specs.Asking.{RevocationChecks}
 use Rattle.rpki_path.specs.AskedLists.{by_lists}
+use Rattle.rpki_cert.specs.Certificates.{CertFields, IsCertificate}
+use Rattle.rpki_der.specs.Encoding.{Means}
 use Rattle.rpki_folder.specs.Folders.{FolderFields}
 use Rattle.rpki_folder.specs.KeptLines.{AreLines}
 use Rattle.rpki_folder.specs.declared.lines.Line.{Line}
@@ -12,7 +20,7 @@ use Rattle.rpki_path.specs.declared.located.LocatedError.{LocatedError}
 use Rattle.rpki_path.specs.declared.located.LocatedError.TheVariants.{OtherKey, Path as path}
 use Rattle.rpki_path.specs.LocatedPaths.{BeginsWithKey}
 use Rattle.rpki_keys.specs.Locators.{NamedTal}
-use Rattle.rpki_der.specs.Times.{Moment}
+use Rattle.rpki_der.specs.Times.{Moment, second_number}
 use Rattle.rpki_cert.specs.Verification.{Context}
 use Rattle.rpki_folder.specs.declared.walk_error.WalkError.{WalkError}
 use Rattle.rpki_folder.specs.declared.walk_error.WalkError.TheVariants.{Anchor}
@@ -26,8 +34,10 @@ use Rattle.rpki_verdicts.specs.PathFiles.{AreListsOf}
 use Rattle.rpki_verdicts.specs.declared.path.Fault.{Fault}
 use Rattle.rpki_verdicts.specs.declared.unordered.Tree.{Tree}
 use Rattle.rpki_verdicts.specs.declared.unordered.TreeAnswer.{TreeAnswer}
-use Rattle.rpki_verdicts.specs.declared.unordered.TreeAnswer.TheVariants.{NoAnchor, WrongAnchor, Walked}
+use Rattle.rpki_verdicts.specs.declared.unordered.TreeAnswer.TheVariants.{NoAnchor, Walked}
 use Rattle.rpki_verdicts.specs.declared.unordered.TreeQuestion.{TreeQuestion}
+use Rattle.rpki_verdicts.specs.declared.unordered.WrongAnchor.{WrongAnchor}
+pub mod Steps
 
 -- ---- what is asked
 
@@ -78,22 +88,56 @@ IsAnchorOf locators t file = Any (λ l. l.read ≡ Ok t) locators × BeginsWithK
 abbrev pub HasLocator : List LocatorFields → FileFields → Type 0
 HasLocator locators file = (t : NamedTal) × IsAnchorOf locators t file
 
--- no certificate at a place below has
-abbrev pub HasNoneBelow : List LocatorFields → List FileFields → ℕ → Type 0
-HasNoneBelow locators certs n =
-    (k : ℕ) → k < n → (file : FileFields) → slice_get certs k ≡ Some file → HasLocator locators file → ⊥
+-- the certificate at a place has the key of a locator
+pub record IsCandidateAt (locators : List LocatorFields) (certs : List FileFields) (place : ℕ)
+    (file : FileFields) (t : NamedTal) : Type 0 where
+  pub file_is : slice_get certs place ≡ Some file
+  pub locator_is : IsAnchorOf locators t file
 
--- the first of the certificates that has one stands at this place
-pub record IsAnchorAt (locators : List LocatorFields) (certs : List FileFields) (place : ℕ)
-    (anchor : FileFields) (t : NamedTal) : Type 0 where
-  pub anchor_is : slice_get certs place ≡ Some anchor
-  pub locator_is : IsAnchorOf locators t anchor
-  pub first : HasNoneBelow locators certs place
+-- how two certificates stand as trust anchors of a key (own): that with the later notAfter is the
+-- greater one, then that with the later notBefore, and then that with the greater signed octets
+abbrev pub anchor_order : CertFields → CertFields → Ordering
+anchor_order c d =
+    let ends = nat_cmp (second_number c.fields.validity.not_after)
+    (second_number d.fields.validity.not_after) in
+    let begins = nat_cmp (second_number c.fields.validity.not_before)
+    (second_number d.fields.validity.not_before) in
+    ordering_then (ordering_then ends begins)
+    (slice_cmp nat_cmp c.signed_data.message d.signed_data.message)
+
+-- the certificate at a place has the key of a locator, and is valid as its trust anchor
+pub record IsValidAt (x : Context) (asked : RevocationChecks) (locators : List LocatorFields)
+    (certs : List FileFields) (place : ℕ) (file : FileFields) (t : NamedTal)
+    (c : CertFields) : Type 0 where
+  pub candidate : IsCandidateAt locators certs place file t
+  pub begins : Means IsCertificate c file.octets
+  pub is_valid : IsValidAnchor x asked t file.octets
+
+-- the trust anchor stands at this place: a valid one, and no other valid one is greater, wherever
+-- it stands
+pub record IsAnchorAt (x : Context) (asked : RevocationChecks) (locators : List LocatorFields)
+    (certs : List FileFields) (place : ℕ) (anchor : FileFields) (t : NamedTal) : Type 0 where
+  pub cert : CertFields
+  pub valid : IsValidAt x asked locators certs place anchor t cert
+  pub greatest : (k : ℕ) (other : FileFields) (u : NamedTal) (d : CertFields)
+      → IsValidAt x asked locators certs k other u d → anchor_order cert d ≡ Less → ⊥
 
 -- the step, the name and the rule of what is wrong with the trust anchor
 abbrev pub IsAnchorReason : List ℕ → LocatedError → Fault → Type 0
 IsAnchorReason octets OtherKey fault = reason_of fault ≡ locator_reason
 IsAnchorReason octets (path e) fault = IsReason e.fault octets (reason_of fault)
+
+-- the file is wrong so as the trust anchor of a locator
+pub record IsWrongAs (x : Context) (asked : RevocationChecks) (t : NamedTal) (file : FileFields)
+    (fault : Fault) : Type 0 where
+  pub error : LocatedError
+  pub why : IsWhyNone x asked t file.octets (Anchor error)
+  pub reason_is : IsAnchorReason file.octets error fault
+
+-- the file has the key of one of the locators, and is wrong so as its trust anchor
+abbrev pub IsWrongOf : Context → RevocationChecks → List LocatorFields → FileFields → Fault → Type 0
+IsWrongOf x asked locators file fault =
+    (t : NamedTal) × IsAnchorOf locators t file × IsWrongAs x asked t file fault
 
 -- ---- the answer
 
@@ -105,46 +149,40 @@ certs_of tree = map (λ file. file.now) tree.certs.items
 abbrev pub every : List ℕ → ℕ → Type 0
 every above place = Unit {0}
 
--- The tree of the files: the trust anchor is valid; a walk down from it over all certificates among
--- them, with all lists among them, told verdicts that are right and complete; and the line of each
--- certificate is kept of these.
+-- The tree of the files: the trust anchor is a valid one of those that have the key of a locator; a
+-- walk down from it over all certificates among them, with all lists among them, told verdicts that
+-- are right and complete; and the line of each certificate is kept of these.
 pub record IsTreeOf (x : Context) (q : TreeFields) (tree : Tree) : Type 0 where
   pub certs_are : AreCertificatesOf q.files (certs_of tree)
   pub lists : List CrlState
   pub lists_are : AreListsOf (contents q.files) lists
   pub anchor : FileFields
   pub locator : NamedTal
-  pub anchor_is : IsAnchorAt q.locators (certs_of tree) tree.anchor anchor locator
-  pub is_valid : IsValidAnchor x (by_lists x lists) locator anchor.octets
+  pub anchor_is : IsAnchorAt x (by_lists x lists) q.locators (certs_of tree) tree.anchor anchor
+      locator
   pub told : List Told
   pub tells : Tells {E = WalkError} x (by_lists x lists) every (at_anchor locator anchor.octets)
       (contents (certs_of tree)) [] q.depth q.steps (Ok tree.ended) told
   pub count_is : length tree.lines ≡ length (certs_of tree)
   pub lines_are : AreLines told tree.lines
 
--- none of the certificates among the files has the key of a locator
-abbrev pub HasNoAnchor : TreeFields → Type 0
-HasNoAnchor q =
-    (certs : List FileFields) × AreCertificatesOf q.files certs
-    × HasNoneBelow q.locators certs (length certs)
-
--- the file is the trust anchor among the files, and is wrong so
-pub record IsWrongAnchor (x : Context) (q : TreeFields) (anchor : FileFields) (fault : Fault) : Type 0 where
+-- none of the certificates among the files is a valid trust anchor of a locator: these have the key
+-- of one, each with what is wrong with it
+pub record HasNoAnchor (x : Context) (q : TreeFields) (wrong : List WrongAnchor) : Type 0 where
   pub certs : List FileFields
   pub certs_are : AreCertificatesOf q.files certs
   pub lists : List CrlState
   pub lists_are : AreListsOf (contents q.files) lists
-  pub place : ℕ
-  pub locator : NamedTal
-  pub anchor_is : IsAnchorAt q.locators certs place anchor locator
-  pub error : LocatedError
-  pub why : IsWhyNone x (by_lists x lists) locator anchor.octets (Anchor error)
-  pub reason_is : IsAnchorReason anchor.octets error fault
+  pub wrong_are : AllByRecursion
+      (λ w. IsWrongOf x (by_lists x lists) q.locators w.file.now w.fault) wrong
+  pub all : (place : ℕ) (file : FileFields) (t : NamedTal)
+      → IsCandidateAt q.locators certs place file t → Any (λ w. w.file.now ≡ file) wrong
+  pub none : (place : ℕ) (file : FileFields) (t : NamedTal) (c : CertFields)
+      → IsValidAt x (by_lists x lists) q.locators certs place file t c → ⊥
 
 -- what is answered of the files
 abbrev pub IsTreeAnswer : Context → TreeFields → TreeAnswer → Type 0
-IsTreeAnswer x q NoAnchor = HasNoAnchor q
-IsTreeAnswer x q (WrongAnchor anchor fault) = IsWrongAnchor x q anchor.now fault
+IsTreeAnswer x q (NoAnchor wrong) = HasNoAnchor x q wrong.items
 IsTreeAnswer x q (Walked tree) = IsTreeOf x q tree
 
 -- ---- what is accepted

@@ -15,4 +15,4 @@ pub use path::{
     one_acceptance, one_answer,
 };
 pub use search::{Sought, seek};
-pub use unordered::{Tree, TreeAnswer, TreeQuestion, judge_all};
+pub use unordered::{Tree, TreeAnswer, TreeQuestion, WrongAnchor, judge_all};

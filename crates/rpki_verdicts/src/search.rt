@@ -5,10 +5,10 @@ ghost use Rattle.rpki_keys.specs.RsaSignatures.{IsSignedByRsa};
 ghost use Rattle.rpki_cert.specs.Verification.{context};
 ghost use Rattle.rpki_files.specs.Contents.{BeginsWithCertificate, IsList};
 ghost use Rattle.rpki_files.specs.Files.{FileFields};
-ghost use Rattle.rpki_verdicts.specs.Searches.{AreAbove, HasKeyAt, HasKeyNamed, HasNoIssuer, HaveNoneKeyed, IsFirstKeyed, IsIssuerAt, IsNamedPath, IsSoughtPath, IsTreeWith, StandsAlone, above_by, files_at};
+ghost use Rattle.rpki_verdicts.specs.Searches.{AreAbove, HasKeyAt, HasKeyNamed, HasNoIssuer, HaveNoneKeyed, IsFirstKeyed, IsIssuerAt, IsNamedPath, IsSoughtPath, IsTreeWith, StandsAlone, above_by, files_at, first_wrong};
 ghost use Rattle.rpki_verdicts.specs.Trees.{IsTreeAnswer, asked_of, certs_of};
 
-use crate::unordered::{Tree, TreeAnswer, TreeQuestion, judge_all, locator_of};
+use crate::unordered::{Tree, TreeAnswer, TreeQuestion, WrongAnchor, judge_all, locator_of};
 use rpki_cert::laws;
 use rpki_files::{BareObject, Front};
 use rpki_folder::{Ended, Line};
@@ -298,6 +298,21 @@ fn path_in<'q, 'n>(
     }
 }
 
+// The file below the first of the certificates that are wrong as trust anchors, where there is one.
+fn path_without_anchor<'q, 'n>(
+    alloc: Global,
+    wrong: &[WrongAnchor<'q, 'n>],
+    file: &'q BareObject<'n>,
+) -> Result<Vec<&'q BareObject<'n>>, AllocError>
+    ensures { IfOk result (λ path. map (λ f. f.now) path.items
+        ≡ first_wrong wrong.now ++ file.now ∷ []) }
+{
+    match wrong.first() {
+        Some(anchor) => pair(alloc, anchor.file, file),
+        None => alone(alloc, file),
+    }
+}
+
 // The path to the first file, which begins with a certificate, by the answer on all.
 fn path_by<'q, 'n>(
     alloc: Global,
@@ -314,15 +329,14 @@ fn path_by<'q, 'n>(
         IsSoughtPath x (asked_of question.now) file.now path sought.ended) }
 {
     match answer {
-        TreeAnswer::NoAnchor => Ok(whole(alone(alloc, file)?)),
-        TreeAnswer::WrongAnchor(anchor, _) => Ok(whole(pair(alloc, *anchor, file)?)),
+        TreeAnswer::NoAnchor(wrong) => Ok(whole(path_without_anchor(alloc, wrong, file)?)),
         TreeAnswer::Walked(tree) => path_in(alloc, question, tree, file),
     }
 }
 
 /// Seeks the path to the first of the files among the others, in whatever order they are: from the
-/// trust anchor, the first of them whose key is that of one of the locators (RFC 8630 3), down to
-/// it, with real signatures and with the revocation lists among the files. Where no valid path
+/// trust anchor ([`judge_all`]) down to it, with real signatures and with the revocation lists among
+/// the files. Where no valid path
 /// leads to it, gives files that end in it, of which [`crate::judge`] tells what is wrong: those
 /// that name one another as signers, or it alone; and whether the walk met a bound of the question
 /// before it had looked at every path. Gives none where there is no file. Errs only where memory

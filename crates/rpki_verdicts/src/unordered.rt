@@ -1,6 +1,6 @@
 //! Files in no order: the trust anchor among them, and the verdict on every certificate below it,
 //! with real signatures and with the revocation lists among them.
-ghost use Rattle.std.specs.Prelude.{◌≡◌, ◌↔◌, ◌++◌, ◌∷◌, [], true, List, length, map, IfOk, IfErr, IfSome, IfNone, OnOk, IsTrue};
+ghost use Rattle.std.specs.Prelude.{◌≡◌, ◌↔◌, ◌++◌, ◌∷◌, [], true, List, length, map, IfOk, IfSome, IfNone, OnOk, IsTrue};
 ghost use Rattle.rpki_path.specs.AskedLists.{by_lists};
 ghost use Rattle.rpki_folder.specs.Folders.{with_cert, with_list};
 ghost use Rattle.rpki_folder.specs.KeptLines.{BecameLines};
@@ -9,15 +9,16 @@ ghost use Rattle.rpki_keys.specs.RsaSignatures.{IsSignedByRsa};
 ghost use Rattle.rpki_cert.specs.SaidKinds.{BeginsWithSaid};
 ghost use Rattle.rpki_cert.specs.Verification.{context};
 ghost use Rattle.rpki_folder.specs.declared.walk_error.WalkError.TheVariants.{Anchor};
-ghost use Rattle.rpki_folder.specs.Walks.{Told, Tells, IsValidAnchor, IsWhyNone, at_anchor};
+ghost use Rattle.rpki_folder.specs.Walks.{Told, TellsBelow};
 ghost use Rattle.rpki_files.specs.Contents.{IsList};
 ghost use Rattle.rpki_files.specs.Files.{FileFields};
-ghost use Rattle.rpki_verdicts.specs.Trees.{AllAccepted, accepted_count, accepts, asked_of, HasLocator, HasNoneBelow, IsAnchorAt, IsAnchorOf, IsAnchorReason, IsFolderOf, IsTreeAnswer, every};
+ghost use Rattle.rpki_verdicts.specs.Trees.{AllAccepted, accepted_count, accepts, anchor_order, asked_of, HasLocator, IsAnchorOf, IsAnchorReason, IsFolderOf, IsTreeAnswer, every};
+ghost use Rattle.rpki_verdicts.specs.Trees.Steps.{AreTried, IsKept, IsTried, TakesPlace};
 
 use crate::locators::{GivenLocator, tal_of_key};
 use crate::path::{Fault, other_key, with_table};
 use crate::reasons::of_path;
-use rpki_cert::{Said, laws};
+use rpki_cert::{Cert, ResourceCert, Said, laws};
 use rpki_crl::Crl;
 use rpki_der::Time;
 use rpki_files::{BareObject, Front};
@@ -26,6 +27,8 @@ use rpki_keys::RsaVerifier;
 use rpki_keys::tal::Tal;
 use rpki_path::{LocatedError, Member};
 use std::alloc::{AllocError, Global};
+use std::cmp::Ordering;
+use std::mem;
 
 /// What is asked of files in no order: the files, the locators, whether they are read strictly, the
 /// moment, how many certificates a path has at most below the trust anchor, and how many are
@@ -53,13 +56,45 @@ pub struct Tree<'q, 'n> {
     pub ended: Ended,
 }
 
-/// The answer: that no certificate has the key of a locator; or the file whose certificate is the
-/// first that has it, and what is wrong with it as a trust anchor; or the verdicts.
+/// A file whose certificate has the key of a locator, and what is wrong with it as a trust anchor.
+#[derive(Drop)]
+pub struct WrongAnchor<'q, 'n> {
+    pub file: &'q BareObject<'n>,
+    pub fault: Fault,
+}
+
+/// The answer: that no certificate is a valid trust anchor of a locator, with each that has the key
+/// of one; or the verdicts.
 #[derive(Drop)]
 pub enum TreeAnswer<'q, 'n> {
-    NoAnchor,
-    WrongAnchor(&'q BareObject<'n>, Fault),
+    NoAnchor(Vec<WrongAnchor<'q, 'n>>),
     Walked(Tree<'q, 'n>),
+}
+
+// A valid trust anchor: its place, its file, the locator, and what it holds.
+#[derive(Drop)]
+struct ValidAnchor<'q, 'n> {
+    place: usize,
+    file: &'q BareObject<'n>,
+    tal: &'q Tal,
+    issuer: ResourceCert,
+}
+
+// What was found of certificates as trust anchors: which of the valid ones is taken, and those that
+// are wrong.
+#[derive(Drop)]
+struct Candidates<'q, 'n> {
+    best: Option<ValidAnchor<'q, 'n>>,
+    wrong: Vec<WrongAnchor<'q, 'n>>,
+}
+
+// What is found of a certificate: it has the key of no locator; it is a valid trust anchor of this
+// one, and holds this; or it is wrong so.
+#[derive(Drop)]
+enum Tried<'q> {
+    OtherKey,
+    Valid(&'q Tal, ResourceCert),
+    Wrong(Fault),
 }
 
 // Adds a file's certificate to a folder, and the file to those that begin with one.
@@ -163,50 +198,19 @@ pub(crate) fn locator_of<'q>(
     }
 }
 
-// The first certificate that has the key of a locator: its place and its file, and the locator.
-fn anchor_of<'q, 'n>(
-    alloc: Global,
-    locators: &'q [GivenLocator<'n>],
-    certs: &[&'q BareObject<'n>],
-) -> Result<Option<(usize, &'q BareObject<'n>, &'q Tal)>, AllocError>
-    ensures found { let files = map (λ f. f.now) certs.now in IfOk result (λ anchor.
-        IfSome anchor (λ found.
-        IsAnchorAt locators.now files found.0 found.1.now found.2.now)) }
-    ensures none { let files = map (λ f. f.now) certs.now in IfOk result (λ anchor.
-        IfNone anchor (HasNoneBelow locators.now files (length files))) }
-{
-    for (place, file) in certs.iter().enumerate() {
-        let found = locator_of(alloc, locators, *file)?;
-        if let Some(tal) = found {
-            return Ok(Some((place, *file, tal)));
-        }
-    }
-    Ok(None)
-}
-
-// Walks down from the trust anchor, and keeps the lines.
-fn walked(
+// The walk that a question asks for.
+fn walk_of<'w>(
     alloc: Global,
     question: &TreeQuestion<'_, '_>,
-    folder: &Folder,
-    tal: &Tal,
-    anchor: &BareObject<'_>,
-    lines: &mut Lines,
-) -> Result<Ended, WalkError>
-    ensures tells { let q = question.now in
-        let x = context IsSignedByRsa q.at q.strict in
-        let asked = by_lists x folder.now.lists in
-        let root = at_anchor tal.now anchor.now.octets in
-        (told : List Told) × BecameLines lines.old told lines.new
-        × Tells x asked every root folder.now.certs [] q.depth q.steps result told }
-    ensures anchor { let x = context IsSignedByRsa question.now.at question.now.strict in
-        let asked = by_lists x folder.now.lists in
-        IfOk result (λ _. IsValidAnchor x asked tal.now anchor.now.octets) }
-    ensures fault { let x = context IsSignedByRsa question.now.at question.now.strict in
-        let asked = by_lists x folder.now.lists in
-        IfErr result (IsWhyNone x asked tal.now anchor.now.octets) }
+    folder: &'w Folder,
+) -> Walk<'w, AllAdmitted, RsaVerifier>
+    ensures folder { result.folder.now ≡ folder.now }
+    ensures strict { result.strict ≡ question.now.strict }
+    ensures at { result.at ≡ question.now.at }
+    ensures depth { result.bounds.depth ≡ question.now.depth }
+    ensures steps { result.bounds.steps ≡ question.now.steps }
 {
-    let walk = Walk {
+    Walk {
         alloc,
         folder,
         admission: &AllAdmitted,
@@ -217,8 +221,7 @@ fn walked(
         strict: question.strict,
         at: question.at,
         verifier: &RsaVerifier,
-    };
-    walk.from_anchor(tal, &Member::of(anchor.octets()), lines)
+    }
 }
 
 // What is told of the trust anchor, unless memory ran out.
@@ -242,6 +245,133 @@ fn wrong_anchor(error: WalkError, anchor: &BareObject<'_>) -> Result<Fault, Allo
     }
 }
 
+// What is found of the certificate with which a file begins, as a trust anchor.
+fn try_anchor<'q, 'n>(
+    alloc: Global,
+    question: &TreeQuestion<'q, 'n>,
+    folder: &Folder,
+    file: &BareObject<'_>,
+) -> Result<Tried<'q>, AllocError>
+    ensures { let x = context IsSignedByRsa question.now.at question.now.strict in
+        IfOk result (IsTried x (by_lists x folder.now.lists) question.now.locators.now file.now) }
+{
+    let Some(tal) = locator_of(alloc, question.locators, file)? else {
+        return Ok(Tried::OtherKey);
+    };
+    let walk = walk_of(alloc, question, folder);
+    match walk.trust_anchor(tal, &Member::of(file.octets())) {
+        Ok(issuer) => Ok(Tried::Valid(tal, issuer)),
+        Err(error) => Ok(Tried::Wrong(wrong_anchor(error, file)?)),
+    }
+}
+
+// How two certificates stand as trust anchors: that which is valid longer is the greater one, then
+// that which began later, and then that whose signed octets are greater.
+fn order(one: &Cert, other: &Cert) -> Ordering
+    ensures { result ≡ anchor_order one.now other.now }
+{
+    let validity = one.as_tbs().validity();
+    let others = other.as_tbs().validity();
+    validity
+        .not_after()
+        .cmp(&others.not_after())
+        .then(validity.not_before().cmp(&others.not_before()))
+        .then(one.signed_data().data().cmp(other.signed_data().data()))
+}
+
+// Whether the first of two is the lesser one.
+fn is_less(order: Ordering) -> bool
+    ensures { IsTrue result ↔ (order ≡ Ordering.Less) }
+{
+    match order {
+        Ordering::Less => true,
+        Ordering::Equal | Ordering::Greater => false,
+    }
+}
+
+// Whether a valid trust anchor takes the place of the one that was found before.
+fn takes_place(best: &Option<ValidAnchor<'_, '_>>, issuer: &ResourceCert) -> bool
+    ensures { IsTrue result ↔ TakesPlace best.now issuer.now }
+{
+    match best {
+        Some(anchor) => is_less(order(anchor.issuer.as_cert(), issuer.as_cert())),
+        None => true,
+    }
+}
+
+// Keeps what was found of the certificate at a place.
+fn keep<'q, 'n>(
+    found: &mut Candidates<'q, 'n>,
+    place: usize,
+    file: &'q BareObject<'n>,
+    tried: Tried<'q>,
+) -> Result<(), AllocError>
+    ensures { OnOk result (IsKept found.old place file.now tried.entry found.new) }
+{
+    match tried {
+        Tried::OtherKey => Ok(()),
+        Tried::Wrong(fault) => {
+            found.wrong.push(WrongAnchor { file, fault })?;
+            Ok(())
+        }
+        Tried::Valid(tal, issuer) => {
+            if !takes_place(&found.best, &issuer) {
+                drop(issuer);
+                return Ok(());
+            }
+            let anchor = ValidAnchor {
+                place,
+                file,
+                tal,
+                issuer,
+            };
+            drop(mem::replace(&mut found.best, Some(anchor)));
+            Ok(())
+        }
+    }
+}
+
+// What is found of the certificates as trust anchors.
+fn find_anchors<'q, 'n>(
+    alloc: Global,
+    question: &TreeQuestion<'q, 'n>,
+    folder: &Folder,
+    certs: &[&'q BareObject<'n>],
+) -> Result<Candidates<'q, 'n>, AllocError>
+    ensures { let x = context IsSignedByRsa question.now.at question.now.strict in
+        let files = map (λ f. f.now) certs.now in
+        let asked = by_lists x folder.now.lists in
+        IfOk result (AreTried x asked question.now.locators.now files (length files)) }
+{
+    laws::unambiguous();
+    let mut found = Candidates {
+        best: None,
+        wrong: Vec::new(alloc),
+    };
+    for (place, file) in certs.iter().enumerate() {
+        let tried = try_anchor(alloc, question, folder, *file)?;
+        keep(&mut found, place, *file, tried)?;
+    }
+    Ok(found)
+}
+
+// Walks down from the trust anchor, and keeps the lines.
+fn walked(
+    alloc: Global,
+    question: &TreeQuestion<'_, '_>,
+    folder: &Folder,
+    anchor: &ResourceCert,
+    lines: &mut Lines,
+) -> Result<Ended, AllocError>
+    ensures { let q = question.now in
+        let x = context IsSignedByRsa q.at q.strict in
+        let asked = by_lists x folder.now.lists in
+        (told : List Told) × BecameLines lines.old told lines.new
+        × TellsBelow x asked every anchor.now folder.now.certs [] q.depth q.steps result told }
+{
+    walk_of(alloc, question, folder).below(anchor, lines)
+}
+
 // The tree of the files that a folder was filled with.
 fn grown<'q, 'n>(
     alloc: Global,
@@ -253,32 +383,28 @@ fn grown<'q, 'n>(
     ensures { let x = context IsSignedByRsa question.now.at question.now.strict in
         IfOk result (IsTreeAnswer x (asked_of question.now)) }
 {
-    let found = anchor_of(alloc, question.locators, &certs)?;
-    let Some((place, anchor, tal)) = found else {
+    let Candidates { best, wrong } = find_anchors(alloc, question, folder, &certs)?;
+    let Some(anchor) = best else {
         drop(certs);
-        return Ok(TreeAnswer::NoAnchor);
+        return Ok(TreeAnswer::NoAnchor(wrong));
     };
+    drop(wrong);
     let mut lines = Lines::new(alloc, certs.len())?;
-    match walked(alloc, question, folder, tal, anchor, &mut lines) {
-        Ok(ended) => Ok(TreeAnswer::Walked(Tree {
-            certs,
-            anchor: place,
-            lines,
-            ended,
-        })),
-        Err(error) => {
-            drop(lines);
-            drop(certs);
-            let fault = wrong_anchor(error, anchor)?;
-            Ok(TreeAnswer::WrongAnchor(anchor, fault))
-        }
-    }
+    let ended = walked(alloc, question, folder, &anchor.issuer, &mut lines)?;
+    Ok(TreeAnswer::Walked(Tree {
+        certs,
+        anchor: anchor.place,
+        lines,
+        ended,
+    }))
 }
 
-/// Judges every certificate among files, in whatever order they are: finds the trust anchor, the
-/// first of them whose key is that of one of the locators (RFC 8630 3), and walks down from it,
-/// with real signatures and with the revocation lists among the files. Of names and of the last key
-/// nothing is asked here. Errs only where memory runs out.
+/// Judges every certificate among files, in whatever order they are: finds the trust anchor, and
+/// walks down from it, with real signatures and with the revocation lists among the files. The
+/// trust anchor is a certificate that has the key of one of the locators (RFC 8630 3) and is valid;
+/// of several the one that is valid longest, then the one that began last, and then the one whose
+/// signed octets are greatest. Of names and of the last key nothing is asked here. Errs only where
+/// memory runs out.
 pub fn judge_all<'q, 'n>(
     alloc: Global,
     question: &TreeQuestion<'q, 'n>,

@@ -1,9 +1,9 @@
 //! What is found of files in no order, as JSON.
 ghost use Rattle.std.specs.Prelude.{◌≡◌, ◌≤◌, ◌<◌, ◌+◌, ◌^◌, [], ℕ, false, List, IfOk, OnOk, map, option_map, string_bytes};
-ghost use Rattle.std.specs.List.{AllByRecursion};
+ghost use Rattle.std.specs.List.{AllByRecursion, flat_map};
 ghost use Rattle.serde_json.specs.View.{view};
 ghost use Rattle.serde_json.specs.Written.{has_float};
-ghost use Rattle.rpki_answers.specs.JsonTrees.{AreCertificateMembers, AreFileMembers, AreFrontMembers, AreLineMembers, AreTreeItems, IsFileItem, IsTreeJson, accepted_members, end_members, ended_word, name_item, name_items, no_anchor_json, rejected_members, summary_members, tree_json_text, unjudged_members, wrong_anchor_json};
+ghost use Rattle.rpki_answers.specs.JsonTrees.{AreCertificateMembers, AreFileMembers, AreFrontMembers, AreLineMembers, AreTreeItems, IsFileItem, IsTreeJson, accepted_members, end_members, ended_word, name_item, name_items, no_anchor_json, rejected_members, summary_members, tree_json_text, unjudged_members, unseen_word, why_json, wrong_anchor_json, wrong_items};
 ghost use Rattle.rpki_answers.specs.JsonValues.{Pair, Puts, Pushes};
 ghost use Rattle.rpki_answers.specs.JsonVerdicts.{PushesSome, PutsSome};
 ghost use Rattle.rpki_answers.specs.TreeTexts.{SaysInOrder};
@@ -23,7 +23,7 @@ use rpki_folder::{Ended, Line};
 use rpki_path::PathFault;
 use rpki_text::command_line::Format;
 use rpki_verdicts::reasons::of_path;
-use rpki_verdicts::{Fault, Tree, TreeAnswer, TreeQuestion};
+use rpki_verdicts::{Fault, Tree, TreeAnswer, TreeQuestion, WrongAnchor};
 use serde_json::Value;
 use std::alloc::{AllocError, Global};
 
@@ -98,6 +98,29 @@ fn put_rejected(
     out.text("standard", rule.section)
 }
 
+// That a trust anchor is rejected, and why.
+fn put_fault(out: &mut Members, fault: &Fault) -> Result<(), AllocError>
+    ensures { let its = rejected_members 0 (reason_of fault.now) in
+        OnOk result (Puts its out.old out.new) }
+{
+    out.text("verdict", "rejected")?;
+    out.value("member", Value::from(0_u64))?;
+    out.text("step", fault.step)?;
+    out.text("fault", fault.name)?;
+    out.text("why", fault.rule.says)?;
+    out.text("standard", fault.rule.section)
+}
+
+// What is said of a certificate to which the walk didn't come.
+fn unseen_word(ended: Ended) -> &'static str
+    ensures { result.now ≡ unseen_word ended }
+{
+    match ended {
+        Ended::Whole => "no_issuer",
+        Ended::TooDeep | Ended::OutOfSteps => "not_reached",
+    }
+}
+
 // What the line of a certificate says.
 fn put_line(
     out: &mut Members,
@@ -113,7 +136,7 @@ fn put_line(
     match line {
         Some(Line::Accepted(above)) => put_accepted(out, alloc, tree, above),
         Some(Line::Rejected(member, fault)) => put_rejected(out, file, *member, fault),
-        Some(Line::Unseen) | None => out.text("verdict", "no_issuer"),
+        Some(Line::Unseen) | None => out.text("verdict", unseen_word(tree.ended)),
     }
 }
 
@@ -233,6 +256,32 @@ fn values_of(
     Ok(values)
 }
 
+// Pushes the value of a file that has the key of a locator, and is wrong as its trust anchor.
+fn push_wrong(
+    alloc: Global,
+    values: &mut Vec<Value>,
+    anchor: &WrongAnchor<'_, '_>,
+) -> Result<(), AllocError>
+    ensures { OnOk result (Pushes (wrong_items anchor.now) values.old.items values.new.items) }
+{
+    let mut out = Members::new(alloc);
+    out.text("file", anchor.file.name())?;
+    put_fault(&mut out, &anchor.fault)?;
+    values.push(out.into_value())?;
+    Ok(())
+}
+
+// The values of the files that have the key of a locator, where none is valid.
+fn values_of_wrong(alloc: Global, wrong: &[WrongAnchor<'_, '_>]) -> Result<Vec<Value>, AllocError>
+    ensures { IfOk result (λ values. map view values.items ≡ flat_map wrong_items wrong.now) }
+{
+    let mut values = Vec::new(alloc);
+    for anchor in wrong {
+        push_wrong(alloc, &mut values, anchor)?;
+    }
+    Ok(values)
+}
+
 // The values of the files, where they are judged.
 fn items_of(
     alloc: Global,
@@ -244,8 +293,8 @@ fn items_of(
 {
     match finding {
         TreeFinding::Answered(TreeAnswer::Walked(tree)) => values_of(alloc, tree, question.files),
-        TreeFinding::Answered(TreeAnswer::NoAnchor | TreeAnswer::WrongAnchor(..))
-        | TreeFinding::NotALocator(_) => Ok(Vec::new(alloc)),
+        TreeFinding::Answered(TreeAnswer::NoAnchor(wrong)) => values_of_wrong(alloc, wrong),
+        TreeFinding::NotALocator(_) => Ok(Vec::new(alloc)),
     }
 }
 
@@ -287,7 +336,7 @@ fn no_anchor(alloc: Global) -> Result<Value, AllocError>
     Ok(out.into_value())
 }
 
-// Why nothing is judged where the trust anchor is wrong.
+// Why nothing is judged where a trust anchor is wrong.
 fn wrong_anchor(alloc: Global, anchor: &BareObject<'_>, fault: &Fault) -> Result<Value, AllocError>
     ensures { IfOk result (λ made.
         view made ≡ wrong_anchor_json anchor.now (reason_of fault.now)) }
@@ -299,6 +348,16 @@ fn wrong_anchor(alloc: Global, anchor: &BareObject<'_>, fault: &Fault) -> Result
     out.text("why", fault.rule.says)?;
     out.text("standard", fault.rule.section)?;
     Ok(out.into_value())
+}
+
+// Why nothing is judged where no trust anchor is valid.
+fn why_no_anchor(alloc: Global, wrong: &[WrongAnchor<'_, '_>]) -> Result<Value, AllocError>
+    ensures { IfOk result (λ made. view made ≡ why_json wrong.now) }
+{
+    match wrong.first() {
+        Some(anchor) => wrong_anchor(alloc, anchor.file, &anchor.fault),
+        None => no_anchor(alloc),
+    }
 }
 
 // That nothing is judged, the files given as locators that are none, and why.
@@ -337,10 +396,7 @@ fn put_summary(
         TreeFinding::Answered(TreeAnswer::Walked(tree)) => {
             return put_end(out, question.at, tree);
         }
-        TreeFinding::Answered(TreeAnswer::NoAnchor) => no_anchor(alloc)?,
-        TreeFinding::Answered(TreeAnswer::WrongAnchor(anchor, fault)) => {
-            wrong_anchor(alloc, *anchor, fault)?
-        }
+        TreeFinding::Answered(TreeAnswer::NoAnchor(wrong)) => why_no_anchor(alloc, wrong)?,
         TreeFinding::NotALocator(fault) => no_locator(alloc, fault)?,
     };
     put_unjudged(out, alloc, question, why)

@@ -8,4 +8,4 @@ returns-then-not-is_certificate-clause-alone c = λ yes.
     inr (inl (λ begins. false≢true (sym c.if-not-is_certificate.true ∙ c.is_certificate.ensures.1 begins)))
 
 pub returns-clause-alone : goal.returns-clause-alone
-returns-clause-alone c = λ yes. inr (inr (inl (c.has_list.ensures (no_list_here c.has_list.result yes))))
+returns-clause-alone c = λ yes. inr (inr (c.has_list.ensures (no_list_here c.has_list.result yes)))
