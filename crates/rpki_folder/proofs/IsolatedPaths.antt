@@ -110,10 +110,16 @@ module _ (x : Context) (issuer : TbsFields) (c : CertFields) where
     pub unrevoked_there : IsUnrevokedBy (by_lists x others) issuer c
     unrevoked_there = (
       (asked_there.list, asked_there.asked),
-      (checked WrongKeyId free.1.0,
-      (checked BadSignature free.1.1.0,
-      ((begun, checked Stale free.1.1.1.0.1),
-      (checked Revoked free.1.1.1.1.0, tt)))),
+      (
+        checked WrongKeyId free.1.0,
+        (
+          checked BadSignature free.1.1.0,
+          (
+            (begun, checked Stale free.1.1.1.0.1),
+            (checked Revoked free.1.1.1.1.0, tt),
+          ),
+        ),
+      ),
     )
 
 -- ---- what strangers add

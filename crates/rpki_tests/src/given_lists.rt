@@ -12,15 +12,13 @@ use std::alloc::Global;
 use std::process::Abort;
 
 // A list that names the trust anchor's key, `abc`: its number, the years from which and to which it
-// goes, the key that signs it, the key whose name its issuer has, and whether it revokes the serial
-// numbers 12 and 42, or nothing.
+// goes, the key that signs it, and whether it revokes the serial numbers 12 and 42, or nothing.
 #[derive(Clone, Copy)]
 struct Given {
     number: u64,
     since: i32,
     until: i32,
     key: &'static [u8],
-    named: &'static [u8],
     revokes: bool,
 }
 
@@ -30,7 +28,6 @@ fn revoking(number: u64, since: i32, until: i32) -> Given {
         since,
         until,
         key: b"abc",
-        named: b"abc",
         revokes: true,
     }
 }
@@ -50,18 +47,8 @@ fn foreign(number: u64, since: i32, until: i32) -> Given {
     }
 }
 
-// Of another issuer name.
-fn misnamed(number: u64, since: i32, until: i32) -> Given {
-    Given {
-        named: b"ab",
-        ..plain(number, since, until)
-    }
-}
-
 fn list(rt: &impl Abort, alloc: Global, given: Given) -> Crl {
     let mut data = lists::data(rt, alloc);
-    let issuer = rsa(given.named).to_subject_name(alloc);
-    data.set_issuer(issuer.expect(rt, "a name"));
     if !given.revokes {
         data.set_revoked_certs(Vec::new(alloc));
     }
@@ -80,11 +67,11 @@ fn member(rt: &impl Abort, alloc: Global) -> Cert {
     Cert::decode_shared(alloc, octets).expect(rt, "a certificate")
 }
 
-// What these lists answer of that certificate in 2024, with or without names.
-fn asked(rt: &impl Abort, alloc: Global, lists: &[Crl], names: bool) -> &'static str {
+// What these lists answer of that certificate in 2024.
+fn asked(rt: &impl Abort, alloc: Global, lists: &[Crl]) -> &'static str {
     let issuer = anchor(rt, alloc);
     let cert = member(rt, alloc);
-    let answer = GivenLists::with_names(lists, names).ask(&cert, &issuer, true, now(rt), &StandIn);
+    let answer = GivenLists::new(lists).ask(&cert, &issuer, true, now(rt), &StandIn);
     drop(cert);
     drop(issuer);
     match answer {
@@ -93,30 +80,22 @@ fn asked(rt: &impl Abort, alloc: Global, lists: &[Crl], names: bool) -> &'static
     }
 }
 
-fn assert_both(
-    rt: &impl Abort,
-    alloc: Global,
-    one: Given,
-    other: Given,
-    names: bool,
-    wanted: &str,
-) {
+fn assert_both(rt: &impl Abort, alloc: Global, one: Given, other: Given, wanted: &str) {
     let given = [list(rt, alloc, one), list(rt, alloc, other)];
-    assert_eq!(rt; asked(rt, alloc, &given, names), wanted);
+    assert_eq!(rt; asked(rt, alloc, &given), wanted);
     let [one, other] = given;
     let turned = [other, one];
-    assert_eq!(rt; asked(rt, alloc, &turned, names), wanted);
+    assert_eq!(rt; asked(rt, alloc, &turned), wanted);
     let [other, one] = turned;
     drop(one);
     drop(other);
 }
 
-// That both orders of each two lists give the answer behind them, with and without names.
+// That both orders of each two lists give the answer behind them.
 macro_rules! assert_answers {
     ($rt:ident: $($one:expr, $other:expr => $wanted:literal;)*) => {
         for (one, other, wanted) in [$(($one, $other, $wanted)),*] {
-            assert_both(&$rt, $rt.alloc(), one, other, false, wanted);
-            assert_both(&$rt, $rt.alloc(), one, other, true, wanted);
+            assert_both(&$rt, $rt.alloc(), one, other, wanted);
         }
     };
 }
@@ -124,7 +103,7 @@ macro_rules! assert_answers {
 #[test]
 fn no_list_is_no_answer(rt: HostRuntime) {
     let none: [Crl; 0] = [];
-    assert_eq!(rt; asked(&rt, rt.alloc(), &none, true), "NoCrl");
+    assert_eq!(rt; asked(&rt, rt.alloc(), &none), "NoCrl");
 }
 
 #[test]
@@ -162,7 +141,7 @@ fn of_one_number_one_is_asked(rt: HostRuntime) {
 
 fn assert_alone(rt: &impl Abort, alloc: Global, given: Given, wanted: &str) {
     let lists = [list(rt, alloc, given)];
-    assert_eq!(rt; asked(rt, alloc, &lists, true), wanted);
+    assert_eq!(rt; asked(rt, alloc, &lists), wanted);
     let [list] = lists;
     drop(list);
 }
@@ -181,26 +160,4 @@ fn of_lists_that_cannot_be_asked_each_has_to_be_signed(rt: HostRuntime) {
         plain(1, 2025, 2029), foreign(2, 2026, 2029) => "BadSignature";
         plain(1, 2025, 2029), revoking(2, 2026, 2029) => "Stale";
     }
-}
-
-#[test]
-fn a_list_of_another_name_supersedes_none(rt: HostRuntime) {
-    assert_alone(&rt, rt.alloc(), misnamed(1, 2019, 2029), "NoCrl");
-    assert_alone(&rt, rt.alloc(), misnamed(1, 2019, 2023), "NoCrl");
-    for (one, other, wanted) in [
-        (revoking(1, 2019, 2029), misnamed(2, 2020, 2029), "Revoked"),
-        (revoking(2, 2019, 2029), misnamed(1, 2020, 2029), "Revoked"),
-        (plain(1, 2019, 2029), misnamed(2, 2020, 2023), "Ok"),
-        (plain(1, 2025, 2029), misnamed(2, 2020, 2029), "Stale"),
-        (foreign(1, 2019, 2029), misnamed(2, 2020, 2029), "BadSignature"),
-    ] {
-        assert_both(&rt, rt.alloc(), one, other, true, wanted);
-    }
-}
-
-#[test]
-fn names_of_lists_are_waived(rt: HostRuntime) {
-    let one = misnamed(2, 2019, 2029);
-    assert_both(&rt, rt.alloc(), one, revoking(1, 2019, 2029), false, "Ok");
-    assert_both(&rt, rt.alloc(), one, revoking(3, 2019, 2029), false, "Revoked");
 }

@@ -11,7 +11,7 @@ mod unordered;
 
 pub use locators::GivenLocator;
 pub use path::{
-    Fault, Question, Verdict, accepted_are_unrevoked, first_no_locator, judge, located,
+    Fault, Question, Verdict, accepted_are_unrevoked, first_no_locator, judge, lists_of, located,
     one_acceptance, one_answer,
 };
 pub use search::{Sought, seek};

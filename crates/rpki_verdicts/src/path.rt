@@ -139,8 +139,8 @@ pub(crate) fn with_table(alloc: Global, list: &Crl) -> Result<Crl, AllocError>
     }
 }
 
-// The lists of the files that are lists.
-fn lists_of(alloc: Global, files: &[Object<'_>]) -> Result<Vec<Crl>, AllocError>
+/// Returns the lists of the files that are lists, each with a table of its serial numbers.
+pub fn lists_of(alloc: Global, files: &[Object<'_>]) -> Result<Vec<Crl>, AllocError>
     ensures { IfOk result (λ all. AreListsOf (contents files.now) all.items) }
 {
     let mut all = Vec::new(alloc);
