@@ -157,6 +157,6 @@ inner_apart (o ∷ os) [] c d behind after are are_too is is_too e =
     absurd (not_first (stands_inside o) d o after _ is_too (inside_together o) (sym e ∙ cut_first o os (c ∷ behind)))
 inner_apart (o ∷ os) (p ∷ ps) c d behind after are are_too is is_too e =
     let first = same_first (stands_inside o) (stands_inside p) o p _ _ (inside_alone o) (inside_alone p) are.0 are_too.0
-        (sym (cut_first o os (c ∷ behind)) ∙ e ∙ cut_first p ps (d ∷ after)) in
+    (sym (cut_first o os (c ∷ behind)) ∙ e ∙ cut_first p ps (d ∷ after)) in
     let rest = inner_apart os ps c d behind after are.1 are_too.1 is is_too first.1 in
     (cc (first.0, rest.0), rest.1)
