@@ -95,7 +95,7 @@ def answer_of(question):
     yes = bytes(is_signed(it, octets) for it in signatures_of(members))
     now = raw.Time(int(at[:4]), *(int(at[i:i + 2]) for i in range(4, 14, 2)))
     asked = raw.question(members, LAST[kinds[-1]].value, now, mode == 'strict')
-    room = raw.room_for(raw.Verdict(v4=ROOM, v6=ROOM, asn=ROOM))
+    room = raw.room_for(ROOM, ROOM, ROOM)
     out = raw.Verdict()
     raw.lib.rpki_path_validate_said(
         ctypes.byref(asked), *raw.octets_of(yes), ctypes.byref(room),

@@ -47,10 +47,14 @@ fn print_fault(fault: &Fault) -> io::Result<()> {
 
 /// The beginning of a day that is written YYYY-MM-DD.
 fn moment(day: &str) -> Result<Moment, String> {
-    match day.parse() {
-        Ok(moment) if day.len() == 10 => Ok(moment),
-        _ => Err(format!("{day}: not a day; expected YYYY-MM-DD")),
+    let is_in_place = |(at, octet): (usize, u8)| match at {
+        4 | 7 => octet == b'-',
+        _ => octet.is_ascii_digit(),
+    };
+    if day.len() != 10 || !day.bytes().enumerate().all(is_in_place) {
+        return Err(format!("{day}: the day isn't YYYY-MM-DD"));
     }
+    day.parse().map_err(|_| format!("{day}: no such day"))
 }
 
 /// The kind of the last member.
