@@ -50,8 +50,10 @@ one.
 
 ## The toolchain
 
-- **The logic and its checker.** A proved crate may use no axiom and has no hole; the gate also
-  refuses a contract that no call can meet. A tactic only searches for a proof.
+- **The logic and its checker.** A proved crate has no hole and adds no axiom of logic; the gate also
+  refuses a contract that no call can meet. A tactic only searches for a proof. The contracts of C
+  functions that compiled code reaches are taken as they are written, and counted as axioms: the
+  library for C reaches three, which allocate, resize and free memory.
 - **The standard library and the ported crates** (`base64`, `bytes`, `hex`, `jiff_core`, `sha1`,
   `sha2`, `thiserror`; the command also `anyhow`, `json`, `serde_json`): their
   contracts are taken as the kit states them. SHA-1 and SHA-256 are theirs.
