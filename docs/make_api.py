@@ -1,5 +1,6 @@
 #!/usr/bin/env python3
-"""Makes docs/api: a page for each public module of the crate `rpki`, from the facade and the sources.
+"""Makes docs/api: a page for each public module of the crate `rpki`, from the facade and the sources,
+and one for each crate that the facade doesn't re-export: the command's libraries and the programs.
 
     docs/make_api.py            writes the pages
     docs/make_api.py --check    writes nothing, and exits with 1 where a page isn't up to date
@@ -7,7 +8,8 @@
 Both exit with 1 if a public name has no section, or a definition that a clause cites has no line.
 
 A page has each public item of its module: the comment, the signature, the clauses of the contract,
-and where the definitions stand that the clauses cite. Plain Python 3, standard library alone.
+and where the definitions stand that the clauses cite. The page of a program has each function with
+a contract, since a program has no public ones. Plain Python 3, standard library alone.
 """
 import re
 import sys
@@ -17,7 +19,13 @@ ROOT = Path(__file__).resolve().parent.parent
 CRATES = ROOT / "crates"
 FACADE = CRATES / "rpki" / "src"
 PAGES = ROOT / "docs" / "api"
+# Crates that the facade doesn't re-export, and of which nothing else shows the contracts.
+LIBRARIES_BESIDE = ["rpki_files", "rpki_text", "rpki_verdicts", "rpki_answers", "rpki_requests"]
+PROGRAMS = ["rpki_command", "rpki_c"]
+# Modules of the facade's crates that only the command and the library for C call.
+MODULES_BESIDE = {"rpki_issuing": ["values", "wanted"]}
 ITEM = re.compile(r"(\s*)pub (fn|struct|enum|trait|type|const) ([A-Za-z_0-9]+)")
+ANY_FUNCTION = re.compile(r"(\s*)(pub(?:\(\w+\))? )?(?:extern \"C\" )?fn (\w+)")
 IMPL = re.compile(r"impl(?:<[^{]*?>)? ([A-Z][A-Za-z0-9]*)(?:<.*>)?(?: where .*)? \{?$")
 OF_TRAIT = re.compile(r"impl(?:<[^{]*?>)? ((?:fmt::)?[A-Z][A-Za-z]*(?:<[^{]*>)?) for ([A-Z][A-Za-z0-9]*)(?:<.*>)? ?(?:where .*)?\{?$")
 # What an impl says to a proof that isn't a promise to a caller.
@@ -45,13 +53,13 @@ class Source:
                 known, _, here = name.strip().partition(" as ")
                 self.cited[here or known] = (crate, module, known)
 
-    def comment(self, at):
-        """The lines `///` above a line, and the attributes passed over."""
+    def comment(self, at, marks=("///",)):
+        """The lines of comments above a line, and the attributes passed over."""
         found = []
         at -= 1
-        while at >= 0 and self.lines[at].strip().startswith(("///", "#[")):
-            if self.lines[at].strip().startswith("///"):
-                found.append(self.lines[at].strip()[3:].strip())
+        while at >= 0 and self.lines[at].strip().startswith((*marks, "#[")):
+            if not self.lines[at].strip().startswith("#["):
+                found.append(self.lines[at].strip().lstrip("/").strip())
             at -= 1
         return " ".join(reversed(found))
 
@@ -218,9 +226,9 @@ def wrapped(text, width=100):
     return lines + [line] if line else lines
 
 
-def entry(page, title, source, at, code, level):
+def entry(page, title, source, at, code, level, marks=("///",)):
     out = [f"{'#' * level} {title}", ""]
-    comment = source.comment(at)
+    comment = source.comment(at, marks)
     if comment:
         out += wrapped(comment) + [""]
     out += ["```rust"] + code + ["```", ""]
@@ -327,6 +335,51 @@ def pages(missing):
             yield page, module, head, "\n".join(out + body).rstrip() + "\n"
 
 
+def contracts(source, is_program):
+    """The functions of a file that its page has, each with its name and line."""
+    owner = None
+    for at, line in enumerate(source.lines):
+        if line.startswith("impl"):
+            head = IMPL.match(line)
+            owner = head.group(1) if head else None
+        elif line == "}":
+            owner = None
+        found = ANY_FUNCTION.match(line)
+        if not found or found.group(1) and not owner:
+            continue
+        public = (found.group(2) or "").strip() == "pub"
+        if (public or is_program) and any("ensures" in part for part in source.signature(at)):
+            yield f"{owner}::{found.group(3)}" if found.group(1) else found.group(3), at
+
+
+def of_crate(crate):
+    """The page of a crate that the facade doesn't re-export, with what each of its functions promises."""
+    page, folder = PAGES / "crates" / f"{crate}.md", CRATES / crate / "src"
+    root = next(path for path in (folder / "lib.rt", folder / "main.rt") if path.exists())
+    about = [line[3:].strip() for line in root.read_text().split("\n") if line.startswith("//!")]
+    head = " ".join(about[:about.index("")] if "" in about else about)
+    if crate in MODULES_BESIDE:
+        head = "The modules that only the command and the library for C call."
+    out = [f"# `{crate}`", ""] + wrapped(head) + [""]
+    out += ["Made by `docs/make_api.py` from the sources; edit those.", ""]
+    for path in sorted(folder.rglob("*.rt")):
+        parts = path.relative_to(folder).with_suffix("").parts
+        if crate in MODULES_BESIDE and parts[0] not in MODULES_BESIDE[crate]:
+            continue
+        source, module = Source(path), "::".join(parts)
+        body = []
+        for name, at in contracts(source, crate in PROGRAMS):
+            body += entry(page, f"`{name}`", source, at, source.signature(at), 3, ("///", "//"))
+        for at, line in enumerate(source.lines):
+            trait = OF_TRAIT.match(line)
+            if trait and trait.group(1) not in ELSEWHERE and source.promises(at):
+                code = [line.rstrip(" {")] + source.promises(at)
+                body += entry(page, f"`{trait.group(1)}` of `{trait.group(2)}`", source, at, code, 3)
+        if body:
+            out += [f"## Module `{module}`", ""] + body
+    return page, crate, head, "\n".join(out).rstrip() + "\n"
+
+
 def calls_of(page, text):
     """The calls and items of a page, each with its place."""
     for name in re.findall(r"^##+ `([\w:]+)`$", text, flags=re.M):
@@ -356,6 +409,11 @@ def main():
         made[page] = text
         calls += calls_of(page, text)
         index.append(f"| [`{module}`]({page.relative_to(PAGES)}) | {head} |")
+    index += ["", "Crates that the facade doesn't re-export:", "", "| Crate | What it is |", "|---|---|"]
+    for crate in [*MODULES_BESIDE, *LIBRARIES_BESIDE, *PROGRAMS]:
+        page, crate, head, text = of_crate(crate)
+        made[page] = text
+        index.append(f"| [`{crate}`]({page.relative_to(PAGES)}) | {head} |")
     index += ["", "## By name", ""]
     index += by_name(calls)
     made[PAGES / "README.md"] = "\n".join(index) + "\n"
