@@ -1,23 +1,25 @@
 #!/usr/bin/env python3
-"""Checks that docs/PROVED.md names clauses that the functions it names have.
+"""Checks what two pages say of the sources.
 
-    docs/claims.py --check    prints each clause that no function beside it has, and exits with 1 then
+    docs/claims.py --check    prints each line that isn't so, and exits with 1 then
 
-Clauses stand in the last column of a table, beside the functions, and in the text as
-(`function`: `clause`, `clause`). Plain Python 3, standard library alone.
+A claim of docs/PROVED.md is an item of a list, with at most 25 words and links to contracts behind
+them. A link's text is `CALL` or `CALL:CLAUSE,CLAUSE`. The place that it names is there, and the call
+has these clauses. The table of crates in docs/ARCHITECTURE.md has each crate of crates.txt, and no
+crate or module that isn't there. Plain Python 3, standard library alone.
 """
 import re
 import sys
 from pathlib import Path
 
 ROOT = Path(__file__).resolve().parent.parent
-PAGE = ROOT / "docs" / "PROVED.md"
-IMPL = re.compile(r"impl(?:<[^{]*?>)? (?:[\w:<>, ]+ for )?([A-Z]\w*)")
-FUNCTION = re.compile(r"\s*(?:pub(?:\(crate\))? )?(?:extern \"C\" )?fn (\w+)")
+DOCS = ROOT / "docs"
+IMPL = re.compile(r"impl(?:<[^{]*?>)? (?:[\w:<>, ']+ for )?([A-Z]\w*)")
+FUNCTION = re.compile(r"\s*(?:pub(?:\(\w+\))? )?(?:extern \"C\" )?fn (\w+)")
 CLAUSE = re.compile(r"\s*ensures\*? (\w+) \{")
 PROMISE = re.compile(r"\s+ghost (\w+) = \{")
-# Columns and lists name these too: definitions, and an impl's own text.
-WORDS = re.compile(r"`([a-z]\w*)`")
+LINK = re.compile(r"\[`(\w+(?:::\w+)*)(?::([\w,]+))?`\]\((api/[\w./-]+)#([^)]*)\)")
+LONGEST = 25
 
 
 def clauses():
@@ -43,45 +45,65 @@ def clauses():
     return found
 
 
-def claims(text):
-    """What stands beside clauses: the text that names functions, and the text that names clauses."""
-    column = named = None
-    for line in text.split("\n"):
-        cells = [cell.strip() for cell in re.split(r"(?:^|(?<= ))\|(?= |$)", line)[1:-1]]
-        if cells and cells[-1] == "Clauses":
-            column = next(place for place, cell in enumerate(cells) if cell in ("Call", "Function"))
-        elif not cells:
-            column = column if line.startswith("|") else None
-        elif column is not None:
-            named = cells[column] or named
-            yield named, cells[-1]
-    for inside in re.findall(r"\(((?:`[\w:]+`(?:, )?)+: (?:`\w+`(?:, )?)+)\)", " ".join(text.split())):
-        names, _, labels = inside.partition(": ")
-        yield names, labels
+def anchors(page):
+    """The places of a page that a link may name: its headings."""
+    heads = re.findall(r"^#+ (.*)$", page.read_text(), flags=re.M) if page.exists() else []
+    return {re.sub(r"[^\w\- ]", "", head.lower()).replace(" ", "-") for head in heads}
 
 
-def functions(text, known):
-    """The functions and types that a text names, as the clauses know them."""
-    for word in re.findall(r"`([\w:]+)`", text):
-        owner, _, name = word.rpartition("::")
-        last = owner.rpartition("::")[2]
-        for candidate in (f"{last}::{name}", name):
-            if candidate in known:
-                yield candidate
-                break
+def items(text):
+    """The items of a page's lists, each on one line."""
+    item = None
+    for line in [*text.split("\n"), ""]:
+        if item is not None and line.startswith("  "):
+            item += " " + line.strip()
+            continue
+        if item is not None:
+            yield item
+        item = line[2:] if line.startswith("- ") else None
+
+
+def wrong_claims(text):
+    known, places = clauses(), {}
+    for item in items(text):
+        links = LINK.findall(item)
+        said = re.sub(r" \((?:`[\w:]+`|\[[^()]*\]\([^)]*\)|, )+\)", "", item)
+        if len(said.split()) > LONGEST:
+            yield f"{len(said.split())} words: {said}"
+        for call, labels, page, place in links:
+            if page not in places:
+                places[page] = anchors(DOCS / page)
+            if place not in places[page]:
+                yield f"`{call}`: no place {page}#{place}"
+            name = next((name for name in (call, call.rpartition("::")[2]) if name in known), None)
+            if not name and place not in (call.lower(), call.replace("::", "").lower()):
+                yield f"`{call}`: no such call"
+            for label in filter(None, labels.split(",")):
+                if name and label not in known[name]:
+                    yield f"`{call}`: no clause `{label}`"
+
+
+def wrong_rows(text):
+    """What the table of crates has otherwise than crates.txt and the files of src/."""
+    crates = re.findall(r"^(\w+)(?: staticlib)?:", (ROOT / "crates.txt").read_text(), flags=re.M)
+    rows = re.findall(r"^\| `(\w+)` \|(.*)\|$", text, flags=re.M)
+    for crate in sorted(set(crates) ^ {name for name, _ in rows}):
+        yield f"{crate}: in crates.txt or in the table of crates, and not in both"
+    for crate, cells in rows:
+        files = (ROOT / "crates" / crate / "src").rglob("*.rt")
+        modules = {path.stem for path in files} | set(crates)
+        for name in re.findall(r"`([a-z]\w*)`", cells.rpartition("|")[2]):
+            if name not in modules:
+                yield f"{crate} {name}: no such module"
 
 
 def main():
-    known = clauses()
-    everything = set().union(*known.values())
-    wrong = 0
-    for named, labels in claims(PAGE.read_text()):
-        here = [known[name] for name in functions(named, known)]
-        allowed = set().union(*here) if here else everything
-        for label in WORDS.findall(labels):
-            if label not in allowed and label != "output":
-                print(f"PROVED.md: no clause `{label}` beside {named}")
-                wrong += 1
+    architecture = (DOCS / "ARCHITECTURE.md").read_text()
+    layers = architecture[architecture.index("## Layers"):architecture.index("## A crate")]
+    wrong = [f"PROVED.md: {line}" for line in wrong_claims((DOCS / "PROVED.md").read_text())]
+    wrong += [f"ARCHITECTURE.md: {line}" for line in wrong_rows(layers)]
+    for line in wrong:
+        print(line)
     sys.exit(1 if wrong else 0)
 
 

@@ -9,7 +9,8 @@ Both exit with 1 if a public name has no section, or a definition that a clause 
 
 A page has each public item of its module: the comment, the signature, the clauses of the contract,
 and where the definitions stand that the clauses cite. The page of a program has each function with
-a contract, since a program has no public ones. Plain Python 3, standard library alone.
+a contract, since a program has no public ones. docs/api/definitions has a page for each crate with
+the comment of each definition, file by file. Plain Python 3, standard library alone.
 """
 import re
 import sys
@@ -34,6 +35,9 @@ PRIVATE = {"view", "inverse", "inverse_ok", "laws", "Value", "invariant"}
 ELSEWHERE = {"Model", "PartialEq", "Eq", "PartialOrd", "Ord", "Hash", "Clone"}
 # A line at which a clause begins.
 CLAUSE = re.compile(r"\s*(?:requires|ensures)\b")
+# A definition that other files may name.
+DEFINED = re.compile(r"(?:(?:abbrev|unfoldable|data|record) )*pub (?:(?:abbrev|unfoldable|data|record) )*(\S+)")
+IMPORT = re.compile(r"^(?:pub )?use Rattle\.(rpki_\w+)\.specs\.([\w.]+?)(?=\.\{| as |$|\s)", flags=re.M)
 # What may stand before a definition's name.
 DEFINES = re.compile(r"(?:(?:abbrev|unfoldable|data|record|pub) )*")
 FROM = re.compile(r"impl(?:<[^{]*?>)? (From<.*>|FromIterator<.*>|fmt::Display|Display) for ([A-Z][A-Za-z0-9]*)")
@@ -369,7 +373,7 @@ def of_crate(crate):
         source, module = Source(path), "::".join(parts)
         body = []
         for name, at in contracts(source, crate in PROGRAMS):
-            body += entry(page, f"`{name}`", source, at, source.signature(at), 3, ("///", "//"))
+            body += entry(page, f"`{module}::{name}`", source, at, source.signature(at), 3, ("///", "//"))
         for at, line in enumerate(source.lines):
             trait = OF_TRAIT.match(line)
             if trait and trait.group(1) not in ELSEWHERE and source.promises(at):
@@ -378,6 +382,50 @@ def of_crate(crate):
         if body:
             out += [f"## Module `{module}`", ""] + body
     return page, crate, head, "\n".join(out).rstrip() + "\n"
+
+
+def of_definitions(crate):
+    """The page of a crate's definitions: each file behind those that it names, with its comments."""
+    folder, page = CRATES / crate / "specs", PAGES / "definitions" / f"{crate}.md"
+    files = {"/".join(path.relative_to(folder).with_suffix("").parts): path for path in sorted(folder.rglob("*.antt"))}
+    files.pop("Lib", None)
+    order = []
+
+    def visit(name):
+        if name in order or name not in files:
+            return
+        for other, module in IMPORT.findall(files[name].read_text()):
+            if other == crate and module.replace(".", "/") != name:
+                visit(module.replace(".", "/"))
+        if name not in order:
+            order.append(name)
+
+    for name in files:
+        visit(name)
+    up = "../" * len(page.relative_to(ROOT).parent.parts)
+    out = [f"# Definitions of `{crate}`", "", "Made by `docs/make_api.py` from the sources; edit those.", ""]
+    lines_in_all = 0
+    for name in order:
+        lines = files[name].read_text().split("\n")
+        place = f"{up}{files[name].relative_to(ROOT)}"
+        lines_in_all += len(lines) - 1
+        head, body, comment = [], [], []
+        for number, line in enumerate(lines, 1):
+            if line.startswith("-- ") and not line.startswith("-- -"):
+                comment.append(line[3:].strip())
+                continue
+            defined = DEFINED.match(line)
+            if defined and defined.group(1) not in ("mod", "use"):
+                text = f"- [`{defined.group(1)}`]({place}#L{number})" + (": " + " ".join(comment) if comment else "")
+                first, *rest = wrapped(text, 98)
+                body += [first] + [f"  {part}" for part in rest]
+            elif comment and not head and not body:
+                head = comment
+            comment = []
+        out += [f"## [{name}]({place})", "", f"{len(lines) - 1} lines. " + " ".join(head), ""]
+        out[-2:-1] = wrapped(out[-2])
+        out += body + [""] if body else []
+    return page, len(order), lines_in_all, "\n".join(out).rstrip() + "\n"
 
 
 def calls_of(page, text):
@@ -414,6 +462,13 @@ def main():
         page, crate, head, text = of_crate(crate)
         made[page] = text
         index.append(f"| [`{crate}`]({page.relative_to(PAGES)}) | {head} |")
+    index += ["", "Definitions, each with its comment. Files `F/Reading` only compute, and `F/Steps` serve proofs:", ""]
+    index += ["| Crate | Files | Lines |", "|---|---|---|"]
+    for crate in re.findall(r"^(\w+)(?: staticlib)?:", (ROOT / "crates.txt").read_text(), flags=re.M):
+        if any((CRATES / crate / "specs").glob("[!L]*.antt")) and not re.search("_tests|_vectors|_calls|_bench", crate):
+            page, files, lines, text = of_definitions(crate)
+            made[page] = text
+            index.append(f"| [`{crate}`]({page.relative_to(PAGES)}) | {files} | {lines} |")
     index += ["", "## By name", ""]
     index += by_name(calls)
     made[PAGES / "README.md"] = "\n".join(index) + "\n"

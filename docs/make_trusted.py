@@ -64,9 +64,8 @@ one.
   and `statements=trusted` in it mean that the logic, the kit's libraries and the statements of the
   crates below were taken as they had been checked before, and not checked again in that step.
 
-[DEFINITIONS](DEFINITIONS.md) has every file of definitions, crate by crate, and the laws. A proved
-program can still run out of stack. How hard a signature is to forge is not a matter of
-proof. [PROVED](PROVED.md) lists what is only tested, and what is neither.
+[docs/api](api/README.md) has every definition, crate by crate, and the laws. A proved program can
+still run out of stack. How hard a signature is to forge is not a matter of proof. [PROVED](PROVED.md) lists what is only tested, and what is neither.
 """
 
 
