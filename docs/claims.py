@@ -1,12 +1,13 @@
 #!/usr/bin/env python3
-"""Checks what two pages say of the sources.
+"""Checks what pages say of the sources, and their links.
 
     docs/claims.py --check    prints each line that isn't so, and exits with 1 then
 
 A claim of docs/PROVED.md is an item of a list, with at most 25 words and links to contracts behind
 them. A link's text is `CALL` or `CALL:CLAUSE,CLAUSE`. The place that it names is there, and the call
-has these clauses. The table of crates in docs/ARCHITECTURE.md has each crate of crates.txt, and no
-crate or module that isn't there. Plain Python 3, standard library alone.
+has these clauses. The table of crates in docs/ARCHITECTURE.md has each crate of crates.txt and no
+other, and the modules that it or a crate's README lists are there. Each link from a page to another
+file names a file, and a place that the file has. Plain Python 3, standard library alone.
 """
 import re
 import sys
@@ -86,15 +87,37 @@ def wrong_claims(text):
 def wrong_rows(text):
     """What the table of crates has otherwise than crates.txt and the files of src/."""
     crates = re.findall(r"^(\w+)(?: staticlib)?:", (ROOT / "crates.txt").read_text(), flags=re.M)
-    rows = re.findall(r"^\| `(\w+)` \|(.*)\|$", text, flags=re.M)
-    for crate in sorted(set(crates) ^ {name for name, _ in rows}):
+    rows = dict(re.findall(r"^\| \[?`(\w+)`.*\|(.*)\|$", text, flags=re.M))
+    for crate in sorted(set(crates) ^ set(rows)):
         yield f"{crate}: in crates.txt or in the table of crates, and not in both"
-    for crate, cells in rows:
+    for crate in set(crates) & set(rows):
         files = (ROOT / "crates" / crate / "src").rglob("*.rt")
         modules = {path.stem for path in files} | set(crates)
-        for name in re.findall(r"`([a-z]\w*)`", cells.rpartition("|")[2]):
+        readme = ROOT / "crates" / crate / "README.md"
+        listed = re.search(r"^## Modules\n(.*?)(?=^## |\Z)", readme.read_text() if readme.exists() else "", flags=re.M | re.S)
+        named = listed.group(1).partition("Those of `rpki_calls`")[0] if listed else rows[crate]
+        for name in re.findall(r"`([a-z]\w*)`", named):
             if name not in modules:
                 yield f"{crate} {name}: no such module"
+
+
+def pages():
+    """The pages that are written by hand, and those made of the sources beside docs/api."""
+    for pattern in ("*.md", "docs/*.md", "crates/*/README.md", "bench/*.md", "callers/*/README.md", "reference/README.md"):
+        yield from sorted(ROOT.glob(pattern))
+
+
+def wrong_links(page):
+    """The links of a page that lead to no file or place."""
+    for target in re.findall(r"\]\(([^()\s]+)\)", page.read_text()):
+        name, _, place = target.partition("#")
+        if re.match(r"\w+:", name):
+            continue
+        file = (page.parent / name).resolve() if name else page
+        if not file.exists():
+            yield f"no file {target}"
+        elif place and file.suffix == ".md" and place not in anchors(file):
+            yield f"no place {target}"
 
 
 def main():
@@ -102,6 +125,8 @@ def main():
     layers = architecture[architecture.index("## Layers"):architecture.index("## A crate")]
     wrong = [f"PROVED.md: {line}" for line in wrong_claims((DOCS / "PROVED.md").read_text())]
     wrong += [f"ARCHITECTURE.md: {line}" for line in wrong_rows(layers)]
+    for page in pages():
+        wrong += [f"{page.relative_to(ROOT)}: {line}" for line in wrong_links(page)]
     for line in wrong:
         print(line)
     sys.exit(1 if wrong else 0)
