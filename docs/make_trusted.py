@@ -35,7 +35,7 @@ LISTED = 1  # the headline whose files are listed first
 HEAD = """\
 # What has to be believed
 
-This page is for readers of proofs. A proof shows that a function meets its contract. So for each
+This page is for readers of proofs. A proof shows that a function meets its contract. For each
 headline you believe the definitions that its contract cites, and the toolchain that checks the
 proofs. The page is made by `docs/make_trusted.py`, which follows the imports of definitions file by
 file: it counts whole files, so it is an upper bound.
