@@ -93,6 +93,7 @@ from typing import BinaryIO, Generic, TypeVar, Union, cast
 
 from . import _library as raw
 from ._faults import FaultCode
+from ._names import text_of
 
 __version__ = "0.2.0"
 
@@ -580,9 +581,19 @@ class Certificate:
         return raw.certificate_name(self.octets, 0)
 
     @cached_property
+    def issuer_text(self) -> str:
+        """The issuer's name as text (RFC 4514), such as `CN=0A1B`."""
+        return text_of(self.issuer)
+
+    @cached_property
     def subject(self) -> bytes:
         """The subject's Name in DER."""
         return raw.certificate_name(self.octets, 1)
+
+    @cached_property
+    def subject_text(self) -> str:
+        """The subject's name as text (RFC 4514)."""
+        return text_of(self.subject)
 
     @cached_property
     def ipv4(self) -> Addresses[ipaddress.IPv4Address] | Inherit | None:
@@ -681,6 +692,11 @@ class RevocationList:
         """The issuer's Name in DER."""
         return raw.list_issuer(self.octets)
 
+    @cached_property
+    def issuer_text(self) -> str:
+        """The issuer's name as text (RFC 4514)."""
+        return text_of(self.issuer)
+
     def __len__(self) -> int:
         return cast(int, self._read.entries)
 
@@ -699,6 +715,24 @@ class RevocationList:
     def serial_numbers(self) -> frozenset[int]:
         """The serial numbers of its entries."""
         return raw.serial_numbers(self.octets, len(self))
+
+    def expired(self, certificates: Iterable[Octets | Certificate]) -> list[Entry]:
+        """Returns the entries that the issuer's next list may drop, since their certificates are
+        among these and had expired before this list was issued (RFC 5280 3.3: an entry has to stand
+        on one list that was issued behind that end).
+
+        A certificate counts if it has the name of the list's issuer as its own issuer's, and the
+        identifier of its key. That the issuer signed it isn't checked: give only certificates that
+        it issued.
+        """
+        ended = set()
+        for it in certificates:
+            cert = it if isinstance(it, Certificate) else Certificate(it)
+            is_own = cert.issuer == self.issuer
+            key = cert.authority_key_identifier
+            if is_own and key == self.authority_key_identifier and cert.not_after < self.this_update:
+                ended.add(cert.serial_number)
+        return [entry for entry in self if entry.serial_number in ended]
 
     def __contains__(self, what: int | Certificate) -> bool:
         """Returns whether a serial number, or a certificate's, is on the list. Whose list it is
@@ -889,13 +923,14 @@ def judge_folder(
     Raises LocatorFault where the file is no locator or none of the octets has its key, and the
     Fault of the trust anchor where that is wrong, with its place as the `member`.
     """
-    strings = _all_octets(octets, "octets")
     now = _time(datetime.now(timezone.utc) if at is None else at)
     for name, bound in (("depth", depth), ("steps", 1 if steps is None else steps)):
         if not 1 <= bound < 1 << 64:
             raise ValueError(f"{name}: expected a number from 1 to 2^64 - 1, not {bound}")
     is_strict = _flag(strict, "strict")
     tal = _bytes(locator, "locator")
+    # of files that are read here only the joined octets stay
+    strings = raw.strings_of(_all_octets(octets, "octets"))
     asked = raw.folder_question(strings, tal, now, is_strict, depth, steps or 0)
     walk, lines = raw.judge_folder(asked)
     place = walk.anchor if 100 <= walk.fault < 600 else None
@@ -908,12 +943,15 @@ def judge_folder(
 AddressRange = Union[Network, str, tuple[Address, Address]]
 
 
-def _ends(what: AddressRange[Address]) -> tuple[int, bytes, bytes]:
+def _ends(what: AddressRange[Address], name: str) -> tuple[int, bytes, bytes]:
     """The version, and the first and the last address, of a network or a range."""
-    network = ipaddress.ip_network(what) if isinstance(what, str) else what
+    try:
+        network = ipaddress.ip_network(what) if isinstance(what, str) else what
+    except ValueError as error:
+        raise ValueError(f"{name}: {error}") from error
     first, last = (network[0], network[-1]) if isinstance(network, _NETWORKS) else network
-    if first.version != last.version:
-        raise ValueError("a range has addresses of two families")
+    if first.version != last.version or last < first:
+        raise ValueError(f"{name}: expected a network, or a first address and a last one")
     return first.version, first.packed, last.packed
 
 
@@ -922,9 +960,10 @@ def _addresses(
 ) -> raw.Addresses:
     if wanted is None or isinstance(wanted, Inherit):
         return raw.addresses_wanted(raw.MISSING if wanted is None else raw.INHERITED, ())
-    ends = [_ends(it) for it in wanted]
-    if any(it[0] != version for it in ends):
-        raise ValueError(f"an address isn't one of IPv{version}")
+    name = f"ipv{version}"
+    ends = [_ends(it, name) for it in wanted]
+    if not ends or any(it[0] != version for it in ends):
+        raise ValueError(f"{name}: expected addresses of IPv{version}, or None for no addresses")
     return raw.addresses_wanted(raw.LISTED, [raw.ip_range(*it[1:]) for it in ends])
 
 
@@ -933,33 +972,64 @@ def _systems(wanted: Iterable[int | range] | Inherit | None) -> raw.AsNumbers:
         return raw.as_numbers_wanted(raw.MISSING if wanted is None else raw.INHERITED, ())
     ranges = [range(it, it + 1) if isinstance(it, int) else it for it in wanted]
     if any(it.step != 1 or not it or not 0 <= it[0] <= it[-1] < 1 << 32 for it in ranges):
-        raise ValueError("AS numbers are below 2^32, and stand in ranges with the step 1")
+        raise ValueError("as_numbers: expected numbers below 2^32, or ranges of them with step 1")
+    if not ranges:
+        raise ValueError("as_numbers: expected AS numbers, or None for no AS numbers")
     return raw.as_numbers_wanted(raw.LISTED, [(it[0], it[-1]) for it in ranges])
 
 
-def _issuer(
-    last: Kind,
-    issuers: Sequence[Octets | Certificate],
-    lists: Sequence[Octets | RevocationList] | None,
-    locator: Octets | None,
-    at: datetime | None,
-    strict: bool,
-) -> raw.Question:
-    """The question about the issuer's path, which ends in the kind."""
-    members = _all_octets(issuers, "issuers")
-    all_lists = None if lists is None else _all_octets(lists, "lists")
-    now = _time(datetime.now(timezone.utc) if at is None else at)
-    file = None if locator is None else _bytes(locator, "locator")
-    return raw.question(members, last.value, now, _flag(strict, "strict"), all_lists, file)
+@dataclass(frozen=True)
+class _Issuer:
+    """Who issues: what the four calls below have in common, each file read once."""
 
+    members: list[bytes]
+    lists: list[bytes] | None
+    locator: bytes | None
+    now: raw.Time
+    strict: bool
 
-def _check_names(issuers: Sequence[Octets | Certificate], chain_names: bool) -> None:
-    """Raises the NamesFault of the issuer's path, if its names don't chain and have to."""
-    if _flag(chain_names, "chain_names") and issuers:
-        fault, place = raw.names(_all_octets(issuers, "issuers"))
-        # octets that are no certificate have another fault, which the call below raises
-        if _FAULTS.get(fault) is NamesFault:
-            _raise(fault, place)
+    @classmethod
+    def of(
+        cls,
+        issuers: Sequence[Octets | Certificate],
+        lists: Sequence[Octets | RevocationList] | None,
+        locator: Octets | None,
+        at: datetime | None,
+        strict: bool,
+        chain_names: bool,
+    ) -> _Issuer:
+        """Raises the NamesFault of the issuer's path, if its names don't chain and have to."""
+        members = _all_octets(issuers, "issuers")
+        it = cls(
+            members,
+            None if lists is None else _all_octets(lists, "lists"),
+            None if locator is None else _bytes(locator, "locator"),
+            _time(datetime.now(timezone.utc) if at is None else at),
+            _flag(strict, "strict"),
+        )
+        if _flag(chain_names, "chain_names") and members:
+            fault, place = raw.names(members)
+            # octets that are no certificate have another fault, which the call itself raises
+            if _FAULTS.get(fault) is NamesFault:
+                _raise(fault, place)
+        return it
+
+    def question(self, last: Kind) -> raw.Question:
+        """The question about the issuer's path, which ends in the kind."""
+        return raw.question(
+            self.members, last.value, self.now, self.strict, self.lists, self.locator
+        )
+
+    def raise_fault(self, told: raw.Issued, no_call: str) -> None:
+        """Raises the exception of why nothing is issued, if there is one."""
+        if told.fault == raw.BAD_CALL:
+            raise ValueError(no_call)
+        if told.fault == raw.BAD_URI:
+            raise ValueError(f"uris[{raw.URIS[told.index]!r}]: expected a URI")
+        # a list that can't be read is behind the members, and so is what is issued
+        if told.fault != raw.OK and told.index == len(self.members) and told.fault in _ARGUMENTS:
+            _raise(told.fault, argument=_ARGUMENTS[told.fault])
+        _raise_at(told.fault, told.index, self.members, self.lists or ())
 
 
 def _kind_above(kind: Kind) -> Kind:
@@ -1010,27 +1080,8 @@ _ARGUMENTS = {
 }
 
 _NO_CERTIFICATE = (
-    "the serial number isn't above 0 and below 2^159, nothing is listed, a range ends before it "
-    "begins, or the issuers don't go with the kind"
+    "issuers: expected none for a trust anchor, and for any other kind the certificates down to a CA"
 )
-
-
-def _raise_issued(
-    told: raw.Issued,
-    issuers: Sequence[Octets | Certificate],
-    lists: Sequence[Octets | RevocationList] | None,
-    no_call: str,
-) -> None:
-    """Raises the exception of why nothing is issued by these, if there is one."""
-    if told.fault == raw.BAD_CALL:
-        raise ValueError(no_call)
-    if told.fault == raw.BAD_URI:
-        raise ValueError(f"uris[{raw.URIS[told.index]!r}]: expected a URI")
-    # a list that can't be read is behind the members, and so is what is issued
-    members = _all_octets(issuers, "issuers")
-    if told.fault != raw.OK and told.index == len(members) and told.fault in _ARGUMENTS:
-        _raise(told.fault, argument=_ARGUMENTS[told.fault])
-    _raise_at(told.fault, told.index, members, _all_octets(lists or (), "lists"))
 
 
 def prepare(
@@ -1070,15 +1121,15 @@ def prepare(
     the certificate behind them all; and ValueError where a value is none.
     """
     _kind(kind, "kind")
-    _check_names(issuers, chain_names)
+    issuer = _Issuer.of(issuers, lists, locator, at, strict, chain_names)
     named = dict(uris or {})
     texts = [named.pop(name, "").encode() for name in raw.URIS]
     if named:
-        raise ValueError(f"no URI has the name {min(named)}")
-    if not 0 <= serial_number < 1 << 160:
-        raise ValueError("the serial number isn't above 0 and below 2^159")
+        raise ValueError(f"uris: expected the names {', '.join(raw.URIS)}, not {min(named)!r}")
+    if not 1 <= serial_number < 1 << 159:
+        raise ValueError("serial_number: expected a number from 1 to 2^159 - 1")
     asked = raw.wanted(
-        _issuer(_kind_above(kind), issuers, lists, locator, at, strict),
+        issuer.question(_kind_above(kind)),
         kind.value,
         _bytes(key, "key"),
         (_addresses(4, ipv4), _addresses(6, ipv6), _systems(as_numbers)),
@@ -1088,7 +1139,7 @@ def prepare(
         trims_resources,
     )
     told, octets = raw.prepare(asked)
-    _raise_issued(told, issuers, lists, _NO_CERTIFICATE)
+    issuer.raise_fault(told, _NO_CERTIFICATE)
     return octets
 
 
@@ -1112,19 +1163,19 @@ def complete(
     Fault of what is wrong.
     """
     _kind(kind, "kind")
-    _check_names(issuers, chain_names)
+    issuer = _Issuer.of(issuers, lists, locator, at, strict, chain_names)
     asked = raw.completion(
-        _issuer(_kind_above(kind), issuers, lists, locator, at, strict),
+        issuer.question(_kind_above(kind)),
         kind.value,
         _bytes(prepared, "prepared"),
         _bytes(signature, "signature"),
     )
     told, octets = raw.complete(asked)
-    _raise_issued(told, issuers, lists, _NO_CERTIFICATE)
+    issuer.raise_fault(told, _NO_CERTIFICATE)
     return Certificate(octets)
 
 
-_NO_LIST = "the issuers are no path to a CA"
+_NO_LIST = "issuers: expected the certificates down to a CA"
 
 
 def _revoked(what: int | Certificate | Entry, since: datetime) -> tuple[raw.Time, bytes]:
@@ -1133,12 +1184,12 @@ def _revoked(what: int | Certificate | Entry, since: datetime) -> tuple[raw.Time
         since, number = what.revoked_at, what.serial_number
     else:
         number = what.serial_number if isinstance(what, Certificate) else what
-    return _time(since), _list_number(number, "a serial number")
+    return _time(since, "revoked"), _list_number(number, "revoked")
 
 
 def _list_number(number: int, name: str) -> bytes:
     if not 0 <= number < 1 << 160:
-        raise ValueError(f"{name} isn't below 2^160")
+        raise ValueError(f"{name}: expected a number from 0 to 2^160 - 1")
     return number.to_bytes(20, "big")
 
 
@@ -1149,6 +1200,7 @@ def prepare_list(
     this_update: datetime | None = None,
     revoked: Iterable[int | Certificate | Entry] = (),
     previous: Octets | RevocationList | None = None,
+    expired: Iterable[Octets | Certificate] = (),
     number: int | None = None,
     lists: Sequence[Octets | RevocationList] | None,
     locator: Octets | None,
@@ -1159,30 +1211,42 @@ def prepare_list(
     """Prepares the issuer's next revocation list for its signature, or its first one, and gives the
     octets that are to be signed by the issuer's key, as `prepare` does.
 
-    `previous` is the issuer's list before, all of whose entries stay. `revoked` are revoked now:
-    certificates or serial numbers, from this update on, or an Entry with a moment of its own.
-    `number` is greater than that of the list before; it is one more where it isn't given, and 1 of
-    a first list. `this_update` is the moment of `at` where it isn't given. The others are as for
-    `prepare`.
+    `previous` is the issuer's list before. Its entries stay, except for those that
+    `RevocationList(previous).expired(expired)` returns: their certificates are among `expired`, and
+    had expired before that list was issued. `revoked` are revoked now: certificates or serial
+    numbers, from this update on, or an Entry with a time of its own. `number` is greater than that
+    of the list before; by default it is one more, and 1 for a first list. `this_update` is by
+    default the time `at`. The others are as for `prepare`.
 
     Raises the Fault of what is wrong: of the issuer's path with its place, and else IssuingFault or
     RevocationFault with the place behind the path; and ValueError where a value is none.
     """
-    _check_names(issuers, chain_names)
     now = datetime.now(timezone.utc) if at is None else at
+    issuer = _Issuer.of(issuers, lists, locator, now, strict, chain_names)
     since = now if this_update is None else this_update
     if number is not None and number < 1:
-        raise ValueError("the number of a list isn't above 0")
-    asked = raw.wanted_list(
-        _issuer(Kind.AUTHORITY, issuers, lists, locator, now, strict),
-        b"" if previous is None else _octets(previous, "previous"),
-        [_revoked(it, since) for it in revoked],
-        (_time(since, "this_update"), _time(next_update, "next_update")),
-        _list_number(number or 0, "the number of a list"),
-    )
-    told, octets = raw.prepare_list(asked)
-    _raise_issued(told, issuers, lists, _NO_LIST)
-    return octets
+        raise ValueError("number: expected a number from 1 to 2^159 - 1")
+    updates = _time(since, "this_update"), _time(next_update, "next_update")
+    before = b"" if previous is None else _octets(previous, "previous")
+
+    def prepared(before: bytes, entries: list[tuple[raw.Time, bytes]], number: int) -> bytes:
+        asked = issuer.question(Kind.AUTHORITY)
+        count = _list_number(number, "number")
+        told, octets = raw.prepare_list(raw.wanted_list(asked, before, entries, updates, count))
+        issuer.raise_fault(told, _NO_LIST)
+        return octets
+
+    entries = [_revoked(it, since) for it in revoked]
+    octets = prepared(before, entries, number or 0)
+    if not before:
+        return octets
+    its = RevocationList(before)
+    dropped = set(its.expired(expired))
+    if not dropped:
+        return octets
+    # the list before was checked above: this one is made as a first list, of what stays of it
+    kept = [_revoked(it, since) for it in its if it not in dropped]
+    return prepared(b"", kept + entries, number or its.number + 1)
 
 
 def complete_list(
@@ -1203,12 +1267,12 @@ def complete_list(
     Raises RevocationFault with the name BadSignature where the signature isn't good, and else the
     Fault of what is wrong.
     """
-    _check_names(issuers, chain_names)
+    issuer = _Issuer.of(issuers, lists, locator, at, strict, chain_names)
     asked = raw.list_completion(
-        _issuer(Kind.AUTHORITY, issuers, lists, locator, at, strict),
+        issuer.question(Kind.AUTHORITY),
         _bytes(prepared, "prepared"),
         _bytes(signature, "signature"),
     )
     told, octets = raw.complete_list(asked)
-    _raise_issued(told, issuers, lists, _NO_LIST)
+    issuer.raise_fault(told, _NO_LIST)
     return RevocationList(octets)

@@ -21,7 +21,7 @@ import json
 import os
 import re
 import sys
-from collections.abc import Iterator, Sequence
+from collections.abc import Sequence
 from datetime import datetime, timezone
 from typing import Any
 
@@ -38,6 +38,7 @@ from . import (
     RevocationList,
     validate,
 )
+from ._names import values
 
 MOST = 64 << 20  # octets of a file
 LAST = {
@@ -65,26 +66,17 @@ ATTRIBUTES = {
 Item = dict[str, Any]
 
 
-def values(data: bytes) -> Iterator[tuple[int, bytes]]:
-    """The identifiers and contents of values of DER, which the library has read."""
-    while data:
-        length, at = data[1], 2
-        if length >= 128:
-            at += length - 128
-            length = int.from_bytes(data[2:at], "big")
-        yield data[0], data[at : at + length]
-        data = data[at + length :]
-
-
 def name(der: bytes) -> str:
     """A name as `rpki show` prints it."""
 
     def attribute(content: bytes) -> str:
-        (_, kind), (_, value) = values(content)
+        (_, kind, _), (_, value, _) = values(content)
         return ATTRIBUTES.get(kind, "oid:" + kind.hex().upper()) + "=" + value.decode("latin-1")
 
-    ((_, parts),) = values(der)
-    return ", ".join("+".join(attribute(one) for _, one in values(part)) for _, part in values(parts))
+    ((_, parts, _),) = values(der)
+    return ", ".join(
+        "+".join(attribute(one.content) for one in values(part)) for _, part, _ in values(parts)
+    )
 
 
 def seconds(moment: datetime) -> int:

@@ -435,12 +435,12 @@ def names(members: Sequence[bytes]) -> tuple[int, int]:
 
 
 def folder_question(
-    strings: Sequence[bytes], locator: bytes, now: Time, strict: bool, depth: int, steps: int
+    strings: Strings, locator: bytes, now: Time, strict: bool, depth: int, steps: int
 ) -> FolderQuestion:
     """A question about a folder."""
     return FolderQuestion(
         ctypes.sizeof(FolderQuestion),
-        strings_of(strings),
+        strings,
         *octets_of(locator),
         now,
         depth,

@@ -31,6 +31,7 @@ from rpki import (
     State,
     judge_folder,
 )
+from rpki._names import text_of
 
 # most tests check neither the TAL's key nor, where they issue, CRLs
 validate = functools.partial(rpki.validate, locator=None)
@@ -132,6 +133,68 @@ class Certificates(unittest.TestCase):
             for read in (Certificate, RevocationList):
                 with self.assertRaises(TypeError):
                     read(cast(Any, other))
+
+
+def der(tag: int, *parts: bytes) -> bytes:
+    content = b"".join(parts)
+    return bytes([tag, len(content)]) + content
+
+
+class Names(unittest.TestCase):
+    def test_examples(self) -> None:
+        for name in ("anchor.cer", "object.cer", "revoked.crl"):
+            it = (RevocationList if name.endswith("crl") else Certificate)(octets(name))
+            command = ["crl" if name.endswith("crl") else "x509", "-inform", "DER", "-noout"]
+            said = openssl(*command, "-issuer", "-nameopt", "RFC2253", given=it.octets).decode()
+            self.assertEqual(f"issuer={it.issuer_text}", said.strip())
+            if isinstance(it, Certificate):
+                said = openssl(*command, "-subject", "-nameopt", "RFC2253", given=it.octets).decode()
+                self.assertEqual(f"subject={it.subject_text}", said.strip())
+
+    def test_strings(self) -> None:
+        """The examples of RFC 4514 4, and what 2.4 there asks to be escaped."""
+        identifiers = {
+            "CN": der(6, b"\x55\x04\x03"),
+            "OU": der(6, b"\x55\x04\x0b"),
+            "UID": der(6, bytes.fromhex("0992268993f22c640101")),
+            "DC": der(6, bytes.fromhex("0992268993f22c640119")),
+            "1.3.6.1.4.1.1466.0": der(6, bytes.fromhex("2b060104018b3a00")),
+        }
+
+        def part(**attributes: bytes) -> bytes:
+            pairs = (der(0x30, identifiers[name], value) for name, value in attributes.items())
+            return der(0x31, *pairs)
+
+        def text(value: str, tag: int = 0x0C) -> bytes:
+            return der(tag, value.encode("latin-1" if tag == 0x14 else "utf-8"))
+
+        net, example = part(DC=text("net", 0x16)), part(DC=text("example", 0x16))
+        odd = der(0x31, der(0x30, identifiers["1.3.6.1.4.1.1466.0"], der(4, b"Hi")))
+        wanted: list[tuple[str, list[bytes]]] = [
+            ("UID=jsmith,DC=example,DC=net", [net, example, part(UID=text("jsmith"))]),
+            (
+                "OU=Sales+CN=J.  Smith,DC=example,DC=net",
+                [net, example, part(OU=text("Sales"), CN=text("J.  Smith"))],
+            ),
+            (
+                'CN=James \\"Jim\\" Smith\\, III,DC=example,DC=net',
+                [net, example, part(CN=text('James "Jim" Smith, III'))],
+            ),
+            (
+                "CN=Before\\0DAfter,DC=example,DC=net",
+                [net, example, part(CN=text("Before\rAfter"))],
+            ),
+            ("1.3.6.1.4.1.1466.0=#04024869", [odd]),
+            ("CN=Lu\u010di\u0107", [part(CN=text("Lu\u010di\u0107"))]),
+            ("CN=\\ a \\ ", [part(CN=text(" a  "))]),
+            ("CN=\\#1\\;\\<\\>\\\\", [part(CN=text("#1;<>\\"))]),
+            ("CN=\u00e9", [part(CN=text("\u00e9", 0x14))]),
+            ("CN=\\E2\\80\\AE\\00", [part(CN=text("\u202e\0"))]),
+            ("CN=#0C01FF", [part(CN=der(0x0C, b"\xff"))]),
+            ("", []),
+        ]
+        for name, parts in wanted:
+            self.assertEqual(text_of(der(0x30, *parts)), name)
 
 
 class Lists(unittest.TestCase):
@@ -649,7 +712,8 @@ class Issuing(unittest.TestCase):
             {"not_after": datetime(2026, 1, 1)},
         ]
         for changes in wrong:
-            with self.assertRaises(ValueError):
+            (argument,) = changes
+            with self.assertRaisesRegex(ValueError, f"^{argument}"):
                 self.prepared(Kind.AUTHORITY, "ca", [anchor], **self.ca(**changes))
         without: list[bytes] = []
         for issuers, kind in ((without, Kind.AUTHORITY), ([anchor], Kind.TRUST_ANCHOR)):
@@ -670,6 +734,15 @@ class Issuing(unittest.TestCase):
             without: Any = rpki.prepare
             with self.assertRaises(TypeError):
                 without(Kind.AUTHORITY, issuers=[anchor], key=public("ca"), **missing, **wanted)
+
+    def test_files_are_read_once(self) -> None:
+        anchor = self.anchor
+        wanted = self.ca(serial_number=5, not_before=BEGIN, not_after=END, at=self.at)
+        of_bytes, of_files = (
+            prepare(Kind.AUTHORITY, issuers=[given], key=public("ca"), **wanted)
+            for given in (anchor, io.BytesIO(anchor))
+        )
+        self.assertEqual(of_files, of_bytes)
 
     def test_wrong_signatures(self) -> None:
         anchor = self.anchor
@@ -725,6 +798,28 @@ class Issuing(unittest.TestCase):
         self.assertEqual((mine.number, mine.this_update), (1 << 158, BEGIN))
         self.assertEqual(mine.issuer, Certificate(below).subject)
         self.refuses("Revoked", 1, self.list_prepared, path, lists=[second])
+        # an entry is dropped once its certificate had expired before the list before was issued
+        early_end, early = BEGIN + timedelta(days=90), BEGIN + timedelta(days=30)
+        ended = {"serial_number": 9, "not_after": early_end, "at": early}
+        words = self.prepared(Kind.AUTHORITY, "ca", [anchor], **self.ca(**ended))
+        old = complete(
+            Kind.AUTHORITY,
+            issuers=[anchor],
+            prepared=words,
+            signature=sign(words, "anchor"),
+            at=early,
+        )
+        self.assertEqual(third.expired([old, below]), [Entry(9, self.at)])
+        self.assertEqual(third.expired([below]), [])
+        stays = [Entry(5, self.at), Entry(7, BEGIN), Entry(1, self.at)]
+        fourth = self.listed("anchor", [anchor], previous=third, expired=[old, below], revoked=[8])
+        self.assertEqual((fourth.number, list(fourth)), (10, [*stays, Entry(8, self.at)]))
+        fifth = self.listed("anchor", [anchor], previous=fourth, expired=[old], number=20)
+        self.assertEqual((fifth.number, list(fifth)), (20, list(fourth)))
+        first_of_two = self.listed("anchor", [anchor], revoked=[9], this_update=early_end)
+        self.assertEqual(first_of_two.expired([old]), [])
+        with self.assertRaises(rpki.IssuingFault):
+            self.list_prepared([anchor], previous=mine, expired=[old])
         # as openssl judges and reads them
         with tempfile.NamedTemporaryFile() as file:
             file.write(openssl("x509", "-inform", "DER", given=anchor))

@@ -7,7 +7,7 @@
 //! compared with a locator's where one is.
 //! Ends with 0 where the path is accepted, with 1 where it is rejected, and with 2 where the words
 //! or a file are not as above, or the verdict can't be written.
-use gonxebhula::{Fault, FaultKind, Holdings, Kind, Moment, Path, Place, Revocation};
+use gonxebhula::{Anchor, Fault, FaultKind, Holdings, Kind, Moment, Path, Place, Revocation};
 use std::env;
 use std::ffi::{OsStr, OsString};
 use std::fs::File;
@@ -115,11 +115,8 @@ fn run(mut words: &[OsString]) -> Result<ExitCode, String> {
     } else {
         Revocation::by_lists(&lists)
     };
-    let mut path = Path::new(&members, last, asked);
-    if let Some(file) = &locator {
-        path = path.locator(file);
-    }
-    match path.validate(now) {
+    let anchor = locator.as_deref().map_or(Anchor::AsGiven, Anchor::Located);
+    match Path::new(&members, last, asked, anchor).validate(now) {
         Ok(held) => {
             print(&held).map_err(unwritten)?;
             Ok(ExitCode::SUCCESS)

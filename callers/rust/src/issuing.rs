@@ -1,12 +1,14 @@
 //! Certificates and revocation lists that are issued where the issuer's key lies elsewhere.
 use crate::{
-    check_library, slices, sys, AsRanges, Certificate, Entry, Fault, Ipv4Ranges, Ipv6Ranges, Kind,
-    Moment, Resources, RevocationList, Uri,
+    check_library, slices, sys, Anchor, AsRanges, Certificate, Entry, Fault, Ipv4Ranges,
+    Ipv6Ranges, Kind, Moment, Resources, Revocation, RevocationList, Uri,
 };
+use std::collections::HashSet;
 
 /// What a certificate is to be. What RFC 6487 fixes isn't asked: the names, key identifiers, key usage
-/// and policy.
+/// and policy. [`Wanted::new`] makes it, and its fields are set then.
 #[derive(Clone, Debug)]
+#[non_exhaustive]
 pub struct Wanted<'a> {
     /// What it is.
     pub kind: Kind,
@@ -30,12 +32,41 @@ pub struct Wanted<'a> {
     pub trims_resources: bool,
 }
 
+impl<'a> Wanted<'a> {
+    /// Makes it of what every certificate has. It has no resources and no URIs yet.
+    pub fn new(
+        kind: Kind,
+        key: &'a [u8],
+        serial_number: [u8; 20],
+        not_before: Moment,
+        not_after: Moment,
+    ) -> Wanted<'a> {
+        Wanted {
+            kind,
+            key,
+            serial_number,
+            not_before,
+            not_after,
+            ipv4: Resources::Missing,
+            ipv6: Resources::Missing,
+            as_numbers: Resources::Missing,
+            uris: &[],
+            trims_resources: false,
+        }
+    }
+}
+
 /// What a revocation list is to be: the issuer's next one, or its first. What RFC 6487 fixes isn't
-/// asked: the issuer's name and the identifier of its key.
+/// asked: the issuer's name and the identifier of its key. [`WantedList::new`] makes it, and its
+/// fields are set then.
 #[derive(Clone, Debug)]
+#[non_exhaustive]
 pub struct WantedList<'a> {
-    /// The issuer's list before, all of whose entries stay; `None` where there was none.
+    /// The issuer's list before, if there was one. Its entries stay, but for those of `expired`.
     pub previous: Option<&'a [u8]>,
+    /// Certificates of the issuer's. The entries that [`RevocationList::expired`] returns for these
+    /// are dropped: their certificates had expired before the list before was issued.
+    pub expired: &'a [Certificate],
     /// What is revoked now, beside all that the list before has.
     pub revoked: &'a [Entry],
     /// When it is issued.
@@ -45,6 +76,20 @@ pub struct WantedList<'a> {
     /// The number, its greatest octet first: greater than the one before, and below 2^159. Where
     /// none is chosen it is one more, and 1 of a first list.
     pub number: Option<[u8; 20]>,
+}
+
+impl<'a> WantedList<'a> {
+    /// Makes it of what every list has: a first list, which revokes nothing.
+    pub fn new(this_update: Moment, next_update: Moment) -> WantedList<'a> {
+        WantedList {
+            previous: None,
+            expired: &[],
+            revoked: &[],
+            this_update,
+            next_update,
+            number: None,
+        }
+    }
 }
 
 /// What is listed of a kind of numbers, as the library takes it.
@@ -85,13 +130,24 @@ fn as_numbers(ranges: &AsRanges) -> Vec<sys::AsRange> {
     ranges.iter().map(range).collect()
 }
 
+// The number behind this one, which isn't the greatest.
+fn next(mut number: [u8; 20]) -> [u8; 20] {
+    for octet in number.iter_mut().rev() {
+        *octet = octet.wrapping_add(1);
+        if *octet != 0 {
+            break;
+        }
+    }
+    number
+}
+
 /// Who issues: the CA that a path ends in, as it is judged at a moment; or nobody above a trust anchor,
 /// which signs itself.
 #[derive(Clone, Debug)]
 pub struct Issuer<'a> {
     path: Vec<&'a [u8]>,
-    lists: Option<Vec<&'a [u8]>>,
-    locator: Option<&'a [u8]>,
+    revocation: Revocation<'a>,
+    anchor: Anchor<'a>,
     strict: bool,
     chain_names: bool,
     now: Moment,
@@ -99,43 +155,29 @@ pub struct Issuer<'a> {
 
 impl<'a> Issuer<'a> {
     /// Makes the issuer that a path of certificates ends in, as `&[Certificate]` or `&Vec<Vec<u8>>` has
-    /// them, in order, the trust anchor first.
-    pub fn new<T>(path: impl IntoIterator<Item = &'a T>, now: Moment) -> Issuer<'a>
+    /// them, in order, the trust anchor first. This is checked of revocation and of the trust anchor.
+    pub fn new<T>(
+        path: impl IntoIterator<Item = &'a T>,
+        revocation: Revocation<'a>,
+        anchor: Anchor<'a>,
+        now: Moment,
+    ) -> Issuer<'a>
     where
         T: AsRef<[u8]> + ?Sized + 'a,
     {
-        Issuer::below(slices(path), now)
-    }
-
-    /// Makes the issuer of a trust anchor: nobody is above it, and it signs itself.
-    pub fn of_anchor(now: Moment) -> Issuer<'a> {
-        Issuer::below(Vec::new(), now)
-    }
-
-    fn below(path: Vec<&'a [u8]>, now: Moment) -> Issuer<'a> {
         Issuer {
-            path,
-            lists: None,
-            locator: None,
+            path: slices(path),
+            revocation,
+            anchor,
             strict: true,
             chain_names: true,
             now,
         }
     }
 
-    /// Asks that each member below the trust anchor is unrevoked by these lists.
-    pub fn by_lists<T>(mut self, lists: impl IntoIterator<Item = &'a T>) -> Issuer<'a>
-    where
-        T: AsRef<[u8]> + ?Sized + 'a,
-    {
-        self.lists = Some(slices(lists));
-        self
-    }
-
-    /// Asks that the trust anchor has the key of this file of a locator (RFC 8630).
-    pub fn locator(mut self, file: &'a [u8]) -> Issuer<'a> {
-        self.locator = Some(file);
-        self
+    /// Makes the issuer of a trust anchor: nobody is above it, and it signs itself.
+    pub fn of_anchor(now: Moment) -> Issuer<'a> {
+        Issuer::new::<[u8]>([], Revocation::NotAsked, Anchor::AsGiven, now)
     }
 
     /// Lets names have other strings than RFC 6487 4.4 asks.
@@ -170,8 +212,8 @@ impl<'a> Issuer<'a> {
         sys::Question {
             members: &self.path,
             last: last as u32,
-            lists: self.lists.as_deref(),
-            locator: self.locator,
+            lists: self.revocation.lists(),
+            locator: self.anchor.locator(),
             strict: self.strict,
             now: self.now.0,
         }
@@ -199,7 +241,7 @@ impl<'a> Issuer<'a> {
 
     // A number and an index, of what is issued or of who issues.
     fn fault(&self, (number, index): (u32, usize)) -> Fault {
-        let lists = self.lists.as_deref().unwrap_or_default();
+        let lists = self.revocation.lists().unwrap_or_default();
         Fault::of_issued(number, index, &self.path, lists)
     }
 
@@ -254,18 +296,42 @@ impl<'a> Issuer<'a> {
     }
 
     /// Prepares the issuer's next revocation list for its signature, or its first one: returns what
-    /// the issuer's key has to sign, as [`Issuer::prepare`] does. All entries of the list before
-    /// stay, and those that are revoked now come in behind them, each serial number once.
+    /// the issuer's key has to sign, as [`Issuer::prepare`] does. The entries of the list before
+    /// stay, but for those that may be dropped. Those that are revoked now come in behind them, each
+    /// serial number once.
     pub fn prepare_list(&self, wanted: &WantedList<'_>) -> Result<Vec<u8>, Fault> {
         check_library();
         self.check_names()?;
+        if self.path.is_empty() {
+            return Err(Fault::bad_call("a list has an issuer, and there is none"));
+        }
+        let octets = self.prepared_list(wanted)?;
+        let Some(before) = wanted.previous else {
+            return Ok(octets);
+        };
+        let before = RevocationList::read(before)?;
+        let dropped = before.expired(wanted.expired)?;
+        if dropped.is_empty() {
+            return Ok(octets);
+        }
+        // the list before was checked above: this one is made as a first list, of what stays of it
+        let dropped: HashSet<Entry> = dropped.into_iter().collect();
+        let mut kept = before.entries()?;
+        kept.retain(|entry| !dropped.contains(entry));
+        kept.extend(wanted.revoked);
+        let mut first = wanted.clone();
+        first.previous = None;
+        first.revoked = &kept;
+        first.number = wanted.number.or_else(|| Some(next(before.number())));
+        self.prepared_list(&first)
+    }
+
+    // What is to be signed of a list that drops no entries.
+    fn prepared_list(&self, wanted: &WantedList<'_>) -> Result<Vec<u8>, Fault> {
         let entry = |it: &Entry| sys::Entry {
             date: it.revoked_at.0,
             serial: it.serial_number,
         };
-        if self.path.is_empty() {
-            return Err(Fault::bad_call("a list has an issuer, and there is none"));
-        }
         let asked = sys::WantedList {
             issuer: self.question(Kind::Authority),
             previous: wanted.previous.unwrap_or_default(),

@@ -2,7 +2,7 @@
 //! those whose issuer's key lies elsewhere, by the proved library librpki.
 //!
 //! ```no_run
-//! use gonxebhula::{FaultKind, Kind, Moment, Path, Revocation};
+//! use gonxebhula::{Anchor, FaultKind, Kind, Moment, Path, Revocation};
 //!
 //! fn files(names: &[&str]) -> std::io::Result<Vec<Vec<u8>>> {
 //!     names.iter().map(std::fs::read).collect()
@@ -12,8 +12,8 @@
 //!     let members = files(&["anchor.cer", "first.cer", "second.cer"])?;
 //!     let lists = files(&["first.crl", "second.crl"])?;
 //!     let locator = std::fs::read("anchor.tal")?;
-//!     let asked = Revocation::by_lists(&lists);
-//!     let path = Path::new(&members, Kind::Authority, asked).locator(&locator);
+//!     let (asked, anchor) = (Revocation::by_lists(&lists), Anchor::Located(&locator));
+//!     let path = Path::new(&members, Kind::Authority, asked, anchor);
 //!     match path.validate(Moment::now()) {
 //!         Ok(held) => {
 //!             for (min, max) in held.ipv4 {
@@ -59,6 +59,7 @@ pub use folder::{Folder, Judged, Line};
 pub use issuing::{Issuer, Wanted, WantedList};
 pub use moment::{Moment, NoMoment};
 
+use std::collections::HashSet;
 use std::net::{IpAddr, Ipv4Addr, Ipv6Addr};
 use std::ops::RangeInclusive;
 use std::sync::Once;
@@ -163,6 +164,16 @@ pub struct Holdings {
 }
 
 impl Holdings {
+    /// Returns the IPv4 addresses as prefixes, the fewest that make them up.
+    pub fn ipv4_prefixes(&self) -> Vec<(Ipv4Addr, u8)> {
+        ipv4_prefixes(&self.ipv4)
+    }
+
+    /// Returns the IPv6 addresses as prefixes, the fewest that make them up.
+    pub fn ipv6_prefixes(&self) -> Vec<(Ipv6Addr, u8)> {
+        ipv6_prefixes(&self.ipv6)
+    }
+
     /// Returns whether this address is held.
     pub fn contains(&self, address: IpAddr) -> bool {
         let length = if address.is_ipv4() { 32 } else { 128 };
@@ -192,6 +203,46 @@ impl Holdings {
         let behind = self.as_numbers.partition_point(|it| *it.start() <= number);
         behind > 0 && self.as_numbers[behind - 1].contains(&number)
     }
+}
+
+/// Returns the fewest prefixes that make up these ranges: the first address of each, and its length.
+pub fn ipv4_prefixes(ranges: &[(Ipv4Addr, Ipv4Addr)]) -> Vec<(Ipv4Addr, u8)> {
+    let bounds =
+        |(min, max): &(Ipv4Addr, Ipv4Addr)| (u32::from(*min).into(), u32::from(*max).into());
+    let address = |(first, length)| (Ipv4Addr::from(first as u32), length);
+    let ranges = ranges.iter().map(bounds);
+    ranges
+        .flat_map(|it| prefixes(it, 32))
+        .map(address)
+        .collect()
+}
+
+/// Returns the fewest prefixes that make up these ranges: the first address of each, and its length.
+pub fn ipv6_prefixes(ranges: &[(Ipv6Addr, Ipv6Addr)]) -> Vec<(Ipv6Addr, u8)> {
+    let bounds = |(min, max): &(Ipv6Addr, Ipv6Addr)| (u128::from(*min), u128::from(*max));
+    let address = |(first, length)| (Ipv6Addr::from(first), length);
+    let ranges = ranges.iter().map(bounds);
+    ranges
+        .flat_map(|it| prefixes(it, 128))
+        .map(address)
+        .collect()
+}
+
+// The fewest prefixes of a range of addresses of so many bits, the first address of each as a number.
+fn prefixes((first, last): (u128, u128), bits: u32) -> impl Iterator<Item = (u128, u8)> {
+    let mut next = (first <= last).then_some(first);
+    std::iter::from_fn(move || {
+        let first = next?;
+        // the greatest block that begins here, and one that doesn't end behind the last address
+        let fits = match (last - first).checked_add(1) {
+            Some(count) => 127 - count.leading_zeros(),
+            None => 128,
+        };
+        let host = first.trailing_zeros().min(fits).min(bits);
+        let end = first | u128::MAX.checked_shr(128 - host).unwrap_or(0);
+        next = (end < last).then(|| end + 1);
+        Some((first, (bits - host) as u8))
+    })
 }
 
 // Whether one of these ranges, which ascend, has all from the first to the last.
@@ -429,6 +480,30 @@ impl RevocationList {
         Ok(entries.into_iter().map(entry).collect())
     }
 
+    /// Returns the entries that the issuer's next list may drop, since their certificates are among
+    /// these and had expired before this list was issued (RFC 5280 3.3: an entry has to stand on one
+    /// list that was issued behind that end).
+    ///
+    /// A certificate counts if it has the name of the list's issuer as its own issuer's, and the
+    /// identifier of its key. That the issuer signed it isn't checked: give only certificates that it
+    /// issued.
+    pub fn expired<'c>(
+        &self,
+        certificates: impl IntoIterator<Item = &'c Certificate>,
+    ) -> Result<Vec<Entry>, Fault> {
+        let (issuer, key) = (self.issuer()?, Some(self.authority_key_identifier()));
+        let mut ended = HashSet::new();
+        for it in certificates {
+            let is_own = it.authority_key_identifier() == key && it.issuer()? == issuer;
+            if is_own && it.not_after() < self.this_update() {
+                ended.insert(it.serial_number());
+            }
+        }
+        let mut entries = self.entries()?;
+        entries.retain(|entry| ended.contains(&entry.serial_number));
+        Ok(entries)
+    }
+
     /// Returns whether the serial number is on the list. Whose list it is isn't checked. Each call
     /// reads the list: [`RevocationList::contains_each`] reads it once for many serial numbers.
     pub fn contains(&self, serial_number: &[u8; 20]) -> Result<bool, Fault> {
@@ -491,6 +566,33 @@ impl<'a> Revocation<'a> {
     {
         Revocation::ByLists(slices(lists))
     }
+
+    fn lists(&self) -> Option<&[&'a [u8]]> {
+        match self {
+            Revocation::ByLists(lists) => Some(lists),
+            Revocation::NotAsked => None,
+        }
+    }
+}
+
+/// What is checked of the trust anchor. It has no default, since either choice decides what is
+/// accepted.
+#[derive(Clone, Copy, Debug, PartialEq, Eq, Hash)]
+#[non_exhaustive]
+pub enum Anchor<'a> {
+    /// It has the key of this file of a trust anchor locator (TAL, RFC 8630).
+    Located(&'a [u8]),
+    /// Nothing: anybody's is accepted.
+    AsGiven,
+}
+
+impl<'a> Anchor<'a> {
+    fn locator(self) -> Option<&'a [u8]> {
+        match self {
+            Anchor::Located(file) => Some(file),
+            Anchor::AsGiven => None,
+        }
+    }
 }
 
 /// The octets of each, in their order.
@@ -504,14 +606,15 @@ where
 /// A path of certificates, and what is asked of it.
 ///
 /// ```no_run
-/// # use gonxebhula::{Kind, Moment, Path, Revocation};
+/// # use gonxebhula::{Anchor, Kind, Moment, Path, Revocation};
 /// # fn main() -> Result<(), Box<dyn std::error::Error>> {
 /// let mut members = Vec::new();
 /// for name in ["anchor.cer", "ca.cer", "object.cer"] {
 ///     members.push(std::fs::read(name)?);
 /// }
 /// let locator = std::fs::read("anchor.tal")?;
-/// let path = Path::new(&members, Kind::EndEntity, Revocation::NotAsked).locator(&locator);
+/// let anchor = Anchor::Located(&locator);
+/// let path = Path::new(&members, Kind::EndEntity, Revocation::NotAsked, anchor);
 /// match path.validate("2026-06-01T12:00:00Z".parse()?) {
 ///     Ok(held) => println!("{:?}", held.as_numbers),
 ///     Err(fault) => println!("{fault}: {:?}", fault.place()),
@@ -524,19 +627,20 @@ pub struct Path<'a> {
     members: Vec<&'a [u8]>,
     last: Kind,
     revocation: Revocation<'a>,
-    locator: Option<&'a [u8]>,
+    anchor: Anchor<'a>,
     strict: bool,
     chain_names: bool,
 }
 
 impl<'a> Path<'a> {
     /// Makes a path of these certificates, as `&[Certificate]` or `&Vec<Vec<u8>>` has them, in order,
-    /// the trust anchor first. The last one is judged as of this kind, and this is asked about
-    /// revocation.
+    /// the trust anchor first. The last one is judged as of this kind, and this is checked of
+    /// revocation and of the trust anchor.
     pub fn new<T>(
         members: impl IntoIterator<Item = &'a T>,
         last: Kind,
         revocation: Revocation<'a>,
+        anchor: Anchor<'a>,
     ) -> Path<'a>
     where
         T: AsRef<[u8]> + ?Sized + 'a,
@@ -545,16 +649,10 @@ impl<'a> Path<'a> {
             members: slices(members),
             last,
             revocation,
-            locator: None,
+            anchor,
             strict: true,
             chain_names: true,
         }
-    }
-
-    /// Asks that the trust anchor has the key of this file of a locator (RFC 8630).
-    pub fn locator(mut self, file: &'a [u8]) -> Path<'a> {
-        self.locator = Some(file);
-        self
     }
 
     /// Lets names have other strings than RFC 6487 4.4 asks, and a locator's comments any octets.
@@ -589,11 +687,8 @@ impl<'a> Path<'a> {
         let question = sys::Question {
             members: &self.members,
             last: self.last as u32,
-            lists: match &self.revocation {
-                Revocation::ByLists(lists) => Some(lists),
-                Revocation::NotAsked => None,
-            },
-            locator: self.locator,
+            lists: self.revocation.lists(),
+            locator: self.anchor.locator(),
             strict: self.strict,
             now: now.0,
         };

@@ -1,7 +1,7 @@
 //! Moments of UTC.
 use crate::sys;
 use std::fmt;
-use std::time::{SystemTime, UNIX_EPOCH};
+use std::time::{Duration, SystemTime, UNIX_EPOCH};
 
 /// A second of UTC in the years 0 to 9999.
 #[derive(Clone, Copy, Debug, PartialEq, Eq)]
@@ -80,6 +80,22 @@ impl Moment {
             second: (rest % 60) as u8,
             unused: 0,
         })
+    }
+
+    /// Returns how many seconds it is after 1970-01-01T00:00:00Z, without leap seconds; negative
+    /// before.
+    pub fn timestamp(&self) -> i64 {
+        let ((year, month, day), (hour, minute, second)) = self.parts();
+        // years begin in March here, and count from the year -400, since none of them is negative then
+        let (year, month) = (i64::from(year) + 400, i64::from(month));
+        let (year, from_march) = match month {
+            1 | 2 => (year - 1, month + 9),
+            _ => (year, month - 3),
+        };
+        let of_year = (153 * from_march + 2) / 5 + i64::from(day) - 1;
+        let days = 365 * year + year / 4 - year / 100 + year / 400 + of_year;
+        let of_day = i64::from(hour) * 3_600 + i64::from(minute) * 60 + i64::from(second);
+        (days - 146_097 - 719_468) * 86_400 + of_day
     }
 
     /// Returns the year, the month and the day.
@@ -165,6 +181,17 @@ impl std::str::FromStr for Moment {
             _ => (0, 0, 0),
         };
         Moment::new(year, number(5), number(8), hour, minute, second).ok_or(NoMoment)
+    }
+}
+
+impl From<Moment> for SystemTime {
+    fn from(it: Moment) -> SystemTime {
+        let seconds = it.timestamp();
+        let distance = Duration::from_secs(seconds.unsigned_abs());
+        match seconds {
+            0.. => UNIX_EPOCH + distance,
+            _ => UNIX_EPOCH - distance,
+        }
     }
 }
 

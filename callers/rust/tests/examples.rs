@@ -1,10 +1,10 @@
 //! Tests the crate over the files of examples/, whose contents examples/make.sh says.
 use gonxebhula::{
-    Certificate, Fault, FaultCode, FaultKind, Folder, Judged, Kind, Line, Moment, Path, Place,
-    Resources, Revocation, RevocationList, Uri,
+    ipv4_prefixes, ipv6_prefixes, Anchor, Certificate, Fault, FaultCode, FaultKind, Folder, Judged,
+    Kind, Line, Moment, Path, Place, Resources, Revocation, RevocationList, Uri,
 };
 use std::net::{IpAddr, Ipv4Addr, Ipv6Addr};
-use std::time::{Duration, UNIX_EPOCH};
+use std::time::{Duration, SystemTime, UNIX_EPOCH};
 
 const NOON: [u16; 6] = [2026, 6, 1, 12, 0, 0];
 
@@ -139,11 +139,12 @@ fn where_reading_stops_is_told() {
         [&members[0], &damaged],
         Kind::Authority,
         Revocation::NotAsked,
+        Anchor::AsGiven,
     );
     let fault = rejected(&path, NOON, "BadValue", Some(Place::Member(1)));
     assert_eq!(stop(fault), (13, SERIAL.to_owned()));
     let asked = Revocation::by_lists([&lists[0], &members[0]]);
-    let path = Path::new(&members[..2], Kind::Authority, asked);
+    let path = Path::new(&members[..2], Kind::Authority, asked, Anchor::AsGiven);
     let fault = path.validate(at(NOON)).unwrap_err();
     assert_eq!(fault.place(), Some(Place::List(1)));
     assert_eq!(stop(fault), (8, "the version".to_owned()));
@@ -153,7 +154,8 @@ fn where_reading_stops_is_told() {
 fn a_path_is_accepted() {
     let ((members, lists), locator) = (example(), octets("anchor.tal"));
     let asked = Revocation::by_lists(&lists);
-    let path = Path::new(&members, Kind::EndEntity, asked).locator(&locator);
+    let located = Anchor::Located(&locator);
+    let path = Path::new(&members, Kind::EndEntity, asked, located);
     let held = path.validate(at(NOON)).unwrap();
     let (min, max) = (Ipv4Addr::new(10, 1, 2, 0), Ipv4Addr::new(10, 1, 2, 255));
     assert_eq!(held.ipv4, [(min, max)]);
@@ -167,10 +169,12 @@ fn a_path_is_accepted() {
         .iter()
         .map(|it| RevocationList::read(it).unwrap())
         .collect();
-    let path = Path::new(&certificates, Kind::EndEntity, Revocation::by_lists(&read));
+    let asked = Revocation::by_lists(&read);
+    let path = Path::new(&certificates, Kind::EndEntity, asked, located);
     assert_eq!(path.validate(at(NOON)).as_ref(), Ok(&held));
     let asked = Revocation::ByLists(lists.iter().map(Vec::as_slice).collect());
-    let path = Path::new(members.iter().map(Vec::as_slice), Kind::EndEntity, asked);
+    let slices = members.iter().map(Vec::as_slice);
+    let path = Path::new(slices, Kind::EndEntity, asked, located);
     assert_eq!(path.validate(at(NOON)), Ok(held));
 }
 
@@ -184,7 +188,7 @@ fn rejected(path: &Path<'_>, now: [u16; 6], name: &str, place: Option<Place>) ->
 fn paths_are_rejected() {
     let (members, lists) = example();
     let (revoked, tampered) = (octets("revoked.crl"), octets("tampered.cer"));
-    let under = |asked| Path::new(&members[..3], Kind::Authority, asked);
+    let under = |asked| Path::new(&members[..3], Kind::Authority, asked, Anchor::AsGiven);
     let path = under(Revocation::NotAsked);
     let late = [2036, 1, 1, 0, 0, 1];
     let anchors = Some(Place::Member(0));
@@ -213,11 +217,12 @@ fn paths_are_rejected() {
     for more in [&revoked[..], &[0]] {
         let behind = [&lists[1][..], more].concat();
         let asked = Revocation::by_lists([&lists[0], &behind]);
-        let path = Path::new(&members[..3], Kind::Authority, asked);
+        let path = Path::new(&members[..3], Kind::Authority, asked, Anchor::AsGiven);
         rejected(&path, NOON, "Trailing", Some(Place::List(1)));
     }
     let other = [&members[0], &members[1], &tampered];
-    let path = Path::new(other, Kind::Authority, Revocation::NotAsked);
+    let asked = Revocation::NotAsked;
+    let path = Path::new(other, Kind::Authority, asked, Anchor::AsGiven);
     let fault = rejected(&path, NOON, "BadSignature", Some(Place::Member(2)));
     assert_eq!(fault.kind(), FaultKind::Verification);
 }
@@ -225,11 +230,14 @@ fn paths_are_rejected() {
 #[test]
 fn locators_are_asked() {
     let ((members, _), locator) = (example(), octets("anchor.tal"));
-    let to = |members| Path::new(members, Kind::Authority, Revocation::NotAsked);
-    let path = to(&members[1..3]).locator(&locator);
+    let to = |members, file| {
+        let located = Anchor::Located(file);
+        Path::new(members, Kind::Authority, Revocation::NotAsked, located)
+    };
+    let path = to(&members[1..3], &locator);
     let fault = rejected(&path, NOON, "OtherKey", Some(Place::Member(0)));
     assert_eq!(fault.kind(), FaultKind::Locator);
-    let path = to(&members[..1]).locator(b"\n");
+    let path = to(&members[..1], b"\n");
     rejected(&path, NOON, "NoUri", None);
 }
 
@@ -321,7 +329,8 @@ fn wrong_calls_are_told() {
             "the last of several certificates is a trust anchor (BadCall)",
         ),
     ] {
-        let path = Path::new(&members[..count], last, Revocation::NotAsked);
+        let asked = Revocation::NotAsked;
+        let path = Path::new(&members[..count], last, asked, Anchor::AsGiven);
         let fault = path.validate(at(NOON)).unwrap_err();
         assert_eq!(
             (fault.kind(), fault.code()),
@@ -343,6 +352,11 @@ fn moments_are_those_of_the_calendar() {
     ] {
         let moment = Moment::from_timestamp(seconds).unwrap();
         assert_eq!(moment.to_string(), text);
+        assert_eq!(moment.timestamp(), seconds as i64);
+        assert_eq!(
+            SystemTime::from(moment),
+            UNIX_EPOCH + Duration::from_secs(seconds)
+        );
         assert_eq!(text.parse(), Ok(moment));
         let time = UNIX_EPOCH + Duration::from_secs(seconds);
         assert_eq!(Moment::try_from(time), Ok(moment));
@@ -396,7 +410,8 @@ fn there_are_no_other_moments() {
 #[test]
 fn what_is_held_can_be_asked() {
     let members = ["anchor.cer", "first.cer"].map(octets);
-    let path = Path::new(&members, Kind::Authority, Revocation::NotAsked);
+    let asked = Revocation::NotAsked;
+    let path = Path::new(&members, Kind::Authority, asked, Anchor::AsGiven);
     let held = path.validate(at(NOON)).unwrap();
     let address = |text: &str| text.parse::<IpAddr>().unwrap();
     for text in ["10.0.0.0", "10.15.255.255", "10.32.0.0", "2001:db8::1"] {
@@ -427,6 +442,67 @@ fn what_is_held_can_be_asked() {
 }
 
 #[test]
+fn ranges_are_prefixes() {
+    let four = |text: &str| text.parse::<Ipv4Addr>().unwrap();
+    let six = |text: &str| text.parse::<Ipv6Addr>().unwrap();
+    // as Python's ipaddress.summarize_address_range has them
+    for (min, max, wanted) in [
+        (
+            "10.32.0.0",
+            "10.40.255.255",
+            &["10.32.0.0/13", "10.40.0.0/16"][..],
+        ),
+        ("0.0.0.0", "255.255.255.255", &["0.0.0.0/0"]),
+        (
+            "255.255.255.255",
+            "255.255.255.255",
+            &["255.255.255.255/32"],
+        ),
+        (
+            "0.0.0.1",
+            "0.0.0.4",
+            &["0.0.0.1/32", "0.0.0.2/31", "0.0.0.4/32"],
+        ),
+        ("0.0.0.2", "0.0.0.1", &[]),
+    ] {
+        let found = ipv4_prefixes(&[(four(min), four(max))]);
+        let texts: Vec<_> = found
+            .iter()
+            .map(|(it, length)| format!("{it}/{length}"))
+            .collect();
+        assert_eq!(texts, wanted);
+    }
+    let last = "ffff:ffff:ffff:ffff:ffff:ffff:ffff:ffff";
+    for (min, max, wanted) in [
+        ("::", last, &["::/0"][..]),
+        ("8000::", last, &["8000::/1"]),
+        ("2001:db8::", "2001:db8::7", &["2001:db8::/125"]),
+        (last, last, &["ffff:ffff:ffff:ffff:ffff:ffff:ffff:ffff/128"]),
+        ("::1", "::2", &["::1/128", "::2/128"]),
+    ] {
+        let found = ipv6_prefixes(&[(six(min), six(max))]);
+        let texts: Vec<_> = found
+            .iter()
+            .map(|(it, length)| format!("{it}/{length}"))
+            .collect();
+        assert_eq!(texts, wanted);
+    }
+    let members = ["anchor.cer", "first.cer"].map(octets);
+    let (asked, anchor) = (Revocation::NotAsked, Anchor::AsGiven);
+    let held = Path::new(&members, Kind::Authority, asked, anchor)
+        .validate(at(NOON))
+        .unwrap();
+    let four = [("10.0.0.0", 12), ("10.32.0.0", 13), ("10.40.0.0", 16)];
+    let texts: Vec<_> = held
+        .ipv4_prefixes()
+        .iter()
+        .map(|it| (it.0.to_string(), it.1))
+        .collect();
+    assert_eq!(texts, four.map(|it| (it.0.to_owned(), it.1)));
+    assert_eq!(held.ipv6_prefixes(), [(six("2001:db8::"), 40)]);
+}
+
+#[test]
 fn values_are_made_and_compared() {
     let octets = octets("first.cer");
     let it = Certificate::try_from(&octets[..]).unwrap();
@@ -449,7 +525,7 @@ fn values_go_between_threads() {
         for _ in 0..4 {
             scope.spawn(|| {
                 let asked = Revocation::by_lists(&lists);
-                let path = Path::new(&members, Kind::EndEntity, asked);
+                let path = Path::new(&members, Kind::EndEntity, asked, Anchor::AsGiven);
                 assert!((0..10).all(|_| path.validate(at(NOON)).is_ok()));
             });
         }

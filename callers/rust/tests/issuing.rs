@@ -1,7 +1,7 @@
 //! Issues certificates with keys of openssl, where that is there.
 use gonxebhula::{
-    Certificate, Entry, Fault, FaultKind, Issuer, Kind, Moment, Path, Place, Resources, Revocation,
-    RevocationList, Uri, Wanted, WantedList,
+    Anchor, Certificate, Entry, Fault, FaultKind, Issuer, Kind, Moment, Path, Place, Resources,
+    Revocation, RevocationList, Uri, Wanted, WantedList,
 };
 use std::io::Write;
 use std::net::Ipv4Addr;
@@ -79,18 +79,20 @@ fn wanted<'a>(kind: Kind, key: &'a Key, uris: &'a [(Uri, &'a str)], block: u8) -
         Ipv4Addr::new(10, block, 0, 0),
         Ipv4Addr::new(10, 7, 255, 255),
     );
-    Wanted {
-        kind,
-        key: &key.public,
-        serial_number,
-        not_before: day(2026, 1),
-        not_after: day(2036, 1),
-        ipv4: Resources::Listed(vec![range]),
-        ipv6: Resources::Missing,
-        as_numbers: Resources::Listed(vec![64500..=64503]),
-        uris,
-        trims_resources: false,
-    }
+    let (from, until) = (day(2026, 1), day(2036, 1));
+    let mut it = Wanted::new(kind, &key.public, serial_number, from, until);
+    it.ipv4 = Resources::Listed(vec![range]);
+    it.as_numbers = Resources::Listed(vec![64500..=64503]);
+    it.uris = uris;
+    it
+}
+
+/// The issuer that a path ends in, of which nothing else is checked.
+fn issuer_of<'a, T: AsRef<[u8]> + ?Sized + 'a>(
+    path: impl IntoIterator<Item = &'a T>,
+    now: Moment,
+) -> Issuer<'a> {
+    Issuer::new(path, Revocation::NotAsked, Anchor::AsGiven, now)
 }
 
 fn anchor(key: &Key) -> Certificate {
@@ -117,14 +119,15 @@ fn certificates_are_issued() {
     }
     let (above, below) = (Key::new("above"), Key::new("below"));
     let anchor = anchor(&above);
-    let issuer = Issuer::new([&anchor], now());
+    let issuer = issuer_of([&anchor], now());
     let octets = issuer
         .prepare(&wanted(Kind::Authority, &below, &URIS, 1))
         .unwrap();
     let it = issuer
         .complete(Kind::Authority, &octets, &above.sign(&octets))
         .unwrap();
-    let path = Path::new([&anchor, &it], Kind::Authority, Revocation::NotAsked);
+    let asked = Revocation::NotAsked;
+    let path = Path::new([&anchor, &it], Kind::Authority, asked, Anchor::AsGiven);
     let held = path.validate(now()).unwrap();
     let range = (Ipv4Addr::new(10, 1, 0, 0), Ipv4Addr::new(10, 7, 255, 255));
     assert_eq!(held.ipv4, [range]);
@@ -154,7 +157,7 @@ fn what_is_wrong_is_refused_before_it_is_signed() {
     }
     let key = Key::new("refused");
     let anchor = anchor(&key);
-    let issuer = Issuer::new([&anchor], now());
+    let issuer = issuer_of([&anchor], now());
     let good = wanted(Kind::Authority, &key, &URIS, 1);
     let refused = |issuer: &Issuer<'_>, wanted: &Wanted<'_>, name, kind, place| {
         is_fault(issuer.prepare(wanted).unwrap_err(), name, kind, place);
@@ -207,11 +210,12 @@ fn what_is_wrong_is_refused_before_it_is_signed() {
     let mut wrong = good.clone();
     wrong.kind = Kind::TrustAnchor;
     bad_call(&wrong, "a trust anchor has no issuer");
-    let late = Issuer::new([&anchor], day(2040, 1));
+    let late = issuer_of([&anchor], day(2040, 1));
     refused(&late, &good, "Expired", FaultKind::Verification, member(0));
     let alone = Issuer::of_anchor(now());
     refused(&alone, &good, "BadCall", FaultKind::BadCall, None);
-    let listed = issuer.clone().by_lists(&[b"no list"]);
+    let asked = Revocation::by_lists(&[b"no list"]);
+    let listed = Issuer::new([&anchor], asked, Anchor::AsGiven, now());
     let fault = listed.prepare(&good).unwrap_err();
     assert_eq!(fault.place(), Some(Place::List(0)));
 }
@@ -223,13 +227,10 @@ fn serial(last: u8) -> [u8; 20] {
 }
 
 fn list_wanted<'a>(previous: Option<&'a RevocationList>, revoked: &'a [Entry]) -> WantedList<'a> {
-    WantedList {
-        previous: previous.map(RevocationList::as_bytes),
-        revoked,
-        this_update: now(),
-        next_update: day(2036, 1),
-        number: None,
-    }
+    let mut it = WantedList::new(now(), day(2036, 1));
+    it.previous = previous.map(RevocationList::as_bytes);
+    it.revoked = revoked;
+    it
 }
 
 #[test]
@@ -240,7 +241,7 @@ fn lists_are_issued() {
     let (above, below) = (Key::new("list-above"), Key::new("list-below"));
     let anchor = anchor(&above);
     let path = [anchor.as_bytes()];
-    let issuer = Issuer::new(&path, now());
+    let issuer = issuer_of(&path, now());
     let made = |wanted: &WantedList<'_>| {
         let octets = issuer.prepare_list(wanted).unwrap();
         issuer.complete_list(&octets, &above.sign(&octets)).unwrap()
@@ -268,13 +269,35 @@ fn lists_are_issued() {
         .unwrap();
     let judged = |lists: &[&RevocationList]| {
         let asked = Revocation::by_lists(lists.iter().copied());
-        Path::new([&anchor, &ca], Kind::Authority, asked).validate(now())
+        Path::new([&anchor, &ca], Kind::Authority, asked, Anchor::AsGiven).validate(now())
     };
     assert!(judged(&[&first]).is_ok());
     let fault = judged(&[&first, &second]).unwrap_err();
     let member = Some(Place::Member(1));
     is_fault(fault, "Revoked", FaultKind::Revocation, member);
     let issued = Some(Place::Issued);
+
+    // an entry is dropped once its certificate had expired before the list before was issued
+    let mut ended = wanted(Kind::Authority, &below, &URIS, 1);
+    (ended.serial_number, ended.not_after) = (serial(7), day(2026, 4));
+    let early_issuer = issuer_of(&path, day(2026, 3));
+    let octets = early_issuer.prepare(&ended).unwrap();
+    let old = early_issuer
+        .complete(Kind::Authority, &octets, &above.sign(&octets))
+        .unwrap();
+    let given = [old, ca.clone()];
+    assert_eq!(second.expired(&given).unwrap(), [entry(7, early)]);
+    let mut next = list_wanted(Some(&second), &[]);
+    next.expired = &given;
+    let third = made(&next);
+    assert_eq!(third.number(), serial(3));
+    assert_eq!(third.entries().unwrap(), [entry(5, now())]);
+    next.expired = &given[1..];
+    assert_eq!(made(&next).entries(), second.entries());
+    // that list was issued before the end
+    let mut first = list_wanted(None, &revoked);
+    first.this_update = day(2026, 4);
+    assert_eq!(made(&first).expired(&given).unwrap(), []);
 
     let refused = |wanted: &WantedList<'_>, name, kind| {
         is_fault(issuer.prepare_list(wanted).unwrap_err(), name, kind, issued);

@@ -1,0 +1,53 @@
+//! Judges certificates and CRLs in any order, below the trust anchor of a TAL.
+//!
+//! usage: folder TAL FILE..
+//!
+//! Prints a line for each file. Ends with 0 if all certificates are valid, with 1 if one isn't, or the
+//! trust anchor isn't, and with 2 if a file can't be read.
+use gonxebhula::{Fault, Folder, Judged, Line, Moment};
+use std::fs;
+use std::process::ExitCode;
+
+fn text(line: &Line, files: &[String]) -> String {
+    match line {
+        Line::Anchor => "trust anchor".to_owned(),
+        Line::Accepted { issuer, .. } => format!("accepted, below {}", files[*issuer]),
+        Line::Rejected { fault, .. } => format!("rejected: {fault}"),
+        Line::Unseen => "no accepted issuer here".to_owned(),
+        Line::List => "CRL".to_owned(),
+        _ => "neither a certificate nor a CRL".to_owned(),
+    }
+}
+
+fn judge(tal: &str, files: &[String]) -> std::io::Result<Result<Judged, Fault>> {
+    let tal = fs::read(tal)?;
+    let contents: Vec<Vec<u8>> = files.iter().map(fs::read).collect::<Result<_, _>>()?;
+    Ok(Folder::new(&contents, &tal).judge(Moment::now()))
+}
+
+fn main() -> ExitCode {
+    let words: Vec<String> = std::env::args().skip(1).collect();
+    let [tal, files @ ..] = &words[..] else {
+        eprintln!("usage: folder TAL FILE..");
+        return ExitCode::from(2);
+    };
+    let judged = match judge(tal, files) {
+        Ok(Ok(judged)) => judged,
+        Ok(Err(fault)) => {
+            println!("rejected: {fault}");
+            return ExitCode::from(1);
+        }
+        Err(error) => {
+            eprintln!("folder: {error}");
+            return ExitCode::from(2);
+        }
+    };
+    for (file, line) in files.iter().zip(&judged.lines) {
+        println!("{file}: {}", text(line, files));
+    }
+    if !judged.is_whole {
+        println!("a limit was reached: what isn't accepted may yet be valid");
+    }
+    let is_wrong = |line: &Line| matches!(line, Line::Rejected { .. } | Line::Unseen);
+    ExitCode::from(judged.lines.iter().any(is_wrong) as u8)
+}
