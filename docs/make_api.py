@@ -58,14 +58,24 @@ class Source:
                 self.cited[here or known] = (crate, module, known)
 
     def comment(self, at, marks=("///",)):
-        """The lines of comments above a line, and the attributes passed over."""
+        """The paragraphs of the comment above a line, attributes passed over. A heading as `# Errors`
+        becomes the beginning of its paragraph."""
         found = []
         at -= 1
         while at >= 0 and self.lines[at].strip().startswith((*marks, "#[")):
             if not self.lines[at].strip().startswith("#["):
                 found.append(self.lines[at].strip().lstrip("/").strip())
             at -= 1
-        return " ".join(reversed(found))
+        paragraphs, heading = [[]], ""
+        for line in reversed(found):
+            if line.startswith("# "):
+                heading = f"**{line[2:]}**:"
+            if not line or line.startswith(("# ", "- ")):
+                paragraphs.append([])
+            if line and not line.startswith("# "):
+                paragraphs[-1] += [heading, line] if heading else [line]
+                heading = ""
+        return [" ".join(lines) for lines in paragraphs if lines]
 
     def signature(self, at):
         """A function's head with its clauses, without its body. The braces of a clause are closed
@@ -232,9 +242,12 @@ def wrapped(text, width=100):
 
 def entry(page, title, source, at, code, level, marks=("///",)):
     out = [f"{'#' * level} {title}", ""]
-    comment = source.comment(at, marks)
-    if comment:
-        out += wrapped(comment) + [""]
+    for paragraph in source.comment(at, marks):
+        if paragraph.startswith("- "):
+            first, *rest = wrapped(paragraph, 98)
+            out[-1:] = ([""] if not out[-2].startswith(("- ", "  ")) else []) + [first] + [f"  {line}" for line in rest] + [""]
+        else:
+            out += wrapped(paragraph) + [""]
     out += ["```rust"] + code + ["```", ""]
     cited = links(page, source, "\n".join(code))
     if cited:
