@@ -1,8 +1,8 @@
 #!/usr/bin/env python3
-"""Writes docs/TRUSTED.md: what has to be believed for each headline.
+"""Writes docs/TRUSTED.md, what has to be believed for each headline, and its two numbers in README.
 
-    docs/make_trusted.py            writes the page
-    docs/make_trusted.py --check    writes nothing, and exits with 1 if the page would change
+    docs/make_trusted.py            writes the page, and the numbers
+    docs/make_trusted.py --check    writes nothing, and exits with 1 if one of the two would change
 
 For each headline it follows the imports of the definitions that its contract cites, file by file.
 Plain Python 3, standard library alone.
@@ -13,6 +13,7 @@ from pathlib import Path
 
 ROOT = Path(__file__).resolve().parent.parent
 PAGE = ROOT / "docs" / "TRUSTED.md"
+README = ROOT / "README.md"
 
 # A headline: its anchor and name, the call, and the definitions that its contract cites. The verifier
 # is one of the caller's choice, unless the headline names RSA's.
@@ -144,14 +145,22 @@ def page():
     return "\n".join(made) + "\n\n" + TAIL
 
 
+def readme():
+    """README with the numbers of the headline whose files are listed first."""
+    paths = closure(HEADLINES[LISTED][2])
+    said = f"{len(paths)} files of definitions ({sum(map(lines_of, paths)):,} lines"
+    return re.sub(r"\d+ files of definitions \([\d,]+ lines", said, README.read_text())
+
+
 def main():
-    text = page()
+    made = {PAGE: page(), README: readme()}
     if "--check" in sys.argv[1:]:
-        if PAGE.read_text() != text:
-            print("docs/TRUSTED.md would change")
-            sys.exit(1)
-    else:
-        PAGE.write_text(text)
+        stale = [path for path, text in made.items() if path.read_text() != text]
+        for path in stale:
+            print(f"{path.relative_to(ROOT)} would change")
+        sys.exit(1 if stale else 0)
+    for path, text in made.items():
+        path.write_text(text)
 
 
 if __name__ == "__main__":
