@@ -64,7 +64,9 @@ def inline(words, is_bare=False):
         while set(words[end - 1]) <= CLOSING:
             end -= 1
         left, right = AROUND[words[0]]
-        return join([left + inline(words[1:end], is_bare) + right, *words[end:]])
+        inner = next((at for at in range(1, end) if words[at] in AROUND), end)
+        parts = [inline(words[1:inner], is_bare)] + ([inline(words[inner:end], is_bare)] if inner < end else [])
+        return join([left + " ".join(parts) + right, *words[end:]])
     parts, macro, taken = [], None, []
 
     def close():
