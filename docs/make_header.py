@@ -1,7 +1,7 @@
 #!/usr/bin/env python3
-"""Writes what callers read of the tables of faults in crates/rpki_files: the numbers of parts and
-faults in include/rpki.h, the enums FaultCode of callers/python and callers/rust, and the names of
-faults in the documentation of callers/rust.
+"""Writes what callers read of the tables of faults in crates/rpki_files: the numbers, names and
+sentences of faults in include/rpki.h, the enums FaultCode of callers/python and callers/rust, and
+the names of faults in the documentation of callers/rust.
 
     docs/make_header.py            writes all
     docs/make_header.py --check    writes nothing, and exits with 1 where one isn't up to date
@@ -64,6 +64,40 @@ def parts(text):
     """The number and the name of each part."""
     for number, name in enumerate(re.findall(r'^    "(\w+)"', rows(text, "PARTS"), re.M)):
         yield number, f"RPKI_FIELD_{upper(name)}"
+
+
+def texts(text):
+    """The number, the name and the sentence of each fault; of one that speaks of a part, the texts
+    before and behind the part's name."""
+    row = r'^    (\d+) "(\w+)" "([^"]*)"(?: "([^"]*)")?'
+    for table in PREFIXES:
+        for number, name, before, behind in re.findall(row, rows(text, table), re.M):
+            has_part = re.search(rf'^    {number} "\w+" "[^"]*" "', rows(text, table), re.M)
+            yield int(number), name, before, behind if has_part else None
+
+
+FIELD_TEXTS = "#define RPKI_EACH_FIELD("
+FAULT_TEXTS = "#define RPKI_EACH_FAULT("
+
+
+def defined(header, macro, head, lines):
+    """The header with these lines in a macro's definition, up to the empty line behind it."""
+    begin = header.index(macro)
+    end = header.index("\n\n", begin)
+    told = [head, *(f"    {line}" for line in lines)]
+    width = max(map(len, told)) + 1
+    return header[:begin] + "\n".join([f"{it:<{width}}\\" for it in told[:-1]] + told[-1:]) + header[end:]
+
+
+def with_texts(header, text):
+    """The header with the names and sentences of faults."""
+    fields = [f'X(number + {number}, name, before "{name}" behind)'
+              for number, name in enumerate(re.findall(r'^    "(\w+)"', rows(text, "PARTS"), re.M))]
+    faults = [f'X({number}, "{name}", "{before}")' if behind is None
+              else f'RPKI_EACH_FIELD(X, {number}, "{name}", "{before}", "{behind}")'
+              for number, name, before, behind in sorted(texts(text), key=lambda it: it[0])]
+    made = defined(header, FIELD_TEXTS, f"{FIELD_TEXTS}X, number, name, before, behind)", fields)
+    return defined(made, FAULT_TEXTS, f"{FAULT_TEXTS}X)", faults)
 
 
 def comments(body):
@@ -178,6 +212,7 @@ def main():
     text, header, crate = TABLES.read_text(), HEADER.read_text(), CRATE.read_text()
     made = enum(header, "rpki_field", list(parts(text)))
     made = enum(made, "rpki_fault", sorted(faults(text)))
+    made = with_texts(made, text)
     told = crate
     for kind, table in KINDS.items():
         told = documented(told, kind, re.findall(r'^    \d+ "(\w+)"', rows(text, table), re.M))

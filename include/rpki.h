@@ -65,6 +65,22 @@ extern "C" {
 /* Tells the number of the library's interface. */
 uint32_t rpki_abi_version(void);
 
+/* Each struct that has a `size` has an initialiser, which sets the size and leaves all else 0:
+ * struct rpki_question question = RPKI_QUESTION_INIT; */
+#ifdef __cplusplus
+#define RPKI_SIZE(type) sizeof(type)
+#define RPKI_ISSUER RPKI_QUESTION_INIT
+#else
+#define RPKI_SIZE(type) .size = sizeof(type)
+#define RPKI_ISSUER .issuer = RPKI_QUESTION_INIT
+#endif
+#define RPKI_QUESTION_INIT {RPKI_SIZE(struct rpki_question)}
+#define RPKI_FOLDER_QUESTION_INIT {RPKI_SIZE(struct rpki_folder_question)}
+#define RPKI_WANTED_INIT {RPKI_SIZE(struct rpki_wanted), RPKI_ISSUER}
+#define RPKI_COMPLETION_INIT {RPKI_SIZE(struct rpki_completion), RPKI_ISSUER}
+#define RPKI_WANTED_LIST_INIT {RPKI_SIZE(struct rpki_wanted_list), RPKI_ISSUER}
+#define RPKI_LIST_COMPLETION_INIT {RPKI_SIZE(struct rpki_list_completion), RPKI_ISSUER}
+
 /* ---- faults */
 
 /* Numbers the parts of a certificate or list that some faults of reading speak of. The fault's
@@ -199,6 +215,120 @@ uint32_t rpki_fault_name(uint32_t fault, uint8_t *out, size_t room, uint64_t *co
 /* Writes what the fault means: "overclaimed IPv4 resources". Answers RPKI_BAD_CALL where no fault
  * has the number. */
 uint32_t rpki_fault_sentence(uint32_t fault, uint8_t *out, size_t room, uint64_t *count);
+
+/* Give the number, the name and the sentence of each fault to a macro X. */
+#define RPKI_EACH_FIELD(X, number, name, before, behind)            \
+    X(number + 0, name, before "BasicConstraints" behind)           \
+    X(number + 1, name, before "SubjectKeyIdentifier" behind)       \
+    X(number + 2, name, before "AuthorityKeyIdentifier" behind)     \
+    X(number + 3, name, before "KeyUsage" behind)                   \
+    X(number + 4, name, before "ExtendedKeyUsage" behind)           \
+    X(number + 5, name, before "CrlDistributionPoints" behind)      \
+    X(number + 6, name, before "AuthorityInformationAccess" behind) \
+    X(number + 7, name, before "SubjectInformationAccess" behind)   \
+    X(number + 8, name, before "CertificatePolicies" behind)        \
+    X(number + 9, name, before "IpResources" behind)                \
+    X(number + 10, name, before "AsResources" behind)               \
+    X(number + 11, name, before "Resources" behind)                 \
+    X(number + 12, name, before "CrlNumber" behind)
+
+#define RPKI_EACH_FAULT(X)                                                        \
+    X(0, "None", "no fault")                                                      \
+    X(1, "Memory", "out of memory")                                               \
+    X(2, "BadCall", "lengths or numbers of the call don't fit")                   \
+    X(100, "Truncated", "truncated value")                                        \
+    X(101, "BadLength", "bad length")                                             \
+    X(102, "BadTag", "unexpected identifier")                                     \
+    X(103, "BadValue", "bad value")                                               \
+    X(104, "Trailing", "trailing octets")                                         \
+    X(105, "TooDeep", "values nested too deep")                                   \
+    X(106, "AlgorithmMismatch", "signature algorithm mismatch")                   \
+    X(107, "UnexpectedCritical", "unexpected critical extension")                 \
+    X(108, "InvalidExtension", "invalid extension")                               \
+    RPKI_EACH_FIELD(X, 120, "Missing", "missing ", "")                            \
+    RPKI_EACH_FIELD(X, 140, "Duplicate", "duplicate ", "")                        \
+    RPKI_EACH_FIELD(X, 160, "Critical", "", " is critical")                       \
+    RPKI_EACH_FIELD(X, 180, "NotCritical", "", " is not critical")                \
+    RPKI_EACH_FIELD(X, 200, "WrongResources", "wrong identifier of ", "")         \
+    X(300, "AlgorithmMismatch", "signature algorithm mismatch")                   \
+    X(301, "Issuer", "invalid issuer")                                            \
+    X(302, "Subject", "invalid subject")                                          \
+    X(303, "KeyAlgorithm", "invalid key algorithm")                               \
+    X(304, "SubjectKeyIdentifier", "subject key identifier mismatch")             \
+    X(305, "ExtendedKeyUsagePresent", "extended key usage present")               \
+    X(306, "CaFlagFalse", "CA flag is false")                                     \
+    X(307, "MissingBasicConstraints", "missing basic constraints")                \
+    X(308, "KeyUsage", "wrong key usage")                                         \
+    X(309, "MissingCaRepository", "missing CA repository")                        \
+    X(310, "MissingManifest", "missing manifest")                                 \
+    X(311, "ManifestNotChild", "manifest outside the repository")                 \
+    X(312, "SignedObjectPresent", "signed object present")                        \
+    X(313, "AuthorityKeyIdentifier", "authority key identifier mismatch")         \
+    X(314, "CrlUriPresent", "CRL URI present")                                    \
+    X(315, "CaIssuerPresent", "CA issuer present")                                \
+    X(316, "MissingCrlUri", "missing CRL URI")                                    \
+    X(317, "BasicConstraintsPresent", "basic constraints present")                \
+    X(318, "CaRepositoryPresent", "CA repository present")                        \
+    X(319, "ManifestPresent", "manifest present")                                 \
+    X(320, "MissingSignedObject", "missing signed object")                        \
+    X(321, "MissingExtendedKeyUsage", "missing extended key usage")               \
+    X(322, "MissingRouterPurpose", "missing router purpose")                      \
+    X(323, "SubjectInformationPresent", "subject information access present")     \
+    X(324, "IpResourcesPresent", "IP resources present")                          \
+    X(325, "MissingAsResources", "missing AS resources")                          \
+    X(326, "InheritedAsResources", "inherited AS resources")                      \
+    X(400, "NotYetValid", "certificate not yet valid")                            \
+    X(401, "Expired", "certificate expired")                                      \
+    X(402, "InheritedV4", "inherited IPv4 resources")                             \
+    X(403, "InheritedV6", "inherited IPv6 resources")                             \
+    X(404, "InheritedAs", "inherited AS resources")                               \
+    X(405, "MissingKeyId", "missing authority key identifier")                    \
+    X(406, "WrongKeyId", "wrong authority key identifier")                        \
+    X(407, "MissingIssuerUri", "missing URI of the issuer's certificate")         \
+    X(408, "BadSignature", "bad signature")                                       \
+    X(409, "OverclaimV4", "overclaimed IPv4 resources")                           \
+    X(410, "OverclaimV6", "overclaimed IPv6 resources")                           \
+    X(411, "OverclaimAs", "overclaimed AS resources")                             \
+    X(500, "NoCrl", "missing revocation list")                                    \
+    X(501, "WrongKeyId", "wrong authority key identifier of the revocation list") \
+    X(502, "BadSignature", "bad signature of the revocation list")                \
+    X(503, "Stale", "stale revocation list")                                      \
+    X(504, "Revoked", "certificate revoked")                                      \
+    X(600, "OtherName", "the issuer isn't the subject of the certificate above")  \
+    X(601, "OtherKey", "the trust anchor's key isn't the locator's")              \
+    X(700, "NoText", "not UTF-8 text")                                            \
+    X(701, "BadUri", "bad URI")                                                   \
+    X(702, "NoUri", "no URI")                                                     \
+    X(703, "NoKey", "no key")                                                     \
+    X(704, "BadKey", "bad key")                                                   \
+    X(800, "NoKey", "no public key")                                              \
+    X(801, "UnusedKey", "a key that the RPKI doesn't use")                        \
+    X(802, "BadUri", "bad URI")                                                   \
+    X(803, "NoName", "the subject would have no name")                            \
+    X(804, "Unwritable", "fields of no certificate")                              \
+    X(805, "TooLong", "content too long")                                         \
+    X(806, "NotToSign", "not what is to be signed")                               \
+    X(807, "OtherOctets", "not the octets that are prepared of the fields")       \
+    X(808, "OtherList", "the previous list isn't one that the issuer signed")     \
+    X(809, "Number", "the number isn't greater")                                  \
+    X(810, "LongNumber", "the number is too long")                                \
+    X(811, "UpdateOrder", "the next update is before this one")
+
+/* Returns the name of a fault, as rpki_fault_name writes it, or NULL if no fault has the number. */
+static inline const char *rpki_name_of_fault(uint32_t fault) {
+#define RPKI_NAME(number, name, sentence) case number: return name;
+    switch (fault) { RPKI_EACH_FAULT(RPKI_NAME) }
+#undef RPKI_NAME
+    return NULL;
+}
+
+/* Returns what a fault means, as rpki_fault_sentence writes it, or NULL if no fault has the number. */
+static inline const char *rpki_sentence_of_fault(uint32_t fault) {
+#define RPKI_SENTENCE(number, name, sentence) case number: return sentence;
+    switch (fault) { RPKI_EACH_FAULT(RPKI_SENTENCE) }
+#undef RPKI_SENTENCE
+    return NULL;
+}
 
 /* ---- certificates */
 

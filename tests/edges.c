@@ -311,6 +311,52 @@ static void numbers(void) {
           "a name has no 0 at its end, and nothing is written behind it");
 }
 
+/* the header's texts of faults are the library's */
+static void texts(void) {
+    for (uint32_t number = 0; number < 1000; number++) {
+        uint8_t name[100], sentence[100];
+        uint64_t named = 0, said = 0;
+        uint32_t fault = rpki_fault_name(number, name, 100, &named);
+        rpki_fault_sentence(number, sentence, 100, &said);
+        const char *its_name = rpki_name_of_fault(number), *its_sentence = rpki_sentence_of_fault(number);
+        if (fault != RPKI_OK) {
+            check(its_name == NULL && its_sentence == NULL, "no fault has the number, and the header no text");
+            continue;
+        }
+        check(its_name != NULL && strlen(its_name) == named && memcmp(its_name, name, named) == 0,
+              "the header's name of a fault is the library's");
+        check(its_sentence != NULL && strlen(its_sentence) == said && memcmp(its_sentence, sentence, said) == 0,
+              "the header's sentence of a fault is the library's");
+    }
+    check(rpki_name_of_fault(UINT32_MAX) == NULL && rpki_sentence_of_fault(UINT32_MAX) == NULL, "the last number is none");
+}
+
+/* whether a struct's memory is its size and zeros behind it */
+static int is_sized(const void *it, size_t size) {
+    static const uint8_t zeros[1024];
+    size_t first;
+    memcpy(&first, it, sizeof first);
+    return first == size && memcmp((const uint8_t *)it + sizeof first, zeros, size - sizeof first) == 0;
+}
+
+/* an initialiser sets the size, and that of the question in it */
+static void initialisers(void) {
+    const struct rpki_question question = RPKI_QUESTION_INIT;
+    const struct rpki_folder_question folder = RPKI_FOLDER_QUESTION_INIT;
+    struct rpki_wanted wanted = RPKI_WANTED_INIT;
+    struct rpki_completion completion = RPKI_COMPLETION_INIT;
+    struct rpki_wanted_list list = RPKI_WANTED_LIST_INIT;
+    struct rpki_list_completion ended = RPKI_LIST_COMPLETION_INIT;
+    check(is_sized(&question, sizeof question) && is_sized(&folder, sizeof folder), "a question is initialised");
+    check(is_sized(&wanted.issuer, sizeof question) && is_sized(&completion.issuer, sizeof question)
+              && is_sized(&list.issuer, sizeof question) && is_sized(&ended.issuer, sizeof question),
+          "so is the issuer's");
+    wanted.issuer.size = completion.issuer.size = list.issuer.size = ended.issuer.size = 0;
+    check(is_sized(&wanted, sizeof wanted) && is_sized(&completion, sizeof completion) && is_sized(&list, sizeof list)
+              && is_sized(&ended, sizeof ended),
+          "what holds an issuer is initialised");
+}
+
 /* ---- certificates */
 
 /* each certificate as each kind, in both modes, and as no kind */
@@ -1740,6 +1786,8 @@ int main(int count, char **words) {
     stops(first, list);
     members(anchor);
     numbers();
+    texts();
+    initialisers();
     kinds(anchor, first, object);
     fields(anchor, second, object);
     ranges(anchor, second, object);
