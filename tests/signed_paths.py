@@ -21,7 +21,6 @@ import collections
 import dataclasses
 import ipaddress
 import json
-import math
 import os
 import random
 import re
@@ -39,34 +38,15 @@ import faults
 import random_paths
 import reference as ref
 import rsa
-import signatures
+from held import ranges_held, ranges_of
+from signers import Signer
 
-KEYS, EXPONENT = 5, 65537
+KEYS = 5
 LAST = {ref.TA: 'authority', ref.CA: 'authority', ref.EE: 'ee', ref.DETACHED: 'detached'}
 FAMILIES = (ipaddress.IPv4Address, ipaddress.IPv6Address)
 
 
 # ---- keys and signatures
-
-class Signer:
-    """A private key of four primes, whose powers are taken by the remainders of each (RFC 8017 3.2,
-    5.2.1): in a quarter of the time that two primes take, and who verifies sees no difference."""
-
-    def __init__(self):
-        primes = []
-        while len(set(primes)) < 4 or math.prod(primes).bit_length() < 2048:
-            primes = [signatures.prime(512, EXPONENT) for _ in range(4)]
-        self.modulus = math.prod(primes)
-        self.bits = signatures.sequence(*map(signatures.integer, (self.modulus, EXPONENT)))
-        rests = [self.modulus // p for p in primes]
-        self.powers = [(pow(EXPONENT, -1, p - 1), p, rest * pow(rest, -1, p))
-                       for p, rest in zip(primes, rests)]
-
-    def sign(self, message):
-        block = int.from_bytes(rsa.encoded_message(message), 'big')
-        root = sum(pow(block, power, p) * one for power, p, one in self.powers) % self.modulus
-        return root.to_bytes(256, 'big')
-
 
 def signed(rng, draft, signers):
     """The certificate, signed by the key that the draft names."""
@@ -166,8 +146,7 @@ def wanted_of(question, kinds):
     place = ref.first_unchained(question.members)
     if place is not None:
         return Answer(place, 'OtherName')
-    four = tuple((low >> 96, high >> 96) for low, high in result.v4)
-    return Answer(held=(four, tuple(map(tuple, result.v6)), tuple(map(tuple, result.asn))))
+    return Answer(held=ranges_held(result))
 
 
 def said_kind(octets):
@@ -285,20 +264,7 @@ class Command:
             fault = said['rejected']
             is_read = fault['step'] != 'reading'
             return Answer(fault['member'], fault['fault'] if is_read else '-')
-        held = ([], [], [])
-        for item in said['holds']:
-            (word, value), = item.items()
-            if word == 'asid':
-                held[2].append((value, value))
-            elif word == 'asrange':
-                held[2].append((value['min'], value['max']))
-            elif word == 'ip_prefix':
-                network = ipaddress.ip_network(value)
-                held[network.version // 6].append((int(network[0]), int(network[-1])))
-            else:
-                ends = [ipaddress.ip_address(value[end]) for end in ('min', 'max')]
-                held[ends[0].version // 6].append(tuple(map(int, ends)))
-        return Answer(held=tuple(map(tuple, held)))
+        return Answer(held=ranges_of(said['holds']))
 
 
 # ---- the run

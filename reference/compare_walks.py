@@ -1,0 +1,365 @@
+#!/usr/bin/env python3
+"""Compares what the command tells of folders into which a stranger writes with all valid paths.
+
+    python3 reference/compare_walks.py PROGRAM [--names] [--shares] [--count N] [--seed N]
+            [--only INDEX] [--jobs N] [--save FOLDER]
+
+PROGRAM is the command, as the gate builds it or as `./rpki` compiles it. Each of N folders (200 if it
+isn't said) is that of strangers.py, half of them with files of a stranger. `tree -o json` tells of
+each folder without these files, and with them. Compared is, for both,
+
+- that the trust anchor is the one that the rule chooses;
+- that each path that is told is valid, and accepts just what valid paths of that depth lead to;
+- that each fault that is told is one of the certificate below the end of a valid path;
+- that what isn't told to stand below an accepted issuer has none;
+- how far the walk went;
+
+and, of both together, that each file of the folder to which a path without the stranger's keys leads is
+accepted, whatever the stranger added, and what such a path holds, where the command tells that.
+
+The rules of the walk that hold are said by options, since what is told depends on them:
+
+--names    names are one switch: `tree` asks them of certificates and of lists, unless --no-names is
+           given, with which half of the folders are asked. Without it no names are asked.
+--shares   what is left of a CA's steps is divided among the CAs below it, and no circle is walked.
+           Then three numbers of steps are asked too, with the walk of walks.py: what is told of a
+           path without the stranger's keys mustn't depend on what the stranger added. Without it
+           a walk is asked that meets no bound but the depth; one that does is only asked whether
+           what it tells is so.
+
+A folder with more than MOST paths isn't asked. A folder that differs is made smaller, by leaving out
+files while it differs, and kept in FOLDER. A folder depends on the seed and its index alone. Prints each
+difference, what was told how often, and at the end `N passed, M failed`.
+"""
+
+import argparse
+import collections
+import concurrent.futures
+import json
+import os
+import random
+import subprocess
+import sys
+import tempfile
+from pathlib import Path
+
+import make
+import random_folders
+import reference as ref
+import rsa
+import strangers
+import walks
+from held import ranges_held, ranges_of
+from signers import Signer
+
+KEYS = 7
+DEPTH, MOST = 6, 400
+MANY_STEPS = 100000
+MOST_SECONDS = 300
+AT = '%04d-%02d-%02dT%02d:%02d:%02dZ' % random_folders.NOW
+STEPS = {'profile', 'verification', 'revocation', 'names'}
+
+
+class Told:
+    """What the command tells of a folder."""
+
+    def __init__(self, status, said, errors):
+        self.status, self.errors = status, errors
+        self.answer = json.loads(said) if said else {}
+        self.files = {it['file']: it for it in self.answer.get('files', [])}
+
+    def accepted(self):
+        return {name for name, it in self.files.items() if it['verdict'] == 'accepted'}
+
+
+def tell(program, files, locator, names, depth, steps):
+    with tempfile.TemporaryDirectory() as room:
+        for name, octets in files.items():
+            Path(room, name).write_bytes(octets)
+        Path(room, 'ta.tal').write_bytes(locator)
+        words = [] if names is None or names else ['--no-names']
+        done = subprocess.run(
+            [program, 'tree', '-o', 'json', '--at', AT, '--tal', 'ta.tal', '--depth', str(depth),
+             '--steps', str(steps), *words, '--', *files], cwd=room, check=False,
+            stdin=subprocess.DEVNULL, capture_output=True, timeout=MOST_SECONDS)
+    return Told(done.returncode, done.stdout, done.stderr.decode(errors='replace'))
+
+
+class Folder:
+    """A folder as the reference has it: all its paths, and what stands at which place."""
+
+    def __init__(self, question, files, names):
+        self.names = list(files)
+        self.walks = walks.Walks(list(files.values()), rsa.verifier, bool(names), True,
+                                 random_folders.NOW)
+        self.anchor = self.walks.chosen(question.key)
+        self.paths, self.wrong = {}, {}
+        if self.anchor:
+            self.paths, self.wrong = self.walks.all_paths(self.anchor, DEPTH, MOST)
+        self.accepting = {}
+        for found in self.paths.values():
+            for it in found:
+                self.accepting.setdefault(self.names[it.places[-1]], []).append(it)
+
+    def certificate(self, name):
+        place = self.names.index(name)
+        return next((it for at, it in self.walks.certs if at == place), None)
+
+    def path(self, names):
+        """The path of these files' names, or None where it isn't valid."""
+        certs = [self.certificate(it) for it in names]
+        if None in certs:
+            return None
+        found = self.paths.get(tuple(it.signed.data for it in certs), [])
+        places = self.names.index(names[-1])
+        return next((it for it in found if it.places[-1] == places), None)
+
+    def faults(self, name):
+        return self.wrong.get(self.names.index(name), set())
+
+
+# ---- one answer
+
+def anchor_wrongs(folder, told):
+    anchors = [name for name, it in told.files.items() if it['verdict'] == 'trust_anchor']
+    if folder.anchor is None:
+        if anchors or told.accepted():
+            yield f'there is no valid trust anchor, and it tells {anchors}, {told.accepted()}'
+        return
+    wanted = folder.anchor.certs[0].signed.data
+    if len(anchors) != 1 or folder.certificate(anchors[0]).signed.data != wanted:
+        yield f'the trust anchors are {anchors}, and wanted {folder.names[folder.anchor.places[0]]}'
+
+
+def line_wrongs(folder, name, line, ended):
+    """What is wrong of the line of a file."""
+    verdict, cert = line['verdict'], folder.certificate(name)
+    if verdict == 'accepted':
+        path = folder.path([*line['above'], name])
+        if path is None:
+            yield f'{name} is accepted below {line["above"]}, which is no valid path'
+        elif 'holds' in line and ranges_of(line['holds']) != ranges_held(path.result):
+            yield f'{name} holds {line["holds"]}, and wanted {ranges_held(path.result)}'
+    elif verdict == 'rejected':
+        fault = line['member'], line['step'], line['fault']
+        if line['step'] in STEPS and fault not in folder.faults(name):
+            yield f'{name} is rejected as {fault}, and wanted one of {sorted(folder.faults(name))}'
+    elif verdict in ('list', 'neither') and cert is not None:
+        yield f'{name} is a certificate, and {verdict} is told'
+    elif verdict not in ('list', 'neither', 'trust_anchor') and cert is None:
+        yield f'{name} is no certificate, and {verdict} is told'
+    elif verdict == 'no_issuer' and folder.faults(name) and ended != 'out_of_steps':
+        yield f'{name} has no issuer, and wanted one of {sorted(folder.faults(name))}'
+
+
+def answer_wrongs(folder, told):
+    """What is wrong of a walk that met no bound but its depth."""
+    if told.status > 1 or set(told.files) - set(folder.names):
+        yield f'status {told.status}: {told.errors}'
+        return
+    yield from anchor_wrongs(folder, told)
+    ended = told.answer.get('ended')
+    if folder.anchor is None:
+        return
+    for name, line in told.files.items():
+        yield from line_wrongs(folder, name, line, ended)
+    accepted, wanted = told.accepted(), set(folder.accepting)
+    anchors = {name for name, it in told.files.items() if it['verdict'] == 'trust_anchor'}
+    if ended != 'out_of_steps' and accepted | anchors != wanted | anchors:
+        yield f'accepted are {sorted(accepted)}, and wanted {sorted(wanted)}'
+    bounded = folder.walks.is_bounded(folder.anchor, folder.paths, DEPTH)
+    if ended != 'out_of_steps' and (ended == 'too_deep') not in bounded:
+        yield f'the walk ended {ended}'
+
+
+# ---- both answers
+
+def stranger_wrongs(question, folder, grown, told, told_then):
+    """What the stranger has changed of what its keys don't lead to."""
+    keys = question.keys
+    if (folder.anchor is None) != (grown.anchor is None):
+        yield 'the stranger has given or taken the trust anchor'
+        return
+    if folder.anchor is None or told_then.answer.get('ended') == 'out_of_steps':
+        return
+    anchors = {name for name, it in told_then.files.items() if it['verdict'] == 'trust_anchor'}
+    for name, paths in folder.accepting.items():
+        free = [it for it in paths if walks.is_free(it.certs, keys)]
+        if free and name not in told_then.accepted() | anchors:
+            yield f'{name} was accepted by a path without the stranger, and is {told_then.files[name]}'
+    for name in told_then.accepted() & set(folder.names) - anchors:
+        line = told_then.files[name]
+        path = grown.path([*line['above'], name])
+        if path and walks.is_free(path.certs, keys) and name not in told.accepted():
+            yield f'{name} is accepted by {line["above"]}, without the stranger, and was {told.files[name]}'
+
+
+def free_told(told, walk, keys):
+    """What a walk tells of paths without the keys. Where no list can be asked, which fault is told is
+    no promise (own)."""
+    certs = {it.signed.data: it for _, it in walk.certs}
+    missing = {('revocation', it) for it in ('NoCrl', 'BadSignature', 'Stale', 'WrongKeyId')}
+    found = {}
+    for path, (faults, result) in told.items():
+        if walks.is_free([certs[it] for it in path], keys):
+            found[path] = frozenset('no list' if it in missing else it for it in faults), (
+                result and (result.v4, result.v6, result.asn))
+    return found
+
+
+def share_wrongs(question, folder, told, walk, depth, steps):
+    """What is wrong of a walk that may meet a bound, beside the one of walks.py."""
+    known, _ = walk
+    by_end = collections.defaultdict(list)
+    for path, (faults, result) in known.items():
+        by_end[path[-1]].append((path, faults, result))
+    for name, line in told.files.items():
+        cert = folder.certificate(name)
+        if cert is None or line['verdict'] == 'trust_anchor':
+            continue
+        some = by_end[cert.signed.data]
+        accepting = {path for path, _, result in some if result is not None}
+        if line['verdict'] == 'accepted':
+            path = tuple(folder.certificate(it).signed.data for it in [*line['above'], name])
+            if path not in accepting:
+                yield f'{steps} steps, {depth} deep: {name} is accepted by a path that isn\'t told'
+        elif accepting and cert.tbs.signature == cert.signed.algorithm and folder.walks.verified(
+                *signed_by(folder, accepting)):
+            yield f'{steps} steps, {depth} deep: {name} is {line["verdict"]}, and a path accepts it'
+
+
+def signed_by(folder, accepting):
+    """The signature of the last certificate of a path, with the key above it."""
+    *_, above, last = next(iter(accepting))
+    certs = {it.signed.data: it for _, it in folder.walks.certs}
+    signed = certs[last].signed
+    return certs[above].tbs.key, signed.algorithm, signed.data, signed.signature
+
+
+def bounded_wrongs(program, question, folder, grown, names, rng):
+    """Walks of three numbers of steps, without the stranger's files and with them."""
+    for steps, depth in ((rng.randrange(1, 40), DEPTH), (rng.randrange(1, 40), rng.randrange(4)),
+                         (6000, DEPTH)):
+        answers = []
+        for it, files in ((folder, question.files), (grown, question.with_added())):
+            walk = it.walks.walk(it.anchor, depth, steps)
+            told = tell(program, files, question.locator, names, depth, steps)
+            yield from share_wrongs(question, it, told, walk, depth, steps)
+            answers.append(free_told(walk[0], it.walks, question.keys))
+        if answers[0] != answers[1]:
+            yield f'{steps} steps, {depth} deep: the walk of walks.py isn\'t as without the stranger'
+
+
+# ---- a folder
+
+def wrongs_of(question, options, rng, kinds):
+    names = rng.choice([True, False]) if options.names else None
+    folder = Folder(question, question.files, names)
+    grown = Folder(question, question.with_added(), names)
+    answers = []
+    for it, files in ((folder, question.files), (grown, question.with_added())):
+        if it is grown and not question.added:
+            answers.append(answers[0])
+            continue
+        told = tell(options.program, files, question.locator, names, DEPTH, MANY_STEPS)
+        answers.append(told)
+        yield from answer_wrongs(it, told)
+        kinds.update(line['verdict'] if line['verdict'] != 'rejected' else
+                     f'rejected {line["step"]} {line["fault"]}' for line in told.files.values())
+        kinds.update([f'the walk ended {told.answer.get("ended", "before it began")}'])
+    yield from stranger_wrongs(question, folder, grown, *answers)
+    if options.shares and folder.anchor and grown.anchor:
+        yield from bounded_wrongs(options.program, question, folder, grown, names, rng)
+
+
+def shrunk(question, differs):
+    """The question with as few files as still differ."""
+    again = True
+    while again:
+        again = False
+        for group in (question.added, question.files):
+            for name in list(group):
+                octets = group.pop(name)
+                if differs():
+                    again = True
+                else:
+                    group[name] = octets
+        question.files = dict(sorted(question.files.items()))
+    return question
+
+
+def save(folder, question):
+    for name, group in (('files', question.files), ('added', question.added)):
+        (folder / name).mkdir(parents=True, exist_ok=True)
+        for file, octets in group.items():
+            (folder / name / file).write_bytes(octets)
+    (folder / 'ta.tal').write_bytes(question.locator)
+
+
+POOL = []
+
+
+def check(index, options):
+    """What is told how often, and a report, empty where all is well."""
+    kinds = collections.Counter()
+    rng = random.Random(f'strangers {options.seed} {index}')
+    question = strangers.Question(rng, POOL)
+    state = rng.getstate()
+
+    def wrongs(counted):
+        rng.setstate(state)
+        return list(wrongs_of(question, options, rng, counted))
+
+    try:
+        report = wrongs(kinds)
+    except walks.TooMany:
+        return collections.Counter(['too many paths']), ''
+    if question.added:
+        kinds['folders with a stranger'] += 1
+    if not report:
+        return kinds, ''
+
+    def differs():
+        try:
+            return bool(wrongs(collections.Counter()))
+        except walks.TooMany:
+            return False
+    shrunk(question, differs)
+    if options.save:
+        save(Path(options.save, f'folder-{index}'), question)
+    report = wrongs(collections.Counter())
+    return kinds, '\n'.join([f'folder {index}, of {len(question.files)} files and '
+                             f'{len(question.added)} of a stranger:', *(f'  {it}' for it in report)])
+
+
+def begin():
+    POOL.extend(Signer() for _ in range(KEYS))
+
+
+def main():
+    parser = argparse.ArgumentParser(description='compares what is told of folders')
+    parser.add_argument('program')
+    parser.add_argument('--names', action='store_true')
+    parser.add_argument('--shares', action='store_true')
+    parser.add_argument('--count', type=int, default=200)
+    parser.add_argument('--seed', type=int, default=1)
+    parser.add_argument('--only', type=int)
+    parser.add_argument('--jobs', type=int, default=os.cpu_count() or 1)
+    parser.add_argument('--save')
+    options = parser.parse_args()
+    options.program = str(Path(options.program).resolve())
+    indexes = range(options.count) if options.only is None else [options.only]
+    kinds, failed = collections.Counter(), 0
+    with concurrent.futures.ProcessPoolExecutor(options.jobs, initializer=begin) as pool:
+        for some, report in pool.map(check, indexes, [options] * len(indexes)):
+            kinds.update(some)
+            failed += bool(report)
+            if report:
+                print(report, flush=True)
+    for kind, times in kinds.most_common():
+        print(f'{times:7} {kind}')
+    return make.totals((len(indexes) - failed, failed))
+
+
+if __name__ == '__main__':
+    sys.exit(main())
