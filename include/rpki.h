@@ -51,6 +51,7 @@
 
 #include <stddef.h>
 #include <stdint.h>
+#include <string.h>
 
 #ifdef __cplusplus
 extern "C" {
@@ -483,6 +484,36 @@ struct rpki_strings {
     const size_t *lengths;
     size_t count;
 };
+
+/* Holds octets that stand for themselves. */
+struct rpki_octets {
+    const uint8_t *octets;
+    size_t length;
+};
+
+/* Returns how many octets the parts have together, or SIZE_MAX if they are as many or more. */
+static inline size_t rpki_joined_length(const struct rpki_octets *parts, size_t count) {
+    size_t length = 0;
+    for (size_t i = 0; i < count; i++) {
+        if (parts[i].length >= SIZE_MAX - length) return SIZE_MAX;
+        length += parts[i].length;
+    }
+    return length;
+}
+
+/* Joins parts that stand apart, as a question takes them: copies them one behind the other to
+ * `octets`, which has room for rpki_joined_length of them, and their lengths to `lengths`, which has
+ * room for `count`. What it returns points to both. */
+static inline struct rpki_strings rpki_join(const struct rpki_octets *parts, size_t count,
+                                            uint8_t *octets, size_t *lengths) {
+    struct rpki_strings joined = {octets, 0, lengths, count};
+    for (size_t i = 0; i < count; i++) {
+        if (parts[i].length > 0) memcpy(octets + joined.length, parts[i].octets, parts[i].length);
+        lengths[i] = parts[i].length;
+        joined.length += parts[i].length;
+    }
+    return joined;
+}
 
 /* Numbers who is asked whether members are revoked: the lists of the question, or nobody. */
 enum rpki_revocation { RPKI_ASK_LISTS = 0, RPKI_ASK_NOBODY = 1 };

@@ -804,6 +804,34 @@ static void signatures(struct file anchor, struct file first) {
     free(path.octets);
 }
 
+/* parts that stand apart, as a question takes them */
+static void joins(struct file anchor, struct file first) {
+    const struct rpki_octets parts[] = {{anchor.octets, anchor.length}, {NULL, 0}, {first.octets, first.length}};
+    const struct rpki_octets long_parts[] = {{anchor.octets, SIZE_MAX - 1}, {first.octets, 1}, {first.octets, 0}};
+    size_t lengths[] = {7, 7, 7, 7};
+    const size_t all = anchor.length + first.length;
+    check(rpki_joined_length(parts, 0) == 0 && rpki_joined_length(parts, 1) == anchor.length
+              && rpki_joined_length(parts, 3) == all,
+          "parts have the octets of all");
+    check(rpki_joined_length(long_parts, 1) == SIZE_MAX - 1 && rpki_joined_length(long_parts, 2) == SIZE_MAX
+              && rpki_joined_length(long_parts, 3) == SIZE_MAX,
+          "parts that are too long");
+    uint8_t *octets = malloc(all);
+    struct rpki_strings joined = rpki_join(parts, 3, octets, lengths);
+    check(joined.octets == octets && joined.length == all && joined.lengths == lengths && joined.count == 3
+              && lengths[0] == anchor.length && lengths[1] == 0 && lengths[2] == first.length && lengths[3] == 7
+              && memcmp(octets, anchor.octets, anchor.length) == 0
+              && memcmp(octets + anchor.length, first.octets, first.length) == 0,
+          "parts stand one behind the other");
+    const struct rpki_octets pair[] = {parts[0], parts[2]};
+    const struct rpki_question question = about(rpki_join(pair, 2, octets, lengths), RPKI_AUTHORITY, &now);
+    struct rpki_verdict out;
+    check(answer(&question, &out) == RPKI_OK, "parts are a path");
+    joined = rpki_join(NULL, 0, NULL, NULL);
+    check(joined.length == 0 && joined.count == 0, "no parts are no strings");
+    free(octets);
+}
+
 /* numbers of a question that say nothing, and another size */
 static void choices(struct file anchor, struct file list) {
     const size_t length = anchor.length, l = list.length;
@@ -1798,6 +1826,7 @@ int main(int count, char **words) {
     lengths(anchor, first);
     held(anchor, first);
     signatures(anchor, first);
+    joins(anchor, first);
     choices(anchor, empty);
     asked(anchor, first, empty, list);
     behind(anchor, first, empty, list);

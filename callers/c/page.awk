@@ -13,7 +13,8 @@ files > 1 { read_program($0) }
 in_table { in_table = /\\$/; next }
 in_body { in_body = $0 != "}"; next }
 files == 1 && /^#define RPKI_EACH_/ { in_table = 1; sub(/ *\\$/, ""); code[blocks] = code[blocks] $0 "\n"; next }
-files == 1 && /^static inline/ { in_body = 1; sub(/ \{$/, ";"); code[blocks] = code[blocks] $0 "\n"; next }
+files == 1 && /^static inline/ { in_head = 1 }
+in_head { in_head = !(in_body = sub(/ \{$/, ";")); code[blocks] = code[blocks] $0 "\n"; next }
 files > 1 || (/^#if|^#else|^#endif|^#include|^#define RPKI_(H|SIZE|ISSUER)|^extern "C"|^}$/) { next }
 
 /^\/\* ---- / {
