@@ -57,7 +57,7 @@ DEPTH, MOST = 6, 400
 MANY_STEPS = 100000
 MOST_SECONDS = 300
 AT = '%04d-%02d-%02dT%02d:%02d:%02dZ' % random_folders.NOW
-STEPS = {'profile', 'verification', 'revocation', 'names'}
+STEPS = {'profile', 'verification', 'revocation'}
 
 
 class Told:
@@ -131,6 +131,17 @@ def anchor_wrongs(folder, told):
         yield f'the trust anchors are {anchors}, and wanted {folder.names[folder.anchor.places[0]]}'
 
 
+def held_wrongs(name, line, path):
+    """What is wrong of what is told that a certificate holds below a path, where that is told."""
+    wanted = ranges_held(path.result)
+    if 'holds' in line and ranges_of(line['holds']) != wanted:
+        yield f'{name} holds {line["holds"]}, and wanted {wanted}'
+    if 'router' in line and ranges_of(line['router']['subordinate_resources']) != wanted:
+        yield f'{name} has {line["router"]}, and wanted {wanted}'
+    if 'issuer_holds' in line and ranges_of(line['issuer_holds']) != ranges_held(path.above):
+        yield f'the CA above {name} holds {line["issuer_holds"]}, and wanted {ranges_held(path.above)}'
+
+
 def line_wrongs(folder, name, line, ended):
     """What is wrong of the line of a file."""
     verdict, cert = line['verdict'], folder.certificate(name)
@@ -138,8 +149,8 @@ def line_wrongs(folder, name, line, ended):
         path = folder.path([*line['above'], name])
         if path is None:
             yield f'{name} is accepted below {line["above"]}, which is no valid path'
-        elif 'holds' in line and ranges_of(line['holds']) != ranges_held(path.result):
-            yield f'{name} holds {line["holds"]}, and wanted {ranges_held(path.result)}'
+        else:
+            yield from held_wrongs(name, line, path)
     elif verdict == 'rejected':
         fault = line['member'], line['step'], line['fault']
         if line['step'] in STEPS and fault not in folder.faults(name):
@@ -195,15 +206,12 @@ def stranger_wrongs(question, folder, grown, told, told_then):
 
 
 def free_told(told, walk, keys):
-    """What a walk tells of paths without the keys. Where no list can be asked, which fault is told is
-    no promise (own)."""
+    """What a walk tells of paths without the keys."""
     certs = {it.signed.data: it for _, it in walk.certs}
-    missing = {('revocation', it) for it in ('NoCrl', 'BadSignature', 'Stale', 'WrongKeyId')}
     found = {}
     for path, (faults, result) in told.items():
         if walks.is_free([certs[it] for it in path], keys):
-            found[path] = frozenset('no list' if it in missing else it for it in faults), (
-                result and (result.v4, result.v6, result.asn))
+            found[path] = frozenset(faults), result and (result.v4, result.v6, result.asn)
     return found
 
 

@@ -11,7 +11,8 @@ from refusals import Refusal
 from profiles import CA, ROUTER
 from verification import RESOURCE_KINDS
 
-OTHER_NAME = 'OtherName'
+# which of these is told where no list can be asked is no promise (own)
+NO_LIST = ('NoCrl', 'WrongKeyId', 'WrongIssuer', 'BadSignature', 'Stale')
 
 
 class TooMany(Exception):
@@ -19,17 +20,15 @@ class TooMany(Exception):
 
 
 class Path:
-    """Certificates from the trust anchor down, each with its place, and what the last one holds."""
+    """Certificates from the trust anchor down, each with its place, and what the last one holds, and
+    the one above it."""
 
     def __init__(self, places, result, above=None):
-        self.places, self.result = places, result
+        self.places, self.result, self.above = places, result, above and above.result
         self.certs = (*above.certs, result.cert) if above else (result.cert,)
 
     def key(self):
         return tuple(it.signed.data for it in self.certs)
-
-    def issuers(self):
-        return self.certs[:-1]
 
 
 class Walks(folders.Folder):
@@ -65,42 +64,52 @@ class Walks(folders.Folder):
     def entity(self, cert):
         return cert.tbs.key, cert.tbs.subject if self.names else b''
 
+    def below(self, issuer):
+        """The certificates that name this one's key as the one that signs them, and, where names are
+        asked, this one as their issuer."""
+        subject = issuer.cert.tbs.subject
+        return [it for it in super().below(issuer)
+                if not self.names or it[1].tbs.issuer == subject]
+
     def lists_for(self, issuer):
         subject = issuer.cert.tbs.subject
         return [it for it in self.lists if not self.names or it.tbs.issuer == subject]
 
     def faults(self, place, cert, issuer):
-        """What a certificate holds below an issuer, and what is wrong with it: the first fault, and
-        its issuer's name beside it, since which of these two is told is no promise."""
+        """As what a certificate is judged below an issuer, what it holds, and the faults of which one
+        is told of it."""
         state = place, issuer.cert.signed.data, issuer.v4, issuer.v6, issuer.asn
         if state not in self.verdicts:
             self.verdicts[state] = self.judged_below(cert, issuer)
         return self.verdicts[state]
 
     def judged_below(self, cert, issuer):
-        kind, result, wrong = folders.said_kind(cert.tbs), None, []
-        if self.names and cert.tbs.issuer != issuer.cert.tbs.subject:
-            wrong.append(('names', OTHER_NAME))
-        stage = 'profile'
+        kind, result, stage = folders.said_kind(cert.tbs), None, 'profile'
+        lists = self.lists_for(issuer)
         try:
             ref.inspect(kind, self.strict, cert)
             stage = 'verification'
             kinds = RESOURCE_KINDS[2:] if kind == ROUTER else RESOURCE_KINDS
             result = ref.verify_issued(cert, issuer, self.now, self.verifier, kinds)
             stage = 'revocation'
-            folders.check_lists(self.lists_for(issuer), cert, issuer, self.now, self.verifier)
+            folders.check_lists(lists, cert, issuer, self.now, self.verifier)
         except Refusal as fault:
-            wrong.append((stage, fault.name))
-        return kind, None if wrong else result, wrong
+            is_asked = stage != 'revocation' or self.has_list(lists, cert, issuer)
+            return kind, None, [(stage, it) for it in ([fault.name] if is_asked else NO_LIST)]
+        return kind, result, []
+
+    def has_list(self, lists, cert, issuer):
+        """Whether a list can be asked of the certificate: one that its issuer signed, and that has
+        begun."""
+        return any(folders.has_begun(it.tbs, self.now) and folders.is_signed(it, issuer, self.verifier)
+                   for it in folders.asked_lists(lists, cert, issuer, self.now, self.verifier))
 
     def children(self, issuer):
-        """Those that the issuer's key signed, each message once, with one algorithm inside and outside;
-        where names are asked, those that name it."""
+        """Those below the issuer that its key signed, each message once, with one algorithm inside and
+        outside."""
         found = {}
         for place, cert in self.below(issuer):
             tbs, signed = cert.tbs, cert.signed
-            if self.names and tbs.issuer != issuer.cert.tbs.subject:
-                continue
             if tbs.signature == signed.algorithm and self.verified(
                     issuer.cert.tbs.key, signed.algorithm, signed.data, signed.signature):
                 found.setdefault(signed.data, (place, cert))
