@@ -1,10 +1,10 @@
 //! Validates a path of files, from the trust anchor down, with signatures by the library.
 //!
-//! usage: validate [-l LIST.crl].. [-t LOCATOR.tal] YYYY-MM-DD LAST MEMBER.cer..
+//! usage: validate [OPTION].. [-l LIST.crl].. [-t LOCATOR.tal] YYYY-MM-DD LAST MEMBER.cer..
 //!        LAST: authority, ee, detached or router
 //!
-//! Names have to chain. Revocation lists are asked where some are given, and the anchor's key is
-//! compared with a locator's where one is.
+//! Names have to chain. CRLs are checked if some are given, and so is the anchor's key if a TAL is. The
+//! options `--no-names` and `--lenient` waive names and the strings of names.
 //! Ends with 0 where the path is accepted, with 1 where it is rejected, and with 2 where the words
 //! or a file are not as above, or the verdict can't be written.
 use gonxebhula::{Anchor, Fault, FaultKind, Holdings, Kind, Moment, Path, Place, Revocation};
@@ -16,7 +16,9 @@ use std::process::ExitCode;
 
 /// Octets of a file, at most: 64 MiB.
 const MOST: u64 = 64 << 20;
-const USAGE: &str = "usage: validate [-l LIST.crl].. [-t LOCATOR.tal] YYYY-MM-DD LAST MEMBER.cer..";
+const USAGE: &str =
+    "usage: validate [OPTION].. [-l LIST.crl].. [-t LOCATOR.tal] YYYY-MM-DD LAST MEMBER.cer..";
+const OPTIONS: [&str; 2] = ["--no-names", "--lenient"];
 
 fn print(held: &Holdings) -> io::Result<()> {
     let mut out = io::stdout().lock();
@@ -83,9 +85,25 @@ fn contents(file: &OsString) -> Result<Vec<u8>, String> {
     }
 }
 
+/// The path, of which these options waive checks.
+fn waive<'a>(path: Path<'a>, waived: &[&str]) -> Path<'a> {
+    waived.iter().fold(path, |path, option| match *option {
+        "--no-names" => path.without_names(),
+        _ => path.lenient(),
+    })
+}
+
 /// Prints the verdict. Errs with what isn't as it has to be.
 fn run(mut words: &[OsString]) -> Result<ExitCode, String> {
     let unwritten = |error: io::Error| format!("output: {error}");
+    let mut waived = Vec::new();
+    while let [option, rest @ ..] = words {
+        let Some(option) = OPTIONS.iter().find(|it| option == OsStr::new(it)) else {
+            break;
+        };
+        waived.push(*option);
+        words = rest;
+    }
     let mut lists = Vec::new();
     while let [option, list, rest @ ..] = words {
         if option != OsStr::new("-l") {
@@ -116,7 +134,8 @@ fn run(mut words: &[OsString]) -> Result<ExitCode, String> {
         Revocation::by_lists(&lists)
     };
     let anchor = locator.as_deref().map_or(Anchor::AsGiven, Anchor::Located);
-    match Path::new(&members, last, asked, anchor).validate(now) {
+    let path = waive(Path::new(&members, last, asked, anchor), &waived);
+    match path.validate(now) {
         Ok(held) => {
             print(&held).map_err(unwritten)?;
             Ok(ExitCode::SUCCESS)
