@@ -26,6 +26,7 @@ def metadata(project, version):
         f"Name: {project['name']}",
         f"Version: {version}",
         f"Summary: {project['description']}",
+        f"Author: {', '.join(it['name'] for it in project['authors'])}",
         f"License: {project['license']['text']}",
         f"Keywords: {','.join(project['keywords'])}",
         f"Requires-Python: {project['requires-python']}",
