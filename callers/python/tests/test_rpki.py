@@ -8,9 +8,11 @@ import copy
 import functools
 import io
 import ipaddress
+import os
 import pickle
 import shutil
 import subprocess
+import sys
 import tempfile
 import threading
 import unittest
@@ -515,6 +517,28 @@ class Folders(unittest.TestCase):
         given: list[Certificate | RevocationList] = [*members, *map(RevocationList, self.lists)]
         folder = judge_folder(given, locator=bytearray(octets("anchor.tal")), at=self.noon)
         self.assertEqual(sum(it.is_valid for it in folder.lines), 4)
+
+    def test_memory_of_files(self) -> None:
+        """Of files that are read here one copy is held beside the library's."""
+        program = (
+            "import resource, sys\n"
+            "from pathlib import Path\n"
+            "import rpki\n"
+            "peak = lambda: resource.getrusage(resource.RUSAGE_SELF).ru_maxrss >> 10\n"
+            "begin, (tal, *files) = peak(), map(Path, sys.argv[1:])\n"
+            "rpki.judge_folder(files, locator=tal)\n"
+            "print(peak() - begin)\n"
+        )
+        with tempfile.TemporaryDirectory() as folder:
+            files = [Path(folder, f"{number}") for number in range(24)]
+            for file in files:
+                file.write_bytes(bytes(1 << 20))
+            words = [TOP / "examples" / "anchor.tal", TOP / "examples" / "anchor.cer", *files]
+            command = [sys.executable, "-c", program, *map(str, words)]
+            folders = os.pathsep.join([str(TOP / "callers" / "python"), *sys.path])
+            environment = {**os.environ, "PYTHONPATH": folders}
+            done = subprocess.run(command, env=environment, check=True, capture_output=True)
+        self.assertLess(int(done.stdout), 60)
 
     def test_bounds(self) -> None:
         given = [*self.members, *self.lists]
