@@ -19,6 +19,7 @@ import unittest
 from datetime import datetime, timedelta, timezone, tzinfo
 from pathlib import Path
 from typing import Any, cast
+from unittest import mock
 
 import rpki
 from rpki import (
@@ -33,6 +34,8 @@ from rpki import (
     State,
     judge_folder,
 )
+from rpki import _library as raw
+from rpki.__main__ import certificate
 from rpki._names import text_of
 
 # most tests check neither the TAL's key nor, where they issue, CRLs
@@ -95,6 +98,21 @@ class Certificates(unittest.TestCase):
         self.assertNotIn(ipaddress.ip_network("10.0.0.0/8"), it.ipv4)
         self.assertTrue(64503 in it.as_numbers and 64504 not in it.as_numbers)
 
+    def test_values(self) -> None:
+        it, same = (Certificate(octets("first.cer")) for _ in range(2))
+        self.assertEqual((it, hash(it), repr(it)), (same, hash(same), "<rpki.Certificate 2>"))
+        self.assertNotEqual(it, Certificate(octets("anchor.cer")))
+        self.assertEqual(repr(RevocationList(octets("revoked.crl"))), "<rpki.RevocationList 2>")
+        self.assertEqual(str(INHERIT), "inherit")
+
+    def test_shown(self) -> None:
+        """As `rpki show -j` has the members of these (docs/rpki.1.md)."""
+        shown = certificate(octets("second.cer"))
+        inherits = ({"as_inherit": "inherit"}, {"ip4_inherit": "inherit"}, {"ip6_inherit": "inherit"})
+        self.assertEqual(shown["subordinate_resources"], list(inherits))
+        router = certificate((TOP / "tests" / "files" / "router.cer").read_bytes())
+        self.assertEqual((router["type"], router["profiles"]["router"]), ("router_key", "OK"))
+
     def test_inherited_and_missing_resources(self) -> None:
         inherits, misses = Certificate(octets("second.cer")), Certificate(octets("object.cer"))
         self.assertEqual([inherits.ipv4, inherits.ipv6, inherits.as_numbers], [INHERIT] * 3)
@@ -139,7 +157,10 @@ class Certificates(unittest.TestCase):
 
 def der(tag: int, *parts: bytes) -> bytes:
     content = b"".join(parts)
-    return bytes([tag, len(content)]) + content
+    if len(content) < 128:
+        return bytes([tag, len(content)]) + content
+    octets = len(content).to_bytes((len(content).bit_length() + 7) // 8, "big")
+    return bytes([tag, 128 | len(octets)]) + octets + content
 
 
 class Names(unittest.TestCase):
@@ -199,6 +220,18 @@ class Names(unittest.TestCase):
             self.assertEqual(text_of(der(0x30, *parts)), name)
 
 
+    def test_long_values(self) -> None:
+        kind = der(6, b"\x55\x04\x03")
+        for count in (0, 1, 127, 128, 255, 256, 300, 70_000):
+            name = der(0x30, der(0x31, der(0x30, kind, der(0x0C, b"a" * count))))
+            self.assertEqual(text_of(name), "CN=" + "a" * count)
+        # a tag of several octets (X.690 8.1.2.4), and the identifier {2 100 3} (X.690 8.19.5)
+        tagged = b"\x1f\x81\x01\x01J"
+        for identifier, text in ((kind, "CN"), (der(6, b"\x81\x34\x03"), "2.100.3")):
+            name = der(0x30, der(0x31, der(0x30, identifier, tagged)))
+            self.assertEqual(text_of(name), f"{text}=#1F8101014A")
+
+
 class Lists(unittest.TestCase):
     def test_fields(self) -> None:
         it, signer = RevocationList(octets("revoked.crl")), Certificate(octets("first.cer"))
@@ -236,6 +269,47 @@ class Lists(unittest.TestCase):
             RevocationList(octets("first.cer"))
 
 
+class Library(unittest.TestCase):
+    """What the library answers, by stand-ins of its calls, and libraries that are none."""
+
+    def test_no_memory(self) -> None:
+        def judged(_question: Any, _room: Any, out: Any) -> int:
+            out._obj.fault = 1
+            return 1
+
+        calls: list[tuple[str, Any, Any]] = [
+            ("rpki_certificate_read", lambda *_: 1, lambda: Certificate(octets("first.cer"))),
+            ("rpki_list_read", lambda *_: 1, lambda: RevocationList(octets("first.crl"))),
+            (
+                "rpki_path_validate",
+                judged,
+                lambda: validate([octets("anchor.cer")], last=Kind.AUTHORITY, lists=None),
+            ),
+        ]
+        for name, stand_in, ask in calls:
+            with mock.patch.object(raw.lib, name, stand_in), self.assertRaises(MemoryError):
+                ask()
+        it = Certificate(octets("first.cer"))
+        with mock.patch.object(raw.lib, "rpki_certificate_name", lambda *_: 1):
+            with self.assertRaises(MemoryError):
+                self.assertTrue(it.subject_text)
+        self.assertTrue(it.subject_text)
+
+    def test_other_libraries(self) -> None:
+        maps = Path("/proc/self/maps").read_text().split()
+        libc = next(it for it in maps if Path(it).name.startswith("libc.so"))
+        with tempfile.TemporaryDirectory() as folder:
+            for target, said in ((None, "can't be loaded"), (libc, "isn't librpki")):
+                if target:
+                    Path(folder, "librpki.so").symlink_to(target)
+                environment = {**os.environ, "RPKI_LIBRARY": folder}
+                environment["PYTHONPATH"] = str(TOP / "callers" / "python")
+                command = [sys.executable, "-c", "import rpki"]
+                done = subprocess.run(command, env=environment, capture_output=True)
+                self.assertIn("ImportError", done.stderr.decode())
+                self.assertIn(said, done.stderr.decode())
+
+
 class Paths(unittest.TestCase):
     members = certificates("anchor", "first", "second", "object")
     lists = [octets(name) for name in ("first.crl", "second.crl", "object.crl")]
@@ -248,6 +322,16 @@ class Paths(unittest.TestCase):
         )
         self.assertEqual(list(held.ipv4), [ipaddress.ip_network("10.1.2.0/24")])
         self.assertFalse(held.ipv6 or held.as_numbers)
+
+    def test_many_ranges(self) -> None:
+        """More than are guessed at first: make.py says what tests/files/wide holds."""
+        file = TOP / "tests" / "files" / "wide" / "ta.cer"
+        held = validate([file], last=Kind.AUTHORITY, lists=None, at=self.noon)
+        for ranges in (held.ipv4.ranges, held.ipv6.ranges, held.as_numbers.ranges):
+            self.assertEqual(len(ranges), 4097)
+        self.assertIn("10.32.0.0/24", held.ipv4)
+        self.assertTrue(held.allows(65536, "2001:db8:2::/48"))
+        self.assertFalse(held.allows(65537) or held.allows(None, "2001:db8:1::/48"))
 
     def test_inherited(self) -> None:
         held = validate(self.members[:3], last=Kind.AUTHORITY, lists=None, at=self.noon)
@@ -731,6 +815,7 @@ class Issuing(unittest.TestCase):
             {"ipv4": [ipaddress.ip_network("2001:db8::/64")]},
             {"as_numbers": [1 << 32]},
             {"as_numbers": [range(2, 2)]},
+            {"as_numbers": []},
             {"uris": {"crl": "http://rpki.example.net/"}},
             {"uris": {"list": f"{SITE}/anchor/anchor.crl"}},
             {"not_after": datetime(2026, 1, 1)},
