@@ -806,7 +806,8 @@ def validate(
     `lists` are revocation lists, in any order: each member below the trust anchor has to be unrevoked
     by the latest list of its issuer that has begun. Each stands alone: behind one nothing may stand,
     since that may be another one. They have to be given; `lists=None` says that nothing of
-    revocation is checked, so that a revoked member is accepted.
+    revocation is checked, so that a revoked member is accepted. That a list has its issuer's name
+    (RFC 5280 6.3.3 (b) (1)) isn't checked; `rpki validate` checks it.
 
     `locator` is the file of a trust anchor locator (TAL, RFC 8630), whose key the trust anchor has
     to have. It has to be given; `locator=None` says that the trust anchor is taken as given, so that

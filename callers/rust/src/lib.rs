@@ -552,7 +552,8 @@ impl AsRef<[u8]> for RevocationList {
 pub enum Revocation<'a> {
     /// These revocation lists, in any order: each member below the trust anchor has to be unrevoked by
     /// the latest list of its issuer that has begun. Each stands alone: behind one nothing may stand,
-    /// since that may be another one. `by_lists` makes it of any that are at hand.
+    /// since that may be another one. That a list has its issuer's name (RFC 5280 6.3.3 (b) (1)) isn't
+    /// checked; `rpki validate` checks it. `by_lists` makes it of any that are at hand.
     ByLists(Vec<&'a [u8]>),
     /// Nothing: a revoked member is accepted.
     NotAsked,
