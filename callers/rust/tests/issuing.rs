@@ -155,8 +155,8 @@ fn what_is_wrong_is_refused_before_it_is_signed() {
     if !is_there() {
         return;
     }
-    let key = Key::new("refused");
-    let anchor = anchor(&key);
+    let (above, key) = (Key::new("refusing"), Key::new("refused"));
+    let anchor = anchor(&above);
     let issuer = issuer_of([&anchor], now());
     let good = wanted(Kind::Authority, &key, &URIS, 1);
     let refused = |issuer: &Issuer<'_>, wanted: &Wanted<'_>, name, kind, place| {
