@@ -1,51 +1,47 @@
-/* Reads, judges and issues resource certificates of the RPKI (RFC 6487), and reads and asks its
- * revocation lists, for C.
+/* Reads, validates and issues resource certificates and CRLs of the RPKI (RFC 6487), for C.
  *
  * What is proved:
- *   - Every function ends, for all octets, lengths and numbers. Nothing that it does is undefined,
- *     as long as the caller keeps the rules below.
- *   - Octets are read as a certificate or list exactly where they begin with one, unless memory
- *     runs out. As a list of a question, or as the list before, they are taken exactly where they
- *     are one.
- *   - A path is accepted exactly where its members are a valid path, by the definitions of
- *     crates/rpki_path/specs (Judging.antt, Paths.antt), and its anchor has the locator's key where
- *     that is asked, unless memory runs out.
- *   - The list that is asked of a member is that of crates/rpki_path/specs/AskedLists.antt,
- *     whatever the order of the lists.
- *   - The fault of a rejected path is that of the first wrong member, whose place is the index.
- *   - Of a folder each line is right. Each certificate is accepted to which a valid path leads that
- *     was looked at (crates/rpki_c/specs/FolderFates.antt).
- *   - What is written of a certificate's or list's fields is theirs.
- *   - The octet and the part at which reading stops are those of
+ *   - Every function returns for all bytes, lengths and numbers, without undefined behaviour, as
+ *     long as the caller keeps the rules below.
+ *   - Bytes are read as a certificate or a CRL if and only if they begin with one, unless memory
+ *     runs out. A CRL of a question and the previous CRL have to be all of their bytes.
+ *   - A path is accepted if and only if it is valid by crates/rpki_path/specs (Judging.antt,
+ *     Paths.antt), and what the question requires of its TAL and its last key holds, unless memory
+ *     runs out.
+ *   - The CRL that decides about a certificate is that of crates/rpki_path/specs/AskedLists.antt,
+ *     whatever the order of the CRLs.
+ *   - The error of a rejected path is that of the first wrong certificate, whose path index is
+ *     returned.
+ *   - Each line of a directory is right, and each certificate is accepted that a valid path reaches
+ *     which was looked at (crates/rpki_c/specs/FolderFates.antt).
+ *   - What is written of a certificate's or a CRL's fields is theirs.
+ *   - The offset and the part at which reading stops are those of
  *     crates/rpki_files/specs/StopPlaces.antt.
- *   - What is to be signed is written exactly where only a signature is missing, and a certificate
- *     or list exactly where the issuer's key signed it (crates/rpki_c/specs/WantedAnswers.antt and
- *     ListAnswers.antt), unless memory runs out.
- * That the caller's memory then holds what is written is proved, as far as its pointers and lengths
- * are true.
+ *   - The bytes to be signed are written if and only if only a signature is missing, and a
+ *     certificate or a CRL if and only if the issuer's key signed it
+ *     (crates/rpki_c/specs/WantedAnswers.antt and ListAnswers.antt), unless memory runs out.
  *
  * What the caller has to keep:
- *   - Each pointer points to as many elements as the length beside it says, aligned as C asks.
+ *   - Each pointer points to as many elements as the length beside it says, aligned as C requires.
  *   - What a function writes overlaps nothing else of the call.
- *   - A pointer beside the length 0 may be NULL. It is neither read nor written. No other may be.
+ *   - A pointer beside the length 0 may be NULL; it is neither read nor written. No other may be.
  *   - The program's malloc, realloc and free are those of one allocator. A block that malloc or
  *     realloc gives is aligned to each power of two up to 16 that divides its size.
  *   - No function is called from a signal handler, or in the forked child of a process with
  *     threads.
  *
  * Every function:
- *   - It keeps no pointer, holds no lock and has no state. Threads may call side by side.
- *   - What it takes by malloc it gives back before it ends, so nothing has to be freed.
- *   - Octets are DER. What follows a certificate in them is ignored, and so is what follows a list
- *     that is read or asked alone. Behind a list of a question, and behind the list before, nothing
- *     may follow: it may be a list that revokes.
- *   - It answers RPKI_OK or the number of a fault. A number never gets another meaning.
- *   - After a fault, what it writes says nothing, unless its comment says more.
+ *   - keeps no pointer, holds no lock and has no state; threads may call side by side;
+ *   - frees what it allocates, so the caller frees nothing;
+ *   - takes bytes in DER; what follows a certificate is ignored, and so is what follows a CRL that
+ *     is read or searched alone. Nothing may follow a CRL of a question or the previous CRL: it may
+ *     be a CRL that revokes;
+ *   - returns RPKI_OK or an error code, whose number never gets another meaning;
+ *   - writes nothing of use after an error, unless its comment says otherwise.
  *
- * Comes as librpki.a and librpki.so. Both want nothing but the C library. On the
- * compiler's line a program's source stands before $(pkg-config --cflags --libs rpki), since the
- * linker reads in order.
- */
+ * The library is librpki.a and librpki.so, which need nothing but the C library. On the compiler's
+ * line a program's source is before $(pkg-config --cflags --libs rpki), since the linker reads in
+ * order. */
 #ifndef RPKI_H
 #define RPKI_H
 
@@ -63,7 +59,7 @@ extern "C" {
 /* The version of Gonxebhula that this header is of: MAJOR.MINOR.PATCH. */
 #define RPKI_VERSION "0.2.0"
 
-/* Tells the number of the library's interface. */
+/* Returns the number of the library's interface. */
 uint32_t rpki_abi_version(void);
 
 /* Each struct that has a `size` has an initialiser, which sets the size and leaves all else 0:
@@ -102,9 +98,9 @@ enum rpki_field {
     RPKI_FIELD_CRL_NUMBER = 12
 };
 
-/* Numbers the faults. The hundreds say what a fault is about. The number tells it from all others;
- * its name need not: 408 and 502 are both BadSignature, of a certificate and of a list. RPKI_MEMORY
- * and RPKI_BAD_CALL say nothing of what was judged. */
+/* Numbers the errors. The hundreds say what an error is about. The number is unique; the name is
+ * not: 408 and 502 are both BadSignature, of a certificate and of a CRL. RPKI_MEMORY and
+ * RPKI_BAD_CALL are not verdicts on the input. */
 enum rpki_fault {
     RPKI_OK = 0,
     RPKI_MEMORY = 1,   /* memory ran out */
@@ -209,12 +205,12 @@ enum rpki_fault {
  * room for, and in *count how many there are: with room 0 it counts. At a fault *count is 0. Texts
  * have no 0 at their end. */
 
-/* Writes the name of a fault, as the library's enums have it: "BadSignature". Answers RPKI_BAD_CALL
- * where no fault has the number. */
+/* Writes the name of an error, as the library's enums have it: "BadSignature". Returns
+ * RPKI_BAD_CALL if no error has the number. */
 uint32_t rpki_fault_name(uint32_t fault, uint8_t *out, size_t room, uint64_t *count);
 
-/* Writes what the fault means: "overclaimed IPv4 resources". Answers RPKI_BAD_CALL where no fault
- * has the number. */
+/* Writes what the error means: "overclaimed IPv4 resources". Returns RPKI_BAD_CALL if no error has
+ * the number. */
 uint32_t rpki_fault_sentence(uint32_t fault, uint8_t *out, size_t room, uint64_t *count);
 
 /* Give the number, the name and the sentence of each fault to a macro X. */
@@ -341,13 +337,13 @@ struct rpki_time {
     uint8_t unused; /* is ignored, and 0 where it is written */
 };
 
-/* Numbers the kinds of certificates. A caller says as which one a certificate is judged; as another
- * than its own it is rejected with an RPKI_INSPECTION_ fault.
+/* Numbers the kinds of certificates. A caller says as which kind a certificate is validated; as
+ * another kind than its own it is rejected with an RPKI_INSPECTION_ error.
  *
  * RPKI_END_ENTITY is for the certificate of a signed object that is published, as a ROA or a
  * manifest: it has to name where that object is (SIA, signedObject; RFC 6487 4.8.8.2).
- * RPKI_DETACHED asks all but that name, and so it accepts each RPKI_END_ENTITY too. Take it only
- * where the object stands at no URI. */
+ * RPKI_DETACHED requires all but that name, so it also accepts each RPKI_END_ENTITY. Use it only if
+ * the object has no URI. */
 enum rpki_kind {
     RPKI_ANCHOR = 0,     /* a trust anchor, which signs itself */
     RPKI_AUTHORITY = 1,  /* a CA, which signs certificates and a list */
@@ -369,7 +365,7 @@ struct rpki_certificate {
     uint8_t v4, v6, asn; /* are of enum rpki_state */
 };
 
-/* Holds two addresses, their greatest octet first. One of IPv4 stands in the first four octets. */
+/* Holds two addresses, in network byte order. IPv4 is in the first four bytes. */
 struct rpki_ip_range {
     uint8_t min[16], max[16];
 };
@@ -382,16 +378,15 @@ struct rpki_as_range {
 /* Reads the certificate. */
 uint32_t rpki_certificate_read(const uint8_t *octets, size_t length, struct rpki_certificate *out);
 
-/* Answers RPKI_OK where the certificate meets the profile of the kind, an enum rpki_kind. Else it
- * answers its first fault, or RPKI_BAD_CALL where no kind has the number. `strict` is 1 where names
- * have to have the strings of RFC 6487 4.4, and 0 where other strings may stand there. Who doesn't
- * know better gives 1. Any number but 0 is as 1. */
+/* Returns RPKI_OK if the certificate meets the profile of the kind, an enum rpki_kind, and
+ * otherwise its first error. Returns RPKI_BAD_CALL if no kind has the number. If `strict` isn't 0,
+ * names need the strings of RFC 6487 4.4. Use 1 unless you have a reason not to. */
 uint32_t rpki_certificate_inspect(const uint8_t *octets, size_t length, uint32_t kind,
                                   uint32_t strict);
 
-/* Writes the ranges of addresses that the certificate lists: of IPv4 where `family` is 4, of IPv6
- * where it is 6. They ascend, and neither overlap nor touch. Answers RPKI_BAD_CALL where `family`
- * is another number. */
+/* Writes the ranges of addresses that the certificate lists: of IPv4 if `family` is 4, of IPv6 if
+ * it is 6. They ascend, and neither overlap nor touch. Returns RPKI_BAD_CALL if `family` is another
+ * number. */
 uint32_t rpki_certificate_addresses(const uint8_t *octets, size_t length, uint32_t family,
                                     struct rpki_ip_range *out, size_t room, uint64_t *count);
 
@@ -410,52 +405,52 @@ enum rpki_uri {
     RPKI_URI_NOTIFY = 5
 };
 
-/* Writes one URI, an enum rpki_uri. *count is 0 where the certificate has none such. Answers
- * RPKI_BAD_CALL where no URI has the number. */
+/* Writes one URI, an enum rpki_uri. *count is 0 if the certificate has no such URI. Returns
+ * RPKI_BAD_CALL if no URI has the number. */
 uint32_t rpki_certificate_uri(const uint8_t *octets, size_t length, uint32_t which, uint8_t *out,
                               size_t room, uint64_t *count);
 
-/* Writes a Name in DER: of the issuer where `which` is 0, of the subject where it is 1. Answers
- * RPKI_BAD_CALL where `which` is another number. */
+/* Writes a Name in DER: of the issuer if `which` is 0, of the subject if it is 1. Returns
+ * RPKI_BAD_CALL if `which` is another number. */
 uint32_t rpki_certificate_name(const uint8_t *octets, size_t length, uint32_t which, uint8_t *out,
                                size_t room, uint64_t *count);
 
 /* ---- revocation lists */
 
-/* Holds what a list has of a fixed size, and how many entries it has. */
+/* Holds what a CRL has of a fixed size, and how many entries it has. */
 struct rpki_list {
     struct rpki_time this_update, next_update;
     uint64_t entries;
     uint8_t number[20], authority_key[20];
 };
 
-/* Holds a revoked certificate's serial number, and since when it is revoked. */
+/* Holds a revoked certificate's serial number, and the time of its revocation. */
 struct rpki_entry {
     struct rpki_time date;
     uint8_t serial[20];
 };
 
-/* Reads the list. */
+/* Reads the CRL. */
 uint32_t rpki_list_read(const uint8_t *octets, size_t length, struct rpki_list *out);
 
-/* Writes the entries of the list, in its order. */
+/* Writes the entries of the CRL, in its order. */
 uint32_t rpki_list_entries(const uint8_t *octets, size_t length, struct rpki_entry *out,
                            size_t room, uint64_t *count);
 
-/* Writes the issuer's Name in DER. */
+/* Writes the CRL issuer's Name in DER. */
 uint32_t rpki_list_issuer(const uint8_t *octets, size_t length, uint8_t *out, size_t room,
                           uint64_t *count);
 
-/* Asks the list for `count` serial numbers, which stand one behind the other in 20 octets each.
- * answers[i] is 1 where the i-th is on the list, and else 0. Answers RPKI_BAD_CALL where
- * serials_length isn't 20 times `count`. */
+/* Searches the CRL for `count` serial numbers, one behind the other in 20 bytes each. answers[i] is
+ * 1 if the i-th is on the CRL, and otherwise 0. Returns RPKI_BAD_CALL if serials_length isn't 20
+ * times `count`. */
 uint32_t rpki_list_ask(const uint8_t *octets, size_t length, const uint8_t *serials,
                        size_t serials_length, uint8_t *answers, size_t count);
 
 /* ---- where reading stops */
 
-/* Tells where the reading of octets stops: what stands before was read, and from there on stands
- * none of the part that has to come next. */
+/* Says where reading stops: what is before was read, and from there on is no value of the part that
+ * has to come next. */
 struct rpki_stop {
     uint32_t fault; /* is an RPKI_DECODE_ one, or RPKI_OK where the octets can be read */
     uint64_t octet; /* is where that part has to begin; 0 where the octets can be read */
@@ -468,16 +463,16 @@ enum rpki_part_text {
     RPKI_PART_FOUND = 2   /* what is wrong of what stands there: "a negative number"; or no text */
 };
 
-/* Tells where the reading of octets stops that begin with no certificate, where `is_list` is 0, or
- * with no list, where it is any other number. Answers RPKI_OK, and writes into *stop the fault and
- * the octet, and one text about the part there, an enum rpki_part_text. Octets that can be read
- * have an empty text. Answers RPKI_BAD_CALL where no text has the number. */
+/* Reports where reading stops in bytes that begin with no certificate, if `is_list` is 0, or with
+ * no CRL, if it is another number. Writes into *stop the error and the offset, and one text about
+ * the part there, an enum rpki_part_text. Bytes that can be read have an empty text. Returns
+ * RPKI_BAD_CALL if no text has the number. */
 uint32_t rpki_stop_text(const uint8_t *octets, size_t length, uint32_t is_list, uint32_t which,
                         struct rpki_stop *stop, uint8_t *out, size_t room, uint64_t *count);
 
 /* ---- paths */
 
-/* Holds strings of octets, which stand one behind the other, and the length of each. */
+/* Holds strings of bytes, one behind the other, and the length of each. */
 struct rpki_strings {
     const uint8_t *octets;
     size_t length;
@@ -515,27 +510,30 @@ static inline struct rpki_strings rpki_join(const struct rpki_octets *parts, siz
     return joined;
 }
 
-/* Numbers who is asked whether members are revoked: the lists of the question, or nobody. */
+/* Numbers how revocation is checked: by the CRLs of the question, or not at all. With
+ * RPKI_ASK_NOBODY revoked certificates are accepted. */
 enum rpki_revocation { RPKI_ASK_LISTS = 0, RPKI_ASK_NOBODY = 1 };
 
-/* Numbers what the anchor's key has to be: that of the question's locator (RFC 8630 3), or any. */
+/* Numbers which key the trust anchor has to have: the one of the question's TAL (RFC 8630 3), or
+ * any. */
 enum rpki_trust { RPKI_ASK_LOCATOR = 0, RPKI_AS_GIVEN = 1 };
 
 /* Asks about a path. What a question leaves out it has to say: one of zeros, with members, asks
  * lists and a locator, and is rejected where there are none.
  *
- * Lists are of any issuers and in any order; where they were found isn't asked. Of a member below
- * the anchor, and of a router, the latest list of its issuer is asked:
- *   - It names the key that signed the member, and is signed by that key.
- *   - It has begun: it is neither from after the moment nor from after its own next update. A list
+ * CRLs may be of any issuers, in any order; where they were found doesn't matter. Of each
+ * certificate below the trust anchor the issuer's newest CRL that has begun decides:
+ *   - It names the key that signed the certificate, and is signed by that key.
+ *   - It has begun: its thisUpdate is neither after the time nor after its own nextUpdate. A CRL
  *     from the future, or one whose two times are exchanged, supersedes none.
- *   - Of these it is the one with the greatest number (RFC 6487 5). Of several with one number,
- *     which RFC 5280 5.2.3 forbids, one that revokes the member goes first, then the one of the
- *     later this update, then the one of the later next update. So their order decides nothing.
- * That list has to be current (its next update isn't before the moment), and not to have the
- * member's serial number. Where none of them is of its issuer and has begun, the member is rejected:
- * by RPKI_REVOCATION_BAD_SIGNATURE where one that names the key isn't signed by it, by
- * RPKI_REVOCATION_STALE where all are, and by RPKI_REVOCATION_NO_CRL where none names it. */
+ *   - Of these it has the greatest number (RFC 6487 5). Of several with one number, which RFC 5280
+ *     5.2.3 forbids, one that revokes the certificate decides, then the one with the later
+ *     thisUpdate, then the one with the later nextUpdate. So their order doesn't matter.
+ * That CRL has to be current (its nextUpdate isn't before the time), and not to list the
+ * certificate. If there is none, the certificate is rejected:
+ *   - RPKI_REVOCATION_BAD_SIGNATURE: a CRL names the key but isn't signed by it;
+ *   - RPKI_REVOCATION_STALE: all such CRLs have not begun yet;
+ *   - RPKI_REVOCATION_NO_CRL: no CRL names the key. */
 struct rpki_question {
     size_t size;                 /* is sizeof(struct rpki_question) */
     struct rpki_strings members; /* are certificates, the anchor first */
@@ -563,9 +561,8 @@ struct rpki_room {
     size_t asn_room;
 };
 
-/* Says what became of a path. A path that ends in a router's certificate holds the ranges of the
- * member above it; the router's own AS numbers are those that rpki_certificate_as_numbers writes of
- * its certificate. */
+/* Says what became of a path. A path that ends in a router's certificate has the ranges of the
+ * certificate above it; rpki_certificate_as_numbers writes the router's own AS numbers. */
 struct rpki_verdict {
     uint32_t fault; /* is what the function answers */
     uint32_t index; /* is the place of the first wrong member; the anchor's is 0. Of a list that
@@ -588,48 +585,48 @@ struct rpki_verdict {
 uint32_t rpki_path_validate(const struct rpki_question *question, struct rpki_room *room,
                             struct rpki_verdict *out);
 
-/* Asks whether the names of a path chain (RFC 6487 7.2, RFC 5280 6.1): whether the anchor's issuer
- * is its own subject, and that of each later member the subject of the member above it; a router is
- * asked as any other. Nothing else is asked of them, so validate the path too. Names are compared
- * octet by octet: RFC 5280 7.1 takes some for one that differ here, in the case of letters, in
- * spaces or in the type of a string.
- * Answers RPKI_OK where all chain. Else *place is the place of the first member that is wrong:
- * RPKI_OTHER_NAME where its names don't chain, or the fault of reading. Answers RPKI_BAD_CALL where
- * there are no members, or lengths don't add up. */
+/* Returns RPKI_OK if the names of a path chain (RFC 6487 7.2, RFC 5280 6.1): the trust anchor's
+ * issuer is its own subject, and that of each later certificate the subject of the one above it.
+ * Nothing else is checked, so validate the path too. Names are compared byte by byte; RFC 5280 7.1
+ * treats some as equal that differ here, in the case of letters, in spaces or in the type of a
+ * string.
+ * Otherwise *place is the path index of the first wrong certificate: RPKI_OTHER_NAME if its names
+ * don't chain, or the error of reading. Returns RPKI_BAD_CALL if there are no certificates, or
+ * lengths don't add up. */
 uint32_t rpki_path_names(const struct rpki_strings *members, uint64_t *place);
 
-/* Holds a signature for a caller with cryptography of its own to check: is it one of the message by
- * the key, with sha256WithRSAEncryption? All are places in the octets of the path. */
+/* Holds a signature for a caller with its own cryptography to check: is it one of the message by
+ * the key, with sha256WithRSAEncryption? All are places in the bytes of the path. */
 struct rpki_signature {
     uint64_t key_at, key_length; /* are those of a SubjectPublicKeyInfo */
     uint64_t message_at, message_length;
     uint64_t signature_at, signature_length;
 };
 
-/* Writes the signatures, one a member, as many as there is room for. The anchor is signed by its
- * own key, each later member by that of the one above it. No place goes past the path's octets.
- * These are only read as far as it takes to find the places, so a member that is no certificate may
- * get some: rpki_path_validate_said rejects it, whatever is said of its signature. */
+/* Writes the places of the signatures, one a certificate, as many as there is room for. The trust
+ * anchor is signed by its own key, each later certificate by that of the one above it. No place
+ * goes past the path's bytes. These are only read as far as needed, so a string that is no
+ * certificate may get places: rpki_path_validate_said rejects it, whatever is said of its
+ * signature. */
 uint32_t rpki_path_signatures(const struct rpki_strings *members, struct rpki_signature *out,
                               size_t room);
 
-/* Answers a question about a path as rpki_path_validate does, with the caller's answers: yes[i] is
- * 1 where the caller has found the i-th signature good. A signature without an answer isn't good.
- * The lists' signatures are none of these, so it answers RPKI_BAD_CALL unless the question has
- * RPKI_ASK_NOBODY. */
+/* Validates a path as rpki_path_validate does, with the caller's answers: yes[i] is 1 if the caller
+ * found the i-th signature valid. Signatures beyond `answers` count as invalid. Signatures of CRLs
+ * are none of these, so it returns RPKI_BAD_CALL unless the question has RPKI_ASK_NOBODY. */
 uint32_t rpki_path_validate_said(const struct rpki_question *question, const uint8_t *yes,
                                  size_t answers, struct rpki_room *room, struct rpki_verdict *out);
 
 /* ---- folders */
 
-/* Asks about certificates and revocation lists in any order: which of the certificates are valid
- * below the anchor of a locator? That anchor is the first of the strings that begins with a
- * certificate of the locator's key (RFC 8630 3).
+/* Asks which certificates of a directory are valid below the trust anchor of a TAL. The strings are
+ * certificates, CRLs and other bytes, in any order. The trust anchor is the first string that
+ * begins with a certificate of the TAL's key (RFC 8630 3).
  *
- * Each certificate that an accepted authority signed is judged below it as what it says that it is:
- * a router's certificate, an authority's, or else an end entity's. The lists among the strings are
- * asked for revocation, as for struct rpki_question. No folder shows that a file was withheld:
- * whoever reads manifests leaves out what they don't list. */
+ * Each certificate that an accepted CA signed is validated below it as what it says that it is: a
+ * router's, a CA's, or else an end entity's. The CRLs among the strings are used for revocation, as
+ * for struct rpki_question. A withheld file isn't detected: whoever reads manifests leaves out what
+ * they don't list. */
 struct rpki_folder_question {
     size_t size;                 /* is sizeof(struct rpki_folder_question) */
     struct rpki_strings strings; /* are certificates, revocation lists and other octets */
@@ -653,7 +650,7 @@ enum rpki_fate {
     RPKI_LINE_NEITHER = 5   /* octets that are neither; also a list with octets behind it */
 };
 
-/* Tells what became of a string. A number that its comment doesn't speak of is 0. */
+/* Says what became of a string. A number that its comment doesn't mention is 0. */
 struct rpki_line {
     uint32_t what;   /* is an enum rpki_fate */
     uint32_t fault;  /* is why it is rejected: its fault on one of the longest paths to it */
@@ -670,7 +667,7 @@ enum rpki_ended {
     RPKI_OUT_OF_STEPS = 3 /* the steps were used up before that */
 };
 
-/* Tells of the walk as a whole. */
+/* Says how the whole walk ended. */
 struct rpki_walk {
     uint32_t fault;  /* is what the function answers */
     uint32_t ended;  /* is an enum rpki_ended */
@@ -689,8 +686,8 @@ uint32_t rpki_folder_judge(const struct rpki_folder_question *question, struct r
 
 /* ---- issuing */
 
-/* Holds what a certificate is to list of a family of addresses. Ranges may stand in any order, and
- * overlap; none ends before it begins. There are some exactly where `state` is RPKI_LISTED. */
+/* Holds what a certificate is to list of a family of addresses. Ranges may be in any order, and may
+ * overlap; each has min <= max. There are ranges if and only if `state` is RPKI_LISTED. */
 struct rpki_addresses {
     const struct rpki_ip_range *ranges; /* of IPv4 only the first four octets count */
     size_t count;
@@ -720,12 +717,12 @@ struct rpki_uris {
     size_t notify_length;
 };
 
-/* Numbers what becomes of resources that the issuer doesn't hold (RFC 8360). */
+/* Numbers what happens to resources that the issuer doesn't hold (RFC 8360). */
 enum rpki_overclaim { RPKI_REFUSE = 0, RPKI_TRIM = 1 };
 
-/* Holds what a certificate is to be. What RFC 6487 4 fixes isn't asked: the issuer's name, the
- * subject (by the key; of a router by its least AS number, RFC 8209 3.1.1), key identifiers, key
- * usage and policy. */
+/* Describes a certificate that is to be issued. All other fields are set as RFC 6487 4 requires:
+ * the issuer's name, the subject (by the key; of a router by its least AS number, RFC 8209 3.1.1),
+ * key identifiers, key usage and policy. */
 struct rpki_wanted {
     size_t size; /* is sizeof(struct rpki_wanted) */
     /* The issuer's path, as it is judged at its moment; it ends in an RPKI_AUTHORITY (or in an
@@ -743,7 +740,7 @@ struct rpki_wanted {
     uint32_t overclaim; /* is an enum rpki_overclaim */
 };
 
-/* Tells of what is issued. */
+/* Says what was issued. */
 struct rpki_issued {
     uint32_t fault; /* is what the function answers */
     uint32_t index; /* is the place of what is wrong: of the issuer's path as in struct
@@ -752,13 +749,14 @@ struct rpki_issued {
     uint64_t count; /* is how many octets there are, and 0 at a fault */
 };
 
-/* Prepares a certificate for its signature: writes the TBSCertificate, which is what is to be
- * signed (sha256WithRSAEncryption, RFC 7935 2), as many octets as there is room for, and into *told
- * how many there are. So the key may lie elsewhere, and no signature is spent on what would be
- * rejected: all is asked that rpki_path_validate asks below this issuer, but for the signature.
- * *told holds after every fault, and *out is then as it was. The fault is RPKI_BAD_CALL where
- * `size` is another, a number is of none of its enums, a range, a serial number or a moment is no
- * such, or the path doesn't go with the kind; one of the issuer's path; an RPKI_ISSUING_ one; or
+/* Prepares a certificate for its signature: writes the TBSCertificate, which the issuer's key has
+ * to sign (sha256WithRSAEncryption, RFC 7935 2), as many bytes as there is room for, and into *told
+ * how many there are. The key may be elsewhere. No signature is spent on what would be rejected:
+ * everything is checked that rpki_path_validate checks below this issuer, but the signature.
+ *
+ * *told is valid after an error, too, and *out is then as it was. The error is RPKI_BAD_CALL if
+ * `size` is another, a number is of none of its enums, a range, a serial number or a time doesn't
+ * exist, or the path doesn't go with the kind; one of the issuer's path; an RPKI_ISSUING_ one; or
  * that of a certificate's profile or verification. */
 uint32_t rpki_prepare(const struct rpki_wanted *wanted, uint8_t *out, size_t room,
                       struct rpki_issued *told);
@@ -774,17 +772,18 @@ struct rpki_completion {
     uint32_t kind; /* is an enum rpki_kind */
 };
 
-/* Completes a certificate: writes it exactly where the issuer's key (of a trust anchor its own)
- * signed what was prepared, which is asked again at this moment; as many octets as there is room
- * for, and into *told how many there are. It is valid below the issuer then. *told holds after
- * every fault, and *out is then as it was. The fault is as for rpki_prepare; where the issuer has
- * another name than the one above, RPKI_OTHER_NAME; where the signature isn't good,
- * RPKI_VERIFICATION_BAD_SIGNATURE. */
+/* Completes a certificate: writes it if and only if the issuer's key (of a trust anchor its own)
+ * signed what was prepared, which is checked again at this time; as many bytes as there is room
+ * for, and into *told how many there are. It is valid below the issuer then.
+ *
+ * *told is valid after an error, too, and *out is then as it was. The error is as for rpki_prepare;
+ * RPKI_OTHER_NAME if the issuer has another name than the one above;
+ * RPKI_VERIFICATION_BAD_SIGNATURE if the signature isn't valid. */
 uint32_t rpki_complete(const struct rpki_completion *completion, uint8_t *out, size_t room,
                        struct rpki_issued *told);
 
-/* Holds what a revocation list is to be: the issuer's next one, or its first. What RFC 6487 5 fixes
- * isn't asked: the issuer's name and the identifier of its key. */
+/* Holds what a CRL is to be: the issuer's next one, or its first. The issuer's name and key
+ * identifier are set as RFC 6487 5 requires. */
 struct rpki_wanted_list {
     size_t size;                 /* is sizeof(struct rpki_wanted_list) */
     struct rpki_question issuer; /* is as in struct rpki_wanted, and has members */
@@ -798,18 +797,19 @@ struct rpki_wanted_list {
                          * Zeros choose none: it is one more then, and 1 of a first list */
 };
 
-/* Prepares the issuer's next revocation list for its signature: writes the TBSCertList, which is
- * what is to be signed, as rpki_prepare does. All entries of the list before stay, and those that
- * are revoked now come in behind them, each serial number once. No signature is spent on a list
- * that is stale at the moment, or that may not follow the one before.
- * *told holds after every fault, and *out is then as it was. The fault is RPKI_BAD_CALL where
- * `size` is another, a moment is no such, or the path ends in no CA; one of the issuer's path; one
- * from RPKI_ISSUING_OTHER_LIST on; RPKI_ISSUING_TOO_LONG; or RPKI_REVOCATION_STALE where the next
- * update is before the moment. */
+/* Prepares the issuer's next CRL for its signature: writes the TBSCertList, which the issuer's key
+ * has to sign, as rpki_prepare does. All entries of the previous CRL are kept, and those that are
+ * revoked now follow, each serial number once. No signature is spent on a CRL that is stale at the
+ * time, or that may not follow the previous one.
+ *
+ * *told is valid after an error, too, and *out is then as it was. The error is RPKI_BAD_CALL if
+ * `size` is another, a time doesn't exist, or the path ends in no CA; one of the issuer's path; one
+ * from RPKI_ISSUING_OTHER_LIST on; RPKI_ISSUING_TOO_LONG; or RPKI_REVOCATION_STALE if nextUpdate is
+ * before the time. */
 uint32_t rpki_prepare_list(const struct rpki_wanted_list *wanted, uint8_t *out, size_t room,
                            struct rpki_issued *told);
 
-/* Holds what was prepared of a revocation list, and its signature. */
+/* Holds what was prepared of a CRL, and its signature. */
 struct rpki_list_completion {
     size_t size;                 /* is sizeof(struct rpki_list_completion) */
     struct rpki_question issuer; /* is as in struct rpki_wanted_list, or at a later moment */
@@ -819,11 +819,12 @@ struct rpki_list_completion {
     size_t signature_length;
 };
 
-/* Completes a revocation list: writes it exactly where the issuer's key signed what was prepared,
- * which is asked again at this moment, as rpki_complete does. The list before isn't asked again.
- * *told holds after every fault, and *out is then as it was. The fault is as for
- * rpki_prepare_list; where the list has another name than its issuer, RPKI_OTHER_NAME; where the
- * signature isn't good, RPKI_REVOCATION_BAD_SIGNATURE. */
+/* Completes a CRL: writes it if and only if the issuer's key signed what was prepared, which is
+ * checked again at this time, as rpki_complete does. The previous CRL isn't compared again.
+ *
+ * *told is valid after an error, too, and *out is then as it was. The error is as for
+ * rpki_prepare_list; RPKI_OTHER_NAME if the CRL has another name than its issuer;
+ * RPKI_REVOCATION_BAD_SIGNATURE if the signature isn't valid. */
 uint32_t rpki_complete_list(const struct rpki_list_completion *completion, uint8_t *out,
                             size_t room, struct rpki_issued *told);
 
