@@ -277,7 +277,12 @@ REFUSED = [
     ('ca', {'issuer': ['ca.cer', 'anchor.cer']}, 'issuer 0 is rejected at profile, '),
     ('ca', {'issuer': ['anchor.cer', 'empty']}, 'issuer 1 is rejected at reading, '),
     ('ca', {'issuer': ['ca.pub']}, 'issuer 0 is rejected at reading, '),
-    ('ca', {'issuer': ['anchor.cer', 'small.cer']}, 'OverclaimV4: '),
+    ('ca', {'issuer': ['anchor.cer', 'small.cer'], 'key': 'other.pub'}, 'OverclaimV4: '),
+    ('ca', {'key': 'anchor.pub'}, "the CA has its issuer's key, "),
+    ('ca', {'issuer': ['anchor.cer', 'ca.cer']}, "the CA has its issuer's key, "),
+    ('ca', {'from': '1949-12-31T23:59:59Z'}, 'the validity starts before 1950, '),
+    ('anchor', {'from': '1949-12-31'}, 'the validity starts before 1950, '),
+    ('router', {'from': '0001-01-01'}, 'the validity starts before 1950, '),
     ('ca', {'serial': '00'}, '--serial'),
     ('ca', {'serial': '5'}, '--serial'),
     ('ca', {'serial': '80' + 19 * '00'}, '--serial'),
@@ -334,6 +339,27 @@ def try_refused():
         check(f'validate tells {fault} of {what}, and not {found}', found == fault)
     for kind, changes, text in REFUSED:
         is_refused(f'prepare {kind} {changes}', prepare(kind, **changes), text)
+
+
+# of what another program writes to be signed: the fields, and the fault
+OTHERS_REFUSED = [
+    ('ca', {'serial': 0}, 'the serial number is 0, '),
+    ('anchor', {'serial': 0}, 'the serial number is 0, '),
+    ('ca', {'not_before': (1949, 12, 31, 23, 59, 59)}, 'the validity starts before 1950, '),
+    ('ca', {'key': 'anchor.pub'}, "the CA has its issuer's key, "),
+]
+
+
+def try_others():
+    """What `complete` refuses of octets that `prepare` doesn't write."""
+    for kind, fields, text in OTHERS_REFUSED:
+        tbs = ref.decode_cert(make('made.cer', kind, 'anchor')).tbs
+        changed = fields
+        if 'key' in fields:
+            key = key_in(fields['key'])
+            changed = {'key': key, 'subject_key_identifier': key.identifier()}
+        sign(ref.encode_tbs(dataclasses.replace(tbs, **changed)), 'anchor')
+        is_refused(f'complete {kind} {fields}', complete(WANTED[kind].get('issuer')), text)
 
 
 def try_signatures():
@@ -635,6 +661,57 @@ def try_lists():
         check(f'validate with {lists} tells {fault}, and not {found}', found == fault)
     done = rpki('validate', '--at', '2026-07-02', '--crl', 'first.crl', *path)
     check('a list goes stale', b'(Stale)' in done.stdout, done.stdout)
+
+
+# certificates that the issuer's list revokes, or that no list of the issuer is given for
+REVOKED = [
+    ('ca', {'serial': '0b', 'crl': ['next.crl']}, 'Revoked: '),
+    ('ee', {'serial': '0a', 'crl': ['first.crl', 'next.crl']}, 'Revoked: '),
+    ('router', {'serial': '05', 'crl': ['next.crl']}, 'Revoked: '),
+    ('ca', {'serial': '0b', 'crl': ['below.crl']}, 'NoCrl: '),
+    ('ee', {'issuer': ['anchor.cer', 'ca.cer'], 'serial': '05', 'crl': ['first.crl', 'below.crl'],
+            'ipv4': '10.1.0.0/17'}, 'Revoked: '),
+]
+# what another program writes to be signed of a list: the fields, and the fault
+OTHER_LISTS = [
+    ({'this_update': (2026, 6, 1, 0, 0, 1)}, 'Stale: '),
+    ({'this_update': (2026, 6, 3, 0, 0, 0), 'next_update': (2026, 6, 2, 0, 0, 0)}, 'Stale: '),
+    ({'crl_number': 1 << 159}, 'the number of the list has more than 20 octets'),
+]
+
+
+def try_accepted():
+    """That what is completed is accepted by the same files, and nothing else is completed."""
+    at = '2026-06-02'
+    for kind, changes, text in REVOKED:
+        is_refused(f'prepare {kind} {changes}', prepare(kind, at=at, **changes), text)
+        lists = changes['crl']
+        free = prepare(kind, at=at, **(changes | {'crl': None}))
+        below = (WANTED[kind] | changes)['issuer']
+        sign(free.stdout, 'anchor' if len(below) == 1 else 'ca')
+        words = [*words_of({'crl': lists})]
+        is_refused(f'complete {kind} {changes}', complete(below, *words, at=at), text)
+        done = complete(below, at=at)
+        Path('free.cer').write_bytes(done.stdout)
+        found = told([*words, *below, 'free.cer'], at)
+        check(f'validate tells {text} of {kind} {changes}, and not {found}', f'{found}: ' == text)
+    for kind in ['ca', 'ee', 'detached', 'router']:
+        made = prepare(kind, at=at, serial='0d', crl=['next.crl'])
+        sign(made.stdout, 'anchor')
+        done = complete(ANCHOR, '--crl', 'next.crl', at=at)
+        Path('free.cer').write_bytes(done.stdout)
+        found = told(['--crl', 'next.crl', *ANCHOR, 'free.cer'], at)
+        check(f'{kind} that is completed with a list is accepted with it, and not {found}',
+              done.returncode == 0 and found is None, done.stderr)
+    late = prepare('list', at='2030-01-01', **{'next-update': '2035-01-01'})
+    sign(late.stdout, 'anchor')
+    is_refused('complete a list before its time', complete(ANCHOR), 'Stale: ')
+    done = complete(ANCHOR, at='2030-01-01')
+    check('complete a list at its time', done.returncode == 0, done.stderr)
+    tbs = ref.decode_crl(Path('first.crl').read_bytes()).tbs
+    for fields, text in OTHER_LISTS:
+        sign(ref.encode_list(dataclasses.replace(tbs, **fields)), 'anchor')
+        is_refused(f'complete a list with {fields}', complete(ANCHOR), text)
 
 
 def try_list_signatures():
@@ -942,10 +1019,12 @@ with tempfile.TemporaryDirectory() as room:
         make_issuers()
         if not options.random:
             try_refused()
+            try_others()
             try_signatures()
             try_words()
             make_lists()
             try_lists()
+            try_accepted()
             try_list_signatures()
             try_out()
             try_help()

@@ -7,7 +7,7 @@ use Rattle.rpki_crl.specs.Lists.{CrlState, IsTbsCertList, ListFields}
 use Rattle.rpki_crl.specs.RevokedEntries.{Revoked}
 use Rattle.rpki_issuing.specs.WantedLists.{IsListPrepared, IsListWanted, WantedListFields}
 use Rattle.rpki_issuing.specs.declared.wanted.preparing.WantedError.{WantedError}
-use Rattle.rpki_issuing.specs.declared.wanted.preparing.WantedError.TheVariants.{Memory, NoList, NoRole, OtherOctets, Unready, UnreadyList, Unsigned, UnsignedList}
+use Rattle.rpki_issuing.specs.declared.wanted.preparing.WantedError.TheVariants.{Broken, Listed, Memory, NoList, NoRole, OtherOctets, Unready, UnreadyList, Unsigned, UnsignedList}
 use Rattle.rpki_c.specs.ListAnswers.{AnswersBehind, AnswersListCompletedBelow, AnswersListFields, AnswersListNamed, AnswersListSigned, AsksList, CompletesList, GivesNoList, IsListNamed, fields_before}
 use Rattle.rpki_c.specs.WantedAnswers.{unfit_of}
 use Rattle.rpki_c.specs.WantedLists.{GivesList}
@@ -22,6 +22,8 @@ use Rattle.rpki_c.specs.declared.wanted_list.RpkiWantedList.{RpkiWantedList}
 unfit_with : (Holds : Unissued → Type 0) (P : Type 0) → Holds why.Memory → ((e : WantedError) → P → Holds (why.Unfit e)) → (e : WantedError) → (e ≢ Memory → P) → Holds (unfit_of e)
 unfit_with Holds P memory unfit Memory h = memory
 unfit_with Holds P memory unfit NoRole h = unfit NoRole (h (λ same. cc))
+unfit_with Holds P memory unfit (Broken e) h = unfit (Broken e) (h (λ same. cc))
+unfit_with Holds P memory unfit (Listed e) h = unfit (Listed e) (h (λ same. cc))
 unfit_with Holds P memory unfit (Unready e) h = unfit (Unready e) (h (λ same. cc))
 unfit_with Holds P memory unfit OtherOctets h = unfit OtherOctets (h (λ same. cc))
 unfit_with Holds P memory unfit (Unsigned e) h = unfit (Unsigned e) (h (λ same. cc))

@@ -5,6 +5,7 @@ use Rattle.rpki_cert.specs.Verification.{ResourceFields}
 use Rattle.rpki_issuing.specs.PreparedOctets.{IsUncompleted, IsUnprepared}
 use Rattle.rpki_issuing.specs.declared.wanted.preparing.WantedError.{WantedError}
 use Rattle.rpki_issuing.specs.declared.wanted.preparing.WantedError.TheVariants as wanting
+use Rattle.rpki_path.specs.Asking.{nobody}
 use Rattle.rpki_c.specs.WantedAnswers.{AnswersBelow, AnswersCompletedBelow, AnswersFields, AnswersNamed, AnswersSigned, AnswersValue, AsksFields, GivesValues, unfit_of}
 use Rattle.rpki_issuing.specs.Issuers.{IsNamed}
 use Rattle.rpki_issuing.specs.PreparedOctets.{IsToSign}
@@ -24,7 +25,7 @@ module _ (w : RpkiWanted) (t : WantedTerms) (issuer : Option ResourceFields) whe
   fields_below (Unfit e) h = absurd h
   fields_below _ h = h
 
-  pub unfit_below : (f : TbsFields) → AsksFields w t issuer f → (e : WantedError) → IsUnprepared t.kind issuer t.asked.now t.asked.strict f e → AnswersBelow w t issuer (Err (unfit_of e))
+  pub unfit_below : (f : TbsFields) → AsksFields w t issuer f → (e : WantedError) → IsUnprepared t.kind issuer nobody t.asked.now t.asked.strict f e → AnswersBelow w t issuer (Err (unfit_of e))
   unfit_below f asks wanting.Memory h = tt
   unfit_below f asks _ h = (f, asks, h)
 
@@ -37,6 +38,6 @@ module _ (c : RpkiCompletion) (t : CompletionTerms) (issuer : Option ResourceFie
   named_below (Unfit e) h = absurd h
   named_below _ h = h
 
-  pub unfit_completed : (f : TbsFields) → IsToSign f c.prepared.now → IsNamed issuer f → (e : WantedError) → IsUncompleted t.kind issuer t.asked.now t.asked.strict f c.prepared.now c.signature.now e → AnswersCompletedBelow c t issuer (Err (unfit_of e))
+  pub unfit_completed : (f : TbsFields) → IsToSign f c.prepared.now → IsNamed issuer f → (e : WantedError) → IsUncompleted t.kind issuer nobody t.asked.now t.asked.strict f c.prepared.now c.signature.now e → AnswersCompletedBelow c t issuer (Err (unfit_of e))
   unfit_completed f signed named wanting.Memory h = tt
   unfit_completed f signed named _ h = (f, signed, named, h)

@@ -95,9 +95,11 @@ list_number listing.Memory = 1
 -- why what is wanted isn't prepared or completed
 abbrev pub wanted_number : WantedError → ℕ
 wanted_number wanted.NoRole = 2
+wanted_number (wanted.Broken rule) = 804
 wanted_number (wanted.Unready e) = issuing_number e
 wanted_number wanted.OtherOctets = 807
 wanted_number (wanted.Unsigned e) = issuing_number e
+wanted_number (wanted.Listed e) = revocation_number e
 wanted_number (wanted.NoList e) = next_list_number e
 wanted_number (wanted.UnreadyList e) = list_number e
 wanted_number (wanted.UnsignedList e) = list_number e

@@ -3,10 +3,12 @@
 use Rattle.std.specs.Prelude.{◌≡◌, ◌⊎◌, ℕ, List, [], Option, Some, None, option_map, Result, Ok, Err}
 use Rattle.rpki_ext.specs.Kinds.{Means}
 use Rattle.rpki_cert.specs.Certificates.{TbsFields}
-use Rattle.rpki_cert.specs.Verification.{ResourceFields}
+use Rattle.rpki_cert.specs.Verification.{ResourceFields, context}
 use Rattle.rpki_crl.specs.Lists.{CrlFields, CrlState, IsCertificateList, IsTbsCertList, ListFields}
 use Rattle.rpki_crl.specs.RevokedEntries.{Revoked}
+use Rattle.rpki_issuing.specs.Acceptance.{IsAnsweringList}
 use Rattle.rpki_issuing.specs.Issuers.{IsOwnList}
+use Rattle.rpki_keys.specs.RsaSignatures.{IsSignedByRsa}
 use Rattle.rpki_issuing.specs.WantedLists.{IsListCompleted, IsListPrepared, IsListWanted, WantedListFields}
 use Rattle.rpki_c.specs.Verdicts.{AreNoList}
 use Rattle.rpki_c.specs.WantedAnswers.{IsAuthorityOf, IsNoAuthority}
@@ -141,6 +143,7 @@ abbrev pub AnswersListCompletedBelow : RpkiListCompletion → Terms → TbsField
 AnswersListCompletedBelow c t issuer (Ok octets) =
     (f : ListFields Revoked) × Means IsTbsCertList f c.prepared.now × IsListNamed issuer f
     × CompletesList c t issuer f octets
+    × IsAnsweringList (context IsSignedByRsa t.now t.strict) issuer f octets
 AnswersListCompletedBelow c t issuer (Err (why.Unfit e)) =
     (f : ListFields Revoked) × Means IsTbsCertList f c.prepared.now × IsListNamed issuer f
     × ((octets : List ℕ) → CompletesList c t issuer f octets → ⊥)

@@ -2,7 +2,7 @@
 -- of the certificate, or why there are none (own).
 use Rattle.std.specs.Prelude.{◌≡◌, ◌≢◌, ◌⊎◌, ◌<◌, ℕ, List, [], Option, Some, None, Result, Ok, Err}
 use Rattle.rpki_cert.specs.Certificates.{TbsFields, IsTbsCertificate}
-use Rattle.rpki_cert.specs.Verification.{ResourceFields}
+use Rattle.rpki_cert.specs.Verification.{ResourceFields, context}
 use Rattle.rpki_cert.specs.declared.inspect.Kind.{Kind}
 use Rattle.rpki_cert.specs.declared.inspect.Kind.TheVariants.{Anchor}
 use Rattle.rpki_keys.specs.KeyForms.{IsUsableKey}
@@ -10,7 +10,9 @@ use Rattle.rpki_keys.specs.RsaSignatures.{IsSignedByRsa}
 use Rattle.rpki_parts.specs.Keys.{KeyFields, IsPublicKey}
 use Rattle.rpki_parts.specs.Names.{IsName}
 use Rattle.rpki_parts.specs.Uris.{IsHttps, IsRsync}
+use Rattle.rpki_path.specs.Asking.{nobody}
 use Rattle.rpki_path.specs.declared.judging.Judged.{Judged}
+use Rattle.rpki_issuing.specs.Acceptance.{IsAcceptedBelow}
 use Rattle.rpki_issuing.specs.AskedFields.{fields_asked, subject_asked}
 use Rattle.rpki_issuing.specs.Issuers.{IsNamed, fields_above}
 use Rattle.rpki_issuing.specs.PreparedOctets.{IsCompleted, IsPrepared, IsToSign, IsUncompleted, IsUnprepared}
@@ -143,10 +145,10 @@ unfit_of e = why.Unfit e
 abbrev pub AnswersBelow : RpkiWanted → WantedTerms → Option ResourceFields → Result (List ℕ) Unissued → Type 0
 AnswersBelow w t issuer (Ok octets) =
     (f : TbsFields) × AsksFields w t issuer f
-    × IsPrepared t.kind issuer t.asked.now t.asked.strict f octets
+    × IsPrepared t.kind issuer nobody t.asked.now t.asked.strict f octets
 AnswersBelow w t issuer (Err (why.Unfit e)) =
     (f : TbsFields) × AsksFields w t issuer f
-    × IsUnprepared t.kind issuer t.asked.now t.asked.strict f e
+    × IsUnprepared t.kind issuer nobody t.asked.now t.asked.strict f e
 AnswersBelow w t issuer (Err e) = AnswersFields w t issuer (Err e)
 
 -- the answer below who issues, or why nobody does
@@ -180,14 +182,18 @@ AnswersNamed issuer octets (Err why.OtherName) =
     (f : TbsFields) × IsToSign f octets × (IsNamed issuer f → ⊥)
 AnswersNamed issuer octets (Err e) = AnswersSigned octets (Err e)
 
--- the certificate that the signature makes of these fields below the issuer, or why there is none
+-- the certificate that the signature makes of these fields below the issuer, where it is accepted;
+-- or why there is none. Nobody is asked whether it is revoked.
 abbrev pub AnswersCompletedBelow : RpkiCompletion → CompletionTerms → Option ResourceFields → Result (List ℕ) Unissued → Type 0
 AnswersCompletedBelow c t issuer (Ok octets) =
     (f : TbsFields) × IsToSign f c.prepared.now × IsNamed issuer f
-    × IsCompleted t.kind issuer t.asked.now t.asked.strict f c.prepared.now c.signature.now octets
+    × IsCompleted t.kind issuer nobody t.asked.now t.asked.strict f
+    c.prepared.now c.signature.now octets
+    × IsAcceptedBelow (context IsSignedByRsa t.asked.now t.asked.strict) nobody t.kind issuer octets
 AnswersCompletedBelow c t issuer (Err (why.Unfit e)) =
     (f : TbsFields) × IsToSign f c.prepared.now × IsNamed issuer f
-    × IsUncompleted t.kind issuer t.asked.now t.asked.strict f c.prepared.now c.signature.now e
+    × IsUncompleted t.kind issuer nobody t.asked.now t.asked.strict f
+    c.prepared.now c.signature.now e
 AnswersCompletedBelow c t issuer (Err e) = AnswersNamed issuer c.prepared.now (Err e)
 
 -- the answer below who issues, or why nobody does

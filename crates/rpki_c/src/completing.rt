@@ -15,6 +15,7 @@ use rpki_cert::{Kind, ResourceCert, TbsCert};
 use rpki_issuing::wanted::issuers::is_named;
 use rpki_issuing::wanted::{complete_octets, read_tbs};
 use rpki_keys::is_usable;
+use rpki_path::revocation::NobodyAsked;
 use std::alloc::Global;
 
 /// What was prepared and signed.
@@ -120,7 +121,17 @@ fn completed_below(
     let (prepared, signature) = (completion.prepared, completion.signature);
     let (kind, asked) = (terms.kind, terms.asked);
     let (strict, now) = (asked.strict, asked.now);
-    let octets = complete_octets(alloc, &tbs, prepared, signature, kind, issuer, strict, now);
+    let octets = complete_octets(
+        alloc,
+        &tbs,
+        prepared,
+        signature,
+        kind,
+        issuer,
+        &NobodyAsked,
+        strict,
+        now,
+    );
     drop(tbs);
     match octets {
         Ok(octets) => Ok(octets),

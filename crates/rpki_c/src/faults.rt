@@ -183,8 +183,10 @@ fn of_wanted(error: &WantedError) -> u32
 {
     match error {
         WantedError::NoRole => BAD_CALL,
+        WantedError::Broken(_) => UNWRITABLE,
         WantedError::Unready(error) | WantedError::Unsigned(error) => of_issuing(error),
         WantedError::OtherOctets => OTHER_OCTETS,
+        WantedError::Listed(error) => of_revocation(error),
         WantedError::NoList(error) => of_next_list(error),
         WantedError::UnreadyList(error) | WantedError::UnsignedList(error) => of_list(error),
         WantedError::Memory => MEMORY,

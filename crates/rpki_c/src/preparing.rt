@@ -10,6 +10,7 @@ use bytes::Bytes;
 use rpki_cert::{ResourceCert, TbsCert};
 use rpki_issuing::wanted::issuers::above;
 use rpki_issuing::wanted::{WantedError, fields, prepare_octets};
+use rpki_path::revocation::NobodyAsked;
 use std::alloc::Global;
 
 /// Returns why nothing is prepared or completed.
@@ -60,7 +61,15 @@ fn prepared_below(
 {
     let (kind, asked) = (terms.kind, terms.asked);
     let tbs = fields_of(alloc, w, terms, issuer)?;
-    let octets = prepare_octets(alloc, &tbs, kind, issuer, asked.strict, asked.now);
+    let octets = prepare_octets(
+        alloc,
+        &tbs,
+        kind,
+        issuer,
+        &NobodyAsked,
+        asked.strict,
+        asked.now,
+    );
     drop(tbs);
     match octets {
         Ok(octets) => Ok(octets),

@@ -11,6 +11,7 @@ pub mod OnlyParts
 pub mod ZippedTexts
 pub mod PrefixesRead
 -- ---- what is wanted
+pub mod Accepted
 pub mod RouterNames
 pub mod SameRoles
 pub mod SignedLists

@@ -14,5 +14,7 @@ pub mod BlockTexts
 -- ---- what is wanted
 pub mod AskedFields
 pub mod Issuers
+pub mod IssuingRules
+pub mod Acceptance
 pub mod PreparedOctets
 pub mod WantedLists

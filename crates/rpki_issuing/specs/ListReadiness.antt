@@ -14,6 +14,7 @@ use Rattle.rpki_crl.specs.Revocation.{NamesIssuer, ListCheck, revocation_checks}
 use Rattle.rpki_crl.specs.RevokedEntries.{Revoked, IsRevoked}
 use Rattle.rpki_crl.specs.declared.revocation_error.RevocationError.{RevocationError}
 use Rattle.rpki_crl.specs.declared.revocation_error.RevocationError.TheVariants as revocation
+use Rattle.rpki_path.specs.AskedLists.{HasBegun}
 use Rattle.rpki_issuing.specs.Readiness.{but_signature}
 use Rattle.rpki_issuing.specs.declared.list_error.ListError.{ListError}
 use Rattle.rpki_issuing.specs.declared.list_error.ListError.TheVariants.{Invalid, TooLong, Memory}
@@ -37,11 +38,13 @@ IsUnwrittenList f value (Invalid e) = ⊥
 IsUnwrittenList f value TooLong = IsTooLongList (list_signed_with f value)
 IsUnwrittenList f value Memory = Unit {0}
 
--- the check is true of the list, whatever serial number is asked for
+-- the check is true of the list, whatever serial number is asked for; its time has begun (RFC 5280
+-- 5.1.2.4), and isn't over
 abbrev pub IssuedListCheck : Context → TbsFields → CrlFields → RevocationError → Type 0
 IssuedListCheck x issuer list revocation.WrongKeyId = NamesIssuer issuer list
 IssuedListCheck x issuer list revocation.BadSignature = IsSignedBy x.verifies issuer.key list.signed_data
-IssuedListCheck x issuer list revocation.Stale = IsNotAfter x.now list.fields.next_update
+IssuedListCheck x issuer list revocation.Stale =
+    HasBegun x.now list × IsNotAfter x.now list.fields.next_update
 IssuedListCheck x issuer list _ = Unit {0}
 
 -- in the order in which they are tested

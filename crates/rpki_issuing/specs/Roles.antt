@@ -5,7 +5,7 @@ use Rattle.rpki_parts.specs.Keys.{KeyFields}
 use Rattle.rpki_cert.specs.Certificates.{TbsFields, CertFields}
 use Rattle.rpki_cert.specs.Profiles.{MeetsProfile}
 use Rattle.rpki_cert.specs.Validation.{IsInvalid}
-use Rattle.rpki_cert.specs.Verification.{Context, CheckUnder, TrustAnchorCheck, IsVerified, trust_anchor_checks, issued_checks, router_checks}
+use Rattle.rpki_cert.specs.Verification.{Context, CheckUnder, TrustAnchorCheck, IsVerified, ResourceFields, HasIssued, trust_anchor_checks, issued_checks, router_checks}
 use Rattle.rpki_cert.specs.declared.inspect.Kind.{Kind}
 use Rattle.rpki_cert.specs.declared.inspect.Kind.TheVariants as kind
 use Rattle.rpki_cert.specs.declared.verification_error.VerificationError.{VerificationError}
@@ -50,6 +50,15 @@ role_checks (Router issuer) = router_checks
 pub record IsValidAs (x : Context) (role : Role) (c : CertFields) : Type 0 where
   pub meets : MeetsProfile (kind_of role) x.strict c
   pub checks : IsVerified (RoleCheck x role c) (role_checks role)
+
+-- there are the sets of numbers that it gets of its issuer's (RFC 6487 7.2); of a trust anchor, and
+-- of a router, none are made
+abbrev pub GetsNumbers : Role → CertFields → Type 0
+GetsNumbers Anchor c = Unit {0}
+GetsNumbers (Authority issuer) c = (r : ResourceFields) × HasIssued c issuer.now r
+GetsNumbers (EndEntity issuer) c = (r : ResourceFields) × HasIssued c issuer.now r
+GetsNumbers (Detached issuer) c = (r : ResourceFields) × HasIssued c issuer.now r
+GetsNumbers (Router issuer) c = Unit {0}
 
 -- why it isn't: its first fault, or then the first check that isn't true; or memory was wanted
 abbrev pub IsInvalidAs : Context → Role → CertFields → IssuingError → Type 0

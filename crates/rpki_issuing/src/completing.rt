@@ -4,7 +4,7 @@ ghost use Rattle.rpki_parts.specs.SignedDatas.{signed_data};
 ghost use Rattle.rpki_cert.specs.Certificates.{IsCertificate};
 ghost use Rattle.rpki_cert.specs.Verification.{context};
 ghost use Rattle.rpki_issuing.specs.Readiness.{signed_with, IsReady, IsSignatureOf, IsIncomplete, IsSignatureFault};
-ghost use Rattle.rpki_issuing.specs.Roles.{IsValidAs};
+ghost use Rattle.rpki_issuing.specs.Roles.{GetsNumbers, IsValidAs};
 
 use crate::assembling::assemble;
 use crate::issuing_error::IssuingError;
@@ -32,6 +32,7 @@ pub fn complete<V: Verifier>(
     ensures read { IfOk result (λ c. IsCertificate c (signed_data c.signed_data)) }
     ensures valid { let x = context (V.verifies verifier.now) now strict in
         IfOk result (IsValidAs x role.now) }
+    ensures numbers { IfOk result (GetsNumbers role.now) }
     ensures signed { OnOk result
         (IsSignatureOf (V.verifies verifier.now) role.now prepared.now signature.now) }
     ensures fault { let x = context (V.verifies verifier.now) now strict in

@@ -5,12 +5,13 @@ ghost use Rattle.rpki_parts.specs.Conditions.{IsFirstFalse};
 ghost use Rattle.rpki_der.specs.Times.{Moment};
 ghost use Rattle.rpki_cert.specs.Certificates.{TbsFields};
 ghost use Rattle.rpki_cert.specs.Verification.{context, IsVerified};
-ghost use Rattle.rpki_crl.specs.Lists.{CrlState};
+ghost use Rattle.rpki_crl.specs.Lists.{CrlFields, CrlState};
 ghost use Rattle.rpki_crl.specs.Revocation.{IsUnderUri, RevocationCheck, revocation_checks};
 ghost use Rattle.rpki_crl.specs.RevokedEntries.{IsRevoked};
 ghost use Rattle.rpki_crl.specs.Stores.{Stored};
 ghost use Rattle.rpki_crl.specs.declared.revocation_error.RevocationError.TheVariants.{Revoked};
-ghost use Rattle.rpki_issuing.specs.ListReadiness.{LeavesOthers, RevokesItsOwn};
+ghost use Rattle.rpki_issuing.specs.Acceptance.{AnswersFor};
+ghost use Rattle.rpki_issuing.specs.ListReadiness.{IsCurrentList, LeavesOthers, RevokesItsOwn};
 ghost use Rattle.rpki_issuing.specs.NextLists.{HasAtMostTwentyOctets};
 ghost use Rattle.rpki_issuing.specs.Readiness.{signed_with, IsReady, IsSignatureOf};
 ghost use Rattle.rpki_issuing.specs.Roles.{IsValidAs};
@@ -44,6 +45,16 @@ pub fn stored_list_answers<V: Verifier>()
         → IsRevoked serial crl.list.fields.revoked.entries
         → IsFirstFalse (RevocationCheck x issuer serial (IsUnderUri pairs uri))
         revocation_checks Revoked }
+{}
+
+/// Says that a current list answers for its issuer (as [`crate::complete_list`] promises that it is
+/// current): where it is asked of a certificate, among whatever lists are given, the certificate is
+/// unrevoked if its serial number isn't on the list, and else `Revoked` is the first check that
+/// fails ([`rpki_path::revocation::GivenLists`]).
+pub fn current_list_answers<V: Verifier>()
+    ensures { (verifier : V) (now : Moment) (strict : Bool) (issuer : TbsFields)
+        (list : CrlFields) → let x = context (V.verifies verifier) now strict in
+        IsCurrentList x issuer list → AnswersFor x issuer list }
 {}
 
 /// Says which numbers have at most 20 octets as an INTEGER (RFC 5280 5.2.3, X.690 8.3): those below

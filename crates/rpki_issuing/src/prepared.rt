@@ -1,7 +1,7 @@
 //! What is to be signed, prepared.
 ghost use Rattle.std.specs.Prelude.{◌≡◌, IfOk, IfErr, OnOk};
 ghost use Rattle.rpki_cert.specs.Certificates.{CanBeWritten, encoding};
-ghost use Rattle.rpki_issuing.specs.Readiness.{IsReady, IsUnready};
+ghost use Rattle.rpki_issuing.specs.Readiness.{IsReady, IsUnready, unsigned as unsigned_of};
 
 use crate::any_signature::AnySignature;
 use crate::assembling::assemble;
@@ -19,13 +19,15 @@ pub struct Prepared {
 }
 
 impl Model for Prepared {
+    ghost use Rattle.std.specs.Prelude.{◌≡◌};
     ghost use Rattle.rpki_cert.specs.Certificates.{TbsFields, IsMade};
+    ghost use Rattle.rpki_issuing.specs.Readiness.{unsigned as unsigned_of};
 
     ghost Value = { TbsFields };
 
     ghost view = { λ p. p.unsigned.fields };
 
-    ghost invariant = { λ p. IsMade p.unsigned };
+    ghost invariant = { λ p. IsMade p.unsigned × (p.unsigned ≡ unsigned_of p.unsigned.fields) };
 }
 
 impl Prepared {
@@ -34,6 +36,13 @@ impl Prepared {
         ensures { result.now ≡ self.now }
     {
         self.unsigned.as_tbs()
+    }
+
+    // The certificate, whose signature has no octets.
+    pub(crate) fn as_cert(&self) -> &Cert
+        ensures { result.now ≡ unsigned_of self.now }
+    {
+        &self.unsigned
     }
 
     /// Returns what is to be signed: the TBSCertificate with these fields, its identifier and

@@ -6,7 +6,7 @@ ghost use Rattle.rpki_parts.specs.SignedDatas.{signed_data};
 ghost use Rattle.rpki_cert.specs.Verification.{context};
 ghost use Rattle.rpki_crl.specs.Lists.{ListFits, IsCertificateList, IsMadeList, list_content, list_encoding};
 ghost use Rattle.rpki_issuing.specs.ListReadiness.{list_signed_with, list_unsigned, IssuedListCheck, issued_list_checks, IsUnwrittenList};
-ghost use Rattle.rpki_issuing.specs.ListReadiness.{IsListReady, IsListFault, IsListSignature, IsListSignatureFault, LeavesOthers, RevokesItsOwn};
+ghost use Rattle.rpki_issuing.specs.ListReadiness.{IsCurrentList, IsListReady, IsListFault, IsListSignature, IsListSignatureFault, LeavesOthers, RevokesItsOwn};
 ghost use Rattle.rpki_issuing.specs.Readiness.{but_signature};
 
 use crate::any_signature::AnySignature;
@@ -17,6 +17,7 @@ use rpki_cert::ResourceCert;
 use rpki_crl::{Crl, RevocationError, RevokedCertificates, TbsCertList, laws};
 use rpki_der::{EncodeError, Time};
 use rpki_parts::{Signature, SignedData, Verifier};
+use rpki_path::revocation::has_begun;
 use std::alloc::{AllocError, Global};
 use std::marker::Model;
 
@@ -80,7 +81,7 @@ fn check<V: Verifier>(
     if crl.verify_signature(key, verifier).is_err() {
         return Err(RevocationError::BadSignature);
     }
-    if crl.as_cert_list().is_stale(now) {
+    if !has_begun(crl, now) || crl.as_cert_list().is_stale(now) {
         return Err(RevocationError::Stale);
     }
     Ok(())
@@ -122,8 +123,8 @@ impl PreparedList {
 }
 
 /// Prepares a revocation list with these fields for signing: Ok exactly where only a signature is
-/// missing. The fields can be written, the list names the issuer's key, and its next update isn't
-/// before this moment (RFC 5280 6.3.3). Errs with the first of these that fails.
+/// missing. The fields can be written, the list names the issuer's key, and this moment is between
+/// its two updates (RFC 5280 5.1.2.4, 5.1.2.5). Errs with the first of these that fails.
 pub fn prepare_list(
     alloc: Global,
     fields: &TbsCertList<RevokedCertificates>,
@@ -148,8 +149,8 @@ pub fn prepare_list(
 
 /// Completes a list that was prepared with the octets of its signature: where it is still ready
 /// below this issuer at this moment, Ok exactly where the verifier says that the issuer's key
-/// signed [`PreparedList::octets`]. The list is read again from its own octets. Below this issuer
-/// each serial number that isn't on it passes the checks of [`rpki_crl::CrlStore::check`], and each
+/// signed [`PreparedList::octets`]. The list is read again from its own octets, and is current.
+/// Below this issuer each serial number that isn't on it passes the checks of [`rpki_crl::CrlStore::check`], and each
 /// that is on it fails as revoked. Errs with the first fault.
 pub fn complete_list<V: Verifier>(
     alloc: Global,
@@ -164,6 +165,8 @@ pub fn complete_list<V: Verifier>(
     ensures read { IfOk result (λ c. IsCertificateList c.list (signed_data c.list.signed_data)) }
     ensures signed { OnOk result (IsListSignature (V.verifies verifier.now)
         issuer.now.cert.fields prepared.now signature.now) }
+    ensures current { let x = context (V.verifies verifier.now) now strict in
+        IfOk result (λ c. IsCurrentList x issuer.now.cert.fields c.list) }
     ensures unrevoked { let x = context (V.verifies verifier.now) now strict in
         IfOk result (λ c. LeavesOthers x issuer.now.cert.fields c.list) }
     ensures revoked { let x = context (V.verifies verifier.now) now strict in

@@ -1,7 +1,7 @@
 //! What a certificate is issued as.
 ghost use Rattle.std.specs.Prelude.{IfErr, OnOk};
 ghost use Rattle.rpki_cert.specs.Verification.{context};
-ghost use Rattle.rpki_issuing.specs.Roles.{IsValidAs, IsInvalidAs};
+ghost use Rattle.rpki_issuing.specs.Roles.{GetsNumbers, IsValidAs, IsInvalidAs};
 
 use crate::issuing_error::IssuingError;
 use rpki_cert::{Cert, ResourceCert};
@@ -38,6 +38,7 @@ impl Role<'_> {
     ) -> Result<(), IssuingError>
         ensures ok { let x = context (V.verifies verifier.now) now strict in
             OnOk result (IsValidAs x self.now cert.now) }
+        ensures numbers { OnOk result (GetsNumbers self.now cert.now) }
         ensures fault { let x = context (V.verifies verifier.now) now strict in
             IfErr result (IsInvalidAs x self.now cert.now) }
     {

@@ -9,6 +9,7 @@ use Rattle.rpki_cert.specs.Verification.{ResourceFields}
 use Rattle.rpki_issuing.specs.OnlyValues.{IsOnly}
 use Rattle.rpki_verdicts.specs.PathAnswers.{HoldSame}
 use Rattle.rpki_issuing.specs.WantedLists.{IsListWanted, WantedListFields}
+use Rattle.rpki_path.specs.Asking.{RevocationChecks}
 use Rattle.rpki_requests.specs.Fulfilment.{AsksList, CompletesAs, CompletesBelow, CompletesListBelow, GivesToSign, PreparesListBelow}
 use Rattle.rpki_requests.specs.OptionValues.{GivesList}
 use Rattle.rpki_requests.specs.RequestFiles.{AreOneIssuer, InputFields, IsPreviousOf}
@@ -63,32 +64,32 @@ module _ (asked : AskedFields) (at : Moment) where
         subst (λ (c : CertFields). CompletesListBelow asked at c.fields prepared signature octets) same.cert_is p
 
     -- what is completed below one
-    pub completes_as_moved : (other : Option ResourceFields) (issuer : Option (Bor ResourceFields)) (given : Made) → AreOneIssuer other (option_map (λ b. b.now) issuer) → CompletesAs asked at other prepared signature given → CompletesAs asked at (option_map (λ b. b.now) issuer) prepared signature given
-    completes_as_moved None None given same p = p
-    completes_as_moved None (Some b) given same p = absurd same
-    completes_as_moved (Some r) None given same p = absurd same
-    completes_as_moved (Some r) (Some b) (made.ToSign octets) same p = p
-    completes_as_moved (Some r) (Some b) (made.Certificate octets) same p = completes_moved asked at prepared signature octets (Some r) (Some b) same p
-    completes_as_moved (Some r) (Some b) (made.RevocationList octets) same p = list_completes_moved r b.now same octets p
+    pub completes_as_moved : (checks : RevocationChecks) (other : Option ResourceFields) (issuer : Option (Bor ResourceFields)) (given : Made) → AreOneIssuer other (option_map (λ b. b.now) issuer) → CompletesAs asked checks at other prepared signature given → CompletesAs asked checks at (option_map (λ b. b.now) issuer) prepared signature given
+    completes_as_moved checks None None given same p = p
+    completes_as_moved checks None (Some b) given same p = absurd same
+    completes_as_moved checks (Some r) None given same p = absurd same
+    completes_as_moved checks (Some r) (Some b) (made.ToSign octets) same p = p
+    completes_as_moved checks (Some r) (Some b) (made.Certificate octets) same p = completes_moved asked checks at prepared signature octets (Some r) (Some b) same p
+    completes_as_moved checks (Some r) (Some b) (made.RevocationList octets) same p = list_completes_moved r b.now same octets p
 
     -- where nothing is completed as a certificate, and what is to be signed is no list
-    pub none_as_certificate : ((f : ListFields Revoked) → IsTbsCertList f prepared → ⊥) → (issuer : Option ResourceFields) → ((octets : List ℕ) → CompletesBelow asked at issuer prepared signature octets → ⊥) → (given : Made) → CompletesAs asked at issuer prepared signature given → ⊥
-    none_as_certificate no_list None none (made.ToSign octets) p = p
-    none_as_certificate no_list (Some r) none (made.ToSign octets) p = p
-    none_as_certificate no_list None none (made.Certificate octets) p = none octets p
-    none_as_certificate no_list (Some r) none (made.Certificate octets) p = none octets p
-    none_as_certificate no_list None none (made.RevocationList octets) p = p
-    none_as_certificate no_list (Some r) none (made.RevocationList octets) p = no_list p.fields p.fields_are
+    pub none_as_certificate : (checks : RevocationChecks) → ((f : ListFields Revoked) → IsTbsCertList f prepared → ⊥) → (issuer : Option ResourceFields) → ((octets : List ℕ) → CompletesBelow asked checks at issuer prepared signature octets → ⊥) → (given : Made) → CompletesAs asked checks at issuer prepared signature given → ⊥
+    none_as_certificate checks no_list None none (made.ToSign octets) p = p
+    none_as_certificate checks no_list (Some r) none (made.ToSign octets) p = p
+    none_as_certificate checks no_list None none (made.Certificate octets) p = none octets p
+    none_as_certificate checks no_list (Some r) none (made.Certificate octets) p = none octets p
+    none_as_certificate checks no_list None none (made.RevocationList octets) p = p
+    none_as_certificate checks no_list (Some r) none (made.RevocationList octets) p = no_list p.fields p.fields_are
 
     module _ (f : ListFields Revoked) (is : IsTbsCertList f prepared) where
       -- what is to be signed is a list, and no issuer is there
-      pub none_without : (given : Made) → CompletesAs asked at None prepared signature given → ⊥
-      none_without (made.ToSign octets) p = p
-      none_without (made.Certificate octets) p = data_apart f p.fields prepared is p.fields_are.is_data
-      none_without (made.RevocationList octets) p = p
+      pub none_without : (checks : RevocationChecks) (given : Made) → CompletesAs asked checks at None prepared signature given → ⊥
+      none_without checks (made.ToSign octets) p = p
+      none_without checks (made.Certificate octets) p = data_apart f p.fields prepared is p.fields_are.is_data
+      none_without checks (made.RevocationList octets) p = p
 
       -- or nothing is completed as one
-      pub none_as_list : (r : ResourceFields) → ((octets : List ℕ) → CompletesListBelow asked at r.cert.fields prepared signature octets → ⊥) → (given : Made) → CompletesAs asked at (Some r) prepared signature given → ⊥
-      none_as_list r none (made.ToSign octets) p = p
-      none_as_list r none (made.Certificate octets) p = data_apart f p.fields prepared is p.fields_are.is_data
-      none_as_list r none (made.RevocationList octets) p = none octets p
+      pub none_as_list : (checks : RevocationChecks) (r : ResourceFields) → ((octets : List ℕ) → CompletesListBelow asked at r.cert.fields prepared signature octets → ⊥) → (given : Made) → CompletesAs asked checks at (Some r) prepared signature given → ⊥
+      none_as_list checks r none (made.ToSign octets) p = p
+      none_as_list checks r none (made.Certificate octets) p = data_apart f p.fields prepared is p.fields_are.is_data
+      none_as_list checks r none (made.RevocationList octets) p = none octets p

@@ -1,6 +1,7 @@
 -- Lemmas of the proofs about requests.
 mod AddedFiles
 mod AskedLists
+mod AskedSources
 mod GivenValues
 mod GivenWants
 mod JudgedIssuers

@@ -12,6 +12,7 @@ use Rattle.rpki_cert.proofs.SaidOnce.{says_one}
 use Rattle.rpki_issuing.specs.AskedFields.{fields_asked, subject_asked}
 use Rattle.rpki_issuing.specs.PreparedOctets.{IsCompleted}
 use Rattle.rpki_issuing.specs.declared.wanted.wanted.Wanted.{Wanted}
+use Rattle.rpki_path.specs.Asking.{RevocationChecks}
 use Rattle.rpki_requests.specs.Fulfilment.{AsksFields}
 use Rattle.rpki_requests.specs.OptionValues.{GivesWanted}
 use Rattle.rpki_requests.specs.RequestFiles.{IsCompletedAs, IsKeyFile}
@@ -55,8 +56,8 @@ pub one_completed : (issuer : Option ResourceFields) (f : TbsFields) (a b : Kind
 one_completed None f a b p q = p ∙ sym q
 one_completed (Some issuer) f a b p q = says_one f a b p q
 
-pub same_completed : (issuer : Option ResourceFields) (at : Moment) (strict : Bool) (signature octets : List ℕ) (a b : Kind) (f g : TbsFields) (prepared given : List ℕ) → a ≡ b → f ≡ g → prepared ≡ given → IsCompleted a issuer at strict f prepared signature octets → IsCompleted b issuer at strict g given signature octets
-same_completed issuer at strict signature octets a b f g prepared given kinds fields files p =
-    subst (λ (k : Kind). IsCompleted k issuer at strict g given signature octets) kinds
-    (subst (λ (h : TbsFields). IsCompleted a issuer at strict h given signature octets) fields
-    (subst (λ (l : List ℕ). IsCompleted a issuer at strict f l signature octets) files p))
+pub same_completed : (issuer : Option ResourceFields) (checks : RevocationChecks) (at : Moment) (strict : Bool) (signature octets : List ℕ) (a b : Kind) (f g : TbsFields) (prepared given : List ℕ) → a ≡ b → f ≡ g → prepared ≡ given → IsCompleted a issuer checks at strict f prepared signature octets → IsCompleted b issuer checks at strict g given signature octets
+same_completed issuer checks at strict signature octets a b f g prepared given kinds fields files p =
+    subst (λ (k : Kind). IsCompleted k issuer checks at strict g given signature octets) kinds
+    (subst (λ (h : TbsFields). IsCompleted a issuer checks at strict h given signature octets) fields
+    (subst (λ (l : List ℕ). IsCompleted a issuer checks at strict f l signature octets) files p))

@@ -11,13 +11,15 @@ use Rattle.rpki_crl.specs.RevokedEntries.{Revoked}
 use Rattle.rpki_keys.specs.RsaSignatures.{IsSignedByRsa}
 use Rattle.rpki_der.specs.Times.{Moment}
 use Rattle.rpki_cert.specs.Verification.{Context, ResourceFields, context}
+use Rattle.rpki_issuing.specs.Acceptance.{IsAcceptedBelow, IsAnsweringList}
 use Rattle.rpki_issuing.specs.AskedFields.{fields_asked, subject_asked}
 use Rattle.rpki_issuing.specs.Issuers.{IsNamed, fields_above}
 use Rattle.rpki_issuing.specs.PreparedOctets.{IsCompleted, IsPrepared, IsToSign}
 use Rattle.rpki_issuing.specs.WantedLists.{IsListCompleted, IsListPrepared, IsListWanted, WantedListFields}
 use Rattle.rpki_issuing.specs.declared.wanted.wanted.Wanted.{Wanted}
+use Rattle.rpki_path.specs.Asking.{RevocationChecks}
 use Rattle.rpki_requests.specs.OptionValues.{GivesList, GivesWanted}
-use Rattle.rpki_requests.specs.RequestFiles.{InputFields, IsCompletedAs, IsIssuerOf, IsKeyFile, IsPreviousOf}
+use Rattle.rpki_requests.specs.RequestFiles.{InputFields, IsCompletedAs, IsIssuerOf, IsKeyFile, IsPreviousOf, IsSoAsked}
 use Rattle.rpki_requests.specs.RequestWords.{AskedFields}
 use Rattle.rpki_requests.specs.declared.fulfilling.Made.{Made}
 use Rattle.rpki_requests.specs.declared.fulfilling.Made.TheVariants.{ToSign, Certificate}
@@ -28,6 +30,13 @@ use Rattle.rpki_requests.specs.declared.words.Errand.TheVariants.{Authority, End
 -- under what a request is judged: with real signatures, at the moment, strictly or not
 abbrev pub context_of : AskedFields → Moment → Context
 context_of asked at = context IsSignedByRsa at asked.strict
+
+-- below the issuer that the files are it is so
+pub record IsBelow (asked : AskedFields) (inputs : InputFields) (at : Moment)
+    (Is : Option ResourceFields → Type 0) : Type 0 where
+  pub issuer : Option ResourceFields
+  pub issuer_is : IsIssuerOf (context_of asked at) inputs.issuers inputs.lists issuer
+  pub is_so : Is issuer
 
 -- ---- what is prepared
 
@@ -42,19 +51,22 @@ pub record AsksFields (kind : Kind) (asked : AskedFields) (keys : List (List ℕ
   pub named : let subject = subject_asked kind wanted.numbers.systems key in IsName subject subject
   pub fields_are : f ≡ fields_asked kind asked.trims wanted (fields_above issuer) key
 
--- the octets of these fields, of which only the signature is missing below the issuer
-pub record PreparesBelow (kind : Kind) (asked : AskedFields) (keys : List (List ℕ)) (at : Moment)
-    (issuer : Option ResourceFields) (octets : List ℕ) : Type 0 where
+-- the octets of these fields, of which only the signature is missing below the issuer, by who is
+-- asked for revocation
+pub record PreparesBelow (kind : Kind) (asked : AskedFields) (keys : List (List ℕ))
+    (checks : RevocationChecks) (at : Moment) (issuer : Option ResourceFields)
+    (octets : List ℕ) : Type 0 where
   pub fields : TbsFields
   pub asks : AsksFields kind asked keys issuer fields
-  pub prepared : IsPrepared kind issuer at asked.strict fields octets
+  pub prepared : IsPrepared kind issuer checks at asked.strict fields octets
 
--- below the issuer that the files are
+-- below the issuer that the files are, by the lists that are given
 pub record Prepares (kind : Kind) (asked : AskedFields) (inputs : InputFields) (at : Moment)
     (octets : List ℕ) : Type 0 where
   pub issuer : Option ResourceFields
   pub issuer_is : IsIssuerOf (context_of asked at) inputs.issuers inputs.lists issuer
-  pub prepares : PreparesBelow kind asked inputs.keys at issuer octets
+  pub prepares : IsSoAsked (context_of asked at) inputs.lists
+      (λ checks. PreparesBelow kind asked inputs.keys checks at issuer octets)
 
 -- ---- which list is prepared
 
@@ -84,15 +96,15 @@ pub record PreparesList (asked : AskedFields) (inputs : InputFields) (at : Momen
 -- ---- what is completed
 
 -- a TBSCertificate, a signature of it, and the certificate that these make below the issuer, whose
--- name it has (RFC 6487 4.4, 7.2)
-pub record CompletesBelow (asked : AskedFields) (at : Moment) (issuer : Option ResourceFields)
-    (prepared signature octets : List ℕ) : Type 0 where
+-- name it has (RFC 6487 4.4, 7.2), by who is asked for revocation
+pub record CompletesBelow (asked : AskedFields) (checks : RevocationChecks) (at : Moment)
+    (issuer : Option ResourceFields) (prepared signature octets : List ℕ) : Type 0 where
   pub fields : TbsFields
   pub fields_are : IsToSign fields prepared
   pub named : IsNamed issuer fields
   pub kind : Kind
   pub kind_is : IsCompletedAs issuer fields kind
-  pub completed : IsCompleted kind issuer at asked.strict fields prepared signature octets
+  pub completed : IsCompleted kind issuer checks at asked.strict fields prepared signature octets
 
 -- a TBSCertList, a signature of it, and the list that these make below the issuer, whose name it
 -- has (RFC 5280 5.1.2.3)
@@ -104,15 +116,15 @@ pub record CompletesListBelow (asked : AskedFields) (at : Moment) (issuer : TbsF
   pub completed : IsListCompleted at asked.strict issuer fields prepared signature octets
 
 -- the certificate or the list that they make below the issuer; a list has one
-abbrev pub CompletesAs : AskedFields → Moment → Option ResourceFields → List ℕ → List ℕ → Made
-    → Type 0
-CompletesAs asked at issuer prepared signature (Certificate octets) =
-    CompletesBelow asked at issuer prepared signature octets
-CompletesAs asked at (Some issuer) prepared signature (made.RevocationList octets) =
+abbrev pub CompletesAs : AskedFields → RevocationChecks → Moment → Option ResourceFields → List ℕ
+    → List ℕ → Made → Type 0
+CompletesAs asked checks at issuer prepared signature (Certificate octets) =
+    CompletesBelow asked checks at issuer prepared signature octets
+CompletesAs asked checks at (Some issuer) prepared signature (made.RevocationList octets) =
     CompletesListBelow asked at issuer.cert.fields prepared signature octets
-CompletesAs asked at issuer prepared signature given = ⊥
+CompletesAs asked checks at issuer prepared signature given = ⊥
 
--- the two files are these, and this is what they make
+-- the two files are these, and this is what they make, by the lists that are given
 pub record Completes (asked : AskedFields) (inputs : InputFields) (at : Moment)
     (given : Made) : Type 0 where
   pub issuer : Option ResourceFields
@@ -120,7 +132,23 @@ pub record Completes (asked : AskedFields) (inputs : InputFields) (at : Moment)
   pub prepared : List ℕ
   pub signature : List ℕ
   pub files_are : inputs.files ≡ prepared ∷ signature ∷ []
-  pub completes : CompletesAs asked at issuer prepared signature given
+  pub completes : IsSoAsked (context_of asked at) inputs.lists
+      (λ checks. CompletesAs asked checks at issuer prepared signature given)
+
+-- a certificate is accepted below this issuer, and a list answers for it (RFC 6487 5, 7.2)
+abbrev pub IsAcceptedMade : Context → RevocationChecks → Option ResourceFields → Made → Type 0
+IsAcceptedMade x checks issuer (Certificate octets) =
+    (kind : Kind) × IsAcceptedBelow x checks kind issuer octets
+IsAcceptedMade x checks (Some issuer) (made.RevocationList octets) =
+    (f : ListFields Revoked) × IsAnsweringList x issuer.cert.fields f octets
+IsAcceptedMade x checks issuer given = Unit {0}
+
+-- so it is below the issuer that the files are, by the lists that are given
+abbrev pub IsAcceptedOf : AskedFields → InputFields → Moment → Made → Type 0
+IsAcceptedOf asked inputs at given =
+    let x = context_of asked at in
+    IsBelow asked inputs at
+    (λ issuer. IsSoAsked x inputs.lists (λ checks. IsAcceptedMade x checks issuer given))
 
 -- ---- the whole
 

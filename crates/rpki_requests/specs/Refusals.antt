@@ -19,6 +19,8 @@ use Rattle.rpki_verdicts.specs.declared.path.Fault.{Fault}
 use Rattle.rpki_verdicts.specs.declared.path.Verdict.TheVariants as verdict
 use Rattle.rpki_issuing.specs.declared.wanted.preparing.WantedError.{WantedError}
 use Rattle.rpki_issuing.specs.declared.wanted.preparing.WantedError.TheVariants as wanted
+use Rattle.rpki_issuing.specs.declared.wanted.rules.IssuingRule.{IssuingRule}
+use Rattle.rpki_issuing.specs.declared.wanted.rules.IssuingRule.TheVariants.{ZeroSerial, EarlyValidity, IssuerKey}
 use Rattle.rpki_requests.specs.RequestFiles.{IsNoAuthority, IsNoListAt, chained}
 use Rattle.rpki_requests.specs.RequestWords.{setting_name}
 use Rattle.rpki_requests.specs.declared.refusals.Refusal.{Refusal}
@@ -92,11 +94,20 @@ list_text (listing.Invalid e) = fault_text (revocation_error_name e) (revocation
 list_text listing.TooLong = codes "the list would be too long"
 list_text listing.Memory = codes "out of memory"
 
+-- which rule for whoever issues isn't kept
+abbrev pub rule_text : IssuingRule → List ℕ
+rule_text ZeroSerial = codes "the serial number is 0, expected a positive one (RFC 6487 4.2)"
+rule_text EarlyValidity =
+    codes "the validity starts before 1950, expected 1950 or later (RFC 5280 4.1.2.5)"
+rule_text IssuerKey = codes "the CA has its issuer's key, expected a key of its own (own rule)"
+
 abbrev pub wanted_text : WantedError → List ℕ
 wanted_text wanted.NoRole = codes "a trust anchor has no issuer, and other certificates have one"
+wanted_text (wanted.Broken rule) = rule_text rule
 wanted_text (wanted.Unready e) = issuing_text e
 wanted_text wanted.OtherOctets = codes "the first file isn't what is prepared of its fields"
 wanted_text (wanted.Unsigned e) = issuing_text e
+wanted_text (wanted.Listed e) = fault_text (revocation_error_name e) (revocation_rule e)
 wanted_text (wanted.NoList e) = next_text e
 wanted_text (wanted.UnreadyList e) = list_text e
 wanted_text (wanted.UnsignedList e) = list_text e

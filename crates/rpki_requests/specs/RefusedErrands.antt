@@ -15,22 +15,16 @@ use Rattle.rpki_issuing.specs.PreparedOctets.{IsToSign, IsUncompleted, IsUnprepa
 use Rattle.rpki_issuing.specs.WantedLists.{IsListCompleted, IsListPrepared, IsListUncompleted, IsListUnprepared, IsListWanted, IsNoList, WantedListFields}
 use Rattle.rpki_issuing.specs.declared.wanted.preparing.WantedError.{WantedError}
 use Rattle.rpki_issuing.specs.declared.wanted.wanted.Wanted.{Wanted}
-use Rattle.rpki_requests.specs.Fulfilment.{AsksFields, AsksList, context_of}
+use Rattle.rpki_path.specs.Asking.{RevocationChecks}
+use Rattle.rpki_requests.specs.Fulfilment.{AsksFields, AsksList, IsBelow, context_of}
 use Rattle.rpki_requests.specs.OptionValues.{GivesList, GivesWanted}
-use Rattle.rpki_requests.specs.RequestFiles.{InputFields, IsCompletedAs, IsIssuerOf, IsKeyFile, IsPreviousOf}
+use Rattle.rpki_requests.specs.RequestFiles.{InputFields, IsCompletedAs, IsKeyFile, IsPreviousOf, IsSoAsked}
 use Rattle.rpki_requests.specs.RequestWords.{AskedFields, GivenFields}
 use Rattle.rpki_requests.specs.ToldRefusals.{IsDataFault, IsKeyFault, IsOfPath, IsOption, IsOtherList, IsUnfit, IsWantedFault}
 use Rattle.rpki_requests.specs.declared.refusals.Refusal.{Refusal}
 use Rattle.rpki_requests.specs.declared.refusals.Refusal.TheVariants.{NoIssuer, NoName, Files, OtherName, Memory}
 use Rattle.rpki_requests.specs.declared.words.Errand.{Errand}
 use Rattle.rpki_requests.specs.declared.words.Errand.TheVariants.{Authority, EndEntity, Detached, Router, Anchor, RevocationList, Completion}
-
--- below the issuer that the files are it is so
-pub record IsBelow (asked : AskedFields) (inputs : InputFields) (at : Moment)
-    (Is : Option ResourceFields → Type 0) : Type 0 where
-  pub issuer : Option ResourceFields
-  pub issuer_is : IsIssuerOf (context_of asked at) inputs.issuers inputs.lists issuer
-  pub is_so : Is issuer
 
 -- ---- a certificate is prepared
 
@@ -51,24 +45,26 @@ IsFieldsFault kind given keys why =
     ⊎ (IsKeyFault keys why ⊎ ((why ≡ NoName) × HasNoName kind given keys))
 
 -- the fields that are asked for aren't ready below this issuer, for this
-pub record AreUnready (kind : Kind) (asked : AskedFields) (keys : List (List ℕ)) (at : Moment)
-    (issuer : Option ResourceFields) (e : WantedError) : Type 0 where
+pub record AreUnready (kind : Kind) (asked : AskedFields) (keys : List (List ℕ))
+    (checks : RevocationChecks) (at : Moment) (issuer : Option ResourceFields)
+    (e : WantedError) : Type 0 where
   pub fields : TbsFields
   pub asks : AsksFields kind asked keys issuer fields
-  pub unprepared : IsUnprepared kind issuer at asked.strict fields e
+  pub unprepared : IsUnprepared kind issuer checks at asked.strict fields e
 
 -- what it says of the certificate of this kind below this issuer is so
-abbrev pub IsSoOfCertificate : Kind → AskedFields → List (List ℕ) → Moment
+abbrev pub IsSoOfCertificate : Kind → AskedFields → List (List ℕ) → RevocationChecks → Moment
     → Option ResourceFields → Refusal → Type 0
-IsSoOfCertificate kind asked keys at issuer why =
+IsSoOfCertificate kind asked keys checks at issuer why =
     IsFieldsFault kind asked.given keys why
-    ⊎ IsUnfit (AreUnready kind asked keys at issuer) why
+    ⊎ IsUnfit (AreUnready kind asked keys checks at issuer) why
 
 -- it speaks of the issuer's path; or of the certificate below the issuer that this is, and is so
 abbrev pub IsSoOfPrepared : Kind → AskedFields → InputFields → Moment → Refusal → Type 0
 IsSoOfPrepared kind asked inputs at why =
     IsOfPath why
-    ⊎ IsBelow asked inputs at (λ issuer. IsSoOfCertificate kind asked inputs.keys at issuer why)
+    ⊎ IsBelow asked inputs at (λ issuer. IsSoAsked (context_of asked at) inputs.lists
+    (λ checks. IsSoOfCertificate kind asked inputs.keys checks at issuer why))
 
 -- ---- a list is prepared
 
@@ -132,22 +128,22 @@ pub record IsNamedOtherwise (issuer : Option ResourceFields) (prepared : List �
   pub unnamed : IsNamed issuer fields → ⊥
 
 -- they are one, which isn't completed by this signature below this issuer, for this
-pub record IsUnmade (asked : AskedFields) (at : Moment) (issuer : Option ResourceFields)
-    (prepared signature : List ℕ) (e : WantedError) : Type 0 where
+pub record IsUnmade (asked : AskedFields) (checks : RevocationChecks) (at : Moment)
+    (issuer : Option ResourceFields) (prepared signature : List ℕ) (e : WantedError) : Type 0 where
   pub fields : TbsFields
   pub fields_are : IsToSign fields prepared
   pub named : IsNamed issuer fields
   pub kind : Kind
   pub kind_is : IsCompletedAs issuer fields kind
-  pub uncompleted : IsUncompleted kind issuer at asked.strict fields prepared signature e
+  pub uncompleted : IsUncompleted kind issuer checks at asked.strict fields prepared signature e
 
 -- what it says of the certificate that is completed below this issuer is so
-abbrev pub IsSoOfMade : AskedFields → Moment → Option ResourceFields → List ℕ → List ℕ → Refusal
-    → Type 0
-IsSoOfMade asked at issuer prepared signature why =
+abbrev pub IsSoOfMade : AskedFields → RevocationChecks → Moment → Option ResourceFields → List ℕ
+    → List ℕ → Refusal → Type 0
+IsSoOfMade asked checks at issuer prepared signature why =
     IsDataFault prepared why
     ⊎ (((why ≡ OtherName (name_place issuer)) × IsNamedOtherwise issuer prepared)
-    ⊎ IsUnfit (IsUnmade asked at issuer prepared signature) why)
+    ⊎ IsUnfit (IsUnmade asked checks at issuer prepared signature) why)
 
 -- the octets are a TBSCertList, which isn't named as this issuer
 pub record IsListNamedOtherwise (issuer : TbsFields) (prepared : List ℕ) : Type 0 where
@@ -185,20 +181,21 @@ IsListData octets = (f : ListFields Revoked) × IsTbsCertList f octets
 
 -- memory ran out; or it speaks of the list that is to be completed; or there is none, and it speaks
 -- of the certificate
-abbrev pub IsSoOfEither : AskedFields → Moment → Option ResourceFields → List ℕ → List ℕ
-    → Refusal → Type 0
-IsSoOfEither asked at issuer prepared signature why =
+abbrev pub IsSoOfEither : AskedFields → RevocationChecks → Moment → Option ResourceFields → List ℕ
+    → List ℕ → Refusal → Type 0
+IsSoOfEither asked checks at issuer prepared signature why =
     (why ≡ Memory)
     ⊎ ((IsListData prepared × IsSoOfMadeList asked at issuer prepared signature why)
-    ⊎ ((IsListData prepared → ⊥) × IsSoOfMade asked at issuer prepared signature why))
+    ⊎ ((IsListData prepared → ⊥) × IsSoOfMade asked checks at issuer prepared signature why))
 
 -- the files are two, and what it says of what they make below this issuer is so
-pub record IsSoOfFiles (asked : AskedFields) (at : Moment) (files : List (List ℕ)) (why : Refusal)
-    (issuer : Option ResourceFields) : Type 0 where
+pub record IsSoOfFiles (asked : AskedFields) (lists : List (List ℕ)) (at : Moment)
+    (files : List (List ℕ)) (why : Refusal) (issuer : Option ResourceFields) : Type 0 where
   pub prepared : List ℕ
   pub signature : List ℕ
   pub files_are : files ≡ prepared ∷ signature ∷ []
-  pub either : IsSoOfEither asked at issuer prepared signature why
+  pub either : IsSoAsked (context_of asked at) lists
+      (λ checks. IsSoOfEither asked checks at issuer prepared signature why)
 
 -- there aren't two files
 abbrev pub AreNotTwo : List (List ℕ) → Type 0
@@ -209,7 +206,7 @@ AreNotTwo files = (prepared signature : List ℕ) → files ≡ prepared ∷ sig
 abbrev pub IsSoOfCompletion : AskedFields → InputFields → Moment → Refusal → Type 0
 IsSoOfCompletion asked inputs at why =
     ((why ≡ Files) × AreNotTwo inputs.files)
-    ⊎ (IsOfPath why ⊎ IsBelow asked inputs at (IsSoOfFiles asked at inputs.files why))
+    ⊎ (IsOfPath why ⊎ IsBelow asked inputs at (IsSoOfFiles asked inputs.lists at inputs.files why))
 
 -- ---- the whole
 

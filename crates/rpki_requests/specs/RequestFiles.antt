@@ -2,16 +2,18 @@
 -- what is revoked, what is completed (own).
 use Rattle.std.specs.Prelude.{◌≡◌, ◌⊎◌, ◌<◌, ℕ, All, List, [], ◌∷◌, true, get_or, length, IsSome, Option, Some, None}
 use Rattle.rpki_cert.specs.Certificates.{TbsFields, CertFields, IsCertificate}
+use Rattle.rpki_path.specs.AskedLists.{by_named_lists}
+use Rattle.rpki_path.specs.Asking.{RevocationChecks, nobody}
 use Rattle.rpki_path.specs.declared.judging.Judged.{Judged}
 use Rattle.rpki_keys.specs.KeyForms.{IsUsableKey}
 use Rattle.rpki_parts.specs.Keys.{KeyFields, IsPublicKey}
 use Rattle.rpki_cert.specs.declared.inspect.Kind.{Kind}
 use Rattle.rpki_cert.specs.declared.inspect.Kind.TheVariants.{Anchor}
-use Rattle.rpki_crl.specs.Lists.{CrlFields, IsCertificateList}
+use Rattle.rpki_crl.specs.Lists.{CrlFields, CrlState, IsCertificateList}
 use Rattle.rpki_cert.specs.Verification.{Context, ResourceFields}
 use Rattle.rpki_files.specs.Contents.{IsList}
 use Rattle.rpki_cert.specs.SaidKinds.{SaysAuthority, SaysKind}
-use Rattle.rpki_verdicts.specs.PathFiles.{Demands}
+use Rattle.rpki_verdicts.specs.PathFiles.{AreListsOf, Demands}
 use Rattle.rpki_verdicts.specs.PathAnswers.{HoldSame, IsVerdictBy}
 use Rattle.rpki_verdicts.specs.declared.path.Verdict.TheVariants.{Accepted}
 use Rattle.rpki_issuing.specs.Issuers.{IsOwnList}
@@ -73,6 +75,15 @@ IsOnlyPathIssuer x files lists issuer =
 abbrev pub IsOnlyIssuer : Context → List (List ℕ) → List (List ℕ) → Option ResourceFields → Type 0
 IsOnlyIssuer x files lists issuer =
     (other : Option ResourceFields) → IsIssuerOf x files lists other → AreOneIssuer other issuer
+
+-- ---- who is asked for revocation
+
+-- it is so by who is asked for revocation: the files that are given as lists, as they were read,
+-- whose issuers' names are compared; where there is none, nobody
+abbrev pub IsSoAsked : Context → List (List ℕ) → (RevocationChecks → Type 0) → Type 0
+IsSoAsked x [] Is = Is nobody
+IsSoAsked x (list ∷ lists) Is =
+    (read : List CrlState) × AreListsOf (list ∷ lists) read × Is (by_named_lists true x read)
 
 -- ---- the key
 

@@ -3,13 +3,16 @@ ghost use Rattle.std.specs.Prelude.{◌≡◌, ◌≢◌, ◌⊎◌, ◌↔◌, 
 ghost use Rattle.rpki_files.specs.Files.{contents};
 ghost use Rattle.rpki_crl.specs.Lists.{IsTbsCertList};
 ghost use Rattle.rpki_cert.specs.Verification.{ResourceFields};
-ghost use Rattle.rpki_requests.specs.Fulfilment.{AsksFields, Completes, CompletesAs, CompletesBelow, CompletesListBelow, Fulfils, GivesToSign, Prepares, PreparesBelow, PreparesList, PreparesListBelow, context_of};
-ghost use Rattle.rpki_requests.specs.RequestFiles.{IsCompletedAs, IsIssuerOf, IsOnlyIssuer};
+ghost use Rattle.rpki_cert.specs.declared.inspect.Kind.{Kind as kinds};
+ghost use Rattle.rpki_issuing.specs.Acceptance.{IsAcceptedBelow, IsAnsweringList};
+ghost use Rattle.rpki_requests.specs.Fulfilment.{AsksFields, Completes, CompletesAs, CompletesBelow, CompletesListBelow, Fulfils, GivesToSign, IsAcceptedMade, IsAcceptedOf, Prepares, PreparesBelow, PreparesList, PreparesListBelow, context_of};
+ghost use Rattle.rpki_requests.specs.RequestFiles.{IsCompletedAs, IsIssuerOf, IsOnlyIssuer, IsSoAsked};
 ghost use Rattle.rpki_requests.specs.RequestWords.Views.{asked_fields};
 ghost use Rattle.rpki_requests.specs.Refusals.{AnswersOnly, IsPathless, TellsPath};
 ghost use Rattle.rpki_requests.specs.RefusedErrands.{IsFieldsFault, IsListFault, IsMadeListFault, IsSoOf, IsSoOfCertificate, IsSoOfCompletion, IsSoOfEither, IsSoOfListed, IsSoOfMade, IsSoOfPrepared, name_place};
 ghost use Rattle.rpki_requests.specs.ToldRefusals.{IsOfPath};
 ghost use Rattle.rpki_requests.specs.declared.refusals.Refusal.TheVariants.{Memory, OtherName, Unfit};
+ghost use Rattle.rpki_requests.specs.declared.words.Errand.TheVariants.{Completion};
 ghost use Rattle.rpki_issuing.specs.declared.wanted.preparing.WantedError.TheVariants as wanting;
 
 use crate::issuers::issuer_of;
@@ -27,6 +30,8 @@ use rpki_issuing::wanted::issuers::{above, is_named};
 use rpki_issuing::wanted::{
     WantedError, complete_list_octets, complete_octets, fields, prepare_list_octets, prepare_octets,
 };
+use rpki_path::revocation::{GivenLists, NobodyAsked, RevocationSource};
+use rpki_verdicts::lists_of;
 use std::alloc::Global;
 use std::marker::Model;
 
@@ -110,34 +115,80 @@ fn fields_of(
     }
 }
 
-// What is to be signed below the issuer.
-fn prepared_below(
+// What is to be signed below the issuer, by who is asked for revocation.
+fn prepared_below<R: RevocationSource>(
     alloc: Global,
     order: &Order<'_>,
     kind: Kind,
     keys: &[Object<'_>],
     issuer: Option<&ResourceCert>,
+    source: &R,
     at: Time,
 ) -> Result<Bytes, Refusal>
     ensures prepared { let issuer = option_map (λ r. r.now) issuer.entry in
         let asked = asked_fields order.now in
-        IfOk result (PreparesBelow kind asked (contents keys.now) at issuer) }
+        let checks = R.asks source.now (context_of asked at) in
+        IfOk result (PreparesBelow kind asked (contents keys.now) checks at issuer) }
     ensures refused { let issuer = option_map (λ r. r.now) issuer.entry in
         let asked = asked_fields order.now in
+        let checks = R.asks source.now (context_of asked at) in
         IfErr result (λ why. why ≢ Memory → (octets : List ℕ)
-        → PreparesBelow kind asked (contents keys.now) at issuer octets → ⊥) }
+        → PreparesBelow kind asked (contents keys.now) checks at issuer octets → ⊥) }
     ensures pathless { IfErr result IsPathless }
     ensures so { let issuer = option_map (λ r. r.now) issuer.entry in
         let asked = asked_fields order.now in
-        IfErr result (IsSoOfCertificate kind asked (contents keys.now) at issuer) }
+        let checks = R.asks source.now (context_of asked at) in
+        IfErr result (IsSoOfCertificate kind asked (contents keys.now) checks at issuer) }
 {
     let tbs = fields_of(alloc, order, kind, keys, issuer)?;
-    let octets = prepare_octets(alloc, &tbs, kind, issuer, order.strict, at);
+    let octets = prepare_octets(alloc, &tbs, kind, issuer, source, order.strict, at);
     drop(tbs);
     match octets {
         Ok(octets) => Ok(octets),
         Err(error) => Err(unfit(error)),
     }
+}
+
+// What is to be signed below the issuer, by the lists that are given.
+fn prepared_asking(
+    alloc: Global,
+    order: &Order<'_>,
+    kind: Kind,
+    keys: &[Object<'_>],
+    issuer: Option<&ResourceCert>,
+    lists: &[Object<'_>],
+    at: Time,
+) -> Result<Bytes, Refusal>
+    ensures prepared { let issuer = option_map (λ r. r.now) issuer.entry in
+        let asked = asked_fields order.now in
+        let keys = contents keys.now in
+        IfOk result (λ octets. IsSoAsked (context_of asked at) (contents lists.now)
+        (λ checks. PreparesBelow kind asked keys checks at issuer octets)) }
+    ensures refused { let issuer = option_map (λ r. r.now) issuer.entry in
+        let asked = asked_fields order.now in
+        let keys = contents keys.now in
+        IfErr result (λ why. why ≢ Memory → (octets : List ℕ)
+        → IsSoAsked (context_of asked at) (contents lists.now)
+        (λ checks. PreparesBelow kind asked keys checks at issuer octets) → ⊥) }
+    ensures pathless { IfErr result IsPathless }
+    ensures so { let issuer = option_map (λ r. r.now) issuer.entry in
+        let asked = asked_fields order.now in
+        let keys = contents keys.now in
+        IfErr result (λ why. (why ≡ Memory)
+        ⊎ IsSoAsked (context_of asked at) (contents lists.now)
+        (λ checks. IsSoOfCertificate kind asked keys checks at issuer why)) }
+{
+    if lists.is_empty() {
+        return prepared_below(alloc, order, kind, keys, issuer, &NobodyAsked, at);
+    }
+    // Called for what they ensure alone.
+    rpki_cert::laws::unambiguous();
+    laws::unambiguous();
+    let read = lists_of(alloc, lists)?;
+    let given = GivenLists::with_names(&read, true);
+    let octets = prepared_below(alloc, order, kind, keys, issuer, &given, at);
+    drop(read);
+    octets
 }
 
 // The issuer that the files are, if there are some.
@@ -180,7 +231,15 @@ fn prepared(
         IfErr result (IsSoOfPrepared kind asked inputs.now at) }
 {
     let issuer = issuer_asked(alloc, order, inputs, at)?;
-    let octets = prepared_below(alloc, order, kind, inputs.keys, issuer.as_ref(), at);
+    let octets = prepared_asking(
+        alloc,
+        order,
+        kind,
+        inputs.keys,
+        issuer.as_ref(),
+        inputs.lists,
+        at,
+    );
     drop(issuer);
     Ok(Made::ToSign(octets?))
 }
@@ -258,26 +317,34 @@ fn named_otherwise(issuer: Option<&ResourceCert>) -> Refusal
     }
 }
 
-// The certificate that is completed below the issuer.
-fn completed_below(
+// The certificate that is completed below the issuer, by who is asked for revocation.
+fn completed_below<R: RevocationSource>(
     alloc: Global,
     order: &Order<'_>,
     issuer: Option<&ResourceCert>,
+    source: &R,
     prepared: &Bytes,
     signature: &[u8],
     at: Time,
 ) -> Result<Bytes, Refusal>
     ensures completed { let issuer = option_map (λ r. r.now) issuer.entry in
         let asked = asked_fields order.now in
-        IfOk result (CompletesBelow asked at issuer prepared.now signature.now) }
+        let checks = R.asks source.now (context_of asked at) in
+        IfOk result (CompletesBelow asked checks at issuer prepared.now signature.now) }
+    ensures accepted { let issuer = option_map (λ r. r.now) issuer.entry in
+        let x = context_of (asked_fields order.now) at in
+        IfOk result (λ octets. (kind : kinds)
+        × IsAcceptedBelow x (R.asks source.now x) kind issuer octets) }
     ensures refused { let issuer = option_map (λ r. r.now) issuer.entry in
         let asked = asked_fields order.now in
+        let checks = R.asks source.now (context_of asked at) in
         IfErr result (λ why. why ≢ Memory → (octets : List ℕ)
-        → CompletesBelow asked at issuer prepared.now signature.now octets → ⊥) }
+        → CompletesBelow asked checks at issuer prepared.now signature.now octets → ⊥) }
     ensures pathless { IfErr result IsPathless }
     ensures so { let issuer = option_map (λ r. r.now) issuer.entry in
         let asked = asked_fields order.now in
-        IfErr result (IsSoOfMade asked at issuer prepared.now signature.now) }
+        let checks = R.asks source.now (context_of asked at) in
+        IfErr result (IsSoOfMade asked checks at issuer prepared.now signature.now) }
 {
     let tbs = to_sign(alloc, prepared)?;
     if !is_named(&tbs, issuer) {
@@ -286,7 +353,9 @@ fn completed_below(
     }
     let kind = completed_as(&tbs, issuer);
     let strict = order.strict;
-    let octets = complete_octets(alloc, &tbs, prepared, signature, kind, issuer, strict, at);
+    let octets = complete_octets(
+        alloc, &tbs, prepared, signature, kind, issuer, source, strict, at,
+    );
     drop(tbs);
     match octets {
         Ok(octets) => Ok(octets),
@@ -315,6 +384,8 @@ fn list_completed_below(
     ensures completed { let asked = asked_fields order.now in
         let issuer = issuer.now.cert.fields in
         IfOk result (CompletesListBelow asked at issuer prepared.now signature.now) }
+    ensures accepted { let x = context_of (asked_fields order.now) at in
+        IfOk result (IsAnsweringList x issuer.now.cert.fields list.now) }
     ensures refused { let asked = asked_fields order.now in
         let issuer = issuer.now.cert.fields in
         IfErr result (λ why. why ≢ Memory → (octets : List ℕ)
@@ -335,29 +406,36 @@ fn list_completed_below(
     }
 }
 
-// The certificate or the list that is completed below the issuer.
-fn made_below(
+// The certificate or the list that is completed below the issuer, by who is asked for revocation.
+fn made_below<R: RevocationSource>(
     alloc: Global,
     order: &Order<'_>,
     issuer: Option<&ResourceCert>,
+    source: &R,
     prepared: &Bytes,
     signature: &[u8],
     at: Time,
 ) -> Result<Made, Refusal>
     ensures completed { let issuer = option_map (λ r. r.now) issuer.entry in
         let asked = asked_fields order.now in
-        IfOk result (CompletesAs asked at issuer prepared.now signature.now) }
+        let checks = R.asks source.now (context_of asked at) in
+        IfOk result (CompletesAs asked checks at issuer prepared.now signature.now) }
+    ensures accepted { let issuer = option_map (λ r. r.now) issuer.entry in
+        let x = context_of (asked_fields order.now) at in
+        IfOk result (IsAcceptedMade x (R.asks source.now x) issuer) }
     ensures refused { let issuer = option_map (λ r. r.now) issuer.entry in
         let asked = asked_fields order.now in
+        let checks = R.asks source.now (context_of asked at) in
         IfErr result (λ why. why ≢ Memory → (given : Made)
-        → CompletesAs asked at issuer prepared.now signature.now given → ⊥) }
+        → CompletesAs asked checks at issuer prepared.now signature.now given → ⊥) }
     ensures pathless { IfErr result IsPathless }
     ensures so { let issuer = option_map (λ r. r.now) issuer.entry in
         let asked = asked_fields order.now in
-        IfErr result (IsSoOfEither asked at issuer prepared.now signature.now) }
+        let checks = R.asks source.now (context_of asked at) in
+        IfErr result (IsSoOfEither asked checks at issuer prepared.now signature.now) }
 {
     let Some(list) = list_to_sign(alloc, prepared)? else {
-        let octets = completed_below(alloc, order, issuer, prepared, signature, at)?;
+        let octets = completed_below(alloc, order, issuer, source, prepared, signature, at)?;
         return Ok(Made::Certificate(octets));
     };
     let Some(issuer) = issuer else {
@@ -367,6 +445,49 @@ fn made_below(
     let octets = list_completed_below(alloc, order, issuer, &list, prepared, signature, at);
     drop(list);
     Ok(Made::RevocationList(octets?))
+}
+
+// The certificate or the list that is completed below the issuer, by the lists that are given.
+fn made_asking(
+    alloc: Global,
+    order: &Order<'_>,
+    issuer: Option<&ResourceCert>,
+    lists: &[Object<'_>],
+    prepared: &Bytes,
+    signature: &[u8],
+    at: Time,
+) -> Result<Made, Refusal>
+    ensures completed { let issuer = option_map (λ r. r.now) issuer.entry in
+        let asked = asked_fields order.now in
+        IfOk result (λ given. IsSoAsked (context_of asked at) (contents lists.now)
+        (λ checks. CompletesAs asked checks at issuer prepared.now signature.now given)) }
+    ensures accepted { let issuer = option_map (λ r. r.now) issuer.entry in
+        let x = context_of (asked_fields order.now) at in
+        IfOk result (λ given. IsSoAsked x (contents lists.now)
+        (λ checks. IsAcceptedMade x checks issuer given)) }
+    ensures refused { let issuer = option_map (λ r. r.now) issuer.entry in
+        let asked = asked_fields order.now in
+        IfErr result (λ why. why ≢ Memory → (given : Made)
+        → IsSoAsked (context_of asked at) (contents lists.now)
+        (λ checks. CompletesAs asked checks at issuer prepared.now signature.now given) → ⊥) }
+    ensures pathless { IfErr result IsPathless }
+    ensures so { let issuer = option_map (λ r. r.now) issuer.entry in
+        let asked = asked_fields order.now in
+        IfErr result (λ why. (why ≡ Memory)
+        ⊎ IsSoAsked (context_of asked at) (contents lists.now)
+        (λ checks. IsSoOfEither asked checks at issuer prepared.now signature.now why)) }
+{
+    if lists.is_empty() {
+        return made_below(alloc, order, issuer, &NobodyAsked, prepared, signature, at);
+    }
+    // Called for what they ensure alone.
+    rpki_cert::laws::unambiguous();
+    laws::unambiguous();
+    let read = lists_of(alloc, lists)?;
+    let given = GivenLists::with_names(&read, true);
+    let made = made_below(alloc, order, issuer, &given, prepared, signature, at);
+    drop(read);
+    made
 }
 
 // The two files, if there are two.
@@ -389,6 +510,7 @@ fn completed(
     at: Time,
 ) -> Result<Made, Refusal>
     ensures completed { IfOk result (Completes (asked_fields order.now) inputs.now at) }
+    ensures accepted { IfOk result (IsAcceptedOf (asked_fields order.now) inputs.now at) }
     ensures refused { IfErr result (λ why. why ≢ Memory → (given : Made)
         → Completes (asked_fields order.now) inputs.now at given → ⊥) }
     ensures told { let x = context_of (asked_fields order.now) at in
@@ -400,13 +522,23 @@ fn completed(
         return Err(Refusal::Files);
     };
     let issuer = issuer_asked(alloc, order, inputs, at)?;
-    let made = made_below(alloc, order, issuer.as_ref(), prepared, signature, at);
+    let made = made_asking(
+        alloc,
+        order,
+        issuer.as_ref(),
+        inputs.lists,
+        prepared,
+        signature,
+        at,
+    );
     drop(issuer);
     made
 }
 
 /// Fulfils a request by the files that it names, at a moment: prepares what is to be signed, or
-/// completes it by its signature.
+/// completes it by its signature. What is completed is accepted at that moment, by the same files: a
+/// certificate as the last one of the issuer's path, a list as one that answers for its issuer
+/// (`accepted`).
 pub fn fulfil(
     alloc: Global,
     order: &Order<'_>,
@@ -414,6 +546,8 @@ pub fn fulfil(
     at: Time,
 ) -> Result<Made, Refusal>
     ensures fulfilled { IfOk result (Fulfils (asked_fields order.now) inputs.now at) }
+    ensures accepted { (asked_fields order.now).errand ≡ Completion
+        → IfOk result (IsAcceptedOf (asked_fields order.now) inputs.now at) }
     ensures refused { IfErr result (λ why. why ≢ Memory → (given : Made)
         → Fulfils (asked_fields order.now) inputs.now at given → ⊥) }
     ensures told { let x = context_of (asked_fields order.now) at in

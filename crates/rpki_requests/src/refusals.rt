@@ -1,14 +1,16 @@
 //! Why a request gives nothing.
 ghost use Rattle.std.specs.Prelude.{◌≡◌, Some};
 ghost use Rattle.std.specs.Fmt.{WritesOnOk};
-ghost use Rattle.rpki_files.specs.FaultRules.{rule_of};
-ghost use Rattle.rpki_requests.specs.Refusals.{fault_text, issuing_text, list_text, next_text, path_text, refusal_text, wanted_text};
+ghost use Rattle.rpki_crl.specs.Revocation.{revocation_error_name};
+ghost use Rattle.rpki_files.specs.FaultRules.{revocation_rule, rule_of};
+ghost use Rattle.rpki_requests.specs.Refusals.{fault_text, issuing_text, list_text, next_text, path_text, refusal_text, rule_text, wanted_text};
 ghost use Rattle.rpki_requests.specs.declared.refusals.Refusal.TheVariants.{Memory};
 
 use crate::words::Setting;
 use rpki_cert::ValidationError;
+use rpki_crl::RevocationError;
 use rpki_files::rules::{Rule, of_inspection, of_key, of_name, of_revocation, of_verification};
-use rpki_issuing::wanted::WantedError;
+use rpki_issuing::wanted::{IssuingRule, WantedError};
 use rpki_issuing::{IssuingError, ListError, NextListError};
 use rpki_parts::PublicKeyFormat;
 use rpki_verdicts::Fault;
@@ -119,16 +121,39 @@ fn write_list<W: fmt::Write>(f: &mut fmt::Formatter<W>, error: &ListError) -> fm
     ensures { WritesOnOk W.write_str_gives f.old result (list_text error.now) f.new }
 {
     match error {
-        ListError::Invalid(fault) => {
-            let reason = Reason {
-                name: fault.name(),
-                rule: of_revocation(fault),
-            };
-            write!(f, "{reason}")
-        }
+        ListError::Invalid(fault) => write_listed(f, fault),
         ListError::TooLong => f.write_str("the list would be too long"),
         ListError::Memory => f.write_str("out of memory"),
     }
+}
+
+// Writes which rule for whoever issues isn't kept.
+fn write_rule<W: fmt::Write>(f: &mut fmt::Formatter<W>, rule: IssuingRule) -> fmt::Result
+    ensures { WritesOnOk W.write_str_gives f.old result (rule_text rule) f.new }
+{
+    f.write_str(match rule {
+        IssuingRule::ZeroSerial => {
+            "the serial number is 0, expected a positive one (RFC 6487 4.2)"
+        }
+        IssuingRule::EarlyValidity => {
+            "the validity starts before 1950, expected 1950 or later (RFC 5280 4.1.2.5)"
+        }
+        IssuingRule::IssuerKey => {
+            "the CA has its issuer's key, expected a key of its own (own rule)"
+        }
+    })
+}
+
+// Writes why the lists that are given don't leave the certificate unrevoked.
+fn write_listed<W: fmt::Write>(f: &mut fmt::Formatter<W>, error: &RevocationError) -> fmt::Result
+    ensures { WritesOnOk W.write_str_gives f.old result
+        (fault_text (revocation_error_name error.now) (revocation_rule error.now)) f.new }
+{
+    let reason = Reason {
+        name: error.name(),
+        rule: of_revocation(error),
+    };
+    write!(f, "{reason}")
 }
 
 // Writes why what is wanted isn't ready to be signed, or wasn't signed.
@@ -139,6 +164,8 @@ fn write_wanted<W: fmt::Write>(f: &mut fmt::Formatter<W>, error: &WantedError) -
         WantedError::NoRole => {
             f.write_str("a trust anchor has no issuer, and other certificates have one")
         }
+        WantedError::Broken(rule) => write_rule(f, *rule),
+        WantedError::Listed(error) => write_listed(f, error),
         WantedError::OtherOctets => {
             f.write_str("the first file isn't what is prepared of its fields")
         }

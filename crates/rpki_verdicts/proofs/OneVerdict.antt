@@ -142,7 +142,7 @@ module _ (one_certificate : IsUnambiguous IsCertificate) where
     same_state : (l k : CrlState) → l.list ≡ k.list → l.is_cached ≡ k.is_cached → l ≡ k
     same_state l k lists cached = ap (λ (list : CrlFields). record { list = list; is_cached = l.is_cached }) lists ∙ ap (λ (b : _). record { list = k.list; is_cached = b }) cached
 
-    same_lists : (files : List (List ℕ)) (a b : List CrlState) → AreListsOf files a → AreListsOf files b → a ≡ b
+    pub same_lists : (files : List (List ℕ)) (a b : List CrlState) → AreListsOf files a → AreListsOf files b → a ≡ b
     same_lists [] a b p q = p ∙ sym q
     same_lists (octets ∷ files) a b (inl p) (inl q) = same_lists files a b p.1 q.1
     same_lists (octets ∷ files) a b (inl p) (inr q) = absurd (p.0 (q.0.list, q.2))

@@ -1,18 +1,26 @@
 //! Certificates are prepared for signing, and completed by their signatures, as octets.
 ghost use Rattle.std.specs.Prelude.{◌≡◌, ◌≢◌, ◌⊎◌, ◌↔◌, ◌<◌, ◌≤◌, ◌^◌, ℕ, List, length, option_map, IsOk, IsTrue, OnOk, IfOk, IfErr, MatchOption};
-ghost use Rattle.rpki_cert.specs.Certificates.{encoding};
-ghost use Rattle.rpki_issuing.specs.Readiness.{signed_with, IsReady, IsSignatureOf};
+ghost use Rattle.rpki_cert.specs.Certificates.{IsCertificate, encoding};
+ghost use Rattle.rpki_cert.specs.Verification.{context};
+ghost use Rattle.rpki_crl.specs.Revocation.{revocation_checks};
+ghost use Rattle.rpki_issuing.specs.Acceptance.{AskedIn, IsAcceptedBelow, IsUnrevokedIn};
+ghost use Rattle.rpki_issuing.specs.Readiness.{signed_with, unsigned, IsReady, IsSignatureOf};
+ghost use Rattle.rpki_issuing.specs.Roles.{GetsNumbers, IsValidAs};
 ghost use Rattle.rpki_issuing.specs.declared.issuing_error.IssuingError.TheVariants.{TooLong};
 ghost use Rattle.rpki_keys.specs.RsaSignatures.{IsSignedByRsa};
+ghost use Rattle.rpki_parts.specs.Conditions.{Tests};
 ghost use Rattle.rpki_parts.specs.SignedDatas.{signed_content, signed_data};
-ghost use Rattle.rpki_issuing.specs.PreparedOctets.{HasNoRole, IsCompleted, IsPrepared, IsRoleOf, IsUncompleted, IsUnprepared, IsUnpreparedAs, IsUnsignedAs};
-ghost use Rattle.rpki_issuing.specs.declared.wanted.preparing.WantedError.TheVariants.{Memory, Unsigned};
+ghost use Rattle.rpki_issuing.specs.PreparedOctets.{HasNoRole, IsCompleted, IsListedFault, IsPrepared, IsRoleOf, IsUncompleted, IsUnprepared, IsUnpreparedAs, IsUnsignedAs};
+ghost use Rattle.rpki_issuing.specs.declared.wanted.preparing.WantedError.TheVariants.{Broken, Memory, Unsigned};
 
+use crate::wanted::rules::{IssuingRule, check_rules};
 use crate::{IssuingError, ListError, NextListError, Prepared, Role, complete, prepare};
 use bytes::Bytes;
 use rpki_cert::{Cert, Kind, ResourceCert, TbsCert};
+use rpki_crl::RevocationError;
 use rpki_der::{EncodeError, Time};
 use rpki_keys::RsaVerifier;
+use rpki_path::revocation::RevocationSource;
 use std::alloc::{AllocError, Global};
 
 /// Why nothing is prepared or completed.
@@ -20,12 +28,16 @@ use std::alloc::{AllocError, Global};
 pub enum WantedError {
     /// A trust anchor has an issuer, or another certificate has none.
     NoRole,
+    /// A rule for whoever issues it isn't kept.
+    Broken(IssuingRule),
     /// The fields aren't ready to be signed.
     Unready(IssuingError),
     /// The octets aren't those that are prepared of their fields.
     OtherOctets,
     /// The signature isn't one of the octets by the key of who issues.
     Unsigned(IssuingError),
+    /// The lists of its issuer don't leave it unrevoked.
+    Listed(RevocationError),
     /// The list that is wanted can't follow the previous one.
     NoList(NextListError),
     /// The fields of the list aren't ready to be signed.
@@ -41,6 +53,14 @@ impl From<AllocError> for WantedError {
 
     fn from(_error: AllocError) -> WantedError {
         WantedError::Memory
+    }
+}
+
+impl From<IssuingRule> for WantedError {
+    ghost from_gives = { λ rule e. e ≡ Broken rule };
+
+    fn from(rule: IssuingRule) -> WantedError {
+        WantedError::Broken(rule)
     }
 }
 
@@ -91,39 +111,85 @@ fn is_prepared(prepared: &Prepared, octets: &[u8]) -> bool
     octets == prepared.octets()
 }
 
+// Asks who is given whether the certificate below its issuer is unrevoked; of a trust anchor nobody
+// is asked.
+fn ask<R: RevocationSource>(
+    cert: &Cert,
+    issuer: Option<&ResourceCert>,
+    asked: &R,
+    strict: bool,
+    at: Time,
+) -> Result<(), RevocationError>
+    ensures { let x = context IsSignedByRsa at strict in
+        let above = option_map (λ above. above.now) issuer.entry in
+        Tests (AskedIn (R.asks asked.now x) above cert.now) revocation_checks result }
+{
+    match issuer {
+        Some(issuer) => asked.ask(cert, issuer, strict, at, &RsaVerifier),
+        None => Ok(()),
+    }
+}
+
+// The octets that are to be signed, where what was prepared is unrevoked.
+fn octets_to_sign<R: RevocationSource>(
+    alloc: Global,
+    prepared: &Prepared,
+    issuer: Option<&ResourceCert>,
+    asked: &R,
+    strict: bool,
+    at: Time,
+) -> Result<Bytes, WantedError>
+    ensures octets { IfOk result (λ octets. octets ≡ encoding prepared.now) }
+    ensures unrevoked { let x = context IsSignedByRsa at strict in
+        let above = option_map (λ above. above.now) issuer.entry in
+        IsOk result → IsUnrevokedIn (R.asks asked.now x) above (unsigned prepared.now) }
+    ensures told { let x = context IsSignedByRsa at strict in
+        let above = option_map (λ above. above.now) issuer.entry in
+        IfErr result (IsListedFault (R.asks asked.now x) above (unsigned prepared.now)) }
+{
+    match ask(prepared.as_cert(), issuer, asked, strict, at) {
+        Ok(()) => Ok(Bytes::copy_from_slice(alloc, prepared.octets())?),
+        Err(error) => Err(WantedError::Listed(error)),
+    }
+}
+
 /// Prepares a certificate of the kind with these fields below an issuer, where it isn't a trust
-/// anchor's: returns the octets that are to be signed, exactly where only the signature is missing.
-pub fn prepare_octets(
+/// anchor's: returns the octets that are to be signed, exactly where only the signature is missing,
+/// the rules for whoever issues are kept, and who is asked leaves it unrevoked.
+pub fn prepare_octets<R: RevocationSource>(
     alloc: Global,
     tbs: &TbsCert,
     kind: Kind,
     issuer: Option<&ResourceCert>,
+    asked: &R,
     strict: bool,
     at: Time,
 ) -> Result<Bytes, WantedError>
-    ensures prepared { let above = option_map (λ above. above.now) issuer.entry in
-        IfOk result (IsPrepared kind above at strict tbs.now) }
-    ensures refused { let above = option_map (λ above. above.now) issuer.entry in
+    ensures prepared { let x = context IsSignedByRsa at strict in
+        let above = option_map (λ above. above.now) issuer.entry in
+        IfOk result (IsPrepared kind above (R.asks asked.now x) at strict tbs.now) }
+    ensures refused { let x = context IsSignedByRsa at strict in
+        let above = option_map (λ above. above.now) issuer.entry in
         IfErr result (λ e. e ≢ Memory → (octets : List ℕ)
-        → IsPrepared kind above at strict tbs.now octets → ⊥) }
-    ensures told { let above = option_map (λ above. above.now) issuer.entry in
-        IfErr result (IsUnprepared kind above at strict tbs.now) }
+        → IsPrepared kind above (R.asks asked.now x) at strict tbs.now octets → ⊥) }
+    ensures told { let x = context IsSignedByRsa at strict in
+        let above = option_map (λ above. above.now) issuer.entry in
+        IfErr result (IsUnprepared kind above (R.asks asked.now x) at strict tbs.now) }
 {
     let Some(role) = role_of(kind, issuer) else {
         return Err(WantedError::NoRole);
     };
+    check_rules(tbs, kind, issuer)?;
     let prepared = prepared(alloc, tbs, &role, strict, at)?;
-    let octets = Bytes::copy_from_slice(alloc, prepared.octets());
+    let octets = octets_to_sign(alloc, &prepared, issuer, asked, strict, at);
     drop(prepared);
-    Ok(octets?)
+    octets
 }
 
 // The octets of a certificate.
 fn octets_of(alloc: Global, cert: &Cert) -> Result<Bytes, WantedError>
     ensures ok { IfOk result (λ octets. octets ≡ signed_data cert.now.signed_data) }
     ensures fits { IsOk result → length (signed_content cert.now.signed_data) < 2 ^ 32 }
-    ensures too_long { IfErr result (λ e. e ≢ Memory
-        → 2 ^ 32 ≤ length (signed_content cert.now.signed_data)) }
     ensures told { IfErr result (λ e. (e ≡ Memory) ⊎ ((e ≡ Unsigned TooLong)
         × (2 ^ 32 ≤ length (signed_content cert.now.signed_data)))) }
 {
@@ -131,6 +197,32 @@ fn octets_of(alloc: Global, cert: &Cert) -> Result<Bytes, WantedError>
         Ok(octets) => Ok(octets),
         Err(EncodeError::TooLong) => Err(WantedError::Unsigned(IssuingError::TooLong)),
         Err(EncodeError::Memory) => Err(WantedError::Memory),
+    }
+}
+
+// The octets of a certificate, where it is unrevoked.
+fn octets_unrevoked<R: RevocationSource>(
+    alloc: Global,
+    cert: &Cert,
+    issuer: Option<&ResourceCert>,
+    asked: &R,
+    strict: bool,
+    at: Time,
+) -> Result<Bytes, WantedError>
+    ensures ok { IfOk result (λ octets. octets ≡ signed_data cert.now.signed_data) }
+    ensures fits { IsOk result → length (signed_content cert.now.signed_data) < 2 ^ 32 }
+    ensures unrevoked { let x = context IsSignedByRsa at strict in
+        let above = option_map (λ above. above.now) issuer.entry in
+        IsOk result → IsUnrevokedIn (R.asks asked.now x) above cert.now }
+    ensures told { let x = context IsSignedByRsa at strict in
+        let above = option_map (λ above. above.now) issuer.entry in
+        IfErr result (λ e. IsListedFault (R.asks asked.now x) above cert.now e
+        ⊎ ((e ≡ Unsigned TooLong)
+        × (2 ^ 32 ≤ length (signed_content cert.now.signed_data)))) }
+{
+    match ask(cert, issuer, asked, strict, at) {
+        Ok(()) => octets_of(alloc, cert),
+        Err(error) => Err(WantedError::Listed(error)),
     }
 }
 
@@ -145,6 +237,9 @@ fn completed(
 ) -> Result<Cert, WantedError>
     requires { IsReady at strict role.now prepared.now }
     ensures same { IfOk result (λ c. c ≡ signed_with prepared.now signature.now) }
+    ensures read { IfOk result (λ c. IsCertificate c (signed_data c.signed_data)) }
+    ensures valid { IfOk result (IsValidAs (context IsSignedByRsa at strict) role.now) }
+    ensures numbers { IfOk result (GetsNumbers role.now) }
     ensures signed { OnOk result
         (IsSignatureOf IsSignedByRsa role.now prepared.now signature.now) }
     ensures unsigned { let signed = (signed_with prepared.now signature.now).signed_data in
@@ -166,28 +261,42 @@ fn completed(
 
 /// Completes what was prepared of these fields by its signature: returns the octets of the
 /// certificate, exactly where these are the octets that are prepared of the fields, only the
-/// signature is missing, and the key of who issues signed them.
-pub fn complete_octets(
+/// signature is missing, the rules for whoever issues are kept, the key of who issues signed them,
+/// and who is asked leaves the certificate unrevoked. So the octets are accepted: as a trust anchor
+/// alone; as a router below the issuer; or, with whatever strings the issuer is accepted as the
+/// last one of a path, behind them (`accepted`).
+pub fn complete_octets<R: RevocationSource>(
     alloc: Global,
     tbs: &TbsCert,
     octets: &[u8],
     signature: &[u8],
     kind: Kind,
     issuer: Option<&ResourceCert>,
+    asked: &R,
     strict: bool,
     at: Time,
 ) -> Result<Bytes, WantedError>
-    ensures completed { let above = option_map (λ above. above.now) issuer.entry in
-        IfOk result (IsCompleted kind above at strict tbs.now octets.now signature.now) }
-    ensures refused { let above = option_map (λ above. above.now) issuer.entry in
+    ensures completed { let x = context IsSignedByRsa at strict in
+        let above = option_map (λ above. above.now) issuer.entry in
+        IfOk result (IsCompleted kind above (R.asks asked.now x) at strict
+        tbs.now octets.now signature.now) }
+    ensures accepted { let x = context IsSignedByRsa at strict in
+        let above = option_map (λ above. above.now) issuer.entry in
+        IfOk result (IsAcceptedBelow x (R.asks asked.now x) kind above) }
+    ensures refused { let x = context IsSignedByRsa at strict in
+        let above = option_map (λ above. above.now) issuer.entry in
         IfErr result (λ e. e ≢ Memory → (made : List ℕ)
-        → IsCompleted kind above at strict tbs.now octets.now signature.now made → ⊥) }
-    ensures told { let above = option_map (λ above. above.now) issuer.entry in
-        IfErr result (IsUncompleted kind above at strict tbs.now octets.now signature.now) }
+        → IsCompleted kind above (R.asks asked.now x) at strict
+        tbs.now octets.now signature.now made → ⊥) }
+    ensures told { let x = context IsSignedByRsa at strict in
+        let above = option_map (λ above. above.now) issuer.entry in
+        IfErr result (IsUncompleted kind above (R.asks asked.now x) at strict
+        tbs.now octets.now signature.now) }
 {
     let Some(role) = role_of(kind, issuer) else {
         return Err(WantedError::NoRole);
     };
+    check_rules(tbs, kind, issuer)?;
     let prepared = prepared(alloc, tbs, &role, strict, at)?;
     if !is_prepared(&prepared, octets) {
         drop(prepared);
@@ -196,7 +305,7 @@ pub fn complete_octets(
     let completed = completed(alloc, &prepared, signature, &role, strict, at);
     drop(prepared);
     let cert = completed?;
-    let made = octets_of(alloc, &cert);
+    let made = octets_unrevoked(alloc, &cert, issuer, asked, strict, at);
     drop(cert);
     made
 }

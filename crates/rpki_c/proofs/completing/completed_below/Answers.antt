@@ -12,7 +12,7 @@ returns-in_err-tbs c =
     rw same (named_below c.args.completion.now c.args.terms issuer e c.in_err-tbs.ensures)
 
 pub returns-in-Ok : goal.returns-in-Ok
-returns-in-Ok c = (c.in_ok-tbs.tbs, c.in_ok-tbs.ensures.0, c.in_ok-tbs.ensures.1, c.in-Ok.ensures.completed)
+returns-in-Ok c = (c.in_ok-tbs.tbs, c.in_ok-tbs.ensures.0, c.in_ok-tbs.ensures.1, c.in-Ok.ensures.completed, c.in-Ok.ensures.accepted)
 
 pub returns-in-Err : goal.returns-in-Err
 returns-in-Err c =

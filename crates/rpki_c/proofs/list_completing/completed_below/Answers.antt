@@ -18,7 +18,7 @@ pub returns-in-Ok : goal.returns-in-Ok
 returns-in-Ok c =
     let issuer : c.as_tbs.result.now ≡ c.args.issuer.now.cert.fields = search rules in
     let named = subst (λ (i : TbsFields). AnswersListNamed i c.args.completion.now.prepared.now (Ok c.in_ok-list.list)) issuer c.in_ok-list.ensures in
-    (c.in_ok-list.list, named.0, named.1, c.in-Ok.ensures.completed)
+    (c.in_ok-list.list, named.0, named.1, c.in-Ok.ensures.completed, c.in-Ok.ensures.answers)
 
 pub returns-in-Err : goal.returns-in-Err
 returns-in-Err c =

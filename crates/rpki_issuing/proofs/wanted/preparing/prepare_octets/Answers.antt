@@ -1,17 +1,72 @@
-use Rattle.std.specs.Prelude.{Err}
-use Rattle.std.proofs.Common.{◌≡◌, rules}
-use Rattle.rpki_issuing.proofs.SameRoles.{role_ready}
-use Rattle.rpki_issuing.proofs.ToldFaults.{unprepared}
+use Rattle.std.specs.Prelude.{option_map, Err}
+use Rattle.std.proofs.Common.{Bor, ◌≡◌, ◌∙◌, ap, rules, subst}
+use Rattle.rpki_cert.proofs.Checks.{first_not_all}
+use Rattle.rpki_cert.specs.Certificates.{TbsFields, encoding}
+use Rattle.rpki_cert.specs.Verification.{ResourceFields, context}
+use Rattle.rpki_keys.specs.RsaSignatures.{IsSignedByRsa}
+use Rattle.rpki_issuing.specs.Acceptance.{IsUnrevokedIn}
+use Rattle.rpki_issuing.specs.IssuingRules.{RuleCheck, issuing_rules}
+use Rattle.rpki_issuing.specs.PreparedOctets.{IsListedFault}
+use Rattle.rpki_issuing.specs.Readiness.{unsigned}
+use Rattle.rpki_issuing.specs.declared.wanted.preparing.WantedError.TheVariants.{Broken}
+use Rattle.rpki_issuing.proofs.SameRoles.{role_ready, on_ok, on_err}
+use Rattle.rpki_issuing.proofs.ToldFaults.{unprepared, listed, refused_listed}
 use Rattle.rpki_issuing.proofs.wanted.preparing.prepare_octets.Goals as goal
 
+pub returns-in_err-check_rules-clause-refused : goal.returns-in_err-check_rules-clause-refused
+returns-in_err-check_rules-clause-refused g c =
+    let e = c.in_err-check_rules.field-0.0 in
+    let same : c.from_residual.result ≡ Err (Broken e) = search rules in
+    rw same (λ apart octets p. first_not_all (RuleCheck c.args.kind (option_map (λ (r : Bor ResourceFields). r.now) c.args.issuer) c.args.tbs.now) issuing_rules e c.in_err-check_rules.ensures p.rules)
+
+pub returns-in_err-check_rules-clause-told : goal.returns-in_err-check_rules-clause-told
+returns-in_err-check_rules-clause-told g c =
+    let same : c.from_residual.result ≡ Err (Broken c.in_err-check_rules.field-0.0) = search rules in
+    rw same c.in_err-check_rules.ensures
+
 pub returns-in_err-prepared-clause-refused : goal.returns-in_err-prepared-clause-refused
-returns-in_err-prepared-clause-refused c =
+returns-in_err-prepared-clause-refused g c =
     let e = c.in_err-prepared.field-0.0 in
-    let same : c.from_residual.result ≡ Err e = search rules in
+    let same : c.from_residual-in_err-prepared.result ≡ Err e = search rules in
     rw same (λ apart octets p. c.in_err-prepared.ensures.unready apart (role_ready c.args.at c.args.strict c.args.tbs.now c.args.kind _ p.role c.in-Some.role p.role_is c.in-Some.ensures p.ready))
 
 pub returns-in_err-prepared-clause-told : goal.returns-in_err-prepared-clause-told
-returns-in_err-prepared-clause-told c =
+returns-in_err-prepared-clause-told g c =
     let e = c.in_err-prepared.field-0.0 in
-    let same : c.from_residual.result ≡ Err e = search rules in
-    rw same (unprepared c.args.kind _ c.args.at c.args.strict c.args.tbs.now c.in-Some.role c.in-Some.ensures e c.in_err-prepared.ensures.told)
+    let same : c.from_residual-in_err-prepared.result ≡ Err e = search rules in
+    rw same (unprepared c.args.kind _ _ c.args.at c.args.strict c.args.tbs.now c.in-Some.role c.in-Some.ensures e c.in_err-prepared.ensures.told)
+
+pub returns-clause-prepared : goal.returns-clause-prepared
+returns-clause-prepared g c =
+    let x = context IsSignedByRsa c.args.at c.args.strict in
+    let asked = g.R.RevocationSource.asks c.args.asked.now x in
+    let above = option_map (λ (r : Bor ResourceFields). r.now) c.args.issuer in
+    let fields = c.in_ok-prepared.ensures.fields in
+    let made = c.octets_to_sign-octets in
+    on_ok _ _ (IsUnrevokedIn asked above (unsigned c.in_ok-prepared.prepared)) made.result made.ensures.octets made.ensures.unrevoked
+    (λ octets same free. record {
+      role = c.in-Some.role;
+      role_is = c.in-Some.ensures;
+      rules = c.in_ok-check_rules.ensures;
+      ready = c.in_ok-prepared.ensures.ready;
+      unrevoked = subst (λ (f : TbsFields). IsUnrevokedIn asked above (unsigned f)) fields free;
+      octets_are = same ∙ ap (λ (f : TbsFields). encoding f) fields;
+    })
+
+pub returns-clause-refused : goal.returns-clause-refused
+returns-clause-refused g c =
+    let x = context IsSignedByRsa c.args.at c.args.strict in
+    let asked = g.R.RevocationSource.asks c.args.asked.now x in
+    let above = option_map (λ (r : Bor ResourceFields). r.now) c.args.issuer in
+    let made = c.octets_to_sign-octets in
+    on_err _ _ made.result made.ensures.told
+    (λ e told apart octets p. refused_listed asked above (unsigned c.args.tbs.now) e apart (subst (λ (f : TbsFields). IsListedFault asked above (unsigned f) e) c.in_ok-prepared.ensures.fields told) p.unrevoked)
+
+pub returns-clause-told : goal.returns-clause-told
+returns-clause-told g c =
+    let x = context IsSignedByRsa c.args.at c.args.strict in
+    let asked = g.R.RevocationSource.asks c.args.asked.now x in
+    let above = option_map (λ (r : Bor ResourceFields). r.now) c.args.issuer in
+    let made = c.octets_to_sign-octets in
+    on_err _ _ made.result made.ensures.told
+    (λ e told. listed c.args.kind above asked c.args.at c.args.strict c.args.tbs.now e (subst (λ (f : TbsFields). IsListedFault asked above (unsigned f) e) c.in_ok-prepared.ensures.fields told))
