@@ -29,7 +29,7 @@ module _ (x : Context) where
   pub none_read : IsUnambiguous IsCertificate → IsUnambiguous IsCertificateList → (lists : List (List ℕ)) (read : List CrlState) → (length lists ≡ 0 → ⊥) → AreListsOf lists read → (Is : RevocationChecks → Type 0) → (Is (by_named_lists true x read) → ⊥) → IsSoAsked x lists Is → ⊥
   none_read one_certificate one_list [] read some are Is none is = absurd (some refl)
   none_read one_certificate one_list (list ∷ lists) read some are Is none is =
-      none (subst (λ (ls : List CrlState). Is (by_named_lists true x ls)) (same_lists one_certificate one_list (list ∷ lists) is.0 read is.1 are) is.2.0)
+      none (subst (λ (ls : List CrlState). Is (by_named_lists true x ls)) (same_lists one_certificate one_list (list ∷ lists) is.0 read is.1 are) is.2)
 
   -- what is so by one source is so by another of which it follows
   pub so_moved : (lists : List (List ℕ)) (Is Other : RevocationChecks → Type 0) → ((checks : RevocationChecks) → Is checks → Other checks) → IsSoAsked x lists Is → IsSoAsked x lists Other
