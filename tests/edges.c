@@ -1380,15 +1380,16 @@ static const char above[] = SITE "anchor.cer", crl[] = SITE "anchor/anchor.crl";
 static const struct rpki_ip_range v4_wanted = {{10, 0, 0, 0}, {10, 0, 255, 255}};
 static const struct rpki_as_range asn_wanted = {64500, 64500};
 
-/* A CA below the anchor, which has the anchor's key: it stands at a place of the anchor's octets. */
-static struct rpki_wanted wanted_below(const struct file *anchor) {
+/* A CA below the anchor, which has another CA's key: it stands at a place of that one's octets. */
+static struct rpki_wanted wanted_below(const struct file *anchor, const struct file *other) {
     const struct rpki_strings alone = strings(anchor->octets, anchor->length, &anchor->length, 1);
+    const struct rpki_strings keyed = strings(other->octets, other->length, &other->length, 1);
     struct rpki_signature places = {0};
-    check(signatures_of(alone, &places, 1) == RPKI_OK, "the anchor has a signature");
+    check(signatures_of(keyed, &places, 1) == RPKI_OK, "a first certificate is asked by its own key");
     struct rpki_wanted wanted = {
         .size = sizeof wanted,
         .issuer = about(alone, RPKI_AUTHORITY, &now),
-        .key = anchor->octets + places.key_at,
+        .key = other->octets + places.key_at,
         .key_length = places.key_length,
         .v4 = {&v4_wanted, 1, RPKI_LISTED},
         .v6 = {NULL, 0, RPKI_MISSING},
@@ -1565,8 +1566,8 @@ static void completions(struct rpki_wanted wanted, struct file made) {
     }
 }
 
-static void issuing(struct file anchor) {
-    struct rpki_wanted wanted = wanted_below(&anchor);
+static void issuing(struct file anchor, struct file other) {
+    struct rpki_wanted wanted = wanted_below(&anchor, &other);
     struct file made;
     numbers_wanted(wanted);
     values_wanted(wanted);
@@ -1836,7 +1837,7 @@ int main(int count, char **words) {
     chains(words[3], list);
     locators(words[3], list);
     folders(words[1]);
-    issuing(anchor);
+    issuing(anchor, first);
     issuing_lists(anchor, first, empty, list);
     const struct file files[] = {anchor, first, second, object, list, empty, above, router, refusing};
     for (size_t i = 0; i < sizeof files / sizeof *files; i++) free(files[i].octets);
