@@ -4,7 +4,7 @@ ghost use Rattle.std.specs.Prelude.{◌≡◌, ◌-◌, ◌^◌, refl};
 use crate::bound::Bound;
 use std::marker::Model;
 
-/// An IP address as a number of 128 bits. An IPv4 address stands in the upper 32 bits.
+/// An IP address as a number of 128 bits. An IPv4 address is in the upper 32 bits.
 #[derive(Clone, Copy, PartialEq, Eq, PartialOrd, Ord)]
 pub struct Addr(u128);
 
@@ -21,7 +21,7 @@ impl Model for Addr {
 }
 
 impl Addr {
-    /// Returns its number.
+    /// Returns the number of the address.
     pub fn to_bits(self) -> u128
         ensures { result ≡ self }
     {

@@ -95,9 +95,24 @@ impl AsResources {
         Ok(resources)
     }
 
-    /// Reads the ASIdentifiers that stand next (RFC 3779 3.2.3). An empty list counts as missing.
-    /// Elements may stand in any order, overlap and touch. Errs where a lower end is above its
-    /// upper one, and where routing domain identifiers stand (RFC 6487 4.8.11).
+    /// Reads the next value, which must be an ASIdentifiers with AS numbers and without routing
+    /// domain identifiers (RFC 3779 3.2.3, RFC 6487 4.8.11). An empty list counts as missing (own).
+    /// Elements may be in any order, overlap and touch (own).
+    ///
+    /// # Errors
+    ///
+    /// Returns an error as [`Cursor::take_value`], [`Cursor::take_null`] and [`Cursor::take_u32`]
+    /// do, for each value inside too. Returns these errors as well:
+    ///
+    /// - `BadTag`: routing domain identifiers appear without AS numbers.
+    /// - `BadValue`: a lower end is above its upper end.
+    /// - `Trailing`: routing domain identifiers follow the AS numbers, or bytes remain inside a
+    ///   value.
+    /// - `Memory`: memory runs out.
+    ///
+    /// # Not checked
+    ///
+    /// Whether the issuer has the numbers.
     #[tactic(auto, using(rpki_der::proofs::FormatAnswers::answers_or_memory_alone, crate::proofs::SystemReads::as_alone))]
     pub fn take_from(alloc: Global, cursor: &mut Cursor<'_>) -> Result<AsResources, DecodeError>
         ensures { AnswersOrMemory as_identifiers_format cursor.old result cursor.new }

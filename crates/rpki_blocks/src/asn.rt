@@ -6,7 +6,7 @@ use crate::bound::Bound;
 use std::fmt;
 use std::marker::Model;
 
-/// The number of an autonomous system, of 32 bits (RFC 6793).
+/// An AS number, of 32 bits (RFC 6793).
 #[derive(Clone, Copy, PartialEq, Eq, PartialOrd, Ord)]
 pub struct Asn(u32);
 
@@ -23,13 +23,13 @@ impl Model for Asn {
 }
 
 impl Asn {
-    /// The number 0.
+    /// The least AS number, 0.
     pub const MIN: Asn = Asn(0);
 
-    /// The number 2^32 - 1.
+    /// The greatest AS number, 2^32 - 1.
     pub const MAX: Asn = Asn(u32::MAX);
 
-    /// Returns its number.
+    /// Returns the AS number as an integer.
     pub fn into_u32(self) -> u32
         ensures { result ≡ self }
     {
@@ -47,7 +47,7 @@ impl From<u32> for Asn {
     }
 }
 
-/// `AS` and the number in decimal digits, as `AS64496` (RFC 5396).
+/// Prints `AS` and the number in decimal digits, as `AS64496` (RFC 5396).
 impl fmt::Display for Asn {
     ghost output = { λ a. Some (as_text a) };
 

@@ -10,7 +10,8 @@ use std::alloc::AllocError;
 use std::cmp::Ordering;
 use std::marker::Model;
 
-/// The numbers from a lower end to an upper end, which is not below it.
+/// The numbers from a lower end to an upper end, both included. The upper end is not below the
+/// lower end.
 #[derive(Copy)]
 pub struct Block<B: Bound> {
     min: B,
@@ -56,7 +57,8 @@ impl<B: Bound> Block<B> {
         self.max
     }
 
-    /// Does nothing: the lower end is not above the upper, which is a number of the type.
+    /// Does nothing. Its contract says that the lower end is not above the upper end, and that the
+    /// upper end is a number of the type.
     pub fn known(self)
         ensures ordered { self.min ≤ self.max }
         ensures small { self.max ≤ B.greatest }
@@ -170,7 +172,7 @@ impl<B: Bound> Clone for Block<B> {
     }
 }
 
-/// Makes the block of the numbers between the two ends, which come in either order.
+/// Makes the block of the numbers between the two ends, both included, given in either order.
 impl<B: Bound> From<(B, B)> for Block<B> {
     ghost use Rattle.std.specs.Prelude.{◌≡◌, min, max};
 

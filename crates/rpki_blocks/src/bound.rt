@@ -1,4 +1,4 @@
-//! The kinds of numbers that blocks are made of.
+//! The kinds of numbers that blocks have as ends.
 ghost use Rattle.std.specs.Prelude.{◌≡◌, ℕ, ◌+◌, ◌<◌, ◌≤◌, ◌↔◌, IsTrue, IsNone, IfSome, min, max};
 ghost use Rattle.std.specs.Ordering.{nat_cmp};
 
@@ -12,22 +12,22 @@ pub trait Bound: Copy + Ord {
     /// The value of a number.
     ghost value: { ℕ → Self };
 
-    /// A value is the one of its number, so that values are equal where their numbers are.
+    /// The value of a value's number is that value. So two values are equal if their numbers are.
     ghost has_number: { (x : Self) → value (number x) ≡ x };
 
     /// The greatest number of the type.
     ghost greatest: { ℕ };
 
-    /// Does nothing: a value's number is at most the greatest.
+    /// Does nothing. Its contract says that the number of a value is at most the greatest.
     fn known(self)
         ensures { number self ≤ greatest };
 
-    /// Returns the value with the next number, or `None` at the greatest.
+    /// Returns the value with the next number, or `None` for the greatest.
     fn next(self) -> Option<Self>
         ensures last { IsNone result ↔ number self ≡ greatest }
         ensures more { IfSome result (λ after. number after ≡ number self + 1) };
 
-    /// The order is that of the numbers.
+    /// Values are ordered by their numbers.
     ghost ordered: { (x y : Self) → Self.cmp x y ≡ nat_cmp (number x) (number y) };
 }
 

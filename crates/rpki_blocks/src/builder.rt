@@ -1,4 +1,4 @@
-//! Sets that are put together block by block.
+//! Sets that are built block by block.
 ghost use Rattle.std.specs.Prelude.{◌≡◌, ◌++◌, [], ◌∷◌, IfOk, IsOk, OnOk, OnErr};
 ghost use Rattle.rpki_blocks.specs.Sets.{Block as Span, IsSet, HaveSameNumbers};
 
@@ -10,8 +10,7 @@ use crate::chain::Chain;
 use std::alloc::{AllocError, Global};
 use std::marker::Model;
 
-/// Blocks that are to become a set, in the order in which they were pushed. They may overlap and
-/// touch.
+/// A builder of a set: the blocks that were pushed, in their order. They may overlap and touch.
 #[derive(Drop)]
 pub struct BlocksBuilder<B: Bound> {
     blocks: Vec<Block<B>>,
@@ -33,7 +32,7 @@ impl<B: Bound> Model for BlocksBuilder<B> {
 }
 
 impl<B: Bound> BlocksBuilder<B> {
-    /// Makes a builder without blocks. It keeps the allocator for what is pushed.
+    /// Makes a builder without blocks, which allocates from `alloc`.
     pub fn new(alloc: Global) -> BlocksBuilder<B>
         ensures { result ≡ [] }
     {
@@ -42,8 +41,11 @@ impl<B: Bound> BlocksBuilder<B> {
         }
     }
 
-    /// Adds a block: a block, its two ends in either order, or a prefix. After an error the builder
-    /// is as it was.
+    /// Adds a block, given as a block, as its two ends in either order, or as a prefix.
+    ///
+    /// # Errors
+    ///
+    /// Returns an error if memory runs out. The builder is then unchanged.
     pub fn push<T: Into<Block<B>>>(&mut self, block: T) -> Result<(), AllocError>
         ensures ok { OnOk result
             ((b : Span) × T.converts block b × (self.new ≡ self.old ++ b ∷ [])) }
@@ -53,8 +55,12 @@ impl<B: Bound> BlocksBuilder<B> {
         Ok(())
     }
 
-    /// Makes the set of the numbers of the blocks that were pushed. It works in place, in time n
-    /// log n of the number of blocks, and never errs.
+    /// Makes the set of the numbers of all blocks that were pushed. Sorts and merges the blocks in
+    /// place, in time n log n for n blocks.
+    ///
+    /// # Errors
+    ///
+    /// Never returns an error.
     pub fn finalize(self) -> Result<Chain<B>, AllocError>
         ensures ok { IsOk result }
         ensures union { IfOk result (λ chain. HaveSameNumbers chain self) }

@@ -12,14 +12,14 @@ use std::alloc::{AllocError, Global};
 use std::marker::Model;
 use std::slice::Iter;
 
-/// A set of numbers, as blocks that ascend and neither overlap nor touch. So equal sets have equal
-/// blocks.
+/// A set of numbers, as blocks in ascending order that neither overlap nor touch. So equal sets
+/// have equal blocks.
 #[derive(Drop)]
 pub struct Chain<B: Bound> {
     blocks: Vec<Block<B>>,
 }
 
-/// A set of IP addresses. Those of IPv4 stand in the upper 32 bits.
+/// A set of IP addresses. IPv4 addresses are in the upper 32 bits.
 pub type IpBlocks = Chain<Addr>;
 
 /// A set of AS numbers.
@@ -106,7 +106,12 @@ impl<B: Bound> Chain<B> {
         }
     }
 
-    /// Makes the set of the numbers of some blocks, given in any order, which may overlap.
+    /// Makes the set of the numbers of some blocks, which may be in any order, overlap and touch.
+    /// The iterator must be finite.
+    ///
+    /// # Errors
+    ///
+    /// Returns an error if memory runs out.
     pub fn from_iter<I: IntoIterator<Item = Block<B>>>(
         alloc: Global,
         blocks: I,
@@ -136,6 +141,10 @@ impl<B: Bound> Chain<B> {
     }
 
     /// Clones the set. The copy is equal.
+    ///
+    /// # Errors
+    ///
+    /// Returns an error if memory runs out.
     pub fn try_clone(&self, alloc: Global) -> Result<Chain<B>, AllocError>
         ensures same { IfOk result (λ copy. copy ≡ self.now) }
         ensures set { IfOk result (IsSet B.greatest) }
@@ -152,14 +161,14 @@ impl<B: Bound> Chain<B> {
         self.blocks.len()
     }
 
-    /// Returns whether the set has no number.
+    /// Returns whether the set is empty.
     pub fn is_empty(&self) -> bool
         ensures { IsTrue result ↔ self.now ≡ [] }
     {
         self.blocks.is_empty()
     }
 
-    /// Iterates over the blocks of the set: ascending, disjoint and not adjacent.
+    /// Returns an iterator over the blocks of the set: ascending, disjoint and not adjacent.
     pub fn iter(&self) -> Iter<'_, Block<B>>
         ensures all { iter_rest result ≡ self.now }
         ensures set { IsSet B.greatest self.now }
@@ -177,7 +186,7 @@ impl<B: Bound> Chain<B> {
         k < self.blocks.len() && !is_below(at, self.blocks[k].min())
     }
 
-    /// Returns whether each number of the set is in the other.
+    /// Returns whether each number of this set is in the other set.
     pub fn is_encompassed(&self, other: &Chain<B>) -> bool
         ensures inside { IsTrue result ↔ AreIn self.now other.now }
         ensures outside { IsFalse result ↔ Escapes B.greatest self.now other.now }
@@ -202,7 +211,11 @@ impl<B: Bound> Chain<B> {
         true
     }
 
-    /// Returns the numbers that are in both sets.
+    /// Returns the set of the numbers that are in both sets.
+    ///
+    /// # Errors
+    ///
+    /// Returns an error if memory runs out.
     pub fn intersection(&self, alloc: Global, other: &Chain<B>) -> Result<Chain<B>, AllocError>
         ensures both { IfOk result (IsIntersection self.now other.now) }
         ensures set { IfOk result (IsSet B.greatest) }

@@ -1,4 +1,5 @@
-//! What constants, copies, equality, order and hashes promise, each in a function that only asks.
+//! Constants, copies, equality, order and hashes of values. Each function calls one of them and
+//! promises its result.
 
 ghost use Rattle.std.specs.Prelude.{◌≡◌, ◌-◌, ◌^◌, ◌↔◌, IsTrue, IsOkAnd};
 ghost use Rattle.std.specs.Ordering.{nat_cmp};
@@ -13,14 +14,14 @@ use std::alloc::AllocError;
 use std::cmp::Ordering;
 use std::hash::{Hash, Hasher};
 
-/// Clones an address. The copy has its number.
+/// Clones an address. The copy is the same address.
 pub fn copied_address(address: &Addr) -> Result<Addr, AllocError>
     ensures { IsOkAnd result (λ copy. copy ≡ address.now) }
 {
     address.clone()
 }
 
-/// Compares addresses: they are equal where their numbers are.
+/// Compares addresses: they are equal if and only if they are the same number.
 pub fn equal_addresses(one: &Addr, other: &Addr) -> bool
     ensures { IsTrue result ↔ one.now ≡ other.now }
 {
@@ -55,7 +56,7 @@ pub fn copied_as_number(number: &Asn) -> Result<Asn, AllocError>
     number.clone()
 }
 
-/// Compares AS numbers: they are equal where they are the same.
+/// Compares AS numbers: they are equal if and only if they are the same number.
 pub fn equal_as_numbers(one: &Asn, other: &Asn) -> bool
     ensures { IsTrue result ↔ one.now ≡ other.now }
 {
@@ -69,7 +70,7 @@ pub fn ordered_as_numbers(one: &Asn, other: &Asn) -> Ordering
     one.cmp(other)
 }
 
-/// Clones a block. The copy has its ends.
+/// Clones a block. The copy has the same ends.
 pub fn copied_block<B: Bound>(block: &Block<B>) -> Result<Block<B>, AllocError>
     ensures { IsOkAnd result (λ copy. copy ≡ block.now) }
 {
@@ -90,14 +91,14 @@ pub fn copied_overclaim(mode: &Overclaim) -> Result<Overclaim, AllocError>
     mode.clone()
 }
 
-/// Compares modes: they are equal where they are the same.
+/// Compares modes: they are equal if and only if they are the same.
 pub fn equal_overclaims(one: &Overclaim, other: &Overclaim) -> bool
     ensures { IsTrue result ↔ one.now ≡ other.now }
 {
     one == other
 }
 
-/// Hashes two modes. Equal ones feed a hash function alike.
+/// Hashes two modes. Equal ones change equal hashers alike.
 pub fn hashed_overclaims<H: Hasher>(
     one: &Overclaim,
     other: &Overclaim,

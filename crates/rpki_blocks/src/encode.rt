@@ -1,4 +1,4 @@
-//! How resources are written.
+//! How resources are encoded.
 ghost use Rattle.std.specs.Prelude.{◌≡◌, ℕ, ◌+◌, ◌-◌, ◌^◌, ◌<◌, ◌≤◌, ◌++◌};
 ghost use Rattle.std.specs.Prelude.{length, take, flat_map, OnErr, OnOk};
 ghost use Rattle.std.specs.List.{concat};
@@ -23,7 +23,7 @@ use std::alloc::{AllocError, Global};
 // How many octets a block usually has. More room is made where some have more.
 const USUAL_LEN: usize = 8;
 
-/// A kind of numbers, by how its blocks are written.
+/// A kind of numbers, and how its blocks are encoded.
 pub trait Encode: Bound {
     ghost use Rattle.rpki_blocks.specs.Sets.{Block as Span};
     ghost use Rattle.std.specs.Prelude.{ℕ, List};
@@ -227,9 +227,17 @@ fn put_numbers(alloc: Global, out: &mut Vec<u8>, resources: &AsResources) -> Res
 }
 
 impl IpResources {
-    /// Appends the critical extension with what a certificate lists of IPv4 and of IPv6 (RFC 3779
-    /// 2.2), under the identifier of the mode; nothing where both are missing. Errs with `TooLong`
-    /// where a content would have 2^32 octets or more.
+    /// Appends the critical extension with the IPv4 and IPv6 resources of a certificate (RFC 3779
+    /// 2.2), under the identifier of the mode. Appends nothing if both are missing.
+    ///
+    /// # Errors
+    ///
+    /// Returns `TooLong` only if the extension would have a content of 2^32 bytes or more, and
+    /// `Memory` if memory runs out. After an error `out` is unchanged.
+    ///
+    /// # Not checked
+    ///
+    /// Whether `v4` has whole IPv4 addresses ([`crate::IpBlocks::is_v4`]).
     pub fn encode_extension(
         alloc: Global,
         out: &mut Vec<u8>,
@@ -249,9 +257,13 @@ impl IpResources {
 }
 
 impl AsResources {
-    /// Appends the critical extension with what a certificate lists of AS numbers (RFC 3779 3.2),
-    /// under the identifier of the mode; nothing where they are missing. Errs with `TooLong` where
-    /// a content would have 2^32 octets or more.
+    /// Appends the critical extension with the AS resources of a certificate (RFC 3779 3.2), under
+    /// the identifier of the mode. Appends nothing if they are missing.
+    ///
+    /// # Errors
+    ///
+    /// Returns `TooLong` only if the extension would have a content of 2^32 bytes or more, and
+    /// `Memory` if memory runs out. After an error `out` is unchanged.
     pub fn encode_extension(
         &self,
         alloc: Global,

@@ -1,4 +1,4 @@
-//! How blocks of addresses are written.
+//! How blocks of addresses are encoded.
 ghost use Rattle.std.specs.Prelude.{◌≡◌, ◌+◌, ◌-◌, ◌/◌, ◌^◌, ◌<◌, ◌≤◌, ◌++◌};
 ghost use Rattle.std.specs.Prelude.{ℕ, length, take, IfSome, OnErr, OnOk};
 ghost use Rattle.rpki_der.specs.Writers.{SaysLong};

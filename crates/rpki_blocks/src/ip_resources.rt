@@ -251,11 +251,26 @@ impl IpResources {
         Ok(families)
     }
 
-    /// Reads the IPAddrBlocks that stand next (RFC 3779 2.2.3), and returns what they list of IPv4
-    /// and of IPv6. A family that isn't there is `None`; an empty list of it counts as missing.
-    /// Elements may stand in any order, overlap and touch. Errs where a family stands twice, where
-    /// none or another one stands, where there are more bits than an address has, and where a lower
-    /// end is above its upper one.
+    /// Reads the next value, which must be an IPAddrBlocks of IPv4, IPv6 or both (RFC 3779 2.2.3,
+    /// RFC 6487 4.8.10). Returns the IPv4 resources and the IPv6 resources. A family that does not
+    /// appear is `None`, and an empty list of a family counts as missing (own). The families may be
+    /// in either order, and elements may be in any order, overlap and touch (own).
+    ///
+    /// # Errors
+    ///
+    /// Returns an error as [`Cursor::take_value`], [`Cursor::take_null`] and [`Cursor::take_bits`]
+    /// do, for each value inside too. Returns these errors as well:
+    ///
+    /// - `BadValue`: no family appears, a family appears twice, or a family is neither IPv4 nor
+    ///   IPv6 or has a SAFI.
+    /// - `BadValue`: an element has more bits than an address of its family, or a lower end is
+    ///   above its upper end.
+    /// - `Trailing`: bytes remain after the second family, or inside a value.
+    /// - `Memory`: memory runs out.
+    ///
+    /// # Not checked
+    ///
+    /// Whether the issuer has the addresses.
     #[tactic(auto, using(rpki_der::proofs::FormatAnswers::answers_or_memory_alone, crate::proofs::AddressReads::ip_alone))]
     pub fn take_families_from(
         alloc: Global,

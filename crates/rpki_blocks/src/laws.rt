@@ -8,20 +8,20 @@ ghost use Rattle.rpki_blocks.specs.Addresses.{Ip, Families, IsIPAddrBlocks, addr
 ghost use Rattle.rpki_blocks.specs.Systems.{IsASIdentifiers, written_as};
 ghost use Rattle.rpki_blocks.specs.Prefixes.{AreV4};
 
-/// Says that equal sets have equal chains, so equal lists of blocks.
+/// Says that sets with the same numbers have the same blocks.
 pub fn one_chain()
     ensures { (bs cs : List Block) → IsChain bs → IsChain cs → HaveSameNumbers bs cs → bs ≡ cs }
 {}
 
-/// Says that octets begin with at most one value of either kind of resources, and each encoding is
-/// of one.
+/// Says that a string begins with at most one encoding of IP resources and at most one of AS
+/// resources, and that an encoding is of one value only.
 pub fn unambiguous()
     ensures addresses { IsUnambiguous IsIPAddrBlocks }
     ensures numbers { IsUnambiguous IsASIdentifiers }
 {}
 
-/// Says that what is written of resources encodes them, if it has fewer than 2^32 octets, and if
-/// what stands as IPv4 are whole IPv4 addresses.
+/// Says that what is written of resources is an encoding of these resources, if it has fewer than
+/// 2^32 bytes and if the IPv4 resources are whole IPv4 addresses.
 pub fn written_is_read()
     ensures addresses { (i : Ip) (content : List ℕ) → ip i ≡ Some content →
         IsResources (2 ^ 128 - 1) i.v4 → AreV4 i.v4 → IsResources (2 ^ 128 - 1) i.v6 →

@@ -1,4 +1,4 @@
-//! Sets of IP addresses and of AS numbers, and what certificates list of them (RFC 3779).
+//! Sets of IP addresses and of AS numbers, and the resources that certificates list (RFC 3779).
 #![tactic(auto)]
 
 mod addr;

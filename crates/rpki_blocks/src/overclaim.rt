@@ -8,12 +8,12 @@ ghost use Rattle.rpki_blocks.specs.Overclaims.Reading.{which, mode_of};
 use rpki_der::oid;
 use std::fmt;
 
-/// What becomes of a certificate that lists more than its issuer has.
+/// The mode for a certificate that lists resources which its issuer does not have.
 #[derive(Debug, Clone, Copy, PartialEq, Eq, Hash)]
 pub enum Overclaim {
-    /// It is invalid (RFC 6487).
+    /// The certificate is rejected (RFC 6487 7.2).
     Refuse,
-    /// Its resources are trimmed to those that its issuer has (RFC 8360).
+    /// The resources of the certificate are trimmed to those of its issuer (RFC 8360 4.2).
     Trim,
 }
 
@@ -54,8 +54,8 @@ impl Overclaim {
         }
     }
 
-    /// Returns the mode that the identifier of a certificate policy names, if it is
-    /// [`Overclaim::policy_id`] of one.
+    /// Returns the mode whose [`Overclaim::policy_id`] the identifier is, or `None` if it is of no
+    /// mode.
     pub fn from_policy(identifier: &[u8]) -> Option<Overclaim>
         ensures named { IsNamed policy_identifier identifier.now result }
         ensures reads { result ≡ mode_of policy_identifier identifier.now }
@@ -67,8 +67,8 @@ impl Overclaim {
         )
     }
 
-    /// Returns the mode that the identifier of an extension with IP resources names, if it is
-    /// [`Overclaim::ip_res_id`] of one.
+    /// Returns the mode whose [`Overclaim::ip_res_id`] the identifier is, or `None` if it is of no
+    /// mode.
     pub fn from_ip_res(identifier: &[u8]) -> Option<Overclaim>
         ensures named { IsNamed ip_identifier identifier.now result }
         ensures reads { result ≡ mode_of ip_identifier identifier.now }
@@ -76,8 +76,8 @@ impl Overclaim {
         which(identifier, oid::PE_IP_ADDR_BLOCK, oid::PE_IP_ADDR_BLOCK_V2)
     }
 
-    /// Returns the mode that the identifier of an extension with AS resources names, if it is
-    /// [`Overclaim::as_res_id`] of one.
+    /// Returns the mode whose [`Overclaim::as_res_id`] the identifier is, or `None` if it is of no
+    /// mode.
     pub fn from_as_res(identifier: &[u8]) -> Option<Overclaim>
         ensures named { IsNamed as_identifier identifier.now result }
         ensures reads { result ≡ mode_of as_identifier identifier.now }
@@ -90,7 +90,7 @@ impl Overclaim {
     }
 }
 
-/// `refuse` or `trim`.
+/// Prints `refuse` or `trim`.
 impl fmt::Display for Overclaim {
     ghost output = { λ it. Some (overclaim_text it) };
 

@@ -10,7 +10,7 @@ use crate::chain::IpBlocks;
 use crate::encode_ip::prefix_bits;
 use std::marker::Model;
 
-/// The addresses that begin with the first `len` bits of an address.
+/// A prefix: the addresses that begin with the first `len` bits of an address.
 #[derive(Clone, Copy)]
 pub struct Prefix {
     addr: u128,
@@ -31,8 +31,8 @@ impl Model for Prefix {
 }
 
 impl Prefix {
-    /// Makes the prefix of `len` bits, at most 128. The bits of `addr` past them count as zero. An
-    /// IPv4 address stands in the upper 32 bits: 10.0.0.0/8 is `Prefix::new(0x0A00_0000 << 96, 8)`.
+    /// Makes the prefix of `len` bits, at most 128. The bits of `addr` after them count as zero. An
+    /// IPv4 address is in the upper 32 bits: 10.0.0.0/8 is `Prefix::new(0x0A00_0000 << 96, 8)`.
     pub fn new(addr: u128, len: u8) -> Prefix
         requires { len ≤ 128 }
         ensures address { result.addr ≡ addr }
@@ -69,7 +69,7 @@ fn ends(addr: u128, len: u8) -> (u128, u128)
 }
 
 impl IpBlock {
-    /// Returns whether the block is all the addresses with some prefix.
+    /// Returns whether the block consists of all addresses with some prefix.
     pub fn is_prefix(self) -> bool
         ensures { result ≡ is_prefix self (prefix_bits self) }
     {
@@ -82,8 +82,8 @@ impl IpBlock {
 }
 
 impl IpBlocks {
-    /// Returns whether the set is one of whole IPv4 addresses, which stand in the upper 32 bits:
-    /// every lower end has 96 zero bits and every upper end 96 one bits at its foot.
+    /// Returns whether the set consists of whole IPv4 addresses, in the upper 32 bits: in each
+    /// block, the lower 96 bits of the lower end are all 0, and those of the upper end are all 1.
     pub fn is_v4(&self) -> bool
         ensures { result ≡ list_all is_v4_block self.now }
     {

@@ -1,4 +1,4 @@
-//! What a certificate lists of one kind of numbers, and what it gets.
+//! The resources of one kind of numbers that a certificate lists, and the set that it gets.
 ghost use Rattle.std.specs.Prelude.{◌≡◌, ◌≢◌, ℕ, ◌↔◌, IsTrue, IfOk, OnOk, MatchResult, MatchOption};
 ghost use Rattle.rpki_blocks.specs.Sets.{IsSet, Has};
 
@@ -14,9 +14,11 @@ use thiserror::Error;
 /// Why a certificate gets no set of numbers.
 #[derive(Debug, Drop, Error)]
 pub enum IssueError {
-    /// It lists a number that its issuer doesn't have, and its policy rejects that.
+    /// The certificate lists a number that its issuer does not have, and the mode is
+    /// [`Overclaim::Refuse`] (RFC 6487 7.2).
     #[error("resources overclaimed")]
     Overclaimed,
+    /// Memory ran out.
     #[error("out of memory")]
     Memory,
 }
@@ -36,7 +38,7 @@ impl IssueError {
         }
     }
 
-    /// Tells whether memory ran out.
+    /// Returns whether the error is `Memory`.
     pub fn is_memory(&self) -> bool
         ensures { IsTrue result ↔ self.now ≡ error.Memory }
     {
@@ -58,7 +60,8 @@ impl From<AllocError> for IssueError {
     }
 }
 
-/// The issuer's set is meant, so there is none to be had without it.
+/// The error of inherited resources: their set is that of the issuer, and is not known without it
+/// (RFC 3779 2.2.3.5, 3.2.3.3).
 #[derive(Debug, Drop, Error)]
 #[error("resources are inherited")]
 pub struct Inherited;
@@ -81,17 +84,17 @@ enum Choice<B: Bound> {
     Blocks(Chain<B>),
 }
 
-/// What a certificate lists of one kind of numbers: nothing, what its issuer has, or a set that
-/// isn't empty.
+/// The resources of one kind of numbers that a certificate lists: none, those of its issuer, or a
+/// set that is not empty (RFC 3779 2.2.3.4, 3.2.3.2).
 #[derive(Drop)]
 pub struct Resources<B: Bound> {
     choice: Choice<B>,
 }
 
-/// What a certificate lists of the IPv4 or of the IPv6 addresses.
+/// The IPv4 or the IPv6 resources that a certificate lists.
 pub type IpResources = Resources<Addr>;
 
-/// What a certificate lists of the AS numbers.
+/// The AS resources that a certificate lists.
 pub type AsResources = Resources<Asn>;
 
 impl<B: Bound> Model for Resources<B> {
@@ -109,7 +112,7 @@ impl<B: Bound> Model for Resources<B> {
 impl<B: Bound> Resources<B> {
     ghost use Rattle.rpki_blocks.specs.Resources.{missing, inherit, blocks as listed_blocks, listed, IsResources, HasNoBlocks};
 
-    /// Makes resources that list nothing of the kind.
+    /// Makes missing resources: the certificate lists nothing of this kind.
     pub fn missing() -> Resources<B>
         ensures { result ≡ missing }
     {
@@ -118,7 +121,7 @@ impl<B: Bound> Resources<B> {
         }
     }
 
-    /// Makes resources that mean what the issuer has.
+    /// Makes inherited resources: those of the issuer (RFC 3779 2.2.3.5, 3.2.3.3).
     pub fn inherit() -> Resources<B>
         ensures { result ≡ inherit }
     {
@@ -127,7 +130,7 @@ impl<B: Bound> Resources<B> {
         }
     }
 
-    /// Makes resources that list a set. The empty set counts as missing.
+    /// Makes resources that are a set. The empty set counts as missing (own).
     pub fn blocks(chain: Chain<B>) -> Resources<B>
         ensures { result ≡ listed chain }
     {
@@ -141,6 +144,10 @@ impl<B: Bound> Resources<B> {
     }
 
     /// Clones the resources. The copy is equal.
+    ///
+    /// # Errors
+    ///
+    /// Returns an error if memory runs out.
     pub fn try_clone(&self, alloc: Global) -> Result<Resources<B>, AllocError>
         ensures same { IfOk result (λ copy. copy ≡ self.now) }
     {
@@ -152,7 +159,7 @@ impl<B: Bound> Resources<B> {
         Ok(Resources { choice })
     }
 
-    /// Returns whether there is something of the kind: a set, or the issuer's.
+    /// Returns whether the resources are not missing: they are a set, or inherited.
     pub fn is_present(&self) -> bool
         ensures present { IsTrue result ↔ self.now ≢ missing }
         ensures fits { IsResources B.greatest self.now }
@@ -160,14 +167,14 @@ impl<B: Bound> Resources<B> {
         !matches!(&self.choice, Choice::Missing)
     }
 
-    /// Returns whether the issuer's set is meant.
+    /// Returns whether the resources are inherited.
     pub fn is_inherited(&self) -> bool
         ensures { IsTrue result ↔ self.now ≡ inherit }
     {
         matches!(&self.choice, Choice::Inherit)
     }
 
-    /// Returns the set, where one is listed.
+    /// Returns the set, or `None` if the resources are missing or inherited.
     pub fn as_blocks(&self) -> Option<&Chain<B>>
         ensures { MatchOption result (HasNoBlocks self.now)
             (λ chain. self.now ≡ listed_blocks chain.now) }
@@ -183,8 +190,11 @@ impl<B: Bound> Chain<B> {
     ghost use Rattle.rpki_blocks.specs.Resources.{inherit, ListsSet};
     ghost use Rattle.rpki_blocks.specs.IssuedSets.{IsIssued, IsListed, IsOverclaim};
 
-    /// Returns the set that resources list. Missing ones list the empty set. Errs where the
-    /// issuer's set is meant.
+    /// Returns the set that resources list: the empty set if they are missing.
+    ///
+    /// # Errors
+    ///
+    /// Returns an error if and only if the resources are inherited.
     pub fn from_resources(alloc: Global, resources: Resources<B>) -> Result<Chain<B>, Inherited>
         ensures listed { MatchResult result (ListsSet resources) (λ _. resources ≡ inherit) }
         ensures set { IfOk result (IsSet B.greatest) }
@@ -196,10 +206,18 @@ impl<B: Bound> Chain<B> {
         }
     }
 
-    /// Resolves the resources that a certificate lists, under an issuer with this set. Returns
-    /// nothing where they are missing, the issuer's set where they are inherited, else the listed
-    /// numbers. Listed numbers that the issuer doesn't have are an error or left out, as `mode`
-    /// says.
+    /// Returns the set that a certificate gets from the resources that it lists. `self` is the set
+    /// of the issuer (RFC 6487 7.2, RFC 8360 4.2).
+    ///
+    /// - Missing resources: the empty set.
+    /// - Inherited resources: the set of the issuer.
+    /// - A set, and `mode` is [`Overclaim::Refuse`]: that set.
+    /// - A set, and `mode` is [`Overclaim::Trim`]: the numbers in that set that the issuer has.
+    ///
+    /// # Errors
+    ///
+    /// Returns `Overclaimed` if and only if `mode` is [`Overclaim::Refuse`] and a listed number is
+    /// not in the issuer's set. Returns `Memory` if memory runs out.
     pub fn verify_issued(
         &self,
         alloc: Global,

@@ -1,4 +1,4 @@
-//! What blocks and sets of them print.
+//! Printing of blocks and of sets of them.
 ghost use Rattle.std.specs.Prelude.{◌≡◌, ◌/◌, ◌^◌, Some};
 ghost use Rattle.std.specs.Fmt.{WritesOnOk};
 ghost use Rattle.std.specs.Net.Addr.{IsIpv4OfBits, IsIpv6OfBits};
@@ -15,14 +15,14 @@ use std::marker::Model;
 use std::net::{Ipv4Addr, Ipv6Addr};
 
 impl Addr {
-    /// Returns the IPv4 address in the upper 32 bits.
+    /// Returns the IPv4 address in the upper 32 bits. Ignores the lower 96 bits.
     pub fn to_v4(self) -> Ipv4Addr
         ensures { IsIpv4OfBits result (self / 2 ^ 96) }
     {
         Ipv4Addr::from((self.to_bits() >> 96) as u32)
     }
 
-    /// Returns the IPv6 address.
+    /// Returns the number as an IPv6 address.
     pub fn to_v6(self) -> Ipv6Addr
         ensures { IsIpv6OfBits result self }
     {
@@ -98,7 +98,7 @@ fn write_ip_blocks<W: fmt::Write>(
     Ok(())
 }
 
-/// An AS number, or the two ends of several, as `AS64496-AS64511`.
+/// Prints an AS number, or the two ends if there are several, as `AS64496-AS64511`.
 impl fmt::Display for AsBlock {
     ghost output = { λ b. Some (as_block_text b) };
 
@@ -112,7 +112,7 @@ impl fmt::Display for AsBlock {
     }
 }
 
-/// Its blocks, with a comma and a space between them, as `AS64496-AS64511, AS65536`.
+/// Prints the blocks with a comma and a space between them, as `AS64496-AS64511, AS65536`.
 impl fmt::Display for AsBlocks {
     ghost output = { λ bs. Some (blocks_text as_block_text bs) };
 
@@ -129,7 +129,7 @@ impl fmt::Display for AsBlocks {
     }
 }
 
-/// A block of addresses, printed as one of IPv4.
+/// A block of addresses, printed as IPv4 addresses.
 #[derive(Drop)]
 pub struct DisplayV4Block(IpBlock);
 
@@ -141,8 +141,8 @@ impl Model for DisplayV4Block {
     ghost view = { λ shown. shown.0 };
 }
 
-/// A prefix, as `192.0.2.0/24`, where one covers the block exactly, else the two ends, as
-/// `192.0.2.1-192.0.2.9`.
+/// Prints a prefix, as `192.0.2.0/24`, if the block is all addresses with one. Else prints the two
+/// ends, as `192.0.2.1-192.0.2.9`.
 impl fmt::Display for DisplayV4Block {
     ghost output = { λ b. Some (v4_block_text b) };
 
@@ -151,7 +151,7 @@ impl fmt::Display for DisplayV4Block {
     }
 }
 
-/// A block of addresses, printed as one of IPv6.
+/// A block of addresses, printed as IPv6 addresses.
 #[derive(Drop)]
 pub struct DisplayV6Block(IpBlock);
 
@@ -163,8 +163,8 @@ impl Model for DisplayV6Block {
     ghost view = { λ shown. shown.0 };
 }
 
-/// A prefix, as `2001:db8::/32`, where one covers the block exactly, else the two ends, as
-/// `2001:db8::1-2001:db8::9`.
+/// Prints a prefix, as `2001:db8::/32`, if the block is all addresses with one. Else prints the two
+/// ends, as `2001:db8::1-2001:db8::9`.
 impl fmt::Display for DisplayV6Block {
     ghost output = { λ b. Some (v6_block_text b) };
 
@@ -174,14 +174,14 @@ impl fmt::Display for DisplayV6Block {
 }
 
 impl IpBlock {
-    /// Returns what prints the block as one of IPv4.
+    /// Returns a value that prints the block as IPv4 addresses.
     pub fn display_v4(self) -> DisplayV4Block
         ensures { result ≡ self }
     {
         DisplayV4Block(self)
     }
 
-    /// Returns what prints the block as one of IPv6.
+    /// Returns a value that prints the block as IPv6 addresses.
     pub fn display_v6(self) -> DisplayV6Block
         ensures { result ≡ self }
     {
@@ -189,7 +189,7 @@ impl IpBlock {
     }
 }
 
-/// A set of addresses, printed as one of IPv4.
+/// A set of addresses, printed as IPv4 addresses.
 #[derive(Drop)]
 pub struct DisplayV4Blocks<'a>(&'a IpBlocks);
 
@@ -202,7 +202,7 @@ impl<'a> Model for DisplayV4Blocks<'a> {
     ghost view = { λ shown. shown.0.now };
 }
 
-/// Its blocks, with a comma and a space between them, as `192.0.2.0/24, 198.51.100.1/32`.
+/// Prints the blocks with a comma and a space between them, as `192.0.2.0/24, 198.51.100.1/32`.
 impl<'a> fmt::Display for DisplayV4Blocks<'a> {
     ghost output = { λ bs. Some (blocks_text v4_block_text bs) };
 
@@ -211,7 +211,7 @@ impl<'a> fmt::Display for DisplayV4Blocks<'a> {
     }
 }
 
-/// A set of addresses, printed as one of IPv6.
+/// A set of addresses, printed as IPv6 addresses.
 #[derive(Drop)]
 pub struct DisplayV6Blocks<'a>(&'a IpBlocks);
 
@@ -224,7 +224,7 @@ impl<'a> Model for DisplayV6Blocks<'a> {
     ghost view = { λ shown. shown.0.now };
 }
 
-/// Its blocks, with a comma and a space between them, as `2001:db8::/32, 2001:db8:1::1/128`.
+/// Prints the blocks with a comma and a space between them, as `2001:db8::/32, 2001:db8:1::1/128`.
 impl<'a> fmt::Display for DisplayV6Blocks<'a> {
     ghost output = { λ bs. Some (blocks_text v6_block_text bs) };
 
@@ -234,14 +234,14 @@ impl<'a> fmt::Display for DisplayV6Blocks<'a> {
 }
 
 impl IpBlocks {
-    /// Returns what prints the set as one of IPv4.
+    /// Returns a value that prints the set as IPv4 addresses.
     pub fn as_v4(&self) -> DisplayV4Blocks<'_>
         ensures { result ≡ self.now }
     {
         DisplayV4Blocks(self)
     }
 
-    /// Returns what prints the set as one of IPv6.
+    /// Returns a value that prints the set as IPv6 addresses.
     pub fn as_v6(&self) -> DisplayV6Blocks<'_>
         ensures { result ≡ self.now }
     {

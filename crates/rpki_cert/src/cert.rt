@@ -19,8 +19,37 @@ use rpki_parts::SignedData;
 use std::alloc::{AllocError, Global};
 use std::marker::Model;
 
-/// A resource certificate: what is signed, as it was read or made, with its signature, and the
-/// fields that it has (RFC 5280 4.1, RFC 6487 4).
+/// A resource certificate: its fields, its to-be-signed part (TBSCertificate) as it was read or
+/// made, and its signature (RFC 5280 4.1, RFC 6487 4).
+///
+/// The life of a certificate, with the calls:
+///
+/// - Decode: [`Cert::decode`], or [`Cert::decode_shared`], which copies no bytes.
+/// - Inspect: [`Cert::inspect_ta`], [`Cert::inspect_ca`], [`Cert::inspect_ee`],
+///   [`Cert::inspect_detached_ee`] and [`Cert::inspect_router`] check the profile of one kind.
+///   [`crate::kind_of`] returns the kind.
+/// - Verify: [`Cert::verify_ta_at`], [`Cert::verify_ca_at`], [`Cert::verify_ee_at`] and
+///   [`Cert::verify_router_at`] check the validation time, the issuer's key, the signature and the
+///   resources.
+/// - Validate: [`Cert::validate_ta_at`], [`Cert::validate_ca_at`], [`Cert::validate_ee_at`],
+///   [`Cert::validate_detached_ee_at`] and [`Cert::validate_router_at`] inspect, then verify.
+/// - Hold: validation returns a [`crate::ResourceCert`], which has the resources that the
+///   certificate holds, and is the issuer in the next validation. Validation of a router's
+///   certificate returns none.
+///
+/// A CA makes certificates with [`TbsCert::into_cert`] or [`crate::issue_ca`].
+///
+/// # Not checked
+///
+/// Decoding checks no signature, no time and no profile. None of the calls above checks:
+///
+/// - whether the certificate is revoked (`CrlStore::check` does)
+/// - whether names chain (RFC 5280 6.1.3; `rpki_path::names_chain` does)
+/// - whether a trust anchor has the TAL's key (`Tal::has_key` does)
+/// - whether the subject's RSA key has 2048 bits and the exponent 65537 (`rpki_keys::is_usable`
+///   does; a verifier may check the keys that sign)
+/// - whether the issuer gave the serial number to another certificate too (RFC 6487 4.2)
+/// - the current time: the validation time is the caller's
 #[derive(Drop)]
 pub struct Cert {
     parts: Box<Parts>,
@@ -97,17 +126,41 @@ impl Cert {
         Ok(cert)
     }
 
-    /// Decodes the certificate at the start of `octets` and ignores what follows. Fails if there is
-    /// none; which error is returned is unspecified.
+    /// Decodes the certificate at the start of `octets` and ignores what follows (RFC 5280 4.1, RFC
+    /// 6487 4).
+    ///
+    /// The bytes are copied once. Each known extension may appear once, in any order, and no
+    /// unknown extension may be critical. Subject Key Identifier, Key Usage, Certificate Policies
+    /// and one of the two resource extensions have to be there.
+    ///
+    /// # Errors
+    ///
+    /// Returns an error if the octets begin with no certificate; which one is unspecified. Returns
+    /// `Memory` if memory runs out.
+    ///
+    /// # Not checked
+    ///
+    /// The signature, the times (also whether notBefore is before notAfter), the profile of any
+    /// kind ([`Cert::inspect_ca`] and its siblings), what the bits of the key are, and whether the
+    /// resource extensions are critical (own).
     pub fn decode(alloc: Global, octets: &[u8]) -> Result<Cert, DecodeError>
         ensures { MeansOrMemory (Means IsCertificate) result octets.now }
     {
         Cert::decode_shared(alloc, Bytes::copy_from_slice(alloc, octets)?)
     }
 
-    /// Decodes the certificate at the start of shared octets and ignores what follows (own). What
-    /// is kept shares the buffer and keeps all of it alive; a copy ([`Cert::try_clone`]) copies no
-    /// octets. Fails as [`Cert::decode`] does.
+    /// Decodes the certificate at the start of shared octets and ignores what follows (own).
+    ///
+    /// The certificate shares the buffer and keeps all of it alive; a copy ([`Cert::try_clone`])
+    /// copies no octets.
+    ///
+    /// # Errors
+    ///
+    /// As [`Cert::decode`].
+    ///
+    /// # Not checked
+    ///
+    /// As [`Cert::decode`].
     pub fn decode_shared(alloc: Global, octets: Bytes) -> Result<Cert, DecodeError>
         ensures { MeansOrMemory (Means IsCertificate) result octets }
     {
@@ -115,16 +168,32 @@ impl Cert {
         Cert::take_from(alloc, &mut cursor)
     }
 
-    /// Reads the certificate that stands next, one SEQUENCE (RFC 5280 4.1). Fails if no front of
-    /// the remaining octets is one; which error is returned is unspecified.
+    /// Reads the certificate that is next, one SEQUENCE (RFC 5280 4.1).
+    ///
+    /// # Errors
+    ///
+    /// Returns an error if the remaining octets begin with no certificate; which one is
+    /// unspecified.
+    ///
+    /// # Not checked
+    ///
+    /// As [`Cert::decode`].
     pub fn take_from(alloc: Global, cursor: &mut Cursor<'_>) -> Result<Cert, DecodeError>
         ensures { AnswersOrMemory (certificate_format levels) cursor.old result cursor.new }
     {
         Cert::read(alloc, cursor)
     }
 
-    /// Reads the certificate where a SEQUENCE stands next. Returns `None` at the end and before
-    /// another identifier octet.
+    /// Reads the certificate if a SEQUENCE is next. Returns `None` at the end and before another
+    /// identifier octet.
+    ///
+    /// # Errors
+    ///
+    /// Returns an error if a SEQUENCE is next that is no certificate; which one is unspecified.
+    ///
+    /// # Not checked
+    ///
+    /// As [`Cert::decode`].
     pub fn take_opt_from(
         alloc: Global,
         cursor: &mut Cursor<'_>,
@@ -139,7 +208,16 @@ impl Cert {
         }
     }
 
-    /// Reads what stands inside the SEQUENCE of a certificate, without its identifier and length.
+    /// Reads the content of a certificate's SEQUENCE, without the SEQUENCE's identifier and length.
+    ///
+    /// # Errors
+    ///
+    /// Returns an error if the remaining octets begin with no such content; which one is
+    /// unspecified.
+    ///
+    /// # Not checked
+    ///
+    /// Whether anything follows the signature, and what [`Cert::decode`] doesn't check.
     #[tactic(auto, using(rpki_der::proofs::FormatAnswers::answers_or_memory_alone, crate::proofs::CertificateFormats::certificate_content_alone))]
     pub fn from_constructed(alloc: Global, content: &mut Cursor<'_>) -> Result<Cert, DecodeError>
         ensures { AnswersOrMemory (certificate_content_format levels)
@@ -148,23 +226,27 @@ impl Cert {
         Cert::read_content(alloc, content)
     }
 
-    /// Returns the fields of what is signed.
+    /// Returns the fields of the to-be-signed part.
     pub fn as_tbs(&self) -> &TbsCert
         ensures { result.now ≡ self.now.fields }
     {
         &self.parts.tbs
     }
 
-    /// Returns what is signed, as it was read or made, and its signature.
+    /// Returns the to-be-signed part, as it was read or made, and the signature.
     pub fn signed_data(&self) -> &SignedData
         ensures { result.now ≡ self.now.signed_data }
     {
         &self.parts.signed_data
     }
 
-    /// Appends the certificate: the SEQUENCE of what is signed, as it was read or made, the
-    /// algorithm and the signature. For a certificate that was read these are its own octets. Errs
-    /// with `TooLong` where the content would have 2^32 octets or more.
+    /// Appends the certificate: the SEQUENCE of the to-be-signed part, as it was read or made, the
+    /// algorithm and the signature. For a certificate that was read these are its own octets.
+    ///
+    /// # Errors
+    ///
+    /// Returns `TooLong` if the content would have 2^32 octets or more, or `Memory`. Then nothing
+    /// is appended.
     pub fn encode_ref(&self, alloc: Global, out: &mut Vec<u8>) -> Result<(), EncodeError>
         ensures { Writes (signed_part self.now.signed_data) out.old.items result out.new.items }
     {
@@ -172,6 +254,10 @@ impl Cert {
     }
 
     /// Writes the certificate's octets, as [`Cert::encode_ref`] does, into a buffer of their own.
+    ///
+    /// # Errors
+    ///
+    /// As [`Cert::encode_ref`].
     pub fn to_captured(&self, alloc: Global) -> Result<Bytes, EncodeError>
         ensures ok { IfOk result (λ octets. octets ≡ signed_data self.now.signed_data) }
         ensures too_long { SaysLong result (signed_content self.now.signed_data) }

@@ -5,14 +5,14 @@ ghost use Rattle.std.specs.Prelude.{◌≡◌, ◌↔◌, IsTrue, IsOkAnd};
 use crate::inspect::Kind;
 use std::alloc::AllocError;
 
-/// A copy of a kind of certificates is the same kind.
+/// Copies a kind of certificates: the copy is equal.
 pub fn copied_kind(kind: &Kind) -> Result<Kind, AllocError>
     ensures { IsOkAnd result (λ copy. copy ≡ kind.now) }
 {
     kind.clone()
 }
 
-/// Kinds of certificates are equal where they are the same.
+/// Compares two kinds of certificates: they are equal if and only if they are the same.
 pub fn equal_kinds(one: &Kind, other: &Kind) -> bool
     ensures { IsTrue result ↔ one.now ≡ other.now }
 {

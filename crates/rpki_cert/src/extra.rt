@@ -6,13 +6,13 @@ use bytes::Bytes;
 use rpki_der::Oid;
 use rpki_ext::is_known;
 
-/// An extension that is added to those of a certificate, without the critical flag (RFC 5280 4.1).
+/// An extension to add to a certificate, without the critical flag (RFC 5280 4.1).
 #[derive(Drop)]
 pub struct Extra {
-    /// The place that it stands just before, from 0 on; behind the last where this is the number of
-    /// places.
+    /// The index of the old extension before which it is added, from 0 on; the number of old
+    /// extensions adds it after the last.
     pub at: usize,
-    /// Its identifier.
+    /// Its object identifier.
     pub oid: Oid,
     /// The content of its OCTET STRING.
     pub value: Bytes,

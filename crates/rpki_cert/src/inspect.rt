@@ -13,22 +13,22 @@ use crate::tbs::TbsCert;
 use rpki_ext::{InspectionError, KeyUsage};
 use std::fmt;
 
-/// The kinds of certificates that are told apart in inspection.
+/// The kinds of certificates that inspection distinguishes (RFC 6487 4, RFC 8209 3.1).
 #[derive(Debug, Clone, Copy, PartialEq, Eq)]
 pub enum Kind {
-    /// A trust anchor, which signs itself.
+    /// A trust anchor, which signs itself (RFC 8630 2.3).
     Anchor,
-    /// A CA below another one.
+    /// A CA below another one (RFC 6487 4.8.1).
     Authority,
-    /// An end entity, which signs an object that its certificate names.
+    /// An end entity whose certificate has the URI of the object that it signs (RFC 6487 4.8.8.2).
     EndEntity,
-    /// An end entity that signs any object.
+    /// An end entity that signs any object (own).
     Detached,
-    /// A BGPsec router.
+    /// A BGPsec router (RFC 8209 3.1).
     Router,
 }
 
-/// The kind in words, as `trust anchor`.
+/// Displays the kind in words, as `trust anchor`.
 impl fmt::Display for Kind {
     ghost output = { λ kind. Some (kind_text kind) };
 
@@ -280,9 +280,31 @@ impl Cert {
         Ok(())
     }
 
-    /// Checks that the certificate meets the profile of a trust anchor (RFC 6487 4): a CA that
-    /// names no other key as the one that signs. Borrows the certificate, so that several kinds can
-    /// be asked for. Errs with the first fault, in the order of the profile. Takes no memory.
+    /// Checks that the certificate meets the profile of a trust anchor (RFC 6487 4):
+    ///
+    /// - one signature algorithm in the to-be-signed part and after it (RFC 5280 4.1.1.2)
+    /// - issuer and subject of one CommonName and at most one serialNumber (RFC 6487 4.4, 4.5)
+    /// - an RSA key, with its identifier as Subject Key Identifier (RFC 6487 4.7, 4.8.2)
+    /// - no Extended Key Usage (RFC 6487 4.8.5)
+    /// - Basic Constraints that say CA (RFC 6487 4.8.1), and the Key Usage of CAs (RFC 6487 4.8.4)
+    /// - URIs of a repository and of a manifest directly in it (own), and none of a signed object
+    ///   (RFC 6487 4.8.8)
+    /// - no Authority Key Identifier but its own (RFC 6487 4.8.3)
+    /// - no URIs of a CRL or of the issuer's certificate (RFC 6487 4.8.6, 4.8.7)
+    ///
+    /// In strict mode the names are PrintableStrings, else they may be UTF8Strings too. Borrows the
+    /// certificate, so that several kinds can be tried. Takes no memory.
+    ///
+    /// # Errors
+    ///
+    /// Returns the first fault, in the order of the profile (own).
+    ///
+    /// # Not checked
+    ///
+    /// Whether issuer and subject are one name, whether it lists resources itself
+    /// ([`Cert::verify_ta_at`] rejects inherited ones), the signature, the times, whether the RSA
+    /// key has 2048 bits and the exponent 65537 (`rpki_keys::is_usable`), and the characters of
+    /// names (own).
     pub fn inspect_ta(&self, strict: bool) -> Result<(), InspectionError>
         ensures ok { OnOk result (MeetsProfile Anchor strict self.now) }
         ensures fault { IfErr result (IsFirstFault Anchor strict self.now) }
@@ -290,9 +312,29 @@ impl Cert {
         self.inspect(Kind::Anchor, strict)
     }
 
-    /// Checks that the certificate meets the profile of a CA below another one (RFC 6487 4).
-    /// Borrows the certificate, so that several kinds can be asked for. Errs with the first fault,
-    /// in the order of the profile. Takes no memory.
+    /// Checks that the certificate meets the profile of a CA below another one (RFC 6487 4):
+    ///
+    /// - one signature algorithm in the to-be-signed part and after it (RFC 5280 4.1.1.2)
+    /// - issuer and subject of one CommonName and at most one serialNumber (RFC 6487 4.4, 4.5)
+    /// - an RSA key, with its identifier as Subject Key Identifier (RFC 6487 4.7, 4.8.2)
+    /// - no Extended Key Usage (RFC 6487 4.8.5)
+    /// - Basic Constraints that say CA (RFC 6487 4.8.1), and the Key Usage of CAs (RFC 6487 4.8.4)
+    /// - URIs of a repository and of a manifest directly in it (own), and none of a signed object
+    ///   (RFC 6487 4.8.8)
+    /// - the URI of a CRL (RFC 6487 4.8.6)
+    ///
+    /// In strict mode the names are PrintableStrings, else they may be UTF8Strings too. Borrows the
+    /// certificate, so that several kinds can be tried. Takes no memory.
+    ///
+    /// # Errors
+    ///
+    /// Returns the first fault, in the order of the profile (own).
+    ///
+    /// # Not checked
+    ///
+    /// The Authority Key Identifier and the URI of the issuer's certificate ([`Cert::verify_ca_at`]
+    /// checks them), the signature, the times, whether the RSA key has 2048 bits and the exponent
+    /// 65537 (`rpki_keys::is_usable`), and the characters of names (own).
     pub fn inspect_ca(&self, strict: bool) -> Result<(), InspectionError>
         ensures ok { OnOk result (MeetsProfile Authority strict self.now) }
         ensures fault { IfErr result (IsFirstFault Authority strict self.now) }
@@ -300,9 +342,30 @@ impl Cert {
         self.inspect(Kind::Authority, strict)
     }
 
-    /// Checks that the certificate meets the profile of an end entity whose object the certificate
-    /// names (RFC 6487 4). Borrows the certificate, so that several kinds can be asked for. Errs
-    /// with the first fault, in the order of the profile. Takes no memory.
+    /// Checks that the certificate meets the profile of an end entity whose certificate has the URI
+    /// of the object that it signs (RFC 6487 4):
+    ///
+    /// - one signature algorithm in the to-be-signed part and after it (RFC 5280 4.1.1.2)
+    /// - issuer and subject of one CommonName and at most one serialNumber (RFC 6487 4.4, 4.5)
+    /// - an RSA key, with its identifier as Subject Key Identifier (RFC 6487 4.7, 4.8.2)
+    /// - no Extended Key Usage (RFC 6487 4.8.5)
+    /// - the URI of a CRL (RFC 6487 4.8.6)
+    /// - no Basic Constraints (RFC 6487 4.8.1), and the Key Usage of end entities (RFC 6487 4.8.4)
+    /// - no URIs of a repository or a manifest (RFC 6487 4.8.8.2)
+    /// - the URI of a signed object (RFC 6487 4.8.8.2)
+    ///
+    /// In strict mode the names are PrintableStrings, else they may be UTF8Strings too. Borrows the
+    /// certificate, so that several kinds can be tried. Takes no memory.
+    ///
+    /// # Errors
+    ///
+    /// Returns the first fault, in the order of the profile (own).
+    ///
+    /// # Not checked
+    ///
+    /// The Authority Key Identifier and the URI of the issuer's certificate ([`Cert::verify_ee_at`]
+    /// checks them), the signature, the times, whether the RSA key has 2048 bits and the exponent
+    /// 65537 (`rpki_keys::is_usable`), and the characters of names (own).
     pub fn inspect_ee(&self, strict: bool) -> Result<(), InspectionError>
         ensures ok { OnOk result (MeetsProfile EndEntity strict self.now) }
         ensures fault { IfErr result (IsFirstFault EndEntity strict self.now) }
@@ -310,9 +373,29 @@ impl Cert {
         self.inspect(Kind::EndEntity, strict)
     }
 
-    /// Checks that the certificate meets the profile of an end entity, of which no object needs to
-    /// be named (RFC 6487 4). Borrows the certificate, so that several kinds can be asked for. Errs
-    /// with the first fault, in the order of the profile. Takes no memory.
+    /// Checks that the certificate meets the profile of an end entity whose certificate needs no
+    /// URI of a signed object (RFC 6487 4; own: the URI may be there):
+    ///
+    /// - one signature algorithm in the to-be-signed part and after it (RFC 5280 4.1.1.2)
+    /// - issuer and subject of one CommonName and at most one serialNumber (RFC 6487 4.4, 4.5)
+    /// - an RSA key, with its identifier as Subject Key Identifier (RFC 6487 4.7, 4.8.2)
+    /// - no Extended Key Usage (RFC 6487 4.8.5)
+    /// - the URI of a CRL (RFC 6487 4.8.6)
+    /// - no Basic Constraints (RFC 6487 4.8.1), and the Key Usage of end entities (RFC 6487 4.8.4)
+    /// - no URIs of a repository or a manifest (RFC 6487 4.8.8.2)
+    ///
+    /// In strict mode the names are PrintableStrings, else they may be UTF8Strings too. Borrows the
+    /// certificate, so that several kinds can be tried. Takes no memory.
+    ///
+    /// # Errors
+    ///
+    /// Returns the first fault, in the order of the profile (own).
+    ///
+    /// # Not checked
+    ///
+    /// The Authority Key Identifier and the URI of the issuer's certificate ([`Cert::verify_ee_at`]
+    /// checks them), the signature, the times, whether the RSA key has 2048 bits and the exponent
+    /// 65537 (`rpki_keys::is_usable`), and the characters of names (own).
     pub fn inspect_detached_ee(&self, strict: bool) -> Result<(), InspectionError>
         ensures ok { OnOk result (MeetsProfile Detached strict self.now) }
         ensures fault { IfErr result (IsFirstFault Detached strict self.now) }
@@ -320,9 +403,31 @@ impl Cert {
         self.inspect(Kind::Detached, strict)
     }
 
-    /// Checks that the certificate meets the profile of a BGPsec router (RFC 8209 3.1). Borrows the
-    /// certificate, so that several kinds can be asked for. Errs with the first fault, in the order
-    /// of the profile. Takes no memory.
+    /// Checks that the certificate meets the profile of a BGPsec router (RFC 8209 3.1):
+    ///
+    /// - one signature algorithm in the to-be-signed part and after it (RFC 5280 4.1.1.2)
+    /// - issuer and subject of one CommonName and at most one serialNumber (RFC 6487 4.4, 4.5)
+    /// - a P-256 key, with its identifier as Subject Key Identifier (RFC 8608 3.1, RFC 6487 4.8.2)
+    /// - no Basic Constraints (RFC 8209 3.1.3.1), and the Key Usage of end entities (RFC 6487
+    ///   4.8.4)
+    /// - Extended Key Usage with the purpose of routers (RFC 8209 3.1.3.2)
+    /// - the URI of a CRL (RFC 6487 4.8.6)
+    /// - no URI in Subject Information Access (RFC 8209 3.1.3.3)
+    /// - no IP addresses (RFC 8209 3.1.3.4), and AS numbers that are listed (RFC 8209 3.1.3.5)
+    ///
+    /// In strict mode the issuer's name is of PrintableStrings, else it may be of UTF8Strings too;
+    /// the subject's may in either mode (own). Borrows the certificate, so that several kinds can
+    /// be tried. Takes no memory.
+    ///
+    /// # Errors
+    ///
+    /// Returns the first fault, in the order of the profile (own).
+    ///
+    /// # Not checked
+    ///
+    /// The Authority Key Identifier and the URI of the issuer's certificate
+    /// ([`Cert::verify_router_at`] checks them), the signature, the times, whether the key is a
+    /// point of the curve (`rpki_keys::is_usable`), and the characters of names (own).
     pub fn inspect_router(&self, strict: bool) -> Result<(), InspectionError>
         ensures ok { OnOk result (MeetsProfile Router strict self.now) }
         ensures fault { IfErr result (IsFirstFault Router strict self.now) }

@@ -16,19 +16,19 @@ use rpki_parts::{Signer, SigningError, Verifier};
 use std::alloc::Global;
 use thiserror::Error;
 
-/// Why no certificate was issued: which of the steps failed.
+/// Why no certificate was issued: the step that failed first.
 #[derive(Debug, Drop, Error)]
 pub enum IssueCaError<E> {
-    /// No certificate was made of the fields, or it wasn't signed.
+    /// The certificate wasn't made, or the signer didn't sign it (own).
     #[error("certificate not signed")]
     Signing(SigningError<E>),
-    /// What was made could not be captured.
+    /// The certificate's octets weren't written: memory ran out (own).
     #[error("certificate not captured: {0}")]
     Encode(EncodeError),
-    /// What was captured could not be read again.
+    /// The certificate's octets couldn't be read again (RFC 6487 4).
     #[error("certificate not read again: {0}")]
     Decode(DecodeError),
-    /// What was read again is not valid below the issuer.
+    /// The certificate that was read again isn't valid below the issuer (RFC 6487 7.2).
     #[error("issued certificate not valid: {0}")]
     Validation(ValidationError),
 }
@@ -55,7 +55,7 @@ impl<E> IssueCaError<E> {
         }
     }
 
-    /// Tells whether memory ran out, in whichever step.
+    /// Returns whether memory ran out, in any step.
     pub fn is_memory(&self) -> bool
         ensures { IsTrue result ↔ self.now ≡ Signing signing.Memory
             ⊎ self.now ≡ Encode writing.Memory
@@ -122,11 +122,28 @@ fn make_and_read<S: Signer>(
     }
 }
 
-/// Issues the certificate of a CA with these fields, below this issuer. It makes the certificate
-/// and signs it, captures it, reads it again from its octets, and validates it as
-/// [`Cert::validate_ca_at`] does. Errs with the error of the first of these steps that fails. Only
-/// fields that can be written are issued, and the certificate has exactly these; of such fields
-/// reading again fails by memory alone.
+/// Issues a CA's certificate with these fields below this issuer (RFC 6487 4): makes and signs it,
+/// writes it, reads it again from its octets, and validates it ([`Cert::validate_ca_at`]). Returns
+/// it with the resources that it holds, and exactly these fields.
+///
+/// # Errors
+///
+/// Returns the error of the first step that fails:
+///
+/// - `Signing`: a content would have 2^32 octets or more, or the signer's error
+/// - `Encode`: memory ran out
+/// - `Decode`: the octets don't begin with a certificate: there are no resources, or the IPv4
+///   resources aren't whole IPv4 addresses. Otherwise only memory can run out.
+/// - `Validation`: a fault of the profile, or a check of verification that fails, as a signature
+///   that isn't by the issuer's key
+///
+/// Memory may run out in any step.
+///
+/// # Not checked
+///
+/// Whether the issuer gave the serial number to another certificate too (RFC 6487 4.2), whether the
+/// certificate's issuer is the issuer's subject (`rpki_path::names_chain`), and what
+/// [`Cert::validate_ca_at`] doesn't check.
 pub fn issue_ca<S: Signer, V: Verifier>(
     alloc: Global,
     tbs: TbsCert,

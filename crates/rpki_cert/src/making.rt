@@ -34,9 +34,22 @@ fn subject_or_own(
 }
 
 impl TbsCert {
-    /// Makes the data of a certificate with these fields, the default algorithm, and nothing that
-    /// may be left out. Without a subject it is named after its key (RFC 6487 4.5). The only error
-    /// is `Memory`.
+    /// Makes the fields of a certificate: these, the one signature algorithm of the RPKI, and the
+    /// key's identifier (RFC 6487 4.8.2). Without a subject it is named after its key (RFC 6487
+    /// 4.5).
+    ///
+    /// Everything optional is absent: Basic Constraints, Authority Key Identifier, Extended Key
+    /// Usage, URIs and resources. The setters set them.
+    ///
+    /// # Errors
+    ///
+    /// Returns `Memory` if memory runs out, and no other error.
+    ///
+    /// # Not checked
+    ///
+    /// Whether the issuer gave the serial number to another certificate too (RFC 6487 4.2), whether
+    /// notBefore is before notAfter, the forms of the names (RFC 6487 4.4, 4.5), and the key's
+    /// size.
     pub fn new(
         alloc: Global,
         serial_number: Serial,
@@ -87,10 +100,25 @@ impl TbsCert {
         SignedData::sign(alloc, signer, key, self.signature(), octets)
     }
 
-    /// Makes the certificate with these fields. The signer signs exactly the octets that
-    /// `encode_ref` writes, with the key that `key` names. Whether there are resources isn't
-    /// checked. The signer's error is passed on as it stands. Errs with `TooLong` also where the
-    /// data or the whole certificate would have a content of 2^32 octets or more.
+    /// Makes and signs the certificate with these fields. The signer signs exactly the octets that
+    /// [`TbsCert::encode_ref`] writes, with the key that `key` names. The fields are used up, also
+    /// after an error.
+    ///
+    /// # Errors
+    ///
+    /// - `TooLong`: the content of the TBSCertificate or of the whole certificate would have 2^32
+    ///   octets or more
+    /// - the signer's error, as it is
+    /// - `Memory`: memory ran out
+    ///
+    /// # Not checked
+    ///
+    /// - whether the signature verifies, and whether the key is the issuer's ([`crate::issue_ca`]
+    ///   checks both)
+    /// - the profile of any kind ([`Cert::inspect_ca`] and its siblings check it)
+    /// - whether there are resources, and whether the IPv4 resources are whole IPv4 addresses:
+    ///   otherwise [`Cert::decode`] rejects the certificate
+    /// - what [`TbsCert::new`] doesn't check
     pub fn into_cert<S: Signer>(
         self,
         alloc: Global,

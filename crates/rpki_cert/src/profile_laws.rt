@@ -7,9 +7,9 @@ ghost use Rattle.rpki_cert.specs.Profiles.{MeetsProfile, group};
 ghost use Rattle.rpki_cert.specs.declared.inspect.Kind.{Kind};
 ghost use Rattle.rpki_cert.specs.declared.inspect.Kind.TheVariants.{Anchor, Authority, EndEntity, Detached};
 
-/// Says that at most one of trust anchor, CA, end entity and router is accepted of a certificate,
-/// whichever of them are asked strictly. An end entity whose object is named is accepted as one
-/// whose object isn't.
+/// Says that a certificate meets the profile of at most one of trust anchor, CA, end entity and
+/// router, whichever of them are inspected in strict mode. What meets the profile of an end entity
+/// with the URI of a signed object meets that of a detached end entity.
 pub fn one_kind()
     ensures one { (k l : Kind) (strict other : Bool) (c : CertFields)
         → MeetsProfile k strict c → MeetsProfile l other c → group k ≡ group l }
@@ -17,8 +17,8 @@ pub fn one_kind()
         → MeetsProfile EndEntity strict c → MeetsProfile Detached strict c }
 {}
 
-/// Says that what meets the profile of a trust anchor is a CA, and names no other key than its own
-/// as the one that signs. What meets the profile of a CA is one.
+/// Says that what meets the profile of a trust anchor is a CA, and has no Authority Key Identifier
+/// but its own. What meets the profile of a CA is a CA.
 pub fn authorities()
     ensures anchor { (strict : Bool) (c : CertFields)
         → MeetsProfile Anchor strict c → c.fields.extensions.basic_ca ≡ Some true }

@@ -8,19 +8,20 @@ use thiserror::Error;
 /// Why a certificate isn't rearranged (own).
 #[derive(Debug, Drop, Error)]
 pub enum RearrangeError {
-    /// No beginning of the octets is a certificate.
+    /// The octets begin with no certificate (RFC 6487 4).
     #[error("no certificate")]
     NoCertificate,
-    /// The order doesn't name each extension once, or an extension is to be added behind a place
-    /// that isn't there.
+    /// The order doesn't name each extension once, or an extension is to be added after an index
+    /// that doesn't exist (own).
     #[error("not an order of the extensions")]
     NotAnOrder,
-    /// An extension to be added is of a kind that readers know.
+    /// An extension to add is of a known kind (own).
     #[error("added extension of a known kind")]
     KnownExtra,
-    /// A content would have 2^32 octets or more.
+    /// A content would have 2^32 octets or more (own).
     #[error("content too long")]
     TooLong,
+    /// Memory ran out (own).
     #[error("out of memory")]
     Memory,
 }
@@ -43,7 +44,7 @@ impl RearrangeError {
         }
     }
 
-    /// Tells whether memory ran out.
+    /// Returns whether memory ran out.
     pub fn is_memory(&self) -> bool
         ensures { IsTrue result ↔ self.now ≡ error.Memory }
     {

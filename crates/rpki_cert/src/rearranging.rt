@@ -81,14 +81,24 @@ fn make(
     Ok(answer)
 }
 
-/// Rearranges the extensions of the certificate that the octets begin with, and adds others among
-/// them: at each place stands the old extension that the order names, just before it those that are
-/// added there, and last those that are added behind the last. Enclosing lengths are restated, the
-/// signature's value stays, and what followed the certificate is dropped (own). Errs with the first
-/// of these that holds: `NoCertificate` where no beginning of the octets is a certificate,
-/// `NotAnOrder` where the order doesn't name each extension once or an added one is to stand behind
-/// a place that isn't there, `KnownExtra` where an added one is of a kind that readers know,
-/// `TooLong` where a content would have 2^32 octets or more; or with `Memory`.
+/// Rearranges the extensions of the certificate that the octets begin with, and adds others (own).
+/// At each index is the old extension that the order names; extensions to add come just before the
+/// index that they name, or after the last. Enclosing lengths are adjusted, and the signature's
+/// value stays. What followed the certificate is dropped.
+///
+/// # Errors
+///
+/// Returns the first of these errors whose condition holds, or `Memory`:
+///
+/// - `NoCertificate`: the octets begin with no certificate
+/// - `NotAnOrder`: the order doesn't name each extension once, or an extension is to be added after
+///   an index that doesn't exist
+/// - `KnownExtra`: an extension to add is of a known kind
+/// - `TooLong`: a content would have 2^32 octets or more
+///
+/// # Not checked
+///
+/// Whether the signature verifies: other octets are signed now.
 pub fn rearrange(
     alloc: Global,
     octets: &[u8],

@@ -48,8 +48,16 @@ impl Sets {
     }
 }
 
-/// A certificate that was verified, with the numbers that it has once what it inherits is resolved
-/// (RFC 6487 7.2).
+/// A verified certificate with the resources that it holds: those that it lists, or inherits of its
+/// issuer's (RFC 6487 7.2). Under the policy of RFC 8360 they are trimmed to the issuer's.
+///
+/// It is what the calls `validate_..` and `verify_..` of [`Cert`] return, and the issuer in such
+/// calls below it.
+///
+/// # Not checked
+///
+/// The profile, if it was made by a call `verify_..`; whether it is still valid at a later time,
+/// and whether it is revoked.
 #[derive(Drop)]
 pub struct ResourceCert {
     pub(crate) cert: Cert,
@@ -75,35 +83,36 @@ impl ResourceCert {
         &self.cert
     }
 
-    /// Returns the IPv4 addresses.
+    /// Returns the IPv4 addresses that the certificate holds.
     pub fn v4_resources(&self) -> &IpBlocks
         ensures { result.now ≡ self.now.v4 }
     {
         self.sets.v4.set(self.cert.as_tbs().v4_resources())
     }
 
-    /// Returns the IPv6 addresses.
+    /// Returns the IPv6 addresses that the certificate holds.
     pub fn v6_resources(&self) -> &IpBlocks
         ensures { result.now ≡ self.now.v6 }
     {
         self.sets.v6.set(self.cert.as_tbs().v6_resources())
     }
 
-    /// Returns the AS numbers.
+    /// Returns the AS numbers that the certificate holds.
     pub fn as_resources(&self) -> &AsBlocks
         ensures { result.now ≡ self.now.as_numbers }
     {
         self.sets.as_numbers.set(self.cert.as_tbs().as_resources())
     }
 
-    /// Returns the trust anchor locator by which the path begins.
+    /// Returns the name of the TAL with which the path begins: the one that was passed with the
+    /// trust anchor.
     pub fn tal(&self) -> &Rc<TalInfo>
         ensures { rc_value result.now ≡ self.now.tal }
     {
         &self.tal
     }
 
-    /// Returns the locator, and lets certificate and sets go.
+    /// Returns the TAL's name, and drops the certificate and its resources.
     pub fn into_tal(self) -> Rc<TalInfo>
         ensures { rc_value result ≡ self.tal }
     {
@@ -123,7 +132,7 @@ impl ResourceCert {
         Ok(Kept { sets, tal })
     }
 
-    /// Clones the certificate and its numbers. The locator is shared.
+    /// Clones the certificate and its resources. The TAL's name is shared.
     pub fn try_clone(&self, alloc: Global) -> Result<ResourceCert, AllocError>
         ensures { IfOk result (λ r. r ≡ self.now) }
     {

@@ -12,9 +12,12 @@ use crate::laws;
 use rpki_der::EncodeError;
 use std::alloc::Global;
 
-/// Writes a certificate that `into_cert` made, and reads it again: it is the same, its fields too,
-/// where at least one kind of resources is there and what stands as IPv4 are whole IPv4 addresses.
-/// The only error is `Memory`.
+/// Writes a certificate that `into_cert` made, and reads it again: it is the same, with its fields,
+/// if at least one kind of resources is there and the IPv4 resources are whole IPv4 addresses.
+///
+/// # Errors
+///
+/// Returns `Memory` if memory runs out, and no other error.
 pub fn read_again(alloc: Global, made: &Cert) -> Result<Cert, EncodeError>
     requires written { Fits made.now.fields }
     requires message { made.now.signed_data.message ≡ encoding made.now.fields }

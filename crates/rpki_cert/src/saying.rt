@@ -18,9 +18,13 @@ fn has_router_purpose(tbs: &TbsCert) -> bool
     }
 }
 
-/// Returns whether the certificate says that it is a BGPsec router's, be it of the profile or not:
-/// it names the purpose of routers, or it has a key on a curve, which only routers have (RFC 8209
-/// 3.1, RFC 8608), and says neither that it is a CA nor that it signs an object.
+/// Returns whether the certificate says that it is a BGPsec router's: it has the purpose of routers
+/// (RFC 8209 3.1.3.2); or it has a P-256 key (RFC 8608), doesn't say that it is a CA, and has no
+/// URI of a signed object (own).
+///
+/// # Not checked
+///
+/// The profile of routers ([`Cert::inspect_router`]).
 pub fn is_router(tbs: &TbsCert) -> bool
     ensures { IsTrue result ↔ SaysRouter tbs.now }
 {
@@ -33,7 +37,13 @@ pub fn is_router(tbs: &TbsCert) -> bool
     }
 }
 
-/// Returns the kind that the certificate says that it is of, below a trust anchor.
+/// Returns the kind that the certificate says that it is of, below a trust anchor (own): router,
+/// CA, end entity with the URI of a signed object, or else detached end entity. It is never
+/// [`Kind::Anchor`].
+///
+/// # Not checked
+///
+/// The profile of that kind, and the signature.
 pub fn said_kind(tbs: &TbsCert) -> Kind
     ensures { SaysKind result tbs.now }
 {
@@ -48,8 +58,12 @@ pub fn said_kind(tbs: &TbsCert) -> Kind
     }
 }
 
-/// Returns what the certificate is: a trust anchor where it meets the profile of one, and else what
-/// it says that it is.
+/// Returns the certificate's kind: [`Kind::Anchor`] if it meets the profile of a trust anchor, else
+/// [`said_kind`] (own).
+///
+/// # Not checked
+///
+/// The signature, and the profile of any kind but the trust anchor's.
 pub fn kind_of(cert: &Cert, strict: bool) -> Kind
     ensures { IsKindOf result strict cert.now }
 {
@@ -59,19 +73,20 @@ pub fn kind_of(cert: &Cert, strict: bool) -> Kind
     }
 }
 
-/// What a certificate says of its place among others.
+/// What a certificate says of its place among others: its kind and two key identifiers (RFC 5280
+/// 4.2.1.1).
 #[derive(Clone, Copy)]
 pub struct Said {
-    /// The kind that it says that it is of, below a trust anchor.
+    /// The kind that it says that it is of, below a trust anchor ([`said_kind`]).
     pub kind: Kind,
-    /// The identifier of its own key.
+    /// Its Subject Key Identifier.
     pub key: KeyIdentifier,
-    /// That of the key that it names as the one that signs it.
+    /// Its Authority Key Identifier, if it has one.
     pub signer: Option<KeyIdentifier>,
 }
 
 impl Said {
-    /// Returns what the certificate says.
+    /// Returns what the certificate says. Nothing of it is checked.
     pub fn of(cert: &Cert) -> Said
         ensures { IsSaid result cert.now.fields }
     {

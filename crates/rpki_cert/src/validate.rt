@@ -49,9 +49,22 @@ impl Cert {
         Ok(cert.verify_ca_at(alloc, issuer, strict, now, verifier)?)
     }
 
-    /// Uses the certificate up, also where it is rejected, and validates it as a trust anchor:
-    /// inspects it as one, then verifies it as [`Cert::verify_ta_at`] does. [`Cert::inspect_ta`]
-    /// and its siblings borrow, so that several kinds can be asked for first.
+    /// Validates the certificate as a trust anchor: inspects it ([`Cert::inspect_ta`]), then
+    /// verifies it ([`Cert::verify_ta_at`]). Returns it with the resources that it lists.
+    ///
+    /// The certificate is used up, also if it is rejected. [`Cert::inspect_ta`] and its siblings
+    /// borrow, so that several kinds can be tried first.
+    ///
+    /// # Errors
+    ///
+    /// Returns `Inspection` with the first fault of the profile; or, if there is none,
+    /// `Verification` with the first check that fails, or with `Memory`.
+    ///
+    /// # Not checked
+    ///
+    /// Whether the certificate has the TAL's key (`tal` is the TAL's name only; `Tal::has_key`
+    /// checks it), whether its issuer is its own subject (`rpki_path::is_self_named`), and whether
+    /// it lists any resources (RFC 8630 2.3; `rpki_path::lists_numbers`).
     pub fn validate_ta_at<V: Verifier>(
         self,
         alloc: Global,
@@ -69,9 +82,22 @@ impl Cert {
         Ok(cert.verify_ta_at(alloc, tal, strict, now, verifier)?)
     }
 
-    /// Uses the certificate up, also where it is rejected, and validates it as one of a CA below
-    /// this issuer: inspects it as one, then verifies it as [`Cert::verify_ca_at`] does.
-    /// [`Cert::inspect_ca`] and its siblings borrow, so that several kinds can be asked for first.
+    /// Validates the certificate as a CA below this issuer: inspects it ([`Cert::inspect_ca`]),
+    /// then verifies it ([`Cert::verify_ca_at`]). Returns it with the resources that it holds.
+    ///
+    /// The certificate is used up, also if it is rejected. [`Cert::inspect_ca`] and its siblings
+    /// borrow, so that several kinds can be tried first.
+    ///
+    /// # Errors
+    ///
+    /// Returns `Inspection` with the first fault of the profile; or, if there is none,
+    /// `Verification` with the first check that fails, or with `Memory`.
+    ///
+    /// # Not checked
+    ///
+    /// Whether the certificate is revoked, whether names chain, whether the issuer is a CA and
+    /// still valid, whether the subject's key has 2048 bits (`rpki_keys::is_usable`), and whether
+    /// the URIs lead to the issuer's CRL and certificate (own).
     pub fn validate_ca_at<V: Verifier>(
         self,
         alloc: Global,
@@ -88,10 +114,24 @@ impl Cert {
         self.validate_issued_at(alloc, issuer, Kind::Authority, strict, now, verifier)
     }
 
-    /// Uses the certificate up, also where it is rejected, and validates it as one of an end entity
-    /// whose object is named, below this issuer: inspects it as one, then verifies it as
-    /// [`Cert::verify_ee_at`] does. [`Cert::inspect_ee`] and its siblings borrow, so that several
-    /// kinds can be asked for first.
+    /// Validates the certificate as an end entity below this issuer, with the URI of the object
+    /// that it signs: inspects it ([`Cert::inspect_ee`]), then verifies it
+    /// ([`Cert::verify_ee_at`]). Returns it with the resources that it holds.
+    ///
+    /// The certificate is used up, also if it is rejected. [`Cert::inspect_ee`] and its siblings
+    /// borrow, so that several kinds can be tried first.
+    ///
+    /// # Errors
+    ///
+    /// Returns `Inspection` with the first fault of the profile; or, if there is none,
+    /// `Verification` with the first check that fails, or with `Memory`.
+    ///
+    /// # Not checked
+    ///
+    /// Whether the certificate is revoked, whether names chain, whether the issuer is a CA and
+    /// still valid, whether the subject's key has 2048 bits (`rpki_keys::is_usable`), whether the
+    /// object has the URI that the certificate names, and whether the other URIs lead to the
+    /// issuer's CRL and certificate (own).
     pub fn validate_ee_at<V: Verifier>(
         self,
         alloc: Global,
@@ -108,10 +148,23 @@ impl Cert {
         self.validate_issued_at(alloc, issuer, Kind::EndEntity, strict, now, verifier)
     }
 
-    /// Uses the certificate up, also where it is rejected, and validates it as one of an end
-    /// entity, of which no object needs to be named, below this issuer: inspects it as one, then
-    /// verifies it as [`Cert::verify_ee_at`] does. [`Cert::inspect_detached_ee`] and its siblings
-    /// borrow, so that several kinds can be asked for first.
+    /// Validates the certificate as an end entity below this issuer, of which no URI of an object
+    /// is required: inspects it ([`Cert::inspect_detached_ee`]), then verifies it
+    /// ([`Cert::verify_ee_at`]). Returns it with the resources that it holds.
+    ///
+    /// The certificate is used up, also if it is rejected. [`Cert::inspect_detached_ee`] and its
+    /// siblings borrow, so that several kinds can be tried first.
+    ///
+    /// # Errors
+    ///
+    /// Returns `Inspection` with the first fault of the profile; or, if there is none,
+    /// `Verification` with the first check that fails, or with `Memory`.
+    ///
+    /// # Not checked
+    ///
+    /// Whether the certificate is revoked, whether names chain, whether the issuer is a CA and
+    /// still valid, whether the subject's key has 2048 bits (`rpki_keys::is_usable`), and whether
+    /// the URIs lead to the issuer's CRL and certificate (own).
     pub fn validate_detached_ee_at<V: Verifier>(
         self,
         alloc: Global,
@@ -128,8 +181,20 @@ impl Cert {
         self.validate_issued_at(alloc, issuer, Kind::Detached, strict, now, verifier)
     }
 
-    /// Validates the certificate as one of a router below this issuer: inspects it as one, then
-    /// verifies it as [`Cert::verify_router_at`] does. Takes no memory.
+    /// Validates the certificate as a router's below this issuer: inspects it
+    /// ([`Cert::inspect_router`]), then verifies it ([`Cert::verify_router_at`]). Borrows the
+    /// certificate. Takes no memory.
+    ///
+    /// # Errors
+    ///
+    /// Returns `Inspection` with the first fault of the profile; or, if there is none,
+    /// `Verification` with the first check that fails.
+    ///
+    /// # Not checked
+    ///
+    /// Whether the certificate is revoked, whether names chain, whether the issuer is a CA and
+    /// still valid, whether the key is a point of the curve (`rpki_keys::is_usable`), and whether
+    /// the URIs lead to the issuer's CRL and certificate (own).
     pub fn validate_router_at<V: Verifier>(
         &self,
         issuer: &ResourceCert,

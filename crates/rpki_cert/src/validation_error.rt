@@ -5,13 +5,14 @@ use crate::verification_error::VerificationError;
 use rpki_ext::InspectionError;
 use thiserror::Error;
 
-/// Why a certificate isn't valid: it isn't of its kind, or it isn't verified.
+/// Why a certificate isn't valid: it doesn't meet the profile of its kind, or isn't verified (RFC
+/// 6487 7.2).
 #[derive(Debug, Drop, Error)]
 pub enum ValidationError {
-    /// It doesn't meet the profile of its kind.
+    /// It doesn't meet the profile of its kind (RFC 6487 4, RFC 8209 3.1).
     #[error("{0}")]
     Inspection(InspectionError),
-    /// It meets the profile, but a check of verification fails.
+    /// It meets the profile, but a check of verification fails (RFC 6487 7.2).
     #[error("{0}")]
     Verification(VerificationError),
 }
@@ -32,7 +33,7 @@ impl ValidationError {
         }
     }
 
-    /// Tells whether memory ran out.
+    /// Returns whether memory ran out.
     pub fn is_memory(&self) -> bool
         ensures { IsTrue result ↔ self.now ≡ Verification Memory }
     {

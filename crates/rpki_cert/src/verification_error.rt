@@ -5,40 +5,49 @@ use rpki_parts::{SignatureVerificationError, ValidityError};
 use std::alloc::AllocError;
 use thiserror::Error;
 
-/// Why a certificate isn't verified (RFC 6487 7.2).
+/// Why a certificate isn't verified (RFC 6487 7.2). The order of the checks is own.
 #[derive(Debug, Drop, Error)]
 pub enum VerificationError {
+    /// The validation time is before notBefore (RFC 6487 4.6, RFC 5280 4.1.2.5).
     #[error("certificate not yet valid")]
     NotYetValid,
+    /// The validation time is after notAfter (RFC 6487 4.6, RFC 5280 4.1.2.5).
     #[error("certificate expired")]
     Expired,
-    /// A trust anchor inherits IPv4 addresses.
+    /// A trust anchor inherits IPv4 addresses (RFC 8630 2.3).
     #[error("inherited IPv4 resources")]
     InheritedV4,
-    /// A trust anchor inherits IPv6 addresses.
+    /// A trust anchor inherits IPv6 addresses (RFC 8630 2.3).
     #[error("inherited IPv6 resources")]
     InheritedV6,
-    /// A trust anchor inherits AS numbers.
+    /// A trust anchor inherits AS numbers (RFC 8630 2.3).
     #[error("inherited AS resources")]
     InheritedAs,
+    /// The Authority Key Identifier is absent (RFC 6487 4.8.3).
     #[error("missing authority key identifier")]
     MissingKeyId,
-    /// The authority key identifier is not the issuer's subject key identifier.
+    /// The Authority Key Identifier is not the issuer's Subject Key Identifier (RFC 6487 4.8.3).
     #[error("wrong authority key identifier")]
     WrongKeyId,
+    /// The URI of the issuer's certificate is absent (RFC 6487 4.8.7).
     #[error("missing URI of the issuer's certificate")]
     MissingIssuerUri,
+    /// The issuer's key didn't sign the certificate (RFC 6487 7.2).
     #[error("bad signature")]
     BadSignature,
-    /// It lists IPv4 addresses that the issuer doesn't have, and its policy rejects that.
+    /// It lists IPv4 addresses that the issuer doesn't hold, and its policy isn't that of RFC 8360
+    /// (RFC 6487 7.2).
     #[error("overclaimed IPv4 resources")]
     OverclaimV4,
-    /// It lists IPv6 addresses that the issuer doesn't have, and its policy rejects that.
+    /// It lists IPv6 addresses that the issuer doesn't hold, and its policy isn't that of RFC 8360
+    /// (RFC 6487 7.2).
     #[error("overclaimed IPv6 resources")]
     OverclaimV6,
-    /// It lists AS numbers that the issuer doesn't have, and its policy rejects that.
+    /// It lists AS numbers that the issuer doesn't hold, and its policy isn't that of RFC 8360 (RFC
+    /// 6487 7.2).
     #[error("overclaimed AS resources")]
     OverclaimAs,
+    /// Memory ran out, which says nothing of the certificate (own).
     #[error("out of memory")]
     Memory,
 }
@@ -69,7 +78,7 @@ impl VerificationError {
         }
     }
 
-    /// Tells whether memory ran out.
+    /// Returns whether memory ran out.
     pub fn is_memory(&self) -> bool
         ensures { IsTrue result ↔ self.now ≡ error.Memory }
     {

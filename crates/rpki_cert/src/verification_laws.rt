@@ -12,7 +12,8 @@ ghost use Rattle.rpki_cert.specs.declared.verification_error.VerificationError.{
 
 use rpki_parts::Verifier;
 
-/// Says that below an issuer a certificate has only numbers that the issuer has (RFC 6487 7.2).
+/// Says that a certificate below an issuer holds only resources that the issuer holds (RFC 6487
+/// 7.2).
 pub fn issued_are_held()
     ensures v4 { (c : CertFields) (issuer r : ResourceFields)
         → HasIssued c issuer r → AreIn r.v4 issuer.v4 }
@@ -22,9 +23,9 @@ pub fn issued_are_held()
         → HasIssued c issuer r → AreIn r.as_numbers issuer.as_numbers }
 {}
 
-/// Says that two calls answer alike of one certificate in one context, out of memory aside:
+/// Says that two calls return one answer for one certificate in one context, but for memory:
 /// `Cert::verify_ca_at` and `Cert::verify_ee_at` below one issuer are both Ok, or both Err with one
-/// error (`issued`), and `Cert::verify_ta_at` accepts a trust anchor exactly where
+/// error (`issued`), and `Cert::verify_ta_at` accepts a trust anchor if and only if
 /// `Cert::verify_ta_ref_at` does, else with its error (`anchors`). The premises are what the calls
 /// promise of their checks.
 pub fn one_verdict<V: Verifier>()
@@ -40,9 +41,9 @@ pub fn one_verdict<V: Verifier>()
         → TestsOrMemory (TrustAnchorCheck x c) trust_anchor_checks s → IsAnswerOrMemory r s }
 {}
 
-/// Says that what is verified has one result: two that are issued of one issuer for one certificate
-/// are equal, and so are two of one trust anchor with one locator. The premises are the clauses
-/// `gives` of the calls, and that of `Chain::iter` on each set (`HasSets`).
+/// Says that verification has one result: two results for one certificate below one issuer are
+/// equal, and so are two results for one trust anchor with one TAL's name. The premises are the
+/// clauses `gives` of the calls, and that of `Chain::iter` on each set (`HasSets`).
 pub fn one_result()
     ensures issued { (c : CertFields) (issuer r s : ResourceFields)
         → HasIssued c issuer r → HasIssued c issuer s → HasSets r → HasSets s → r ≡ s }

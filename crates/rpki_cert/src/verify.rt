@@ -152,9 +152,22 @@ impl Cert {
         Ok(())
     }
 
-    /// Checks that the certificate is one of a trust anchor: it is valid at this moment, inherits
-    /// nothing, and its own key signed it. Errs with the first of these checks that fails. Takes no
-    /// memory.
+    /// Verifies the certificate as a trust anchor: it is valid at this time, inherits no resources,
+    /// and its own key signed it (RFC 6487 7.2, RFC 8630 2.3). Borrows the certificate. Takes no
+    /// memory. The mode changes nothing.
+    ///
+    /// # Errors
+    ///
+    /// Returns the first of these errors whose condition holds:
+    ///
+    /// - `NotYetValid`, `Expired`: the validation time is before notBefore, or after notAfter
+    /// - `InheritedV4`, `InheritedV6`, `InheritedAs`: it inherits resources
+    /// - `BadSignature`: its own key didn't sign it
+    ///
+    /// # Not checked
+    ///
+    /// The profile ([`Cert::inspect_ta`]), the TAL's key, whether its issuer is its own subject,
+    /// and whether it lists any resources (RFC 8630 2.3).
     pub fn verify_ta_ref_at<V: Verifier>(
         &self,
         strict: bool,
@@ -170,10 +183,27 @@ impl Cert {
         Ok(())
     }
 
-    /// Checks that the certificate is one of a router below this issuer: it is valid at this
-    /// moment, names the issuer's key and where the issuer's certificate is, the issuer's key
-    /// signed it, and it doesn't overclaim AS numbers. Errs with the first of these checks that
-    /// fails. Takes no memory.
+    /// Verifies the certificate as a router's below this issuer: it is valid at this time, names
+    /// the issuer's key, has a URI of the issuer's certificate, is signed by the issuer's key, and
+    /// doesn't overclaim AS numbers (RFC 6487 7.2, RFC 8209 3.3). Borrows the certificate. Takes no
+    /// memory. The mode changes nothing.
+    ///
+    /// # Errors
+    ///
+    /// Returns the first of these errors whose condition holds:
+    ///
+    /// - `NotYetValid`, `Expired`: the validation time is before notBefore, or after notAfter
+    /// - `MissingKeyId`, `WrongKeyId`: the Authority Key Identifier is absent, or isn't the
+    ///   issuer's Subject Key Identifier
+    /// - `MissingIssuerUri`: the URI of the issuer's certificate is absent
+    /// - `BadSignature`: the issuer's key didn't sign the certificate
+    /// - `OverclaimAs`: it lists AS numbers that the issuer doesn't hold, and its policy isn't that
+    ///   of RFC 8360, which trims them
+    ///
+    /// # Not checked
+    ///
+    /// The profile ([`Cert::inspect_router`]), IP addresses (the profile has none), and what
+    /// [`Cert::validate_router_at`] doesn't check.
     pub fn verify_router_at<V: Verifier>(
         &self,
         issuer: &ResourceCert,
@@ -193,7 +223,16 @@ impl Cert {
         }
     }
 
-    /// Checks that the certificate is valid at this moment. Takes no memory.
+    /// Checks that the certificate is valid at this time: both notBefore and notAfter belong to the
+    /// period (RFC 5280 4.1.2.5). Takes no memory.
+    ///
+    /// # Errors
+    ///
+    /// Returns `NotYetValid` before notBefore, and `Expired` after notAfter.
+    ///
+    /// # Not checked
+    ///
+    /// The current time: `now` is the caller's.
     pub fn verify_validity(&self, now: Time) -> Result<(), VerificationError>
         ensures { Tests (TimeCheck now self.now) validity_checks result }
     {
@@ -201,8 +240,18 @@ impl Cert {
         Ok(())
     }
 
-    /// Checks that the certificate names the issuer's key as the one that signs it, and where the
-    /// issuer's certificate is. The mode changes nothing. Takes no memory.
+    /// Checks that the certificate names the issuer's key as the one that signs it (RFC 6487
+    /// 4.8.3), and has a URI of the issuer's certificate (RFC 6487 4.8.7). The mode changes
+    /// nothing. Takes no memory.
+    ///
+    /// # Errors
+    ///
+    /// Returns `MissingKeyId`, `WrongKeyId` or `MissingIssuerUri`, the first whose condition holds.
+    ///
+    /// # Not checked
+    ///
+    /// Whether the issuer's certificate is found under that URI, whether names chain, and the
+    /// signature.
     pub fn verify_issuer_claim(
         &self,
         issuer: &ResourceCert,
@@ -223,8 +272,17 @@ impl Cert {
         Ok(())
     }
 
-    /// Checks that the issuer's key signed the certificate, as the verifier answers of the octets
-    /// that are kept. The mode changes nothing. Takes no memory.
+    /// Checks that the issuer's key signed the certificate, by the verifier's answer on the
+    /// to-be-signed part as it is kept. The mode changes nothing. Takes no memory.
+    ///
+    /// # Errors
+    ///
+    /// Returns an error if the verifier says that the key didn't sign it.
+    ///
+    /// # Not checked
+    ///
+    /// Everything else. With `rpki_keys::RsaVerifier` only RSA keys of 2048 bits with the exponent
+    /// 65537 have valid signatures.
     pub fn verify_signature<V: Verifier>(
         &self,
         issuer: &Cert,

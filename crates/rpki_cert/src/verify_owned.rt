@@ -49,12 +49,32 @@ impl Cert {
         Ok(Kept { sets, tal })
     }
 
-    /// Uses the certificate up, also where it is rejected, and verifies it as one of a CA below
-    /// this issuer: it is valid at this moment, names the issuer's key and where the issuer's
-    /// certificate is, the issuer's key signed it, and it overclaims nothing (RFC 6487 7.2). The
-    /// result has what the certificate lists or inherits of the issuer's numbers. Errs with the
-    /// first of these checks that fails. [`Cert::inspect_ca`] and its siblings borrow, so that
-    /// several kinds can be asked for first.
+    /// Verifies the certificate as a CA's below this issuer: it is valid at this time, names the
+    /// issuer's key, has a URI of the issuer's certificate, is signed by the issuer's key, and
+    /// doesn't overclaim (RFC 6487 7.2). Returns it with the resources that it holds: what it lists
+    /// or inherits of the issuer's.
+    ///
+    /// The certificate is used up, also if it is rejected. [`Cert::inspect_ca`] and its siblings
+    /// borrow, so that several kinds can be tried first. The mode changes nothing.
+    ///
+    /// # Errors
+    ///
+    /// Returns the first of these errors whose condition holds:
+    ///
+    /// - `NotYetValid`, `Expired`: the validation time is before notBefore, or after notAfter
+    /// - `MissingKeyId`, `WrongKeyId`: the Authority Key Identifier is absent, or isn't the
+    ///   issuer's Subject Key Identifier
+    /// - `MissingIssuerUri`: the URI of the issuer's certificate is absent
+    /// - `BadSignature`: the issuer's key didn't sign the certificate
+    /// - `OverclaimV4`, `OverclaimV6`, `OverclaimAs`: it lists resources that the issuer doesn't
+    ///   hold, and its policy isn't that of RFC 8360, which trims them
+    ///
+    /// Returns `Memory` if memory runs out.
+    ///
+    /// # Not checked
+    ///
+    /// The profile ([`Cert::validate_ca_at`] checks it too): an end entity's certificate passes.
+    /// Nor what [`Cert::validate_ca_at`] doesn't check.
     pub fn verify_ca_at<V: Verifier>(
         self,
         alloc: Global,
@@ -72,9 +92,20 @@ impl Cert {
         Ok(joined(cert, kept))
     }
 
-    /// Uses the certificate up, also where it is rejected, and verifies it as one of an end entity
-    /// below this issuer. The checks are those of [`Cert::verify_ca_at`]. [`Cert::inspect_ee`] and
-    /// its siblings borrow, so that several kinds can be asked for first.
+    /// Verifies the certificate as an end entity's below this issuer, with the checks of
+    /// [`Cert::verify_ca_at`]. Returns it with the resources that it holds.
+    ///
+    /// The certificate is used up, also if it is rejected. [`Cert::inspect_ee`] and its siblings
+    /// borrow, so that several kinds can be tried first.
+    ///
+    /// # Errors
+    ///
+    /// As [`Cert::verify_ca_at`].
+    ///
+    /// # Not checked
+    ///
+    /// The profile ([`Cert::validate_ee_at`] checks it too): a CA's certificate passes. Nor what
+    /// [`Cert::validate_ee_at`] doesn't check.
     pub fn verify_ee_at<V: Verifier>(
         self,
         alloc: Global,
@@ -90,11 +121,28 @@ impl Cert {
         self.verify_ca_at(alloc, issuer, strict, now, verifier)
     }
 
-    /// Uses the certificate up, also where it is rejected, and verifies it as one of a trust anchor
-    /// that a locator names: it is valid at this moment, inherits nothing, and its own key signed
-    /// it (RFC 6487 7.2). The result has what the certificate lists. Errs with the first of these
-    /// checks that fails. [`Cert::verify_ta_ref_at`] borrows. [`Cert::inspect_ta`] and its siblings
-    /// borrow, so that several kinds can be asked for first.
+    /// Verifies the certificate as a trust anchor: it is valid at this time, inherits no resources,
+    /// and its own key signed it (RFC 6487 7.2, RFC 8630 2.3). Returns it with the resources that
+    /// it lists.
+    ///
+    /// The certificate is used up, also if it is rejected. [`Cert::verify_ta_ref_at`] borrows, as
+    /// do [`Cert::inspect_ta`] and its siblings, so that several kinds can be tried first. The mode
+    /// changes nothing.
+    ///
+    /// # Errors
+    ///
+    /// Returns the first of these errors whose condition holds:
+    ///
+    /// - `NotYetValid`, `Expired`: the validation time is before notBefore, or after notAfter
+    /// - `InheritedV4`, `InheritedV6`, `InheritedAs`: it inherits resources
+    /// - `BadSignature`: its own key didn't sign it
+    ///
+    /// Returns `Memory` if memory runs out.
+    ///
+    /// # Not checked
+    ///
+    /// The profile ([`Cert::validate_ta_at`] checks it too), and what [`Cert::validate_ta_at`]
+    /// doesn't check: the TAL's key above all, since `tal` is the TAL's name only.
     pub fn verify_ta_at<V: Verifier>(
         self,
         alloc: Global,

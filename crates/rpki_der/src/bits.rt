@@ -45,8 +45,15 @@ impl<'a> Cursor<'a> {
         Ok((unused, octets))
     }
 
-    /// Reads the BIT STRING that must stand next (X.690 8.6). Returns how many bits are unused at
-    /// its end, and a cursor over its octets. The unused bits are 0 (X.690 11.2.1).
+    /// Reads the next value, which must be a BIT STRING (X.690 8.6). Returns how many bits are
+    /// unused at its end, from 0 to 7, and a cursor over its bytes. The unused bits are 0 (X.690
+    /// 11.2.1).
+    ///
+    /// # Errors
+    ///
+    /// Returns an error as [`Cursor::take_value`] does. Returns `BadValue` if the content is empty,
+    /// if more than 7 bits are unused, if bits are unused although there is no byte, or if an
+    /// unused bit is 1.
     #[tactic(auto, using(crate::proofs::FormatAnswers::answers_lawful, crate::proofs::BasicFormats::bit_string_lawful))]
     #[inline(always)]
     pub fn take_bits(&mut self) -> Result<(u8, Cursor<'a>), DecodeError>

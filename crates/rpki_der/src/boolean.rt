@@ -54,8 +54,13 @@ impl<'a> Cursor<'a> {
         }
     }
 
-    /// Reads the BOOLEAN that stands next (X.690 8.2, 11.1). Returns false at the end and before
-    /// another identifier. An explicit false is read too (own).
+    /// Reads the next value if it is a BOOLEAN (X.690 8.2, 11.1). Returns false at the end and
+    /// before another identifier octet. Accepts an explicit false (own).
+    ///
+    /// # Errors
+    ///
+    /// Returns `Truncated` or `BadLength` as [`Cursor::take_value`] does. Returns `BadValue` if the
+    /// content is neither `00` nor `FF`.
     #[inline(always)]
     pub fn take_bool_or_false(&mut self) -> Result<bool, DecodeError>
         ensures { AnswersOrAbsent BOOLEAN boolean_default_false self.old result self.new }

@@ -1,4 +1,5 @@
-//! What copies, equality, order and hashes of values promise, each in a function that only asks.
+//! Copies, equality, order and hashes of values. Each function calls one of them and promises its
+//! result.
 
 ghost use Rattle.std.specs.Prelude.{◌≡◌, ◌↔◌, IsTrue, IsOkAnd};
 ghost use Rattle.std.specs.Ordering.{nat_cmp};
@@ -13,28 +14,28 @@ use std::alloc::AllocError;
 use std::cmp::Ordering;
 use std::hash::{Hash, Hasher};
 
-/// Clones a serial. The copy has its number.
+/// Clones a serial number. The copy is the same number.
 pub fn copied_serial(serial: &Serial) -> Result<Serial, AllocError>
     ensures { IsOkAnd result (λ copy. copy ≡ serial.now) }
 {
     serial.clone()
 }
 
-/// Compares serials: they are equal where their numbers are.
+/// Compares serial numbers: they are equal if and only if they are the same number.
 pub fn equal_serials(one: &Serial, other: &Serial) -> bool
     ensures { IsTrue result ↔ one.now ≡ other.now }
 {
     one == other
 }
 
-/// Orders serials by their numbers.
+/// Orders serial numbers as numbers.
 pub fn ordered_serials(one: &Serial, other: &Serial) -> Ordering
     ensures { result ≡ nat_cmp one.now other.now }
 {
     one.cmp(other)
 }
 
-/// Hashes two serials. Equal ones feed a hash function alike.
+/// Hashes two serial numbers. Equal ones change equal hashers alike.
 pub fn hashed_serials<H: Hasher>(one: &Serial, other: &Serial, first: &mut H, second: &mut H)
     ensures { one.now ≡ other.now → first.old ≡ second.old → first.new ≡ second.new }
 {
@@ -49,7 +50,7 @@ pub fn copied_time(time: &Time) -> Result<Time, AllocError>
     time.clone()
 }
 
-/// Compares times: they are equal where they are the same.
+/// Compares times: they are equal if and only if they are the same.
 pub fn equal_times(one: &Time, other: &Time) -> bool
     ensures { IsTrue result ↔ one.now ≡ other.now }
 {
@@ -73,21 +74,21 @@ pub fn copied_field(field: &Field) -> Result<Field, AllocError>
     field.clone()
 }
 
-/// Compares fields: they are equal where they are the same.
+/// Compares fields: they are equal if and only if they are the same.
 pub fn equal_fields(one: &Field, other: &Field) -> bool
     ensures { IsTrue result ↔ one.now ≡ other.now }
 {
     one == other
 }
 
-/// Compares identifiers: they are equal where their octets are.
+/// Compares object identifiers: they are equal if and only if their content octets are.
 pub fn equal_identifiers(one: &Oid, other: &Oid) -> bool
     ensures { IsTrue result ↔ one.now ≡ other.now }
 {
     one == other
 }
 
-/// Compares kept octets: they are equal where they are the same.
+/// Compares kept bytes: they are equal if and only if they are the same bytes.
 pub fn equal_pieces(one: &Piece, other: &Piece) -> bool
     ensures { IsTrue result ↔ one.now ≡ other.now }
 {

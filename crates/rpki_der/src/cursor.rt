@@ -1,4 +1,4 @@
-//! A cursor over shared octets.
+//! A cursor over shared bytes.
 ghost use Rattle.std.specs.Prelude.{◌≡◌, ◌≤◌, ◌-◌, [], length, take, drop, IfOk, IfSome, IfErr, IsOk, OnOk, IsTrue, ◌↔◌, option_map};
 ghost use Rattle.rpki_der.specs.Place.{Place, remaining, IsWithin, EndsAt, MovesOn, Keeps, AnswersOptionalBy};
 ghost use Rattle.rpki_der.specs.Answers.{AnswersBy};
@@ -18,8 +18,8 @@ use bytes::Bytes;
 use std::alloc::Global;
 use std::marker::Model;
 
-/// A place in shared octets, and how far they may be read from there. Every reader moves it on, or
-/// leaves it where it stands when it errs.
+/// A place in shared bytes, and the end up to which they may be read. A reader moves the cursor on.
+/// If a reader returns an error, it leaves the cursor unchanged.
 #[derive(Drop)]
 pub struct Cursor<'a> {
     source: &'a Bytes,
@@ -36,7 +36,7 @@ impl<'a> Model for Cursor<'a> {
 }
 
 impl<'a> Cursor<'a> {
-    /// Makes a cursor over all of the source.
+    /// Makes a cursor over all bytes of the source.
     #[inline(always)]
     pub fn new(source: &'a Bytes) -> Cursor<'a>
         ensures whole { result
@@ -60,7 +60,7 @@ impl<'a> Cursor<'a> {
         Cursor { source, from, to }
     }
 
-    /// Returns another cursor at this place. What it reads moves only itself.
+    /// Returns another cursor at this place. Reading from it does not move this one.
     #[inline(always)]
     pub fn fork(&self) -> Cursor<'a>
         ensures same { result ≡ self.now }
@@ -75,7 +75,8 @@ impl<'a> Cursor<'a> {
         }
     }
 
-    /// Returns where in the source the remaining octets begin and end.
+    /// Returns where in the source the remaining bytes begin and end, as byte offsets. The end is
+    /// exclusive.
     #[inline(always)]
     pub fn span(&self) -> (usize, usize)
         ensures span { result ≡ (self.now.from, self.now.to) }
@@ -85,7 +86,7 @@ impl<'a> Cursor<'a> {
         (self.from, self.to)
     }
 
-    /// Returns the remaining octets.
+    /// Returns the remaining bytes.
     #[inline(always)]
     pub fn rest(&self) -> &'a [u8]
         ensures remaining { result.now ≡ remaining self.now }
@@ -96,7 +97,7 @@ impl<'a> Cursor<'a> {
         rest
     }
 
-    /// Returns whether no octet remains.
+    /// Returns whether no byte remains.
     #[inline(always)]
     pub fn is_empty(&self) -> bool
         ensures { IsTrue result ↔ (remaining self.now ≡ []) }
@@ -104,7 +105,11 @@ impl<'a> Cursor<'a> {
         self.from == self.to
     }
 
-    /// Ends the reading of these octets. Errs with `Trailing` where some remain.
+    /// Checks that no byte remains, and ends the reading.
+    ///
+    /// # Errors
+    ///
+    /// Returns `Trailing` if bytes remain, and no other error.
     #[inline(always)]
     pub fn finish(self) -> Result<(), DecodeError>
         ensures end { IsOk result ↔ (remaining self.entry ≡ []) }
@@ -165,6 +170,18 @@ impl<'a> Cursor<'a> {
 
     /// Reads the next value, which must have this identifier octet (X.690 8.1, 10.1). Returns a
     /// cursor over its content.
+    ///
+    /// # Errors
+    ///
+    /// Returns one of these, and no other error:
+    ///
+    /// - `Truncated`: no byte remains, or the bytes end within the value.
+    /// - `BadTag`: the value has another identifier octet, or the tag number is 31 or more (own).
+    /// - `BadLength`: the length is not the shortest, is indefinite, or has more than four bytes.
+    ///
+    /// # Not checked
+    ///
+    /// The content.
     #[inline(always)]
     pub fn take_value(&mut self, tag: u8) -> Result<Cursor<'a>, DecodeError>
         ensures answers { AnswersBy remaining (any_octets tag) self.old result self.new }
@@ -174,8 +191,16 @@ impl<'a> Cursor<'a> {
         self.next_value(tag)
     }
 
-    /// Reads the next value where it has this identifier octet, and returns a cursor over its
-    /// content. Returns `None` at the end and before another identifier octet.
+    /// Reads the next value if it has this identifier octet. Returns a cursor over its content, or
+    /// `None` at the end and before another identifier octet.
+    ///
+    /// # Errors
+    ///
+    /// Returns an error as [`Cursor::take_value`] does, if the next identifier octet is this one.
+    ///
+    /// # Not checked
+    ///
+    /// The content.
     #[inline(always)]
     pub fn take_opt_value(&mut self, tag: u8) -> Result<Option<Cursor<'a>>, DecodeError>
         ensures answers { AnswersOptionalBy remaining tag (IsEnc tag) self.old result self.new }
@@ -191,7 +216,16 @@ impl<'a> Cursor<'a> {
         }
     }
 
-    /// Reads the SEQUENCE that must stand next. Returns a cursor over its content.
+    /// Reads the next value, which must be a SEQUENCE (X.690 8.9, 8.10). Returns a cursor over its
+    /// content.
+    ///
+    /// # Errors
+    ///
+    /// Returns an error as [`Cursor::take_value`] does.
+    ///
+    /// # Not checked
+    ///
+    /// The content.
     #[inline(always)]
     pub fn take_sequence(&mut self) -> Result<Cursor<'a>, DecodeError>
         ensures answers { AnswersBy remaining (any_octets SEQUENCE) self.old result self.new }
@@ -201,8 +235,16 @@ impl<'a> Cursor<'a> {
         self.take_value(tag::SEQUENCE)
     }
 
-    /// Reads the SEQUENCE that stands next, and returns a cursor over its content. Returns `None`
-    /// at the end and before another identifier octet.
+    /// Reads the next value if it is a SEQUENCE (X.690 8.9, 8.10). Returns a cursor over its
+    /// content, or `None` at the end and before another identifier octet.
+    ///
+    /// # Errors
+    ///
+    /// Returns `Truncated` or `BadLength` as [`Cursor::take_value`] does.
+    ///
+    /// # Not checked
+    ///
+    /// The content.
     #[inline(always)]
     pub fn take_opt_sequence(&mut self) -> Result<Option<Cursor<'a>>, DecodeError>
         ensures answers { let encodes = IsEnc SEQUENCE in
@@ -216,7 +258,15 @@ impl<'a> Cursor<'a> {
         self.take_opt_value(tag::SEQUENCE)
     }
 
-    /// Keeps all remaining octets. The cursor then stands at the end; the only error is `Memory`.
+    /// Keeps all remaining bytes, and moves the cursor to the end.
+    ///
+    /// # Errors
+    ///
+    /// Returns `Memory` if memory runs out, and no other error.
+    ///
+    /// # Not checked
+    ///
+    /// What the bytes encode.
     #[inline(always)]
     pub fn capture_rest(&mut self, _alloc: Global) -> Result<Piece, DecodeError>
         ensures ok { IfOk result (λ p. (p ≡ remaining self.old) × (remaining self.new ≡ [])) }

@@ -3,66 +3,89 @@ use crate::oid::Oid;
 use std::alloc::AllocError;
 use thiserror::Error;
 
-/// A part of a certificate or of a revocation list that an error speaks of.
+/// A part of a certificate or of a CRL that an error names.
 #[derive(Debug, Clone, Copy, PartialEq, Eq)]
 pub enum Field {
+    /// Basic constraints (RFC 6487 4.8.1).
     BasicConstraints,
+    /// Subject key identifier (RFC 6487 4.8.2).
     SubjectKeyIdentifier,
+    /// Authority key identifier (RFC 6487 4.8.3, 5).
     AuthorityKeyIdentifier,
+    /// Key usage (RFC 6487 4.8.4).
     KeyUsage,
+    /// Extended key usage (RFC 6487 4.8.5).
     ExtendedKeyUsage,
+    /// CRL distribution points (RFC 6487 4.8.6).
     CrlDistributionPoints,
+    /// Authority information access (RFC 6487 4.8.7).
     AuthorityInformationAccess,
+    /// Subject information access (RFC 6487 4.8.8).
     SubjectInformationAccess,
+    /// Certificate policies (RFC 6487 4.8.9).
     CertificatePolicies,
+    /// IP resources (RFC 6487 4.8.10).
     IpResources,
+    /// AS resources (RFC 6487 4.8.11).
     AsResources,
-    /// IP or AS resources.
+    /// The IP resources or the AS resources (RFC 6487 4.8.10, 4.8.11).
     Resources,
+    /// CRL number (RFC 6487 5).
     CrlNumber,
 }
 
-/// Why octets could not be read.
+/// Why bytes could not be read.
 #[derive(Debug, Drop, Error)]
 pub enum DecodeError {
-    /// The octets end within a value.
+    /// The bytes end within a value (X.690 8.1).
     #[error("truncated value")]
     Truncated,
-    /// A length that is not the shortest, is indefinite, or has more than four octets.
+    /// A length that is not the shortest or is indefinite (X.690 10.1), or has more than four bytes
+    /// (own rule).
     #[error("bad length")]
     BadLength,
-    /// Another identifier octet than the one that must stand here.
+    /// Another identifier octet than the required one (X.690 8.1.2), or one whose tag number is 31
+    /// or more (own rule).
     #[error("unexpected identifier")]
     BadTag,
-    /// A content that its type does not allow.
+    /// A content that its type does not allow (X.690 8, 11), or that a field does not allow (RFC
+    /// 5280 4, 5, RFC 6487 4, 5).
     #[error("bad value")]
     BadValue,
-    /// Octets remain inside a value.
+    /// Bytes remain after the last component of a value (X.690 8.9), or after a value that must be
+    /// the last one.
     #[error("trailing octets")]
     Trailing,
-    /// Values that stand one inside the other too deep.
+    /// Constructed values are nested too deep (own rule).
     #[error("values nested too deep")]
     TooDeep,
+    /// A required extension is missing (RFC 6487 4.8, 5).
     #[error("missing {0:?}")]
     Missing(Field),
+    /// An extension appears twice (RFC 5280 4.2, RFC 6487 5).
     #[error("duplicate {0:?}")]
     Duplicate(Field),
-    /// An extension that must not be critical is.
+    /// An extension that must not be critical is critical (RFC 6487 4.8).
     #[error("{0:?} is critical")]
     Critical(Field),
-    /// An extension that must be critical isn't.
+    /// An extension that must be critical is not critical (RFC 6487 4.8).
     #[error("{0:?} is not critical")]
     NotCritical(Field),
+    /// A critical extension that the profile does not have (RFC 6487 4.8).
     #[error("unexpected critical extension {0}")]
     UnexpectedCritical(Oid),
+    /// An extension of a CRL that the profile does not have (RFC 6487 5).
     #[error("invalid extension {0}")]
     InvalidExtension(Oid),
-    /// The resources stand under another identifier than the policy asks for.
+    /// The extension with resources has another identifier than the certificate policy requires, or
+    /// there is no certificate policy (RFC 6487 4.8.10, 4.8.11, RFC 8360 4.2).
     #[error("wrong identifier of {0:?}")]
     WrongResources(Field),
-    /// The algorithm inside the signed data is not the one outside.
+    /// The signature algorithm in the to-be-signed part differs from the one outside it (RFC 5280
+    /// 4.1.1.2, 5.1.1.2).
     #[error("signature algorithm mismatch")]
     AlgorithmMismatch,
+    /// Memory ran out.
     #[error("out of memory")]
     Memory,
 }
@@ -95,7 +118,7 @@ impl DecodeError {
         }
     }
 
-    /// Returns whether memory ran out.
+    /// Returns whether the error is `Memory`.
     pub fn is_memory(&self) -> bool
         ensures { IsTrue result ↔ self.now ≡ error.Memory }
     {
@@ -120,9 +143,10 @@ impl From<AllocError> for DecodeError {
 /// Why a value could not be written.
 #[derive(Debug, Drop, Error)]
 pub enum EncodeError {
-    /// A content would have 2^32 octets or more.
+    /// A content would have 2^32 bytes or more (own rule).
     #[error("content too long")]
     TooLong,
+    /// Memory ran out.
     #[error("out of memory")]
     Memory,
 }
@@ -142,7 +166,7 @@ impl EncodeError {
         }
     }
 
-    /// Tells whether memory ran out.
+    /// Returns whether the error is `Memory`.
     pub fn is_memory(&self) -> bool
         ensures { IsTrue result ↔ self.now ≡ error.Memory }
     {

@@ -99,8 +99,17 @@ fn append_extension(
     out.extend_from_slice(content)
 }
 
-/// Appends the extension with this identifier, flag and content (RFC 5280 4.1): the flag only where
-/// it is true (X.690 11.5). Errs with `TooLong` where that makes a content of 2^32 octets or more.
+/// Appends the extension with this identifier, critical flag and content (RFC 5280 4.1). The flag
+/// is written only if it is true (X.690 11.5). `id` is the content of an OBJECT IDENTIFIER.
+///
+/// # Errors
+///
+/// Returns `TooLong` if and only if the extension would have a content of 2^32 bytes or more.
+/// Returns `Memory` if memory runs out. After an error `out` is unchanged.
+///
+/// # Not checked
+///
+/// The content.
 #[tactic(auto, unfolding(crate::specs::Extensions::extension_format))]
 pub fn put_extension(
     out: &mut Vec<u8>,
@@ -151,10 +160,19 @@ fn enclose_extension(
     Ok(())
 }
 
-/// Ends an extension with this identifier and flag whose content was appended behind the first
-/// `start` octets, with this outcome (RFC 5280 4.1). Makes the extension of it where that went
-/// well; else cuts the octets back to the first `start` and hands the error on. Errs with `TooLong`
-/// also where the extension would have a content of 2^32 octets or more.
+/// Ends an extension with this identifier and critical flag (RFC 5280 4.1). Its content was
+/// appended after the first `start` bytes of `out`, with the outcome `content`. If the outcome is
+/// `Ok`, the appended bytes become the content of the extension.
+///
+/// # Errors
+///
+/// Returns the error of `content`, if there is one. Returns `TooLong` if the extension would have a
+/// content of 2^32 bytes or more, and `Memory` if memory runs out. After an error `out` has its
+/// first `start` bytes only.
+///
+/// # Not checked
+///
+/// The content.
 pub fn end_extension(
     out: &mut Vec<u8>,
     start: usize,
@@ -197,8 +215,18 @@ fn read<'a>(cursor: &mut Cursor<'a>) -> Result<(&'a [u8], bool, Cursor<'a>), Dec
     Ok((identifier, critical, content))
 }
 
-/// Reads the extension that stands next. Returns its identifier, critical flag and content (RFC
-/// 5280 4.1.2.9).
+/// Reads the next value, which must be an extension (RFC 5280 4.1, 4.2). Returns the content of its
+/// identifier, its critical flag, and a cursor over its content. Accepts an explicit false as the
+/// flag (own).
+///
+/// # Errors
+///
+/// Returns an error as [`Cursor::take_value`], [`Cursor::take_oid`] and
+/// [`Cursor::take_bool_or_false`] do. Returns `Trailing` if bytes remain in the extension.
+///
+/// # Not checked
+///
+/// The content, and whether the identifier is known.
 #[tactic(auto, using(crate::proofs::FormatAnswers::answers_alone, crate::proofs::ExtensionReads::extension_alone))]
 #[inline(always)]
 pub fn take_extension<'a>(

@@ -100,7 +100,12 @@ impl<'a> Cursor<'a> {
         Ok(number)
     }
 
-    /// Reads the INTEGER from 0 to 2^32 - 1 that must stand next (X.690 8.3).
+    /// Reads the next value, which must be an INTEGER from 0 to 2^32 - 1 (X.690 8.3).
+    ///
+    /// # Errors
+    ///
+    /// Returns an error as [`Cursor::take_value`] does. Returns `BadValue` if the content is empty
+    /// or not the shortest, or if the number is negative or 2^32 or more.
     #[inline(always)]
     pub fn take_u32(&mut self) -> Result<u32, DecodeError>
         ensures { Answers u32_format self.old result self.new }
@@ -125,8 +130,14 @@ impl<'a> Cursor<'a> {
         Ok(content)
     }
 
-    /// Reads the INTEGER from 0 on that must stand next, of whatever size (X.690 8.3). Returns a
-    /// cursor over its content: the octets of the number, the highest first.
+    /// Reads the next value, which must be an INTEGER that is not negative, of any size (X.690
+    /// 8.3). Returns a cursor over its content: the bytes of the number, the most significant
+    /// first.
+    ///
+    /// # Errors
+    ///
+    /// Returns an error as [`Cursor::take_value`] does. Returns `BadValue` if the content is empty
+    /// or not the shortest, or if the number is negative.
     #[tactic(auto, using(crate::proofs::FormatAnswers::answers_lawful, crate::proofs::BasicFormats::unsigned_lawful))]
     pub fn take_unsigned(&mut self) -> Result<Cursor<'a>, DecodeError>
         ensures answers { AnswersBy remaining unsigned_format self.old result self.new }

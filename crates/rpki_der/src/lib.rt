@@ -1,4 +1,4 @@
-//! Values of DER (X.690), read from shared octets and appended to vectors.
+//! DER values (X.690): read from shared bytes, and appended to vectors.
 #![tactic(auto)]
 
 mod bits;

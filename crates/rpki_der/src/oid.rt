@@ -1,4 +1,4 @@
-//! Object identifiers, and the constants that resource certificates have.
+//! Object identifiers, and constants for those in resource certificates.
 ghost use Rattle.std.specs.Prelude.{◌≡◌, List, ℕ, IfOk, IfErr, IsOk, ◌↔◌, true, Some, ◌++◌, codes, bytes_eq};
 ghost use Rattle.std.proofs.Common.{rules};
 ghost use Rattle.std.specs.Cmp.Rules.{comparing};
@@ -76,7 +76,7 @@ pub const CP_IPADDR_ASNUMBER_V2: &[u8] = &[0x2B, 0x06, 0x01, 0x05, 0x05, 0x07, 0
 /// id-kp-bgpsec-router (RFC 8209 3.1.3.2)
 pub const KP_BGPSEC_ROUTER: &[u8] = &[0x2B, 0x06, 0x01, 0x05, 0x05, 0x07, 0x03, 0x1E];
 
-/// Says that the identifiers of extensions have these octets (RFC 5280 4.2, 5.2).
+/// Says that the identifiers of extensions have these content octets (RFC 5280 4.2, 5.2).
 pub fn extension_identifiers()
     ensures subject_key_identifier { CE_SUBJECT_KEY_IDENTIFIER.now ≡ id_ce 0x0E }
     ensures key_usage { CE_KEY_USAGE.now ≡ id_ce 0x0F }
@@ -88,8 +88,8 @@ pub fn extension_identifiers()
     ensures extended_key_usage { CE_EXTENDED_KEY_USAGE.now ≡ id_ce 0x25 }
 {}
 
-/// Says that the identifiers under PKIX have these octets (RFC 3779, RFC 5280 4.2.2, RFC 6484, RFC
-/// 6487 4.8.8, RFC 8182, RFC 8209, RFC 8360).
+/// Says that the identifiers under PKIX have these content octets (RFC 3779, RFC 5280 4.2.2, RFC
+/// 6484, RFC 6487 4.8.8, RFC 8182, RFC 8209, RFC 8360).
 pub fn pkix_identifiers()
     ensures authority_info_access { PE_AUTHORITY_INFO_ACCESS.now ≡ pkix 0x01 0x01 }
     ensures subject_info_access { PE_SUBJECT_INFO_ACCESS.now ≡ pkix 0x01 0x0B }
@@ -166,8 +166,12 @@ pub(crate) fn is_oid(content: &[u8]) -> bool
 }
 
 impl Oid {
-    /// Makes the identifier with these content octets. Errs with `BadValue` where they are no
-    /// content of an OBJECT IDENTIFIER. Takes no memory.
+    /// Makes the object identifier with these content octets (X.690 8.19). Allocates nothing.
+    ///
+    /// # Errors
+    ///
+    /// Returns `BadValue` if the bytes are not the content of an OBJECT IDENTIFIER, and no other
+    /// error: they are empty, end within a subidentifier, or a subidentifier starts with `80`.
     pub fn new(content: Bytes) -> Result<Oid, DecodeError>
         ensures ok { IfOk result (λ o. o ≡ content) }
         ensures accepted { IsOk result ↔ IsOid content }
@@ -176,7 +180,12 @@ impl Oid {
         Oid::from_piece(Piece::from(content))
     }
 
-    /// Makes the identifier with these content octets, as [`Oid::new`] does.
+    /// Makes the object identifier with these content octets, which are kept already (X.690 8.19).
+    /// Allocates nothing.
+    ///
+    /// # Errors
+    ///
+    /// Returns `BadValue` as [`Oid::new`] does.
     pub fn from_piece(content: Piece) -> Result<Oid, DecodeError>
         ensures ok { IfOk result (λ o. o ≡ content) }
         ensures accepted { IsOk result ↔ IsOid content }
@@ -197,7 +206,11 @@ impl Oid {
         self.content.as_bytes()
     }
 
-    /// Clones the identifier.
+    /// Clones the identifier. The copy has the same content octets.
+    ///
+    /// # Errors
+    ///
+    /// Returns an error if memory runs out.
     pub fn try_clone(&self, alloc: Global) -> Result<Oid, AllocError>
         ensures { IfOk result (λ o. o ≡ self.now) }
     {
@@ -224,7 +237,13 @@ impl<'a> Cursor<'a> {
         Ok(content)
     }
 
-    /// Reads the OBJECT IDENTIFIER that must stand next. Returns its content octets (X.690 8.19).
+    /// Reads the next value, which must be an OBJECT IDENTIFIER (X.690 8.19). Returns its content
+    /// octets.
+    ///
+    /// # Errors
+    ///
+    /// Returns an error as [`Cursor::take_value`] does. Returns `BadValue` if the content is empty
+    /// or ends within a subidentifier, or if a subidentifier starts with `80`.
     #[tactic(auto, using(crate::proofs::FormatAnswers::answers_lawful, crate::proofs::BasicFormats::object_identifier_lawful))]
     #[inline(always)]
     pub fn take_oid(&mut self) -> Result<&'a [u8], DecodeError>
@@ -248,7 +267,7 @@ impl Eq for Oid {
     ghost laws = { Prim.search (comparing, rules) };
 }
 
-/// Writes the content octets in lower-case hexadecimal digits.
+/// Prints the content octets in lower-case hexadecimal digits, as `551d0e`.
 impl fmt::Display for Oid {
     ghost output = { λ o. Some (oid_text o) };
 
@@ -260,7 +279,7 @@ impl fmt::Display for Oid {
     }
 }
 
-/// Writes the same digits in `Oid(..)`.
+/// Prints the same digits in `Oid(..)`.
 impl fmt::Debug for Oid {
     ghost debug_output = { λ o. Some (codes "Oid(" ++ (oid_text o ++ codes ")")) };
 

@@ -1,4 +1,4 @@
-//! Octets that are kept.
+//! Bytes that are kept.
 ghost use Rattle.std.specs.Prelude.{◌≡◌, ◌≤◌, List, ℕ, length, slice_range, IfOk, bytes_eq};
 ghost use Rattle.std.proofs.Common.{rules};
 ghost use Rattle.std.specs.Cmp.Rules.{comparing};
@@ -10,8 +10,8 @@ use bytes::Bytes;
 use std::alloc::{AllocError, Global};
 use std::marker::Model;
 
-/// Octets that are kept: a span of a shared buffer. They keep all of the buffer alive; neither a
-/// capture nor a copy copies octets.
+/// Bytes that are kept: a span of a shared buffer. A piece keeps the whole buffer alive. Neither
+/// keeping bytes nor cloning a piece copies them.
 #[derive(Drop)]
 pub struct Piece {
     source: Bytes,
@@ -47,7 +47,7 @@ impl Piece {
         Piece { source, from, to }
     }
 
-    /// Returns the octets.
+    /// Returns the bytes.
     pub fn as_bytes(&self) -> &[u8]
         ensures { result.now ≡ self.now }
     {
@@ -55,7 +55,7 @@ impl Piece {
         &octets[self.from..self.to]
     }
 
-    /// Returns a cursor over all of the octets.
+    /// Returns a cursor over all of the bytes.
     pub fn cursor(&self) -> Cursor<'_>
         ensures all { remaining result ≡ self.now }
         ensures octets { AreOctets self.now }
@@ -66,7 +66,11 @@ impl Piece {
         cursor
     }
 
-    /// Clones the piece. The copy has the same octets.
+    /// Clones the piece. The copy has the same bytes, in the same buffer.
+    ///
+    /// # Errors
+    ///
+    /// Returns an error if memory runs out.
     pub fn try_clone(&self, _alloc: Global) -> Result<Piece, AllocError>
         ensures { IfOk result (λ p. p ≡ self.now) }
     {

@@ -11,7 +11,7 @@ use crate::integer::{sign, significant};
 use crate::tag;
 use std::alloc::AllocError;
 
-/// The greatest length of a content, in octets (own).
+/// The greatest length of a content, in bytes: 2^32 - 1 (own).
 pub const MAX_LEN: usize = 0xFFFF_FFFF;
 
 // The identifier octet and the shortest length octets.
@@ -79,9 +79,17 @@ pub(crate) fn bring_forward(out: &mut Vec<u8>, start: usize, end: usize)
     }
 }
 
-/// Makes what stands behind the first `start` octets the content of a value with this identifier
-/// octet (X.690 8.1, 10.1). Errs with `TooLong` where it has 2^32 octets or more. After an error
-/// the octets are as they were.
+/// Makes the bytes after the first `start` the content of a value with this identifier octet (X.690
+/// 8.1, 10.1). The tag number must be below 31.
+///
+/// # Errors
+///
+/// Returns `TooLong` if and only if the content has 2^32 bytes or more. Returns `Memory` if memory
+/// runs out. After an error `out` is unchanged.
+///
+/// # Not checked
+///
+/// The content.
 #[tactic(auto, unfolding(crate::specs::Values::enc))]
 pub fn enclose(out: &mut Vec<u8>, start: usize, tag: u8) -> Result<(), EncodeError>
     requires within { start ≤ length out.old.items }
@@ -101,9 +109,18 @@ pub fn enclose(out: &mut Vec<u8>, start: usize, tag: u8) -> Result<(), EncodeErr
     Ok(())
 }
 
-/// Ends a value whose content was appended behind the first `start` octets, with this outcome.
-/// Encloses it where that went well; else cuts the octets back to the first `start` and hands the
-/// error on. Errs with `TooLong` also where the content has 2^32 octets or more.
+/// Ends a value with this identifier octet (X.690 8.1, 10.1). Its content was appended after the
+/// first `start` bytes of `out`, with the outcome `content`. If the outcome is `Ok`, the appended
+/// bytes become the content of the value. The tag number must be below 31.
+///
+/// # Errors
+///
+/// Returns the error of `content`, if there is one. Returns `TooLong` if the content has 2^32 bytes
+/// or more, and `Memory` if memory runs out. After an error `out` has its first `start` bytes only.
+///
+/// # Not checked
+///
+/// The content.
 pub fn end_value(
     out: &mut Vec<u8>,
     start: usize,
@@ -124,8 +141,17 @@ pub fn end_value(
     ended
 }
 
-/// Appends the value with this identifier octet whose content is the head and the tail, one after
-/// the other. Errs with `TooLong` where they have 2^32 octets or more together.
+/// Appends the value with this identifier octet whose content is `head` and then `tail` (X.690 8.1,
+/// 10.1). The tag number must be below 31.
+///
+/// # Errors
+///
+/// Returns `TooLong` if and only if the two have 2^32 bytes or more together. Returns `Memory` if
+/// memory runs out. After an error `out` is unchanged.
+///
+/// # Not checked
+///
+/// The content.
 pub fn put_parts(out: &mut Vec<u8>, tag: u8, head: &[u8], tail: &[u8]) -> Result<(), EncodeError>
     requires { tag % 32 < 31 }
     ensures { WritesOrTooLong (value tag (head.now ++ tail.now))
@@ -142,8 +168,17 @@ pub fn put_parts(out: &mut Vec<u8>, tag: u8, head: &[u8], tail: &[u8]) -> Result
     Ok(())
 }
 
-/// Appends the value with this identifier octet and content (X.690 8.1, 10.1). Errs with `TooLong`
-/// where the content has 2^32 octets or more.
+/// Appends the value with this identifier octet and content (X.690 8.1, 10.1). The tag number must
+/// be below 31.
+///
+/// # Errors
+///
+/// Returns `TooLong` if and only if the content has 2^32 bytes or more. Returns `Memory` if memory
+/// runs out. After an error `out` is unchanged.
+///
+/// # Not checked
+///
+/// The content.
 pub fn put_value(out: &mut Vec<u8>, tag: u8, content: &[u8]) -> Result<(), EncodeError>
     requires { tag % 32 < 31 }
     ensures { WritesOrTooLong (value tag content.now) out.old.items result out.new.items }
@@ -151,7 +186,11 @@ pub fn put_value(out: &mut Vec<u8>, tag: u8, content: &[u8]) -> Result<(), Encod
     put_parts(out, tag, &[], content)
 }
 
-/// Appends a BOOLEAN (X.690 8.2, 11.1). The only error is `Memory`.
+/// Appends a BOOLEAN (X.690 8.2, 11.1).
+///
+/// # Errors
+///
+/// Returns `Memory` if memory runs out, and no other error. After an error `out` is unchanged.
 pub fn put_bool(out: &mut Vec<u8>, value: bool) -> Result<(), EncodeError>
     ensures ok { OnOk result (out.new.items ≡ out.old.items ++ boolean value) }
     ensures err { OnErr result (out.new.items ≡ out.old.items) }
@@ -162,8 +201,13 @@ pub fn put_bool(out: &mut Vec<u8>, value: bool) -> Result<(), EncodeError>
     Ok(())
 }
 
-/// Appends the number of these octets, the greatest first and none for 0, as the shortest INTEGER
-/// (X.690 8.3). Errs with `TooLong` where its content would have 2^32 octets or more.
+/// Appends a number as the shortest INTEGER (X.690 8.3). `octets` are the bytes of the number, the
+/// most significant first, with any number of leading zeros. An empty slice is the number 0.
+///
+/// # Errors
+///
+/// Returns `TooLong` if and only if the INTEGER would have a content of 2^32 bytes or more. Returns
+/// `Memory` if memory runs out. After an error `out` is unchanged.
 #[tactic(auto, unfolding(crate::specs::Primitives::number))]
 pub fn put_unsigned(out: &mut Vec<u8>, octets: &[u8]) -> Result<(), EncodeError>
     ensures { WritesOrTooLong (number_part (number_from_digits 256 octets.now))
@@ -173,8 +217,13 @@ pub fn put_unsigned(out: &mut Vec<u8>, octets: &[u8]) -> Result<(), EncodeError>
     put_parts(out, tag::INTEGER, sign(digits), digits)
 }
 
-/// Appends a BIT STRING of these octets, at whose end so many bits are unused (X.690 8.6, 11.2.1).
-/// Errs with `TooLong` where there are 2^32 - 1 octets or more.
+/// Appends a BIT STRING of these bytes, with `unused` unused bits at the end (X.690 8.6, 11.2.1).
+/// At most 7 bits may be unused, none if there are no bytes, and they must be 0.
+///
+/// # Errors
+///
+/// Returns `TooLong` if and only if there are 2^32 - 1 bytes or more. Returns `Memory` if memory
+/// runs out. After an error `out` is unchanged.
 pub fn put_bits(out: &mut Vec<u8>, unused: u8, octets: &[u8]) -> Result<(), EncodeError>
     requires few { unused < 8 }
     requires none { octets.now ≡ [] → unused ≡ 0 }
@@ -187,8 +236,12 @@ pub fn put_bits(out: &mut Vec<u8>, unused: u8, octets: &[u8]) -> Result<(), Enco
     put_parts(out, tag::BIT_STRING, &[unused], octets)
 }
 
-/// Appends the OBJECT IDENTIFIER with this content (X.690 8.19). Errs with `TooLong` where it has
-/// 2^32 octets or more.
+/// Appends the OBJECT IDENTIFIER with this content (X.690 8.19).
+///
+/// # Errors
+///
+/// Returns `TooLong` if and only if the content has 2^32 bytes or more. Returns `Memory` if memory
+/// runs out. After an error `out` is unchanged.
 pub fn put_oid(out: &mut Vec<u8>, id: &[u8]) -> Result<(), EncodeError>
     requires { IsOid id.now }
     ensures { WritesOrTooLong (value OBJECT_IDENTIFIER id.now) out.old.items result out.new.items }

@@ -27,8 +27,8 @@ use std::cmp::Ordering;
 use std::fmt;
 use std::marker::Model;
 
-/// A serial number: a whole number below 2^160 (RFC 5280 4.1.2.2; own: 0 is one too, and so are the
-/// numbers from 2^159 on, whose INTEGER has 21 octets).
+/// A serial number: a whole number below 2^160 (RFC 5280 4.1.2.2). It may be 0, or a number from
+/// 2^159 on, whose INTEGER has 21 bytes of content (own).
 #[derive(Clone, Copy, Hash)]
 pub struct Serial {
     high: u32,
@@ -70,8 +70,8 @@ impl From<u128> for Serial {
 }
 
 impl Serial {
-    /// Returns the number of these octets, the greatest first, or `None` where it is 2^160 or more.
-    /// No octets are 0.
+    /// Returns the number with these bytes, the most significant first, or `None` if it is 2^160 or
+    /// more. Leading zeros are allowed. An empty slice is the number 0.
     #[inline(always)]
     pub fn from_slice(octets: &[u8]) -> Option<Serial>
         ensures some { IsSome result ↔ (number_from_digits 256 octets.now < 2 ^ 160) }
@@ -101,7 +101,7 @@ impl Serial {
         }
     }
 
-    /// Returns the number in 20 octets, the greatest first.
+    /// Returns the number in 20 bytes, the most significant first.
     pub fn octets(&self) -> [u8; 20]
         ensures number { number_from_digits 256 result ≡ self.now }
         ensures below { self.now < 2 ^ 160 }
@@ -112,8 +112,11 @@ impl Serial {
         octets
     }
 
-    /// Appends the number as an INTEGER, in as few octets as it has (X.690 8.3). The only error is
-    /// `Memory`.
+    /// Appends the number as the shortest INTEGER (X.690 8.3).
+    ///
+    /// # Errors
+    ///
+    /// Returns `Memory` if memory runs out, and no other error. After an error `out` is unchanged.
     pub fn encode(&self, _alloc: Global, out: &mut Vec<u8>) -> Result<(), EncodeError>
         ensures ok { OnOk result (out.new.items ≡ out.old.items ++ number self.now) }
         ensures err { OnErr result (out.new.items ≡ out.old.items) }
@@ -138,7 +141,12 @@ impl Serial {
         Ok(serial)
     }
 
-    /// Reads the INTEGER that must stand next, from 0 to 2^160 - 1 (RFC 5280 4.1.2.2).
+    /// Reads the next value, which must be an INTEGER from 0 to 2^160 - 1 (RFC 5280 4.1.2.2).
+    ///
+    /// # Errors
+    ///
+    /// Returns an error as [`Cursor::take_value`] does. Returns `BadValue` if the content is empty
+    /// or not the shortest, or if the number is negative or 2^160 or more.
     #[inline(always)]
     pub fn take_from(cursor: &mut Cursor<'_>) -> Result<Serial, DecodeError>
         ensures { Answers serial_format cursor.old result cursor.new }
@@ -169,7 +177,8 @@ fn shown(octets: &[u8]) -> &[u8]
     if digits.is_empty() { &[0] } else { digits }
 }
 
-/// The octets that the number has, at least one, in upper-case hexadecimal digits, as `01F4`.
+/// Prints the bytes of the number without leading zeros, at least one, in upper-case hexadecimal
+/// digits, as `01F4`.
 impl fmt::Display for Serial {
     ghost output = { λ n. Some (serial_text n) };
 

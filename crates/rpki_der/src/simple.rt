@@ -14,7 +14,16 @@ use crate::error::DecodeError;
 use crate::tag;
 
 impl<'a> Cursor<'a> {
-    /// Reads the OCTET STRING that must stand next. Returns a cursor over its octets (X.690 8.7).
+    /// Reads the next value, which must be an OCTET STRING (X.690 8.7). Returns a cursor over its
+    /// octets.
+    ///
+    /// # Errors
+    ///
+    /// Returns an error as [`Cursor::take_value`] does.
+    ///
+    /// # Not checked
+    ///
+    /// The octets.
     #[inline(always)]
     pub fn take_octets(&mut self) -> Result<Cursor<'a>, DecodeError>
         ensures answers { AnswersBy remaining octet_string self.old result self.new }
@@ -40,8 +49,12 @@ impl<'a> Cursor<'a> {
         Ok(())
     }
 
-    /// Reads the NULL that must stand next (X.690 8.8). Errs with `BadValue` where it has a
-    /// content.
+    /// Reads the next value, which must be a NULL (X.690 8.8).
+    ///
+    /// # Errors
+    ///
+    /// Returns an error as [`Cursor::take_value`] does. Returns `BadValue` if the content is not
+    /// empty.
     #[inline(always)]
     pub fn take_null(&mut self) -> Result<(), DecodeError>
         ensures { Answers null_format self.old result self.new }

@@ -1,4 +1,4 @@
-//! Values of any kind: passed over, or kept whole.
+//! Values of any kind: skipped, or kept whole.
 ghost use Rattle.std.specs.Prelude.{◌≡◌, ◌↔◌, [], IsOk, OnOk};
 ghost use Rattle.rpki_der.specs.Place.{remaining, Keeps};
 ghost use Rattle.rpki_der.specs.Answers.{Answers, AnswersOrMemory};
@@ -73,9 +73,21 @@ impl<'a> Cursor<'a> {
         self.skip_within(LEVELS)
     }
 
-    /// Passes over one well-formed value (X.690 8.1, 10.1) in which constructed values stand at
-    /// most 32 deep, this one counted as the first (own). Errs with `TooDeep` at a constructed
-    /// value below the last level. Takes no memory.
+    /// Skips one well-formed value (X.690 8.1, 10.1). Constructed values in it may be nested 32
+    /// deep, this value counted as the first (own). Allocates nothing.
+    ///
+    /// # Errors
+    ///
+    /// Returns one of these, and no other error:
+    ///
+    /// - `Truncated`: no byte remains, or the bytes end within a value.
+    /// - `BadTag`: a tag number is 31 or more (own).
+    /// - `BadLength`: a length is not the shortest, is indefinite, or has more than four bytes.
+    /// - `TooDeep`: a constructed value is nested deeper than the limit.
+    ///
+    /// # Not checked
+    ///
+    /// The contents of primitive values, and the types of all values.
     pub fn skip_one(&mut self) -> Result<(), DecodeError>
         ensures { Answers skippable_value self.old result self.new }
     {
@@ -95,8 +107,17 @@ impl<'a> Cursor<'a> {
         Ok(())
     }
 
-    /// Passes over all remaining values, each as [`Cursor::skip_one`] does. The cursor then stands
-    /// at the end.
+    /// Skips all remaining values, each as [`Cursor::skip_one`] does, and moves the cursor to the
+    /// end. Allocates nothing.
+    ///
+    /// # Errors
+    ///
+    /// Returns the error of [`Cursor::skip_one`] for the first value that has one. The cursor is
+    /// then unchanged.
+    ///
+    /// # Not checked
+    ///
+    /// The contents of primitive values, and the types of all values.
     pub fn skip_all(&mut self) -> Result<(), DecodeError>
         ensures skippable { IsOk result ↔ IsSkippableSequence (remaining self.old) }
         ensures reads { Returns result (skip_all_of (remaining self.old)) }
@@ -121,8 +142,16 @@ impl<'a> Cursor<'a> {
         Ok(octets)
     }
 
-    /// Keeps the next value whole, whatever its identifier octet (X.690 8.1, 10.1). Its inside is
-    /// not tested. The only other error than those of the identifier and the length is `Memory`.
+    /// Keeps the next value whole, with any identifier octet (X.690 8.1, 10.1).
+    ///
+    /// # Errors
+    ///
+    /// Returns `Truncated`, `BadTag` or `BadLength` as [`Cursor::skip_one`] does, for the value
+    /// itself. Returns `Memory` if memory runs out.
+    ///
+    /// # Not checked
+    ///
+    /// The content.
     #[inline(always)]
     pub fn capture_one(&mut self, alloc: Global) -> Result<Piece, DecodeError>
         ensures { AnswersOrMemory any_value self.old result self.new }

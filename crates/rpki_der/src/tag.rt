@@ -25,13 +25,13 @@ pub const GENERALIZED_TIME: u8 = 0x18;
 pub const SEQUENCE: u8 = 0x30;
 /// SET and SET OF.
 pub const SET: u8 = 0x31;
-/// [0], primitive; the octet of [n] is n more.
+/// [0], primitive. The identifier octet of [n] is n more, for n from 0 to 30.
 pub const CONTEXT: u8 = 0x80;
-/// [0], constructed; the octet of [n] is n more.
+/// [0], constructed. The identifier octet of [n] is n more, for n from 0 to 30.
 pub const CONTEXT_CONSTRUCTED: u8 = 0xA0;
 
-/// Tells what the constants are: the numbers of the universal tags (X.680 8.6, 42), 0x20 more where
-/// the value is constructed, and 0x80 more where the tag is context-specific (X.690 8.1.2).
+/// Says which numbers the constants are: those of the universal tags (X.680 8.6, 42), 0x20 more if
+/// the value is constructed, and 0x80 more if the tag is context-specific (X.690 8.1.2).
 pub fn numbers()
     ensures boolean { BOOLEAN ≡ 1 }
     ensures integer { INTEGER ≡ 2 }

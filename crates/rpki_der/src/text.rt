@@ -1,4 +1,4 @@
-//! What values have in common that print themselves.
+//! Printing that several types have in common.
 ghost use Rattle.std.specs.Prelude.{◌<◌, ◌+◌, [], ◌∷◌};
 ghost use Rattle.std.specs.Fmt.{WritesOnOk};
 ghost use Rattle.rpki_der.specs.Times.{two};
@@ -6,7 +6,11 @@ ghost use Rattle.rpki_der.specs.Texts.{hexadecimal};
 
 use std::fmt;
 
-/// Writes each octet in two upper-case hexadecimal digits.
+/// Prints each byte in two upper-case hexadecimal digits.
+///
+/// # Errors
+///
+/// Returns an error if `f` returns one.
 pub fn write_hexadecimal<W: fmt::Write>(f: &mut fmt::Formatter<W>, octets: &[u8]) -> fmt::Result
     ensures { WritesOnOk W.write_str_gives f.old result (hexadecimal octets.now) f.new }
 {

@@ -34,7 +34,7 @@ use std::marker::Model;
 // What ends the text of a time of DER.
 const END: &[u8] = b"Z";
 
-/// A second of the years 0 to 9999, in UTC (RFC 5280 4.1.2.5).
+/// A time in UTC, to the second, in the years 0 to 9999 (RFC 5280 4.1.2.5).
 #[derive(Clone, Copy)]
 pub struct Time {
     inner: DateTime,
@@ -94,8 +94,9 @@ fn civil(
 }
 
 impl Time {
-    /// Makes the second with these parts. Returns `None` where the year isn't from 0 to 9999, the
-    /// calendar hasn't the day or a clock hasn't the time.
+    /// Makes the time with these parts. Returns `None` if the year is not from 0 to 9999, if the
+    /// calendar does not have the day, or if a clock does not have the time. There are no leap
+    /// seconds.
     pub fn utc(year: i32, month: u32, day: u32, hour: u32, minute: u32, second: u32) -> Option<Time>
         ensures exists { IsSome result
             ↔ ((pos 0 ≤ℤ year)
@@ -134,8 +135,8 @@ impl Time {
         }
     }
 
-    /// Reads YYYYMMDDhhmmss in decimal digits as a moment. Returns `None` where there is no such
-    /// moment.
+    /// Reads a time in the form YYYYMMDDhhmmss in decimal digits. Returns `None` if the text has
+    /// another form, or if there is no such time.
     pub fn from_digits(text: &[u8]) -> Option<Time>
         ensures some { IfSome result (λ t. IsMoment t × (text.now ≡ fourteen_digits t)) }
         ensures none { IfNone result
@@ -144,8 +145,8 @@ impl Time {
         four_digit_year(text, b"").ok()
     }
 
-    /// Makes the second that lies so many seconds after 1970-01-01T00:00:00Z, without leap seconds
-    /// (POSIX.1-2017, XBD 4.16). Returns `None` where that is no second of the years 0 to 9999.
+    /// Makes the time that is this many seconds after 1970-01-01T00:00:00Z, without leap seconds
+    /// (POSIX.1-2017, XBD 4.16). Returns `None` if the year is not from 0 to 9999.
     pub fn from_timestamp(seconds: i64) -> Option<Time>
         ensures some { IfSome result (λ t. IsMoment t × (timestamp t ≡ seconds)) }
         ensures none { IfNone result
@@ -160,8 +161,8 @@ impl Time {
         Some(Time { inner })
     }
 
-    /// Returns how many seconds the time lies after 1970-01-01T00:00:00Z, without leap seconds
-    /// (POSIX.1-2017, XBD 4.16). The number of a time before it is negative.
+    /// Returns how many seconds the time is after 1970-01-01T00:00:00Z, without leap seconds
+    /// (POSIX.1-2017, XBD 4.16). The number is negative if the time is before that.
     pub fn timestamp(self) -> i64
         ensures { result ≡ timestamp self }
     {
@@ -185,8 +186,17 @@ impl Time {
         Ok(time)
     }
 
-    /// Reads the UTCTime or GeneralizedTime that must stand next, in the form that ends in seconds
-    /// and Z (RFC 5280 4.1.2.5).
+    /// Reads the next value, which must be a UTCTime in the form YYMMDDhhmmssZ or a GeneralizedTime
+    /// in the form YYYYMMDDhhmmssZ (RFC 5280 4.1.2.5).
+    ///
+    /// # Errors
+    ///
+    /// Returns an error as [`Cursor::take_value`] does. Returns `BadValue` if the content has
+    /// another form, or if there is no such time.
+    ///
+    /// # Not checked
+    ///
+    /// Whether a time in the years 1950 to 2049 is a UTCTime.
     #[inline(always)]
     pub fn take_from(cursor: &mut Cursor<'_>) -> Result<Time, DecodeError>
         ensures { Answers time_format cursor.old result cursor.new }
@@ -194,7 +204,8 @@ impl Time {
         Time::take_time(cursor)
     }
 
-    /// Does nothing: a time is a moment that exists.
+    /// Does nothing. Its contract says that a time exists: its parts are those of a calendar and a
+    /// clock.
     pub fn known(&self)
         ensures { IsMoment self.now }
     {
@@ -216,7 +227,7 @@ impl Time {
         self.inner.date.month
     }
 
-    /// Returns the day of the month, from 1.
+    /// Returns the day of the month, from 1 to 31.
     pub fn day(&self) -> u8
         ensures { result ≡ self.now.day }
     {
@@ -296,8 +307,12 @@ impl Time {
         write_behind(f, ":", time.second)
     }
 
-    /// Appends the time: as UTCTime in the years 1950 to 2049, else as GeneralizedTime (RFC 5280
-    /// 4.1.2.5). The only error is `Memory`.
+    /// Appends the time: as a UTCTime in the years 1950 to 2049, else as a GeneralizedTime (RFC
+    /// 5280 4.1.2.5).
+    ///
+    /// # Errors
+    ///
+    /// Returns `Memory` if memory runs out, and no other error. After an error `out` is unchanged.
     pub fn encode_varied(&self, _alloc: Global, out: &mut Vec<u8>) -> Result<(), EncodeError>
         ensures ok { OnOk result (out.new.items ≡ out.old.items ++ time self.now) }
         ensures err { OnErr result (out.new.items ≡ out.old.items) }
@@ -441,7 +456,7 @@ fn generalized_time(text: &[u8]) -> Result<Time, DecodeError>
     four_digit_year(text, END)
 }
 
-/// The date and the time of day in UTC, as `2026-11-25T06:00:00Z` (ISO 8601).
+/// Prints the date and the time of day in UTC, as `2026-11-25T06:00:00Z` (ISO 8601).
 impl fmt::Display for Time {
     ghost output = { λ m. Some (time_text m) };
 

@@ -43,8 +43,18 @@ fn read(alloc: Global, cursor: &mut Cursor<'_>) -> Result<Rsync, DecodeError>
     Ok(uri)
 }
 
-/// Reads the content of Authority Information Access. Returns the only rsync URI among the names of
-/// one description, which says where the issuer's certificate is (RFC 6487 4.8.7).
+/// Reads the content of Authority Information Access: the URI of the issuer's certificate (RFC 6487
+/// 4.8.7).
+///
+/// Returns the only rsync URI among the names of the only access description, whose method is
+/// id-ad-caIssuers.
+///
+/// # Errors
+///
+/// Returns an error if the bytes at the cursor don't begin with such a content; which error is
+/// unspecified. A second access description and a second rsync URI are rejected (own rules: RFC
+/// 6487 4.8.7 allows further URIs). Returns `Memory` if memory ran out. The cursor then stays where
+/// it was.
 pub fn take_authority_information_access(
     alloc: Global,
     cursor: &mut Cursor<'_>,
@@ -67,8 +77,13 @@ fn append_content(out: &mut Vec<u8>, uri: &Rsync) -> Result<(), EncodeError>
     enclose(out, start, tag::SEQUENCE)
 }
 
-/// Appends the extension with one description, which says that the issuer's certificate is at this
-/// URI. Errs with `TooLong` where a content would have 2^32 octets or more.
+/// Appends Authority Information Access, not critical, with one access description: this URI of the
+/// issuer's certificate (RFC 6487 4.8.7).
+///
+/// # Errors
+///
+/// Returns `TooLong` if the content would have 2^32 bytes or more, or `Memory`. `out` is then
+/// unchanged.
 #[tactic(auto, using(rpki_der::proofs::ExtensionWritten::content_longer))]
 pub fn encode_authority_information_access(
     _alloc: Global,

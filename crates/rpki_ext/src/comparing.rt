@@ -13,21 +13,21 @@ pub fn copied_key_usage(usage: &KeyUsage) -> Result<KeyUsage, AllocError>
     usage.clone()
 }
 
-/// Compares usages of keys: they are equal where they are the same.
+/// Compares usages of keys: they are equal if and only if they are the same.
 pub fn equal_key_usages(one: &KeyUsage, other: &KeyUsage) -> bool
     ensures { IsTrue result ↔ one.now ≡ other.now }
 {
     one == other
 }
 
-/// A copy of a fault of inspection is the same fault.
+/// Clones an error of inspection. The copy is the same error.
 pub fn copied_inspection_error(error: &InspectionError) -> Result<InspectionError, AllocError>
     ensures { IsOkAnd result (λ copy. copy ≡ error.now) }
 {
     error.clone()
 }
 
-/// Faults of inspection are equal where they are the same.
+/// Compares errors of inspection: they are equal if and only if they are the same.
 pub fn equal_inspection_errors(one: &InspectionError, other: &InspectionError) -> bool
     ensures { IsTrue result ↔ one.now ≡ other.now }
 {

@@ -1,7 +1,11 @@
 //! What is owned at an early exit is let go by a call of one small function, which is proved once.
 ghost use Rattle.std.specs.Prelude.{◌≡◌, Ok, Err, IfOk, IfErr};
 
-/// Returns a value with what a step after it gave, or the error alone where that step failed.
+/// Pairs a value with the result of a step after it.
+///
+/// # Errors
+///
+/// Returns the step's error, and drops the value.
 #[inline(always)]
 pub fn beside<T: Drop, S, E>(value: T, step: Result<S, E>) -> Result<(T, S), E>
     ensures ok { IfOk result (λ r. (r.0 ≡ value) × (step ≡ Ok r.1)) }

@@ -35,32 +35,34 @@ use rpki_parts::{Https, KeyIdentifier, Rsync};
 use std::alloc::{AllocError, Global};
 use std::marker::Model;
 
-/// What the extensions of a certificate give.
+/// The values of a certificate's extensions (RFC 6487 4.8). `None` means that the extension, or the
+/// URI in it, is absent.
 #[derive(Drop)]
 pub struct Extensions {
-    /// Whether the subject is a CA (RFC 6487 4.8.1).
+    /// Whether Basic Constraints say that the subject is a CA (RFC 6487 4.8.1).
     pub basic_ca: Option<bool>,
     /// The identifier of the subject's key (RFC 6487 4.8.2).
     pub subject_key_identifier: KeyIdentifier,
     /// The identifier of the issuer's key (RFC 6487 4.8.3).
     pub authority_key_identifier: Option<KeyIdentifier>,
-    /// What the key is for (RFC 6487 4.8.4).
+    /// What the key is used for (RFC 6487 4.8.4).
     pub key_usage: KeyUsage,
-    /// Further purposes of the key (RFC 6487 4.8.5).
+    /// The further purposes of the key (RFC 6487 4.8.5).
     pub extended_key_usage: Option<ExtendedKeyUsage>,
-    /// Where the issuer's revocation list is (RFC 6487 4.8.6).
+    /// The URI of the issuer's CRL (RFC 6487 4.8.6).
     pub crl_uri: Option<Rsync>,
-    /// Where the issuer's certificate is (RFC 6487 4.8.7).
+    /// The URI of the issuer's certificate (RFC 6487 4.8.7).
     pub ca_issuer: Option<Rsync>,
-    /// Where what the key signs is published (RFC 6487 4.8.8.1).
+    /// The URI of the directory in which the CA publishes (RFC 6487 4.8.8.1).
     pub ca_repository: Option<Rsync>,
-    /// Where the manifest of that is (RFC 6487 4.8.8.1).
+    /// The URI of the CA's manifest (RFC 6487 4.8.8.1).
     pub rpki_manifest: Option<Rsync>,
-    /// Where the object is that the key signs (RFC 6487 4.8.8.2).
+    /// The URI of the object that the key signs (RFC 6487 4.8.8.2).
     pub signed_object: Option<Rsync>,
-    /// Where changes of the repository are told (RFC 8182 3.2).
+    /// The URI of the Update Notification File (RFC 8182 3.2).
     pub rpki_notify: Option<Https>,
-    /// What becomes of resources that go past the issuer's (RFC 8360).
+    /// What happens to resources that the issuer doesn't hold, by the certificate policy (RFC 6487
+    /// 4.8.9, RFC 8360 4.2.1).
     pub overclaim: Overclaim,
     /// The IPv4 addresses (RFC 6487 4.8.10).
     pub v4_resources: IpResources,
@@ -97,7 +99,7 @@ impl Model for Extensions {
 }
 
 impl Extensions {
-    /// Makes what extensions give without any that may be left out, and without resources.
+    /// Makes the values of extensions of which only these are present, and which have no resources.
     pub fn bare(
         subject_key_identifier: KeyIdentifier,
         key_usage: KeyUsage,
@@ -124,7 +126,7 @@ impl Extensions {
         }
     }
 
-    /// Shows that what is kept can be written. Does nothing else.
+    /// Shows that the values can be written. Does nothing else.
     pub fn known(&self)
         ensures { ExtensionsFit self.now }
     {
@@ -185,7 +187,11 @@ impl Extensions {
         beside(v6, self.as_resources.try_clone(alloc))
     }
 
-    /// Clones what the extensions give.
+    /// Clones the values.
+    ///
+    /// # Errors
+    ///
+    /// Returns an error if memory ran out.
     pub fn try_clone(&self, alloc: Global) -> Result<Extensions, AllocError>
         ensures { IfOk result (λ copy. copy ≡ self.now) }
     {
@@ -290,8 +296,13 @@ impl Extensions {
         Ok(())
     }
 
-    /// Appends the extensions, one after the other, in one fixed order and each with the flag that
-    /// it must have (RFC 6487 4.8). Errs with `TooLong` where they would have 2^32 octets or more.
+    /// Appends the extensions, in one fixed order, each with the flag that it must have (RFC 6487
+    /// 4.8).
+    ///
+    /// # Errors
+    ///
+    /// Returns `TooLong` if they would have 2^32 bytes or more, or `Memory`. `out` is then
+    /// unchanged.
     pub fn encode_row(&self, alloc: Global, out: &mut Vec<u8>) -> Result<(), EncodeError>
         ensures { Writes (sequence_part self.now) out.old.items result out.new.items }
     {

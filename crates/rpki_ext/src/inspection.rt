@@ -5,63 +5,73 @@ ghost use Rattle.rpki_ext.specs.Inspection.{inspection_error_name, inspection_er
 use std::error::Error;
 use std::fmt;
 
-/// What is wrong with a certificate, or with a part of it, as its kind asks (RFC 6487 4, RFC 8209
-/// 3.1).
+/// A condition of its profile that a certificate, or a part of it, doesn't meet (RFC 6487 4, RFC
+/// 8209 3.1).
 #[derive(Debug, Clone, Copy, PartialEq, Eq)]
 pub enum InspectionError {
-    /// The algorithm inside what is signed is not the one of the signature.
+    /// The signature algorithm inside the to-be-signed part isn't that of the signature (RFC 5280
+    /// 4.1.1.2).
     AlgorithmMismatch,
-    /// The issuer's name has not the form that is asked for.
+    /// The issuer's name isn't of the profile's form: one CommonName, and at most one serialNumber
+    /// (RFC 6487 4.4).
     Issuer,
-    /// The subject's name has not the form that is asked for.
+    /// The subject's name isn't of the profile's form (RFC 6487 4.5; a router's: RFC 8209 3.1.1).
     Subject,
-    /// The key is not of the kind that is asked for.
+    /// The key isn't an RSA key, or a router's key isn't a P-256 key (RFC 6487 4.7, RFC 7935 3, RFC
+    /// 8608 3).
     KeyAlgorithm,
-    /// The subject key identifier is not that of the key.
+    /// The subject key identifier isn't the SHA-1 hash of the key's bits (RFC 6487 4.8.2).
     SubjectKeyIdentifier,
-    /// An Extended Key Usage stands where the profile has none.
+    /// Extended Key Usage is present in a certificate that isn't a router's (RFC 6487 4.8.5).
     ExtendedKeyUsagePresent,
-    /// Basic Constraints say that the subject is not a CA.
+    /// Basic Constraints don't say that the subject is a CA (RFC 6487 4.8.1, RFC 5280 4.2.1.9).
     CaFlagFalse,
-    /// There are no Basic Constraints.
+    /// Basic Constraints are missing from a CA's certificate (RFC 6487 4.8.1).
     MissingBasicConstraints,
-    /// The key usage is not the one that is asked for.
+    /// Key Usage isn't that of the kind: keyCertSign and cRLSign for a CA, digitalSignature for any
+    /// other (RFC 6487 4.8.4).
     KeyUsage,
-    /// There is no URI of the repository.
+    /// The URI of the repository is missing from a CA's certificate (RFC 6487 4.8.8.1).
     MissingCaRepository,
-    /// There is no URI of the manifest.
+    /// The URI of the manifest is missing from a CA's certificate (RFC 6487 4.8.8.1).
     MissingManifest,
-    /// The manifest doesn't stand right in the repository.
+    /// The manifest's URI isn't directly below the repository's URI (own rule).
     ManifestNotChild,
-    /// A URI of a signed object stands where the profile has none.
+    /// The URI of a signed object is present in a CA's certificate (own rule: RFC 6487 4.8.8.1
+    /// lists no signedObject).
     SignedObjectPresent,
-    /// The authority key identifier is there, and is not the subject's.
+    /// The authority key identifier of a trust anchor isn't its subject key identifier (RFC 6487
+    /// 4.8.3).
     AuthorityKeyIdentifier,
-    /// A URI of a revocation list stands where the profile has none.
+    /// The URI of a CRL is present in a trust anchor's certificate (RFC 6487 4.8.6).
     CrlUriPresent,
-    /// A URI of the issuer's certificate stands where the profile has none.
+    /// The URI of the issuer's certificate is present in a trust anchor's certificate (RFC 6487
+    /// 4.8.7).
     CaIssuerPresent,
-    /// There is no URI of a revocation list.
+    /// The URI of the issuer's CRL is missing from a certificate below a trust anchor (RFC 6487
+    /// 4.8.6).
     MissingCrlUri,
-    /// Basic Constraints stand where the profile has none.
+    /// Basic Constraints are present in a certificate that isn't a CA's (RFC 6487 4.8.1).
     BasicConstraintsPresent,
-    /// A URI of a repository stands where the profile has none.
+    /// The URI of a repository is present in an end entity's certificate (RFC 6487 4.8.8.2).
     CaRepositoryPresent,
-    /// A URI of a manifest stands where the profile has none.
+    /// The URI of a manifest is present in an end entity's certificate (RFC 6487 4.8.8.2).
     ManifestPresent,
-    /// There is no URI of the signed object.
+    /// The URI of the signed object is missing from the certificate of an end entity that isn't
+    /// detached (RFC 6487 4.8.8.2).
     MissingSignedObject,
-    /// There is no Extended Key Usage.
+    /// Extended Key Usage is missing from a router's certificate (RFC 8209 3.1.3.2).
     MissingExtendedKeyUsage,
-    /// The router's purpose isn't among those of the key.
+    /// Extended Key Usage doesn't have the purpose of routers, id-kp-bgpsec-router (RFC 8209
+    /// 3.1.3.2).
     MissingRouterPurpose,
-    /// A URI in Subject Information Access stands where the profile has none.
+    /// A URI of Subject Information Access is present in a router's certificate (RFC 8209 3.1.3.3).
     SubjectInformationPresent,
-    /// IP resources stand where the profile has none.
+    /// IP resources are present in a router's certificate (RFC 8209 3.1.3.4).
     IpResourcesPresent,
-    /// There are no AS resources.
+    /// AS resources are missing from a router's certificate (RFC 8209 3.1.3.5).
     MissingAsResources,
-    /// The AS resources are inherited, and must not be.
+    /// AS resources are inherited in a router's certificate (RFC 8209 3.1.3.5).
     InheritedAsResources,
 }
 
@@ -117,7 +127,7 @@ impl InspectionError {
             InspectionError::KeyUsage => &"wrong key usage",
             InspectionError::MissingCaRepository => &"missing CA repository",
             InspectionError::MissingManifest => &"missing manifest",
-            InspectionError::ManifestNotChild => &"manifest outside the repository",
+            InspectionError::ManifestNotChild => &"manifest not directly below the repository",
             InspectionError::SignedObjectPresent => &"signed object present",
             InspectionError::AuthorityKeyIdentifier => &"authority key identifier mismatch",
             InspectionError::CrlUriPresent => &"CRL URI present",
@@ -137,7 +147,7 @@ impl InspectionError {
     }
 }
 
-/// What is wrong in words, as `missing manifest`.
+/// Writes what is wrong in words, as `missing manifest`.
 impl fmt::Display for InspectionError {
     ghost output = { λ error. Some (inspection_error_text error) };
 

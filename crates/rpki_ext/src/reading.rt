@@ -39,8 +39,8 @@ pub(crate) fn is(identifier: &[u8], known: &[u8]) -> bool
     identifier.last() == known.last() && identifier == known
 }
 
-/// Returns whether readers of certificates know the kind of extension with this identifier (RFC
-/// 6487 4.8, RFC 8360 4.2).
+/// Returns whether readers of certificates know the kind of extension with this identifier, the
+/// content of an OBJECT IDENTIFIER (RFC 6487 4.8, RFC 8360 4.2).
 pub fn is_known(identifier: &[u8]) -> bool
     ensures { result ≡ list_any (bytes_eq identifier.now) known }
 {
@@ -148,8 +148,25 @@ impl Extensions {
         }
     }
 
-    /// Reads all extensions of a certificate, and returns what they give (RFC 6487 4.8). Errs with
-    /// a fault where they give no fields; which of several is unspecified.
+    /// Reads all extensions of a certificate, in any order, and returns what they give (RFC 6487
+    /// 4.8).
+    ///
+    /// # Errors
+    ///
+    /// Returns an error if one of these applies, and any of them if several do:
+    ///
+    /// - an extension isn't of the form of its kind;
+    /// - a kind is there twice (`Duplicate`);
+    /// - a kind has another flag than it must have (`Critical`, `NotCritical`);
+    /// - an unknown extension is critical (`UnexpectedCritical`);
+    /// - a kind that each certificate has is missing (`Missing`);
+    /// - the resources aren't under the identifiers of the policy (`WrongResources`);
+    /// - memory ran out (`Memory`).
+    ///
+    /// # Not checked
+    ///
+    /// The profile of the certificate's kind ([`crate::InspectionError`]), and whether an unknown
+    /// extension that isn't critical is there twice (own).
     #[tactic(auto, using(crate::proofs::CertificateExtensions::sequence_means))]
     pub fn from_row(alloc: Global, elements: &Cursor<'_>) -> Result<Extensions, DecodeError>
         ensures means { MeansOrMemory AreExtensions result (remaining elements.now) }

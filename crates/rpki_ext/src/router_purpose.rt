@@ -34,8 +34,11 @@ fn find_router(identifiers: &Cursor<'_>) -> Option<bool>
 }
 
 impl ExtendedKeyUsage {
-    /// Checks whether the router's purpose is among the purposes. The only error is
-    /// `MissingRouterPurpose`.
+    /// Checks that id-kp-bgpsec-router is among the purposes (RFC 8209 3.1.3.2). Takes no memory.
+    ///
+    /// # Errors
+    ///
+    /// Returns `MissingRouterPurpose` if it isn't.
     pub fn inspect_router(&self) -> Result<(), InspectionError>
         ensures ok { IsOk result ↔ HasRouterPurpose self.now }
         ensures missing { IfErr result (λ e. e ≡ MissingRouterPurpose) }

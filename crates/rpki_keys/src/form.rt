@@ -7,27 +7,27 @@ use crate::key::is_rpki_key;
 use crate::rsa::rsa_form;
 use rpki_parts::{PublicKey, PublicKeyFormat};
 
-/// What the bits of a public key are, by its algorithm.
+/// The form of a public key's bits, by its algorithm.
 #[derive(Debug, Clone, Copy, PartialEq, Eq)]
 pub enum KeyForm {
     /// An RSAPublicKey (RFC 8017 A.1.1) with an odd modulus.
     RsaKey {
         /// How many binary digits the modulus has.
         bits: u64,
-        /// The exponent, or `None` where it is 2^64 or more.
+        /// The exponent, or `None` if it is 2^64 or more.
         exponent: Option<u64>,
     },
     /// An RSAPublicKey with an even modulus, which no product of odd primes is (RFC 8017 3.1).
     EvenModulus,
-    /// Bits of an RSA key that aren't an RSAPublicKey in DER.
+    /// Bits of an RSA key that aren't an RSAPublicKey in DER (RFC 8017 A.1.1).
     NoRsaKey,
     /// A point of P-256 in the uncompressed form (SEC 1 2.3.4).
     Point,
-    /// The uncompressed form, but no point of the curve.
+    /// The uncompressed form of a point that isn't on the curve (SEC 1 2.3.4).
     OffCurve,
-    /// The compressed form of a point (SEC 1 2.3.4), of the curve or not.
+    /// The compressed form of a point (SEC 1 2.3.4), whether it is on the curve or not.
     CompressedPoint,
-    /// Bits of a P-256 key that have neither form.
+    /// Bits of a P-256 key that have neither form of a point.
     NoPoint,
 }
 
@@ -46,8 +46,13 @@ fn point_form(bits: &[u8]) -> KeyForm
     }
 }
 
-/// Returns what the bits of the key are: for RSA the size of the modulus and the exponent, for
-/// P-256 the form of the point and whether it is on the curve. Every key has exactly one form.
+/// Returns the form of the key's bits: for RSA the size of the modulus and the exponent, for P-256
+/// the form of the point and whether it is on the curve. Every key has exactly one form.
+///
+/// # Not checked
+///
+/// Whether the RPKI uses such a key ([`is_usable`] checks it), and whether a modulus is the product
+/// of two primes.
 pub fn form_of(key: &PublicKey) -> KeyForm
     ensures form { IsKeyForm result key.now }
     ensures only { (form : KeyForm) → IsKeyForm form key.now → form ≡ result }
@@ -58,9 +63,14 @@ pub fn form_of(key: &PublicKey) -> KeyForm
     }
 }
 
-/// Tells whether the key is one that the RPKI uses: RSA with a modulus of 2048 bits, which is odd,
-/// and the exponent 65537 (RFC 7935 3), or a point of P-256 in its uncompressed form (RFC 8608 3.1,
-/// RFC 5480 2.2, SEC 1 2.3.4, SP 800-186 3.2.1.3).
+/// Returns whether the RPKI uses such a key: RSA with an odd modulus of 2048 bits and the exponent
+/// 65537 (RFC 7935 3), or a point of P-256 in the uncompressed form (RFC 8608 3.1, RFC 5480 2.2,
+/// SEC 1 2.3.4, SP 800-186 3.2.1.3).
+///
+/// # Not checked
+///
+/// Whether the modulus is the product of two primes, and whether the certificate's kind may have
+/// such a key (`Cert::inspect_ca` and its siblings check that).
 pub fn is_usable(key: &PublicKey) -> bool
     ensures { IsTrue result ↔ IsUsableKey key.now }
 {

@@ -33,8 +33,12 @@ pub(crate) fn modulus(bits: &[u8]) -> Option<&[u8]>
     Some(octets)
 }
 
-/// Tells whether these are the bits of a key of the RPKI: RSA with a modulus of 2048 bits, which is
-/// odd, and the exponent 65537 (RFC 7935 3), in DER (RFC 8017 A.1.1).
+/// Returns whether these are the bits of an RSA key that the RPKI uses: an odd modulus of 2048
+/// bits, and the exponent 65537 (RFC 7935 3), in DER (RFC 8017 A.1.1).
+///
+/// # Not checked
+///
+/// Whether the modulus is the product of two primes.
 pub fn is_rpki_key(bits: &[u8]) -> bool
     ensures { IsTrue result ↔ IsRpkiKey bits.now }
 {

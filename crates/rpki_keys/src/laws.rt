@@ -10,7 +10,7 @@ pub fn one_form()
         → IsKeyForm one key → IsKeyForm other key → one ≡ other }
 {}
 
-/// Says that the form of a key tells whether the RPKI uses it.
+/// Says that the form of a key decides whether the RPKI uses it.
 pub fn usable_forms()
     ensures { (form : KeyForm) (key : KeyFields)
         → IsKeyForm form key → IsUsableKey key ↔ IsUsableForm form }

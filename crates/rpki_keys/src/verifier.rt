@@ -4,8 +4,12 @@ use crate::verifying::verify;
 use rpki_parts::{PublicKey, PublicKeyFormat, RpkiSignatureAlgorithm, Verifier};
 
 /// Verifies signatures as the RPKI has them: RSASSA-PKCS1-v1_5 with SHA-256, by RSA keys of 2048
-/// bits and the exponent 65537 (RFC 7935 2, 3). Any other key has no valid signature. It takes no
-/// memory.
+/// bits with the exponent 65537 (RFC 7935 2, 3). No signature by another key is valid, as by a
+/// router's P-256 key. Takes no memory.
+///
+/// # Not checked
+///
+/// The algorithm that is passed: the RPKI has only one (RFC 7935 2).
 #[derive(Clone, Copy)]
 pub struct RsaVerifier;
 

@@ -48,9 +48,12 @@ fn recovers(modulus: &[u8], message: &[u8], signature: &[u8]) -> bool
     is_equal(&m, &wanted)
 }
 
-/// Tells whether the signature is one of the message by a key of the RPKI of these bits (RFC 8017
-/// 8.2.2). The bits are the content of the BIT STRING of a SubjectPublicKeyInfo, without the count
-/// of unused bits. It takes no memory, and runs in variable time: all of it is public.
+/// Verifies a signature of the message by an RSA key with these bits (RFC 8017 8.2.2): returns
+/// whether it is valid. The bits are the content of the BIT STRING of a SubjectPublicKeyInfo,
+/// without the count of unused bits. Takes no memory, and runs in variable time: all of it is
+/// public.
+///
+/// Returns `false` also if the key isn't one that the RPKI uses ([`crate::is_rpki_key`]).
 pub fn verify(bits: &[u8], message: &[u8], signature: &[u8]) -> bool
     ensures { IsTrue result ↔ IsRsaSignature bits.now message.now signature.now }
 {

@@ -42,7 +42,7 @@ pub(crate) fn take_opt_null(cursor: &mut Cursor<'_>) -> Result<bool, DecodeError
 }
 
 /// The signature algorithm of the RPKI, sha256WithRSAEncryption (RFC 7935 2). Its parameters are
-/// NULL or left out (RFC 4055 5), which is kept.
+/// NULL or absent (RFC 4055 5), which is kept.
 #[derive(Clone, Copy, PartialEq, Eq)]
 pub struct RpkiSignatureAlgorithm {
     has_parameter: bool,
@@ -59,7 +59,7 @@ impl Model for RpkiSignatureAlgorithm {
 }
 
 impl RpkiSignatureAlgorithm {
-    /// Returns the algorithm with NULL as its parameters.
+    /// Returns the algorithm with NULL as its parameters (RFC 4055 5).
     pub fn default() -> RpkiSignatureAlgorithm
         ensures { result ≡ with_null }
     {
@@ -68,7 +68,7 @@ impl RpkiSignatureAlgorithm {
         }
     }
 
-    /// Returns the algorithm whose parameters are left out.
+    /// Returns the algorithm with absent parameters (RFC 4055 5).
     pub fn without_parameter() -> RpkiSignatureAlgorithm
         ensures { result ≡ without_null }
     {
@@ -95,7 +95,12 @@ impl RpkiSignatureAlgorithm {
         Ok(RpkiSignatureAlgorithm { has_parameter })
     }
 
-    /// Reads the AlgorithmIdentifier that stands next. Errs with `BadValue` at another algorithm.
+    /// Reads the AlgorithmIdentifier at the cursor (RFC 5280 4.1.1.2).
+    ///
+    /// # Errors
+    ///
+    /// Returns an error if the bytes at the cursor don't begin with the AlgorithmIdentifier of
+    /// sha256WithRSAEncryption; which error is unspecified. The cursor then stays where it was.
     #[tactic(auto, using(rpki_der::proofs::FormatAnswers::answers_alone, crate::proofs::PartFormats::algorithm_alone))]
     pub fn x509_take_from(cursor: &mut Cursor<'_>) -> Result<RpkiSignatureAlgorithm, DecodeError>
         ensures { Answers algorithm_format cursor.old result cursor.new }
@@ -103,8 +108,11 @@ impl RpkiSignatureAlgorithm {
         RpkiSignatureAlgorithm::read(cursor)
     }
 
-    /// Appends the AlgorithmIdentifier as it was read or made (RFC 5280 4.1.1.2). The only error is
-    /// `Memory`.
+    /// Appends the AlgorithmIdentifier, with NULL if the algorithm has it (RFC 5280 4.1.1.2).
+    ///
+    /// # Errors
+    ///
+    /// Returns `Memory` if memory ran out. `out` is then unchanged.
     #[tactic(auto, unfolding(crate::specs::Algorithms::algorithm_format))]
     pub fn x509_encode(&self, _alloc: Global, out: &mut Vec<u8>) -> Result<(), EncodeError>
         ensures writes { Writes (part algorithm_format self.now) out.old.items result out.new.items }

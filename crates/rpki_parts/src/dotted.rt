@@ -105,7 +105,7 @@ fn write_dotted<W: fmt::Write>(f: &mut fmt::Formatter<W>, id: &[u8]) -> fmt::Res
     Ok(())
 }
 
-/// The content of an object identifier whose numbers are all below 2^64.
+/// An object identifier whose numbers are all below 2^64, as the content of its OBJECT IDENTIFIER.
 #[derive(Drop)]
 pub struct Dotted<'a> {
     identifier: &'a [u8],
@@ -123,8 +123,8 @@ impl<'a> Model for Dotted<'a> {
 }
 
 impl<'a> Dotted<'a> {
-    /// Makes what prints the identifier with these content octets. Returns `None` where one of its
-    /// numbers is 2^64 or more.
+    /// Makes the object identifier with this content. Returns `None` if one of its numbers is 2^64
+    /// or more.
     pub fn of(identifier: &'a [u8]) -> Option<Dotted<'a>>
         ensures exists { IsSome result ↔ IsTrue (are_small 0 identifier.now) }
         ensures value { IfSome result (λ d. d ≡ identifier.now) }
@@ -137,7 +137,7 @@ impl<'a> Dotted<'a> {
     }
 }
 
-/// Its numbers with dots between them (RFC 4512 1.4), as `1.2.840`.
+/// Writes its numbers with dots between them, as `1.2.840` (RFC 4512 1.4).
 impl<'a> fmt::Display for Dotted<'a> {
     ghost output = { λ d. Some (dotted_text d) };
 

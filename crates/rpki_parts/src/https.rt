@@ -13,7 +13,7 @@ use std::alloc::{AllocError, Global};
 use std::fmt;
 use std::marker::Model;
 
-/// An https URI (RFC 9110 4.2.2), as its octets.
+/// An https URI (RFC 9110 4.2.2), as its bytes.
 #[derive(Drop)]
 pub struct Https {
     octets: Piece,
@@ -33,8 +33,14 @@ impl Model for Https {
 }
 
 impl Https {
-    /// Makes the URI of these octets, which must be `21` to `7E`: `https://` in any case, an
-    /// authority that is not empty, and then nothing, or `/` and any more. Takes no memory.
+    /// Makes the URI with these bytes (RFC 9110 4.2.2). Takes no memory.
+    ///
+    /// Each byte must be a visible ASCII character, `21` to `7E`. The form is `https://` in any
+    /// case, an authority that isn't empty, and then nothing, or `/` and any more.
+    ///
+    /// # Errors
+    ///
+    /// Returns `BadUri` if the bytes aren't of this form.
     pub fn from_bytes(octets: Bytes) -> Result<Https, BadUri>
         ensures accepted { IsOk result ↔ IsHttps octets }
         ensures ok { IfOk result (λ u. u ≡ octets) }
@@ -42,7 +48,11 @@ impl Https {
         Https::from_piece(Piece::from(octets))
     }
 
-    /// Makes the URI of these octets, as [`Https::from_bytes`] does.
+    /// Makes the URI with these bytes, as [`Https::from_bytes`] does.
+    ///
+    /// # Errors
+    ///
+    /// As [`Https::from_bytes`].
     pub fn from_piece(octets: Piece) -> Result<Https, BadUri>
         ensures accepted { IsOk result ↔ IsHttps octets }
         ensures ok { IfOk result (λ u. u ≡ octets) }
@@ -54,8 +64,12 @@ impl Https {
         }
     }
 
-    /// Makes the URI of this text, which is copied. Errs with `BadUri` where [`Https::from_bytes`]
-    /// errs.
+    /// Makes the URI with this text, which is copied.
+    ///
+    /// # Errors
+    ///
+    /// Returns `BadUri` if and only if the text isn't of the form that [`Https::from_bytes`]
+    /// requires, or `Memory` if memory ran out.
     pub fn from_text(alloc: Global, text: &str) -> Result<Https, UriError>
         ensures ok { IfOk result (λ u. u ≡ text.now) }
         ensures accepted { OnOk result (IsHttps text.now) }
@@ -70,7 +84,7 @@ impl Https {
         })
     }
 
-    /// Returns the octets.
+    /// Returns the bytes of the URI.
     pub fn as_bytes(&self) -> &[u8]
         ensures octets { result.now ≡ self.now }
         ensures valid { IsHttps self.now }
@@ -78,7 +92,7 @@ impl Https {
         self.octets.as_bytes()
     }
 
-    /// Returns the text.
+    /// Returns the text of the URI.
     pub fn as_str(&self) -> &str
         ensures { result.now ≡ self.now }
     {
@@ -86,6 +100,10 @@ impl Https {
     }
 
     /// Clones the URI.
+    ///
+    /// # Errors
+    ///
+    /// Returns an error if memory ran out.
     pub fn try_clone(&self, alloc: Global) -> Result<Https, AllocError>
         ensures { IfOk result (λ u. u ≡ self.now) }
     {
@@ -94,7 +112,7 @@ impl Https {
     }
 }
 
-/// The URI as it stands.
+/// Writes the URI unchanged.
 impl fmt::Display for Https {
     ghost output = { λ u. Some u };
 
@@ -103,7 +121,7 @@ impl fmt::Display for Https {
     }
 }
 
-/// Compares authorities without ASCII case, and what follows them by octets.
+/// Compares authorities without ASCII case, and what follows them byte by byte.
 impl PartialEq for Https {
     ghost eq = { parts.are_equal };
 

@@ -39,7 +39,7 @@ const P256: &[u8] = &[
     0xCE, 0x3D, 0x03, 0x01, 0x07,
 ];
 
-/// The identifier of a key: the 20 octets of the SHA-1 hash of its bits (RFC 5280 4.2.1.2, RFC 6487
+/// The identifier of a key: the 20 bytes of the SHA-1 hash of its bits (RFC 5280 4.2.1.2, RFC 6487
 /// 4.8.2).
 #[derive(Clone, Copy)]
 pub struct KeyIdentifier {
@@ -56,7 +56,7 @@ impl Model for KeyIdentifier {
     ghost inverse = { λ b. record { octets = b } };
 }
 
-/// The 40 upper-case hexadecimal digits of its octets.
+/// Writes the 40 upper-case hexadecimal digits of its bytes.
 impl fmt::Display for KeyIdentifier {
     ghost output = { λ k. Some (hexadecimal k) };
 
@@ -66,14 +66,14 @@ impl fmt::Display for KeyIdentifier {
 }
 
 impl KeyIdentifier {
-    /// Makes the identifier with these 20 octets.
+    /// Makes the identifier with these 20 bytes.
     pub fn from_octets(octets: [u8; 20]) -> KeyIdentifier
         ensures { result ≡ octets }
     {
         KeyIdentifier { octets }
     }
 
-    /// Makes the identifier with these octets. Returns `None` where they aren't 20.
+    /// Makes the identifier with these bytes. Returns `None` if there aren't 20.
     pub fn from_slice(octets: &[u8]) -> Option<KeyIdentifier>
         ensures twenty { IsSome result ↔ length octets.now ≡ 20 }
         ensures same { IfSome result (λ k. k ≡ octets.now) }
@@ -84,7 +84,7 @@ impl KeyIdentifier {
         }
     }
 
-    /// Returns its 20 octets.
+    /// Returns its 20 bytes.
     pub fn as_octets(&self) -> &[u8; 20]
         ensures same { result.now ≡ self.now }
         ensures size { length self.now ≡ 20 }
@@ -112,7 +112,12 @@ impl KeyIdentifier {
         Ok(KeyIdentifier { octets })
     }
 
-    /// Reads the identifier that stands next, an OCTET STRING of 20 octets.
+    /// Reads the identifier at the cursor, an OCTET STRING of 20 bytes.
+    ///
+    /// # Errors
+    ///
+    /// Returns an error if the bytes at the cursor don't begin with such an OCTET STRING; which
+    /// error is unspecified. The cursor then stays where it was.
     #[tactic(auto, using(rpki_der::proofs::FormatAnswers::answers_alone, crate::proofs::PartFormats::key_identifier_alone))]
     pub fn take_from(cursor: &mut Cursor<'_>) -> Result<KeyIdentifier, DecodeError>
         ensures { Answers key_identifier_format cursor.old result cursor.new }
@@ -120,7 +125,11 @@ impl KeyIdentifier {
         KeyIdentifier::read(cursor)
     }
 
-    /// Appends the identifier as an OCTET STRING. The only error is `Memory`.
+    /// Appends the identifier as an OCTET STRING.
+    ///
+    /// # Errors
+    ///
+    /// Returns `Memory` if memory ran out. `out` is then unchanged.
     #[tactic(auto, unfolding(crate::specs::Keys::key_identifier_format))]
     pub fn encode_ref(&self, alloc: Global, out: &mut Vec<u8>) -> Result<(), EncodeError>
         ensures writes { Writes (part key_identifier_format self.now) out.old.items result out.new.items }
@@ -129,8 +138,11 @@ impl KeyIdentifier {
         self.encode_ref_as(alloc, out, tag::OCTET_STRING)
     }
 
-    /// Appends the identifier under another identifier octet, the low five bits of which aren't all
-    /// ones.
+    /// Appends the identifier under another identifier octet, whose low five bits aren't all ones.
+    ///
+    /// # Errors
+    ///
+    /// Returns `Memory` if memory ran out. `out` is then unchanged.
     pub fn encode_ref_as(
         &self,
         _alloc: Global,
@@ -166,7 +178,7 @@ impl Eq for KeyIdentifier {
     ghost laws = { Prim.search (comparing, rules) };
 }
 
-/// The kinds of public keys: of certificates (RFC 7935 3), and of BGPsec routers (RFC 8608 3).
+/// The kind of a public key: of a certificate (RFC 7935 3), or of a BGPsec router (RFC 8608 3).
 #[derive(Debug, Clone, Copy, PartialEq, Eq)]
 pub enum PublicKeyFormat {
     /// An RSA key.
@@ -227,7 +239,7 @@ pub(crate) fn take_whole_bits<'a>(cursor: &mut Cursor<'a>) -> Result<Cursor<'a>,
     Ok(octets)
 }
 
-/// A public key. Its bits aren't interpreted.
+/// A public key: its kind and its bits, which aren't interpreted.
 #[derive(Drop)]
 pub struct PublicKey {
     format: PublicKeyFormat,
@@ -245,8 +257,12 @@ impl Model for PublicKey {
 impl PublicKey {
     ghost use Rattle.rpki_parts.specs.declared.key.PublicKeyFormat.TheVariants.{Rsa, EcdsaP256};
 
-    /// Makes the key with these bits: the octets of the BIT STRING without the count of unused
+    /// Makes the key with these bits: the bytes of the BIT STRING, without the count of unused
     /// bits.
+    ///
+    /// # Not checked
+    ///
+    /// Whether the bits are those of a key of this kind.
     pub fn new(format: PublicKeyFormat, bits: Bytes) -> PublicKey
         ensures { result ≡ record { format = format; bits = bits } }
     {
@@ -273,16 +289,33 @@ impl PublicKey {
         Ok(PublicKey { format, bits })
     }
 
-    /// Reads the SubjectPublicKeyInfo that stands next (RFC 5280 4.1.2.7). Errs with `BadValue` at
-    /// another algorithm or curve and where bits are unused.
+    /// Reads the SubjectPublicKeyInfo at the cursor (RFC 5280 4.1.2.7).
+    ///
+    /// # Errors
+    ///
+    /// Returns an error if the bytes at the cursor don't begin with the SubjectPublicKeyInfo of an
+    /// RSA key or a P-256 key without unused bits (own); which error is unspecified. Returns
+    /// `Memory` if memory ran out. The cursor then stays where it was.
+    ///
+    /// # Not checked
+    ///
+    /// The bits: whether they are those of a key of this kind.
     pub fn take_from(alloc: Global, cursor: &mut Cursor<'_>) -> Result<PublicKey, DecodeError>
         ensures { AnswersOrMemory public_key_format cursor.old result cursor.new }
     {
         PublicKey::read(alloc, cursor)
     }
 
-    /// Reads the SubjectPublicKeyInfo that all of the octets are. Errs with a fault where they are
-    /// none, also where one is only their beginning. The key shares the buffer.
+    /// Reads the SubjectPublicKeyInfo that these bytes are, all of them. The key shares the buffer.
+    ///
+    /// # Errors
+    ///
+    /// Returns an error if they aren't one, as [`PublicKey::take_from`] says, also if bytes follow
+    /// it; which error is unspecified. Returns `Memory` if memory ran out.
+    ///
+    /// # Not checked
+    ///
+    /// The bits: whether they are those of a key of this kind.
     pub fn from_bytes(alloc: Global, octets: Bytes) -> Result<PublicKey, DecodeError>
         ensures { MeansOrMemory IsPublicKey result octets }
     {
@@ -307,8 +340,13 @@ impl PublicKey {
         put_bits(out, 0, self.bits())
     }
 
-    /// Appends the SubjectPublicKeyInfo, with NULL behind rsaEncryption. Errs with `TooLong` where
-    /// its content would have 2^32 octets or more.
+    /// Appends the SubjectPublicKeyInfo, of an RSA key with NULL behind rsaEncryption (RFC 5280
+    /// 4.1.2.7, RFC 3279 2.3.1).
+    ///
+    /// # Errors
+    ///
+    /// Returns `TooLong` if the content would have 2^32 bytes or more, or `Memory`. `out` is then
+    /// unchanged.
     #[tactic(auto, unfolding(crate::specs::Keys::public_key_format))]
     pub fn encode_ref(&self, _alloc: Global, out: &mut Vec<u8>) -> Result<(), EncodeError>
         ensures { Writes (part public_key_format self.now) out.old.items result out.new.items }
@@ -318,14 +356,14 @@ impl PublicKey {
         end_value(out, start, tag::SEQUENCE, content)
     }
 
-    /// Returns which kind of key it is.
+    /// Returns the kind of the key.
     pub fn algorithm(&self) -> PublicKeyFormat
         ensures { result ≡ self.now.format }
     {
         self.format
     }
 
-    /// Returns the key's bits, as octets.
+    /// Returns the key's bits: the bytes of the BIT STRING, without the count of unused bits.
     pub fn bits(&self) -> &[u8]
         ensures same { result.now ≡ self.now.bits }
         ensures octets { AreOctets self.now.bits }
@@ -342,16 +380,19 @@ impl PublicKey {
         self.bits.cursor()
     }
 
-    /// Returns the SHA-1 hash of the bits.
+    /// Returns the SHA-1 hash of the key's bits (RFC 6487 4.8.2).
     pub fn key_identifier(&self) -> KeyIdentifier
         ensures { result ≡ key_identifier self.now }
     {
         KeyIdentifier::from_octets(Sha1::digest(self.bits()))
     }
 
-    /// Makes the name that a certificate of this key has as its subject (RFC 6487 4.5): one
-    /// CommonName, the 40 upper-case hexadecimal digits of the key identifier. The only error is
-    /// `Memory`.
+    /// Makes the subject's name for a certificate of this key (RFC 6487 4.5): one CommonName, the
+    /// 40 upper-case hexadecimal digits of the key identifier (own).
+    ///
+    /// # Errors
+    ///
+    /// Returns `Memory` if memory ran out.
     pub fn to_subject_name(&self, alloc: Global) -> Result<Name, EncodeError>
         ensures ok { IfOk result (λ n. n ≡ subject_name self.now) }
         ensures memory { IfErr result (λ e. e ≡ Memory) }
@@ -359,7 +400,7 @@ impl PublicKey {
         Ok(Name::of_key(alloc, &self.key_identifier())?)
     }
 
-    /// Returns whether a certificate of the RPKI may hold the key, which is whether it is an RSA
+    /// Returns whether a certificate other than a router's may have the key: whether it is an RSA
     /// key (RFC 7935 3).
     pub fn allow_rpki_cert(&self) -> bool
         ensures { IsTrue result ↔ (self.now.format ≡ Rsa) }
@@ -367,8 +408,8 @@ impl PublicKey {
         self.format == PublicKeyFormat::Rsa
     }
 
-    /// Returns whether a router's certificate may hold the key, which is whether it is a P-256 key
-    /// (RFC 8608 3).
+    /// Returns whether a router's certificate may have the key: whether it is a P-256 key (RFC 8608
+    /// 3).
     pub fn allow_router_cert(&self) -> bool
         ensures { IsTrue result ↔ (self.now.format ≡ EcdsaP256) }
     {
@@ -376,6 +417,10 @@ impl PublicKey {
     }
 
     /// Clones the key.
+    ///
+    /// # Errors
+    ///
+    /// Returns an error if memory ran out.
     pub fn try_clone(&self, alloc: Global) -> Result<PublicKey, AllocError>
         ensures { IfOk result (λ k. k ≡ self.now) }
     {

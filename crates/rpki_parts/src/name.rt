@@ -26,7 +26,7 @@ const BEFORE_DIGITS: [u8; 13] = [
     0x30, 0x33, 0x31, 0x31, 0x30, 0x2F, 0x06, 0x03, 0x55, 0x04, 0x03, 0x13, 0x28,
 ];
 
-/// A name, kept as it stands (RFC 5280 4.1.2.4).
+/// A name of an issuer or a subject, kept as it was read (RFC 5280 4.1.2.4).
 #[derive(Drop)]
 pub struct Name {
     pub(crate) octets: Piece,
@@ -173,17 +173,36 @@ impl Name {
         Ok(Name { octets })
     }
 
-    /// Reads the name that stands next: a SEQUENCE of SETs, each of at least one SEQUENCE of an
-    /// identifier and a value. It checks of the values only that they can be skipped, and doesn't
-    /// check the order in a SET.
+    /// Reads the name at the cursor: a SEQUENCE of SETs, each of at least one SEQUENCE of an OBJECT
+    /// IDENTIFIER and a value (RFC 5280 4.1.2.4).
+    ///
+    /// # Errors
+    ///
+    /// Returns an error if the bytes at the cursor don't begin with a name, or if a value can't be
+    /// skipped; which error is unspecified. Returns `Memory` if memory ran out. The cursor then
+    /// stays where it was.
+    ///
+    /// # Not checked
+    ///
+    /// The contents of the values, the order of the attributes in a SET, and the form that the
+    /// profile requires ([`Name::inspect_rpki`]).
     pub fn take_from(alloc: Global, cursor: &mut Cursor<'_>) -> Result<Name, DecodeError>
         ensures { AnswersOrMemory (name_format levels) cursor.old result cursor.new }
     {
         Name::read(alloc, cursor)
     }
 
-    /// Reads the name that all of the octets are, as [`Name::take_from`] says. Errs with a fault
-    /// where they are none, also where one is only their beginning. The name shares the buffer.
+    /// Reads the name that these bytes are, all of them. The name shares the buffer.
+    ///
+    /// # Errors
+    ///
+    /// Returns an error if they aren't one, as [`Name::take_from`] says, also if bytes follow it;
+    /// which error is unspecified. Returns `Memory` if memory ran out.
+    ///
+    /// # Not checked
+    ///
+    /// The contents of the values, the order of the attributes in a SET, and the form that the
+    /// profile requires ([`Name::inspect_rpki`]).
     #[tactic(auto, using(rpki_der::proofs::Answering::all_rejected))]
     pub fn from_bytes(alloc: Global, octets: Bytes) -> Result<Name, DecodeError>
         ensures { MeansOrMemory IsName result octets }
@@ -197,7 +216,7 @@ impl Name {
         Ok(name)
     }
 
-    /// Returns the octets of the SEQUENCE.
+    /// Returns the bytes of the SEQUENCE.
     #[tactic(auto, using(crate::proofs::NameReads::name_is))]
     pub fn as_bytes(&self) -> &[u8]
         ensures octets { result.now ≡ self.now }
@@ -208,7 +227,11 @@ impl Name {
         self.octets.as_bytes()
     }
 
-    /// Appends the name as it stands. The only error is `Memory`.
+    /// Appends the name as it was read or made.
+    ///
+    /// # Errors
+    ///
+    /// Returns `Memory` if memory ran out. `out` is then unchanged.
     #[tactic(auto, unfolding(crate::specs::Names::name_format))]
     pub fn encode_ref(&self, _alloc: Global, out: &mut Vec<u8>) -> Result<(), EncodeError>
         ensures writes { Writes (name_part self.now) out.old.items result out.new.items }
@@ -219,6 +242,10 @@ impl Name {
     }
 
     /// Clones the name.
+    ///
+    /// # Errors
+    ///
+    /// Returns an error if memory ran out.
     pub fn try_clone(&self, alloc: Global) -> Result<Name, AllocError>
         ensures { IfOk result (λ n. n ≡ self.now) }
     {
@@ -227,7 +254,7 @@ impl Name {
     }
 }
 
-/// A name is not of the form that is asked for.
+/// A name isn't of the form that the profile requires (RFC 6487 4.4, 4.5, RFC 8209 3.1.1).
 #[derive(Debug, Clone, Copy, PartialEq, Eq, Error)]
 #[error("invalid name")]
 pub struct InvalidName;

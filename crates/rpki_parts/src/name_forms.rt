@@ -98,9 +98,14 @@ impl ReadAttributes {
 }
 
 impl Name {
-    /// Checks whether the name has the form that certificates of the RPKI ask for (RFC 6487 4.4,
-    /// 4.5): one CommonName, at most one serialNumber and nothing else, as PrintableString, or
-    /// where inspection isn't strict, also as UTF8String.
+    /// Checks that the name is of the form that a certificate requires (RFC 6487 4.4, 4.5).
+    ///
+    /// That is one CommonName, at most one serialNumber, and nothing else, each a PrintableString.
+    /// If `strict` is false, each may also be a UTF8String (own).
+    ///
+    /// # Errors
+    ///
+    /// Returns `InvalidName` if it isn't.
     #[tactic(auto, using(crate::proofs::NameForms::form_is, crate::proofs::NameForms::form_named, crate::proofs::NameForms::no_form, crate::proofs::NameForms::is_sequence))]
     pub fn inspect_rpki(&self, strict: bool) -> Result<(), InvalidName>
         ensures { IsOk result ↔ IsRpkiName strict self.now }
@@ -118,8 +123,12 @@ impl Name {
         }
     }
 
-    /// Checks whether the name has the form that routers' certificates ask for (RFC 8209 3.1.1).
-    /// Both modes ask for one form: strings of both kinds may stand.
+    /// Checks that the name is of the form that a router's certificate requires (RFC 8209 3.1.1):
+    /// that of [`Name::inspect_rpki`], with UTF8Strings allowed whatever `strict` is (own).
+    ///
+    /// # Errors
+    ///
+    /// Returns `InvalidName` if it isn't.
     pub fn inspect_router(&self, _strict: bool) -> Result<(), InvalidName>
         ensures { IsOk result ↔ IsRouterName self.now }
     {

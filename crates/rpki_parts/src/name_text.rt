@@ -297,10 +297,12 @@ fn write_name<W: fmt::Write>(f: &mut fmt::Formatter<W>, octets: &Cursor<'_>) -> 
     write_parts(f, &parts)
 }
 
-/// The text of RFC 4514, but with the parts in the order in which they stand and a comma and a
-/// space between them, as `CN=example+serialNumber=1, OU=more`. CN, serialNumber, C, O and OU stand
-/// before the characters of a PrintableString or UTF8String, any other type by its numbers before
-/// the octets of its value, as `2.5.4.42=#130141`.
+/// Writes the text of RFC 4514, but with the parts in the order of the name and a comma and a space
+/// between them, as `CN=example+serialNumber=1, OU=more` (own).
+///
+/// CN, serialNumber, C, O and OU are the short names of types; any other type is written by its
+/// numbers. Behind a short name, a PrintableString or UTF8String is written by its characters. Any
+/// other value is written by its bytes, as `2.5.4.42=#130141`.
 impl fmt::Display for Name {
     ghost output = { λ n. Some (name_text n) };
 

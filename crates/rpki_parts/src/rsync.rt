@@ -13,7 +13,7 @@ use std::alloc::{AllocError, Global};
 use std::fmt;
 use std::marker::Model;
 
-/// An rsync URI (RFC 5781), as its octets.
+/// An rsync URI (RFC 5781), as its bytes.
 #[derive(Drop)]
 pub struct Rsync {
     octets: Piece,
@@ -33,9 +33,15 @@ impl Model for Rsync {
 }
 
 impl Rsync {
-    /// Makes the URI of these octets, which must be `21` to `7E`: `rsync://` in any case, an
-    /// authority, `/`, a module, and then nothing, or `/` and a path none of whose segments is `.`
-    /// or `..`. Authority and module are not empty. Takes no memory.
+    /// Makes the URI with these bytes (RFC 5781). Takes no memory.
+    ///
+    /// Each byte must be a visible ASCII character, `21` to `7E`. The form is `rsync://` in any
+    /// case, an authority, `/`, a module, and then nothing, or `/` and a path. Authority and module
+    /// aren't empty. No segment of the path is `.` or `..` (own).
+    ///
+    /// # Errors
+    ///
+    /// Returns `BadUri` if the bytes aren't of this form.
     pub fn from_bytes(octets: Bytes) -> Result<Rsync, BadUri>
         ensures accepted { IsOk result ↔ IsRsync octets }
         ensures ok { IfOk result (λ u. u ≡ octets) }
@@ -43,7 +49,11 @@ impl Rsync {
         Rsync::from_piece(Piece::from(octets))
     }
 
-    /// Makes the URI of these octets, as [`Rsync::from_bytes`] does.
+    /// Makes the URI with these bytes, as [`Rsync::from_bytes`] does.
+    ///
+    /// # Errors
+    ///
+    /// As [`Rsync::from_bytes`].
     pub fn from_piece(octets: Piece) -> Result<Rsync, BadUri>
         ensures accepted { IsOk result ↔ IsRsync octets }
         ensures ok { IfOk result (λ u. u ≡ octets) }
@@ -55,8 +65,12 @@ impl Rsync {
         }
     }
 
-    /// Makes the URI of this text, which is copied. Errs with `BadUri` where [`Rsync::from_bytes`]
-    /// errs.
+    /// Makes the URI with this text, which is copied.
+    ///
+    /// # Errors
+    ///
+    /// Returns `BadUri` if and only if the text isn't of the form that [`Rsync::from_bytes`]
+    /// requires, or `Memory` if memory ran out.
     pub fn from_text(alloc: Global, text: &str) -> Result<Rsync, UriError>
         ensures ok { IfOk result (λ u. u ≡ text.now) }
         ensures accepted { OnOk result (IsRsync text.now) }
@@ -71,7 +85,7 @@ impl Rsync {
         })
     }
 
-    /// Returns the octets.
+    /// Returns the bytes of the URI.
     pub fn as_bytes(&self) -> &[u8]
         ensures octets { result.now ≡ self.now }
         ensures valid { IsRsync self.now }
@@ -79,15 +93,19 @@ impl Rsync {
         self.octets.as_bytes()
     }
 
-    /// Returns the text.
+    /// Returns the text of the URI.
     pub fn as_str(&self) -> &str
         ensures { result.now ≡ self.now }
     {
         text_of(self.as_bytes())
     }
 
-    /// Returns the parent where the path is not empty: without one slash at the end, the URI
-    /// through its last slash.
+    /// Returns the parent: without one slash at its end, the URI through its last slash (own).
+    /// Returns `None` if the path is empty.
+    ///
+    /// # Errors
+    ///
+    /// Returns an error if memory ran out.
     pub fn parent(&self, alloc: Global) -> Result<Option<Rsync>, AllocError>
         ensures none { IfOk result (λ p. IsNone p ↔ HasNoPath self.now) }
         ensures some { IfOk result (λ p. IfSome p (IsParent self.now)) }
@@ -103,14 +121,15 @@ impl Rsync {
         }
     }
 
-    /// Returns whether the two are equal after each lost one slash at its end.
+    /// Returns whether the two URIs are equal without one slash at the end of each (own).
     pub fn is_identical_to(&self, other: &Rsync) -> bool
         ensures { IsTrue result ↔ AreIdentical self.now other.now }
     {
         are_identical(self.as_bytes(), other.as_bytes())
     }
 
-    /// Returns whether there is a parent, and it is identical to the other one. Takes no memory.
+    /// Returns whether the URI has a parent, and that is identical to the other URI
+    /// ([`Rsync::is_identical_to`]; own). Takes no memory.
     pub fn parent_is(&self, other: &Rsync) -> bool
         ensures { IsTrue result ↔ HasParent self.now other.now }
     {
@@ -121,6 +140,10 @@ impl Rsync {
     }
 
     /// Clones the URI.
+    ///
+    /// # Errors
+    ///
+    /// Returns an error if memory ran out.
     pub fn try_clone(&self, alloc: Global) -> Result<Rsync, AllocError>
         ensures { IfOk result (λ u. u ≡ self.now) }
     {
@@ -129,7 +152,7 @@ impl Rsync {
     }
 }
 
-/// The URI as it stands.
+/// Writes the URI unchanged.
 impl fmt::Display for Rsync {
     ghost output = { λ u. Some u };
 
@@ -138,7 +161,7 @@ impl fmt::Display for Rsync {
     }
 }
 
-/// Compares authorities without ASCII case, and what follows them by octets.
+/// Compares authorities without ASCII case, and what follows them byte by byte.
 impl PartialEq for Rsync {
     ghost eq = { parts.are_equal };
 

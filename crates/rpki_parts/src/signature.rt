@@ -27,7 +27,7 @@ impl Model for Signature {
 }
 
 impl Signature {
-    /// Makes the signature with these octets, made by this algorithm.
+    /// Makes the signature with these bytes and this algorithm.
     pub fn new(algorithm: RpkiSignatureAlgorithm, value: Bytes) -> Signature
         ensures { result ≡ record { algorithm = algorithm; value = value } }
     {
@@ -43,14 +43,14 @@ impl Signature {
         Signature { algorithm, value }
     }
 
-    /// Returns the algorithm that made it.
+    /// Returns the algorithm that the signature names.
     pub fn algorithm(&self) -> &RpkiSignatureAlgorithm
         ensures { result.now ≡ self.now.algorithm }
     {
         &self.algorithm
     }
 
-    /// Returns the octets of the signature.
+    /// Returns the bytes of the signature.
     pub fn value(&self) -> &[u8]
         ensures same { result.now ≡ self.now.value }
         ensures octets { AreOctets self.now.value }
@@ -61,6 +61,10 @@ impl Signature {
     }
 
     /// Clones the signature.
+    ///
+    /// # Errors
+    ///
+    /// Returns an error if memory ran out.
     pub fn try_clone(&self, alloc: Global) -> Result<Signature, AllocError>
         ensures { IfOk result (λ s. s ≡ self.now) }
     {
@@ -72,15 +76,16 @@ impl Signature {
     }
 }
 
-/// Tells whether a signature belongs to a message and a key. The message is the whole value that is
-/// signed, its identifier and length included. The bits of the key are the content of the BIT
-/// STRING, without the count of unused bits ([`PublicKey::bits`]). The algorithm is the one that
-/// the signature names. The relation `verifies` is stated by who implements this; where the answer
-/// comes from foreign code, that statement is what is trusted of it.
+/// Decides whether a signature is that of a message and a key.
+///
+/// The message is the whole value that is signed, with its identifier and length. The bits of the
+/// key are those of [`PublicKey::bits`]. The algorithm is the one that the signature names. Each
+/// implementation states the relation `verifies`; if foreign code gives the answer, that statement
+/// is what is trusted of it.
 pub trait Verifier {
     ghost use Rattle.rpki_parts.specs.Signatures.{Verifies};
 
-    /// The relation that the answer tells.
+    /// The relation that the answer decides.
     ghost verifies: { Self → Verifies };
 
     /// Returns whether the relation of key, algorithm, message and signature holds.
@@ -94,28 +99,34 @@ pub trait Verifier {
         ensures { IsTrue result ↔ verifies self.now key.now algorithm message.now signature.now };
 }
 
-/// Makes signatures by keys that it knows.
+/// Makes signatures with keys that it knows.
 pub trait Signer {
     ghost use Rattle.std.specs.Prelude.{ℕ, List, Result};
     ghost use Rattle.rpki_parts.specs.Algorithms.{Algorithm};
     ghost use Rattle.rpki_parts.specs.Signatures.{SignatureFields};
     ghost use Rattle.rpki_parts.specs.declared.signature.SigningError.{SigningError as Refusal};
 
-    /// What names a key of this signer.
+    /// The type that names a key of this signer.
     type KeyId;
 
-    /// What can keep it from signing.
+    /// The reason why the signer doesn't sign.
     type Error;
 
-    /// The relation of key, algorithm, message and answer that each answer meets, also an error.
+    /// The relation of key, algorithm, message and answer that each answer satisfies, errors
+    /// included.
     ghost signs: { Self → Self.KeyId → Algorithm → List ℕ
         → Result SignatureFields (Refusal Self.Error) → Type 0 };
 
-    /// Signs the message by the key that is named. The message is the whole value that is to be
-    /// signed, its identifier and length included. [`Signature::algorithm`] should be the algorithm
-    /// that is asked for: readers reject a certificate or list that names another one beside its
-    /// signature (RFC 5280 4.1.1.2, 5.1.1.2). Errs with [`SigningError::Memory`] when out of
-    /// memory, and with [`SigningError::Signer`] for what else keeps the signer from signing.
+    /// Signs the message with the key that `key` names.
+    ///
+    /// The message is the whole value that is to be signed, with its identifier and length.
+    /// [`Signature::algorithm`] should be `algorithm`: readers reject a certificate or CRL that
+    /// names another algorithm beside its signature (RFC 5280 4.1.1.2, 5.1.1.2).
+    ///
+    /// # Errors
+    ///
+    /// Returns [`SigningError::Memory`] if memory ran out, and [`SigningError::Signer`] if
+    /// something else keeps the signer from signing.
     fn sign(
         &self,
         alloc: Global,
@@ -126,14 +137,16 @@ pub trait Signer {
         ensures { signs self.now key.now algorithm message.now result };
 }
 
-/// Why something could not be signed.
+/// The reason why something wasn't signed.
 #[derive(Debug, Drop, Error)]
 pub enum SigningError<E> {
+    /// The signer failed, with its own reason.
     #[error("signer failed")]
     Signer(E),
-    /// A content would have 2^32 octets or more.
+    /// A content would have 2^32 bytes or more.
     #[error("content too long")]
     TooLong,
+    /// Memory ran out.
     #[error("out of memory")]
     Memory,
 }
@@ -154,7 +167,7 @@ impl<E> SigningError<E> {
         }
     }
 
-    /// Tells whether memory ran out.
+    /// Returns whether memory ran out.
     pub fn is_memory(&self) -> bool
         ensures { IsTrue result ↔ self.now ≡ error.Memory }
     {
@@ -189,7 +202,7 @@ impl<E> From<AllocError> for SigningError<E> {
     }
 }
 
-/// The signature doesn't belong to the data and the key.
+/// The signature isn't that of the message and the key.
 #[derive(Debug, Clone, Copy, PartialEq, Eq, Error)]
 #[error("invalid signature")]
 pub struct SignatureVerificationError;

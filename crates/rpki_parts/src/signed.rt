@@ -30,7 +30,7 @@ fn take_signature(alloc: Global, cursor: &mut Cursor<'_>) -> Result<Signature, D
     Ok(Signature::from_piece(algorithm, value))
 }
 
-/// Octets that are signed, kept as they stand, and their signature.
+/// A to-be-signed part, kept as it was read or made, with its signature (RFC 5280 4.1, 5.1).
 #[derive(Drop)]
 pub struct SignedData {
     data: Piece,
@@ -46,7 +46,11 @@ impl Model for SignedData {
 }
 
 impl SignedData {
-    /// Makes the signed data of these octets, with a signature that is said to be theirs.
+    /// Makes the signed data with these bytes and this signature.
+    ///
+    /// # Not checked
+    ///
+    /// Whether the signature is that of the bytes ([`SignedData::verify_signature`]).
     pub fn new(data: Bytes, signature: Signature) -> SignedData
         ensures { result ≡ record { message = «data»; signature = signature } }
     {
@@ -70,8 +74,18 @@ impl SignedData {
         Ok(SignedData { data, signature })
     }
 
-    /// Reads what stands in the SEQUENCE: a value, which is kept as it stands, the algorithm, and
-    /// the BIT STRING of the signature, of which no bits are unused.
+    /// Reads what is inside the SEQUENCE: a value, which is kept as it is, the algorithm, and the
+    /// BIT STRING of the signature (RFC 5280 4.1, 5.1).
+    ///
+    /// # Errors
+    ///
+    /// Returns an error if the bytes at the cursor don't begin with these three, or if bits of the
+    /// BIT STRING are unused (own); which error is unspecified. Returns `Memory` if memory ran out.
+    /// The cursor then stays where it was.
+    ///
+    /// # Not checked
+    ///
+    /// The signature ([`SignedData::verify_signature`]), and the content of the value.
     pub fn from_constructed(
         alloc: Global,
         content: &mut Cursor<'_>,
@@ -81,22 +95,26 @@ impl SignedData {
         SignedData::read(alloc, content)
     }
 
-    /// Returns the octets that are signed.
+    /// Returns the bytes that are signed.
     pub fn data(&self) -> &[u8]
         ensures { result.now ≡ self.now.message }
     {
         self.data.as_bytes()
     }
 
-    /// Returns the signature that is said to be theirs.
+    /// Returns the signature.
     pub fn signature(&self) -> &Signature
         ensures { result.now ≡ self.now.signature }
     {
         &self.signature
     }
 
-    /// Asks the verifier whether the signature belongs to the key and to the octets as they are
+    /// Checks with the verifier that the signature is that of the key and of the bytes that are
     /// kept. Takes no memory.
+    ///
+    /// # Errors
+    ///
+    /// Returns `SignatureVerificationError` if and only if the verifier rejects the signature.
     pub fn verify_signature<V: Verifier>(
         &self,
         key: &PublicKey,
@@ -142,9 +160,12 @@ impl SignedData {
         Ok(())
     }
 
-    /// Signs these octets by the key that `key` names, and keeps them with the signature (own). The
-    /// signer's error is passed on as it stands. Errs with `TooLong` also where the whole would
-    /// have a content of 2^32 octets or more.
+    /// Signs these bytes with the key that `key` names, and keeps them with the signature (own).
+    ///
+    /// # Errors
+    ///
+    /// Returns the signer's error unchanged, `TooLong` if the whole would have a content of 2^32
+    /// bytes or more, or `Memory`.
     pub fn sign<S: Signer>(
         alloc: Global,
         signer: &S,
@@ -176,8 +197,13 @@ impl SignedData {
         self.append_signature(alloc, out)
     }
 
-    /// Appends the SEQUENCE of the octets as they are kept, the algorithm and the signature. Errs
-    /// with `TooLong` where its content would have 2^32 octets or more.
+    /// Appends the SEQUENCE of the bytes that are kept, the algorithm and the signature (RFC 5280
+    /// 4.1, 5.1).
+    ///
+    /// # Errors
+    ///
+    /// Returns `TooLong` if the content would have 2^32 bytes or more, or `Memory`. `out` is then
+    /// unchanged.
     pub fn encode_ref(&self, alloc: Global, out: &mut Vec<u8>) -> Result<(), EncodeError>
         ensures { Writes (signed_part self.now) out.old.items result out.new.items }
     {
@@ -187,6 +213,10 @@ impl SignedData {
     }
 
     /// Clones the signed data.
+    ///
+    /// # Errors
+    ///
+    /// Returns an error if memory ran out.
     pub fn try_clone(&self, alloc: Global) -> Result<SignedData, AllocError>
         ensures { IfOk result (λ s. s ≡ self.now) }
     {

@@ -7,8 +7,8 @@ use crate::signature::{Signature, Signer, SigningError, Verifier};
 use bytes::Bytes;
 use std::alloc::{AllocError, Global};
 
-/// Verifies and makes signatures that anyone can make: the octets of the key's bits, and the
-/// message. It is for tests and for trying things out. **It protects nothing.**
+/// Makes and verifies dummy signatures, which anyone can make: the key's bits, followed by the
+/// message (own). **It protects nothing**, and is for tests and for trying things out.
 #[derive(Clone, Copy)]
 pub struct StandIn;
 

@@ -6,7 +6,7 @@ use std::alloc::{AllocError, Global};
 use std::marker::Model;
 use std::rc::Rc;
 
-/// The name of the trust anchor locator (RFC 8630) by which a path begins.
+/// The name of a TAL (RFC 8630), which a valid path carries from its trust anchor on.
 #[derive(Drop)]
 pub struct TalInfo {
     name: String,
@@ -22,7 +22,7 @@ impl Model for TalInfo {
 }
 
 impl TalInfo {
-    /// Makes the locator of this name.
+    /// Makes the TAL with this name.
     pub fn from_name(name: String) -> TalInfo
         ensures { result ≡ string_bytes name }
     {
@@ -36,7 +36,11 @@ impl TalInfo {
         self.name.as_str()
     }
 
-    /// Shares the locator.
+    /// Moves the TAL into a reference-counted box, so that it can be shared.
+    ///
+    /// # Errors
+    ///
+    /// Returns an error if memory ran out.
     pub fn into_rc(self, alloc: Global) -> Result<Rc<TalInfo>, AllocError>
         ensures { IfOk result (λ t. rc_value t ≡ self) }
     {

@@ -9,7 +9,7 @@ use std::alloc::AllocError;
 use std::str;
 use thiserror::Error;
 
-/// The octets are not a URI of the kind that was asked for.
+/// The bytes aren't a URI of the scheme that was asked for.
 #[derive(Debug, Clone, Copy, PartialEq, Eq, Error)]
 #[error("bad URI")]
 pub struct BadUri;
@@ -25,12 +25,13 @@ impl BadUri {
     }
 }
 
-/// Why a text gave no URI.
+/// The reason why a text gave no URI.
 #[derive(Debug, Drop, Error)]
 pub enum UriError {
-    /// The text is not a URI of the kind that was asked for.
+    /// The text isn't a URI of the scheme that was asked for.
     #[error("bad URI")]
     BadUri,
+    /// Memory ran out.
     #[error("out of memory")]
     Memory,
 }
@@ -50,7 +51,7 @@ impl UriError {
         }
     }
 
-    /// Tells whether memory ran out.
+    /// Returns whether memory ran out.
     pub fn is_memory(&self) -> bool
         ensures { IsTrue result ↔ self.now ≡ error.Memory }
     {

@@ -6,13 +6,13 @@ use crate::validity::Validity;
 use rpki_der::Time;
 use thiserror::Error;
 
-/// Why a moment is outside a period of validity.
+/// The reason why a time is outside a validity period (RFC 5280 4.1.2.5).
 #[derive(Debug, Clone, Copy, PartialEq, Eq, Error)]
 pub enum ValidityError {
-    /// It is before the first moment.
+    /// The time is before `not_before`.
     #[error("not yet valid")]
     NotYetValid,
-    /// It is after the last moment.
+    /// The time is after `not_after`.
     #[error("expired")]
     Expired,
 }
@@ -33,7 +33,12 @@ impl ValidityError {
 }
 
 impl Validity {
-    /// Checks whether the moment lies in the period, to which both ends belong. Takes no memory.
+    /// Checks that this time is in the validity period, both ends included (RFC 5280 4.1.2.5).
+    /// Takes no memory.
+    ///
+    /// # Errors
+    ///
+    /// Returns `NotYetValid` if the time is before the period, else `Expired` if it is after it.
     pub fn verify_at(self, now: Time) -> Result<(), ValidityError>
         ensures { Tests (IsInTime self now) validity_faults result }
     {

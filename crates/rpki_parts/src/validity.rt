@@ -16,8 +16,7 @@ use rpki_der::{Cursor, DecodeError, EncodeError, Time, end_value, tag};
 use std::alloc::Global;
 use std::marker::Model;
 
-/// The period in which a certificate is valid, both ends included (RFC 5280 4.1.2.5). Which of them
-/// is earlier isn't tested.
+/// The validity period of a certificate, both ends included (RFC 5280 4.1.2.5).
 #[derive(Clone, Copy)]
 pub struct Validity {
     not_before: Time,
@@ -35,8 +34,11 @@ impl Model for Validity {
 }
 
 impl Validity {
-    /// Makes the period from `not_before` to `not_after`, both included. It doesn't check which of
-    /// them is earlier.
+    /// Makes the validity period from `not_before` to `not_after`, both included.
+    ///
+    /// # Not checked
+    ///
+    /// Whether `not_before` is the earlier time.
     pub fn new(not_before: Time, not_after: Time) -> Validity
         ensures { result ≡ record { not_before = not_before; not_after = not_after } }
     {
@@ -46,14 +48,14 @@ impl Validity {
         }
     }
 
-    /// Returns the first moment at which it is valid.
+    /// Returns the first time at which the certificate is valid.
     pub fn not_before(self) -> Time
         ensures { result ≡ self.not_before }
     {
         self.not_before
     }
 
-    /// Returns the last moment at which it is valid.
+    /// Returns the last time at which the certificate is valid.
     pub fn not_after(self) -> Time
         ensures { result ≡ self.not_after }
     {
@@ -86,7 +88,16 @@ impl Validity {
         Ok(validity)
     }
 
-    /// Reads the SEQUENCE of two times that stands next.
+    /// Reads the validity period at the cursor: a SEQUENCE of two times (RFC 5280 4.1.2.5).
+    ///
+    /// # Errors
+    ///
+    /// Returns an error if the bytes at the cursor don't begin with such a SEQUENCE; which error is
+    /// unspecified. The cursor then stays where it was.
+    ///
+    /// # Not checked
+    ///
+    /// Whether `not_before` is the earlier time.
     pub fn take_from(cursor: &mut Cursor<'_>) -> Result<Validity, DecodeError>
         ensures { Answers validity_format cursor.old result cursor.new }
     {
@@ -104,7 +115,11 @@ impl Validity {
         self.not_after.encode_varied(alloc, out)
     }
 
-    /// Appends the SEQUENCE of both times. The only error is `Memory`.
+    /// Appends the SEQUENCE of both times (RFC 5280 4.1.2.5).
+    ///
+    /// # Errors
+    ///
+    /// Returns `Memory` if memory ran out. `out` is then unchanged.
     #[tactic(auto, unfolding(crate::specs::Validities::validity_format))]
     pub fn encode(&self, alloc: Global, out: &mut Vec<u8>) -> Result<(), EncodeError>
         ensures writes { Writes (part validity_format self.now) out.old.items result out.new.items }

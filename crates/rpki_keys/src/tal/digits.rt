@@ -7,7 +7,15 @@ use base64::DecodeAllocError;
 use base64::engine::general_purpose::STANDARD;
 use std::alloc::{AllocError, Global};
 
-/// Appends a line without its white space. After an error nothing is appended.
+/// Appends a line without its white space.
+///
+/// # Errors
+///
+/// Returns an error if memory runs out. Then nothing is appended.
+///
+/// # Not checked
+///
+/// Whether what is appended are digits of base64 ([`octets_of`] checks it).
 pub fn push_digits(digits: &mut Vec<u8>, line: &[u8]) -> Result<(), AllocError>
     ensures ok { OnOk result (digits.new.items ≡ digits.old.items ++ without_white_space line.now) }
     ensures err { OnErr result (digits.new.items ≡ digits.old.items) }
@@ -22,8 +30,12 @@ pub fn push_digits(digits: &mut Vec<u8>, line: &[u8]) -> Result<(), AllocError>
     Ok(())
 }
 
-/// Returns the octets that digits of base64 stand for (RFC 4648 4), if they stand for any: with
-/// padding, and with zeros for its bits (RFC 4648 3.5). They stand for no others.
+/// Decodes digits of base64 (RFC 4648 4), with padding, and with zeros for its bits (RFC 4648 3.5).
+/// Returns `None` if they encode no octets.
+///
+/// # Errors
+///
+/// Returns an error if memory runs out.
 pub fn octets_of(alloc: Global, digits: &[u8]) -> Result<Option<Vec<u8>>, AllocError>
     ensures found { IfOk result (λ found. MatchOption found
         ((octets : List ℕ) → IsBytes octets → digits.now ≢ base64_of octets)

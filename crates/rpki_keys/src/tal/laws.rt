@@ -3,13 +3,13 @@
 ghost use Rattle.std.specs.Prelude.{◌≡◌, ℕ, List, Bool, true, false};
 ghost use Rattle.rpki_keys.specs.Locators.{IsLocator, TalFields};
 
-/// Says that a file is at most one locator: it names one sequence of URIs, and one key.
+/// Says that a file is at most one TAL: it has one sequence of URIs, and one key.
 pub fn unambiguous()
     ensures { (strict other : Bool) (t u : TalFields) (file : List ℕ)
         → IsLocator strict t file → IsLocator other u file → t ≡ u }
 {}
 
-/// Says that what is a locator strictly is that locator leniently.
+/// Says that a file that is a TAL in strict mode is that TAL without strict mode too.
 pub fn lenient()
     ensures { (t : TalFields) (file : List ℕ) → IsLocator true t file → IsLocator false t file }
 {}

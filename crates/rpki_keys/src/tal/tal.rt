@@ -19,8 +19,11 @@ use std::marker::Model;
 use std::rc::Rc;
 use std::str;
 
-/// A locator: the URIs under which the certificate of a trust anchor may be found, in their order,
-/// the key that it has to have, and the locator's name (RFC 8630 2).
+/// A TAL: the URIs of a trust anchor's certificate, in their order, the key that the certificate
+/// has to have, and the TAL's name (RFC 8630 2).
+///
+/// [`Tal::read_named`] reads one. The caller fetches the certificate; [`Tal::has_key`] compares its
+/// key, and `rpki_path::validate_located` validates a path below it.
 #[derive(Drop)]
 pub struct Tal {
     uris: Vec<TalUri>,
@@ -69,11 +72,28 @@ fn key_in(alloc: Global, text: &[u8]) -> Result<PublicKey, TalError>
 }
 
 impl Tal {
-    /// Reads the locator that a file is, and gives it this name: lines of comments, which begin
-    /// with `#`; at least one line that is an rsync or https URI; an empty line; and a
-    /// SubjectPublicKeyInfo in base64, between whose digits white space may stand (RFC 8630 2.2).
-    /// Lines end with LF or CRLF. Strictly, the file is UTF-8; else the comments may be any octets.
-    /// Errs with what is wrong first, from the file's beginning on.
+    /// Reads a file as a TAL, and gives it this name (RFC 8630 2.2).
+    ///
+    /// The file has lines of comments, which start with `#`; at least one line that is an rsync or
+    /// https URI; an empty line; and a SubjectPublicKeyInfo in base64, whose digits may have white
+    /// space between them. Lines end with LF or CRLF. In strict mode the file is UTF-8, else the
+    /// comments may be any octets (own).
+    ///
+    /// # Errors
+    ///
+    /// Returns what is wrong first, from the file's beginning on:
+    ///
+    /// - `NoText`: the file isn't UTF-8, in strict mode
+    /// - `BadUri`: a line after the comments is neither an rsync nor an https URI, nor empty
+    /// - `NoUri`: the empty line comes before any URI
+    /// - `NoKey`: the file ends before the empty line
+    /// - `BadKey`: what follows the empty line isn't a public key in base64
+    /// - `Memory`: memory ran out
+    ///
+    /// # Not checked
+    ///
+    /// Whether the RPKI uses such a key ([`crate::is_usable`] checks it), and whether the URIs lead
+    /// to the trust anchor's certificate: nothing is fetched.
     pub fn read_named(
         alloc: Global,
         name: String,
@@ -113,15 +133,19 @@ impl Tal {
         &self.key_info
     }
 
-    /// Returns the name.
+    /// Returns the TAL's name.
     pub fn info(&self) -> &Rc<TalInfo>
         ensures { rc_value result.now ≡ self.now.name }
     {
         &self.info
     }
 
-    /// Returns whether a certificate's key is the locator's (RFC 8630 3): whether its algorithm and
-    /// its bits are. The NULL behind rsaEncryption doesn't count.
+    /// Returns whether a certificate's key is the TAL's (RFC 8630 3): whether its algorithm and its
+    /// bits are. The NULL after rsaEncryption doesn't count.
+    ///
+    /// # Not checked
+    ///
+    /// Whether the certificate is valid, and whether its key signed it.
     pub fn has_key(&self, key: &PublicKey) -> bool
         ensures { IsTrue result ↔ (key.now ≡ self.now.tal.key) }
     {

@@ -2,24 +2,25 @@
 use std::alloc::AllocError;
 use thiserror::Error;
 
-/// Why a file isn't a locator: what is wrong first, from its beginning on.
+/// Why a file isn't a TAL: what is wrong first, from its beginning on (RFC 8630 2.2).
 #[derive(Debug, Drop, Error)]
 pub enum TalError {
-    /// The file, which was read strictly, isn't UTF-8.
+    /// The file is read in strict mode and isn't UTF-8 (RFC 8630 2.2).
     #[error("not UTF-8 text")]
     NoText,
-    /// A line of the URI section is neither an rsync nor an https URI.
+    /// A line of the URI section is neither an rsync nor an https URI (RFC 8630 2.2).
     #[error("bad URI")]
     BadUri,
-    /// The URI section is empty.
+    /// The URI section is empty (RFC 8630 2.2).
     #[error("no URI")]
     NoUri,
-    /// The file ends before the empty line behind the URIs.
+    /// The file ends before the empty line after the URIs (RFC 8630 2.2).
     #[error("no key")]
     NoKey,
-    /// What follows the empty line isn't a public key in base64.
+    /// What follows the empty line isn't a public key in base64 (RFC 8630 2.2).
     #[error("bad key")]
     BadKey,
+    /// Memory ran out (own).
     #[error("out of memory")]
     Memory,
 }
@@ -43,7 +44,7 @@ impl TalError {
         }
     }
 
-    /// Tells whether memory ran out.
+    /// Returns whether memory ran out.
     pub fn is_memory(&self) -> bool
         ensures { IsTrue result ↔ self.now ≡ Memory }
     {

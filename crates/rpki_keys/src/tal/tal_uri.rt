@@ -10,12 +10,12 @@ use rpki_parts::{Https, Rsync};
 use std::alloc::{AllocError, Global};
 use std::fmt;
 
-/// Where the certificate of a trust anchor may be found (RFC 8630 2.2).
+/// A URI of a trust anchor's certificate (RFC 8630 2.2).
 #[derive(Drop)]
 pub enum TalUri {
-    /// By rsync.
+    /// An rsync URI.
     Rsync(Rsync),
-    /// By https.
+    /// An https URI.
     Https(Https),
 }
 
@@ -37,7 +37,7 @@ impl TalUri {
         }
     }
 
-    /// Returns the text.
+    /// Returns the text of the URI.
     pub fn as_str(&self) -> &str
         ensures { result.now ≡ uri_text self.now }
     {
@@ -48,7 +48,7 @@ impl TalUri {
     }
 }
 
-/// The URI as it stands.
+/// Displays the URI as it was read.
 impl fmt::Display for TalUri {
     ghost output = { λ u. Some (uri_text u) };
 
