@@ -11,7 +11,7 @@ use Rattle.rpki_crl.specs.Lists.{CrlState}
 use Rattle.rpki_crl.specs.Stores.{Stored, IsUnder, IsEarliest}
 use Rattle.rpki_crl.specs.Revocation.{ListCheck, RevocationCheck, IsUnderUri, revocation_checks}
 use Rattle.rpki_crl.specs.declared.revocation_error.RevocationError.{RevocationError}
-use Rattle.rpki_crl.specs.declared.revocation_error.RevocationError.TheVariants.{NoCrl, WrongKeyId, BadSignature, Stale, Revoked}
+use Rattle.rpki_crl.specs.declared.revocation_error.RevocationError.TheVariants.{NoCrl, WrongKeyId, BadSignature, Stale, Revoked, WrongIssuer}
 
 -- ---- the first with P is one
 
@@ -55,6 +55,7 @@ module _ (x : Context) (issuer : TbsFields) (serial : ℕ) (IsAsked : CrlState �
     check_of BadSignature l = λ d at. subst (λ (c : CrlState). ListCheck x issuer serial c.list BadSignature) (sym (one d at)) l
     check_of Stale l = λ d at. subst (λ (c : CrlState). ListCheck x issuer serial c.list Stale) (sym (one d at)) l
     check_of Revoked l = λ d at. subst (λ (c : CrlState). ListCheck x issuer serial c.list Revoked) (sym (one d at)) l
+    check_of WrongIssuer l = λ d at. tt
 
     list_of : (e : RevocationError) → RevocationCheck x issuer serial IsAsked e → ListCheck x issuer serial crl.list e
     list_of NoCrl l = tt
@@ -62,6 +63,7 @@ module _ (x : Context) (issuer : TbsFields) (serial : ℕ) (IsAsked : CrlState �
     list_of BadSignature l = l crl is
     list_of Stale l = l crl is
     list_of Revoked l = l crl is
+    list_of WrongIssuer l = tt
 
     -- what is tested of the list is what is tested
     pub tests_of : (r : Result (Unit {0}) RevocationError) → Tests (ListCheck x issuer serial crl.list) revocation_checks r → Tests (RevocationCheck x issuer serial IsAsked) revocation_checks r

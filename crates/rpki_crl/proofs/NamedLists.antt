@@ -9,7 +9,7 @@ use Rattle.rpki_crl.specs.Lists.{CrlState}
 use Rattle.rpki_crl.specs.Revocation.{RevocationCheck, CertRevocationCheck, IsUnderUri, IsListOf, IsUnrevoked, revocation_checks}
 use Rattle.rpki_crl.specs.Stores.{Stored}
 use Rattle.rpki_crl.specs.declared.revocation_error.RevocationError.{RevocationError}
-use Rattle.rpki_crl.specs.declared.revocation_error.RevocationError.TheVariants.{NoCrl, WrongKeyId, BadSignature, Stale, Revoked}
+use Rattle.rpki_crl.specs.declared.revocation_error.RevocationError.TheVariants.{NoCrl, WrongKeyId, BadSignature, Stale, Revoked, WrongIssuer}
 
 module _ (x : Context) (pairs : List Stored) (issuer : TbsFields) (c : CertFields) (uri : List ℕ) (is : c.fields.extensions.crl_uri ≡ Some uri) where
   abbrev UnderUri : RevocationError → Type 0
@@ -26,6 +26,7 @@ module _ (x : Context) (pairs : List Stored) (issuer : TbsFields) (c : CertField
   check_of BadSignature l = λ crl at. l crl (named crl at)
   check_of Stale l = λ crl at. l crl (named crl at)
   check_of Revoked l = λ crl at. l crl (named crl at)
+  check_of WrongIssuer l = λ crl at. tt
 
   under_of : (e : RevocationError) → CertRevocationCheck x pairs issuer c e → UnderUri e
   under_of NoCrl l = (l.0, named l.0 l.1)
@@ -33,6 +34,7 @@ module _ (x : Context) (pairs : List Stored) (issuer : TbsFields) (c : CertField
   under_of BadSignature l = λ crl at. l crl (uri, is, at)
   under_of Stale l = λ crl at. l crl (uri, is, at)
   under_of Revoked l = λ crl at. l crl (uri, is, at)
+  under_of WrongIssuer l = λ crl at. tt
 
   -- what is tested under the URI is what is tested of the certificate
   module _ (serial : ℕ) (number : c.fields.serial ≡ serial) (r : Result (Unit {0}) RevocationError) (t : Tests (RevocationCheck x issuer serial (IsUnderUri pairs uri)) revocation_checks r) where

@@ -1,5 +1,6 @@
 -- Whether the list of an issuer revokes a certificate, check by check (RFC 6487 7.2, RFC 5280
--- 6.3.3; own: the order of the checks, and that the earliest list under a URI is asked).
+-- 6.3.3; own: the order of the checks, that the earliest list under a URI is asked, and that the
+-- issuer's name of a list under a URI isn't compared, as 6.3.3 (b) (1) asks).
 use Rattle.std.specs.Prelude.{◌≡◌, ℕ, List, [], ◌∷◌, Some, codes}
 use Rattle.rpki_parts.specs.ValidAt.{IsNotAfter}
 use Rattle.rpki_cert.specs.Certificates.{TbsFields, CertFields}
@@ -8,7 +9,7 @@ use Rattle.rpki_crl.specs.Lists.{CrlFields, CrlState}
 use Rattle.rpki_crl.specs.RevokedEntries.{IsRevoked}
 use Rattle.rpki_crl.specs.Stores.{Stored, IsEarliest}
 use Rattle.rpki_crl.specs.declared.revocation_error.RevocationError.{RevocationError}
-use Rattle.rpki_crl.specs.declared.revocation_error.RevocationError.TheVariants.{NoCrl, WrongKeyId, BadSignature, Stale, Revoked}
+use Rattle.rpki_crl.specs.declared.revocation_error.RevocationError.TheVariants.{NoCrl, WrongKeyId, BadSignature, Stale, Revoked, WrongIssuer}
 
 -- the list names the issuer's key as the one that signs it (RFC 5280 5.2.1)
 abbrev pub NamesIssuer : TbsFields → CrlFields → Type 0
@@ -22,6 +23,7 @@ ListCheck x issuer serial list WrongKeyId = NamesIssuer issuer list
 ListCheck x issuer serial list BadSignature = IsSignedBy x.verifies issuer.key list.signed_data
 ListCheck x issuer serial list Stale = IsNotAfter x.now list.fields.next_update
 ListCheck x issuer serial list Revoked = IsRevoked serial list.fields.revoked.entries → ⊥
+ListCheck x issuer serial list WrongIssuer = Unit {0}
 
 -- the check is true where the list to be asked is one of these: there is one, and it has the check
 abbrev pub RevocationCheck : Context → TbsFields → ℕ → (CrlState → Type 0) → RevocationError → Type 0
@@ -30,7 +32,7 @@ RevocationCheck x issuer serial IsAsked e = (crl : CrlState) → IsAsked crl →
 
 -- in the order in which they are tested
 abbrev pub revocation_checks : List RevocationError
-revocation_checks = NoCrl ∷ WrongKeyId ∷ BadSignature ∷ Stale ∷ Revoked ∷ []
+revocation_checks = NoCrl ∷ WrongKeyId ∷ BadSignature ∷ Stale ∷ Revoked ∷ WrongIssuer ∷ []
 
 -- the list that is stored first under the URI
 abbrev pub IsUnderUri : List Stored → List ℕ → CrlState → Type 0
@@ -57,3 +59,4 @@ revocation_error_name WrongKeyId = codes "WrongKeyId"
 revocation_error_name BadSignature = codes "BadSignature"
 revocation_error_name Stale = codes "Stale"
 revocation_error_name Revoked = codes "Revoked"
+revocation_error_name WrongIssuer = codes "WrongIssuer"

@@ -44,12 +44,23 @@ impl Crl {
 }
 
 impl CrlStore {
-    /// Checks that the certificate with this serial number below the issuer isn't revoked: the list
-    /// that was pushed first under the URI is there (`NoCrl`), it names the issuer's key
-    /// (`WrongKeyId`), the issuer's key signed it (`BadSignature`), its next update isn't before
-    /// the moment (`Stale`), and it doesn't have the serial number (`Revoked`; RFC 6487 7.2, RFC
-    /// 5280 6.3.3). Errs with the first of these checks that fails. The mode changes nothing. Takes
-    /// no memory.
+    /// Checks that the certificate with this serial number below the issuer isn't revoked (RFC 6487
+    /// 7.2, RFC 5280 6.3.3). The mode changes nothing. Takes no memory.
+    ///
+    /// # Errors
+    ///
+    /// Returns the first of these errors whose condition holds:
+    ///
+    /// - `NoCrl`: no CRL was pushed under the URI; of several the first counts
+    /// - `WrongKeyId`: it doesn't name the issuer's key
+    /// - `BadSignature`: the issuer's key didn't sign it
+    /// - `Stale`: its nextUpdate is before the time
+    /// - `Revoked`: it has the serial number
+    ///
+    /// # Not checked
+    ///
+    /// Whether the CRL's time has begun, whether its issuer is the issuer's subject (RFC 5280 6.3.3
+    /// (b) (1)), and whether it is the newest (own).
     pub fn check<V: Verifier>(
         &self,
         crl_uri: &Rsync,

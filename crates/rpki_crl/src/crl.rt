@@ -109,8 +109,16 @@ impl Crl {
         Ok(crl)
     }
 
-    /// Decodes the list at the start of `octets` and ignores what follows. Fails if there is none;
-    /// which error is returned is unspecified.
+    /// Decodes the CRL at the start of `octets` and ignores what follows (RFC 5280 5.1, RFC 6487
+    /// 5).
+    ///
+    /// # Errors
+    ///
+    /// Returns an error if the octets begin with no CRL; which one is unspecified.
+    ///
+    /// # Not checked
+    ///
+    /// The signature, and the times.
     pub fn decode(alloc: Global, octets: &[u8]) -> Result<Crl, DecodeError>
         ensures means { let front = Means IsCertificateList in
             MeansOrMemoryBy (λ c. c.list) front result octets.now }
@@ -119,9 +127,14 @@ impl Crl {
         Crl::decode_shared(alloc, Bytes::copy_from_slice(alloc, octets)?)
     }
 
-    /// Decodes the list at the start of shared octets and ignores what follows (own). What is kept
-    /// shares the buffer and keeps all of it alive; a copy ([`Crl::try_clone`]) copies no octets.
-    /// Fails as [`Crl::decode`] does.
+    /// Decodes the CRL at the start of shared octets and ignores what follows (own).
+    ///
+    /// What is kept shares the buffer and keeps all of it alive; a copy ([`Crl::try_clone`]) copies
+    /// no octets.
+    ///
+    /// # Errors
+    ///
+    /// As [`Crl::decode`].
     pub fn decode_shared(alloc: Global, octets: Bytes) -> Result<Crl, DecodeError>
         ensures means { let front = Means IsCertificateList in
             MeansOrMemoryBy (λ c. c.list) front result octets }
@@ -192,7 +205,12 @@ impl Crl {
         Ok(())
     }
 
-    /// Returns whether the list revokes this serial number. Takes no memory.
+    /// Returns whether the CRL revokes this serial number. Takes no memory.
+    ///
+    /// # Not checked
+    ///
+    /// Whether the CRL is the certificate's issuer's, is signed, or is current
+    /// ([`CrlStore::check`]).
     pub fn contains(&self, serial: Serial) -> bool
         ensures { IsTrue result ↔ IsRevoked serial self.now.list.fields.revoked.entries }
     {

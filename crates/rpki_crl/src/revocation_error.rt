@@ -22,6 +22,10 @@ pub enum RevocationError {
     /// The list has the serial number.
     #[error("certificate revoked")]
     Revoked,
+    /// Of lists that are given and whose issuer names are compared: the issuer's key signed one,
+    /// which has another issuer, and none has the issuer's name.
+    #[error("wrong issuer of the revocation list")]
+    WrongIssuer,
 }
 
 impl RevocationError {
@@ -37,6 +41,7 @@ impl RevocationError {
             RevocationError::BadSignature => "BadSignature",
             RevocationError::Stale => "Stale",
             RevocationError::Revoked => "Revoked",
+            RevocationError::WrongIssuer => "WrongIssuer",
         }
     }
 }

@@ -9,8 +9,16 @@ use rpki_cert::{ResourceCert, VerificationError};
 use rpki_parts::{PublicKey, Verifier};
 
 impl Crl {
-    /// Checks that the list names the key of this issuer as the one that signs it (RFC 5280 5.2.1).
-    /// The mode changes nothing. The only error is `WrongKeyId`. Takes no memory.
+    /// Checks that the CRL names the key of this issuer as the one that signs it (RFC 5280 5.2.1).
+    /// The mode changes nothing. Takes no memory.
+    ///
+    /// # Errors
+    ///
+    /// Returns `WrongKeyId` only.
+    ///
+    /// # Not checked
+    ///
+    /// The issuer's name, and the signature.
     pub fn verify_issuer_claim(
         &self,
         issuer: &ResourceCert,
@@ -27,8 +35,12 @@ impl Crl {
         }
     }
 
-    /// Checks that the key signed the list, as the verifier answers of the octets that are kept
-    /// (RFC 5280 6.3.3). The only error is `BadSignature`. Takes no memory.
+    /// Checks that the key signed the CRL, by the verifier's answer about the octets that are kept
+    /// (RFC 5280 6.3.3). Takes no memory.
+    ///
+    /// # Errors
+    ///
+    /// Returns `BadSignature` only.
     pub fn verify_signature<V: Verifier>(
         &self,
         key: &PublicKey,

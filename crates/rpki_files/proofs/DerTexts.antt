@@ -1,35 +1,35 @@
--- Signed data is no text: the identifier of its algorithm has an octet at which no character begins.
-use Rattle.std.specs.Str.{IsUtf8}
-use Rattle.std.proofs.Common.{◌≡◌, ◌+◌, ◌-◌, ◌<◌, ℕ, List, [], ◌∷◌, ◌++◌, length, get_or, refl, sym, ap, ◌∙◌, arith, append_assoc, append-nil, length-append, inl, inr}
-use Rattle.std.proofs.lemmas.List.{get_or-append_right}
-use Rattle.std.proofs.lemmas.Str.{lead_after_ascii}
-use Rattle.rpki_der.specs.Tags.{OBJECT_IDENTIFIER, SEQUENCE}
+-- Signed data is no text: the signature, a BIT STRING of whole octets, begins with an octet 0.
+use Rattle.std.specs.List.{list_any}
+use Rattle.std.proofs.Common.{◌≡◌, ℕ, Bool, true, nat_eq, not, IsTrue, List, [], ◌∷◌, ◌++◌, length, refl, sym, ap, ◌∙◌, append_assoc, append-nil, inl, inr}
+use Rattle.std.proofs.lemmas.Bool.{false≢true, or_right}
+use Rattle.std.proofs.lemmas.List.Folds.{list_any-append}
+use Rattle.rpki_der.specs.Tags.{BIT_STRING, SEQUENCE}
 use Rattle.rpki_der.specs.Values.{IsEnc, enc, length_octets}
-use Rattle.rpki_parts.specs.Algorithms.{Algorithm, IsSignatureAlgorithm, algorithm_format, sha256_with_rsa}
 use Rattle.rpki_crl.specs.Lists.{certificate_list_content_format, certificate_list_format}
 use Rattle.rpki_parts.specs.SignedDatas.{SignedFields}
 use Rattle.rpki_der.specs.Skipping.{levels}
+use Rattle.rpki_parts.proofs.PartFormats.{whole_bits_are}
 use Rattle.rpki_parts.proofs.SignedFormats.{SignedParts, signed_parts}
 use Rattle.rpki_cert.proofs.CertificateParts.{certificate_parts}
 use Rattle.rpki_files.specs.Contents.{BeginsWithEither}
-use Rattle.rpki_files.specs.PemFiles.{IsObjectOf}
+use Rattle.rpki_files.specs.PemFiles.{IsObjectOf, is_text}
 
--- these octets have 0x2A and, right behind it, 0x86
-pub record HasMark (octets : List ℕ) : Type 0 where
+-- these octets have 0
+pub record HasZero (octets : List ℕ) : Type 0 where
   pub before : List ℕ
   pub behind : List ℕ
-  pub is : octets ≡ before ++ (0x2A ∷ 0x86 ∷ behind)
+  pub is : octets ≡ before ++ (0 ∷ behind)
 
--- octets around them
-around : (front octets rest : List ℕ) → HasMark octets → HasMark (front ++ (octets ++ rest))
+-- octets around it
+around : (front octets rest : List ℕ) → HasZero octets → HasZero (front ++ (octets ++ rest))
 around front octets rest h = record {
   before = front ++ h.before;
   behind = h.behind ++ rest;
   is = ap (λ (l : List ℕ). front ++ (l ++ rest)) h.is ∙ simp append_assoc;
 }
 
--- the content of a value has them
-in_value : (tag : ℕ) (content b : List ℕ) → IsEnc tag content b → HasMark content → HasMark b
+-- the content of a value has it
+in_value : (tag : ℕ) (content b : List ℕ) → IsEnc tag content b → HasZero content → HasZero b
 unfolding enc
 in_value tag content b e h =
     let m = around (tag ∷ length_octets (length content)) content [] h in
@@ -39,38 +39,29 @@ in_value tag content b e h =
       is = e.is ∙ ap (λ (l : List ℕ). tag ∷ (length_octets (length content) ++ l)) (sym (append-nil content)) ∙ m.is;
     }
 
--- the same octets have them
-same : (octets others : List ℕ) → octets ≡ others → HasMark others → HasMark octets
+-- the same octets have it
+same : (octets others : List ℕ) → octets ≡ others → HasZero others → HasZero octets
 same octets others e h = record { before = h.before; behind = h.behind; is = e ∙ h.is }
 
--- no text has them
-no_text : (octets : List ℕ) → HasMark octets → ¬ IsUtf8 octets
+-- no text has it
+no_text : (octets : List ℕ) → HasZero octets → ¬ IsTrue (is_text octets)
 no_text octets h text =
-    let n : ℕ = length h.before in
-    let mark : List ℕ = 0x2A ∷ 0x86 ∷ h.behind in
-    let at : get_or octets (length h.before) 0 ≡ 0x2A =
-    rw h.is (get_or-append_right h.before mark n n 0 refl (omega arith) ∙ (let none : n - n ≡ 0 = omega arith in ap (λ (k : ℕ). get_or mark k 0) none)) in
-    let next : get_or octets (length h.before + 1) 0 ≡ 0x86 =
-    rw h.is (get_or-append_right h.before mark n (n + 1) 0 refl (omega arith) ∙ (let one : n + 1 - n ≡ 1 = omega arith in ap (λ (k : ℕ). get_or mark k 0) one)) in
-    let size : length octets ≡ length h.before + length mark = ap length h.is ∙ length-append h.before mark in
-    let more : length mark ≡ 2 + length h.behind = omega arith in
-    let within : length h.before + 1 < length octets = omega (arith, size, more) in
-    let lead = lead_after_ascii octets (length h.before) text (omega (arith, at)) within (omega (arith, next)) in
-    omega (arith, next, lead)
+    let p : ℕ → Bool = λ octet. nat_eq octet 0 in
+    let has : list_any p octets ≡ true = ap (list_any p) h.is ∙ list_any-append p h.before (0 ∷ h.behind) ∙ or_right (list_any p h.before) true refl in
+    false≢true (ap not (sym has) ∙ text)
 
--- the algorithm's encoding has them
-in_algorithm : (a : Algorithm) (b : List ℕ) → IsSignatureAlgorithm a b → HasMark b
-unfolding algorithm_format
-in_algorithm a b (content, (identifier, parameters, is, null, whole), encoded) =
-    let found = in_value OBJECT_IDENTIFIER sha256_with_rsa identifier is.enc (record { before = []; behind = 0x48 ∷ 0x86 ∷ 0xF7 ∷ 0x0D ∷ 0x01 ∷ 0x01 ∷ 0x0B ∷ []; is = refl }) in
-    in_value SEQUENCE content b encoded (same content _ whole (around [] identifier parameters found))
+-- the last of three pieces
+at_end : (a b c : List ℕ) → a ++ (b ++ c) ≡ (a ++ b) ++ (c ++ [])
+at_end a b c = simp (append_assoc, append-nil)
 
--- signed data has them
-in_signed : (s : SignedFields) (content : List ℕ) → SignedParts s content → HasMark content
-in_signed s content p = same content _ p.is (around s.message p.algorithm p.signature (in_algorithm s.signature.algorithm p.algorithm p.algorithm_is))
+-- signed data has it
+in_signed : (s : SignedFields) (content : List ℕ) → SignedParts s content → HasZero content
+in_signed s content p =
+    let bits = in_value BIT_STRING (0 ∷ s.signature.value) p.signature (whole_bits_are s.signature.value p.signature p.signature_is) (record { before = []; behind = s.signature.value; is = refl }) in
+    same content _ (p.is ∙ at_end s.message p.algorithm p.signature) (around (s.message ++ p.algorithm) p.signature [] bits)
 
 -- a certificate and a list are no texts
-pub no_text_shown : (octets : List ℕ) → BeginsWithEither octets → ¬ IsUtf8 octets
+pub no_text_shown : (octets : List ℕ) → BeginsWithEither octets → ¬ IsTrue (is_text octets)
 unfolding certificate_list_format certificate_list_content_format
 no_text_shown octets shown =
     elim shown [
@@ -86,6 +77,6 @@ no_text_shown octets shown =
 pub taken_as_is : (file octets : List ℕ) → IsObjectOf file octets → BeginsWithEither file → octets ≡ file
 taken_as_is file octets object shown =
     elim object [
-      | inl pem ↦ absurd (no_text_shown file shown pem.is_text)
+      | inl pem ↦ absurd (no_text_shown file shown pem.is_of_text)
       | inr own ↦ own.0
     ]

@@ -1,19 +1,19 @@
 -- The lines of the first object of PEM in a text, as far as they were read.
 use Rattle.std.specs.Fn.{CalledAt}
 use Rattle.std.specs.Iterator.Adapters.{skip_source, skip_count, skip_steps, skip_while_source, skip_while_callee, skip_while_done_skipping, skip_while_steps}
+use Rattle.std.specs.Prelude.{nat_eq}
 use Rattle.std.specs.List.{flat_map, list_any, position_or_len, prefix_len}
-use Rattle.std.specs.Str.Iter.{lines_rest, lines_steps}
-use Rattle.std.specs.Str.Lines.{lines}
+use Rattle.std.specs.Slice.Iter.{split_callee, split_done, split_rest, split_steps}
 use Rattle.std.proofs.Common.{◌≡◌, ◌<◌, ℕ, zero, suc, Bool, true, false, not, List, [], ◌∷◌, ◌++◌, length, take, get_or, Bor, refl, sym, ap, subst, ◌∙◌, arith}
 use Rattle.std.proofs.lemmas.Bool.{or_parts, or_from, or_right}
 use Rattle.std.proofs.lemmas.Iterator.{YieldsList}
 use Rattle.std.proofs.lemmas.Iterator.Adapters.{YieldsList-from_skip, YieldsList-from_skip_while}
 use Rattle.std.proofs.lemmas.Iterator.Consumers.{YieldsList-at}
-use Rattle.std.proofs.lemmas.Iterator.Splits.{YieldsList-from_lines}
+use Rattle.std.proofs.lemmas.Iterator.Splits.{YieldsList-from_slice_split}
 use Rattle.std.proofs.lemmas.List.{drop-drop, flat_map_more}
 use denote.Param.Members.{Mut}
 use Rattle.rpki_keys.specs.Digits.{without_white_space}
-use Rattle.rpki_files.specs.PemFiles.{HasBase64, is_begin_line, is_end_line, lines_behind_begin}
+use Rattle.rpki_files.specs.PemFiles.{HasBase64, is_begin_line, is_end_line, lines_behind_begin, text_lines}
 
 -- an element that passes, where none before it does, is the first
 pub first_at : {X : Type 0} (p : X → Bool) (xs : List X) (n : ℕ) (x : X) → list_any p (take n xs) ≡ false → n < length xs → x ≡ get_or xs n x → p x ≡ true
@@ -66,10 +66,13 @@ never_ended digits other text seen h seen_is has =
     cc
 
 -- what is gone over: the lines behind the first at which an object begins
-pub yields_behind_begin : {F : Type 0} {called : Mut F (Bor (Bor (List ℕ)) × Unit {0}) Bool} {f : F} {all : _} {from : _} {behind s : _} (text : List ℕ)
-    → s ≡ behind → skip_source behind ≡ from → skip_count behind ≡ 1 → skip_while_source from ≡ all → skip_while_callee from ≡ f → skip_while_done_skipping from ≡ false → lines_rest all ≡ text
+pub yields_behind_begin : {F G : Type 0} {called : Mut F (Bor (Bor (List ℕ)) × Unit {0}) Bool} {cut : Mut G (Bor ℕ × Unit {0}) Bool} {f : F} {g : G} {all : _} {from : _} {behind s : _} (text : List ℕ)
+    → s ≡ behind → skip_source behind ≡ from → skip_count behind ≡ 1 → skip_while_source from ≡ all → skip_while_callee from ≡ f → skip_while_done_skipping from ≡ false
+    → split_rest all ≡ text → split_done all ≡ false → split_callee all ≡ g
+    → ((x : ℕ) (b : Bool) (q : G) → CalledAt cut g x b q → (q ≡ g) × (b ≡ nat_eq x 10))
     → ((x : Bor (List ℕ)) (b : Bool) (q : F) → CalledAt called f x b q → (q ≡ f) × (b ≡ not (is_begin_line x.now)))
-    → YieldsList (skip_steps (skip_while_steps lines_steps called)) (λ x. x.now) s (lines_behind_begin text)
-yields_behind_begin {F} {called} {f} text same source count first callee skips rest tests =
-    subst (YieldsList (skip_steps (skip_while_steps lines_steps called)) (λ x. x.now) _) (drop-drop 1 (prefix_len (λ x. not (is_begin_line x)) (lines text)) (lines text))
-    (YieldsList-at same (YieldsList-from_skip 1 (YieldsList-at source (YieldsList-from_skip_while lines_steps (λ x. x.now) called (λ x. not (is_begin_line x)) f tests (YieldsList-at first (YieldsList-from_lines text rest)) callee skips)) count))
+    → YieldsList (skip_steps (skip_while_steps (split_steps cut) called)) (λ x. x.now) s (lines_behind_begin text)
+yields_behind_begin {F} {G} {called} {cut} {f} {g} text same source count first callee skips rest undone cuts ends tests =
+    subst (YieldsList (skip_steps (skip_while_steps (split_steps cut) called)) (λ x. x.now) _) (drop-drop 1 (prefix_len (λ x. not (is_begin_line x)) (text_lines text)) (text_lines text))
+    (YieldsList-at same (YieldsList-from_skip 1 (YieldsList-at source (YieldsList-from_skip_while (split_steps cut) (λ x. x.now) called (λ x. not (is_begin_line x)) f tests
+    (YieldsList-at first (YieldsList-from_slice_split cut (λ x. nat_eq x 10) text rest undone cuts ends)) callee skips)) count))

@@ -76,11 +76,15 @@ abbrev pub key_rule : PublicKeyFormat → RuleFields
 key_rule Rsa = rule "its key isn't RSA of 2048 bits with the exponent 65537" "RFC 7935 3"
 key_rule EcdsaP256 = rule "its key isn't an uncompressed point on the curve P-256" "RFC 8608 3.1"
 
--- ---- a trust anchor of no locator
+-- ---- a trust anchor that is no locator's
 
 -- a trust anchor whose key no locator has that is given
 abbrev pub other_key : RuleFields
 other_key = fault_rule (fault_named kind.Path (codes "OtherKey"))
+
+-- a trust anchor that lists no number
+abbrev pub no_resources : RuleFields
+no_resources = fault_rule (fault_named kind.Path (codes "NoResources"))
 
 -- of a file that is given as a locator, and is none
 abbrev pub tal_rule : TalError → RuleFields

@@ -80,13 +80,13 @@ reading_faults =
     fault 100 "Truncated" "truncated value"
     "it doesn't begin with a certificate of the profile" "RFC 6487 4" ∷
     fault 101 "BadLength" "bad length"
-    "it doesn't begin with a certificate of the profile" "RFC 6487 4" ∷
+    "it doesn't begin with a certificate of the profile" "RFC 6487 4, own rules" ∷
     fault 102 "BadTag" "unexpected identifier"
-    "it doesn't begin with a certificate of the profile" "RFC 6487 4" ∷
+    "it doesn't begin with a certificate of the profile" "RFC 6487 4, own rules" ∷
     fault 103 "BadValue" "bad value"
-    "it doesn't begin with a certificate of the profile" "RFC 6487 4" ∷
+    "it doesn't begin with a certificate of the profile" "RFC 6487 4, own rules" ∷
     fault 104 "Trailing" "trailing octets"
-    "it doesn't begin with a certificate of the profile" "RFC 6487 4" ∷
+    "it doesn't begin with a certificate of the profile" "RFC 6487 4, own rules" ∷
     fault 105 "TooDeep" "values nested too deep" "its values are nested too deep" "own rule" ∷
     fault 106 "AlgorithmMismatch" "signature algorithm mismatch"
     "it doesn't begin with a certificate of the profile" "RFC 6487 4" ∷
@@ -116,7 +116,7 @@ inspection_faults =
     fault 305 "ExtendedKeyUsagePresent" "extended key usage present"
     "Extended Key Usage must be absent" "RFC 6487 4.8.5" ∷
     fault 306 "CaFlagFalse" "CA flag is false"
-    "Basic Constraints don't say that it is a CA" "RFC 6487 4.8.1" ∷
+    "Basic Constraints don't say that it is a CA" "RFC 6487 4.8.1, RFC 5280 4.2.1.9" ∷
     fault 307 "MissingBasicConstraints" "missing basic constraints"
     "Basic Constraints are missing" "RFC 6487 4.8.1" ∷
     fault 308 "KeyUsage" "wrong key usage" "the key usage is another" "RFC 6487 4.8.4" ∷
@@ -124,10 +124,10 @@ inspection_faults =
     "the URI of the repository is missing" "RFC 6487 4.8.8.1" ∷
     fault 310 "MissingManifest" "missing manifest"
     "the URI of the manifest is missing" "RFC 6487 4.8.8.1" ∷
-    fault 311 "ManifestNotChild" "manifest outside the repository"
+    fault 311 "ManifestNotChild" "manifest not directly below the repository"
     "the manifest isn't directly in the repository's directory" "own rule" ∷
     fault 312 "SignedObjectPresent" "signed object present"
-    "the URI of a signed object must be absent" "RFC 6487 4.8.8.1" ∷
+    "the URI of a signed object must be absent" "own rule" ∷
     fault 313 "AuthorityKeyIdentifier" "authority key identifier mismatch"
     "the authority key identifier of a trust anchor is another key's" "RFC 6487 4.8.3" ∷
     fault 314 "CrlUriPresent" "CRL URI present"
@@ -194,15 +194,21 @@ revocation_faults =
     "the signature of its issuer's list isn't that of the issuer's key" "RFC 6487 5" ∷
     fault 503 "Stale" "stale revocation list"
     "its issuer's list isn't current" "RFC 5280 5.1.2.4, 5.1.2.5" ∷
-    fault 504 "Revoked" "certificate revoked" "its issuer has revoked it" "RFC 6487 7.2" ∷ []
+    fault 504 "Revoked" "certificate revoked" "its issuer has revoked it" "RFC 6487 7.2" ∷
+    fault 505 "WrongIssuer" "wrong issuer of the revocation list"
+    "the list that its issuer's key signed has another issuer" "RFC 5280 6.3.3" ∷ []
 
--- why a path's names or its trust anchor aren't those that are asked
+-- why a path's names, its trust anchor or its last key aren't those that are asked
 unfoldable pub path_faults : List FaultFields
 path_faults =
     fault 600 "OtherName" "the issuer isn't the subject of the certificate above"
     "its issuer isn't the subject of the certificate above" "RFC 6487 7.2" ∷
     fault 601 "OtherKey" "the trust anchor's key isn't the locator's"
-    "its key is that of no locator that was given" "RFC 8630 3" ∷ []
+    "its key is that of no locator that was given" "RFC 8630 3" ∷
+    fault 602 "NoResources" "the trust anchor lists no resources"
+    "it lists no IP address and no AS number" "RFC 8630 2.3" ∷
+    fault 603 "BadKey" "the last certificate's key isn't one that the RPKI uses"
+    "its key isn't one that the RPKI uses" "RFC 7935 3, RFC 8608 3.1" ∷ []
 
 -- why a file isn't a locator
 unfoldable pub locator_faults : List FaultFields

@@ -161,9 +161,9 @@ kind_wanted known.KeyUsage =
     codes "critical, keyCertSign with cRLSign, or digitalSignature (RFC 6487 4.8.4)"
 kind_wanted known.ExtendedKeyUsage = codes "not critical, purposes (RFC 6487 4.8.5)"
 kind_wanted known.CrlDistributionPoints =
-    codes "not critical, one point by the rsync URI of a list (RFC 6487 4.8.6)"
+    codes "not critical, one point with one rsync URI of a CRL (RFC 6487 4.8.6; own: only one)"
 kind_wanted known.AuthorityInformationAccess =
-    codes "not critical, the issuer's certificate by an rsync URI (RFC 6487 4.8.7)"
+    codes "not critical, one rsync URI of the issuer's certificate (RFC 6487 4.8.7; own: only one)"
 kind_wanted known.SubjectInformationAccess =
     codes "not critical, places by rsync URIs, rpkiNotify by https (RFC 6487 4.8.8)"
 kind_wanted known.CertificatePolicies = codes "critical, the policy of the RPKI alone (RFC 6487 4.8.9)"

@@ -129,7 +129,11 @@ fn why_unread(alloc: Global, octets: &Bytes, is_list: bool, fault: DecodeError) 
 }
 
 /// Decodes the certificate at the start of the octets as [`Cert::decode_shared`] does, and ignores
-/// what follows. Errs where there is none, and tells where reading stops.
+/// what follows.
+///
+/// # Errors
+///
+/// Returns where reading stops and why, if the octets begin with no certificate.
 pub fn decode_cert(alloc: Global, octets: &Bytes) -> Result<Cert, Misread>
     ensures read { IfOk result (λ cert. Means IsCertificate cert octets.now) }
     ensures misread { IfErr result (IsMisread false octets.now) }
@@ -140,8 +144,12 @@ pub fn decode_cert(alloc: Global, octets: &Bytes) -> Result<Cert, Misread>
     }
 }
 
-/// Decodes the revocation list at the start of the octets as [`Crl::decode_shared`] does, and
-/// ignores what follows. Errs where there is none, and tells where reading stops.
+/// Decodes the CRL at the start of the octets as [`Crl::decode_shared`] does, and ignores what
+/// follows.
+///
+/// # Errors
+///
+/// Returns where reading stops and why, if the octets begin with no CRL.
 pub fn decode_crl(alloc: Global, octets: &Bytes) -> Result<Crl, Misread>
     ensures read { IfOk result (λ list. Means IsCertificateList list.list octets.now) }
     ensures uncached { IfOk result (λ list. list.is_cached ≡ false) }

@@ -5,7 +5,7 @@ ghost use Rattle.rpki_cert.specs.Certificates.{IsCertificate};
 ghost use Rattle.rpki_crl.specs.Lists.{IsCertificateList};
 ghost use Rattle.rpki_files.specs.Contents.{BeginsWithEither, FindsBefore, IsContent, IsList};
 ghost use Rattle.rpki_files.specs.FileSorts.{IsToldSort};
-ghost use Rattle.rpki_files.specs.PemFiles.{BeginsAgain, HasBase64, HasBeginLine, IsBareBase64, IsDamagedPem, IsObjectOf, IsPemOf, IsSeveralPem, IsUnendedPem, begin_line, byte_order_mark, is_begin_line, is_end_line};
+ghost use Rattle.rpki_files.specs.PemFiles.{BeginsAgain, HasBase64, HasBeginLine, IsBareBase64, IsDamagedPem, IsObjectOf, IsPemOf, IsSeveralPem, IsUnendedPem, begin_line, byte_order_mark, is_begin_line, is_end_line, is_text};
 
 use crate::contents::{Content, read_content};
 use crate::sorts::{Sort, sort_of};
@@ -107,62 +107,68 @@ impl<'a> Object<'a> {
     }
 }
 
+// Whether octets are a text: none of them is 0, as one of each certificate and of each list is.
+fn is_text(octets: &[u8]) -> bool
+    ensures { result ≡ is_text octets.now }
+{
+    !octets.contains(&0)
+}
+
 // Whether a line begins as one does at which an object of PEM begins.
-fn starts_object(line: &str) -> bool
+fn starts_object(line: &[u8]) -> bool
     ensures { result ≡ starts_with nat_eq line.now begin_line }
 {
-    line.starts_with("-----BEGIN ")
+    line.starts_with("-----BEGIN ".as_bytes())
 }
 
 // Whether it does behind a byte order mark.
-fn starts_marked_object(line: &str) -> bool
+fn starts_marked_object(line: &[u8]) -> bool
     ensures { result ≡ starts_with nat_eq line.now (byte_order_mark ++ begin_line) }
 {
-    line.starts_with("\u{feff}-----BEGIN ")
+    line.starts_with("\u{feff}-----BEGIN ".as_bytes())
 }
 
 // Whether an object of PEM begins at a line, be there a byte order mark before it.
-fn is_begin_line(line: &str) -> bool
+fn is_begin_line(line: &[u8]) -> bool
     ensures { result ≡ is_begin_line line.now }
 {
     starts_object(line) || starts_marked_object(line)
 }
 
 // Whether an object of PEM ends at a line.
-fn is_end_line(line: &str) -> bool
+fn is_end_line(line: &[u8]) -> bool
     ensures { result ≡ is_end_line line.now }
 {
-    line.starts_with("-----END ")
+    line.starts_with("-----END ".as_bytes())
 }
 
 // The base64 of the first object of PEM in a text, if it has one.
-fn base64_in(alloc: Global, text: &str) -> Result<Option<Vec<u8>>, AllocError>
+fn base64_in(alloc: Global, text: &[u8]) -> Result<Option<Vec<u8>>, AllocError>
     ensures { IfOk result (λ found. MatchOption found
         ((digits : List ℕ) → ¬ HasBase64 digits text.now)
         (λ digits. HasBase64 digits.items text.now)) }
 {
     let mut digits = Vec::new(alloc);
-    let lines = text.lines().skip_while(|line| !is_begin_line(line));
+    let lines = text
+        .split(|octet| *octet == b'\n')
+        .skip_while(|line| !is_begin_line(line));
     for line in lines.skip(1) {
         if is_end_line(line) {
             return Ok(Some(digits));
         }
-        push_digits(&mut digits, line.as_bytes())?;
+        push_digits(&mut digits, line)?;
     }
     Ok(None)
 }
 
 // Whether a second object of PEM begins in a text.
-fn begins_again(text: &str) -> bool
+fn begins_again(text: &[u8]) -> bool
     ensures { IsTrue result ↔ BeginsAgain text.now }
 {
-    let lines = text.lines().skip_while(|line| !is_begin_line(line));
-    for line in lines.skip(1) {
-        if is_begin_line(line) {
-            return true;
-        }
-    }
-    false
+    text.split(|octet| *octet == b'\n')
+        .skip_while(|line| !is_begin_line(line))
+        .skip(1)
+        .any(|line| is_begin_line(line))
 }
 
 // The octets of a file's object in PEM, if it has one, and only one.
@@ -171,51 +177,38 @@ fn from_pem(alloc: Global, file: &[u8]) -> Result<Option<Vec<u8>>, AllocError>
         ((octets : List ℕ) → ¬ IsPemOf octets file.now)
         (λ octets. IsPemOf octets.items file.now)) }
 {
-    let Ok(text) = str::from_utf8(file) else {
-        return Ok(None);
-    };
-    if begins_again(text) {
+    if !is_text(file) || begins_again(file) {
         return Ok(None);
     }
-    match base64_in(alloc, text)? {
+    match base64_in(alloc, file)? {
         Some(digits) => octets_of(alloc, &digits),
         None => Ok(None),
     }
 }
 
 // Whether an object of PEM begins at one of a text's lines.
-fn has_begin_line(text: &str) -> bool
+fn has_begin_line(text: &[u8]) -> bool
     ensures { IsTrue result ↔ HasBeginLine text.now }
 {
-    for line in text.lines() {
-        if is_begin_line(line) {
-            return true;
-        }
-    }
-    false
+    text.split(|octet| *octet == b'\n')
+        .any(|line| is_begin_line(line))
 }
 
 /// Returns whether octets are a text in which several objects of PEM begin.
 pub fn is_several_pem(octets: &[u8]) -> bool
     ensures { IsTrue result ↔ IsSeveralPem octets.now }
 {
-    match str::from_utf8(octets) {
-        Ok(text) => begins_again(text),
-        Err(_) => false,
-    }
+    is_text(octets) && begins_again(octets)
 }
 
 /// Returns whether octets are a text in which an object of PEM begins that has no end.
 pub fn is_unended_pem(alloc: Global, octets: &[u8]) -> Result<bool, AllocError>
     ensures { IfOk result (λ is. IsTrue is ↔ IsUnendedPem octets.now) }
 {
-    let Ok(text) = str::from_utf8(octets) else {
-        return Ok(false);
-    };
-    if !has_begin_line(text) {
+    if !is_text(octets) || !has_begin_line(octets) {
         return Ok(false);
     }
-    match base64_in(alloc, text)? {
+    match base64_in(alloc, octets)? {
         Some(digits) => {
             drop(digits);
             Ok(false)
@@ -228,10 +221,7 @@ pub fn is_unended_pem(alloc: Global, octets: &[u8]) -> Result<bool, AllocError>
 pub fn is_damaged_pem(alloc: Global, octets: &[u8]) -> Result<bool, AllocError>
     ensures { IfOk result (λ is. IsTrue is ↔ IsDamagedPem octets.now) }
 {
-    let Ok(text) = str::from_utf8(octets) else {
-        return Ok(false);
-    };
-    if !has_begin_line(text) {
+    if !is_text(octets) || !has_begin_line(octets) {
         return Ok(false);
     }
     match from_pem(alloc, octets)? {

@@ -185,10 +185,10 @@ impl Kind {
             }
             Kind::ExtendedKeyUsage => "not critical, purposes (RFC 6487 4.8.5)",
             Kind::CrlDistributionPoints => {
-                "not critical, one point by the rsync URI of a list (RFC 6487 4.8.6)"
+                "not critical, one point with one rsync URI of a CRL (RFC 6487 4.8.6; own: only one)"
             }
             Kind::AuthorityInformationAccess => {
-                "not critical, the issuer's certificate by an rsync URI (RFC 6487 4.8.7)"
+                "not critical, one rsync URI of the issuer's certificate (RFC 6487 4.8.7; own: only one)"
             }
             Kind::SubjectInformationAccess => {
                 "not critical, places by rsync URIs, rpkiNotify by https (RFC 6487 4.8.8)"

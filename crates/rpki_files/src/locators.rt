@@ -1,6 +1,8 @@
 //! Files as trust anchor locators.
-ghost use Rattle.std.specs.Prelude.{◌≡◌, IfOk};
-ghost use Rattle.rpki_files.specs.LocatorFiles.{IsReadAs, looks_like_locator};
+ghost use Rattle.std.specs.Char.{is_ascii_whitespace};
+ghost use Rattle.std.specs.List.{list_all, starts_with};
+ghost use Rattle.std.specs.Prelude.{◌≡◌, nat_eq, codes, option_map, IfOk};
+ghost use Rattle.rpki_files.specs.LocatorFiles.{IsReadAs, behind_comments, looks_like_locator, stands_before_uris};
 
 use rpki_keys::tal::{Tal, TalError};
 use std::alloc::{AllocError, Global};
@@ -29,12 +31,45 @@ pub fn read_locator(
     }
 }
 
-/// Tells whether octets look like a locator, be they one or not: they begin with a comment or a
-/// URI.
+// Whether a line is one of the comment section.
+fn is_comment(line: &[u8]) -> bool
+    ensures { result ≡ starts_with nat_eq line.now (codes "#") }
+{
+    line.starts_with("#".as_bytes())
+}
+
+// Whether a line is one of white space alone.
+fn is_blank(line: &[u8]) -> bool
+    ensures { result ≡ list_all is_ascii_whitespace line.now }
+{
+    line.iter().all(|octet| octet.is_ascii_whitespace())
+}
+
+// Whether a line stands before the URIs of a locator.
+fn stands_before_uris(line: &[u8]) -> bool
+    ensures { result ≡ stands_before_uris line.now }
+{
+    is_comment(line) || is_blank(line)
+}
+
+// The first line behind comments and empty lines.
+fn behind_comments(octets: &[u8]) -> Option<&[u8]>
+    ensures { option_map (λ line. line.now) result ≡ behind_comments octets.now }
+{
+    octets
+        .split(|octet| *octet == b'\n')
+        .find(|line| !stands_before_uris(line))
+}
+
+/// Tells whether octets look like a locator, be they one or not: the first line behind comments and empty
+/// lines begins as a URI.
 pub fn looks_like_locator(octets: &[u8]) -> bool
     ensures { result ≡ looks_like_locator octets.now }
 {
-    octets.starts_with("#".as_bytes())
-        || octets.starts_with("rsync:".as_bytes())
-        || octets.starts_with("http".as_bytes())
+    match behind_comments(octets) {
+        Some(line) => {
+            line.starts_with("rsync:".as_bytes()) || line.starts_with("http".as_bytes())
+        }
+        None => false,
+    }
 }

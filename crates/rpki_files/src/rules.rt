@@ -1,7 +1,7 @@
 //! What a fault means for a person, and the section of the standard that it breaks.
 ghost use Rattle.std.specs.Prelude.{◌≡◌};
 ghost use Rattle.rpki_files.specs.FaultTable.{fault_fields};
-ghost use Rattle.rpki_files.specs.FaultRules.{IsFileRule, IsProfileRule, IsReadingRule, field_section, inspection_rule, key_rule, list_rule, name_rule, no_memory, other_key, profile_rule, reading_rule, revocation_rule, fault_rule, rule_of, tal_rule, verification_rule};
+ghost use Rattle.rpki_files.specs.FaultRules.{IsFileRule, IsProfileRule, IsReadingRule, field_section, inspection_rule, key_rule, list_rule, name_rule, no_memory, no_resources, other_key, profile_rule, reading_rule, revocation_rule, fault_rule, rule_of, tal_rule, verification_rule};
 
 use crate::faults::{self, Fault, FaultKind, numbered_part, part_number};
 use crate::policies::{has_policies, has_purposes};
@@ -90,6 +90,13 @@ pub fn of_other_key() -> Rule
     ensures { rule_of result ≡ other_key }
 {
     rule_in(faults::named(FaultKind::Path, "OtherKey"))
+}
+
+/// Tells what it means that a trust anchor lists no number.
+pub fn of_no_resources() -> Rule
+    ensures { rule_of result ≡ no_resources }
+{
+    rule_in(faults::named(FaultKind::Path, "NoResources"))
 }
 
 /// Tells what is wrong of a file that is given as a locator.

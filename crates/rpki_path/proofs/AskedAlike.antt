@@ -24,7 +24,7 @@ module _ (x : Context) (asked other : RevocationChecks) (leaves : (issuer : TbsF
   accepted_too t anchor below r h = record {
     path = h.path;
     path_of = h.path_of;
-    is_valid = record { is_valid = valid_too h.path h.is_valid.is_valid; key_is = h.is_valid.key_is };
+    is_valid = record { is_valid = valid_too h.path h.is_valid.is_valid; key_is = h.is_valid.key_is; lists = h.is_valid.lists };
     held = h.held;
   }
 

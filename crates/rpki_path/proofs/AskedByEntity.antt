@@ -8,9 +8,9 @@ use Rattle.rpki_crl.specs.Lists.{CrlFields, CrlState}
 use Rattle.rpki_crl.specs.Stores.{Stored}
 use Rattle.rpki_crl.specs.Revocation.{ListCheck}
 use Rattle.rpki_crl.specs.declared.revocation_error.RevocationError.{RevocationError}
-use Rattle.rpki_crl.specs.declared.revocation_error.RevocationError.TheVariants.{NoCrl, WrongKeyId, BadSignature, Stale, Revoked}
+use Rattle.rpki_crl.specs.declared.revocation_error.RevocationError.TheVariants.{NoCrl, WrongKeyId, BadSignature, Stale, Revoked, WrongIssuer}
 use Rattle.rpki_path.specs.Asking.{nobody, by_uri}
-use Rattle.rpki_path.specs.AskedLists.{IsForBelow, IsEligibleNamed, IsAskedOf, by_lists, by_named_lists}
+use Rattle.rpki_path.specs.AskedLists.{IsForBelow, IsEligibleNamed, IsMisnamed, IsAskedOf, by_lists, by_named_lists}
 use Rattle.rpki_path.specs.Repeats.{AreAlike, AsksByEntity}
 
 turned : (names : Bool) (f g : TbsFields) → AreAlike names f g → AreAlike names g f
@@ -27,6 +27,7 @@ module _ (x : Context) (names : Bool) where
   list_check f g alike serial list BadSignature h = subst (λ (key : KeyFields). IsSignedBy x.verifies key list.signed_data) alike.key_is h
   list_check f g alike serial list Stale h = h
   list_check f g alike serial list Revoked h = h
+  list_check f g alike serial list WrongIssuer h = h
 
   pub nobody_by_entity : AsksByEntity names nobody
   nobody_by_entity f g c e alike h = h
@@ -37,6 +38,7 @@ module _ (x : Context) (names : Bool) where
   uri_by_entity pairs f g c BadSignature alike h = λ l is. list_check f g alike c.fields.serial l.list BadSignature (h l is)
   uri_by_entity pairs f g c Stale alike h = λ l is. list_check f g alike c.fields.serial l.list Stale (h l is)
   uri_by_entity pairs f g c Revoked alike h = λ l is. list_check f g alike c.fields.serial l.list Revoked (h l is)
+  uri_by_entity pairs f g c WrongIssuer alike h = λ l is. list_check f g alike c.fields.serial l.list WrongIssuer (h l is)
 
   -- whether lists' names are asked; if they are, those of certificates are
   module _ (asks : Bool) (both : IsTrue asks → IsTrue names) where
@@ -48,6 +50,9 @@ module _ (x : Context) (names : Bool) where
 
     eligible_alike : (f g : TbsFields) → AreAlike names f g → (c : CertFields) (l : CrlState) → IsEligibleNamed asks x.verifies x.now f c l → IsEligibleNamed asks x.verifies x.now g c l
     eligible_alike f g alike c l h = (for_alike f g alike c l h.0, subst (λ (key : KeyFields). IsSignedBy x.verifies key l.list.signed_data) alike.key_is h.1, h.2)
+
+    misnamed_alike : (f g : TbsFields) → AreAlike names f g → (c : CertFields) (l : CrlState) → IsMisnamed asks x.verifies f c l → IsMisnamed asks x.verifies g c l
+    misnamed_alike f g alike c l h = (h.0, h.1, subst (λ (key : KeyFields). IsSignedBy x.verifies key l.list.signed_data) alike.key_is h.2, λ name. h.3 (name ∙ sym (alike.subject_is (both h.0))))
 
     module _ (lists : List CrlState) where
       asked_alike : (f g : TbsFields) → AreAlike names f g → (c : CertFields) (l : CrlState) → IsAskedOf asks x lists f c l → IsAskedOf asks x lists g c l
@@ -63,11 +68,13 @@ module _ (x : Context) (names : Bool) where
         back l is = asked_alike g f (turned names f g alike) c l is
 
         lists_alike : (e : RevocationError) → by_named_lists asks x lists f c e → by_named_lists asks x lists g c e
-        lists_alike NoCrl h = (h.0, asked_alike f g alike c h.0 h.1)
+        lists_alike NoCrl (inl h) = inl (h.0, asked_alike f g alike c h.0 h.1)
+        lists_alike NoCrl (inr h) = inr (h.0, h.1, h.2, h.3, misnamed_alike f g alike c h.1 h.4)
         lists_alike WrongKeyId h = λ l is. list_check f g alike c.fields.serial l.list WrongKeyId (h l (back l is))
         lists_alike BadSignature h = λ l is. list_check f g alike c.fields.serial l.list BadSignature (h l (back l is))
         lists_alike Stale h = ((λ l is. h.0 l (back l is)), (λ l is. list_check f g alike c.fields.serial l.list Stale (h.1 l (back l is))))
         lists_alike Revoked h = λ l is. list_check f g alike c.fields.serial l.list Revoked (h l (back l is))
+        lists_alike WrongIssuer h = (h.0, asked_alike f g alike c h.0 h.1)
 
       named_by_entity : AsksByEntity names (by_named_lists asks x lists)
       named_by_entity f g c e alike h = lists_alike f g c alike e h

@@ -20,7 +20,7 @@ module _ (x : Context) (lists : List CrlState) (issuer : TbsFields) (c : CertFie
   Signs l = IsSignedBy x.verifies issuer.key l.list.signed_data
 
   pub no_list : HaveNone (IsFor c) lists → IsFirstFalse (by_lists x lists issuer c) revocation_checks NoCrl
-  no_list none = named.no_list false x lists issuer c none
+  no_list none = named.no_list false x lists issuer c none (λ l inside is. none l inside is.0)
 
   module _ (none : HaveNone Fits lists) (l : CrlState) (one : Contains lists l × IsFor c l) (key : NamesIssuer issuer l.list) where
     pub unsigned : (EachHas (IsFor c) Signs lists → ⊥) → IsFirstFalse (by_lists x lists issuer c) revocation_checks BadSignature

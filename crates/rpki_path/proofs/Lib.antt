@@ -13,6 +13,7 @@ pub mod GivenPaths
 pub mod Verdicts
 pub mod ChainedNames
 pub mod UnchainedNames
+mod ListedNumbers
 pub mod LocatedPaths
 -- ---- who answers for revocation
 mod ListOrder
@@ -24,5 +25,5 @@ pub mod AskedAlike
 -- ---- issuers that come twice
 pub mod AskedByEntity
 pub mod CutPaths
-mod ComparedIssuers
+pub mod ComparedIssuers
 pub mod UnrepeatedPaths

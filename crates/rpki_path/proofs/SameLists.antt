@@ -7,7 +7,7 @@ use Rattle.rpki_cert.proofs.Checks.{all_map}
 use Rattle.rpki_crl.specs.Lists.{CrlState}
 use Rattle.rpki_crl.specs.Revocation.{revocation_checks}
 use Rattle.rpki_crl.specs.declared.revocation_error.RevocationError.{RevocationError}
-use Rattle.rpki_crl.specs.declared.revocation_error.RevocationError.TheVariants.{NoCrl, WrongKeyId, BadSignature, Stale, Revoked}
+use Rattle.rpki_crl.specs.declared.revocation_error.RevocationError.TheVariants.{NoCrl, WrongKeyId, BadSignature, Stale, Revoked, WrongIssuer}
 use Rattle.rpki_path.specs.Asking.{IsUnrevokedBy}
 use Rattle.rpki_path.specs.AskedLists.{AreSameLists, IsAskedOf, by_lists, by_named_lists}
 
@@ -20,11 +20,13 @@ module _ (names : Bool) (x : Context) (issuer : TbsFields) (c : CertFields) wher
   asked_there lists others same l (inr h) = inr ((λ other at. h.0 other ((same other).1 at)), (same l).0 h.1, h.2)
 
   check_there : (lists others : List CrlState) → AreSameLists lists others → (e : RevocationError) → by_named_lists names x lists issuer c e → by_named_lists names x others issuer c e
-  check_there lists others same NoCrl h = (h.0, asked_there lists others same h.0 h.1)
+  check_there lists others same NoCrl (inl h) = inl (h.0, asked_there lists others same h.0 h.1)
+  check_there lists others same NoCrl (inr h) = let there = (same h.1).0 (h.0, h.2, h.3) in inr (there.0, h.1, there.1, there.2, h.4)
   check_there lists others same WrongKeyId h = λ l at. h l (asked_there others lists (turned lists others same) l at)
   check_there lists others same BadSignature h = λ l at. h l (asked_there others lists (turned lists others same) l at)
   check_there lists others same Stale h = ((λ l at. h.0 l (asked_there others lists (turned lists others same) l at)), (λ l at. h.1 l (asked_there others lists (turned lists others same) l at)))
   check_there lists others same Revoked h = λ l at. h l (asked_there others lists (turned lists others same) l at)
+  check_there lists others same WrongIssuer h = (h.0, asked_there lists others same h.0 h.1)
 
   pub checks_there : (lists others : List CrlState) → AreSameLists lists others → (e : RevocationError) → by_named_lists names x lists issuer c e ↔ by_named_lists names x others issuer c e
   checks_there lists others same e = (check_there lists others same e, check_there others lists (turned lists others same) e)

@@ -1,7 +1,7 @@
 -- Lists as a caller gives them: which of them is asked of a certificate below its issuer, and what
 -- (RFC 6487 5, 7.2, RFC 5280 6.3.3). Their order says nothing. Whether the issuer's name of a list
 -- is compared too is the caller's to say (own), as of the names of certificates (NameChains).
-use Rattle.std.specs.Prelude.{◌≡◌, ◌⊎◌, ◌↔◌, ◌<◌, Bool, true, false, List, Some, Result, Ok, Err, Contains, IsTrue}
+use Rattle.std.specs.Prelude.{◌≡◌, ◌⊎◌, ◌↔◌, ◌<◌, Bool, true, false, List, Any, Some, Result, Ok, Err, Contains, IsTrue}
 use Rattle.rpki_der.specs.Times.{Moment, second_number}
 use Rattle.rpki_parts.specs.Signatures.{Verifies}
 use Rattle.rpki_parts.specs.ValidAt.{IsNotAfter}
@@ -11,7 +11,7 @@ use Rattle.rpki_crl.specs.Lists.{CrlFields, CrlState}
 use Rattle.rpki_crl.specs.RevokedEntries.{IsRevoked}
 use Rattle.rpki_crl.specs.Revocation.{ListCheck, RevocationCheck}
 use Rattle.rpki_crl.specs.declared.revocation_error.RevocationError.{RevocationError}
-use Rattle.rpki_crl.specs.declared.revocation_error.RevocationError.TheVariants.{Stale, Revoked}
+use Rattle.rpki_crl.specs.declared.revocation_error.RevocationError.TheVariants.{NoCrl, Stale, Revoked, WrongIssuer}
 use Rattle.rpki_path.specs.Asking.{RevocationChecks}
 pub mod Steps
 
@@ -55,6 +55,13 @@ IsEligibleNamed names verifies now issuer c l =
 -- the same, where no names are asked
 abbrev pub IsEligible : Verifies → Moment → TbsFields → CertFields → CrlState → Type 0
 IsEligible = IsEligibleNamed false
+
+-- the issuer's key signed the list, which is for the certificate, but the list's issuer isn't the
+-- issuer's subject, if names are asked (RFC 5280 6.3.3 (b) (1))
+abbrev pub IsMisnamed : Bool → Verifies → TbsFields → CertFields → CrlState → Type 0
+IsMisnamed names verifies issuer c l =
+    IsTrue names × IsFor c l × IsSignedBy verifies issuer.key l.list.signed_data
+    × (IsNamedBy issuer l.list → ⊥)
 
 -- the list has the serial number of the certificate
 abbrev pub Revokes : CertFields → CrlState → Type 0
@@ -105,15 +112,25 @@ AreSameLists lists others = (l : CrlState) → Contains lists l ↔ Contains oth
 
 -- The list is asked of the certificate below the issuer: of those that are eligible the latest;
 -- where none is, each that is for the certificate, one of which then fails a check (own). A list of
--- another name is none, if names are asked: where there is no other, there is none to be asked.
+-- another name is none, if names are asked.
 abbrev pub IsAskedOf : Bool → Context → List CrlState → TbsFields → CertFields → CrlState → Type 0
 IsAskedOf names x lists issuer c l =
     let P = IsEligibleNamed names x.verifies x.now issuer c in
     IsLatest P c lists l ⊎ (HaveNone P lists × Contains lists l × IsForBelow names issuer c l)
 
+-- a list is asked of the certificate
+abbrev pub IsOneAsked : Bool → Context → List CrlState → TbsFields → CertFields → Type 0
+IsOneAsked names x lists issuer c = (l : CrlState) × IsAskedOf names x lists issuer c l
+
 -- the checks of a certificate with the lists that were given: those of the lists that are asked of
--- it, whose time has also to have begun
+-- it, whose time has also to have begun. Where none is asked, it is the last check that isn't true if
+-- the issuer's key signed a list of another name, and else the first (own): so a list of another
+-- name is told only where no other is asked
 abbrev pub by_named_lists : Bool → Context → List CrlState → RevocationChecks
+by_named_lists names x lists issuer c NoCrl =
+    IsOneAsked names x lists issuer c
+    ⊎ Any (IsMisnamed names x.verifies issuer c) lists
+by_named_lists names x lists issuer c WrongIssuer = IsOneAsked names x lists issuer c
 by_named_lists names x lists issuer c Stale =
     ((l : CrlState) → IsAskedOf names x lists issuer c l → HasBegun x.now l.list)
     × RevocationCheck x issuer c.fields.serial (IsAskedOf names x lists issuer c) Stale

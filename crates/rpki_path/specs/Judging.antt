@@ -4,6 +4,7 @@ use Rattle.std.specs.Prelude.{◌≡◌, ◌⊎◌, ◌+◌, ℕ, List, [], leng
 use Rattle.rpki_ext.specs.Kinds.{Means}
 use Rattle.rpki_cert.specs.Certificates.{CertFields, IsCertificate}
 use Rattle.rpki_cert.specs.Verification.{Context, ResourceFields}
+use Rattle.rpki_parts.specs.Keys.{KeyFields}
 use Rattle.rpki_path.specs.Asking.{RevocationChecks}
 use Rattle.rpki_path.specs.declared.judging.Judged.{Judged}
 use Rattle.rpki_path.specs.declared.path_fault.PathError.{PathError}
@@ -51,3 +52,14 @@ IsFaultOf x asked g e = IsFault x asked g.anchor g.below e ⊎ IsFaultOfRouter x
 abbrev pub Judges : Context → RevocationChecks → PathStrings → Result Judged PathError → Type 0
 Judges x asked g (Ok j) = IsAcceptedWith x asked g j
 Judges x asked g (Err e) = UnlessMemory e.fault (IsNotAccepted x asked g × IsFaultOf x asked g e)
+
+-- ---- the last key
+
+-- the certificate of the last member: the router's, where it is one
+abbrev pub last_certificate : ResourceFields → Option CertFields → CertFields
+last_certificate holder None = holder.cert
+last_certificate holder (Some router) = router
+
+-- the key that the last member signs with
+abbrev pub last_key : Judged → KeyFields
+last_key j = (last_certificate j.holder j.router).fields.key

@@ -13,7 +13,7 @@ use crate::validator::{Validator, placed};
 use rpki_cert::{Cert, ResourceCert, laws};
 use rpki_der::Time;
 use rpki_ext::beside;
-use rpki_parts::{TalInfo, Verifier};
+use rpki_parts::{PublicKey, TalInfo, Verifier};
 use std::alloc::Global;
 use std::rc::Rc;
 
@@ -23,6 +23,21 @@ use std::rc::Rc;
 pub struct Judged {
     pub holder: ResourceCert,
     pub router: Option<Cert>,
+}
+
+impl Judged {
+    ghost use Rattle.std.specs.Prelude.{◌≡◌};
+    ghost use Rattle.rpki_path.specs.Judging.{last_key};
+
+    /// Returns the key of the last member's certificate.
+    pub fn last_key(&self) -> &PublicKey
+        ensures { result.now ≡ last_key self.now }
+    {
+        match &self.router {
+            Some(router) => router.as_tbs().subject_public_key_info(),
+            None => self.holder.as_cert().as_tbs().subject_public_key_info(),
+        }
+    }
 }
 
 // A locator without a name.
@@ -63,15 +78,22 @@ fn verdict<R: RevocationSource, V: Verifier>(
     }
 }
 
-/// Judges a path, from the trust anchor down to its last member, which is a CA, an end entity or a
-/// router. What was read of a member already isn't read again. Members are validated as
-/// [`crate::validate_path`] does, and a router below the last CA as [`crate::validate_router`]
-/// does; each one below the trust anchor is asked for at this source, once it is verified and
-/// before the next is decoded. Returns what the last member holds (above a router, the CA), with a
-/// locator without a name, and the router's certificate. Errs with the place of the first member
-/// that is wrong, and what is wrong with it.
+/// Validates a path that ends in a CA, an end entity or a router.
 ///
-/// Not asked (own): whether names chain, and anything of manifests.
+/// Certificates are validated as [`crate::validate_path`] does, a router as
+/// [`crate::validate_router`] does. Revocation is checked by the source, for each certificate below
+/// the trust anchor, once it is verified. What was read before isn't read again. Returns what the
+/// last certificate holds (above a router, the CA), with a TAL without a name, and the router's
+/// certificate.
+///
+/// # Errors
+///
+/// Returns the path index of the first wrong certificate, and what is wrong with it.
+///
+/// # Not checked
+///
+/// Whether names chain ([`crate::first_unchained`]), whether the trust anchor has a TAL's key
+/// ([`crate::has_locator_key`]), and manifests (own).
 pub fn judge<R: RevocationSource, V: Verifier>(
     alloc: Global,
     path: &GivenPath<'_, '_>,

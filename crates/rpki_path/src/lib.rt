@@ -17,7 +17,7 @@ mod validator;
 
 pub use given::{GivenPath, Last};
 pub use judging::{Judged, judge};
-pub use located::{LocatedError, has_locator_key, validate_located};
+pub use located::{LocatedError, has_locator_key, lists_numbers, test_anchor, validate_located};
 pub use members::Member;
 pub use names::{first_unchained, is_self_named, names_chain};
 pub use path_fault::{PathError, PathFault};

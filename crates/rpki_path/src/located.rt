@@ -1,9 +1,12 @@
 //! Whole paths from the trust anchor of a locator.
-ghost use Rattle.std.specs.Prelude.{◌≡◌, ◌↔◌, Ok, Err, IsTrue, IsFalse, IfOk, IfErr};
+ghost use Rattle.std.specs.Prelude.{◌≡◌, ◌↔◌, ℕ, List, Ok, Err, IsTrue, IsFalse, IfOk, OnOk, IfErr};
 ghost use Rattle.std.proofs.Common.{rc_value};
+ghost use Rattle.rpki_blocks.specs.IssuedSets.{IsListed};
+ghost use Rattle.rpki_cert.specs.Certificates.{IsCertificate};
 ghost use Rattle.rpki_cert.specs.Verification.{context};
+ghost use Rattle.rpki_ext.specs.Kinds.{Means};
 ghost use Rattle.rpki_path.specs.Asking.{by_uri};
-ghost use Rattle.rpki_path.specs.LocatedPaths.{BeginsWithKey, BeginsWithOtherKey, IsLocatedFault, IsOutOfMemory, ValidatesFrom, located_error_name};
+ghost use Rattle.rpki_path.specs.LocatedPaths.{BeginsWithAnchor, BeginsWithKey, BeginsWithOtherKey, IsAnchorFault, IsLocatedFault, IsOutOfMemory, ListsSome, ValidatesFrom, located_error_name};
 ghost use Rattle.rpki_path.specs.Paths.{candidates, IsAccepted};
 ghost use Rattle.rpki_path.specs.Paths.Steps.{IsUnread};
 ghost use Rattle.rpki_path.specs.declared.path_fault.PathFault.TheVariants.{Memory};
@@ -14,7 +17,8 @@ use crate::revocation::RevocationSource;
 use crate::validating::{Leaf, walked};
 use crate::validator::{Validator, placed};
 use bytes::Bytes;
-use rpki_cert::{ResourceCert, laws};
+use rpki_blocks::{Bound, Resources};
+use rpki_cert::{Cert, ResourceCert, laws};
 use rpki_crl::CrlStore;
 use rpki_der::Time;
 use rpki_keys::tal::Tal;
@@ -29,6 +33,9 @@ pub enum LocatedError {
     /// The trust anchor's key isn't the locator's.
     #[error("the trust anchor has another key than the locator")]
     OtherKey,
+    /// The trust anchor lists no IP address and no AS number.
+    #[error("the trust anchor lists no resources")]
+    NoResources,
     /// A member of the path is wrong.
     #[error("{0}")]
     Path(PathError),
@@ -41,6 +48,7 @@ impl LocatedError {
     {
         match self {
             LocatedError::OtherKey => "OtherKey",
+            LocatedError::NoResources => "NoResources",
             LocatedError::Path(_) => "Path",
         }
     }
@@ -50,7 +58,7 @@ impl LocatedError {
         ensures { IsTrue result ↔ IsOutOfMemory self.now }
     {
         match self {
-            LocatedError::OtherKey => false,
+            LocatedError::OtherKey | LocatedError::NoResources => false,
             LocatedError::Path(error) => error.is_memory(),
         }
     }
@@ -66,9 +74,16 @@ impl From<PathError> for LocatedError {
     }
 }
 
-/// Tells whether the certificate with which a trust anchor's octets begin has the locator's key
-/// (RFC 8630 3): its algorithm and its bits. A member that was read isn't read again. Errs where
-/// the octets don't begin with a certificate (`Decode`), or where memory ran out.
+/// Returns whether the certificate with which a trust anchor's octets begin has the TAL's key (RFC
+/// 8630 3): its algorithm and its bits. A certificate that was read before isn't read again.
+///
+/// # Errors
+///
+/// Returns `Decode` if the octets don't begin with a certificate, or `Memory`.
+///
+/// # Not checked
+///
+/// Whether the certificate is valid, and whether its own key signed it.
 pub fn has_locator_key(alloc: Global, anchor: &Member<'_>, tal: &Tal) -> Result<bool, PathFault>
     ensures same { IfOk result (λ b. IsTrue b → BeginsWithKey tal.now.tal anchor.now) }
     ensures other { IfOk result (λ b. IsFalse b → BeginsWithOtherKey tal.now.tal anchor.now) }
@@ -85,6 +100,62 @@ pub fn has_locator_key(alloc: Global, anchor: &Member<'_>, tal: &Tal) -> Result<
     }
 }
 
+// Whether the resources list a number.
+fn lists_number<B: Bound>(resources: &Resources<B>) -> bool
+    ensures { IsTrue result ↔ ((n : ℕ) × IsListed n resources.now) }
+{
+    if resources.is_inherited() {
+        return false;
+    }
+    resources.is_present()
+}
+
+/// Tells whether the certificate lists an IP address or an AS number itself, as a trust anchor has to
+/// (RFC 8630 2.3). What it inherits doesn't count.
+pub fn lists_numbers(cert: &Cert) -> bool
+    ensures { IsTrue result ↔ ListsSome cert.now }
+{
+    let tbs = cert.as_tbs();
+    lists_number(tbs.v4_resources())
+        || lists_number(tbs.v6_resources())
+        || lists_number(tbs.as_resources())
+}
+
+// Whether the certificate can be the locator's trust anchor.
+fn test_cert(cert: &Cert, tal: &Tal) -> Result<(), LocatedError>
+    ensures ok { (octets : List ℕ) → Means IsCertificate cert.now octets
+        → OnOk result (BeginsWithAnchor tal.now.tal octets) }
+    ensures fault { (octets : List ℕ) → Means IsCertificate cert.now octets
+        → IfErr result (IsAnchorFault tal.now.tal octets) }
+{
+    if !tal.has_key(cert.as_tbs().subject_public_key_info()) {
+        return Err(LocatedError::OtherKey);
+    }
+    if !lists_numbers(cert) {
+        return Err(LocatedError::NoResources);
+    }
+    Ok(())
+}
+
+/// Tests that the certificate with which a trust anchor's octets begin can be the locator's trust
+/// anchor: it has the locator's key (RFC 8630 3), and lists an IP address or an AS number (RFC 8630
+/// 2.3). A member that was read isn't read again. Errs with `OtherKey` or `NoResources`, or at place
+/// 0 where the octets don't begin with a certificate (`Decode`), or where memory ran out.
+pub fn test_anchor(alloc: Global, anchor: &Member<'_>, tal: &Tal) -> Result<(), LocatedError>
+    ensures ok { OnOk result (BeginsWithAnchor tal.now.tal anchor.now) }
+    ensures fault { IfErr result (IsAnchorFault tal.now.tal anchor.now) }
+{
+    match anchor.cert() {
+        Some(cert) => test_cert(cert, tal),
+        None => {
+            let cert = placed(0, anchor.decoded(alloc))?;
+            let answer = test_cert(&cert, tal);
+            drop(cert);
+            answer
+        }
+    }
+}
+
 // The locator's name, which is shared.
 fn name_of(tal: &Tal) -> Result<Rc<TalInfo>, PathFault>
     ensures ok { IfOk result (λ info. rc_value info ≡ tal.now.name) }
@@ -93,7 +164,7 @@ fn name_of(tal: &Tal) -> Result<Rc<TalInfo>, PathFault>
     Ok(tal.info().clone()?)
 }
 
-// The answer of the walk below a trust anchor that has the locator's key.
+// The answer of the walk below a trust anchor that can be the locator's.
 fn walked_from<R: RevocationSource, V: Verifier>(
     validator: &Validator<'_, '_, R, V>,
     tal: &Tal,
@@ -105,7 +176,7 @@ fn walked_from<R: RevocationSource, V: Verifier>(
         let x = context (V.verifies v.verifier.now) v.at v.strict in
         let asked = R.asks v.asked.now x in
         let below = candidates cas.now leaf.now in
-        IfOk result (λ r. BeginsWithKey tal.now.tal anchor.now
+        IfOk result (λ r. BeginsWithAnchor tal.now.tal anchor.now
         × IsAccepted x asked anchor.now below tal.now.name r) }
     ensures named { let v = validator.now in
         let x = context (V.verifies v.verifier.now) v.at v.strict in
@@ -114,20 +185,25 @@ fn walked_from<R: RevocationSource, V: Verifier>(
         IfErr result (IsLocatedFault x asked tal.now.tal anchor.now below) }
 {
     laws::unambiguous();
-    if !placed(0, has_locator_key(validator.alloc, anchor, tal))? {
-        return Err(LocatedError::OtherKey);
-    }
+    test_anchor(validator.alloc, anchor, tal)?;
     let name = placed(0, name_of(tal))?;
     Ok(walked(validator, anchor, cas, leaf, name)?)
 }
 
-/// Validates a path as [`crate::validate_path_with`] does, and asks first that the trust anchor has
-/// the locator's key (RFC 8630 3, step 3): a path below another key isn't looked at further.
-/// Returns what the last member holds, with the locator's name. Errs with `OtherKey`, or with the
-/// place of the first member that is wrong or isn't found unrevoked, and why.
+/// Validates a path below a TAL: as [`crate::validate_path_with`] does, after the trust anchor's
+/// key was compared with the TAL's (RFC 8630 3, step 3) and the anchor was found to list an IP
+/// address or an AS number (RFC 8630 2.3). Returns what the last certificate holds, with the TAL's
+/// name. Nothing is fetched: the octets are the caller's.
 ///
-/// Not asked (own): whether a list is the newest of its issuer, and whether names chain. Nothing is
-/// fetched: the octets are the caller's.
+/// # Errors
+///
+/// Returns `OtherKey` or `NoResources`, and then nothing else was checked; or the path index of the
+/// first certificate that is wrong or isn't found unrevoked, and why.
+///
+/// # Not checked
+///
+/// Whether a CRL is its issuer's newest, whether names chain ([`crate::first_unchained`]), and
+/// manifests (own).
 pub fn validate_located<V: Verifier>(
     alloc: Global,
     tal: &Tal,
@@ -140,12 +216,12 @@ pub fn validate_located<V: Verifier>(
     verifier: &V,
 ) -> Result<ResourceCert, LocatedError>
     // Ok exactly where each string begins with a member of a valid path, none of which is revoked
-    // and whose trust anchor has the locator's key.
+    // and whose trust anchor has the locator's key and lists a number.
     ensures validates { let x = context (V.verifies verifier.now) now strict in
         let asked = by_uri x store.now.pairs in
         ValidatesFrom x asked tal.now anchor.now (candidates cas.now leaf) result }
-    // The trust anchor has another key; or the members before the index are a valid path,
-    // unrevoked, and the fault is that of the string there.
+    // The trust anchor has another key, or lists no number; or the members before the index are a
+    // valid path, unrevoked, and the fault is that of the string there.
     ensures named { let x = context (V.verifies verifier.now) now strict in
         let asked = by_uri x store.now.pairs in
         IfErr result (IsLocatedFault x asked tal.now.tal anchor.now (candidates cas.now leaf)) }

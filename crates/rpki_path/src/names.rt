@@ -58,18 +58,19 @@ fn is_issued_as(cert: &Cert, above: &Name) -> bool
     cert.as_tbs().issuer().as_bytes() == above.as_bytes()
 }
 
-/// Tells whether the certificate's issuer is the subject of the one above it (RFC 6487 7.2, RFC
-/// 5280 6.1.3 (a) (4)). Names are compared octet by octet (own): two that differ in the case of
-/// letters, in spaces or in the type of a string are two names, though RFC 5280 7.1 takes them for
-/// one.
+/// Returns whether the certificate's issuer is the subject of the one above it (RFC 6487 7.2, RFC
+/// 5280 6.1.3 (a) (4)).
+///
+/// Names are compared byte by byte (own): two that differ in the case of letters, in spaces or in
+/// the type of a string are two names, though RFC 5280 7.1 treats them as one.
 pub fn names_chain(issuer: &ResourceCert, cert: &Cert) -> bool
     ensures { IsTrue result ↔ IsNamedBelow issuer.now.cert cert.now }
 {
     is_issued_as(cert, issuer.as_cert().as_tbs().subject())
 }
 
-/// Tells whether the certificate's issuer is its own subject, as that of a trust anchor has to be
-/// (RFC 8630 2.3, RFC 5280 3.2). Names are compared as by [`names_chain`].
+/// Returns whether the certificate's issuer is its own subject, as a trust anchor's has to be (RFC
+/// 8630 2.3, RFC 5280 3.2). Names are compared as by [`names_chain`].
 pub fn is_self_named(cert: &Cert) -> bool
     ensures { IsTrue result ↔ IsSelfNamed cert.now }
 {
@@ -170,12 +171,20 @@ fn last_subject(
     }
 }
 
-/// Finds the first member of a path whose names don't chain: the trust anchor, at place 0, where
-/// its own two names differ ([`is_self_named`]), or one whose issuer isn't the subject of the
-/// member above it ([`names_chain`]); a router is asked as any other member is. Returns `None`
-/// where all chain. Nothing else is asked of the members ([`crate::judge`] does that). Errs with
-/// the place of the first string that doesn't begin with a certificate, where the names above it
-/// chain (`Decode`), or where memory ran out. A member that was read isn't read again.
+/// Finds the first certificate of a path whose names don't chain.
+///
+/// That is the trust anchor, at index 0, if its own two names differ ([`is_self_named`]), or one
+/// whose issuer isn't the subject of the certificate above ([`names_chain`]). A router is compared
+/// as any other. Returns `None` if all chain. A certificate that was read before isn't read again.
+///
+/// # Errors
+///
+/// Returns the path index of the first string that doesn't begin with a certificate, if the names
+/// above it chain (`Decode`), or at which memory ran out.
+///
+/// # Not checked
+///
+/// Everything else: [`crate::judge`] validates a path.
 pub fn first_unchained(alloc: Global, path: &GivenPath<'_, '_>) -> Result<Option<usize>, PathError>
     // That names chain, the first place where they don't, or the first where no certificate is
     // read.

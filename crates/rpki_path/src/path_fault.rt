@@ -19,13 +19,13 @@ pub enum PathFault {
     /// The certificate isn't valid at the moment, or not issued by the one above it.
     #[error("{0}")]
     Verify(VerificationError),
+    /// Memory ran out.
+    #[error("out of memory")]
+    Memory,
     /// A check of the issuer's revocation list fails: there is none, it isn't the issuer's, it is
     /// stale, or it names the certificate.
     #[error("{0}")]
     Revocation(RevocationError),
-    /// Memory ran out.
-    #[error("out of memory")]
-    Memory,
 }
 
 impl PathFault {

@@ -6,5 +6,7 @@ mod given;
 pub mod laws;
 mod source;
 
-pub use given::{GivenLists, goes_first, has_begun, is_signed_by, said_by, supersedes};
+pub use given::{
+    GivenLists, goes_first, has_begun, is_named_by, is_signed_by, said_by, supersedes,
+};
 pub use source::{NobodyAsked, RevocationSource};

@@ -43,15 +43,21 @@ fn test_router<R: RevocationSource, V: Verifier>(
     Ok(())
 }
 
-/// Validates a router's certificate below the last member of a path: the octets have to begin with
-/// a certificate, and what follows that is ignored. It is decoded, inspected as a router's and
-/// verified under this issuer at this moment (RFC 8209 3.3); then the lists, where they are given,
-/// are asked whether it is revoked ([`CrlStore::check`], with its URI and serial number). Errs with
-/// the first of these that fails; where no lists are given, never with `Revocation`.
+/// Validates a router's certificate below the last certificate of a path.
 ///
-/// The issuer is what `validate_path` and `validate_path_with` return. A router is no `Leaf` of
-/// theirs: a path ends in a [`ResourceCert`], and of a router's certificate none is made.
-/// [`crate::judge`] validates both at once, and returns the certificate.
+/// The octets have to begin with a certificate; what follows is ignored. It is decoded, inspected
+/// as a router's and verified below this issuer at this time (RFC 8209 3.3). If CRLs are given,
+/// [`CrlStore::check`] decides whether it is revoked. The issuer is what `validate_path` and
+/// `validate_path_with` return. A router is no `Leaf` of theirs: a path ends in a [`ResourceCert`],
+/// and none is made of a router's certificate. [`crate::judge`] validates both at once.
+///
+/// # Errors
+///
+/// Returns the first of these checks that fails; without CRLs never `Revocation`.
+///
+/// # Not checked
+///
+/// Whether a CRL is its issuer's newest, and whether names chain (own).
 pub fn validate_router<V: Verifier>(
     alloc: Global,
     octets: &Bytes,

@@ -92,17 +92,26 @@ pub(crate) fn walked<R: RevocationSource, V: Verifier>(
     answer
 }
 
-/// Validates a path: the trust anchor's string, those of the CAs below it from the top down, and
-/// that of a leaf, if there is one. Each string has to begin with a certificate, and what follows
-/// that is ignored. A member is decoded, inspected as its kind and verified before the next: the
-/// trust anchor at this moment and by its own key, each later one under the member above it (RFC
-/// 6487 7.2). Returns the last member, with the numbers that the trust anchor lists and every later
-/// member lists or inherits, and with the locator. Errs with the place of the first member that is
-/// wrong, and what is wrong with it; never with `Revocation`.
+/// Validates a path: the trust anchor, the CAs below it from the top down, and a leaf, if there is
+/// one.
 ///
-/// Not asked (own): whether a member is revoked by its issuer ([`validate_path_with`] asks that),
-/// and whether names chain. `strict` affects only which string types may stand in names. The leaf
-/// is used up, also where the path is rejected.
+/// Each string has to begin with a certificate; what follows is ignored. A certificate is decoded,
+/// inspected as its kind and verified before the next one is: the trust anchor at this time and by
+/// its own key, each later one below the one above it (RFC 6487 7.2). Returns the last certificate,
+/// with the resources that the trust anchor lists and every later one lists or inherits, and with
+/// the TAL's name. `strict` affects only which string types names may have. The leaf is consumed,
+/// also if the path is rejected.
+///
+/// # Errors
+///
+/// Returns the path index of the first wrong certificate, and what is wrong with it; never
+/// `Revocation`.
+///
+/// # Not checked
+///
+/// Whether a certificate is revoked ([`validate_path_with`]), whether names chain
+/// ([`crate::first_unchained`]), whether the trust anchor has a TAL's key
+/// ([`crate::validate_located`]), and manifests (own).
 pub fn validate_path<V: Verifier>(
     alloc: Global,
     anchor: &Bytes,
@@ -132,13 +141,20 @@ pub fn validate_path<V: Verifier>(
     walked(&validator, &Member::of(anchor), cas, &leaf, tal)
 }
 
-/// Validates a path as [`validate_path`] does, and asks the lists of this store whether a member is
-/// revoked: each member below the trust anchor, once it is verified and before the next is decoded
-/// ([`CrlStore::check`], with the URI and the serial number of the member's certificate and the
-/// member above it as the issuer; RFC 6487 7.2). The trust anchor isn't asked for. Errs with the
-/// place of the first member that is wrong or isn't found unrevoked, and why.
+/// Validates a path as [`validate_path`] does, and checks revocation by a store of CRLs.
 ///
-/// Not asked (own): whether a list is the newest of its issuer, and whether names chain.
+/// Each certificate below the trust anchor is checked once it is verified and before the next is
+/// decoded, by [`CrlStore::check`] with its CRL URI, its serial number and its issuer (RFC 6487
+/// 7.2).
+///
+/// # Errors
+///
+/// Returns the path index of the first certificate that is wrong or isn't found unrevoked, and why.
+///
+/// # Not checked
+///
+/// Whether a CRL is its issuer's newest: the first under the URI is used. Whether names chain
+/// ([`crate::first_unchained`]), and manifests (own).
 pub fn validate_path_with<V: Verifier>(
     alloc: Global,
     store: &CrlStore,

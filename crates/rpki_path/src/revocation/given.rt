@@ -25,8 +25,9 @@ use std::marker::Model;
 /// goes first, then the one of the later thisUpdate, then the one of the later nextUpdate (own). A
 /// list that another key signed, or whose time hasn't begun, hides none. If there is no such list,
 /// each that names the key is asked, and one fails a check: `BadSignature` if another key signed one
-/// of them, else `Stale`, as their time hasn't begun; if none names the key (and, if names are
-/// checked, the issuer), the answer is `NoCrl`. The answer is the same for every order of the lists
+/// of them, else `Stale`, as their time hasn't begun. If none names the key (and, if names are
+/// checked, the issuer), the answer is `WrongIssuer` if names are checked and the issuer's key signed
+/// one that names the key, and else `NoCrl`. The answer is the same for every order of the lists
 /// ([`crate::revocation::laws::blind_to_order`]).
 ///
 /// A list is looked up in its table where its serial numbers are cached ([`Crl::cache_serials`]),
@@ -73,9 +74,9 @@ fn is_for(list: &Crl, cert: &Cert) -> bool
     cert.as_tbs().authority_key_identifier() == Some(named)
 }
 
-// Whether the list's issuer is the issuer's subject (RFC 5280 6.3.3 (b) (1)). Names are compared
-// octet by octet.
-fn is_named_by(list: &Crl, issuer: &ResourceCert) -> bool
+/// Tells whether the list's issuer is the issuer's subject (RFC 5280 6.3.3 (b) (1)). Names are
+/// compared octet by octet.
+pub fn is_named_by(list: &Crl, issuer: &ResourceCert) -> bool
     ensures { IsTrue result ↔ IsNamedBy issuer.now.cert.fields list.now.list }
 {
     let subject = issuer.as_cert().as_tbs().subject();
@@ -255,6 +256,47 @@ fn one_for<'l>(lists: &'l [Crl], cert: &Cert, issuer: &ResourceCert, names: bool
     None
 }
 
+// A list for the certificate that the issuer's key signed, whatever its name.
+fn signed_one<'l, V: Verifier>(
+    lists: &'l [Crl],
+    cert: &Cert,
+    issuer: &ResourceCert,
+    verifier: &V,
+) -> Option<&'l Crl>
+    ensures { let key = issuer.now.cert.fields.key in
+        IsOneIfAny (λ l. IsFor cert.now l
+        × IsSignedBy (V.verifies verifier.now) key l.list.signed_data) lists.now
+        (option_copied result) }
+{
+    for list in lists {
+        if is_for(list, cert) && is_signed_by(list, issuer, verifier) {
+            return Some(list);
+        }
+    }
+    None
+}
+
+// Why no list is asked, if none is for the certificate, with the issuer's name if names are checked.
+fn why_unasked<V: Verifier>(
+    lists: &[Crl],
+    cert: &Cert,
+    issuer: &ResourceCert,
+    names: bool,
+    strict: bool,
+    now: Time,
+    verifier: &V,
+) -> RevocationError
+    requires { HaveNone (IsForBelow names issuer.now.cert.fields cert.now) lists.now }
+    ensures { let x = context (V.verifies verifier.now) now strict in
+        let checks = by_named_lists names x lists.now issuer.now.cert.fields cert.now in
+        IsFirstFalse checks revocation_checks result }
+{
+    match signed_one(lists, cert, issuer, verifier) {
+        Some(_) => RevocationError::WrongIssuer,
+        None => RevocationError::NoCrl,
+    }
+}
+
 // Whether the issuer's key signed a list that isn't eligible, if that is for the certificate. One
 // whose time has begun isn't signed then, so no signature is verified twice.
 fn is_signed_if_for<V: Verifier>(
@@ -321,7 +363,7 @@ fn why_none<V: Verifier>(
         IsFirstFalse checks revocation_checks result }
 {
     let Some(list) = one_for(lists, cert, issuer, names) else {
-        return RevocationError::NoCrl;
+        return why_unasked(lists, cert, issuer, names, strict, now, verifier);
     };
     if list.verify_issuer_claim(issuer, strict).is_err() {
         return RevocationError::WrongKeyId;

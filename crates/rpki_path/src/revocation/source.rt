@@ -8,9 +8,12 @@ use rpki_crl::{CrlStore, RevocationError};
 use rpki_der::Time;
 use rpki_parts::Verifier;
 
-/// Answers whether certificates are revoked. What is asked of a certificate below its issuer is
-/// the relation `asks`, which who implements this states: checks, each named by the error that it
-/// gives. Lists in a store ([`CrlStore`]) answer by the URI that the certificate names.
+/// Answers whether certificates are revoked.
+///
+/// The relation `asks`, which an implementation states, has the checks that are made of a
+/// certificate below its issuer, each named by the error that it gives. [`CrlStore`] answers by the
+/// URI that the certificate names, [`crate::revocation::GivenLists`] by the issuer's newest CRL,
+/// [`crate::revocation::NobodyAsked`] accepts every certificate.
 pub trait RevocationSource {
     ghost use Rattle.rpki_cert.specs.Verification.{Context};
     ghost use Rattle.rpki_path.specs.Asking.{RevocationChecks};
@@ -32,7 +35,12 @@ pub trait RevocationSource {
             Tests (asks self.now x issuer.now.cert.fields cert.now) revocation_checks result };
 }
 
-/// Asks nobody: no certificate is revoked.
+/// Accepts every certificate: revoked certificates are accepted, too.
+///
+/// # Not checked
+///
+/// Whether a certificate is revoked. RFC 6487 7.2 requires it; use [`GivenLists`], a store, or a
+/// source of your own.
 #[derive(Clone, Copy)]
 pub struct NobodyAsked;
 

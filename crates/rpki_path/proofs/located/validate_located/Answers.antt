@@ -1,7 +1,7 @@
-use Rattle.std.proofs.Common.{rules, ◌≡◌, Err, ℕ, List, subst}
+use Rattle.std.proofs.Common.{rules, ◌≡◌, Err, IfErr, ℕ, List, subst}
 use Rattle.rpki_cert.specs.Verification.{context}
 use Rattle.rpki_path.specs.Asking.{by_uri}
-use Rattle.rpki_path.specs.LocatedPaths.{ValidatesFrom}
+use Rattle.rpki_path.specs.LocatedPaths.{IsLocatedFault, ValidatesFrom}
 use Rattle.rpki_path.specs.Paths.{candidates}
 use Rattle.rpki_path.specs.Paths.Steps.{IsUnread}
 use Rattle.rpki_path.specs.declared.located.LocatedError.TheVariants.{Path as path}
@@ -34,3 +34,10 @@ returns-clause-validates g c =
     let answer = c.walked_from-answer in
     subst (λ (anchor : List ℕ). ValidatesFrom x asked c.args.tal.now anchor below answer.result) c.read_as.ensures
     (located_headline x asked below c.unambiguous.ensures.certificate c.args.tal.now c.read_as.result answer.result answer.ensures.ok answer.ensures.named)
+
+pub returns-clause-named : goal.returns-clause-named
+returns-clause-named g c =
+    let x = context (g.V.Verifier.verifies c.args.verifier.now) c.args.now c.args.strict in
+    let below = candidates c.args.cas.now c.args.leaf in
+    let answer = c.walked_from-answer in
+    subst (λ (anchor : List ℕ). IfErr answer.result (IsLocatedFault x (by_uri x c.args.store.now.pairs) c.args.tal.now.tal anchor below)) c.read_as.ensures answer.ensures.named

@@ -1,13 +1,8 @@
 use Rattle.std.proofs.Common.{refl, sym, inr, ◌∙◌}
 use Rattle.std.proofs.lemmas.Bool.{true≢false, false≢true}
 use Rattle.rpki_cert.specs.Verification.{context}
-use Rattle.rpki_path.proofs.AskedNamedList.{no_list, wrong_key, unsigned, not_begun}
+use Rattle.rpki_path.proofs.AskedNamedList.{wrong_key, unsigned, not_begun}
 use Rattle.rpki_path.proofs.revocation.given.why_none.Goals as goal
-
-pub returns-in_default : goal.returns-in_default
-returns-in_default g c =
-    let x = context (g.V.Verifier.verifies c.args.verifier.now) c.args.now c.args.strict in
-    no_list c.args.names x c.args.lists.now c.args.issuer.now.cert.fields c.args.cert.now c.in_default.ensures
 
 pub returns-then-is_err : goal.returns-then-is_err
 returns-then-is_err g c =

@@ -1,6 +1,0 @@
-use Rattle.std.proofs.lemmas.Str.Pattern.{starts_text}
-use Rattle.rpki_files.specs.PemFiles.{begin_line}
-use Rattle.rpki_files.proofs.files.starts_object.Goals as goal
-
-pub returns : goal.returns
-returns c = starts_text _ begin_line c.args.line.now c.starts_with.ensures.cases
