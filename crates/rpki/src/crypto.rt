@@ -1,5 +1,6 @@
-//! Keys, algorithms and signatures. A `Verifier` says what a valid signature is, a `Signer` makes
-//! one; `RsaVerifier` verifies those of the RPKI. `keys` tells which keys can be used.
+//! Keys, algorithms and signatures. A `Verifier` defines which signatures are valid, and a `Signer`
+//! makes signatures. `RsaVerifier` verifies those of the RPKI. `keys` says which keys the RPKI
+//! uses.
 pub mod keys;
 pub mod rsa;
 

@@ -1,4 +1,5 @@
-//! Values of DER (X.690): a cursor over shared octets, kept pieces, writers, errors.
+//! Values of DER (X.690): a cursor over shared octets, pieces that keep their octets, writers, and
+//! errors.
 pub use rpki_der::{
     Cursor, DecodeError, EncodeError, Field, MAX_LEN, Oid, Piece, enclose, end_extension,
     end_value, put_bits, put_bool, put_extension, put_oid, put_parts, put_unsigned, put_value, tag,

@@ -7,6 +7,7 @@ pub use rpki_crl::laws as lists;
 pub use rpki_der::laws as der;
 pub use rpki_ext::laws as extensions;
 pub use rpki_folder::laws as folders;
+pub use rpki_isolation::laws as isolation;
 pub use rpki_issuing::laws as issuing;
 pub use rpki_keys::laws as keys;
 pub use rpki_keys::tal::laws as locators;

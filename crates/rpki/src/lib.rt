@@ -1,5 +1,5 @@
-//! The public names of all layers, under the paths that the Rust crate has them under. A caller
-//! names this crate alone.
+//! The facade: the public names of all layers, under the paths that the Rust crate has them under.
+//! A caller depends on this crate alone.
 #![tactic(auto)]
 
 pub mod base64;

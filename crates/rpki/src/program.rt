@@ -1,2 +1,2 @@
-//! The line program: its answer to an input, over any reader and writer.
+//! The line program, over any reader and writer: it reads a question and writes the answer.
 pub use rpki_lines::{MAX_INPUT, RunFault, Status, Watched, program, run};

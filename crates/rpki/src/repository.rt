@@ -1,4 +1,4 @@
-//! What a repository of the RPKI holds: certificates, revocation lists, and what they are made of.
+//! What an RPKI repository has: certificates, CRLs, and their parts.
 pub mod cert;
 pub mod crl;
 pub mod decoding;

@@ -20,7 +20,7 @@ use Rattle.rpki_path.specs.Paths.Steps.{IsIssuedBy}
 use Rattle.rpki_folder.specs.declared.bounds.Ended.{Ended}
 use Rattle.rpki_folder.specs.declared.bounds.Ended.TheVariants.{Whole, TooDeep, OutOfSteps}
 use Rattle.rpki_folder.specs.Folders.{octets_at, NamesSigner, ArePlacesOf}
-use Rattle.rpki_folder.specs.Walks.{Root, members_at, LeadsTo, IsReached, Told, told, IsRight, IsTold, worse, Covers, AreAdmitted, AreUsedUp, IsTooDeep, IsComplete, TellsBelow}
+use Rattle.rpki_folder.specs.Walks.{Root, members_at, LeadsTo, IsReached, Told, told, IsRight, IsTold, StandsAt, worse, Covers, AreAdmitted, IsLetIn, AreUsedUp, IsTooDeep, IsComplete, TellsBelow}
 use Rattle.rpki_folder.specs.Walks.Steps.{IsAnswer, IsOutcome}
 use Rattle.rpki_folder.proofs.PathsDown.{members_next, leads_further}
 use Rattle.rpki_folder.proofs.Outcomes.{head_of, right_answer, outcome_ok, outcome_goes_on, reached_passes, reached_names}
@@ -84,7 +84,7 @@ if_ok {T} {E} P r t is h = subst (λ (q : Result T E). IfOk q P) is h
 
 -- ---- certificates have octets
 
-no_certificate : (c : CertFields) (octets : List ℕ) → Means IsCertificate c octets → octets ≡ [] → ⊥
+pub no_certificate : (c : CertFields) (octets : List ℕ) → Means IsCertificate c octets → octets ≡ [] → ⊥
 unfolding enc
 no_certificate c octets m is =
     let begins = m.1 in
@@ -117,6 +117,7 @@ module _ (x : Context) (asked : RevocationChecks) (admits : List ℕ → ℕ →
   -- what was told is right
   pub record AllRight (ts : List Told) : Type 0 where
     pub right : (root : Root) → LeadsTo x asked root (members_at root certs above) issuer → AllByRecursion (IsRight x asked root certs) ts
+    pub let_in : (root : Root) → LeadsTo x asked root (members_at root certs above) issuer → AllByRecursion (IsLetIn admits above) ts
 
   -- what was told when the walk has looked at these places
   pub record SoFar (heads : List ℕ) (ended : Ended) (ts : List Told) : Type 0 where
@@ -125,7 +126,7 @@ module _ (x : Context) (asked : RevocationChecks) (admits : List ℕ → ℕ →
     pub done : (root : Root) → LeadsTo x asked root (members_at root certs above) issuer → Done root heads ended ts
 
   pub nothing_yet : SoFar [] Whole []
-  nothing_yet = record { right = record { right = λ root a. tt }; too_deep = λ root a is. absurd (cc is); done = λ root a between place h. absurd (omega (arith, h.1)) }
+  nothing_yet = record { right = record { right = λ root a. tt; let_in = λ root a. tt }; too_deep = λ root a is. absurd (cc is); done = λ root a between place h. absurd (omega (arith, h.1)) }
 
   head_admitted : (between : List ℕ) (place : ℕ) → AreAdmitted admits above (between ++ place ∷ []) → admits above (head_of between place)
   head_admitted [] place h = h.0
@@ -152,12 +153,20 @@ module _ (x : Context) (asked : RevocationChecks) (admits : List ℕ → ℕ →
         (λ between last is deep admitted reached. absurd (never (subst (λ (p : ℕ). admits above p) is (head_admitted between last admitted)))));
   }
 
+  -- what is let in below a CA that is
+  let_in_above : (place : ℕ) → admits above place → (ts : List Told) → AllByRecursion (IsLetIn admits (above ++ place ∷ [])) ts → AllByRecursion (IsLetIn admits above) ts
+  let_in_above place admitted [] h = tt
+  let_in_above place admitted (t ∷ ts) h =
+      let i = h.0 in
+      ((place ∷ i.0, i.1 ∙ append_assoc above (place ∷ []) i.0, (admitted, i.2)), let_in_above place admitted ts h.1)
+
   module _ (law : IsUnambiguous IsCertificate) where
     -- one verdict more
-    pub one_right : (ts : List Told) (place : ℕ) (verdict : Result Judged PathFault) (next : Option ResourceFields) → AllRight ts → IsOutcome x asked issuer (octets_at certs place) verdict next → AllRight (ts ++ told above place verdict ∷ [])
-    one_right ts place verdict next old o = record {
+    pub one_right : (ts : List Told) (place : ℕ) (verdict : Result Judged PathFault) (next : Option ResourceFields) → admits above place → AllRight ts → IsOutcome x asked issuer (octets_at certs place) verdict next → AllRight (ts ++ told above place verdict ∷ [])
+    one_right ts place verdict next admitted old o = record {
       right = λ root a. all_append (IsRight x asked root certs) ts (told above place verdict ∷ []) (old.right root a)
           ((right_answer x asked root law (members_at root certs above) issuer a (octets_at certs place) o.kind o.says verdict o.answer), tt);
+      let_in = λ root a. all_append (IsLetIn admits above) ts (told above place verdict ∷ []) (old.let_in root a) (([], sym (append-nil above), (admitted, tt)), tt);
     }
 
     here_ok : (root : Root) → LeadsTo x asked root (members_at root certs above) issuer → (place : ℕ) (verdict : Result Judged PathFault) (next : Option ResourceFields) → IsOutcome x asked issuer (octets_at certs place) verdict next
@@ -186,10 +195,10 @@ module _ (x : Context) (asked : RevocationChecks) (admits : List ℕ → ℕ →
         absurd cc
 
     -- a verdict below which the walk doesn't go on
-    pub ended_there : (heads : List ℕ) (ended : Ended) (ts : List Told) (place : ℕ) (verdict : Result Judged PathFault) → SoFar heads ended ts → IsOutcome x asked issuer (octets_at certs place) verdict None
+    pub ended_there : (heads : List ℕ) (ended : Ended) (ts : List Told) (place : ℕ) (verdict : Result Judged PathFault) → admits above place → SoFar heads ended ts → IsOutcome x asked issuer (octets_at certs place) verdict None
         → SoFar (heads ++ place ∷ []) ended (ts ++ told above place verdict ∷ [])
-    ended_there heads ended ts place verdict old o = record {
-      right = one_right ts place verdict None old.right o;
+    ended_there heads ended ts place verdict admitted old o = record {
+      right = one_right ts place verdict None admitted old.right o;
       too_deep = old.too_deep;
       done = λ root a. one_more root heads ended ts place ended (told above place verdict ∷ []) (old.done root a) (λ n h. h)
           (λ between last is deep admitted reached. told_none root a ts place verdict o between last is reached);
@@ -204,6 +213,10 @@ module _ (x : Context) (asked : RevocationChecks) (admits : List ℕ → ℕ →
         there.0
 
     module _ (place : ℕ) (verdict : Result Judged PathFault) (ca : ResourceFields) (o : IsOutcome x asked issuer (octets_at certs place) verdict (Some ca)) where
+      -- it stands at the place
+      pub ca_stands : StandsAt certs place ca.cert
+      ca_stands = (issued o.kind (octets_at certs place) verdict ca o.answer o.goes_on.0 o.goes_on.1).begins
+
       ca_leads : (root : Root) → LeadsTo x asked root (members_at root certs above) issuer → LeadsTo x asked root (members_at root certs (above ++ place ∷ [])) ca
       ca_leads root a =
           subst (λ (l : List Candidate). LeadsTo x asked root l ca) (sym (members_next root certs above place))
@@ -211,10 +224,13 @@ module _ (x : Context) (asked : RevocationChecks) (admits : List ℕ → ℕ →
 
       module _ {E : Type 0} (steps : ℕ) (r : Result Ended E) (sub : List Told) (below : TellsBelow x asked admits ca certs (above ++ place ∷ []) (depth - 1) steps r sub) where
         -- what is told below it is right
-        pub below_right : (ts : List Told) → AllRight ts → AllRight ((ts ++ told above place verdict ∷ []) ++ sub)
-        below_right ts old = record {
-          right = λ root a. all_append (IsRight x asked root certs) (ts ++ told above place verdict ∷ []) sub ((one_right ts place verdict (Some ca) old o).right root a) (below.2 root (ca_leads root a)).right;
-        }
+        pub below_right : admits above place → (ts : List Told) → AllRight ts → AllRight ((ts ++ told above place verdict ∷ []) ++ sub)
+        below_right admitted ts old =
+            let here = one_right ts place verdict (Some ca) admitted old o in
+            record {
+              right = λ root a. all_append (IsRight x asked root certs) (ts ++ told above place verdict ∷ []) sub (here.right root a) (below.2 root (ca_leads root a)).right;
+              let_in = λ root a. all_append (IsLetIn admits above) (ts ++ told above place verdict ∷ []) sub (here.let_in root a) (let_in_above place admitted sub (below.2 root (ca_leads root a)).let_in);
+            }
 
         told_below : (end : Ended) → r ≡ Ok end → (root : Root) → LeadsTo x asked root (members_at root certs above) issuer → (ts : List Told)
             → (rest : List ℕ) (last : ℕ) → Covers end (depth - 1) (length rest + 1) → AreAdmitted admits (above ++ place ∷ []) (rest ++ last ∷ [])
@@ -265,7 +281,7 @@ module _ (x : Context) (asked : RevocationChecks) (admits : List ℕ → ℕ →
             let us = told above place verdict ∷ sub in
             let grouped : (ts ++ told above place verdict ∷ []) ++ sub ≡ ts ++ us = append_assoc ts (told above place verdict ∷ []) sub in
             record {
-              right = below_right ts old.right;
+              right = below_right admitted ts old.right;
               too_deep = λ root a too_deep. elim (worse_deep ended end too_deep) [
                 | inl before ↦ old.too_deep root a before
                 | inr now ↦ deeper end is low admitted root a now
@@ -291,6 +307,7 @@ module _ (x : Context) (asked : RevocationChecks) (admits : List ℕ → ℕ →
                 all.done root a between place (are.all (head_of between place) (there certs key (head_of between place) names) names) deep admitted reached in
                 record {
                   right = all.right.right root a;
+                  let_in = all.right.let_in root a;
                   few = few;
                   used_up = used;
                   too_deep = subst (λ (q : Result Ended E). IfOk q (IsTooDeep x asked admits root certs above depth)) (sym is) (all.too_deep root a);
@@ -306,11 +323,28 @@ module _ (x : Context) (asked : RevocationChecks) (admits : List ℕ → ℕ →
             used,
             (λ root a. record {
               right = all.right root a;
+              let_in = all.let_in root a;
               few = few;
               used_up = used;
               too_deep = subst (λ (q : Result Ended E). IfOk q (IsTooDeep x asked admits root certs above depth)) (sym is)
                   (λ too_deep. ([], sym deep, record { issuer = issuer; leads = subst (λ (l : List ℕ). LeadsTo x asked root (members_at root certs l) issuer) (sym (append-nil above)) a; place = place; names = names; admitted = (admitted, tt) }));
               complete = subst (λ (q : Result Ended E). IfOk q (IsComplete x asked admits root certs above depth ts)) (sym is) (λ between place covered admitted reached. absurd (omega (arith, covered, deep)));
+            }),
+          )
+
+      -- where nothing is let in
+      pub ended_circle : {E : Type 0} → ((place : ℕ) → admits above place → ⊥) → AllRight ts → (r : Result Ended E) → r ≡ Ok Whole → TellsBelow x asked admits issuer certs above depth steps r ts
+      ended_circle {E} none all r is =
+          let used : IfOk r (AreUsedUp steps ts) = subst (λ (q : Result Ended E). IfOk q (AreUsedUp steps ts)) (sym is) (λ e. absurd (cc e)) in (
+            few,
+            used,
+            (λ root a. record {
+              right = all.right root a;
+              let_in = all.let_in root a;
+              few = few;
+              used_up = used;
+              too_deep = subst (λ (q : Result Ended E). IfOk q (IsTooDeep x asked admits root certs above depth)) (sym is) (λ too_deep. absurd (cc too_deep));
+              complete = subst (λ (q : Result Ended E). IfOk q (IsComplete x asked admits root certs above depth ts)) (sym is) (λ between place covered admitted reached. absurd (none (head_of between place) (head_admitted between place admitted)));
             }),
           )
 
@@ -322,6 +356,7 @@ module _ (x : Context) (asked : RevocationChecks) (admits : List ℕ → ℕ →
             used,
             (λ root a. record {
               right = all.right root a;
+              let_in = all.let_in root a;
               few = few;
               used_up = used;
               too_deep = subst (λ (q : Result Ended E). IfOk q (IsTooDeep x asked admits root certs above depth)) (sym is) (λ too_deep. absurd (cc too_deep));
@@ -337,6 +372,7 @@ module _ (x : Context) (asked : RevocationChecks) (admits : List ℕ → ℕ →
             used,
             (λ root a. record {
               right = all.right root a;
+              let_in = all.let_in root a;
               few = few;
               used_up = used;
               too_deep = if_err (IsTooDeep x asked admits root certs above depth) r err;

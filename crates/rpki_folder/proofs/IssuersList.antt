@@ -1,31 +1,40 @@
 -- What is kept of lists for an issuer answers of each certificate below it as all lists do.
-use Rattle.std.specs.Prelude.{Some, Result, Contains}
-use Rattle.std.proofs.Common.{◌≡◌, ◌<◌, ℕ, zero, suc, List, [], ◌∷◌, length, get_or, refl, sym, ap, subst, ◌∙◌, inl, inr, arith}
+use Rattle.std.specs.Prelude.{Bool, true, false, Some, Result, Contains}
+use Rattle.std.proofs.Common.{◌≡◌, ◌<◌, ℕ, List, [], ◌∷◌, length, get_or, refl, sym, ap, subst, ◌∙◌, inl, inr, arith}
+use Rattle.std.proofs.lemmas.Bool.{false≢true}
 use Rattle.rpki_parts.specs.Conditions.{IsFirstFalse, Tests}
 use Rattle.rpki_cert.specs.Certificates.{TbsFields, CertFields}
 use Rattle.rpki_cert.specs.Verification.{Context, IsSignedBy}
 use Rattle.rpki_crl.specs.Lists.{CrlState}
 use Rattle.rpki_crl.specs.Revocation.{NamesIssuer, revocation_checks}
 use Rattle.rpki_crl.specs.declared.revocation_error.RevocationError.{RevocationError}
-use Rattle.rpki_crl.specs.declared.revocation_error.RevocationError.TheVariants.{NoCrl, BadSignature, Stale}
-use Rattle.rpki_path.specs.AskedLists.{IsFor, HasBegun, IsEligible, HaveNone, IsLatest, by_lists}
-use Rattle.rpki_path.proofs.AskedList.{no_list, unsigned, not_begun, answered}
+use Rattle.rpki_crl.specs.declared.revocation_error.RevocationError.TheVariants.{NoCrl, BadSignature, Stale, WrongIssuer}
+use Rattle.rpki_path.specs.AskedLists.{IsFor, IsForBelow, HasBegun, IsEligibleNamed, HaveNone, IsLatest, by_named_lists}
+use Rattle.rpki_path.proofs.AskedNamedList.{no_list, other_name, unsigned, not_begun, answered}
 use Rattle.rpki_folder.specs.KeyTables.{signer_of, list_places}
-use Rattle.rpki_folder.specs.IssuerLists.{ArePicked, IsCurrent, CanBeAsked, IsBelow, IssuerFields, AreIssuers, IsLatestOf, IsAnswered}
+use Rattle.rpki_folder.specs.IssuerLists.{ArePicked, HasName, IsOfIssuer, IsCurrent, CanBeAsked, IsBelow, IssuerFields, AreIssuers, IsLatestOf, IsAnswered}
 use Rattle.rpki_folder.proofs.PickedLists.{in_none, one_of_all, one_of_picked, picked_through, latest_of_all, none_of_all}
 use Rattle.rpki_folder.proofs.ListPlaces.{lists_at, at_one, list_inside, Names, named_there}
 
 some_one : {X : Type 0} (x y : X) → Some x ≡ Some y → x ≡ y
 some_one x y e = cc e
 
-a_place : (places : List ℕ) → 0 < length places → (p : ℕ) × Contains places p
-a_place [] some = absurd (omega (arith, some))
-a_place (p ∷ places) some = (p, (0, omega arith, refl))
+a_list : (lists : List CrlState) → 0 < length lists → (l : CrlState) × Contains lists l
+a_list [] some = absurd (omega (arith, some))
+a_list (l ∷ lists) some = (l, (0, omega arith, refl))
 
-there_is : (lists : List CrlState) (p : ℕ) → p < length lists → (l : CrlState) × (l ≡ get_or lists p l)
-there_is [] p low = absurd (omega (arith, low))
-there_is (l ∷ lists) zero low = (l, refl)
-there_is (l ∷ lists) (suc p) low = there_is lists p (omega (arith, low))
+-- a list that is for a certificate, with the issuer's name if names are asked
+by_names : (names : Bool) (issuer : TbsFields) (c : CertFields) (l : CrlState) → IsFor c l → HasName names issuer l → IsForBelow names issuer c l
+by_names false issuer c l is named = is
+by_names true issuer c l is named = (is, named refl)
+
+is_for : (names : Bool) (issuer : TbsFields) (c : CertFields) (l : CrlState) → IsForBelow names issuer c l → IsFor c l
+is_for false issuer c l h = h
+is_for true issuer c l h = h.0
+
+has_name : (names : Bool) (issuer : TbsFields) (c : CertFields) (l : CrlState) → IsForBelow names issuer c l → HasName names issuer l
+has_name true issuer c l h asked = h.1
+has_name false issuer c l h asked = absurd (false≢true asked)
 
 abbrev key_of : TbsFields → List ℕ
 key_of issuer = issuer.extensions.subject_key_identifier
@@ -49,68 +58,101 @@ module _ (lists : List CrlState) (issuer : TbsFields) (places : List ℕ) (given
       (subst (λ (ps : List ℕ). ArePicked (Names (key_of issuer)) lists (lists_at lists ps)) (sym given) (named_there (key_of issuer) lists))
       l at names
 
-module _ (x : Context) (lists : List CrlState) (issuer : TbsFields) where
-  -- the lists that can be asked, among those that stand at the places of the key
-  pub eligible_there : (eligible : List CrlState) → ArePicked (IsCurrent x.verifies x.now issuer) (lists_at lists (list_places (key_of issuer) lists)) eligible → ArePicked (CanBeAsked x.verifies x.now issuer) lists eligible
-  eligible_there eligible h = picked_through (Names (key_of issuer)) (IsCurrent x.verifies x.now issuer) lists (lists_at lists (list_places (key_of issuer) lists)) eligible (named_there (key_of issuer) lists) h
+-- the lists with the issuer's name, among those that stand at the places of the key
+module _ (names : Bool) (lists : List CrlState) (issuer : TbsFields) where
+  pub named_there_too : (places : List ℕ) (named : List CrlState) → places ≡ list_places (key_of issuer) lists → ArePicked (HasName names issuer) (lists_at lists places) named → ArePicked (IsOfIssuer names issuer) lists named
+  named_there_too places named given h =
+      let there = subst (λ (ps : List ℕ). ArePicked (Names (key_of issuer)) lists (lists_at lists ps)) (sym given) (named_there (key_of issuer) lists) in
+      picked_through (Names (key_of issuer)) (HasName names issuer) lists (lists_at lists places) named there h
+
+  -- none is, if none of these is
+  pub none_named : (named : List CrlState) → ArePicked (IsOfIssuer names issuer) lists named → named ≡ [] → HaveNone (IsOfIssuer names issuer) lists
+  none_named named are empty l at is = in_none l (subst (λ (ls : List CrlState). Contains ls l) empty (one_of_picked (IsOfIssuer names issuer) lists named are l at is))
+
+module _ (names : Bool) (x : Context) (lists : List CrlState) (issuer : TbsFields) where
+  -- the lists that can be asked, among those of the issuer
+  pub eligible_there : (named eligible : List CrlState) → ArePicked (IsOfIssuer names issuer) lists named → ArePicked (IsCurrent x.verifies x.now issuer) named eligible → ArePicked (CanBeAsked names x.verifies x.now issuer) lists eligible
+  eligible_there named eligible are h = picked_through (IsOfIssuer names issuer) (IsCurrent x.verifies x.now issuer) lists named eligible are h
 
   module _ (c : CertFields) (below : IsBelow issuer c) where
     abbrev Fits : CrlState → Type 0
-    Fits l = IsEligible x.verifies x.now issuer c l
+    Fits l = IsEligibleNamed names x.verifies x.now issuer c l
 
-    names_for : (l : CrlState) → NamesIssuer issuer l.list → IsFor c l
-    names_for l names = below ∙ ap (λ (k : List ℕ). Some k) (sym names)
-
-    for_names : (l : CrlState) → IsFor c l → NamesIssuer issuer l.list
-    for_names l is = some_one (signer_of l) (key_of issuer) (sym is ∙ below)
-
-    fits : (l : CrlState) → CanBeAsked x.verifies x.now issuer l → Fits l
-    fits l h = (names_for l h.0, h.1.0, h.1.1)
-
-    asked : (l : CrlState) → Fits l → CanBeAsked x.verifies x.now issuer l
-    asked l h = (for_names l h.0, (h.1, h.2))
-
-    -- ---- where no list is eligible
+    abbrev Suits : CrlState → Type 0
+    Suits l = IsForBelow names issuer c l
 
     abbrev Signs : CrlState → Type 0
     Signs l = IsSignedBy x.verifies issuer.key l.list.signed_data
 
-    module _ (places : List ℕ) (given : places ≡ list_places (key_of issuer) lists) (none : HaveNone Fits lists) where
-      -- no list names the key
-      pub none_named : places ≡ [] → IsFirstFalse (by_lists x lists issuer c) revocation_checks NoCrl
-      none_named empty = no_list x lists issuer c (λ l at is. in_none l (subst (λ (ps : List ℕ). Contains (lists_at lists ps) l) empty (there_named lists issuer places given l at (for_names l is))))
+    names_for : (l : CrlState) → NamesIssuer issuer l.list → IsFor c l
+    names_for l named = below ∙ ap (λ (k : List ℕ). Some k) (sym named)
 
-      -- the list at one of the places isn't signed
-      module _ (p : ℕ) (at : Contains places p) (l : CrlState) (is : l ≡ get_or lists p l) where
-        named : Contains lists l × NamesIssuer issuer l.list
-        named = named_at lists issuer places given p at l is
+    for_names : (l : CrlState) → IsFor c l → NamesIssuer issuer l.list
+    for_names l is = some_one (signer_of l) (key_of issuer) (sym is ∙ below)
 
-        pub one_unsigned : (Signs l → ⊥) → IsFirstFalse (by_lists x lists issuer c) revocation_checks BadSignature
-        one_unsigned not = unsigned x lists issuer c none l (named.0, names_for l named.1) named.1 (λ each. not (each l named.0 (names_for l named.1)))
+    -- a list of the issuer is for the certificate below it, and the other way round
+    suits : (l : CrlState) → IsOfIssuer names issuer l → Suits l
+    suits l h = by_names names issuer c l (names_for l h.0) h.1
+
+    of_issuer : (l : CrlState) → Suits l → IsOfIssuer names issuer l
+    of_issuer l h = (for_names l (is_for names issuer c l h), has_name names issuer c l h)
+
+    fits : (l : CrlState) → CanBeAsked names x.verifies x.now issuer l → Fits l
+    fits l h = (suits l h.0, h.1.0, h.1.1)
+
+    asked : (l : CrlState) → Fits l → CanBeAsked names x.verifies x.now issuer l
+    asked l h = (of_issuer l h.0, (h.1, h.2))
+
+    -- ---- where no list is the issuer's
+
+    module _ (places : List ℕ) (given : places ≡ list_places (key_of issuer) lists) (none : HaveNone (IsOfIssuer names issuer) lists) where
+      none_suits : HaveNone Suits lists
+      none_suits l at is = none l at (of_issuer l is)
+
+      -- nor did the issuer's key sign one of those that name it
+      pub none_signed : ((l : CrlState) → Contains (lists_at lists places) l → Signs l → ⊥) → IsFirstFalse (by_named_lists names x lists issuer c) revocation_checks NoCrl
+      none_signed not = no_list names x lists issuer c none_suits (λ l at is. not l (there_named lists issuer places given l at (for_names l is.0)) is.1)
+
+      -- it signed the one at this place
+      pub one_signed : (p : ℕ) → Contains places p → (l : CrlState) → l ≡ get_or lists p l → Signs l → IsFirstFalse (by_named_lists names x lists issuer c) revocation_checks WrongIssuer
+      one_signed p at l is signed =
+          let named = named_at lists issuer places given p at l is in
+          other_name names x lists issuer c none_suits l named.0 (names_for l named.1) signed
+
+    -- ---- where none of the issuer's lists is eligible
+
+    module _ (none : HaveNone Fits lists) (named : List CrlState) (are : ArePicked (IsOfIssuer names issuer) lists named) where
+      module _ (l : CrlState) (at : Contains named l) where
+        one : Contains lists l × IsOfIssuer names issuer l
+        one = one_of_all (IsOfIssuer names issuer) lists named are l at
+
+        -- it isn't signed
+        pub one_unsigned : (Signs l → ⊥) → IsFirstFalse (by_named_lists names x lists issuer c) revocation_checks BadSignature
+        one_unsigned not = unsigned names x lists issuer c none l (one.0, suits l one.1) one.1.0 (λ each. not (each l one.0 (suits l one.1)))
 
         -- as where its time has begun
-        pub one_begun : HasBegun x.now l.list → IsFirstFalse (by_lists x lists issuer c) revocation_checks BadSignature
-        one_begun begun = one_unsigned (λ signs. none l named.0 (names_for l named.1, signs, begun))
+        pub one_begun : HasBegun x.now l.list → IsFirstFalse (by_named_lists names x lists issuer c) revocation_checks BadSignature
+        one_begun begun = one_unsigned (λ signs. none l one.0 (suits l one.1, signs, begun))
 
       -- each is signed
-      pub all_signed : 0 < length places → ((l : CrlState) → Contains (lists_at lists places) l → Signs l) → IsFirstFalse (by_lists x lists issuer c) revocation_checks Stale
+      pub all_signed : 0 < length named → ((l : CrlState) → Contains named l → Signs l) → IsFirstFalse (by_named_lists names x lists issuer c) revocation_checks Stale
       all_signed some each =
-          let p = a_place places some in
-          let l = there_is lists p.0 (inside lists issuer places given p.0 p.1) in
-          let named = named_at lists issuer places given p.0 p.1 l.0 l.1 in
-          not_begun x lists issuer c none l.0 (named.0, names_for l.0 named.1) named.1 (λ k at is. each k (there_named lists issuer places given k at (for_names k is)))
+          let l = a_list named some in
+          let one = one_of_all (IsOfIssuer names issuer) lists named are l.0 l.1 in
+          not_begun names x lists issuer c none l.0 (one.0, suits l.0 one.1) one.1.0
+          (λ k at is. each k (one_of_picked (IsOfIssuer names issuer) lists named are k at (of_issuer k is)))
 
     -- ---- what was kept answers as all lists
 
-    module _ (kept : IssuerFields) (are : AreIssuers x lists issuer kept) where
+    module _ (kept : IssuerFields) (are : AreIssuers names x lists issuer kept) where
       latest : (l : CrlState) → IsLatestOf c kept.eligible l → IsLatest Fits c lists l
-      latest l h = latest_of_all (CanBeAsked x.verifies x.now issuer) Fits c lists kept.eligible are.eligible asked l (fits l) h
+      latest l h = latest_of_all (CanBeAsked names x.verifies x.now issuer) Fits c lists kept.eligible are.eligible asked l (fits l) h
 
-      names : (l : CrlState) → IsLatestOf c kept.eligible l → NamesIssuer issuer l.list
-      names l h = for_names l (latest l h).has.0
+      key : (l : CrlState) → IsLatestOf c kept.eligible l → NamesIssuer issuer l.list
+      key l h = (of_issuer l (latest l h).has.0).0
 
-      pub as_all : {T : Type 0} (r : Result T RevocationError) → IsAnswered kept x.now c r → Tests (by_lists x lists issuer c) revocation_checks r
+      pub as_all : {T : Type 0} (r : Result T RevocationError) → IsAnswered kept x.now c r → Tests (by_named_lists names x lists issuer c) revocation_checks r
       as_all {T} r (inl (empty, is)) =
-          let none = none_of_all (CanBeAsked x.verifies x.now issuer) Fits c lists kept.eligible are.eligible asked empty in
-          subst (λ (s : Result T RevocationError). Tests (by_lists x lists issuer c) revocation_checks s) (sym is) (are.otherwise c below none)
-      as_all r (inr (l, h, said)) = answered x lists issuer c l (latest l h) (names l h) r said
+          let none = none_of_all (CanBeAsked names x.verifies x.now issuer) Fits c lists kept.eligible are.eligible asked empty in
+          subst (λ (s : Result T RevocationError). Tests (by_named_lists names x lists issuer c) revocation_checks s) (sym is) (are.otherwise c below none)
+      as_all r (inr (l, h, said)) = answered names x lists issuer c l (latest l h) (key l h) r said

@@ -1,7 +1,6 @@
 -- One verdict more, in the lines that are kept.
 use Rattle.std.specs.List.{AllByRecursion}
-use Rattle.std.specs.Prelude.{Any, Result, Ok, Err, OnOk}
-use Rattle.std.specs.Global.{Vec}
+use Rattle.std.specs.Prelude.{Any, Result, Ok, Err, IsOk, OnOk}
 use Rattle.std.proofs.Common.{◌≡◌, ◌+◌, ◌<◌, ◌≤◌, ℕ, List, [], ◌∷◌, ◌++◌, length, get_or, refl, sym, ap, subst, ◌∙◌, inl, inr, arith}
 use Rattle.std.proofs.Math.ListN.{set, get_or-append}
 use Rattle.std.proofs.Math.Nat.{eq-or-lt_of_le}
@@ -12,10 +11,11 @@ use Rattle.std.proofs.lemmas.List.Elements.{Contains-append_left, Contains-push}
 use Rattle.rpki_path.specs.declared.judging.Judged.{Judged}
 use Rattle.rpki_path.specs.declared.path_fault.PathFault.{PathFault}
 use Rattle.rpki_folder.specs.Walks.{Told, told, IsTold}
-use Rattle.rpki_folder.specs.KeptLines.{step, IsRejectedWithin, IsLine, AreLines, Stays}
+use Rattle.rpki_folder.specs.KeptLines.{step, IsRejectedWithin, IsToldBy, IsLine, AreLines, Stays}
+use Rattle.rpki_folder.specs.declared.find.FoundPath.{FoundPath}
 use Rattle.rpki_folder.specs.declared.lines.Line.{Line}
 use Rattle.rpki_folder.specs.declared.lines.Line.TheVariants.{Unseen, Accepted, Rejected}
-use Rattle.rpki_folder.proofs.Descent.{told_more, told_last, all_append, less-or-not}
+use Rattle.rpki_folder.proofs.Descent.{all_append, less-or-not}
 
 any_more : (P : Told → Type 0) (ts more : List Told) → Any P ts → Any P (ts ++ more)
 any_more P ts more h = let c = Contains-append_left ts more h.1 (h.0, h.2, h.3) in (c.0, h.1, c.1, c.2, h.4)
@@ -32,11 +32,19 @@ pub when_ok : {T E : Type 0} (P N Q : Type 0) (r : Result T E) → P → (N → 
 when_ok P N Q (Ok x) p f = (p, f)
 when_ok P N Q (Err e) p f = tt
 
+-- the verdict accepts the certificate at the place by this path
+abbrev IsAcceptance : ℕ → FoundPath → Told → Type 0
+IsAcceptance place path t = (t.above ≡ path.above.items) × (t.place ≡ place) × (t.verdict ≡ Ok path.judged)
+
+-- what is told so is told
+pub told_so : (ts : List Told) (place : ℕ) (path : FoundPath) → IsToldBy ts place path → IsTold ts path.above.items place
+told_so ts place path h = (h.0, h.1, h.2, h.3, (h.4.0, h.4.1, subst (λ (r : Result Judged PathFault). IsOk r) (sym h.4.2) refl))
+
 module _ (ts : List Told) (t : Told) where
   -- the line of another place
   other_line : (place : ℕ) (l : Line) → (t.place ≡ place → ⊥) → IsLine ts place l → IsLine (ts ++ t ∷ []) place l
   other_line place Unseen apart h = all_append (λ (u : Told). u.place ≡ place → ⊥) ts (t ∷ []) h (apart, tt)
-  other_line place (Accepted above) apart h = told_more ts (t ∷ []) above.items place h
+  other_line place (Accepted path) apart h = any_more (IsAcceptance place path) ts (t ∷ []) h
   other_line place (Rejected n fault) apart h = (
     any_more (λ u. (u.place ≡ place) × (step u ≡ n) × (u.verdict ≡ Err fault)) ts (t ∷ []) h.0,
     all_append (IsRejectedWithin place n) ts (t ∷ []) h.1 ((λ is. absurd (apart is)), tt),
@@ -63,12 +71,12 @@ module _ (ts : List Told) (t : Told) where
 
 module _ (ts : List Told) (above : List ℕ) (place : ℕ) where
   -- an accepted certificate has its line
-  pub accepted_now : (j : Judged) (v : Vec ℕ) → v.items ≡ above → IsLine (ts ++ told above place (Ok j) ∷ []) place (Accepted v)
-  accepted_now j v is = subst (λ (l : List ℕ). IsTold (ts ++ told above place (Ok j) ∷ []) l place) (sym is) (told_last ts above place (Ok j) refl)
+  pub accepted_now : (j : Judged) (path : FoundPath) → path.above.items ≡ above → path.judged ≡ j → IsLine (ts ++ told above place (Ok j) ∷ []) place (Accepted path)
+  accepted_now j path is holds = any_last (IsAcceptance place path) ts (told above place (Ok j)) (sym is, refl, ap (λ (k : Judged). Ok k) (sym holds))
 
   -- and keeps it
-  pub accepted_before : (t : Told) (v : Vec ℕ) → IsLine ts place (Accepted v) → IsLine (ts ++ t ∷ []) place (Accepted v)
-  accepted_before t v h = told_more ts (t ∷ []) v.items place h
+  pub accepted_before : (t : Told) (path : FoundPath) → IsLine ts place (Accepted path) → IsLine (ts ++ t ∷ []) place (Accepted path)
+  accepted_before t path h = any_more (IsAcceptance place path) ts (t ∷ []) h
 
   module _ (fault : PathFault) where
     abbrev t : Told
@@ -103,13 +111,13 @@ module _ (ts : List Told) (above : List ℕ) (place : ℕ) where
     -- a line that stays
     pub kept_line : (l : Line) → Stays (length above + 1) l → IsLine ts place l → IsLine (ts ++ t ∷ []) place l
     kept_line Unseen stays h = absurd stays
-    kept_line (Accepted v) stays h = accepted_before t v h
+    kept_line (Accepted path) stays h = accepted_before t path h
     kept_line (Rejected m other) stays h = rejected_lower m other stays h
 
     -- one that doesn't
     pub new_line : (l : Line) → (Stays (length above + 1) l → ⊥) → IsLine ts place l → IsLine (ts ++ t ∷ []) place (Rejected (length above + 1) fault)
     new_line Unseen goes h = rejected_first (length above + 1) refl h
-    new_line (Accepted v) goes h = absurd (goes tt)
+    new_line (Accepted path) goes h = absurd (goes tt)
     new_line (Rejected m other) goes h = let less : m < length above + 1 = elim (less-or-not m (length above + 1)) [ inl low ↦ low | inr high ↦ absurd (goes high) ] in rejected_higher (length above + 1) m other refl less h
 
 -- ---- lines

@@ -1,6 +1,12 @@
 pub mod PathsDown
 pub mod Outcomes
 pub mod Descent
+pub mod LookedAt
+pub mod AnchorSteps
+pub mod WalkedNames
+pub mod LookedPaths
+pub mod HeldSets
+pub mod CircleFree
 pub mod Renamed
 pub mod KeyTableSteps
 pub mod FolderSteps

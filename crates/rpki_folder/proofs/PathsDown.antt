@@ -19,7 +19,7 @@ use Rattle.rpki_path.specs.Paths.Steps.{IsIssuedBy, demand_under}
 use Rattle.rpki_path.specs.Routers.{router_demand}
 use Rattle.rpki_path.specs.GivenPaths.{PathStrings}
 use Rattle.rpki_path.specs.Judging.{IsRouterIfAny}
-use Rattle.rpki_path.specs.LocatedPaths.{BeginsWithKey}
+use Rattle.rpki_path.specs.LocatedPaths.{BeginsWithKey, BeginsWithNumbers}
 use Rattle.rpki_path.proofs.LongerPaths.{extended, above, there, all_at}
 use Rattle.rpki_path.proofs.LocatedPaths.{located_headline}
 use Rattle.rpki_path.proofs.ValidPaths.{one_more}
@@ -72,7 +72,8 @@ module _ (x : Context) (asked : RevocationChecks) (root : Root) (law : IsUnambig
   leads_further members issuer a kind octets r is =
       let more = one_more x asked root.anchor members root.tal.name issuer kind octets r (accepted members issuer a) is in
       let key : BeginsWithKey root.tal.tal root.anchor = record { cert = a.path.anchor; begins = a.path_of.anchor_begins; key_is = a.is_valid.key_is } in
-      located_headline x asked (members ++ candidate kind octets ∷ []) law root.tal root.anchor (Ok r) (key, more) tt
+      let numbers : BeginsWithNumbers root.anchor = record { cert = a.path.anchor; begins = a.path_of.anchor_begins; lists = a.is_valid.lists } in
+      located_headline x asked (members ++ candidate kind octets ∷ []) law root.tal root.anchor (Ok r) ((key, numbers), more) tt
 
   -- two that are the last of one path are one certificate
   pub one_holder : (members : List Candidate) (r s : ResourceFields) → LeadsTo x asked root members r → LeadsTo x asked root members s → r.cert ≡ s.cert

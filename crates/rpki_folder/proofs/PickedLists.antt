@@ -1,6 +1,6 @@
 -- The elements of a list that are picked, in their order, and the latest of them.
 use Rattle.std.specs.Prelude.{Contains}
-use Rattle.std.proofs.Common.{◌≡◌, ◌⊎◌, zero, suc, List, [], ◌∷◌, ◌++◌, refl, sym, ap, subst, inl, inr, arith}
+use Rattle.std.proofs.Common.{◌≡◌, ◌⊎◌, ◌<◌, ℕ, zero, suc, List, [], ◌∷◌, ◌++◌, length, map, get_or, refl, sym, ap, subst, inl, inr, arith}
 use Rattle.rpki_cert.specs.Certificates.{CertFields}
 use Rattle.rpki_crl.specs.Lists.{CrlState}
 use Rattle.rpki_path.specs.AskedLists.{HaveNone, IsLatest}
@@ -21,6 +21,12 @@ module _ {X : Type 0} where
   first_or_further : (y : X) (xs : List X) (x : X) → Contains (y ∷ xs) x → (y ≡ x) ⊎ Contains xs x
   first_or_further y xs x (zero, low, same) = inl same
   first_or_further y xs x (suc k, low, is) = inr (k, omega (arith, low), is)
+
+-- what a function makes of one is among what it makes of all
+pub in_mapped : {X Y : Type 0} (f : X → Y) (xs : List X) (i : ℕ) (x : X) → i < length xs → x ≡ get_or xs i x → Contains (map f xs) (f x)
+in_mapped f [] i x low is = absurd (omega (arith, low))
+in_mapped f (y ∷ xs) zero x low is = in_front (f y) (map f xs) (f x) (ap f (sym is))
+in_mapped f (y ∷ xs) (suc i) x low is = further (f y) (map f xs) (f x) (in_mapped f xs i x (omega (arith, low)) is)
 
 module _ {X : Type 0} (P : X → Type 0) where
   -- ---- one element more

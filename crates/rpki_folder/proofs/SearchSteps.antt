@@ -1,7 +1,7 @@
 -- What is found of one certificate, verdict by verdict.
 use Rattle.std.specs.List.{AllByRecursion}
 use Rattle.std.specs.Prelude.{Option, None, Some, Result, Ok, IsOk}
-use Rattle.std.proofs.Common.{◌≡◌, ℕ, List, [], ◌∷◌, ◌++◌, subst}
+use Rattle.std.proofs.Common.{◌≡◌, ℕ, List, [], ◌∷◌, ◌++◌, sym, subst, ◌∙◌}
 use Rattle.std.proofs.lemmas.List.Elements.{Contains-append_left, Contains-push, All-from_recursion}
 use Rattle.rpki_cert.specs.Verification.{Context}
 use Rattle.rpki_path.specs.Asking.{RevocationChecks}
@@ -9,7 +9,7 @@ use Rattle.rpki_path.specs.declared.judging.Judged.{Judged}
 use Rattle.rpki_path.specs.declared.path_fault.PathFault.{PathFault}
 use Rattle.rpki_folder.specs.Folders.{octets_at}
 use Rattle.rpki_folder.specs.Searches.{IsSought}
-use Rattle.rpki_folder.specs.Walks.{Root, members_at, IsRight, IsRightOf, IsTold, Told, told}
+use Rattle.rpki_folder.specs.Walks.{Root, members_at, IsRight, IsRightOf, IsTold, IsLetIn, AreAdmitted, Told, told}
 use Rattle.rpki_folder.specs.declared.find.FoundPath.{FoundPath}
 use Rattle.rpki_folder.proofs.Descent.{all_append}
 
@@ -34,6 +34,15 @@ module _ (x : Context) (asked : RevocationChecks) (root : Root) (certs : List (L
       subst (λ (v : Result Judged PathFault). IsRightOf x asked root (members_at root certs path.above.items) (octets_at certs place) v) h.4.2
       (subst (λ (p : ℕ). IsRightOf x asked root (members_at root certs path.above.items) (octets_at certs p) t.verdict) h.4.1
       (subst (λ (l : List ℕ). IsRightOf x asked root (members_at root certs l) (octets_at certs t.place) t.verdict) h.4.0 is))
+
+-- what was accepted was let in, by CAs each of which was
+pub told_let_in : (admits : List ℕ → ℕ → Type 0) (place : ℕ) (ts : List Told) (above : List ℕ) → AllByRecursion (IsLetIn admits []) ts → IsTold ts above place → AreAdmitted admits [] (above ++ place ∷ [])
+told_let_in admits place ts above all h =
+    let t = h.1 in
+    let i : IsLetIn admits [] t = subst (λ (u : Told). IsLetIn admits [] u) h.3 (All-from_recursion (IsLetIn admits []) ts all h.0 t h.2) in
+    let same : i.0 ≡ above = sym i.1 ∙ h.4.0 in
+    subst (λ (l : List ℕ). AreAdmitted admits [] (l ++ place ∷ [])) same
+    (subst (λ (p : ℕ). AreAdmitted admits [] (i.0 ++ p ∷ [])) h.4.1 i.2)
 
 -- where none was found, none was told
 pub none_told : (place : ℕ) (ts : List Told) (above : List ℕ) → IsSought place ts None → IsTold ts above place → ⊥

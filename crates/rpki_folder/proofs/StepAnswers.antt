@@ -1,6 +1,6 @@
 -- What a step answers, from what its calls answer.
 use Rattle.std.specs.Prelude.{Result, Ok, Err}
-use Rattle.std.proofs.Common.{◌≡◌, ◌≢◌, ◌+◌, ◌-◌, ◌<◌, ◌≤◌, ℕ, Bool, List, [], ◌∷◌, ◌++◌, length, take, get_or, IfOk, IfErr, ap, subst, ◌∙◌, inl, arith}
+use Rattle.std.proofs.Common.{◌≡◌, ◌≢◌, ◌+◌, ◌-◌, ◌<◌, ◌≤◌, ℕ, List, [], ◌∷◌, ◌++◌, length, take, get_or, IfOk, IfErr, ap, subst, ◌∙◌, inl, arith}
 use Rattle.std.specs.Global.{Vec}
 use Rattle.std.proofs.lemmas.List.{get_or_default, take-append-le, take_all, length-append}
 use Rattle.rpki_der.specs.Values.{IsUnambiguous}
@@ -9,15 +9,15 @@ use Rattle.rpki_cert.specs.Verification.{Context, ResourceFields}
 use Rattle.rpki_path.specs.Asking.{RevocationChecks}
 use Rattle.rpki_keys.specs.Locators.{NamedTal}
 use Rattle.rpki_path.specs.declared.located.LocatedError.{LocatedError}
-use Rattle.rpki_path.specs.declared.located.LocatedError.TheVariants.{OtherKey, Path as path}
+use Rattle.rpki_path.specs.declared.located.LocatedError.TheVariants.{OtherKey, NoResources, Path as path}
 use Rattle.rpki_path.specs.declared.path_fault.PathFault.{PathFault}
 use Rattle.rpki_path.specs.declared.path_fault.PathFault.TheVariants.{Memory}
 use Rattle.rpki_path.specs.declared.validator.Role.{Role}
 use Rattle.rpki_path.specs.declared.validator.Role.TheVariants as role
 use Rattle.rpki_path.specs.Paths.{Finds, trust_anchor_demand}
-use Rattle.rpki_path.specs.Paths.Steps.{kind_of, demand_under, IsTrustAnchor, IsUnread}
-use Rattle.rpki_path.specs.LocatedPaths.{BeginsWithKey, IsLocatedFault}
-use Rattle.rpki_path.proofs.LocatedPaths.{unread_anchor, below_key, located_headline}
+use Rattle.rpki_path.specs.Paths.Steps.{kind_of, demand_under, IsTrustAnchor}
+use Rattle.rpki_path.specs.LocatedPaths.{BeginsWithAnchor, IsLocatedFault}
+use Rattle.rpki_path.proofs.LocatedPaths.{below_anchor, located_headline}
 use Rattle.rpki_path.proofs.ValidPaths.{anchor_alone}
 use Rattle.rpki_folder.specs.Folders.{octets_at}
 use Rattle.rpki_folder.specs.Walks.{at_anchor, LeadsTo}
@@ -43,12 +43,7 @@ module _ (x : Context) (asked : RevocationChecks) where
   member_rejected issuer octets role.Detached e apart found = (apart, found)
 
   module _ (t : NamedTal) (anchor : List ℕ) where
-    -- a trust anchor that isn't read
-    pub unread_top : (e : LocatedError) (answer : Result Bool PathFault) → IsAtTop e answer → IfErr answer (IsUnread anchor) → IsLocatedFault x asked t.tal anchor [] e
-    unread_top OtherKey answer top unread = absurd top
-    unread_top (path e) answer top unread = unread_anchor x asked [] t.tal anchor e top.0 (subst (λ (a : Result Bool PathFault). IfErr a (IsUnread anchor)) top.1 unread)
-
-    module _ (law : IsUnambiguous IsCertificate) (key : BeginsWithKey t.tal anchor) where
+    module _ (law : IsUnambiguous IsCertificate) (key : BeginsWithAnchor t.tal anchor) where
       -- a trust anchor that is valid
       pub anchor_leads : (name : List ℕ) → name ≡ t.name → (r : Result ResourceFields LocatedError) (answer : Result ResourceFields PathFault) → IfOk r (λ v. answer ≡ Ok v) → IfOk answer (IsTrustAnchor x anchor name) → IfOk r (LeadsTo x asked (at_anchor t anchor) [])
       anchor_leads name same (Err e) answer is valid = tt
@@ -60,8 +55,9 @@ module _ (x : Context) (asked : RevocationChecks) where
       -- one that isn't
       wrong_top : (e : LocatedError) (answer : Result ResourceFields PathFault) → IsAtTop e answer → IfErr answer (Finds x (trust_anchor_demand x) anchor) → IsLocatedFault x asked t.tal anchor [] e
       wrong_top OtherKey answer top found = absurd top
+      wrong_top NoResources answer top found = absurd top
       wrong_top (path e) answer top found =
-          below_key x asked [] law t.tal anchor key e
+          below_anchor x asked [] law t.tal anchor key e
           (inl (record { index_is = top.0; fault_is = subst (λ (a : Result ResourceFields PathFault). IfErr a (Finds x (trust_anchor_demand x) anchor)) top.1 found }))
 
       pub anchor_wrong : (r : Result ResourceFields LocatedError) (answer : Result ResourceFields PathFault) → IfErr r (λ e. IsAtTop e answer) → IfErr answer (Finds x (trust_anchor_demand x) anchor) → IfErr r (IsLocatedFault x asked t.tal anchor [])

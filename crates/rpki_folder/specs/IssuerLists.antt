@@ -1,6 +1,6 @@
 -- What is kept of lists for one issuer, so that each is verified once, and not once for each
 -- certificate below the issuer (own).
-use Rattle.std.specs.Prelude.{◌≡◌, ◌⊎◌, List, [], ◌∷◌, Some, Result, Err}
+use Rattle.std.specs.Prelude.{◌≡◌, ◌⊎◌, Bool, List, [], ◌∷◌, Some, Result, Err, IsTrue}
 use Rattle.rpki_der.specs.Times.{Moment}
 use Rattle.rpki_parts.specs.Conditions.{IsFirstFalse}
 use Rattle.rpki_parts.specs.Signatures.{Verifies}
@@ -9,7 +9,7 @@ use Rattle.rpki_cert.specs.Verification.{Context, IsSignedBy}
 use Rattle.rpki_crl.specs.Lists.{CrlState}
 use Rattle.rpki_crl.specs.Revocation.{NamesIssuer, revocation_checks}
 use Rattle.rpki_crl.specs.declared.revocation_error.RevocationError.{RevocationError}
-use Rattle.rpki_path.specs.AskedLists.{HasBegun, IsEligible, HaveNone, IsLatest, IsSaidBy, by_lists}
+use Rattle.rpki_path.specs.AskedLists.{HasBegun, IsNamedBy, IsEligibleNamed, HaveNone, IsLatest, IsSaidBy, by_named_lists}
 
 -- the second list has those elements of the first that have P, in their order
 abbrev pub ArePicked : {X : Type 0} → (X → Type 0) → List X → List X → Type 0
@@ -23,10 +23,18 @@ abbrev pub IsCurrent : Verifies → Moment → TbsFields → CrlState → Type 0
 IsCurrent verifies now issuer l =
     IsSignedBy verifies issuer.key l.list.signed_data × HasBegun now l.list
 
+-- the list has the issuer's name, if names are asked
+abbrev pub HasName : Bool → TbsFields → CrlState → Type 0
+HasName names issuer l = IsTrue names → IsNamedBy issuer l.list
+
+-- the list names the issuer's key, and has its name, if names are asked
+abbrev pub IsOfIssuer : Bool → TbsFields → CrlState → Type 0
+IsOfIssuer names issuer l = NamesIssuer issuer l.list × HasName names issuer l
+
 -- the list can be asked of the certificates below the issuer
-abbrev pub CanBeAsked : Verifies → Moment → TbsFields → CrlState → Type 0
-CanBeAsked verifies now issuer l =
-    NamesIssuer issuer l.list × IsCurrent verifies now issuer l
+abbrev pub CanBeAsked : Bool → Verifies → Moment → TbsFields → CrlState → Type 0
+CanBeAsked names verifies now issuer l =
+    IsOfIssuer names issuer l × IsCurrent verifies now issuer l
 
 -- the certificate names the issuer's key as the one that signs it
 abbrev pub IsBelow : TbsFields → CertFields → Type 0
@@ -39,16 +47,16 @@ pub record IssuerFields : Type 0 where
   pub otherwise : RevocationError
 
 -- where none of the lists is eligible, each certificate below the issuer fails this check first
-abbrev pub FailsWithout : Context → List CrlState → TbsFields → RevocationError → Type 0
-FailsWithout x lists issuer e = (c : CertFields) → IsBelow issuer c
-    → HaveNone (IsEligible x.verifies x.now issuer c) lists
-    → IsFirstFalse (by_lists x lists issuer c) revocation_checks e
+abbrev pub FailsWithout : Bool → Context → List CrlState → TbsFields → RevocationError → Type 0
+FailsWithout names x lists issuer e = (c : CertFields) → IsBelow issuer c
+    → HaveNone (IsEligibleNamed names x.verifies x.now issuer c) lists
+    → IsFirstFalse (by_named_lists names x lists issuer c) revocation_checks e
 
 -- they are what is to be kept of the lists for the issuer
-pub record AreIssuers (x : Context) (lists : List CrlState) (issuer : TbsFields)
+pub record AreIssuers (names : Bool) (x : Context) (lists : List CrlState) (issuer : TbsFields)
     (kept : IssuerFields) : Type 0 where
-  pub eligible : ArePicked (CanBeAsked x.verifies x.now issuer) lists kept.eligible
-  pub otherwise : FailsWithout x lists issuer kept.otherwise
+  pub eligible : ArePicked (CanBeAsked names x.verifies x.now issuer) lists kept.eligible
+  pub otherwise : FailsWithout names x lists issuer kept.otherwise
 
 -- ---- one certificate
 

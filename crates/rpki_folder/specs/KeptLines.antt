@@ -1,7 +1,8 @@
 -- The lines that are kept of the verdicts on the certificates of a folder (own).
-use Rattle.std.specs.Prelude.{◌≡◌, ◌+◌, ◌<◌, ◌≤◌, ℕ, List, [], length, Any, Err, IsOk, slice_index_or}
+use Rattle.std.specs.Prelude.{◌≡◌, ◌+◌, ◌<◌, ◌≤◌, ℕ, List, [], length, Any, Ok, Err, IsOk, slice_index_or}
 use Rattle.std.specs.List.{AllByRecursion}
-use Rattle.rpki_folder.specs.Walks.{Told, IsTold}
+use Rattle.rpki_folder.specs.Walks.{Told}
+use Rattle.rpki_folder.specs.declared.find.FoundPath.{FoundPath}
 use Rattle.rpki_folder.specs.declared.lines.Line.{Line}
 use Rattle.rpki_folder.specs.declared.lines.Line.TheVariants.{Unseen, Accepted, Rejected}
 
@@ -13,11 +14,17 @@ step t = length t.above + 1
 abbrev pub IsRejectedWithin : ℕ → ℕ → Told → Type 0
 IsRejectedWithin place n t = t.place ≡ place → (IsOk t.verdict → ⊥) × (step t ≤ n)
 
+-- among what was told the certificate at the place was accepted by this path, with what it holds
+-- there
+abbrev pub IsToldBy : List Told → ℕ → FoundPath → Type 0
+IsToldBy ts place path =
+    Any (λ t. (t.above ≡ path.above.items) × (t.place ≡ place) × (t.verdict ≡ Ok path.judged)) ts
+
 -- the line of a place: there was no verdict on it; or one that accepted it; or only such that
 -- rejected it, and this fault is one of the highest step
 abbrev pub IsLine : List Told → ℕ → Line → Type 0
 IsLine ts place Unseen = AllByRecursion (λ t. t.place ≡ place → ⊥) ts
-IsLine ts place (Accepted above) = IsTold ts above.items place
+IsLine ts place (Accepted path) = IsToldBy ts place path
 IsLine ts place (Rejected n fault) =
     Any (λ t. (t.place ≡ place) × (step t ≡ n) × (t.verdict ≡ Err fault)) ts
     × AllByRecursion (IsRejectedWithin place n) ts
@@ -34,5 +41,5 @@ BecameLines lines ts later = (length later ≡ length lines) × (AreLines [] lin
 -- the line isn't replaced where the certificate is rejected at this step
 abbrev pub Stays : ℕ → Line → Type 0
 Stays n Unseen = ⊥
-Stays n (Accepted above) = Unit {0}
+Stays n (Accepted path) = Unit {0}
 Stays n (Rejected m fault) = n ≤ m

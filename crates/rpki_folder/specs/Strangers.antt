@@ -1,6 +1,6 @@
 -- What strangers can't change by the files that they add to a folder: the paths on which no issuer
 -- has a key of theirs (own).
-use Rattle.std.specs.Prelude.{◌≡◌, ◌⊎◌, ◌+◌, ◌<◌, ℕ, List, Contains}
+use Rattle.std.specs.Prelude.{◌≡◌, ◌⊎◌, ◌+◌, ◌<◌, ℕ, Bool, List, Contains}
 use Rattle.rpki_ext.specs.Kinds.{Means}
 use Rattle.rpki_parts.specs.Keys.{KeyFields}
 use Rattle.rpki_parts.specs.Signatures.{Verifies}
@@ -8,7 +8,7 @@ use Rattle.rpki_parts.specs.SignedDatas.{SignedFields}
 use Rattle.rpki_cert.specs.Certificates.{CertFields, IsCertificate}
 use Rattle.rpki_cert.specs.Verification.{Context, IsSignedBy}
 use Rattle.rpki_crl.specs.Lists.{CrlFields, CrlState}
-use Rattle.rpki_path.specs.AskedLists.{by_lists}
+use Rattle.rpki_path.specs.AskedLists.{by_named_lists}
 use Rattle.rpki_path.specs.Paths.{Path, last, certificate_at, IsValidPath}
 use Rattle.rpki_folder.specs.Folders.{FolderFields}
 
@@ -52,7 +52,7 @@ abbrev pub IsFreeOf : List KeyFields → Path → Type 0
 IsFreeOf keys p = (i : ℕ) → i < last p → Contains keys (certificate_at p i).fields.key → ⊥
 
 -- the path is valid with the lists of the folder, whose certificates are those below its trust
--- anchor
-pub record LeadsThrough (x : Context) (folder : FolderFields) (p : Path) : Type 0 where
-  pub is_valid : IsValidPath x (by_lists x folder.lists) p
+-- anchor; whether names are asked is the caller's to say
+pub record LeadsThrough (names : Bool) (x : Context) (folder : FolderFields) (p : Path) : Type 0 where
+  pub is_valid : IsValidPath x (by_named_lists names x folder.lists) p
   pub members : (i : ℕ) → i < last p → HasCertificate folder (certificate_at p (i + 1))

@@ -1,22 +1,29 @@
-//! Which certificates a caller lets into a walk.
+//! Which certificates a walk admits.
 ghost use Rattle.std.specs.Prelude.{◌↔◌, IsTrue};
 
-/// Says which certificates a walk looks at. A caller who reads manifests restricts the walk by it:
-/// to the certificates whose hash the manifest of the CA above them lists. The relation is a fact
-/// about places, so an answer doesn't depend on what the walk has found.
+/// Decides which certificates a walk judges.
+///
+/// A caller who reads manifests restricts the walk by it to the certificates whose hash the
+/// manifest of the CA above them lists. The relation is a fact about places, so the decision
+/// doesn't depend on what the walk has found.
 pub trait Admission {
     ghost use Rattle.std.specs.Prelude.{ℕ, List};
 
-    /// Below the CAs at these places, from the top down, the certificate at this place is looked
-    /// at.
+    /// The walk judges the certificate at this place below the CAs at these places, from the top
+    /// down.
     ghost admits: { Self → List ℕ → ℕ → Type 0 };
 
-    /// Returns whether the relation holds.
+    /// Returns whether the walk judges the certificate at `place` below the CAs at the places
+    /// `above`, from the top down.
     fn is_admitted(&self, above: &[usize], place: usize) -> bool
         ensures { IsTrue result ↔ admits self.now above.now place };
 }
 
-/// Lets in every certificate.
+/// Admits every certificate.
+///
+/// # Not checked
+///
+/// Whether a manifest lists the certificate.
 #[derive(Clone, Copy)]
 pub struct AllAdmitted;
 

@@ -1,29 +1,32 @@
-//! How far a walk goes, and how it ended.
+//! The limits of a walk, and how it ended.
 ghost use Rattle.std.specs.Prelude.{◌≡◌};
 ghost use Rattle.rpki_folder.specs.Walks.{worse};
 
-/// How far a walk goes.
+/// The limits of a walk.
 #[derive(Clone, Copy)]
 pub struct Bounds {
-    /// How many certificates a path has at most below where the walk begins.
+    /// The most certificates that a path may have below the certificate at which the walk starts.
     pub depth: usize,
-    /// How many certificates are verified at most, each once for each path that leads to it.
+    /// The most certificates that are verified; a certificate counts once for each path that leads
+    /// to it.
     pub steps: usize,
 }
 
 /// How a walk ended.
 #[derive(Clone, Copy, Debug, PartialEq, Eq)]
 pub enum Ended {
-    /// All certificates that a path leads to were looked at.
+    /// Every certificate that a path leads to was judged.
     Whole,
-    /// Those within the depth were looked at, and below one that stands there more may be valid.
+    /// Every certificate within the depth was judged. Below a CA at the greatest depth more may be
+    /// valid.
     TooDeep,
-    /// The steps were used up before all were looked at.
+    /// The limit of steps was reached before every certificate was judged.
     OutOfSteps,
 }
 
 impl Ended {
-    /// Returns how two walks ended together: as the one that looked at less.
+    /// Returns how two walks ended together: as the one that judged less, `OutOfSteps` before
+    /// `TooDeep` before `Whole`.
     pub fn and(self, other: Ended) -> Ended
         ensures { result ≡ worse self other }
     {

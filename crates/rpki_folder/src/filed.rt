@@ -10,9 +10,9 @@ use rpki_path::Member;
 use std::alloc::{AllocError, Global};
 use std::marker::Model;
 
-/// A certificate of a folder: octets that begin with one, and what it says. Its other fields are
-/// read again where they are asked for, since a certificate that was read takes as much memory as
-/// its octets.
+/// A certificate of a folder: octets that start with one, and what it says (its kind, its issuer's
+/// key identifier). Other fields are decoded again if they are needed, because a decoded
+/// certificate takes as much memory as its octets.
 #[derive(Drop)]
 pub struct Filed {
     octets: Bytes,
@@ -31,7 +31,7 @@ impl Model for Filed {
 }
 
 impl Filed {
-    /// Keeps octets that begin with a certificate, and what it says.
+    /// Keeps octets that start with a certificate, and what it says.
     pub(crate) fn new(octets: Bytes, said: Said) -> Filed
         requires { BeginsWithSaid said octets }
         ensures { result ≡ octets }
@@ -46,14 +46,18 @@ impl Filed {
         &self.octets
     }
 
-    /// Returns what the certificate says.
+    /// Returns what the certificate says, unchecked ([`Said`]).
     pub fn said(&self) -> Said
         ensures { BeginsWithSaid result self.now }
     {
         self.said
     }
 
-    /// Reads the certificate that the octets begin with. Errs only where memory runs out.
+    /// Decodes the certificate at the start of the octets. The certificate shares the octets.
+    ///
+    /// # Errors
+    ///
+    /// Returns an error only if memory runs out.
     pub fn cert(&self, alloc: Global) -> Result<Cert, AllocError>
         ensures { IfOk result (λ c. Means IsCertificate c self.now) }
     {
@@ -69,7 +73,7 @@ impl Filed {
         }
     }
 
-    /// Returns it as a member of a path.
+    /// Returns the certificate as a certificate of a path, to pass to `rpki_path`.
     pub fn member(&self) -> Member<'_>
         ensures { result ≡ self.now }
     {

@@ -1,9 +1,9 @@
-//! The path that leads to one certificate of a folder.
+//! Searching for the path to one certificate of a folder.
 ghost use Rattle.std.specs.Prelude.{◌≡◌, [], IfOk, IfErr};
 ghost use Rattle.rpki_cert.specs.Verification.{context};
-ghost use Rattle.rpki_path.specs.AskedLists.{by_lists};
+ghost use Rattle.rpki_path.specs.AskedLists.{by_named_lists};
 ghost use Rattle.rpki_folder.specs.Searches.{IsSought, IsFound};
-ghost use Rattle.rpki_folder.specs.Walks.{at_anchor, IsValidAnchor, IsWhyNone};
+ghost use Rattle.rpki_folder.specs.Walks.{IsValidAnchor, IsWhyNone};
 
 use crate::admission::Admission;
 use crate::bounds::Ended;
@@ -16,22 +16,27 @@ use rpki_parts::Verifier;
 use rpki_path::{Judged, Member, PathFault};
 use std::alloc::{AllocError, Global};
 
-/// A valid path to a certificate of a folder.
+/// A valid path to a certificate of a folder. The certificate was validated as a certificate of the
+/// kind that it says ([`crate::Filed::said`]).
 #[derive(Drop)]
 pub struct FoundPath {
-    /// The places of the CAs above it, from the top down.
+    /// The places of the CAs above the certificate, from the top down, without the trust anchor.
     pub above: Vec<usize>,
-    /// What the certificate holds; or the router's certificate, and what the CA above it holds.
+    /// The certificate with the resources that it holds; for a router's certificate, the CA above
+    /// it with its resources, and the router's certificate.
     pub judged: Judged,
 }
 
-/// What a search for one certificate found.
+/// The result of a search for one certificate.
 #[derive(Drop)]
 pub enum Found {
-    /// It is accepted.
+    /// A valid path leads to the certificate.
     Valid(FoundPath),
-    /// No valid path leads to it among those that the walk looked at, which ended so: none at all,
-    /// none within the depth, or the steps were used up.
+    /// No valid path to the certificate was found. How the walk ended says what that means:
+    ///
+    /// - [`Ended::Whole`]: no valid path of admitted certificates exists in the folder.
+    /// - [`Ended::TooDeep`]: none exists within the depth.
+    /// - [`Ended::OutOfSteps`]: none was found before the limit of steps was reached.
     NotFound(Ended),
 }
 
@@ -67,14 +72,18 @@ impl<'w> Accepted<'w> {
     }
 }
 
-// The path to a certificate below the CAs at these places.
-fn path_of(alloc: Global, above: &[usize], judged: Judged) -> Result<FoundPath, AllocError>
+/// Makes the path to a certificate that was accepted below the CAs at these places.
+pub(crate) fn path_of(
+    alloc: Global,
+    above: &[usize],
+    accepted: &Accepted<'_>,
+) -> Result<FoundPath, AllocError>
     ensures above { IfOk result (λ path. path.above.items ≡ above.now) }
-    ensures judged { IfOk result (λ path. path.judged ≡ judged) }
+    ensures judged { IfOk result (λ path. path.judged ≡ accepted.now) }
 {
     let mut places = Vec::new(alloc);
-    let copied = places.extend_from_slice(above);
-    let (judged, ()) = beside(judged, copied)?;
+    places.extend_from_slice(above)?;
+    let judged = accepted.judged(alloc)?;
     Ok(FoundPath {
         above: places,
         judged,
@@ -100,8 +109,7 @@ impl Visitor for Sought {
         if place != self.place || self.found.is_some() {
             return Ok(());
         }
-        let judged = accepted.judged(self.alloc)?;
-        let path = path_of(self.alloc, above, judged)?;
+        let path = path_of(self.alloc, above, &accepted)?;
         self.found = Some(path);
         Ok(())
     }
@@ -119,25 +127,35 @@ impl Sought {
 }
 
 impl<'w, A: Admission, V: Verifier> Walk<'w, A, V> {
-    /// Searches for a valid path from the trust anchor of a locator to the certificate at a place,
-    /// by a walk ([`Walk::from_anchor`]). Returns the first that it finds. Errs with what is wrong
-    /// with the trust anchor, or where memory runs out.
+    /// Searches for a valid path from the trust anchor of a TAL to the certificate at a place, by a
+    /// walk ([`Walk::from_anchor`]). Returns the first path that the walk finds, or
+    /// [`Found::NotFound`] with how the walk ended.
+    ///
+    /// # Errors
+    ///
+    /// Returns [`WalkError::Anchor`] or [`WalkError::OtherName`] if the trust anchor isn't valid,
+    /// and [`WalkError::Memory`] if memory runs out.
+    ///
+    /// # Not checked
+    ///
+    /// Whether the folder has all certificates and CRLs of the repository, and whether manifests
+    /// list them ([`Admission`] can restrict the walk to those that are listed).
     pub fn find(&self, tal: &Tal, anchor: &Member<'_>, place: usize) -> Result<Found, WalkError>
         ensures found { let w = self.now in
             let x = context (V.verifies w.verifier.now) w.at w.strict in
-            let asked = by_lists x w.folder.now.lists in
+            let asked = by_named_lists w.names x w.folder.now.lists in
             let admits = A.admits w.admission.now in
-            let root = at_anchor tal.now anchor.now in
             let bounds = w.bounds in let certs = w.folder.now.certs in
-            IfOk result (IsFound x asked admits root certs bounds.depth bounds.steps place) }
+            IfOk result (IsFound x asked w.names admits tal.now anchor.now certs bounds.depth
+            bounds.steps place) }
         ensures anchor { let w = self.now in
             let x = context (V.verifies w.verifier.now) w.at w.strict in
-            let asked = by_lists x w.folder.now.lists in
-            IfOk result (λ _. IsValidAnchor x asked tal.now anchor.now) }
+            let asked = by_named_lists w.names x w.folder.now.lists in
+            IfOk result (λ _. IsValidAnchor x asked w.names tal.now anchor.now) }
         ensures fault { let w = self.now in
             let x = context (V.verifies w.verifier.now) w.at w.strict in
-            let asked = by_lists x w.folder.now.lists in
-            IfErr result (IsWhyNone x asked tal.now anchor.now) }
+            let asked = by_named_lists w.names x w.folder.now.lists in
+            IfErr result (IsWhyNone x asked w.names tal.now anchor.now) }
     {
         let mut sought = Sought {
             alloc: self.alloc,

@@ -1,4 +1,4 @@
-//! Folders of certificates and revocation lists.
+//! Folders of certificates and CRLs.
 ghost use Rattle.std.specs.Prelude.{◌≡◌, ◌≢◌, length, IfOk, OnOk, OnErr};
 ghost use Rattle.rpki_ext.specs.Kinds.{Means};
 ghost use Rattle.rpki_cert.specs.Certificates.{CertFields, IsCertificate};
@@ -17,19 +17,26 @@ use rpki_parts::KeyIdentifier;
 use std::alloc::{AllocError, Global};
 use std::marker::Model;
 
-/// What was added of a file's octets.
+/// What [`Folder::add`] added.
 #[derive(Clone, Copy, Debug, PartialEq, Eq)]
 pub enum Added {
-    /// The certificate that they begin with, at this place.
+    /// A certificate, at this place.
     Certificate(usize),
-    /// The revocation list that they begin with.
+    /// A CRL.
     List,
-    /// Nothing: they begin with neither.
+    /// Nothing: the octets start with neither a certificate nor a CRL.
     Neither,
 }
 
-/// Certificates and revocation lists, which are added in any order, and are found by the key that
-/// signed them. A certificate's place is its index in the order in which certificates were added.
+/// Certificates and CRLs, which are added in any order, and are found by the key identifier of
+/// their signer (RFC 5280 4.2.1.1, 5.2.1).
+///
+/// A certificate's place is its index in the order in which certificates were added, from 0.
+///
+/// # Not checked
+///
+/// Adding checks no signature, no time and no profile. Two certificates may be equal; each has its
+/// own place.
 #[derive(Drop)]
 pub struct Folder {
     alloc: Global,
@@ -65,7 +72,7 @@ fn rejects(fault: DecodeError) -> Result<(), AllocError>
 }
 
 impl Folder {
-    /// Makes a folder without certificates and lists, which grows by this allocator.
+    /// Makes a folder without certificates and CRLs, which allocates with this allocator.
     pub fn new(alloc: Global) -> Folder
         ensures { result ≡ empty }
     {
@@ -78,8 +85,16 @@ impl Folder {
         }
     }
 
-    /// Adds octets that begin with a certificate, which says this, and returns its place. Errs
-    /// where memory runs out, and the folder is then as it was.
+    /// Adds octets that start with a certificate, with what that certificate says, and returns its
+    /// place.
+    ///
+    /// # Errors
+    ///
+    /// Returns an error if memory runs out. The folder is then unchanged.
+    ///
+    /// # Not checked
+    ///
+    /// The octets aren't decoded again: `said` has to be what the certificate says.
     pub fn add_cert(&mut self, octets: Bytes, said: Said) -> Result<usize, AllocError>
         requires { BeginsWithSaid said octets }
         ensures ok { OnOk result (self.new ≡ with_cert self.old octets) }
@@ -98,9 +113,16 @@ impl Folder {
         }
     }
 
-    /// Adds a revocation list. It is asked by walking its entries, unless its serial numbers are
-    /// cached ([`Crl::cache_serials`]). Errs where memory runs out, and the folder is then as it
-    /// was.
+    /// Adds a CRL. A search for a serial number walks its entries, unless its serial numbers are
+    /// cached ([`Crl::cache_serials`]).
+    ///
+    /// # Errors
+    ///
+    /// Returns an error if memory runs out. The folder is then unchanged, and the CRL is dropped.
+    ///
+    /// # Not checked
+    ///
+    /// The signature and the times of the CRL: a walk checks them for the issuer.
     pub fn add_list(&mut self, list: Crl) -> Result<(), AllocError>
         ensures ok { OnOk result (self.new ≡ with_list self.old list) }
         ensures err { OnErr result (self.new ≡ self.old) }
@@ -121,9 +143,12 @@ impl Folder {
         }
     }
 
-    /// Adds the certificate or the revocation list with which octets begin, and tells which it was.
-    /// A list's serial numbers are cached. Errs where memory runs out, and the folder is then as it
-    /// was.
+    /// Adds the certificate or the CRL at the start of `octets`, ignores what follows, and returns
+    /// which of the two it was. The serial numbers of a CRL are cached.
+    ///
+    /// # Errors
+    ///
+    /// Returns an error if memory runs out. The folder is then unchanged.
     pub fn add(&mut self, octets: Bytes) -> Result<Added, AllocError>
         ensures ok { IfOk result (IsAdded octets self.old self.new) }
         ensures err { OnErr result (self.new ≡ self.old) }
@@ -170,23 +195,23 @@ impl Folder {
         &self.certs
     }
 
-    /// Returns the revocation lists.
+    /// Returns the CRLs, in the order in which they were added.
     pub fn lists(&self) -> &[Crl]
         ensures { result.now ≡ self.now.lists }
     {
         &self.lists
     }
 
-    /// Returns the places of the certificates that name this key as the one that signs them (RFC
-    /// 5280 4.2.1.1), the one that was added first in front.
+    /// Returns the places of the certificates whose Authority Key Identifier is this key identifier
+    /// (RFC 5280 4.2.1.1), the one that was added first in front.
     pub fn signed_by(&self, key: &KeyIdentifier) -> &[usize]
         ensures { ArePlacesOf self.now.certs key.now result.now }
     {
         self.by_signer.get(key)
     }
 
-    /// Returns the places of the revocation lists that name this key as the one that signs them
-    /// (RFC 5280 5.2.1), in their order.
+    /// Returns the places of the CRLs whose Authority Key Identifier is this key identifier (RFC
+    /// 5280 5.2.1), in the order in which they were added.
     pub(crate) fn lists_of(&self, key: &KeyIdentifier) -> &[usize]
         ensures { result.now ≡ list_places key.now self.now.lists }
     {

@@ -1,15 +1,17 @@
 //! The lists of one issuer, each of which is verified once.
 ghost use Rattle.std.specs.Prelude.{◌≡◌, ◌<◌, ◌↔◌, Bool, length, map, slice_index_or, IsTrue, IfOk, option_copied};
+ghost use Rattle.rpki_der.specs.Times.{Moment};
 ghost use Rattle.rpki_cert.specs.Verification.{context};
+ghost use Rattle.rpki_path.specs.AskedLists.{HaveNone};
 ghost use Rattle.rpki_path.specs.AskedLists.Steps.{IsLatestIfAny};
 ghost use Rattle.rpki_folder.specs.KeyTables.{list_places};
-ghost use Rattle.rpki_folder.specs.IssuerLists.{IsCurrent, FailsWithout, AreIssuers, IsAnswered};
+ghost use Rattle.rpki_folder.specs.IssuerLists.{ArePicked, HasName, IsCurrent, IsOfIssuer, FailsWithout, AreIssuers, IsAnswered};
 
 use rpki_cert::{Cert, ResourceCert};
 use rpki_crl::{Crl, RevocationError};
 use rpki_der::Time;
 use rpki_parts::Verifier;
-use rpki_path::revocation::{goes_first, has_begun, is_signed_by, said_by};
+use rpki_path::revocation::{goes_first, has_begun, is_named_by, is_signed_by, said_by};
 use std::alloc::{AllocError, Global};
 use std::marker::Model;
 
@@ -44,6 +46,16 @@ fn list_at(lists: &[Crl], place: usize) -> &Crl
     &lists[place]
 }
 
+// Whether the list has the issuer's name, if names are checked.
+fn has_name(list: &Crl, issuer: &ResourceCert, names: bool) -> bool
+    ensures { IsTrue result ↔ HasName names issuer.now.cert.fields list.now }
+{
+    if !names {
+        return true;
+    }
+    is_named_by(list, issuer)
+}
+
 // Whether the issuer's key signed the list, and its time has begun. The signature is verified last,
 // as that takes longest.
 fn is_current<V: Verifier>(list: &Crl, issuer: &ResourceCert, now: Time, verifier: &V) -> bool
@@ -53,25 +65,96 @@ fn is_current<V: Verifier>(list: &Crl, issuer: &ResourceCert, now: Time, verifie
     has_begun(list, now) && is_signed_by(list, issuer, verifier)
 }
 
-// What a certificate below the issuer fails where none of the lists can be asked. A list whose time
-// has begun isn't signed by the issuer then, so no signature is verified twice.
+// The issuer's lists: those that name its key, at the places that are told, and have its name, if
+// names are checked.
+fn named_lists<'l>(
+    alloc: Global,
+    lists: &'l [Crl],
+    places: &[usize],
+    issuer: &ResourceCert,
+    names: bool,
+) -> Result<Vec<&'l Crl>, AllocError>
+    requires { let key = issuer.now.cert.fields.extensions.subject_key_identifier in
+        places.now ≡ list_places key lists.now }
+    ensures { let of_issuer = IsOfIssuer names issuer.now.cert.fields in
+        IfOk result (λ named. ArePicked of_issuer lists.now (map (λ l. l.now) named.items)) }
+{
+    let mut named = Vec::new(alloc);
+    for &place in places {
+        let list = list_at(lists, place);
+        if !has_name(list, issuer, names) {
+            continue;
+        }
+        named.push(list)?;
+    }
+    Ok(named)
+}
+
+// Those of the issuer's lists that it signed, and whose time has begun.
+fn current_lists<'l, V: Verifier>(
+    alloc: Global,
+    named: &[&'l Crl],
+    issuer: &ResourceCert,
+    now: Time,
+    verifier: &V,
+) -> Result<Vec<&'l Crl>, AllocError>
+    ensures { let current = IsCurrent (V.verifies verifier.now) now issuer.now.cert.fields in
+        IfOk result (λ kept.
+        ArePicked current (map (λ l. l.now) named.now) (map (λ l. l.now) kept.items)) }
+{
+    let mut kept = Vec::new(alloc);
+    for list in named {
+        if !is_current(list, issuer, now, verifier) {
+            continue;
+        }
+        kept.push(*list)?;
+    }
+    Ok(kept)
+}
+
+// What a certificate below the issuer fails if all lists that name its key have another name.
+fn why_unnamed<V: Verifier>(
+    lists: &[Crl],
+    places: &[usize],
+    issuer: &ResourceCert,
+    verifier: &V,
+) -> RevocationError
+    requires { let key = issuer.now.cert.fields.extensions.subject_key_identifier in
+        places.now ≡ list_places key lists.now }
+    ensures { (names : Bool) (now : Moment) (strict : Bool)
+        → let x = context (V.verifies verifier.now) now strict in
+        HaveNone (IsOfIssuer names issuer.now.cert.fields) lists.now
+        → FailsWithout names x lists.now issuer.now.cert.fields result }
+{
+    for &place in places {
+        if is_signed_by(list_at(lists, place), issuer, verifier) {
+            return RevocationError::WrongIssuer;
+        }
+    }
+    RevocationError::NoCrl
+}
+
+// What a certificate below the issuer fails if none of the issuer's lists can be asked. A list whose
+// time has begun isn't signed by the issuer then, so no signature is verified twice.
 fn why_none<V: Verifier>(
     lists: &[Crl],
     places: &[usize],
+    named: &[&Crl],
     issuer: &ResourceCert,
     now: Time,
     verifier: &V,
 ) -> RevocationError
     requires { let key = issuer.now.cert.fields.extensions.subject_key_identifier in
         places.now ≡ list_places key lists.now }
-    ensures { (strict : Bool) → let x = context (V.verifies verifier.now) now strict in
-        FailsWithout x lists.now issuer.now.cert.fields result }
+    ensures { (names strict : Bool) → let x = context (V.verifies verifier.now) now strict in
+        let of_issuer = IsOfIssuer names issuer.now.cert.fields in
+        ArePicked of_issuer lists.now (map (λ l. l.now) named.now)
+        → FailsWithout names x lists.now issuer.now.cert.fields result }
 {
-    if places.is_empty() {
-        return RevocationError::NoCrl;
+    if named.is_empty() {
+        return why_unnamed(lists, places, issuer, verifier);
     }
-    for &place in places {
-        let list = list_at(lists, place);
+    for list in named {
         if has_begun(list, now) || !is_signed_by(list, issuer, verifier) {
             return RevocationError::BadSignature;
         }
@@ -96,29 +179,24 @@ fn latest<'l>(lists: &[&'l Crl], cert: &Cert) -> Option<&'l Crl>
 
 impl<'l> IssuerLists<'l> {
     /// Keeps what is asked below the issuer of these lists, of which those at the places name its
-    /// key. The others aren't looked at.
+    /// key. The others aren't looked at, nor those of another name, if names are checked.
     pub(crate) fn new<V: Verifier>(
         alloc: Global,
         lists: &'l [Crl],
         places: &[usize],
         issuer: &ResourceCert,
+        names: bool,
         now: Time,
         verifier: &V,
     ) -> Result<IssuerLists<'l>, AllocError>
         requires { let key = issuer.now.cert.fields.extensions.subject_key_identifier in
             places.now ≡ list_places key lists.now }
         ensures { (strict : Bool) → let x = context (V.verifies verifier.now) now strict in
-            IfOk result (AreIssuers x lists.now issuer.now.cert.fields) }
+            IfOk result (AreIssuers names x lists.now issuer.now.cert.fields) }
     {
-        let otherwise = why_none(lists, places, issuer, now, verifier);
-        let mut eligible = Vec::new(alloc);
-        for &place in places {
-            let list = list_at(lists, place);
-            if !is_current(list, issuer, now, verifier) {
-                continue;
-            }
-            eligible.push(list)?;
-        }
+        let named = named_lists(alloc, lists, places, issuer, names)?;
+        let eligible = current_lists(alloc, &named, issuer, now, verifier)?;
+        let otherwise = why_none(lists, places, &named, issuer, now, verifier);
         Ok(IssuerLists {
             eligible,
             otherwise,

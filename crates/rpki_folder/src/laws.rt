@@ -1,35 +1,52 @@
 //! What follows of paths through a folder.
-ghost use Rattle.std.specs.Prelude.{◌≡◌, ◌↔◌, ℕ, Bool, List, Contains, map};
+ghost use Rattle.std.specs.Prelude.{◌≡◌, ◌≢◌, ◌↔◌, ◌+◌, ◌++◌, ◌∷◌, ℕ, Bool, true, List, [], length, Contains, Ok, map};
 ghost use Rattle.rpki_der.specs.Times.{Moment};
 ghost use Rattle.rpki_parts.specs.Keys.{KeyFields};
 ghost use Rattle.rpki_cert.specs.Certificates.{TbsFields, CertFields};
 ghost use Rattle.rpki_cert.specs.Profiles.{MeetsProfile};
 ghost use Rattle.rpki_cert.specs.Verification.{TrustAnchorCheck, context, trust_anchor_checks, IsVerified};
-ghost use Rattle.rpki_cert.specs.declared.inspect.Kind.TheVariants.{Anchor};
+ghost use Rattle.rpki_cert.specs.SaidKinds.{BeginsWithKind};
+ghost use Rattle.rpki_cert.specs.declared.inspect.Kind.{Kind};
+ghost use Rattle.rpki_keys.specs.Locators.{NamedTal};
+ghost use Rattle.rpki_cert.specs.declared.inspect.Kind.TheVariants.{Anchor, Router};
 ghost use Rattle.rpki_path.specs.Asking.{IsUnrevokedBy};
-ghost use Rattle.rpki_path.specs.AskedLists.{AreSameLists, by_lists};
-ghost use Rattle.rpki_folder.specs.Folders.{FolderFields, octets_at};
+ghost use Rattle.rpki_path.specs.AskedLists.{AreSameLists, by_named_lists};
+ghost use Rattle.rpki_folder.specs.Folders.{FolderFields, cas_at, octets_at};
 ghost use Rattle.rpki_folder.specs.Strangers.{AddsOnly, HasCertificate, IsFreeOf, LeadsThrough};
-ghost use Rattle.rpki_folder.specs.Walks.{Root, IsReached};
-ghost use Rattle.rpki_path.specs.Paths.{Path};
+ghost use Rattle.rpki_folder.specs.Walks.{Root, AreAdmitted, Covers, IsLookedAt, IsReached, IsTold, LeadsBy, Told, TellsFrom};
+ghost use Rattle.rpki_path.specs.NameChains.{IsSelfNamed, NamesChain};
+ghost use Rattle.rpki_path.specs.Paths.{IsPathOf, Path, candidate};
+ghost use Rattle.rpki_path.specs.Repeats.{AsksByEntity};
+ghost use Rattle.rpki_folder.specs.declared.bounds.Ended.{Ended};
+ghost use Rattle.rpki_folder.specs.declared.walk_error.WalkError.{WalkError};
 
+use crate::Admission;
 use rpki_parts::Verifier;
+use rpki_path::revocation::RevocationSource;
 
 /// Says that to which certificates a valid path leads doesn't depend on where they stand in a
 /// folder, nor on the order of its lists: where each certificate of a folder stands in another one
 /// at the place that is told, and both have the same lists, as where all was added in another
 /// order, a path that leads to it in the first leads to it in the second, by the places where the
-/// CAs above it stand there. By [`crate::Walk::from_anchor`] walks that end `Whole` accept the same
-/// certificates in both.
+/// CAs above it stand there (`reached`), and where a walk looks at its certificates in the first, it
+/// does in the second (`looked_at`). By [`crate::Walk::from_anchor`] walks that end `Whole` accept
+/// the same certificates in both.
 pub fn blind_to_order<V: Verifier>()
-    ensures { (verifier : V) (now : Moment) (strict : Bool) (root : Root)
+    ensures reached { (verifier : V) (now : Moment) (strict names : Bool) (root : Root)
         (folder other : FolderFields) (moved : ℕ → ℕ)
         → let x = context (V.verifies verifier) now strict in
         AreSameLists folder.lists other.lists
         → ((place : ℕ) → octets_at other.certs (moved place) ≡ octets_at folder.certs place)
         → (above : List ℕ) (place : ℕ)
-        → IsReached x (by_lists x folder.lists) root folder.certs above place
-        → IsReached x (by_lists x other.lists) root other.certs (map moved above) (moved place) }
+        → IsReached x (by_named_lists names x folder.lists) root folder.certs above place
+        → IsReached x (by_named_lists names x other.lists) root other.certs (map moved above)
+        (moved place) }
+    ensures looked_at { (names : Bool) (top : CertFields) (folder other : FolderFields)
+        (moved : ℕ → ℕ)
+        → ((place : ℕ) → octets_at other.certs (moved place) ≡ octets_at folder.certs place)
+        → (places : List ℕ)
+        → AreAdmitted (IsLookedAt names (λ l p. Unit {0}) top folder.certs) [] places
+        → AreAdmitted (IsLookedAt names (λ l p. Unit {0}) top other.certs) [] (map moved places) }
 {}
 
 /// Says what nobody can change by files that are added to a folder. These are signed by some keys
@@ -41,19 +58,53 @@ pub fn blind_to_order<V: Verifier>()
 ///
 /// [`AddsOnly`]: ../specs/Strangers.antt
 pub fn isolated<V: Verifier>()
-    ensures paths { (verifier : V) (now : Moment) (strict : Bool) (keys : List KeyFields)
+    ensures paths { (verifier : V) (now : Moment) (strict names : Bool) (keys : List KeyFields)
         (old new : FolderFields) → let x = context (V.verifies verifier) now strict in
         AddsOnly x.verifies keys old new → (p : Path) → IsFreeOf keys p
-        → LeadsThrough x old p ↔ LeadsThrough x new p }
-    ensures revocation { (verifier : V) (now : Moment) (strict : Bool) (keys : List KeyFields)
-        (old new : FolderFields) → let x = context (V.verifies verifier) now strict in
+        → LeadsThrough names x old p ↔ LeadsThrough names x new p }
+    ensures revocation { (verifier : V) (now : Moment) (strict names : Bool)
+        (keys : List KeyFields) (old new : FolderFields)
+        → let x = context (V.verifies verifier) now strict in
         AddsOnly x.verifies keys old new → (issuer : TbsFields)
         → (Contains keys issuer.key → ⊥) → (c : CertFields)
-        → IsUnrevokedBy (by_lists x old.lists) issuer c
-        ↔ IsUnrevokedBy (by_lists x new.lists) issuer c }
+        → IsUnrevokedBy (by_named_lists names x old.lists) issuer c
+        ↔ IsUnrevokedBy (by_named_lists names x new.lists) issuer c }
     ensures anchors { (verifier : V) (now : Moment) (strict : Bool) (keys : List KeyFields)
         (old new : FolderFields) → let x = context (V.verifies verifier) now strict in
         AddsOnly x.verifies keys old new → (c : CertFields) → (Contains keys c.fields.key → ⊥)
         → MeetsProfile Anchor x.strict c → IsVerified (TrustAnchorCheck x c) trust_anchor_checks
         → HasCertificate old c ↔ HasCertificate new c }
 {}
+
+/// Says that the names of a path chain (RFC 6487 7.2) of which a walk with names looked at each
+/// certificate below the trust anchor, whose own two names are one.
+pub fn looked_at_chains<A: Admission>()
+    ensures { (admission : A) (anchor : List ℕ) (certs : List (List ℕ)) (above : List ℕ)
+        (place : ℕ) (kind : Kind) (p : Path)
+        → let end = candidate kind (octets_at certs place) in
+        IsPathOf anchor (cas_at certs above ++ end ∷ []) p → IsSelfNamed p.anchor
+        → AreAdmitted (IsLookedAt true (A.admits admission) p.anchor certs) []
+        (above ++ place ∷ [])
+        → NamesChain p }
+{}
+
+/// Says that a walk loses nothing by going on below no entity that stands above: of what it looks at
+/// it tells the verdicts, and each certificate that isn't a router's, to which a valid path leads of a
+/// length that the walk's end covers, was accepted, by that path or by one that isn't longer. The
+/// first premise is about who is asked for revocation
+/// ([`rpki_path::revocation::laws::asks_by_entity`]).
+pub fn nothing_is_lost<R: RevocationSource, V: Verifier>()
+    ensures { (verifier : V) (source : R) (now : Moment) (strict names : Bool) (t : NamedTal)
+        (anchor : List ℕ) (certs : List (List ℕ)) (depth steps : ℕ) (ended : Ended)
+        (ts : List Told) (kind : Kind) (place : ℕ) (above : List ℕ)
+        → let x = context (V.verifies verifier) now strict in
+        let asked = R.asks source x in
+        AsksByEntity names asked
+        → TellsFrom {E = WalkError} x asked names (λ l p. Unit {0}) t anchor certs depth steps
+        (Ok ended) ts → BeginsWithKind kind (octets_at certs place) → kind ≢ Router
+        → Covers ended depth (length above + 1)
+        → LeadsBy x asked names t anchor certs kind place above
+        → (other : List ℕ) × IsTold ts other place }
+{
+    rpki_cert::laws::unambiguous();
+}

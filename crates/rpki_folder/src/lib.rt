@@ -1,9 +1,10 @@
-//! Folders of certificates and revocation lists, in no order, and the walk down from a trust
-//! anchor.
+//! Folders of certificates and CRLs, in any order, and the walk down from a trust anchor (RFC 6487
+//! 7.2, RFC 8630 3).
 #![tactic(auto)]
 
 mod admission;
 mod bounds;
+mod entity;
 mod filed;
 mod find;
 mod folder;

@@ -1,28 +1,30 @@
-//! A line for each certificate of a folder.
+//! One line for each certificate of a folder.
 ghost use Rattle.std.specs.Prelude.{◌≡◌, ◌↔◌, ◌<◌, ◌∷◌, ◌++◌, List, [], length, Ok, Err, IsTrue, IfOk, OnOk, OnErr};
-ghost use Rattle.rpki_path.specs.declared.judging.Judged.{Judged};
 ghost use Rattle.rpki_folder.specs.Walks.{Told, told};
 ghost use Rattle.rpki_folder.specs.KeptLines.{AreLines, Stays};
 
+use crate::find::{FoundPath, path_of};
 use crate::visitor::{Accepted, Visitor};
 use rpki_path::PathFault;
 use std::alloc::{AllocError, Global};
 use std::marker::Model;
 use std::mem;
 
-/// What is kept of the verdicts on a certificate.
+/// What [`Lines`] keep of the verdicts on one certificate.
 #[derive(Drop)]
 pub enum Line {
-    /// There was none: no valid path leads to a CA that signed it, or it wasn't let in.
+    /// No verdict: no valid path leads to a CA whose key signed the certificate, the walk didn't
+    /// admit it below such a CA, names don't chain, or the walk reached a limit before.
     Unseen,
-    /// It was accepted, first below the CAs at these places, from the top down.
-    Accepted(Vec<usize>),
-    /// It was always rejected. Of its faults this is one of those at the highest step, which counts
-    /// the certificates of the path from the trust anchor's 0.
+    /// The certificate was accepted; this is the first path that led to it, and the resources that
+    /// it holds there.
+    Accepted(FoundPath),
+    /// Every verdict rejected the certificate. The number is the highest path index at which it was
+    /// rejected (the trust anchor's is 0), and the error is one of those there.
     Rejected(usize, PathFault),
 }
 
-/// Keeps a line for each place.
+/// A visitor that keeps one [`Line`] for each place.
 #[derive(Drop)]
 pub struct Lines {
     alloc: Global,
@@ -50,7 +52,11 @@ fn stays(line: &Line, step: usize) -> bool
 }
 
 impl Lines {
-    /// Makes lines for this many places, of which nothing was told. Errs where memory runs out.
+    /// Makes lines for this many places, each [`Line::Unseen`].
+    ///
+    /// # Errors
+    ///
+    /// Returns an error if memory runs out.
     pub fn new(alloc: Global, count: usize) -> Result<Lines, AllocError>
         ensures count { IfOk result (λ lines. length lines ≡ count) }
         ensures nothing { IfOk result (AreLines []) }
@@ -70,19 +76,23 @@ impl Lines {
     }
 
     // Keeps that the certificate was accepted, unless it was accepted before.
-    fn accept(&mut self, above: &[usize], place: usize) -> Result<(), AllocError>
+    fn accept(
+        &mut self,
+        above: &[usize],
+        place: usize,
+        accepted: &Accepted<'_>,
+    ) -> Result<(), AllocError>
         requires { place < length self.old }
-        ensures ok { (ts : List Told) (j : Judged) → AreLines ts self.old
-            → OnOk result (AreLines (ts ++ told above.now place (Ok j) ∷ []) self.new) }
+        ensures ok { (ts : List Told) → AreLines ts self.old
+            → OnOk result (AreLines (ts ++ told above.now place (Ok accepted.now) ∷ []) self.new) }
         ensures count { length self.new ≡ length self.old }
         ensures err { OnErr result (self.new ≡ self.old) }
     {
         if let Line::Accepted(_) = &self.lines[place] {
             return Ok(());
         }
-        let mut places = Vec::new(self.alloc);
-        places.extend_from_slice(above)?;
-        drop(mem::replace(&mut self.lines[place], Line::Accepted(places)));
+        let path = path_of(self.alloc, above, accepted)?;
+        drop(mem::replace(&mut self.lines[place], Line::Accepted(path)));
         Ok(())
     }
 
@@ -120,7 +130,7 @@ impl Visitor for Lines {
             return Ok(());
         }
         match verdict {
-            Ok(_) => self.accept(above, place),
+            Ok(accepted) => self.accept(above, place, &accepted),
             Err(fault) => {
                 self.reject(above, place, fault);
                 Ok(())

@@ -1,4 +1,4 @@
-//! Who is told what a walk finds.
+//! Visitors, which a walk calls with each verdict.
 ghost use Rattle.std.specs.Prelude.{◌≡◌, None, Some, ◌++◌, ◌∷◌, [], List, OnOk, OnErr};
 ghost use Rattle.rpki_folder.specs.Walks.{Told, told};
 
@@ -7,13 +7,13 @@ use rpki_path::PathFault;
 use std::alloc::AllocError;
 use std::marker::Model;
 
-/// What was accepted: what the certificate holds; or a router's certificate, and what the CA above
-/// it holds.
+/// An accepted certificate: for a router's certificate, with the CA above it.
 #[derive(Drop)]
 pub struct Accepted<'w> {
-    /// The certificate with what it holds; where it is a router's, the CA above it.
+    /// The accepted certificate with the resources that it holds; for a router's certificate, the
+    /// CA above it with its resources.
     pub holder: &'w ResourceCert,
-    /// The router's certificate.
+    /// The accepted router's certificate, which holds nothing itself (RFC 8209).
     pub router: Option<&'w Cert>,
 }
 
@@ -44,18 +44,25 @@ impl<'w> Accepted<'w> {
     }
 }
 
-/// Who is told what a walk finds, certificate by certificate. What it keeps of that it says by the
-/// relation `became`: what was a visitor and was told these verdicts, in this order, is this one
-/// now. It may keep all of them, or a line for each place, or nothing.
+/// Receives the verdicts of a walk, certificate by certificate.
+///
+/// An implementation states by the relation `became` what it keeps of the verdicts: a visitor that
+/// received these verdicts, in this order, is this one now. It may keep all of them, or a line for
+/// each place ([`crate::Lines`]), or nothing.
 pub trait Visitor {
     ghost use Rattle.std.specs.Prelude.{List, []};
     ghost use Rattle.rpki_folder.specs.Walks.{Told};
 
-    /// The first visitor is the second, once it was told these verdicts, the first one in front.
+    /// The first visitor is the second one after it received these verdicts, the earliest in front.
     ghost became: { Self → List Told → Self → Type 0 };
 
-    /// Takes the verdict on the certificate at a place, below the CAs at the places above, from the
-    /// top down. Errs where memory runs out, and was then told nothing.
+    /// Receives the verdict on the certificate at a place, below the CAs at the places `above`,
+    /// from the top down.
+    ///
+    /// # Errors
+    ///
+    /// Returns an error if memory runs out. The visitor is then as if it had not received the
+    /// verdict.
     fn tell(
         &mut self,
         above: &[usize],
@@ -67,6 +74,6 @@ pub trait Visitor {
         ensures err { (v : Self) (ts : List Told) → became v ts self.old
             → OnErr result (became v ts self.new) };
 
-    /// A visitor that was told nothing stays what it is.
+    /// A visitor that received no verdict is unchanged.
     ghost begins: { (v : Self) → became v [] v };
 }

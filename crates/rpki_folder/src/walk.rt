@@ -1,8 +1,8 @@
 //! The walk down from a trust anchor.
-ghost use Rattle.std.specs.Prelude.{◌≡◌, ◌≢◌, ◌+◌, ◌++◌, ◌∷◌, [], ◌<◌, List, length, Result, Ok, Err, IfOk, IfErr, OnOk, OnErr};
+ghost use Rattle.std.specs.Prelude.{◌≡◌, ◌≢◌, ◌↔◌, ◌+◌, ◌++◌, ◌∷◌, [], ◌<◌, ℕ, List, length, Contains, Result, Ok, Err, IfOk, IfErr, OnOk, OnErr, IsTrue, IsFalse};
 ghost use Rattle.std.proofs.Common.{rc_value};
 ghost use Rattle.rpki_ext.specs.Kinds.{Means};
-ghost use Rattle.rpki_cert.specs.Certificates.{IsCertificate};
+ghost use Rattle.rpki_cert.specs.Certificates.{CertFields, IsCertificate};
 ghost use Rattle.rpki_cert.specs.declared.inspect.Kind.TheVariants.{Router};
 ghost use Rattle.rpki_path.specs.LocatedPaths.{IsLocatedFault};
 ghost use Rattle.rpki_path.specs.declared.judging.Judged.{Judged};
@@ -10,17 +10,20 @@ ghost use Rattle.rpki_path.specs.declared.path_fault.PathFault.{PathFault as Fau
 ghost use Rattle.rpki_path.specs.declared.path_fault.PathFault.TheVariants.{Memory};
 ghost use Rattle.rpki_cert.specs.Verification.{context};
 ghost use Rattle.rpki_path.specs.Asking.{nobody};
-ghost use Rattle.rpki_path.specs.AskedLists.{by_lists};
+ghost use Rattle.rpki_path.specs.AskedLists.{by_named_lists};
+ghost use Rattle.rpki_path.specs.NameChains.{IsSelfNamed};
 ghost use Rattle.rpki_path.specs.Paths.{Finds};
 ghost use Rattle.rpki_path.specs.Paths.Steps.{kind_of, IsIssuedBy, demand_under};
+ghost use Rattle.rpki_path.specs.Repeats.{AreOneEntity};
 ghost use Rattle.rpki_path.specs.Routers.{IsRouterUnder, router_demand};
 ghost use Rattle.rpki_folder.specs.Folders.{octets_at, ArePlacesOf};
 ghost use Rattle.rpki_folder.specs.IssuerLists.{AreIssuers};
-ghost use Rattle.rpki_folder.specs.Walks.{Root, at_anchor, members_at, LeadsTo, IsValidAnchor, Told, told, Tells, TellsBelow, IsWhyNone};
+ghost use Rattle.rpki_folder.specs.Walks.{Root, at_anchor, members_at, LeadsTo, IsValidAnchor, Told, told, StandsAt, IsLastOf, IsNamedUnder, IsRepeated, EndsNoCircle, IsLookedAt, TellsBelow, TellsFrom, IsWhyNone};
 ghost use Rattle.rpki_folder.specs.Walks.Steps.{IsAnswer, IsOutcome, Hands, IsAtTop};
 
 use crate::admission::Admission;
 use crate::bounds::{Bounds, Ended};
+use crate::entity::are_one_entity;
 use crate::folder::Folder;
 use crate::issuer_lists::IssuerLists;
 use crate::visitor::{Accepted, Visitor};
@@ -31,7 +34,10 @@ use rpki_ext::beside;
 use rpki_keys::tal::Tal;
 use rpki_parts::{TalInfo, Verifier};
 use rpki_path::revocation::NobodyAsked;
-use rpki_path::{LocatedError, Member, PathError, PathFault, Role, Validator, has_locator_key};
+use rpki_path::{
+    LocatedError, Member, PathError, PathFault, Role, Validator, is_self_named, names_chain,
+    test_anchor,
+};
 use std::alloc::{AllocError, Global};
 use std::rc::Rc;
 
@@ -47,6 +53,8 @@ pub struct Walk<'w, A, V> {
     pub admission: &'w A,
     /// How far the walk goes.
     pub bounds: Bounds,
+    /// Whether names have to chain (RFC 6487 7.2, RFC 5280 6.1.3 (a) (4)).
+    pub names: bool,
     /// Whether the stricter profile is asked for.
     pub strict: bool,
     /// The moment.
@@ -140,15 +148,15 @@ impl<'w, A: Admission, V: Verifier> Walk<'w, A, V> {
         requires place { place < length self.now.folder.now.certs }
         requires kept { let w = self.now in
             let x = context (V.verifies w.verifier.now) w.at w.strict in
-            AreIssuers x w.folder.now.lists issuer.now.cert.fields lists.now }
+            AreIssuers w.names x w.folder.now.lists issuer.now.cert.fields lists.now }
         ensures ok { let w = self.now in
             let x = context (V.verifies w.verifier.now) w.at w.strict in
-            let asked = by_lists x w.folder.now.lists in
+            let asked = by_named_lists w.names x w.folder.now.lists in
             IfOk result (IsIssuedBy x asked issuer.now (kind_of role)
             (octets_at w.folder.now.certs place)) }
         ensures fault { let w = self.now in
             let x = context (V.verifies w.verifier.now) w.at w.strict in
-            let asked = by_lists x w.folder.now.lists in
+            let asked = by_named_lists w.names x w.folder.now.lists in
             IfErr result (Finds x (demand_under x asked issuer.now (kind_of role))
             (octets_at w.folder.now.certs place)) }
     {
@@ -191,16 +199,16 @@ impl<'w, A: Admission, V: Verifier> Walk<'w, A, V> {
         requires place { place < length self.now.folder.now.certs }
         requires kept { let w = self.now in
             let x = context (V.verifies w.verifier.now) w.at w.strict in
-            AreIssuers x w.folder.now.lists issuer.now.cert.fields lists.now }
+            AreIssuers w.names x w.folder.now.lists issuer.now.cert.fields lists.now }
         ensures begins { let w = self.now in
             IfOk result (λ c. Means IsCertificate c (octets_at w.folder.now.certs place)) }
         ensures ok { let w = self.now in
             let x = context (V.verifies w.verifier.now) w.at w.strict in
-            let asked = by_lists x w.folder.now.lists in
+            let asked = by_named_lists w.names x w.folder.now.lists in
             IfOk result (IsRouterUnder x asked issuer.now) }
         ensures fault { let w = self.now in
             let x = context (V.verifies w.verifier.now) w.at w.strict in
-            let asked = by_lists x w.folder.now.lists in
+            let asked = by_named_lists w.names x w.folder.now.lists in
             IfErr result (Finds x (router_demand x asked issuer.now)
             (octets_at w.folder.now.certs place)) }
     {
@@ -224,10 +232,10 @@ impl<'w, A: Admission, V: Verifier> Walk<'w, A, V> {
         requires place { place < length self.now.folder.now.certs }
         requires kept { let w = self.now in
             let x = context (V.verifies w.verifier.now) w.at w.strict in
-            AreIssuers x w.folder.now.lists issuer.now.cert.fields lists.now }
+            AreIssuers w.names x w.folder.now.lists issuer.now.cert.fields lists.now }
         ensures ok { let w = self.now in
             let x = context (V.verifies w.verifier.now) w.at w.strict in
-            let asked = by_lists x w.folder.now.lists in
+            let asked = by_named_lists w.names x w.folder.now.lists in
             let octets = octets_at w.folder.now.certs place in
             (v : W) (ts : List Told) → W.became v ts visitor.old → IfOk result (λ member.
             (verdict : Result Judged Fault)
@@ -261,10 +269,10 @@ impl<'w, A: Admission, V: Verifier> Walk<'w, A, V> {
         requires place { place < length self.now.folder.now.certs }
         requires kept { let w = self.now in
             let x = context (V.verifies w.verifier.now) w.at w.strict in
-            AreIssuers x w.folder.now.lists issuer.now.cert.fields lists.now }
+            AreIssuers w.names x w.folder.now.lists issuer.now.cert.fields lists.now }
         ensures ok { let w = self.now in
             let x = context (V.verifies w.verifier.now) w.at w.strict in
-            let asked = by_lists x w.folder.now.lists in
+            let asked = by_named_lists w.names x w.folder.now.lists in
             let octets = octets_at w.folder.now.certs place in
             (v : W) (ts : List Told) → W.became v ts visitor.old → OnOk result (
             (verdict : Result Judged Fault)
@@ -296,10 +304,10 @@ impl<'w, A: Admission, V: Verifier> Walk<'w, A, V> {
         requires place { place < length self.now.folder.now.certs }
         requires kept { let w = self.now in
             let x = context (V.verifies w.verifier.now) w.at w.strict in
-            AreIssuers x w.folder.now.lists issuer.now.cert.fields lists.now }
+            AreIssuers w.names x w.folder.now.lists issuer.now.cert.fields lists.now }
         ensures ok { let w = self.now in
             let x = context (V.verifies w.verifier.now) w.at w.strict in
-            let asked = by_lists x w.folder.now.lists in
+            let asked = by_named_lists w.names x w.folder.now.lists in
             let octets = octets_at w.folder.now.certs place in
             (v : W) (ts : List Told) → W.became v ts visitor.old → IfOk result (λ next.
             (verdict : Result Judged Fault)
@@ -337,19 +345,112 @@ impl<'w, A: Admission, V: Verifier> Walk<'w, A, V> {
     fn lists_of(&self, issuer: &ResourceCert) -> Result<IssuerLists<'_>, AllocError>
         ensures { let w = self.now in
             let x = context (V.verifies w.verifier.now) w.at w.strict in
-            IfOk result (AreIssuers x w.folder.now.lists issuer.now.cert.fields) }
+            IfOk result (AreIssuers w.names x w.folder.now.lists issuer.now.cert.fields) }
     {
         let key = issuer.as_cert().as_tbs().subject_key_identifier();
         let places = self.folder.lists_of(&key);
-        let (alloc, now, verifier) = (self.alloc, self.at, self.verifier);
-        IssuerLists::new(alloc, self.folder.lists(), places, issuer, now, verifier)
+        let (alloc, lists, now) = (self.alloc, self.folder.lists(), self.at);
+        IssuerLists::new(alloc, lists, places, issuer, self.names, now, self.verifier)
+    }
+
+    // Whether the certificate at a place is looked at below the issuer: it is let in there, and its
+    // issuer's name is that of the issuer, if names are checked.
+    fn is_looked_at(
+        &self,
+        issuer: &ResourceCert,
+        above: &[usize],
+        place: usize,
+    ) -> Result<bool, AllocError>
+        requires { place < length self.now.folder.now.certs }
+        ensures { let w = self.now in
+            let named = IsNamedUnder w.names issuer.now.cert w.folder.now.certs place in
+            IfOk result (λ is. IsTrue is ↔ (A.admits w.admission.now above.now place × named)) }
+    {
+        laws::unambiguous();
+        if !self.admission.is_admitted(above, place) {
+            return Ok(false);
+        }
+        if !self.names {
+            return Ok(true);
+        }
+        let cert = self.folder.certs()[place].cert(self.alloc)?;
+        let is_named = names_chain(issuer, &cert);
+        drop(cert);
+        Ok(is_named)
+    }
+
+    // Whether the certificate at a place is of one entity with this one.
+    fn is_one_at(&self, place: usize, cert: &Cert) -> Result<bool, AllocError>
+        requires { place < length self.now.folder.now.certs }
+        ensures { let w = self.now in
+            IfOk result (λ is. IsTrue is ↔ ((d : CertFields) × StandsAt w.folder.now.certs place d
+            × AreOneEntity w.names d cert.now)) }
+    {
+        laws::unambiguous();
+        let other = self.folder.certs()[place].cert(self.alloc)?;
+        let is_one = are_one_entity(&other, cert, self.names);
+        drop(other);
+        Ok(is_one)
+    }
+
+    // Whether this certificate is of one entity with the one below which the walk began, or with
+    // one at these places.
+    fn is_one_of(
+        &self,
+        top: &ResourceCert,
+        places: &[usize],
+        cert: &Cert,
+    ) -> Result<bool, AllocError>
+        requires { (place : ℕ) → Contains places.now place
+            → place < length self.now.folder.now.certs }
+        ensures { let w = self.now in
+            let is_repeated = IsRepeated w.names top.now.cert w.folder.now.certs places.now cert.now in
+            IfOk result (λ is. IsTrue is ↔ is_repeated) }
+    {
+        if are_one_entity(top.as_cert(), cert, self.names) {
+            return Ok(true);
+        }
+        for &place in places {
+            let is_one = self.is_one_at(place, cert)?;
+            if is_one {
+                return Ok(true);
+            }
+        }
+        Ok(false)
+    }
+
+    // Whether the issuer, which is the last of the CAs at these places, is of an entity that stands
+    // above it.
+    fn is_in_circle(
+        &self,
+        top: &ResourceCert,
+        above: &[usize],
+        issuer: &ResourceCert,
+    ) -> Result<bool, AllocError>
+        requires inside { (place : ℕ) → Contains above.now place
+            → place < length self.now.folder.now.certs }
+        requires last { let certs = self.now.folder.now.certs in
+            IsLastOf top.now.cert certs above.now issuer.now.cert }
+        ensures circle { let w = self.now in
+            let none = EndsNoCircle w.names top.now.cert w.folder.now.certs above.now in
+            IfOk result (λ is. IsTrue is → none → ⊥) }
+        ensures none { let w = self.now in
+            let none = EndsNoCircle w.names top.now.cert w.folder.now.certs above.now in
+            IfOk result (λ is. IsFalse is → none) }
+    {
+        laws::unambiguous();
+        match above.split_last() {
+            Some((_, before)) => self.is_one_of(top, before, issuer.as_cert()),
+            None => Ok(false),
+        }
     }
 
     // The walk below an issuer with these lists, to the certificates at these places, for this
-    // depth.
+    // depth. It began below the certificate at the top.
     #[cycle(descend)]
     fn each_below<W: Visitor>(
         &self,
+        top: &ResourceCert,
         issuer: &ResourceCert,
         lists: &IssuerLists<'_>,
         places: &[usize],
@@ -359,24 +460,32 @@ impl<'w, A: Admission, V: Verifier> Walk<'w, A, V> {
     ) -> Result<Ended, AllocError>
         requires kept { let w = self.now in
             let x = context (V.verifies w.verifier.now) w.at w.strict in
-            AreIssuers x w.folder.now.lists issuer.now.cert.fields lists.now }
+            AreIssuers w.names x w.folder.now.lists issuer.now.cert.fields lists.now }
         requires places { let key = issuer.now.cert.fields.extensions.subject_key_identifier in
             ArePlacesOf self.now.folder.now.certs key places.now }
+        requires inside { (place : ℕ) → Contains trail.old.above.items place
+            → place < length self.now.folder.now.certs }
+        requires last { let certs = self.now.folder.now.certs in
+            IsLastOf top.now.cert certs trail.old.above.items issuer.now.cert }
+        requires no_circle { let w = self.now in
+            EndsNoCircle w.names top.now.cert w.folder.now.certs trail.old.above.items }
         ensures tells { let w = self.now in
             let x = context (V.verifies w.verifier.now) w.at w.strict in
-            let asked = by_lists x w.folder.now.lists in
-            let admits = A.admits w.admission.now in
+            let asked = by_named_lists w.names x w.folder.now.lists in
+            let certs = w.folder.now.certs in
+            let admits = IsLookedAt w.names (A.admits w.admission.now) top.now.cert certs in
             (v : W) (ts : List Told) → W.became v ts visitor.old
             → (more : List Told) × W.became v (ts ++ more) visitor.new
             × (length more + trail.new.steps ≡ trail.old.steps)
-            × TellsBelow x asked admits issuer.now w.folder.now.certs trail.old.above.items depth
+            × TellsBelow x asked admits issuer.now certs trail.old.above.items depth
             trail.old.steps result more }
         ensures trail { OnOk result (trail.new.above.items ≡ trail.old.above.items) }
     {
         laws::unambiguous();
         let mut ended = Ended::Whole;
         for &place in places {
-            if !self.admission.is_admitted(&trail.above, place) {
+            let is_looked_at = self.is_looked_at(issuer, &trail.above, place)?;
+            if !is_looked_at {
                 continue;
             }
             if depth == 0 {
@@ -391,7 +500,7 @@ impl<'w, A: Admission, V: Verifier> Walk<'w, A, V> {
                 continue;
             };
             trail.above.push(place)?;
-            let below = self.descend(&ca, trail, depth - 1, visitor);
+            let below = self.descend(top, &ca, trail, depth - 1, visitor);
             drop(ca);
             trail.above.pop();
             ended = ended.and(below?);
@@ -399,24 +508,31 @@ impl<'w, A: Admission, V: Verifier> Walk<'w, A, V> {
         Ok(ended)
     }
 
-    // The walk below an issuer, for this depth. Where nothing stands below it, its lists aren't
-    // verified.
+    // The walk below an issuer, for this depth, which began below the certificate at the top. It
+    // doesn't go on below an entity that stands above. Where nothing stands below the issuer, its
+    // lists aren't verified.
     #[cycle(descend)]
     fn descend<W: Visitor>(
         &self,
+        top: &ResourceCert,
         issuer: &ResourceCert,
         trail: &mut Trail,
         depth: usize,
         visitor: &mut W,
     ) -> Result<Ended, AllocError>
+        requires inside { (place : ℕ) → Contains trail.old.above.items place
+            → place < length self.now.folder.now.certs }
+        requires last { let certs = self.now.folder.now.certs in
+            IsLastOf top.now.cert certs trail.old.above.items issuer.now.cert }
         ensures tells { let w = self.now in
             let x = context (V.verifies w.verifier.now) w.at w.strict in
-            let asked = by_lists x w.folder.now.lists in
-            let admits = A.admits w.admission.now in
+            let asked = by_named_lists w.names x w.folder.now.lists in
+            let certs = w.folder.now.certs in
+            let admits = IsLookedAt w.names (A.admits w.admission.now) top.now.cert certs in
             (v : W) (ts : List Told) → W.became v ts visitor.old
             → (more : List Told) × W.became v (ts ++ more) visitor.new
             × (length more + trail.new.steps ≡ trail.old.steps)
-            × TellsBelow x asked admits issuer.now w.folder.now.certs trail.old.above.items depth
+            × TellsBelow x asked admits issuer.now certs trail.old.above.items depth
             trail.old.steps result more }
         ensures trail { OnOk result (trail.new.above.items ≡ trail.old.above.items) }
     {
@@ -426,19 +542,26 @@ impl<'w, A: Admission, V: Verifier> Walk<'w, A, V> {
         if places.is_empty() {
             return Ok(Ended::Whole);
         }
+        let is_in_circle = self.is_in_circle(top, &trail.above, issuer)?;
+        if is_in_circle {
+            return Ok(Ended::Whole);
+        }
         let lists = self.lists_of(issuer)?;
-        let ended = self.each_below(issuer, &lists, places, trail, depth, visitor);
+        let ended = self.each_below(top, issuer, &lists, places, trail, depth, visitor);
         drop(lists);
         ended
     }
 
     /// Walks below an issuer that was validated before. Each certificate of the folder that names
-    /// the key of an accepted CA as the one that signs it, and that is let in there, is judged as
-    /// what it says that it is ([`rpki_cert::said_kind`]), and the visitor is told the verdict:
-    /// that of [`rpki_path::judge`] on the path that leads to it, with the folder's lists.
-    /// Certificates of one key, as renewals that lie side by side, are each judged, and so are
-    /// those below each of them. Returns whether everything was looked at; a bound that was met is
-    /// told. Errs where memory runs out; what was told before is right.
+    /// the key of an accepted CA as the one that signs it, whose issuer is that CA's subject if
+    /// names are checked, and that is let in there, is judged as what it says that it is
+    /// ([`rpki_cert::said_kind`]), and the visitor is told the verdict: that of
+    /// [`rpki_path::judge`] on the path that leads to it, with the folder's lists. Certificates of
+    /// one key, as renewals that lie side by side, are each judged, and so are those below each of
+    /// them; but nothing below one of an entity that stands above it, where every path would go in
+    /// a circle ([`rpki_path::laws::has_no_repeat`] says that nothing is lost by it). Returns
+    /// whether everything was looked at; a bound that was met is told. Errs where memory runs out;
+    /// what was told before is right.
     pub fn below<W: Visitor>(
         &self,
         issuer: &ResourceCert,
@@ -446,36 +569,35 @@ impl<'w, A: Admission, V: Verifier> Walk<'w, A, V> {
     ) -> Result<Ended, AllocError>
         ensures tells { let w = self.now in
             let x = context (V.verifies w.verifier.now) w.at w.strict in
-            let asked = by_lists x w.folder.now.lists in
-            let admits = A.admits w.admission.now in
+            let asked = by_named_lists w.names x w.folder.now.lists in
+            let certs = w.folder.now.certs in
+            let admits = IsLookedAt w.names (A.admits w.admission.now) issuer.now.cert certs in
             (more : List Told) × W.became visitor.old more visitor.new
-            × TellsBelow x asked admits issuer.now w.folder.now.certs [] w.bounds.depth
-            w.bounds.steps result more }
+            × TellsBelow x asked admits issuer.now certs [] w.bounds.depth w.bounds.steps result
+            more }
     {
         let mut trail = Trail {
             above: Vec::new(self.alloc),
             steps: self.bounds.steps,
         };
-        let ended = self.descend(issuer, &mut trail, self.bounds.depth, visitor);
+        let ended = self.descend(issuer, issuer, &mut trail, self.bounds.depth, visitor);
         drop(trail);
         ended
     }
 
-    // What the trust anchor holds, which has to have the locator's key.
+    // What the trust anchor holds, which has to have the locator's key and to list a number.
     fn validated_anchor(&self, tal: &Tal, anchor: &Member<'_>) -> Result<ResourceCert, LocatedError>
         ensures ok { let w = self.now in
             let x = context (V.verifies w.verifier.now) w.at w.strict in
-            let asked = by_lists x w.folder.now.lists in
+            let asked = by_named_lists w.names x w.folder.now.lists in
             IfOk result (LeadsTo x asked (at_anchor tal.now anchor.now) []) }
         ensures fault { let w = self.now in
             let x = context (V.verifies w.verifier.now) w.at w.strict in
-            let asked = by_lists x w.folder.now.lists in
+            let asked = by_named_lists w.names x w.folder.now.lists in
             IfErr result (IsLocatedFault x asked tal.now.tal anchor.now []) }
     {
         laws::unambiguous();
-        if !at_top(has_locator_key(self.alloc, anchor, tal))? {
-            return Err(LocatedError::OtherKey);
-        }
+        test_anchor(self.alloc, anchor, tal)?;
         let validator = Validator {
             alloc: self.alloc,
             asked: &NobodyAsked,
@@ -487,19 +609,26 @@ impl<'w, A: Admission, V: Verifier> Walk<'w, A, V> {
         at_top(validator.trust_anchor(anchor, name))
     }
 
-    /// Validates the trust anchor, which has to have the locator's key (RFC 8630 3), and returns
-    /// what it holds. Errs with what is wrong with it, or where memory runs out.
+    /// Validates the trust anchor, which has to have the locator's key (RFC 8630 3), to list an IP
+    /// address or an AS number and, if names are checked, to have one name (RFC 8630 2.3), and
+    /// returns what it holds. Errs with what is wrong with it, or where memory runs out.
     pub fn trust_anchor(&self, tal: &Tal, anchor: &Member<'_>) -> Result<ResourceCert, WalkError>
         ensures ok { let w = self.now in
             let x = context (V.verifies w.verifier.now) w.at w.strict in
-            let asked = by_lists x w.folder.now.lists in
+            let asked = by_named_lists w.names x w.folder.now.lists in
             IfOk result (LeadsTo x asked (at_anchor tal.now anchor.now) []) }
+        ensures named { IfOk result (λ r. IsTrue self.now.names → IsSelfNamed r.cert) }
         ensures fault { let w = self.now in
             let x = context (V.verifies w.verifier.now) w.at w.strict in
-            let asked = by_lists x w.folder.now.lists in
-            IfErr result (IsWhyNone x asked tal.now anchor.now) }
+            let asked = by_named_lists w.names x w.folder.now.lists in
+            IfErr result (IsWhyNone x asked w.names tal.now anchor.now) }
     {
-        Ok(self.validated_anchor(tal, anchor)?)
+        let issuer = self.validated_anchor(tal, anchor)?;
+        if self.names && !is_self_named(issuer.as_cert()) {
+            drop(issuer);
+            return Err(WalkError::OtherName);
+        }
+        Ok(issuer)
     }
 
     /// Walks down from the trust anchor of a locator: validates it ([`Walk::trust_anchor`]), and
@@ -515,23 +644,24 @@ impl<'w, A: Admission, V: Verifier> Walk<'w, A, V> {
         // says.
         ensures tells { let w = self.now in
             let x = context (V.verifies w.verifier.now) w.at w.strict in
-            let asked = by_lists x w.folder.now.lists in
+            let asked = by_named_lists w.names x w.folder.now.lists in
             let admits = A.admits w.admission.now in
-            let root = at_anchor tal.now anchor.now in
+            let certs = w.folder.now.certs in
             (more : List Told) × W.became visitor.old more visitor.new
-            × Tells x asked admits root w.folder.now.certs [] w.bounds.depth w.bounds.steps result
-            more }
+            × TellsFrom x asked w.names admits tal.now anchor.now certs w.bounds.depth
+            w.bounds.steps result more }
         // It begins at a valid trust anchor.
         ensures anchor { let w = self.now in
             let x = context (V.verifies w.verifier.now) w.at w.strict in
-            let asked = by_lists x w.folder.now.lists in
-            IfOk result (λ _. IsValidAnchor x asked tal.now anchor.now) }
+            let asked = by_named_lists w.names x w.folder.now.lists in
+            IfOk result (λ _. IsValidAnchor x asked w.names tal.now anchor.now) }
         // The trust anchor is wrong so.
         ensures fault { let w = self.now in
             let x = context (V.verifies w.verifier.now) w.at w.strict in
-            let asked = by_lists x w.folder.now.lists in
-            IfErr result (IsWhyNone x asked tal.now anchor.now) }
+            let asked = by_named_lists w.names x w.folder.now.lists in
+            IfErr result (IsWhyNone x asked w.names tal.now anchor.now) }
     {
+        laws::unambiguous();
         let issuer = self.trust_anchor(tal, anchor)?;
         let ended = self.below(&issuer, visitor);
         drop(issuer);

@@ -1,16 +1,21 @@
-//! Why a walk doesn't begin.
+//! Errors of a walk.
 ghost use Rattle.std.specs.Prelude.{◌≡◌, ◌↔◌, IsTrue};
 
 use rpki_path::LocatedError;
 use std::alloc::AllocError;
 use thiserror::Error;
 
-/// Why a walk doesn't begin, or isn't ended.
+/// The error of a walk that doesn't start, or that doesn't end.
 #[derive(Debug, Drop, Error)]
 pub enum WalkError {
-    /// The trust anchor is wrong, or has another key than the locator.
+    /// The trust anchor isn't valid: it is rejected, its key isn't the TAL's (RFC 8630 3), or it
+    /// lists no resources.
     #[error("{0}")]
     Anchor(LocatedError),
+    /// The trust anchor is valid, but its issuer's name isn't its subject's, and name chaining is
+    /// checked (RFC 5280 6.1.3).
+    #[error("the trust anchor's issuer isn't its subject")]
+    OtherName,
     /// Memory ran out.
     #[error("out of memory")]
     Memory,
@@ -19,12 +24,12 @@ pub enum WalkError {
 impl WalkError {
     ghost use Rattle.rpki_folder.specs.declared.walk_error.WalkError.TheVariants.{Memory};
 
-    /// Tells whether memory ran out.
+    /// Returns whether memory ran out.
     pub fn is_memory(&self) -> bool
         ensures { IsTrue result ↔ self.now ≡ Memory }
     {
         match self {
-            WalkError::Anchor(_) => false,
+            WalkError::Anchor(_) | WalkError::OtherName => false,
             WalkError::Memory => true,
         }
     }

@@ -62,7 +62,7 @@ module _ (V : Verifies) (now : Moment) (strict : Bool) (issuer : TbsFields) (f :
 
 -- what is current passes for each serial number that isn't on it
 pub leaves_others : (x : Context) (issuer : TbsFields) (list : CrlFields) → IsCurrentList x issuer list → LeavesOthers x issuer list
-leaves_others x issuer list (names, (signed, (current, _))) = λ serial off. (tt, (names, (signed, (current.1, (off, tt)))))
+leaves_others x issuer list (names, (signed, (current, _))) = λ serial off. (tt, (names, (signed, (current.1, (off, (tt, tt))))))
 
 -- and revokes each that is
 pub revokes_its_own : (x : Context) (issuer : TbsFields) (list : CrlFields) → IsCurrentList x issuer list → RevokesItsOwn x issuer list

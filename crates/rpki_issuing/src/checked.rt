@@ -1,4 +1,4 @@
-//! A signer whose signatures are verified before they are handed on.
+//! A signer that verifies each signature before it returns it.
 ghost use Rattle.std.specs.Prelude.{◌≡◌};
 ghost use Rattle.rpki_issuing.specs.CheckedSigners.{as_checked};
 
@@ -6,29 +6,39 @@ use rpki_parts::{PublicKey, RpkiSignatureAlgorithm, Signature, Signer, SigningEr
 use std::alloc::Global;
 use thiserror::Error;
 
-/// Signs by another signer, and verifies each signature by this public key before it answers: so
-/// what is made and signed is signed by this key, whatever the signer does. A signer whose one
-/// wrong operation would betray its key is caught too.
+/// Signs with another signer, and verifies each signature by this public key before returning it.
+///
+/// Whatever is made and signed with it is signed by this key, whatever the signer does. It also
+/// catches a signer whose one wrong operation would reveal its key.
+///
+/// # Errors
+///
+/// `sign` returns a [`CheckedError`] if the signer fails, if the signature has another algorithm,
+/// or if it doesn't verify.
+///
+/// # Not checked
+///
+/// Whether `public_key` is the key of the issuer that the certificate names.
 #[derive(Drop)]
 pub struct Checked<S, V> {
-    /// Who signs.
+    /// The signer.
     pub signer: S,
-    /// Who verifies.
+    /// The verifier of its signatures.
     pub verifier: V,
-    /// The key by which signatures are verified.
+    /// The public key by which signatures are verified.
     pub public_key: PublicKey,
 }
 
-/// What keeps a checked signer from signing.
+/// The error of a [`Checked`] signer.
 #[derive(Debug, Drop, Error)]
 pub enum CheckedError<E> {
-    /// The signer refused.
+    /// The signer failed, with this error.
     #[error("signer failed")]
     Refused(E),
-    /// The signature names another algorithm than the one that was asked for.
+    /// The signature has another algorithm than the requested one.
     #[error("signature by another algorithm")]
     OtherAlgorithm,
-    /// The signature isn't one by the key.
+    /// The signature doesn't verify by the public key.
     #[error("bad signature of the signer")]
     BadSignature,
 }

@@ -1,4 +1,4 @@
-//! What was prepared, completed by its signature.
+//! Prepared certificates are completed by their signatures.
 ghost use Rattle.std.specs.Prelude.{◌≡◌, IfOk, IfErr, OnOk};
 ghost use Rattle.rpki_parts.specs.SignedDatas.{signed_data};
 ghost use Rattle.rpki_cert.specs.Certificates.{IsCertificate};
@@ -15,10 +15,24 @@ use rpki_der::Time;
 use rpki_parts::Verifier;
 use std::alloc::Global;
 
-/// Completes what was prepared with the octets of its signature: where it is still ready in this
-/// role at this moment, Ok exactly where the verifier says that the issuer's key signed
-/// [`Prepared::octets`]. The certificate is read again from its own octets, and valid as
-/// [`Cert::validate_ca_at`] and its siblings say. Errs with the first fault.
+/// Completes a prepared certificate with the octets of its signature. Returns the certificate.
+///
+/// If the certificate is still ready in this role at `now`, the result is `Ok` if and only if the
+/// verifier accepts `signature` as one of [`Prepared::octets`] by the issuer's key. The certificate
+/// is decoded again from its own octets, and is valid in its role as [`Cert::validate_ca_at`] and
+/// its siblings say.
+///
+/// # Errors
+///
+/// Returns the first error:
+///
+/// - `TooLong` if the certificate would be too long
+/// - `Invalid` if the certificate isn't valid in its role at `now`, or the signature doesn't verify
+/// - `Memory` if memory runs out
+///
+/// # Not checked
+///
+/// As [`prepare`].
 pub fn complete<V: Verifier>(
     alloc: Global,
     prepared: &Prepared,

@@ -1,4 +1,4 @@
-//! Why nothing was prepared or completed.
+//! Errors of preparing and completing certificates.
 ghost use Rattle.std.specs.Prelude.{◌≡◌};
 
 use rpki_cert::{InspectionError, ValidationError, VerificationError};
@@ -6,17 +6,18 @@ use rpki_der::{DecodeError, EncodeError};
 use std::alloc::AllocError;
 use thiserror::Error;
 
-/// Why a certificate wasn't prepared for signing, or wasn't completed.
+/// The error of a certificate that isn't prepared for signing, or isn't completed.
 #[derive(Debug, Drop, Error)]
 pub enum IssuingError {
-    /// The fields can't be written as a certificate that is read again: no resources are there, or
-    /// what stands as IPv4 aren't whole IPv4 addresses.
+    /// The fields can't be written as a certificate that decodes again: they have no resources, or
+    /// their IPv4 resources aren't whole IPv4 addresses (RFC 6487 4.8, RFC 3779 2.2.3).
     #[error("fields of no certificate")]
     Unwritable,
-    /// A content would have 2^32 octets or more.
+    /// The certificate is too long: a content would have 2^32 octets or more (own).
     #[error("content too long")]
     TooLong,
-    /// It isn't of its kind, or a check below the issuer fails.
+    /// The certificate doesn't meet the profile of its kind, or a check below its issuer fails (RFC
+    /// 6487 7.2).
     #[error("{0}")]
     Invalid(ValidationError),
     /// Memory ran out.
@@ -41,7 +42,7 @@ impl IssuingError {
         }
     }
 
-    /// Tells whether memory ran out.
+    /// Returns whether memory ran out.
     pub fn is_memory(&self) -> bool
         ensures { IsTrue result ↔ self.now ≡ Memory }
     {

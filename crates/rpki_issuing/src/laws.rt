@@ -1,5 +1,4 @@
-//! Laws about what is issued. Each is the contract of a function with no parameters and an empty
-//! body.
+//! Laws about issuing. Each is the contract of a function with no parameters and an empty body.
 ghost use Rattle.std.specs.Prelude.{◌↔◌, ◌^◌, ◌<◌, ℕ, Bool, List};
 ghost use Rattle.rpki_parts.specs.Conditions.{IsFirstFalse};
 ghost use Rattle.rpki_der.specs.Times.{Moment};
@@ -19,8 +18,8 @@ ghost use Rattle.rpki_issuing.specs.declared.role.Role.{Role};
 
 use rpki_parts::Verifier;
 
-/// Says that what is ready is valid once it is signed: with each signature that the verifier says
-/// is one of its octets by the key of who issues, it is a certificate that is valid in its role.
+/// Says that a ready certificate is valid once it is signed: with each signature of its octets that
+/// the verifier accepts by the issuer's key, it is a certificate that is valid in its role.
 pub fn ready_once_signed<V: Verifier>()
     ensures { (verifier : V) (now : Moment) (strict : Bool) (role : Role) (f : TbsFields)
         (value : List ℕ) → IsReady now strict role f
@@ -28,9 +27,10 @@ pub fn ready_once_signed<V: Verifier>()
         → IsValidAs (context (V.verifies verifier) now strict) role (signed_with f value) }
 {}
 
-/// Says that a list that leaves others and revokes its own (as [`crate::complete_list`] promises)
-/// does so too where it is the first of a store under its URI: [`rpki_crl::CrlStore::check`] is Ok
-/// for each serial number that isn't on it, and else errs with `Revoked`.
+/// Says that a CRL that leaves others unrevoked and revokes its own (as [`crate::complete_list`]
+/// promises) does so too if it is the first one of a store under its URI:
+/// [`rpki_crl::CrlStore::check`] returns `Ok` for each serial number that isn't on it, and
+/// `Revoked` for each other.
 pub fn stored_list_answers<V: Verifier>()
     ensures unrevoked { (verifier : V) (now : Moment) (strict : Bool) (issuer : TbsFields)
         (pairs : List Stored) (uri : List ℕ) (crl : CrlState) (serial : ℕ)
@@ -47,9 +47,9 @@ pub fn stored_list_answers<V: Verifier>()
         revocation_checks Revoked }
 {}
 
-/// Says that a current list answers for its issuer (as [`crate::complete_list`] promises that it is
-/// current): where it is asked of a certificate, among whatever lists are given, the certificate is
-/// unrevoked if its serial number isn't on the list, and else `Revoked` is the first check that
+/// Says that a current CRL answers for its issuer ([`crate::complete_list`] promises that it is
+/// current). If it is used for a certificate, whatever other CRLs are given, the certificate is
+/// unrevoked if its serial number isn't on the CRL, and otherwise `Revoked` is the first check that
 /// fails ([`rpki_path::revocation::GivenLists`]).
 pub fn current_list_answers<V: Verifier>()
     ensures { (verifier : V) (now : Moment) (strict : Bool) (issuer : TbsFields)

@@ -1,6 +1,8 @@
-//! Issuing where the key is elsewhere: what is to be signed is prepared, and what comes back is
-//! completed once it verifies. Beside it, the values that a person gives as texts (`values`), and
-//! certificates and lists made of such values, as octets (`wanted`).
+//! Issuing with a key that is elsewhere: a certificate or CRL is prepared for signing, and
+//! completed by its signature once that verifies.
+//!
+//! `values` has the values that a person writes as texts, and `wanted` makes certificates and CRLs
+//! of such values, as octets.
 #![tactic(auto)]
 
 mod any_signature;

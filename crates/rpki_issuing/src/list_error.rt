@@ -1,17 +1,18 @@
-//! Why no revocation list was prepared or completed.
+//! Errors of preparing and completing CRLs.
 ghost use Rattle.std.specs.Prelude.{◌≡◌};
 
 use rpki_crl::RevocationError;
 use rpki_der::EncodeError;
 use thiserror::Error;
 
-/// Why a revocation list wasn't prepared for signing, or wasn't completed.
+/// The error of a CRL that isn't prepared for signing, or isn't completed.
 #[derive(Debug, Drop, Error)]
 pub enum ListError {
-    /// A check of the list below its issuer fails: `WrongKeyId`, `BadSignature` or `Stale`.
+    /// A check of the CRL below its issuer fails: `WrongKeyId`, `BadSignature` or `Stale` (RFC 6487
+    /// 5, RFC 5280 5.1.2.4, 5.1.2.5).
     #[error("{0}")]
     Invalid(RevocationError),
-    /// A content would have 2^32 octets or more.
+    /// The CRL is too long: a content would have 2^32 octets or more (own).
     #[error("content too long")]
     TooLong,
     /// Memory ran out.
@@ -35,7 +36,7 @@ impl ListError {
         }
     }
 
-    /// Tells whether memory ran out.
+    /// Returns whether memory ran out.
     pub fn is_memory(&self) -> bool
         ensures { IsTrue result ↔ self.now ≡ Memory }
     {

@@ -1,4 +1,4 @@
-//! The next revocation list of an issuer.
+//! The next CRL of an issuer.
 ghost use Rattle.std.specs.Prelude.{◌≡◌, ◌↔◌, ◌^◌, ◌<◌, length, IsTrue, IfOk, IfErr, map};
 ghost use Rattle.std.specs.Int.Digits.{number_from_digits};
 ghost use Rattle.std.specs.List.{filter};
@@ -13,16 +13,16 @@ use rpki_der::{EncodeError, Serial, Time};
 use std::alloc::{AllocError, Global};
 use thiserror::Error;
 
-/// Why there is no next list.
+/// The error of [`next_list`].
 #[derive(Debug, Drop, Error)]
 pub enum NextListError {
-    /// The number isn't greater than the list's before.
+    /// The CRL number isn't greater than the previous CRL's (RFC 5280 5.2.3).
     #[error("the number isn't greater")]
     Number,
-    /// The number has more than 20 octets as an INTEGER: it is 2^159 or more.
+    /// The CRL number has more than 20 octets as an INTEGER: it is 2^159 or more (RFC 5280 5.2.3).
     #[error("the number is too long")]
     LongNumber,
-    /// The next update is before this one.
+    /// nextUpdate is before thisUpdate (own).
     #[error("the next update is before this one")]
     UpdateOrder,
     /// Memory ran out.
@@ -46,7 +46,7 @@ impl NextListError {
         }
     }
 
-    /// Tells whether memory ran out.
+    /// Returns whether memory ran out.
     pub fn is_memory(&self) -> bool
         ensures { IsTrue result ↔ self.now ≡ Memory }
     {
@@ -159,13 +159,30 @@ fn check(
     Ok(())
 }
 
-/// Makes the data of the issuer's next list: its number is the one that is given, which has to be
-/// greater than the list's before and has at most 20 octets (RFC 5280 5.2.3), and its next update
-/// isn't before this one. Every entry stays whose certificate isn't gone, which means that it has
-/// expired (RFC 5280 5.1.2.6, 3.3); those of `revoked` come in, and nothing else. Which
-/// certificates have expired is the caller's to know. The issuer's name, its key identifier and the
-/// algorithm stay. Errs with the first of these conditions on the number and the moments that
-/// doesn't hold, or where memory runs out.
+/// Makes the to-be-signed part of the issuer's next CRL (RFC 5280 5.1).
+///
+/// - The CRL number is `number`.
+/// - The times are `this_update` and `next_update`.
+/// - The entries are those of the previous CRL whose serial numbers aren't in `gone`, and then
+///   those of `revoked` whose serial numbers aren't there yet.
+/// - The issuer's name, its key identifier and the algorithm are those of the previous CRL.
+///
+/// `gone` lists certificates that have expired: their entries may be removed (RFC 5280 5.1.2.6,
+/// 3.3).
+///
+/// # Errors
+///
+/// Returns the first error:
+///
+/// - `Number` if `number` isn't greater than the previous CRL's (RFC 5280 5.2.3)
+/// - `LongNumber` if `number` has more than 20 octets as an INTEGER (RFC 5280 5.2.3)
+/// - `UpdateOrder` if `next_update` is before `this_update`
+/// - `Memory` if memory runs out
+///
+/// # Not checked
+///
+/// Whether the certificates of `gone` have expired, and whether `this_update` is after the previous
+/// CRL's.
 pub fn next_list(
     alloc: Global,
     previous: &Crl,

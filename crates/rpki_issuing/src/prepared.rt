@@ -1,4 +1,4 @@
-//! What is to be signed, prepared.
+//! Certificates that are prepared for signing.
 ghost use Rattle.std.specs.Prelude.{◌≡◌, IfOk, IfErr, OnOk};
 ghost use Rattle.rpki_cert.specs.Certificates.{CanBeWritten, encoding};
 ghost use Rattle.rpki_issuing.specs.Readiness.{IsReady, IsUnready, unsigned as unsigned_of};
@@ -31,7 +31,7 @@ impl Model for Prepared {
 }
 
 impl Prepared {
-    /// Returns the fields.
+    /// Returns the fields of the to-be-signed part.
     pub fn as_tbs(&self) -> &TbsCert
         ensures { result.now ≡ self.now }
     {
@@ -45,8 +45,8 @@ impl Prepared {
         &self.unsigned
     }
 
-    /// Returns what is to be signed: the TBSCertificate with these fields, its identifier and
-    /// length included (RFC 5280 4.1.1.3).
+    /// Returns the octets to sign: the TBSCertificate with these fields, with its identifier and
+    /// length (RFC 5280 4.1.1.3).
     pub fn octets(&self) -> &[u8]
         ensures octets { result.now ≡ encoding self.now }
         ensures written { CanBeWritten self.now }
@@ -55,10 +55,27 @@ impl Prepared {
     }
 }
 
-/// Prepares a certificate with these fields for signing: Ok exactly where only a signature is
-/// missing. The fields can be written, they meet the profile of the role's kind, and each check
-/// below the issuer is true, but for the signature's (RFC 6487 7.2). So no signature is spent on a
-/// certificate that its own issuer would refuse. Errs with the first of these that fails.
+/// Prepares a certificate with these fields for signing. Returns it if and only if nothing but the
+/// signature is missing, so that no signature is spent on a certificate that its own issuer would
+/// reject.
+///
+/// The fields can be written, they meet the profile of the role's kind, and each check below the
+/// issuer but the signature's passes (RFC 6487 7.2).
+///
+/// # Errors
+///
+/// Returns the first error:
+///
+/// - `Unwritable` if the fields can't be written as a certificate that decodes again
+/// - `TooLong` if the certificate would be too long
+/// - `Invalid` if the profile or a check below the issuer fails
+/// - `Memory` if memory runs out
+///
+/// # Not checked
+///
+/// - whether the issuer is valid at `now`, and itself unrevoked
+/// - whether names chain (RFC 5280 6.1.3)
+/// - whether the serial number was used before, and whether a CRL has it (RFC 6487 4.2)
 pub fn prepare(
     alloc: Global,
     tbs: &TbsCert,

@@ -1,4 +1,4 @@
-//! A revocation list is prepared for signing, and completed by its signature.
+//! CRLs are prepared for signing, and completed by their signatures.
 ghost use Rattle.std.specs.Prelude.{◌≡◌, false, IfOk, IfErr, OnOk};
 ghost use Rattle.rpki_der.specs.Writers.{SaysLong};
 ghost use Rattle.rpki_parts.specs.Conditions.{Tests};
@@ -87,7 +87,7 @@ fn check<V: Verifier>(
     Ok(())
 }
 
-/// A revocation list that only lacks its signature.
+/// A CRL that only lacks its signature.
 #[derive(Drop)]
 pub struct PreparedList {
     unsigned: Crl,
@@ -105,15 +105,15 @@ impl Model for PreparedList {
 }
 
 impl PreparedList {
-    /// Returns the fields.
+    /// Returns the fields of the to-be-signed part.
     pub fn as_cert_list(&self) -> &TbsCertList<RevokedCertificates>
         ensures { result.now ≡ self.now }
     {
         self.unsigned.as_cert_list()
     }
 
-    /// Returns what is to be signed: the TBSCertList with these fields, its identifier and length
-    /// included (RFC 5280 5.1.1.3).
+    /// Returns the octets to sign: the TBSCertList with these fields, with its identifier and
+    /// length (RFC 5280 5.1.1.3).
     pub fn octets(&self) -> &[u8]
         ensures octets { result.now ≡ list_encoding self.now }
         ensures written { ListFits self.now }
@@ -122,9 +122,25 @@ impl PreparedList {
     }
 }
 
-/// Prepares a revocation list with these fields for signing: Ok exactly where only a signature is
-/// missing. The fields can be written, the list names the issuer's key, and this moment is between
-/// its two updates (RFC 5280 5.1.2.4, 5.1.2.5). Errs with the first of these that fails.
+/// Prepares a CRL with these fields for signing. Returns it if and only if nothing but the
+/// signature is missing.
+///
+/// The fields can be written, the CRL names the issuer's key, and `now` is between thisUpdate and
+/// nextUpdate (RFC 5280 5.1.2.4, 5.1.2.5).
+///
+/// # Errors
+///
+/// Returns the first error:
+///
+/// - `TooLong` if the CRL would be too long
+/// - `Invalid` with `WrongKeyId` if the CRL doesn't name the issuer's key
+/// - `Invalid` with `Stale` if `now` isn't between the two updates
+/// - `Memory` if memory runs out
+///
+/// # Not checked
+///
+/// Whether the CRL number is greater than the previous CRL's ([`crate::next_list`] does), and
+/// whether the issuer is valid at `now`.
 pub fn prepare_list(
     alloc: Global,
     fields: &TbsCertList<RevokedCertificates>,
@@ -147,11 +163,25 @@ pub fn prepare_list(
     }
 }
 
-/// Completes a list that was prepared with the octets of its signature: where it is still ready
-/// below this issuer at this moment, Ok exactly where the verifier says that the issuer's key
-/// signed [`PreparedList::octets`]. The list is read again from its own octets, and is current.
-/// Below this issuer each serial number that isn't on it passes the checks of [`rpki_crl::CrlStore::check`], and each
-/// that is on it fails as revoked. Errs with the first fault.
+/// Completes a prepared CRL with the octets of its signature. Returns the CRL.
+///
+/// If the CRL is still ready below this issuer at `now`, the result is `Ok` if and only if the
+/// verifier accepts `signature` as one of [`PreparedList::octets`] by the issuer's key. The CRL is
+/// decoded again from its own octets, and is current. Below this issuer each serial number that
+/// isn't on it passes the checks of [`rpki_crl::CrlStore::check`], and each that is on it fails as
+/// `Revoked`.
+///
+/// # Errors
+///
+/// Returns the first error:
+///
+/// - `TooLong` if the CRL would be too long
+/// - `Invalid` with `WrongKeyId`, `BadSignature` or `Stale` if that check fails
+/// - `Memory` if memory runs out
+///
+/// # Not checked
+///
+/// As [`prepare_list`].
 pub fn complete_list<V: Verifier>(
     alloc: Global,
     prepared: &PreparedList,

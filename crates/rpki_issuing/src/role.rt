@@ -1,4 +1,4 @@
-//! What a certificate is issued as.
+//! The role in which a certificate is issued.
 ghost use Rattle.std.specs.Prelude.{IfErr, OnOk};
 ghost use Rattle.rpki_cert.specs.Verification.{context};
 ghost use Rattle.rpki_issuing.specs.Roles.{GetsNumbers, IsValidAs, IsInvalidAs};
@@ -9,25 +9,34 @@ use rpki_der::Time;
 use rpki_parts::Verifier;
 use std::alloc::Global;
 
-/// What a certificate is issued as: of which kind, and below which issuer.
+/// The role in which a certificate is issued: its kind, and its issuer.
 #[derive(Clone, Copy, Drop)]
 pub enum Role<'i> {
     /// A trust anchor, which signs itself.
     Anchor,
-    /// A CA below this one.
+    /// A CA below this issuer.
     Authority(&'i ResourceCert),
-    /// An end entity, which signs an object that its certificate names.
+    /// An end entity, which signs an object that its certificate names (RFC 6487 4.8.8.2).
     EndEntity(&'i ResourceCert),
-    /// An end entity that signs any object.
+    /// An end entity whose certificate needn't name an object (RFC 6487 4.8.8.2 requires one).
     Detached(&'i ResourceCert),
     /// A BGPsec router (RFC 8209).
     Router(&'i ResourceCert),
 }
 
 impl Role<'_> {
-    /// Validates the certificate in this role, and keeps it: inspects it as one of the kind, and
-    /// then verifies it, as [`Cert::validate_ca_at`] and its siblings do. Errs with the first
-    /// fault.
+    /// Validates the certificate in this role, without consuming it: inspects it as one of the
+    /// role's kind, and then verifies it below the issuer, as [`Cert::validate_ca_at`] and its
+    /// siblings do.
+    ///
+    /// # Errors
+    ///
+    /// Returns the first error: `Invalid` if the profile or a check fails, and `Memory` if memory
+    /// runs out.
+    ///
+    /// # Not checked
+    ///
+    /// As [`prepare`](crate::prepare).
     pub fn validate<V: Verifier>(
         &self,
         alloc: Global,

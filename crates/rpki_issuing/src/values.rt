@@ -1,4 +1,4 @@
-//! Values that a person gives as texts: serial numbers, URIs, and blocks of addresses and of AS
+//! Values that a person writes as texts: serial numbers, URIs, and blocks of addresses and of AS
 //! numbers.
 
 mod families;

@@ -1,5 +1,5 @@
-//! Certificates and revocation lists that are wanted: their values, the fields that these make,
-//! what is to be signed of them, and what is completed by its signature.
+//! Certificates and CRLs made of the values that a person chooses: their fields, the octets to
+//! sign, and the octets of the certificate or CRL that a signature completes.
 
 pub mod issuers;
 mod lists;

@@ -1,18 +1,23 @@
-//! What copies and equality of values promise, each in a function that only asks.
+//! What copies and equality of values promise, each as the contract of a function that only calls
+//! them.
 
 ghost use Rattle.std.specs.Prelude.{◌≡◌, ◌↔◌, IsTrue, IsOkAnd};
 
 use crate::running::Status;
 use std::alloc::AllocError;
 
-/// A copy of a status is the same status.
+/// Copies a status. The copy is the same status.
+///
+/// # Errors
+///
+/// None: the contract promises `Ok`.
 pub fn copied_status(status: &Status) -> Result<Status, AllocError>
     ensures { IsOkAnd result (λ copy. copy ≡ status.now) }
 {
     status.clone()
 }
 
-/// Statuses are equal where they are the same.
+/// Compares two statuses. They are equal if and only if they are the same.
 pub fn equal_statuses(one: &Status, other: &Status) -> bool
     ensures { IsTrue result ↔ one.now ≡ other.now }
 {

@@ -27,11 +27,20 @@ fn status_of(answer: Result<Status, RunFault>) -> u8
     }
 }
 
-/// Reads the input to its end and writes the answer to the output, as [`run`] does. The exit status
-/// is 0 where the question was answered, 1 where octets were rejected, 2 where the input doesn't
-/// have its form, and 3 after a fault, of which this status alone tells.
+/// Reads the input to its end and writes the answer to the output, as [`run`] does. Returns the
+/// exit status:
 ///
-/// What became of the input and the output shows in the two that are lent.
+/// - 0 if the question was answered
+/// - 1 if the answer is `refused`: octets were rejected
+/// - 2 if the input doesn't have its form
+/// - 3 if reading, writing or memory failed, or if the input is too long; nothing else reports
+///   which
+///
+/// The reader and the writer that are lent show what was read and what was written.
+///
+/// # Not checked
+///
+/// Signatures: the line program checks dummy signatures ([`rpki_parts::StandIn`]).
 pub fn program<R: Read, W: Write>(
     alloc: Global,
     reader: &mut Watched<R>,

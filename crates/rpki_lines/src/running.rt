@@ -1,4 +1,4 @@
-//! From the octets of a reader to those of a writer.
+//! One run of the line program: from the octets of a reader to those of a writer.
 ghost use Rattle.std.specs.Prelude.{◌≡◌, ◌≢◌, ◌↔◌, ◌⊎◌, ◌+◌, ◌^◌, ◌≤◌, length, IfOk, OnOk, IsErr, IfErr, IsErrOf};
 ghost use Rattle.std.specs.Io.KnownBytes.{Appends, Consumes, IsAtEnd};
 ghost use Rattle.rpki_lines.specs.Watching.{device, HasFailed, Takes, TakesAtMost};
@@ -14,30 +14,30 @@ use thiserror::Error;
 /// The most octets that an input may have: 2^24.
 pub const MAX_INPUT: usize = 0x100_0000;
 
-/// How a run ended that has an answer.
+/// How a run ended that wrote an answer.
 #[derive(Clone, Copy, Debug, PartialEq, Eq)]
 pub enum Status {
     /// The question was answered.
     Done,
-    /// Octets that were to be read don't have their form.
+    /// The answer is `refused`: the octets of the question are no list, or no valid path.
     Refused,
-    /// The input doesn't have its form.
+    /// The input doesn't have its form; the answer is `bad input` and a line's number.
     BadInput,
 }
 
-/// Why a run has no answer.
+/// The error of a run without an answer.
 #[derive(Debug, Drop, Error)]
 pub enum RunFault {
-    /// The reader has failed.
+    /// The reader failed.
     #[error("the input couldn't be read")]
     Read,
-    /// The writer has failed.
+    /// The writer failed, or wrote nothing. A part of the answer may be written.
     #[error("the output couldn't be written")]
     Write,
     /// Memory ran out.
     #[error("out of memory")]
     Memory,
-    /// The reader gave more than 2^24 octets.
+    /// The input has more than [`MAX_INPUT`] octets.
     #[error("the input is too long")]
     TooLong,
 }
@@ -59,7 +59,7 @@ impl RunFault {
         }
     }
 
-    /// Tells whether memory ran out.
+    /// Returns whether memory ran out.
     pub fn is_memory(&self) -> bool
         ensures { IsTrue result ↔ self.now ≡ fault.Memory }
     {
@@ -81,22 +81,48 @@ impl From<AllocError> for RunFault {
     }
 }
 
-/// Reads the whole input, and then writes what answers it. The last line's end may be absent.
-/// Octets are in hexadecimal digits, or `-` for none.
+/// Reads the whole input and writes its answer. The end of the last line may be absent. Octets are
+/// written in hexadecimal digits, or as `-` if there are none.
 ///
-/// A line `revoked LIST SERIAL` asks whether a list of revoked certificates (RFC 5280 5.1) has a
-/// serial number, which is below 2^160. The answer is `yes` or `no`, or `refused decode` and a
-/// fault's name, where the octets aren't a list.
+/// The line `revoked LIST SERIAL` asks whether a list of revoked certificates
+/// (`revokedCertificates`, RFC 5280 5.1) has a serial number, which is below 2^160. The answer is
+/// one of:
 ///
-/// The lines `at YYYYMMDDhhmmss`, `strict` or `lenient`, `ta HEX`, any number of `ca HEX`, and at
-/// most one `ee HEX` or `detached HEX` ask whether these strings are a valid path at that moment,
-/// where signatures are those of the stand-in. The answer is `stand-in signatures`, and then
-/// `accepted` and the lines `v4`, `v6` and `as` with the ranges that the last member holds, or
-/// `none`; or `refused`, the place of the first wrong member (the trust anchor's is 0), `decode`,
-/// `inspect` or `verify`, and the fault's name.
+/// - `yes` or `no`
+/// - `refused decode` and an error's name, if the octets aren't a list
 ///
-/// To any other input it writes `bad input` and the number of the first line that doesn't fit, or
-/// that is missing.
+/// These lines ask whether strings are a valid path at that time, with dummy signatures:
+///
+/// - `at YYYYMMDDhhmmss`
+/// - `strict` or `lenient`
+/// - `ta HEX`
+/// - any number of `ca HEX`
+/// - at most one `ee HEX` or `detached HEX`
+///
+/// The answer's first line is `stand-in signatures`. Then one of these follows:
+///
+/// - `accepted`, and the lines `v4`, `v6` and `as` with the ranges that the last certificate holds,
+///   or `none`
+/// - `refused`, the path index of the first wrong certificate (the trust anchor's is 0), `decode`,
+///   `inspect` or `verify`, and the error's name
+///
+/// The answer to any other input is `bad input` and the number of the first line that doesn't fit,
+/// or that is missing.
+///
+/// # Errors
+///
+/// Returns one of these:
+///
+/// - `Read` if and only if the reader failed
+/// - `Write` if and only if the writer failed
+/// - `TooLong` if the input has more than [`MAX_INPUT`] octets
+/// - `Memory` if memory runs out
+///
+/// Nothing is written before an error other than `Write`.
+///
+/// # Not checked
+///
+/// Signatures (see above), CRLs, and whether names chain.
 pub fn run<R: Read, W: Write>(
     alloc: Global,
     reader: &mut Watched<R>,

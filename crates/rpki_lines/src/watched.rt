@@ -1,4 +1,4 @@
-//! A reader or a writer that remembers whether it has failed.
+//! A reader or a writer that remembers whether it failed.
 ghost use Rattle.std.specs.Prelude.{◌≡◌, ◌≢◌, ◌↔◌, ◌⊎◌, [], Ok, IsErr, IsTrue};
 ghost use Rattle.std.specs.Io.{ReadsAtMost, WritesAtMost};
 ghost use Rattle.std.specs.Io.KnownBytes.{ReadConsumes, WriteAppends};
@@ -7,10 +7,10 @@ ghost use Rattle.rpki_lines.specs.Watching.{device, HasFailed};
 use std::io;
 use std::io::{Read, Write};
 
-/// A reader or a writer, and whether a call of it has failed.
+/// A reader or a writer, and whether one of its calls failed.
 ///
-/// Each call is passed on. From the first that answered an `Err`, or that wrote nothing of a slice
-/// that isn't empty, it has failed for good.
+/// Each call is passed on. It counts as failed, for good, from the first call that returned an
+/// `Err`, or that wrote nothing of a slice that isn't empty.
 #[derive(Drop)]
 pub struct Watched<T> {
     inner: T,
@@ -18,7 +18,7 @@ pub struct Watched<T> {
 }
 
 impl<T> Watched<T> {
-    /// Watches a reader or a writer, which hasn't failed yet.
+    /// Wraps a reader or a writer, which hasn't failed yet.
     pub fn new(inner: T) -> Watched<T>
         ensures device { device result ≡ inner }
         ensures unfailed { HasFailed result → ⊥ }
@@ -26,7 +26,7 @@ impl<T> Watched<T> {
         Watched { inner, works: true }
     }
 
-    /// Returns whether a call of it has failed.
+    /// Returns whether one of its calls failed.
     pub fn failed(&self) -> bool
         ensures { IsTrue result ↔ HasFailed self.now }
     {
@@ -35,7 +35,12 @@ impl<T> Watched<T> {
 }
 
 impl<T: Read> Watched<T> {
-    /// Reads into the slice. Returns how many octets were read: none at the end.
+    /// Reads into the slice. Returns how many octets were read; 0 of a slice that isn't empty means
+    /// the end.
+    ///
+    /// # Errors
+    ///
+    /// Returns the reader's error.
     pub fn read(&mut self, buf: &mut [u8]) -> io::Result<usize>
         ensures bound { ReadsAtMost result buf.new }
         ensures bytes { ReadConsumes
@@ -51,7 +56,11 @@ impl<T: Read> Watched<T> {
 }
 
 impl<T: Write> Watched<T> {
-    /// Writes a front of the slice. Returns how many octets were written.
+    /// Writes octets from the start of the slice. Returns how many were written.
+    ///
+    /// # Errors
+    ///
+    /// Returns the writer's error.
     pub fn write(&mut self, buf: &[u8]) -> io::Result<usize>
         ensures bound { WritesAtMost result buf.now }
         ensures bytes { WriteAppends

@@ -1,4 +1,4 @@
-//! Revocation lists (RFC 5280 5, RFC 6487 5).
+//! CRLs (RFC 5280 5, RFC 6487 5).
 pub use rpki_crl::{
     Crl, CrlEntry, CrlStore, InvalidExtension, RevocationError, RevokedCertificates,
     RevokedCertificatesIter, TbsCertList,

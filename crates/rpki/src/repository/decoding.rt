@@ -1,4 +1,4 @@
-//! Certificates and revocation lists decoded, and where the reading of other octets stops.
+//! Decoding of certificates and CRLs that reports at which octet decoding fails.
 pub use rpki_files::{
     ExtensionFlaw, Flaw, Misread, Place, SerialFlaw, TimeFlaw, VersionFlaw, decode_cert, decode_crl,
 };

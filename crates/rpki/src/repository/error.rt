@@ -1,2 +1,2 @@
-//! Why a certificate isn't accepted.
+//! The errors of rejected certificates.
 pub use rpki_cert::{InspectionError, ValidationError, VerificationError};

@@ -1,4 +1,4 @@
-//! Single extensions, read and written, and the sequence of those of a certificate.
+//! Single extensions, decoded and encoded, and the sequence of a certificate's extensions.
 pub use rpki_ext::{
     Extensions, encode_authority_information_access, encode_authority_key_identifier,
     encode_basic_constraints, encode_certificate_policies, encode_crl_distribution_points,

@@ -1,5 +1,5 @@
-//! Folders of certificates and revocation lists, in no order, and the walk down from a trust anchor
-//! (RFC 6487 7.2, RFC 8630 3).
+//! Folders of certificates and CRLs, in any order, and the walk down from a trust anchor (RFC 6487
+//! 7.2, RFC 8630 3).
 pub use rpki_folder::{
     Accepted, Added, Admission, AllAdmitted, Bounds, Ended, Filed, Folder, Found, FoundPath, Line,
     Lines, Visitor, Walk, WalkError,

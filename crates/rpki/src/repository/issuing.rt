@@ -1,6 +1,6 @@
-//! Issuing where the key is elsewhere: what is to be signed is prepared, and what comes back is
-//! completed once it verifies. Beside it the next list of an issuer, and a signer whose signatures
-//! are verified before they are handed on.
+//! Issuing with a key that is elsewhere: a certificate or CRL is prepared for signing, and
+//! completed by its signature once that verifies. `next_list` makes an issuer's next CRL, and
+//! `Checked` is a signer that verifies each signature before it returns it.
 pub use rpki_issuing::{
     Checked, CheckedError, IssuingError, ListError, NextListError, Prepared, PreparedList, Role,
     complete, complete_list, next_list, prepare, prepare_list,

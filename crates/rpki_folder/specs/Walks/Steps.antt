@@ -8,7 +8,7 @@ use Rattle.rpki_path.specs.declared.judging.Judged.{Judged}
 use Rattle.rpki_path.specs.declared.path_fault.PathFault.{PathFault}
 use Rattle.rpki_path.specs.declared.path_fault.PathFault.TheVariants.{Memory}
 use Rattle.rpki_path.specs.declared.located.LocatedError.{LocatedError}
-use Rattle.rpki_path.specs.declared.located.LocatedError.TheVariants.{OtherKey, Path as path}
+use Rattle.rpki_path.specs.declared.located.LocatedError.TheVariants.{OtherKey, NoResources, Path as path}
 use Rattle.rpki_path.specs.Paths.{Finds}
 use Rattle.rpki_path.specs.Paths.Steps.{IsIssuedBy}
 use Rattle.rpki_path.specs.Judging.{IsRouterIfAny}
@@ -39,6 +39,7 @@ GoesOn kind verdict None = kind ≡ Authority → IsErr verdict
 -- the error says what was answered of the trust anchor
 abbrev pub IsAtTop : {T : Type 0} → LocatedError → Result T PathFault → Type 0
 IsAtTop OtherKey answer = ⊥
+IsAtTop NoResources answer = ⊥
 IsAtTop (path e) answer = (e.index ≡ 0) × (answer ≡ Err e.fault)
 
 -- the verdict on octets below the issuer, and where the walk goes on

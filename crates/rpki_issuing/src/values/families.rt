@@ -8,7 +8,7 @@ use crate::values::systems::{number, parted};
 use rpki_blocks::{Addr, IpBlock, Prefix};
 use std::net::{Ipv4Addr, Ipv6Addr};
 
-/// The two families of addresses. IPv4 stands in the upper 32 bits.
+/// The two address families. An IPv4 address is in the upper 32 bits of an [`Addr`].
 #[derive(Clone, Copy)]
 pub enum Family {
     V4,
@@ -95,8 +95,8 @@ fn range(family: Family, before: &[u8], behind: &[u8]) -> Option<IpBlock>
     Some(IpBlock::from((first_of(family, first), last_of(family, last))))
 }
 
-/// Reads the addresses that a text says: a prefix, as `192.0.2.0/24`, or the first and the last of
-/// some, as `192.0.2.1-192.0.2.9`.
+/// Parses addresses: a prefix, as `192.0.2.0/24`, whose other bits are 0, or a range, as
+/// `192.0.2.1-192.0.2.9`. Returns `None` if the text has another form.
 pub fn addresses(family: Family, text: &[u8]) -> Option<IpBlock>
     ensures { Finds (λ b. IsAddressesText family b text.now) result }
 {

@@ -1,4 +1,4 @@
-//! What is listed of a kind of numbers, as texts.
+//! Lists of addresses or AS numbers as texts.
 ghost use Rattle.std.specs.Prelude.{◌≡◌, ◌↔◌, ℕ, List, IsTrue, IfOk, map};
 ghost use Rattle.std.specs.List.{AllZip};
 ghost use Rattle.rpki_blocks.specs.Sets.{Block as Span};
@@ -8,11 +8,11 @@ ghost use Rattle.rpki_issuing.specs.OnlyValues.{Finds};
 use rpki_blocks::{Block, BlocksBuilder, Bound, Resources, laws};
 use std::alloc::{AllocError, Global};
 
-/// How blocks of a kind of numbers are written.
+/// How blocks of addresses or of AS numbers are written.
 pub trait BlockText<B: Bound> {
     ghost is_text: { Span → List ℕ → Type 0 };
 
-    /// Reads the one block that the text says.
+    /// Parses a text. Returns its one block, or `None` if it has none.
     fn block(text: &[u8]) -> Option<Block<B>>
         ensures { Finds (λ b. is_text b text.now) result };
 }
@@ -45,7 +45,12 @@ fn blocks_of<B: Bound, T: BlockText<B>>(
     Ok(Some(blocks))
 }
 
-/// Reads what the texts list of a kind of numbers: a block each, or `inherit` alone.
+/// Parses the resources that the texts list: a block each, or `inherit` alone. Returns `None` if a
+/// text has another form.
+///
+/// # Errors
+///
+/// Returns an error if memory runs out.
 pub fn listed<B: Bound, T: BlockText<B>>(
     alloc: Global,
     texts: &[&[u8]],

@@ -48,8 +48,8 @@ fn as_range(before: &[u8], behind: &[u8]) -> Option<AsBlock>
     Some(Block::from((Asn::from(min), Asn::from(max))))
 }
 
-/// Reads the AS numbers that a text says: one, as `64496`, or the first and the last of some, as
-/// `64496-64511`.
+/// Parses AS numbers: one, as `64496`, or a range, as `64496-64511`. Returns `None` if the text has
+/// another form.
 pub fn as_numbers(text: &[u8]) -> Option<AsBlock>
     ensures { Finds (λ b. IsAsText b text.now) result }
 {

@@ -1,4 +1,4 @@
-//! Values that texts say.
+//! Values and their texts.
 ghost use Rattle.std.specs.Prelude.{◌≡◌, ◌⊎◌, ℕ, List, Ok, IfOk, MatchOption};
 ghost use Rattle.hex.specs.Hex.{decode_of};
 ghost use Rattle.rpki_issuing.specs.OnlyValues.{Finds};
@@ -10,11 +10,15 @@ use rpki_der::Serial;
 use rpki_parts::{Https, Rsync};
 use std::alloc::{AllocError, Global};
 
-/// A value that a text says.
+/// A value that a text can have: a URI, or a serial number in hexadecimal digits.
 pub trait Textual: Drop + Sized {
     ghost is_text: { Self → List ℕ → Type 0 };
 
-    /// Reads the one value that the text says.
+    /// Parses a text. Returns its one value, or `None` if it has none.
+    ///
+    /// # Errors
+    ///
+    /// Returns an error if memory runs out.
     fn from_text(alloc: Global, text: &[u8]) -> Result<Option<Self>, AllocError>
         ensures { IfOk result (λ found. Finds (λ v. is_text v text.now) found) };
 }
@@ -50,8 +54,8 @@ impl Textual for Https {
 // The octets of 2^159, the greatest first.
 const LIMIT: [u8; 20] = [128, 0, 0, 0, 0, 0, 0, 0, 0, 0, 0, 0, 0, 0, 0, 0, 0, 0, 0, 0];
 
-/// Returns the serial number of these octets, the greatest first, if a certificate may have it: it
-/// is positive and below 2^159 (RFC 5280 4.1.2.2).
+/// Returns the serial number with these octets, the most significant one first, or `None` if no
+/// certificate may have it: it has to be positive and below 2^159 (RFC 5280 4.1.2.2).
 pub fn serial_of(octets: &[u8]) -> Option<Serial>
     ensures { Finds (λ n. IsAllowedSerial n octets.now) result }
 {

@@ -1,4 +1,4 @@
-//! What is asked of who issues: its fields and its name, and whether a list is one of its own.
+//! The fields and the name of an issuer, and whether a CRL is its own.
 ghost use Rattle.std.specs.Prelude.{◌≡◌, ◌↔◌, option_map, IsTrue};
 ghost use Rattle.rpki_issuing.specs.AskedFields.{issuer_name};
 ghost use Rattle.rpki_issuing.specs.Issuers.{IsNamed, IsOwnList, fields_above};
@@ -30,8 +30,8 @@ fn name_above<'a>(tbs: &'a TbsCert, issuer: Option<&'a ResourceCert>) -> &'a Nam
     }
 }
 
-/// Returns whether the issuer is named as the certificate above, and where there is none as the
-/// subject (RFC 6487 4.4).
+/// Returns whether the certificate's issuer name is the issuer's subject, or its own subject if
+/// there is no issuer (RFC 6487 4.4).
 pub fn is_named(tbs: &TbsCert, issuer: Option<&ResourceCert>) -> bool
     ensures { IsTrue result ↔ IsNamed (option_map (λ r. r.now) issuer.entry) tbs.now }
 {
@@ -39,8 +39,12 @@ pub fn is_named(tbs: &TbsCert, issuer: Option<&ResourceCert>) -> bool
     tbs.issuer().as_bytes() == name.as_bytes()
 }
 
-/// Returns whether the list is one of the issuer: it names the issuer's key, which signed it. It
-/// may be stale.
+/// Returns whether the CRL is one of the issuer: it names the issuer's key, and that key signed it
+/// (RSA, RFC 7935).
+///
+/// # Not checked
+///
+/// The times: the CRL may be stale.
 pub fn is_own(list: &Crl, issuer: &ResourceCert, strict: bool) -> bool
     ensures { IsTrue result ↔ IsOwnList issuer.now.cert.fields list.now.list }
 {

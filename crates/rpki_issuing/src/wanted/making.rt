@@ -1,4 +1,4 @@
-//! The fields of a certificate, of the values that are wanted.
+//! The fields of a certificate, made of the values that a person chooses.
 ghost use Rattle.std.specs.Prelude.{◌≡◌, true, Some, None, option_map, IfOk, MatchOption, if◌then◌else◌};
 ghost use Rattle.rpki_blocks.specs.declared.overclaim.Overclaim.TheVariants.{Refuse, Trim};
 ghost use Rattle.rpki_cert.specs.Making.{new_fields, updated};
@@ -323,8 +323,18 @@ fn names_asked(
     Ok(Some((name, subject)))
 }
 
-/// Makes the fields of the certificate of the kind with these values and this key, below an issuer
-/// where it isn't a trust anchor's. Gives `None` where its subject is no name.
+/// Makes the fields of the certificate of the kind with these values and this key, below `issuer`,
+/// or without an issuer if it is a trust anchor's. If `trims`, a resource that the issuer lacks is
+/// trimmed in validation (RFC 8360); otherwise the certificate is rejected (RFC 6487 7.2). Returns
+/// `None` if the subject isn't a name.
+///
+/// # Errors
+///
+/// Returns an error if memory runs out.
+///
+/// # Not checked
+///
+/// The profile and the issuer: [`prepare_octets`](crate::wanted::prepare_octets) checks them.
 pub fn fields(
     alloc: Global,
     kind: Kind,

@@ -23,26 +23,26 @@ use rpki_keys::RsaVerifier;
 use rpki_path::revocation::RevocationSource;
 use std::alloc::{AllocError, Global};
 
-/// Why nothing is prepared or completed.
+/// The error of a certificate or CRL that isn't prepared or completed.
 #[derive(Drop)]
 pub enum WantedError {
     /// A trust anchor has an issuer, or another certificate has none.
     NoRole,
-    /// A rule for whoever issues it isn't kept.
+    /// The certificate breaks a rule for issuers.
     Broken(IssuingRule),
-    /// The fields aren't ready to be signed.
+    /// The certificate's fields aren't ready to be signed.
     Unready(IssuingError),
-    /// The octets aren't those that are prepared of their fields.
+    /// The octets aren't those that are prepared of the fields.
     OtherOctets,
-    /// The signature isn't one of the octets by the key of who issues.
+    /// The signature isn't one of the octets by the issuer's key.
     Unsigned(IssuingError),
-    /// The lists of its issuer don't leave it unrevoked.
+    /// The issuer's CRLs don't say that the certificate is unrevoked.
     Listed(RevocationError),
-    /// The list that is wanted can't follow the previous one.
+    /// The CRL may not follow the previous one.
     NoList(NextListError),
-    /// The fields of the list aren't ready to be signed.
+    /// The CRL's fields aren't ready to be signed.
     UnreadyList(ListError),
-    /// The signature isn't one of the list's octets by the issuer's key.
+    /// The signature isn't one of the CRL's octets by the issuer's key.
     UnsignedList(ListError),
     /// Memory ran out.
     Memory,
@@ -153,9 +153,25 @@ fn octets_to_sign<R: RevocationSource>(
     }
 }
 
-/// Prepares a certificate of the kind with these fields below an issuer, where it isn't a trust
-/// anchor's: returns the octets that are to be signed, exactly where only the signature is missing,
-/// the rules for whoever issues are kept, and who is asked leaves it unrevoked.
+/// Prepares a certificate of the kind with these fields below `issuer`, or without an issuer if it
+/// is a trust anchor's. Returns the octets to sign.
+///
+/// The result is `Ok` if and only if only the signature is missing, the rules for issuers
+/// ([`IssuingRule`]) are kept, and `asked` leaves the certificate unrevoked.
+///
+/// # Errors
+///
+/// Returns the first error:
+///
+/// - `NoRole` if a trust anchor has an issuer, or another certificate has none
+/// - `Broken` if a rule for issuers is broken
+/// - `Unready` if the certificate wouldn't be valid once it is signed
+/// - `Listed` if `asked` doesn't leave it unrevoked
+/// - `Memory` if memory runs out
+///
+/// # Not checked
+///
+/// Whether the issuer itself is valid: the caller has validated it.
 pub fn prepare_octets<R: RevocationSource>(
     alloc: Global,
     tbs: &TbsCert,
@@ -259,12 +275,31 @@ fn completed(
     }
 }
 
-/// Completes what was prepared of these fields by its signature: returns the octets of the
-/// certificate, exactly where these are the octets that are prepared of the fields, only the
-/// signature is missing, the rules for whoever issues are kept, the key of who issues signed them,
-/// and who is asked leaves the certificate unrevoked. So the octets are accepted: as a trust anchor
-/// alone; as a router below the issuer; or, with whatever strings the issuer is accepted as the
-/// last one of a path, behind them (`accepted`).
+/// Completes a prepared certificate with its signature. Returns the certificate's octets.
+///
+/// The result is `Ok` if and only if all of these are so:
+///
+/// - [`prepare_octets`] accepts the fields
+/// - `octets` are those that it returns
+/// - the issuer's key, or a trust anchor's own key, signed them (RSA, RFC 7935)
+/// - `asked` leaves the certificate unrevoked
+///
+/// The certificate is accepted: alone if it is a trust anchor's, below the issuer if it is a
+/// router's, and else as the last one behind every valid path to the issuer (`accepted`).
+///
+/// # Errors
+///
+/// Returns the first error:
+///
+/// - `NoRole`, `Broken` or `Unready`, as [`prepare_octets`]
+/// - `OtherOctets` if `octets` aren't those that are prepared of the fields
+/// - `Unsigned` if the signature doesn't verify, or if the certificate would be too long
+/// - `Listed` if `asked` doesn't leave it unrevoked
+/// - `Memory` if memory runs out
+///
+/// # Not checked
+///
+/// As [`prepare_octets`].
 pub fn complete_octets<R: RevocationSource>(
     alloc: Global,
     tbs: &TbsCert,

@@ -1,4 +1,4 @@
-//! What is to be signed, read from its octets.
+//! To-be-signed parts, decoded from their octets.
 ghost use Rattle.std.specs.Prelude.{IfOk, MatchOption};
 ghost use Rattle.rpki_cert.specs.Certificates.{TbsFields, IsTbsCertificate};
 
@@ -7,8 +7,16 @@ use rpki_cert::{TbsCert, laws};
 use rpki_der::Cursor;
 use std::alloc::{AllocError, Global};
 
-/// Reads the fields of the TBSCertificate that the octets are. Gives `None` where they are none,
-/// also where one is only their beginning.
+/// Decodes a TBSCertificate. Returns its fields, or `None` if the octets aren't one, also if more
+/// octets follow it.
+///
+/// # Errors
+///
+/// Returns an error if memory runs out.
+///
+/// # Not checked
+///
+/// The profile of any kind.
 pub fn read_tbs(alloc: Global, octets: &Bytes) -> Result<Option<TbsCert>, AllocError>
     ensures { IfOk result (λ found. MatchOption found
         ((f : TbsFields) → IsTbsCertificate f octets.now → ⊥)

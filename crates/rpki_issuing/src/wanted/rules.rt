@@ -1,4 +1,4 @@
-//! What is asked of a certificate only where it is issued.
+//! Rules that a certificate has to keep only if it is issued here.
 ghost use Rattle.std.specs.Prelude.{◌↔◌, option_map, IsTrue};
 ghost use Rattle.rpki_parts.specs.Conditions.{Tests};
 ghost use Rattle.rpki_issuing.specs.IssuingRules.{HasOwnKey, RuleCheck, issuing_rules};
@@ -6,15 +6,15 @@ ghost use Rattle.rpki_issuing.specs.IssuingRules.{HasOwnKey, RuleCheck, issuing_
 use rpki_cert::{Kind, ResourceCert, TbsCert};
 use rpki_der::Serial;
 
-/// A rule for whoever issues a certificate, which no reader checks.
+/// A rule for issuers, which validation doesn't check.
 #[derive(Debug, Clone, Copy)]
 pub enum IssuingRule {
-    /// The serial number is positive (RFC 6487 4.2).
+    /// The serial number has to be positive (RFC 6487 4.2).
     ZeroSerial,
-    /// The validity begins in 1950 or later, as UTCTime is required through 2049 and has no earlier
+    /// notBefore has to be in 1950 or later: UTCTime is required through 2049, and has no earlier
     /// year (RFC 5280 4.1.2.5).
     EarlyValidity,
-    /// A CA has another key than its issuer (own rule).
+    /// A CA has to have another key than its issuer (own rule).
     IssuerKey,
 }
 

@@ -1,10 +1,10 @@
-//! The values of a certificate that are wanted.
+//! The values that a person chooses for a certificate.
 
 use rpki_blocks::{AsResources, IpResources};
 use rpki_der::{Serial, Time};
 use rpki_parts::{Https, Rsync};
 
-/// What is listed of the three kinds of numbers.
+/// The resources: IPv4 addresses, IPv6 addresses, and AS numbers.
 #[derive(Drop)]
 pub struct Numbers {
     pub v4: IpResources,
@@ -12,7 +12,7 @@ pub struct Numbers {
     pub systems: AsResources,
 }
 
-/// The URIs.
+/// The URIs that a certificate names.
 #[derive(Drop)]
 pub struct Places {
     pub repository: Option<Rsync>,

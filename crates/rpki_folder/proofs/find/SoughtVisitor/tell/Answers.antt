@@ -18,5 +18,5 @@ pub returns-clause-ok : goal.returns-clause-ok
 returns-clause-ok c = λ v ts h. (
   h.0,
   (λ none. sought_now v.place ts c.args.above.now c.args.place c.args.verdict c.in_ok-path.path (sym c.in_ok-path.ensures.above) (c.if-place-self.false ∙ h.0)
-      (c.in-Ok.is ∙ ap (λ (j : Judged). Ok j) (sym (c.in_ok-path.ensures.judged ∙ c.in_ok-judged.ensures)))),
+      (c.in-Ok.is ∙ ap (λ (j : Judged). Ok j) (sym c.in_ok-path.ensures.judged))),
 )

@@ -1,62 +1,21 @@
-use Rattle.std.proofs.Common.{◌<◌, ℕ, List, [], ◌∷◌, ◌++◌, length, map, take, get_or, refl, sym, ap, subst, ◌∙◌}
-use Rattle.std.proofs.lemmas.Bool.{both_ways}
-use Rattle.std.proofs.lemmas.List.{map-append, take_all}
-use Rattle.std.proofs.lemmas.List.Elements.{Contains-get_or}
+use Rattle.std.proofs.Common.{List, map, sym, ap, subst}
 use Rattle.rpki_cert.specs.Verification.{context}
 use Rattle.rpki_crl.specs.Lists.{CrlState}
-use Rattle.rpki_folder.specs.IssuerLists.{ArePicked, IsCurrent}
-use Rattle.rpki_folder.proofs.PickedLists.{picked_more, picked_same}
-use Rattle.rpki_folder.proofs.ListPlaces.{lists_at, at_more}
-use Rattle.rpki_folder.proofs.IssuersList.{inside, eligible_there}
+use Rattle.rpki_folder.specs.IssuerLists.{ArePicked, IsOfIssuer}
+use Rattle.rpki_folder.proofs.IssuersList.{eligible_there}
 use Rattle.rpki_folder.proofs.issuer_lists.IssuerLists.new.Goals as goal
-
-pub list_at-list-requires : goal.list_at-list-requires
-list_at-list-requires g c =
-    let places = c.args.places.now in
-    let i = c.loop-place.place-index in
-    inside c.args.lists.now c.args.issuer.now.cert.fields places c.requires (get_or places i 0) (Contains-get_or places i 0 c.loop-place-test.true)
-
-pub loop-place-preserved-then-not-is_current : goal.loop-place-preserved-then-not-is_current
-loop-place-preserved-then-not-is_current g c =
-    let lists = c.args.lists.now in
-    let places = c.args.places.now in
-    let i = c.loop-place.place-index in
-    let place = get_or places i 0 in
-    let l = c.list_at-list.result.now in
-    let current = IsCurrent (g.V.Verifier.verifies c.args.verifier.now) c.args.now c.args.issuer.now.cert.fields in
-    let kept = map (λ r. r.now) c.loop-place.eligible.items in
-    let low : place < length lists = inside lists c.args.issuer.now.cert.fields places c.requires place (Contains-get_or places i 0 c.loop-place-test.true) in
-    let more = at_more lists places i l c.loop-place-test.true low c.list_at-list.ensures in
-    subst (λ (ls : List CrlState). ArePicked current ls kept) (sym more)
-    (picked_same current (lists_at lists (take i places)) kept l c.loop-place.invariant (λ is. both_ways c.is_current.result c.if-not-is_current.true (c.is_current.ensures.1 is)))
-
-pub loop-place-preserved : goal.loop-place-preserved
-loop-place-preserved g c =
-    let lists = c.args.lists.now in
-    let places = c.args.places.now in
-    let i = c.loop-place.place-index in
-    let place = get_or places i 0 in
-    let l = c.list_at-list.result.now in
-    let current = IsCurrent (g.V.Verifier.verifies c.args.verifier.now) c.args.now c.args.issuer.now.cert.fields in
-    let old = c.loop-place.eligible.items in
-    let kept = map (λ r. r.now) old in
-    let low : place < length lists = inside lists c.args.issuer.now.cert.fields places c.requires place (Contains-get_or places i 0 c.loop-place-test.true) in
-    let more = at_more lists places i l c.loop-place-test.true low c.list_at-list.ensures in
-    let longer = ap (λ rs. map (λ r. r.now) rs) c.in_ok-push.ensures.items ∙ map-append (λ r. r.now) old (c.list_at-list.result ∷ []) in
-    subst (λ (ls : List CrlState). ArePicked current ls (map (λ r. r.now) c.push.new.self.items)) (sym more)
-    (subst (λ (ks : List CrlState). ArePicked current (lists_at lists (take i places) ++ l ∷ []) ks) (sym longer)
-    (picked_more current (lists_at lists (take i places)) kept l c.loop-place.invariant (c.if-not-is_current.ensures.0 refl)))
 
 pub returns : goal.returns
 returns g c = λ strict.
     let x = context (g.V.Verifier.verifies c.args.verifier.now) c.args.now strict in
     let lists = c.args.lists.now in
-    let places = c.args.places.now in
     let issuer = c.args.issuer.now.cert.fields in
-    let kept = map (λ r. r.now) c.loop-place.eligible.items in
-    let current = IsCurrent x.verifies x.now issuer in
-    let all = take_all c.loop-place.place-index places c.loop-place-test.false ∙ c.requires in
+    let names = c.args.names in
+    let of_issuer = λ (ls : List CrlState). ArePicked (IsOfIssuer names issuer) lists ls in
+    let first = ap (λ rs. map (λ r. r.now) rs) c.deref.ensures.value in
+    let second = ap (λ rs. map (λ r. r.now) rs) c.deref-2.ensures.value in
     record {
-      eligible = eligible_there x lists issuer kept (subst (λ (ps : List ℕ). ArePicked current (lists_at lists ps) kept) all c.loop-place.invariant);
-      otherwise = c.why_none-otherwise.ensures strict;
+      eligible = eligible_there names x lists issuer (map (λ r. r.now) c.deref.result.now) (map (λ r. r.now) c.in_ok-eligible.eligible.items)
+          (subst of_issuer (sym first) c.in_ok-named.ensures) c.in_ok-eligible.ensures;
+      otherwise = c.why_none-otherwise.ensures names strict (subst of_issuer (sym second) c.in_ok-named.ensures);
     }

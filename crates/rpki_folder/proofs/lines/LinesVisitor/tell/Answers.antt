@@ -18,7 +18,7 @@ pub returns-in-Ok-clause-ok : goal.returns-in-Ok-clause-ok
 returns-in-Ok-clause-ok c = λ v ts h.
     let lines = c.accept.new.self in
     subst (λ (r : Result Judged PathFault). OnOk c.accept.result ((length lines ≡ length v) × (AreLines [] v → AreLines (ts ++ told c.args.above.now c.args.place r ∷ []) lines))) (sym c.in-Ok.is)
-    (when_ok (length lines ≡ length v) (AreLines [] v) (AreLines (ts ++ told c.args.above.now c.args.place (Ok c.in-Ok.field-0) ∷ []) lines) c.accept.result (c.accept.ensures.count ∙ h.0) (λ (none : AreLines [] v). c.accept.ensures.ok ts c.in-Ok.field-0 (h.1 none)))
+    (when_ok (length lines ≡ length v) (AreLines [] v) (AreLines (ts ++ told c.args.above.now c.args.place (Ok c.in-Ok.accepted) ∷ []) lines) c.accept.result (c.accept.ensures.count ∙ h.0) (λ (none : AreLines [] v). c.accept.ensures.ok ts (h.1 none)))
 
 pub returns-in-Err-clause-ok : goal.returns-in-Err-clause-ok
 returns-in-Err-clause-ok c = λ v ts h. (

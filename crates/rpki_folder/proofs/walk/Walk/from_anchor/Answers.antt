@@ -1,7 +1,12 @@
-use Rattle.std.proofs.Common.{[], arith}
-use Rattle.rpki_cert.specs.Verification.{context}
-use Rattle.rpki_path.specs.AskedLists.{by_lists}
-use Rattle.rpki_folder.specs.Walks.{at_anchor, AreUsedUp, IsTooDeep, IsComplete}
+use Rattle.std.specs.Prelude.{Result}
+use Rattle.std.proofs.Common.{◌≡◌, List, ℕ, [], arith, subst}
+use Rattle.rpki_cert.specs.Certificates.{CertFields}
+use Rattle.rpki_cert.specs.Verification.{Context, context}
+use Rattle.rpki_path.specs.Asking.{RevocationChecks}
+use Rattle.rpki_path.specs.AskedLists.{by_named_lists}
+use Rattle.rpki_folder.specs.Walks.{Root, at_anchor, Told, Tells, AreUsedUp, IsTooDeep, IsComplete, IsLookedAt}
+use Rattle.rpki_folder.specs.declared.bounds.Ended.{Ended}
+use Rattle.rpki_folder.proofs.AnchorSteps.{anchor_is}
 use Rattle.rpki_folder.proofs.Descent.{if_err}
 use Rattle.rpki_folder.proofs.walk.Walk.from_anchor.Goals as goal
 
@@ -9,42 +14,67 @@ pub returns-in_err-issuer-clause-tells : goal.returns-in_err-issuer-clause-tells
 returns-in_err-issuer-clause-tells g c =
     let w = c.args.self.now in
     let x = context (g.V.Verifier.verifies w.verifier.now) w.at w.strict in
-    let root = at_anchor c.args.tal.now c.args.anchor.now in (
+    let root = at_anchor c.args.tal.now c.args.anchor.now in
+    let certs = w.folder.now.certs in (
       [],
       g.met.W.Visitor.begins c.args.visitor.now,
-      record {
-        right = tt;
-        few = omega arith;
-        used_up = if_err (AreUsedUp w.bounds.steps []) c.from_residual.result c.from_residual.ensures.0;
-        too_deep = if_err (IsTooDeep x (by_lists x w.folder.now.lists) (g.A.Admission.admits w.admission.now) root w.folder.now.certs [] w.bounds.depth) c.from_residual.result c.from_residual.ensures.0;
-        complete = if_err (IsComplete x (by_lists x w.folder.now.lists) (g.A.Admission.admits w.admission.now) root w.folder.now.certs [] w.bounds.depth []) c.from_residual.result c.from_residual.ensures.0;
-      },
+      (λ top begins.
+          let admits = IsLookedAt w.names (g.A.Admission.admits w.admission.now) top certs in
+          record {
+            right = tt;
+            let_in = tt;
+            few = omega arith;
+            used_up = if_err (AreUsedUp w.bounds.steps []) c.from_residual.result c.from_residual.ensures.0;
+            too_deep = if_err (IsTooDeep x (by_named_lists w.names x w.folder.now.lists) admits root certs [] w.bounds.depth) c.from_residual.result c.from_residual.ensures.0;
+            complete = if_err (IsComplete x (by_named_lists w.names x w.folder.now.lists) admits root certs [] w.bounds.depth []) c.from_residual.result c.from_residual.ensures.0;
+          }),
     )
 
 pub returns-in_err-ended-clause-tells : goal.returns-in_err-ended-clause-tells
 returns-in_err-ended-clause-tells g c =
     let w = c.args.self.now in
     let x = context (g.V.Verifier.verifies w.verifier.now) w.at w.strict in
+    let asked = by_named_lists w.names x w.folder.now.lists in
     let root = at_anchor c.args.tal.now c.args.anchor.now in
+    let certs = w.folder.now.certs in
     let b = c.in_err-ended.ensures.tells in
-    let t = b.2.2 root c.in_ok-issuer.ensures.ok in (
+    let leads = c.in_ok-issuer.ensures.ok in
+    let t = b.2.2 root leads in (
       b.0,
       b.1,
-      record {
-        right = t.right;
-        few = t.few;
-        used_up = if_err (AreUsedUp w.bounds.steps b.0) c.from_residual-in_err-ended.result c.from_residual-in_err-ended.ensures.0;
-        too_deep = if_err (IsTooDeep x (by_lists x w.folder.now.lists) (g.A.Admission.admits w.admission.now) root w.folder.now.certs [] w.bounds.depth) c.from_residual-in_err-ended.result c.from_residual-in_err-ended.ensures.0;
-        complete = if_err (IsComplete x (by_lists x w.folder.now.lists) (g.A.Admission.admits w.admission.now) root w.folder.now.certs [] w.bounds.depth b.0) c.from_residual-in_err-ended.result c.from_residual-in_err-ended.ensures.0;
-      },
+      (λ top begins.
+          let is = anchor_is x asked c.args.tal.now c.args.anchor.now c.in_ok-issuer.issuer leads c.unambiguous.ensures.certificate top begins in
+          subst (λ (d : CertFields). Tells x asked (IsLookedAt w.names (g.A.Admission.admits w.admission.now) d certs) root certs [] w.bounds.depth w.bounds.steps c.from_residual-in_err-ended.result b.0) is
+          (record {
+            right = t.right;
+            let_in = t.let_in;
+            few = t.few;
+            used_up = if_err (AreUsedUp w.bounds.steps b.0) c.from_residual-in_err-ended.result c.from_residual-in_err-ended.ensures.0;
+            too_deep = if_err (IsTooDeep x asked (IsLookedAt w.names (g.A.Admission.admits w.admission.now) c.in_ok-issuer.issuer.cert certs) root certs [] w.bounds.depth) c.from_residual-in_err-ended.result c.from_residual-in_err-ended.ensures.0;
+            complete = if_err (IsComplete x asked (IsLookedAt w.names (g.A.Admission.admits w.admission.now) c.in_ok-issuer.issuer.cert certs) root certs [] w.bounds.depth b.0) c.from_residual-in_err-ended.result c.from_residual-in_err-ended.ensures.0;
+          })),
     )
+
+under : {E : Type 0} (x : Context) (asked : RevocationChecks) (looked : CertFields → List ℕ → ℕ → Type 0) (root : Root) (certs : List (List ℕ)) (depth steps : ℕ) (result : Result Ended E) (ts : List Told) (one other : CertFields) → one ≡ other → Tells x asked (looked one) root certs [] depth steps result ts → Tells x asked (looked other) root certs [] depth steps result ts
+under x asked looked root certs depth steps result ts one other is t = subst (λ (d : CertFields). Tells x asked (looked d) root certs [] depth steps result ts) is t
 
 pub returns-clause-tells : goal.returns-clause-tells
 returns-clause-tells g c =
+    let w = c.args.self.now in
+    let x = context (g.V.Verifier.verifies w.verifier.now) w.at w.strict in
+    let asked = by_named_lists w.names x w.folder.now.lists in
     let root = at_anchor c.args.tal.now c.args.anchor.now in
+    let certs = w.folder.now.certs in
     let b = c.in_ok-ended.ensures.tells in
-    let t = b.2.2 root c.in_ok-issuer.ensures.ok in
-    (b.0, b.1, record { right = t.right; few = t.few; used_up = t.used_up; too_deep = t.too_deep; complete = t.complete })
+    let leads = c.in_ok-issuer.ensures.ok in
+    let t = b.2.2 root leads in (
+      b.0,
+      b.1,
+      (λ top begins.
+          let is = anchor_is x asked c.args.tal.now c.args.anchor.now c.in_ok-issuer.issuer leads c.unambiguous.ensures.certificate top begins in
+          let u = under x asked (λ (d : CertFields). IsLookedAt w.names (g.A.Admission.admits w.admission.now) d certs) root certs w.bounds.depth w.bounds.steps _ b.0 c.in_ok-issuer.issuer.cert top is t in
+          record { right = u.right; let_in = u.let_in; few = u.few; used_up = u.used_up; too_deep = u.too_deep; complete = u.complete }),
+    )
 
 pub returns-clause-anchor : goal.returns-clause-anchor
-returns-clause-anchor g c = (c.in_ok-issuer.issuer, c.in_ok-issuer.ensures.ok)
+returns-clause-anchor g c = (c.in_ok-issuer.issuer, c.in_ok-issuer.ensures.ok, c.in_ok-issuer.ensures.named)

@@ -1,0 +1,28 @@
+//! Who an issuer is, and whether it stands above already.
+ghost use Rattle.std.specs.Prelude.{◌≡◌, ◌↔◌, IsTrue};
+ghost use Rattle.rpki_path.specs.Repeats.{AreOneEntity};
+
+use rpki_cert::Cert;
+use rpki_parts::PublicKey;
+
+// Whether the keys are one: their algorithm and their bits are.
+fn is_one_key(one: &PublicKey, other: &PublicKey) -> bool
+    ensures { IsTrue result ↔ one.now ≡ other.now }
+{
+    one.algorithm() == other.algorithm() && one.bits() == other.bits()
+}
+
+/// Tells whether two certificates are of one entity: they have one key, and one subject if names
+/// are checked.
+pub(crate) fn are_one_entity(one: &Cert, other: &Cert, names: bool) -> bool
+    ensures { IsTrue result ↔ AreOneEntity names one.now other.now }
+{
+    let (one, other) = (one.as_tbs(), other.as_tbs());
+    if !is_one_key(
+        one.subject_public_key_info(),
+        other.subject_public_key_info(),
+    ) {
+        return false;
+    }
+    !names || one.subject().as_bytes() == other.subject().as_bytes()
+}

@@ -1,0 +1,3 @@
+pub mod AlikeFaults
+pub mod IsolatedWalks
+pub mod AddedFiles

@@ -1,0 +1,88 @@
+-- What a walk tells below the paths that are none of strangers, and when two walks tell alike of them
+-- (own). Strangers of rpki_folder has what strangers add, and which paths these are.
+use Rattle.std.specs.Prelude.{◌≡◌, ◌⊎◌, ◌↔◌, ◌≤◌, ℕ, Bool, List, Any, Contains, Result, Ok, Err}
+use Rattle.rpki_blocks.specs.Sets.{Has}
+use Rattle.rpki_parts.specs.Keys.{KeyFields}
+use Rattle.rpki_cert.specs.Certificates.{CertFields}
+use Rattle.rpki_cert.specs.Verification.{Context, ResourceFields}
+use Rattle.rpki_crl.specs.declared.revocation_error.RevocationError.TheVariants.{NoCrl, BadSignature, Stale, WrongIssuer}
+use Rattle.rpki_keys.specs.Locators.{NamedTal}
+use Rattle.rpki_path.specs.AskedLists.{HaveNone, IsEligibleNamed, by_named_lists}
+use Rattle.rpki_path.specs.declared.judging.Judged.{Judged}
+use Rattle.rpki_path.specs.declared.path_fault.PathFault.{PathFault}
+use Rattle.rpki_path.specs.declared.path_fault.PathFault.TheVariants.{Revocation}
+use Rattle.rpki_path.specs.Paths.{Path, last, certificate_at, IsPathOf}
+use Rattle.rpki_folder.specs.Folders.{FolderFields, cas_at}
+use Rattle.rpki_folder.specs.Walks.{StandsAt, Told, TellsFrom}
+use Rattle.rpki_folder.specs.declared.bounds.Ended.{Ended}
+use Rattle.rpki_folder.specs.declared.walk_error.WalkError.{WalkError}
+
+-- ---- a walk, and what it told
+
+-- a walk below this trust anchor, through all certificates of the folder and with its lists, that
+-- ended, and what it told; whether names are asked is the caller's to say
+pub record Walked (x : Context) (names : Bool) (t : NamedTal) (anchor : List ℕ)
+    (folder : FolderFields) : Type 0 where
+  pub depth : ℕ
+  pub steps : ℕ
+  pub ended : Ended
+  pub verdicts : List Told
+  pub tells : TellsFrom {E = WalkError} x (by_named_lists names x folder.lists) names
+      (λ above place. Unit {0}) t anchor folder.certs depth steps (Ok ended) verdicts
+
+-- among what was told is this verdict on the certificate, below the CAs of the path
+pub record IsToldOf (anchor : List ℕ) (certs : List (List ℕ)) (ts : List Told) (p : Path)
+    (c : CertFields) (verdict : Result Judged PathFault) : Type 0 where
+  pub above : List ℕ
+  pub place : ℕ
+  pub path_of : IsPathOf anchor (cas_at certs above) p
+  pub stands : StandsAt certs place c
+  pub among : Any (λ t. (t.above ≡ above) × (t.place ≡ place) × (t.verdict ≡ verdict)) ts
+
+-- among what was told is that it is accepted there
+abbrev pub IsAcceptedBelow : List ℕ → List (List ℕ) → List Told → Path → CertFields → Type 0
+IsAcceptedBelow anchor certs ts p c = (j : Judged) × IsToldOf anchor certs ts p c (Ok j)
+
+-- ---- paths that are none of theirs
+
+-- no CA of the path, the trust anchor among them, has one of these keys
+abbrev pub IsAllFreeOf : List KeyFields → Path → Type 0
+IsAllFreeOf keys p = (i : ℕ) → i ≤ last p → Contains keys (certificate_at p i).fields.key → ⊥
+
+-- ---- two verdicts on the certificate below the path
+
+-- they are of one certificate, and hold the same numbers
+pub record HoldAlike (r s : ResourceFields) : Type 0 where
+  pub cert_is : r.cert ≡ s.cert
+  pub v4_is : (n : ℕ) → Has r.v4 n ↔ Has s.v4 n
+  pub v6_is : (n : ℕ) → Has r.v6 n ↔ Has s.v6 n
+  pub as_is : (n : ℕ) → Has r.as_numbers n ↔ Has s.as_numbers n
+  pub tal_is : r.tal ≡ s.tal
+
+-- no list of the folder can be asked of the certificate below the last CA of the path
+abbrev pub HasNoList : Bool → Context → FolderFields → Path → CertFields → Type 0
+HasNoList names x folder p c =
+    HaveNone (IsEligibleNamed names x.verifies x.now (certificate_at p (last p)).fields c)
+    folder.lists
+
+-- a fault that is told if no list can be asked. Which of these it is depends on the lists that can't
+-- be
+abbrev pub IsForWantOfList : PathFault → Type 0
+IsForWantOfList (Revocation NoCrl) = Unit {0}
+IsForWantOfList (Revocation BadSignature) = Unit {0}
+IsForWantOfList (Revocation Stale) = Unit {0}
+IsForWantOfList (Revocation WrongIssuer) = Unit {0}
+IsForWantOfList _ = ⊥
+
+-- two faults are one; or no list can be asked, and both are for want of one
+abbrev pub AreAlikeFaults : Bool → Context → FolderFields → Path → CertFields → PathFault
+    → PathFault → Type 0
+AreAlikeFaults names x folder p c e f =
+    (e ≡ f) ⊎ (IsForWantOfList e × IsForWantOfList f × HasNoList names x folder p c)
+
+-- two verdicts say the same
+abbrev pub SayAlike : Bool → Context → FolderFields → Path → CertFields → Result Judged PathFault
+    → Result Judged PathFault → Type 0
+SayAlike names x folder p c (Ok j) (Ok k) = HoldAlike j.holder k.holder × (j.router ≡ k.router)
+SayAlike names x folder p c (Err e) (Err f) = AreAlikeFaults names x folder p c e f
+SayAlike names x folder p c _ _ = ⊥
