@@ -4,9 +4,9 @@ use Rattle.std.specs.List.{AllByRecursion, flat_map}
 use Rattle.std.specs.Prelude.{Option, Some, None, codes}
 use Rattle.std.proofs.Common.{◌≡◌, ◌==◌, ℕ, Bool, true, false, List, [], ◌∷◌, inl, inr, refl, subst, sym}
 use Rattle.serde_json.specs.Data.{Data}
+use Rattle.rpki_cert.specs.declared.inspect.Kind.{Kind}
 use Rattle.rpki_folder.specs.declared.lines.Line.{Line}
 use Rattle.rpki_folder.specs.declared.lines.Line.TheVariants as line
-use Rattle.rpki_der.specs.Times.{Moment}
 use Rattle.rpki_cert.proofs.Reordering.{all_append}
 use Rattle.rpki_verdicts.specs.Reasons.{ReasonFields}
 use Rattle.rpki_files.specs.Files.{FileFields}
@@ -15,14 +15,14 @@ use Rattle.rpki_verdicts.specs.PathAnswers.{reason_of}
 use Rattle.rpki_verdicts.specs.declared.unordered.Tree.{Tree}
 use Rattle.rpki_verdicts.specs.declared.unordered.TreeAnswer.TheVariants.{NoAnchor, Walked}
 use Rattle.rpki_verdicts.specs.declared.unordered.WrongAnchor.{WrongAnchor}
-use Rattle.rpki_answers.specs.JsonTrees.{AreFileMembers, AreFrontMembers, AreLineMembers, AreTreeItems, IsFileItem, accepted_members, end_members, name_item, name_items, no_anchor_json, rejected_members, summary_members, unjudged_members, unseen_word, why_json, wrong_anchor_json, wrong_items}
+use Rattle.rpki_answers.specs.JsonTrees.{AreFileMembers, AreFrontMembers, AreLineMembers, AreTreeItems, IsFileItem, accepted_line, end_members, name_item, name_items, no_anchor_json, rejected_members, summary_members, unjudged_members, unseen_word, why_json, wrong_anchor_json, wrong_items}
 use Rattle.rpki_answers.specs.JsonValues.{Pair, count_member_if_any, text_member}
 use Rattle.rpki_answers.specs.TreeTexts.{SaysInOrder}
 use Rattle.rpki_answers.specs.VerdictTexts.{file_name_at}
 use Rattle.rpki_answers.specs.declared.trees.TreeFinding.{TreeFinding}
 use Rattle.rpki_answers.specs.declared.trees.TreeFinding.TheVariants.{NotALocator, Answered}
 use Rattle.rpki_answers.proofs.WholeValues.{IsWhole, AreWhole, none_whole, then_whole, both_whole, object_whole, array_whole, integer_whole, count_if_any_whole}
-use Rattle.rpki_answers.proofs.WholeVerdicts.{AllWhole, items_whole, no_locator_whole, no_locators_whole}
+use Rattle.rpki_answers.proofs.WholeVerdicts.{AllWhole, acceptance_whole, items_whole, no_locator_whole, no_locators_whole}
 
 -- ---- a certificate
 
@@ -37,11 +37,11 @@ names_whole certs [] = tt
 names_whole certs (place ∷ places) =
     all_append IsWhole (name_item (file_name_at certs place)) (name_items certs places) (name_whole (file_name_at certs place)) (names_whole certs places)
 
-accepted_whole : (tree : Tree) (above : List ℕ) → AreWhole (accepted_members tree above)
-unfolding accepted_members
-accepted_whole tree above =
+accepted_whole : (tree : Tree) (above : List ℕ) (kind : Kind) (said : List Pair) → AreWhole said → AreWhole (accepted_line tree above kind said)
+unfolding accepted_line
+accepted_whole tree above kind said whole =
     let names = name_items (certs_of tree) (tree.anchor ∷ above) in
-    then_whole _ _ _ refl (then_whole _ _ _ (array_whole names (items_whole names (names_whole (certs_of tree) (tree.anchor ∷ above)))) none_whole)
+    then_whole _ _ _ refl (then_whole _ _ _ (array_whole names (items_whole names (names_whole (certs_of tree) (tree.anchor ∷ above)))) (then_whole _ _ _ refl (both_whole _ _ whole none_whole)))
 
 rejected_whole : (member : ℕ) (r : ReasonFields) → AreWhole (rejected_members member r)
 unfolding rejected_members
@@ -52,7 +52,7 @@ word_whole : (word : List ℕ) (pairs : List Pair) → pairs ≡ text_member (co
 word_whole word pairs is = subst AreWhole (sym is) (then_whole _ _ _ refl none_whole)
 
 line_whole : (tree : Tree) (file : FileFields) (its : Option Line) (pairs : List Pair) → AreLineMembers tree file its pairs → AreWhole pairs
-line_whole tree file (Some (line.Accepted above)) pairs is = subst AreWhole (sym is) (accepted_whole tree above.items)
+line_whole tree file (Some (line.Accepted path)) pairs is = subst AreWhole (sym is.4) (accepted_whole tree path.above.items is.0 is.1 (acceptance_whole path.judged.holder path.judged.router is.1 is.3))
 line_whole tree file (Some (line.Rejected member fault)) pairs is = subst AreWhole (sym is.2) (rejected_whole member is.0)
 line_whole tree file (Some line.Unseen) pairs is = word_whole (unseen_word tree.ended) pairs is
 line_whole tree file None pairs is = word_whole (unseen_word tree.ended) pairs is
@@ -100,9 +100,9 @@ tree_whole q (Answered (Walked tree)) items is =
 
 -- ---- all of them
 
-end_whole : (at : Moment) (tree : Tree) → AreWhole (end_members at tree)
+end_whole : (q : TreeFields) (tree : Tree) → AreWhole (end_members q tree)
 unfolding end_members
-end_whole at tree =
+end_whole q tree =
     then_whole _ _ _ (integer_whole _) (then_whole _ _ _ refl (then_whole _ _ _ refl (then_whole _ _ _ refl (then_whole _ _ _ refl (then_whole _ _ _ refl (then_whole _ _ _ refl none_whole))))))
 
 no_anchor_whole : IsWhole no_anchor_json
@@ -126,7 +126,7 @@ unjudged_whole q why whole =
 summary_whole : (q : TreeFields) (finding : TreeFinding) → AreWhole (summary_members q finding)
 summary_whole q (NotALocator fault) = unjudged_whole q _ (no_locator_whole fault)
 summary_whole q (Answered (NoAnchor wrong)) = unjudged_whole q _ (why_whole wrong.items)
-summary_whole q (Answered (Walked tree)) = end_whole q.at tree
+summary_whole q (Answered (Walked tree)) = end_whole q tree
 
 pub summary_pairs_whole : (q : TreeFields) (finding : TreeFinding) → AllByRecursion (λ pair. IsWhole pair.1) (summary_members q finding)
 unfolding AreWhole

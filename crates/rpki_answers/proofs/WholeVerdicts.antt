@@ -116,16 +116,16 @@ router_whole : (c : CertFields) (key : KeyAnswer) → IsWhole (router_json c key
 unfolding router_json
 router_whole c key = object_whole _ (then_whole _ _ _ (array_whole _ (listed_whole c.fields.extensions)) (then_whole _ _ _ refl (then_whole _ _ _ (key_whole c.fields.key key) none_whole)))
 
-accepted_whole : (holder : ResourceFields) (router : Option CertFields) (pairs : List Pair) → AreAcceptedMembers holder router pairs → AreWhole pairs
-accepted_whole holder None pairs is = subst AreWhole (sym is) (then_whole _ _ _ refl (then_whole _ _ _ (array_whole _ (held_whole holder)) none_whole))
-accepted_whole holder (Some c) pairs is = subst AreWhole (sym is.2) (then_whole _ _ _ refl (then_whole _ _ _ (router_whole c is.0) (then_whole _ _ _ (array_whole _ (held_whole holder)) none_whole)))
+pub acceptance_whole : (holder : ResourceFields) (router : Option CertFields) (pairs : List Pair) → AreAcceptedMembers holder router pairs → AreWhole pairs
+acceptance_whole holder None pairs is = subst AreWhole (sym is) (then_whole _ _ _ refl (then_whole _ _ _ (array_whole _ (held_whole holder)) none_whole))
+acceptance_whole holder (Some c) pairs is = subst AreWhole (sym is.2) (then_whole _ _ _ refl (then_whole _ _ _ (router_whole c is.0) (then_whole _ _ _ (array_whole _ (held_whole holder)) none_whole)))
 
 answer_whole : (question : QuestionFields) (finding : Finding) (pairs : List Pair) → AreAnswerMembers question finding pairs → AreWhole pairs
 answer_whole question (NotALocator fault) pairs is = subst AreWhole (sym is) (then_whole _ _ _ refl (then_whole _ _ _ (no_locator_whole fault) none_whole))
 answer_whole question NotAList pairs is = subst AreWhole (sym is) (then_whole _ _ _ refl (then_whole _ _ _ no_list_whole none_whole))
 answer_whole question (Decided None) pairs is = subst AreWhole (sym is) (then_whole _ _ _ refl none_whole)
 answer_whole question (Decided (Some (Accepted j))) pairs is =
-    subst AreWhole (sym is.pairs_are) (both_whole _ _ (text_if_any_whole _ _) (accepted_whole j.holder j.router is.held is.held_are))
+    subst AreWhole (sym is.pairs_are) (both_whole _ _ (text_if_any_whole _ _) (acceptance_whole j.holder j.router is.held is.held_are))
 answer_whole question (Decided (Some (Rejected fault))) pairs is =
     subst AreWhole (sym is.2) (then_whole _ _ _ refl (then_whole _ _ _ (subst IsWhole (sym is.1.value_is) (fault_whole question.members fault is.1.details)) none_whole))
 

@@ -46,6 +46,7 @@ abbrev pub tree_question_of : RequestFields → Moment → List FileFields → L
 tree_question_of r now files locators = record {
   files = files;
   locators = locators;
+  names = r.names;
   strict = r.strict;
   at = now;
   depth = unwrap_or r.depth usual_depth;

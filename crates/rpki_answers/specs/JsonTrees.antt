@@ -3,11 +3,14 @@ use Rattle.std.specs.Bool.{MatchBool}
 use Rattle.std.specs.List.{flat_map}
 use Rattle.std.specs.Prelude.{◌≡◌, ◌==◌, ◌+◌, ◌⊎◌, ℕ, false, List, [], ◌∷◌, ◌++◌, length, codes, slice_get, Option, None, Some}
 use Rattle.serde_json.specs.Data.{Data, boolean, string}
+use Rattle.rpki_cert.specs.SaidKinds.{SaysKind}
+use Rattle.rpki_cert.specs.declared.inspect.Kind.{Kind}
+use Rattle.rpki_path.specs.Judging.{last_certificate}
 use Rattle.rpki_folder.specs.declared.bounds.Ended.{Ended}
 use Rattle.rpki_folder.specs.declared.bounds.Ended.TheVariants.{Whole, TooDeep, OutOfSteps}
+use Rattle.rpki_folder.specs.declared.find.FoundPath.{FoundPath}
 use Rattle.rpki_folder.specs.declared.lines.Line.{Line}
 use Rattle.rpki_folder.specs.declared.lines.Line.TheVariants as line
-use Rattle.rpki_der.specs.Times.{Moment}
 use Rattle.rpki_files.specs.Contents.{BeginsWithCertificate, IsList, StandBehind}
 use Rattle.rpki_verdicts.specs.Reasons.{ReasonFields, IsReason}
 use Rattle.rpki_files.specs.Files.{FileFields}
@@ -18,9 +21,10 @@ use Rattle.rpki_verdicts.specs.declared.unordered.TreeAnswer.TheVariants.{NoAnch
 use Rattle.rpki_verdicts.specs.declared.unordered.WrongAnchor.{WrongAnchor}
 use Rattle.rpki_answers.specs.JsonTexts.{json_lines, value_text}
 use Rattle.rpki_answers.specs.JsonValues.{Pair, array_of, count_json, count_member_if_any, flattened, member_of, moment_json, object_of, text_member}
-use Rattle.rpki_answers.specs.JsonVerdicts.{no_locator_json, no_locators_json}
+use Rattle.rpki_answers.specs.JsonVerdicts.{AreAcceptedMembers, no_locator_json, no_locators_json}
 use Rattle.rpki_answers.specs.TreeTexts.{SaysInOrder}
 use Rattle.rpki_answers.specs.VerdictTexts.{file_name_at}
+use Rattle.rpki_text.specs.CertificateTexts.{certificate_kind_text}
 use Rattle.rpki_text.specs.declared.command_line.arguments.Format.{Format}
 use Rattle.rpki_text.specs.declared.command_line.arguments.Format.TheVariants.{JsonLines}
 use Rattle.rpki_answers.specs.declared.trees.TreeFinding.{TreeFinding}
@@ -37,12 +41,24 @@ name_item (Some name) = string name ∷ []
 abbrev pub name_items : List FileFields → List ℕ → List Data
 name_items certs places = flat_map (λ place. name_item (file_name_at certs place)) places
 
--- it is accepted below the trust anchor and the CAs at these places
-unfoldable pub accepted_members : Tree → List ℕ → List Pair
-accepted_members tree above = flattened (
+-- it is accepted below the trust anchor and the CAs at these places, as a certificate of this kind,
+-- with what is said of that
+unfoldable pub accepted_line : Tree → List ℕ → Kind → List Pair → List Pair
+accepted_line tree above kind said = flattened (
     text_member (codes "verdict") (codes "accepted")
     ∷ member_of (codes "above") (array_of (name_items (certs_of tree) (tree.anchor ∷ above)))
+    ∷ text_member (codes "judged_as") (certificate_kind_text kind)
+    ∷ said
     ∷ [])
+
+-- it is accepted by this path: below which, as what it says that it is, and what it holds, as of a
+-- path that is judged alone
+abbrev pub AreAcceptedBy : Tree → FoundPath → List Pair → Type 0
+AreAcceptedBy tree path pairs =
+    (kind : Kind) × (said : List Pair)
+    × SaysKind kind (last_certificate path.judged.holder path.judged.router).fields
+    × AreAcceptedMembers path.judged.holder path.judged.router said
+    × (pairs ≡ accepted_line tree path.above.items kind said)
 
 -- it is rejected: how many stand above it, the step, the fault's name, what that means, and the
 -- section
@@ -63,7 +79,7 @@ unseen_word _ = codes "not_reached"
 
 -- what its line says
 abbrev pub AreLineMembers : Tree → FileFields → Option Line → List Pair → Type 0
-AreLineMembers tree file (Some (line.Accepted above)) pairs = pairs ≡ accepted_members tree above.items
+AreLineMembers tree file (Some (line.Accepted path)) pairs = AreAcceptedBy tree path pairs
 AreLineMembers tree file (Some (line.Rejected member fault)) pairs =
     (r : ReasonFields) × IsReason fault file.octets r × (pairs ≡ rejected_members member r)
 AreLineMembers tree file _ pairs = pairs ≡ text_member (codes "verdict") (unseen_word tree.ended)
@@ -108,14 +124,14 @@ ended_word OutOfSteps = codes "out_of_steps"
 
 -- the moment, how many certificates there are, how many of them are accepted, how far the walk
 -- went, and what isn't asked
-unfoldable pub end_members : Moment → Tree → List Pair
-end_members at tree = flattened (
-    member_of (codes "moment") (moment_json at)
+unfoldable pub end_members : TreeFields → Tree → List Pair
+end_members q tree = flattened (
+    member_of (codes "moment") (moment_json q.at)
     ∷ member_of (codes "certificates") (count_json (length tree.lines))
     ∷ member_of (codes "accepted") (count_json (accepted_count tree))
     ∷ text_member (codes "ended") (ended_word tree.ended)
     ∷ member_of (codes "manifests_asked") (boolean false)
-    ∷ member_of (codes "names_asked") (boolean false)
+    ∷ member_of (codes "names_asked") (boolean q.names)
     ∷ member_of (codes "last_keys_asked") (boolean false)
     ∷ [])
 
@@ -162,7 +178,7 @@ unjudged_members q why = flattened (
 abbrev pub summary_members : TreeFields → TreeFinding → List Pair
 summary_members q (NotALocator fault) = unjudged_members q (no_locator_json fault)
 summary_members q (Answered (NoAnchor wrong)) = unjudged_members q (why_json wrong.items)
-summary_members q (Answered (Walked tree)) = end_members q.at tree
+summary_members q (Answered (Walked tree)) = end_members q tree
 
 -- the values of the files, where they are judged: of all, or of those that are wrong as trust
 -- anchors

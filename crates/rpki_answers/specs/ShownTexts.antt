@@ -40,7 +40,7 @@ use Rattle.rpki_files.specs.declared.flaws.Flaw.{Flaw}
 use Rattle.rpki_files.specs.declared.places.Place.{Place}
 use Rattle.rpki_files.specs.declared.rules.Rule.{Rule}
 use Rattle.rpki_files.specs.declared.sorts.Sort.{Sort}
-use Rattle.rpki_files.specs.declared.sorts.Sort.TheVariants.{Version1}
+use Rattle.rpki_files.specs.declared.sorts.Sort.TheVariants.{Request, Version1}
 use Rattle.rpki_answers.specs.declared.showing.Options.{Options}
 
 -- ---- around an object
@@ -180,10 +180,15 @@ abbrev pub IsToldRule : Option Sort → Bool → DecodeError → List ℕ → Ru
 IsToldRule (Some s) is_list fault octets r = r ≡ sort_rule s
 IsToldRule None is_list fault octets r = IsFileRule is_list fault octets r
 
--- octets that begin with neither are told as a list where they look like one. So does a certificate
--- of version 1, whose version is absent: it is told as a certificate (RFC 5280 4.1, 5.1)
+-- the sorts whose octets look like a list's, and which are told as a certificate: a certificate of
+-- version 1, whose version is absent (RFC 5280 4.1, 5.1), and a certification request, whose version
+-- is an INTEGER (RFC 2986 4.1)
+abbrev pub IsToldAsCertificate : Option Sort → Type 0
+IsToldAsCertificate sort = (sort ≡ Some Version1) ⊎ (sort ≡ Some Request)
+
+-- octets that begin with neither are told as a list where they look like one and are of no such sort
 abbrev pub IsToldAsList : Option Sort → List ℕ → Type 0
-IsToldAsList sort octets = LooksLikeList octets × (sort ≢ Some Version1)
+IsToldAsList sort octets = LooksLikeList octets × (IsToldAsCertificate sort → ⊥)
 
 -- why octets begin with neither: their sort, a fault of reading, what is said, and where reading
 -- stops, of which it is true what the fault names

@@ -3,7 +3,7 @@
 use Rattle.std.specs.Fmt.{decimal}
 use Rattle.std.specs.List.{concat, flat_map}
 use Rattle.std.specs.Option.{option_map}
-use Rattle.std.specs.Prelude.{◌≡◌, ◌==◌, ◌+◌, ◌⊎◌, ℕ, if◌then◌else◌, All, List, [], ◌∷◌, ◌++◌, length, codes, slice_get, unwrap_or, Option, Some}
+use Rattle.std.specs.Prelude.{◌≡◌, ◌==◌, ◌+◌, ◌⊎◌, ℕ, Bool, true, false, if◌then◌else◌, All, List, [], ◌∷◌, ◌++◌, length, codes, slice_get, unwrap_or, Option, Some}
 use Rattle.std.specs.Bool.{MatchBool}
 use Rattle.rpki_folder.specs.declared.bounds.Ended.{Ended}
 use Rattle.rpki_folder.specs.declared.bounds.Ended.TheVariants.{Whole, TooDeep, OutOfSteps}
@@ -54,7 +54,7 @@ unseen_text _ = codes "not reached before the limit"
 
 -- what its line says
 abbrev pub SaysOfLine : Tree → FileFields → Option Line → List ℕ → Type 0
-SaysOfLine tree file (Some (line.Accepted above)) said = said ≡ accepted_text tree above.items
+SaysOfLine tree file (Some (line.Accepted path)) said = said ≡ accepted_text tree path.above.items
 SaysOfLine tree file (Some (line.Rejected step fault)) said =
     (r : ReasonFields) × IsReason fault file.octets r × (said ≡ rejection_text r)
 SaysOfLine tree file _ said = said ≡ unseen_text tree.ended
@@ -126,6 +126,11 @@ ended_text q TooDeep =
 ended_text q OutOfSteps =
     codes "not all: " ++ (decimal q.steps ++ codes " were verified (--steps sets the limit)")
 
+-- what isn't asked of names, unless they are asked, and of keys
+abbrev pub unasked_text : Bool → List ℕ
+unasked_text true = codes "whether the RPKI uses the last keys"
+unasked_text false = codes "whether names match, and whether the RPKI uses the last keys"
+
 -- the moment, how many certificates there are, how many of them are accepted, how far the walk
 -- went, and what isn't asked
 unfoldable pub end_text : TreeFields → Tree → List ℕ
@@ -135,7 +140,7 @@ end_text q tree = concat (
     ∷ label_line (codes "Accepted") (decimal (accepted_count tree))
     ∷ label_line (codes "Looked at") (ended_text q tree.ended)
     ∷ label_line (codes "Not asked") (codes "manifests: a file that is withheld isn't missed")
-    ∷ label_line (codes "Not asked") (codes "whether names match, and whether the RPKI uses the last keys")
+    ∷ label_line (codes "Not asked") (unasked_text q.names)
     ∷ [])
 
 -- the line of a file that has the key of a locator, and is wrong as its trust anchor

@@ -11,13 +11,12 @@ ghost use Rattle.rpki_files.specs.FaultRules.{rule_of};
 ghost use Rattle.rpki_files.specs.Files.{contents};
 ghost use Rattle.rpki_files.specs.LocatorFiles.{IsWhyNoLocator};
 ghost use Rattle.rpki_files.specs.Misreads.{kept_fault};
-ghost use Rattle.rpki_files.specs.declared.sorts.Sort.TheVariants.{Version1};
 ghost use Rattle.rpki_text.specs.Facts.{AreFacts, fact_view};
 ghost use Rattle.rpki_text.specs.Notes.{AreNotes};
 ghost use Rattle.rpki_answers.specs.Outcomes.{IsOutcomeOfShow};
 ghost use Rattle.rpki_text.specs.Pages.{Appends, AppendsSome, line};
 ghost use Rattle.rpki_answers.specs.RejectionDetails.{advice_line, sort_line};
-ghost use Rattle.rpki_answers.specs.ShownTexts.{IsCertificateFileText, IsFileText, IsFurtherText, IsListFileText, IsOtherFileText, IsRejection, IsTextOfFiles, IsToldAsList, IsToldRule, IsUnreadFileText, certificate_file_text, file_lines, found_line, left_line, left_text, list_file_text, stop_text};
+ghost use Rattle.rpki_answers.specs.ShownTexts.{IsCertificateFileText, IsFileText, IsFurtherText, IsListFileText, IsOtherFileText, IsRejection, IsTextOfFiles, IsToldAsCertificate, IsToldAsList, IsToldRule, IsUnreadFileText, certificate_file_text, file_lines, found_line, left_line, left_text, list_file_text, stop_text};
 ghost use Rattle.rpki_answers.specs.VerdictTexts.{SaysOfEach};
 
 mod locators;
@@ -112,12 +111,12 @@ pub struct Rejection {
     pub place: Place,
 }
 
-// Whether it is the sort of certificates of version 1.
-fn is_version_1(sort: Option<Sort>) -> bool
-    ensures { IsTrue result ↔ sort ≡ Some Version1 }
+// Whether octets of this sort, which look like a list's, are told as a certificate.
+fn is_told_as_certificate(sort: Option<Sort>) -> bool
+    ensures { IsTrue result ↔ IsToldAsCertificate sort }
 {
     match sort {
-        Some(Sort::Version1) => true,
+        Some(Sort::Version1 | Sort::Request) => true,
         _ => false,
     }
 }
@@ -127,7 +126,7 @@ fn is_told_as_list(octets: &Bytes, sort: Option<Sort>) -> bool
     ensures { IsTrue result ↔ IsToldAsList sort octets.now }
 {
     match looks_like(octets) {
-        Form::List => !is_version_1(sort),
+        Form::List => !is_told_as_certificate(sort),
         Form::Certificate | Form::Other => false,
     }
 }

@@ -9,7 +9,7 @@ ghost use Rattle.rpki_verdicts.specs.PathAnswers.{reason_of};
 ghost use Rattle.rpki_verdicts.specs.Trees.{asked_of};
 ghost use Rattle.rpki_verdicts.specs.declared.unordered.TreeAnswer.TheVariants.{Walked};
 ghost use Rattle.rpki_answers.specs.ShownTexts.{left_text};
-ghost use Rattle.rpki_answers.specs.TreeTexts.{AreFileLines, IsAnswerText, IsFileLine, IsTreeText, SaysOfBegun, SaysOfCertificate, SaysOfFile, SaysOfFront, SaysOfLine, accepted_text, behind_text, end_text, ended_text, further_text, name_text_at, neither_text, no_anchor_text, rejection_text, since_text, unseen_text, wrong_anchor_line};
+ghost use Rattle.rpki_answers.specs.TreeTexts.{AreFileLines, IsAnswerText, IsFileLine, IsTreeText, SaysOfBegun, SaysOfCertificate, SaysOfFile, SaysOfFront, SaysOfLine, accepted_text, behind_text, end_text, ended_text, further_text, name_text_at, neither_text, no_anchor_text, rejection_text, since_text, unasked_text, unseen_text, wrong_anchor_line};
 ghost use Rattle.rpki_answers.specs.VerdictTexts.{locators_text, moment_line, no_locator_text};
 
 use crate::showing::left_over;
@@ -101,7 +101,7 @@ fn print_line(page: &mut Page, tree: &Tree<'_, '_>, file: &BareObject<'_>, line:
         AppendsSome (SaysOfLine tree.now file.now its) page.old page.new }
 {
     match line {
-        Some(Line::Accepted(above)) => print_accepted(page, tree, above),
+        Some(Line::Accepted(path)) => print_accepted(page, tree, &path.above),
         Some(Line::Rejected(_, fault)) => print_rejected(page, file, fault),
         Some(Line::Unseen) | None => page.text(unseen_text(tree.ended)),
     }
@@ -270,6 +270,16 @@ fn print_count(page: &mut Page, label: &str, count: usize)
     page.line_of(label, &count);
 }
 
+// What isn't asked of names and keys.
+fn unasked(names: bool) -> &'static str
+    ensures { result.now ≡ unasked_text names }
+{
+    if names {
+        return "whether the RPKI uses the last keys";
+    }
+    "whether names match, and whether the RPKI uses the last keys"
+}
+
 // The moment, how many certificates there are and how many are accepted, how far the walk went, and
 // what isn't asked.
 fn print_end(page: &mut Page, question: &TreeQuestion<'_, '_>, tree: &Tree<'_, '_>)
@@ -283,10 +293,7 @@ fn print_end(page: &mut Page, question: &TreeQuestion<'_, '_>, tree: &Tree<'_, '
         "Not asked",
         "manifests: a file that is withheld isn't missed",
     );
-    page.line(
-        "Not asked",
-        "whether names match, and whether the RPKI uses the last keys",
-    );
+    page.line("Not asked", unasked(question.names));
 }
 
 // That a trust anchor is wrong, and why.

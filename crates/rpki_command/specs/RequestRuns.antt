@@ -1,7 +1,7 @@
 -- How a run ends that prepares or completes a certificate or a list, and what it puts out, by what
 -- reading files gives and by what a clock tells (own).
 use Rattle.std.specs.List.{AllZip, Contains}
-use Rattle.std.specs.Prelude.{◌≡◌, ◌≢◌, ◌⊎◌, ℕ, List, [], ◌∷◌, Option, Some, Bool, true, IsFalse, bytes_eq, codes}
+use Rattle.std.specs.Prelude.{◌≡◌, ◌≢◌, ◌⊎◌, ℕ, List, [], ◌∷◌, ◌++◌, Option, Some, Bool, true, IsFalse, bytes_eq, codes}
 use Rattle.rpki_der.specs.Times.{Moment}
 use Rattle.rpki_text.specs.CommandLines.{usual_size}
 use Rattle.rpki_files.specs.PemFiles.{IsObjectOf}
@@ -20,7 +20,7 @@ use Rattle.rpki_requests.specs.declared.words.Setting.TheVariants.{At, Crl, Issu
 use Rattle.rpki_command.specs.AboutTexts.{usage_text}
 use Rattle.rpki_command.specs.Messages.{SaysRequestMisuse, refusal_message}
 use Rattle.rpki_command.specs.Moments.{IsMomentBy}
-use Rattle.rpki_command.specs.Outputs.{Output, only_said, only_text, placed}
+use Rattle.rpki_command.specs.Outputs.{IsApart, Output, only_said, only_text, placed}
 use Rattle.rpki_command.specs.PemTexts.{IsPemText}
 use Rattle.rpki_command.specs.ReadFiles.{Reads}
 use Rattle.rpki_command.specs.UnreadFiles.{IsLineAbout, IsWhyUnmade, IsWhyUnread, called, unmade_text, unread_text}
@@ -50,6 +50,12 @@ pub record AreInputs (reads : Reads) (asked : AskedFields) (inputs : InputFields
   pub previous_are : AreObjectsNamed reads (values_of Previous asked.given) inputs.previous
   pub revoked_are : AreObjectsNamed reads (values_of Revoke asked.given) inputs.revoked
   pub files_are : AreObjectsNamed reads asked.files inputs.files
+
+-- the names of all files of a request
+abbrev pub names_read : AskedFields → List (List ℕ)
+names_read asked =
+    asked.files ++ values_of Issuer asked.given ++ values_of Crl asked.given ++ values_of Key asked.given
+    ++ values_of Previous asked.given ++ values_of Revoke asked.given
 
 -- this is one of the files of these names, and can't be read for its reason
 abbrev pub IsUnreadOf : Reads → List (List ℕ) → Unreadable → Type 0
@@ -110,20 +116,22 @@ GivesNothing asked inputs now said =
     × TellsPath (context_of asked now) inputs.issuers inputs.lists why × IsSoOf asked inputs now why
     × (said ≡ refusal_message why)
 
--- this is the file of the first of these names, and can't be made for its reason
-abbrev pub IsUnmadeOf : List (List ℕ) → Unplaced → Type 0
-IsUnmadeOf [] file = ⊥
-IsUnmadeOf (name ∷ more) file =
-    IsFalse (bytes_eq name (codes "-")) × (file.name.now ≡ name) × IsWhyUnmade name file.why
+-- this is the file of the first of these names, and can't be made for its reason, where those of
+-- others were read
+abbrev pub IsUnmadeOf : List (List ℕ) → List (List ℕ) → Unplaced → Type 0
+IsUnmadeOf [] read file = ⊥
+IsUnmadeOf (name ∷ more) read file =
+    IsFalse (bytes_eq name (codes "-")) × (file.name.now ≡ name) × IsWhyUnmade read name file.why
 
--- putting a text where names say ends so: it stands there; or, as unread, nowhere, where its file
--- can't be made, which is said
-abbrev pub PlaceEnds : List (List ℕ) → Bool → List ℕ → Outcome → Output → Type 0
-PlaceEnds names overwrites text Success output = output ≡ placed names overwrites text
-PlaceEnds names overwrites text Unread output =
-    (file : Unplaced) × (said : List ℕ) × IsUnmadeOf names file
+-- putting a text where names say ends so, where the files of others were read: it stands there, in
+-- none of those; or, as unread, nowhere, where its file can't be made, which is said
+abbrev pub PlaceEnds : List (List ℕ) → Bool → List (List ℕ) → List ℕ → Outcome → Output → Type 0
+PlaceEnds names overwrites read text Success output =
+    IsApart names read × (output ≡ placed names overwrites read text)
+PlaceEnds names overwrites read text Unread output =
+    (file : Unplaced) × (said : List ℕ) × IsUnmadeOf names read file
     × IsLineAbout (called file.name.now) (unmade_text file.why) said × (output ≡ only_said said)
-PlaceEnds names overwrites text _ output = ⊥
+PlaceEnds names overwrites read text _ output = ⊥
 
 -- with these files at this moment the request ends so: with rejection, or as putting out what it
 -- gives does, on standard output or into the file that `--out` names
@@ -132,7 +140,7 @@ InputsEnd asked inputs now Rejection output =
     (said : List ℕ) × GivesNothing asked inputs now said × (output ≡ only_said said)
 InputsEnd asked inputs now outcome output =
     (text : List ℕ) × GivesText asked inputs now text
-    × PlaceEnds (values_of Out asked.given) asked.overwrites text outcome output
+    × PlaceEnds (values_of Out asked.given) asked.overwrites (names_read asked) text outcome output
 
 -- at a moment that may be asked, with the files as they are read, it ends so
 pub record ReadEnds (reads : Reads) (tells : Moment → Type 0) (asked : AskedFields) (outcome : Outcome) (output : Output) : Type 0 where

@@ -1,11 +1,12 @@
 -- Files that can't be read or made: why, and what is said of it (own).
 use Rattle.std.specs.Fmt.{decimal}
 use Rattle.std.specs.IoError.{error_kind}
-use Rattle.std.specs.Prelude.{◌≡◌, ◌≢◌, ℕ, List, ◌++◌, bytes_eq, codes, if◌then◌else◌, Option, Some, None, IfSome}
+use Rattle.std.specs.Prelude.{◌≡◌, ◌≢◌, ℕ, List, ◌++◌, bytes_eq, codes, if◌then◌else◌, Option, Some, None, IfSome, IsFalse, IsTrue}
 use Rattle.std.specs.Str.{IsUtf8}
 use Rattle.std.specs.declared.io.ErrorKind.{ErrorKind}
 use Rattle.std.specs.declared.io.ErrorKind.TheVariants.{AlreadyExists, IsADirectory, NotFound, PermissionDenied}
 use Rattle.rpki_text.specs.Pages.{characters_text}
+use Rattle.rpki_command.specs.Outputs.{is_among}
 use Rattle.rpki_command.specs.ReadFiles.{Reads}
 use Rattle.rpki_command.specs.declared.files.Unread.{Unread}
 use Rattle.rpki_command.specs.declared.files.Unread.TheVariants as unread
@@ -31,10 +32,13 @@ IsWhyNotGiven most (unread.Failed error) = Unit {0}
 IsWhyNotGiven most unread.Memory = Unit {0}
 IsWhyNotGiven most _ = ⊥
 
--- why the file of this name can't be made: its name isn't text, or the system doesn't make it
-abbrev pub IsWhyUnmade : List ℕ → Unmade → Type 0
-IsWhyUnmade name unmade.OtherName = IsUtf8 name → ⊥
-IsWhyUnmade name (unmade.Failed error) = Unit {0}
+-- why the file of this name can't be made, where these were read: its name isn't text, or is one of
+-- theirs; it is one of them under another name, as the system tells; or the system doesn't make it
+abbrev pub IsWhyUnmade : List (List ℕ) → List ℕ → Unmade → Type 0
+IsWhyUnmade read name unmade.OtherName = IsUtf8 name → ⊥
+IsWhyUnmade read name unmade.WasRead = IsTrue (is_among name read)
+IsWhyUnmade read name unmade.WasReadAs = IsFalse (is_among name read)
+IsWhyUnmade read name (unmade.Failed error) = Unit {0}
 
 -- ---- what is said of it
 
@@ -60,6 +64,8 @@ making_text AlreadyExists = Some (codes "is there already (--force overwrites it
 making_text kind = failure_text kind
 
 abbrev pub unmade_text : Unmade → Option (List ℕ)
+unmade_text unmade.WasRead = Some (codes "is read too: --out has to name another file")
+unmade_text unmade.WasReadAs = Some (codes "is read too, under another name: --out has to name another file")
 unmade_text unmade.OtherName = Some (codes "a file whose name isn't UTF-8 can't be opened")
 unmade_text (unmade.Failed error) = making_text (error_kind error)
 

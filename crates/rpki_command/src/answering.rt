@@ -146,6 +146,7 @@ pub fn tree_question<'q, 'n>(
     TreeQuestion {
         files,
         locators,
+        names: request.names,
         strict: request.strict,
         at: now,
         depth: request.depth.unwrap_or(USUAL_DEPTH),

@@ -21,6 +21,7 @@ mod inputs;
 mod making;
 mod passed;
 mod pem;
+mod placing;
 mod progress;
 mod reading;
 mod requests;

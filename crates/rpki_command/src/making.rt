@@ -1,18 +1,23 @@
 //! Where files are made, and why one can't be.
-ghost use Rattle.std.specs.Prelude.{◌≡◌, [], ◌∷◌, List, None, Option, IfErr, OnErr, OnOk};
-ghost use Rattle.rpki_command.specs.Outputs.{Makes};
+ghost use Rattle.std.specs.Prelude.{◌≡◌, [], ◌∷◌, List, None, Option, IfErr, IsFalse, OnErr, OnOk, map};
+ghost use Rattle.rpki_command.specs.Outputs.{Makes, is_among};
 ghost use Rattle.rpki_command.specs.UnreadFiles.{IsWhyUnmade, unmade_text};
 
 use crate::files::write_failure;
-use std::fs::OpenOptions;
-use std::io::{ErrorKind, Write};
-use std::{fmt, fs, io};
+use crate::placing::{Place, is_file, make_new, replace, write_there};
+use std::fs::Metadata;
+use std::io::ErrorKind;
+use std::{fmt, io};
 
 /// Why a file can't be made.
 #[derive(Drop)]
 pub enum Unmade {
     /// Its name isn't UTF-8, so it can't be opened here.
     OtherName,
+    /// It is read too.
+    WasRead,
+    /// It is read too, under another name.
+    WasReadAs,
     Failed(io::Error),
 }
 
@@ -22,12 +27,24 @@ impl fmt::Display for Unmade {
     fn fmt<W: fmt::Write>(&self, f: &mut fmt::Formatter<W>) -> fmt::Result {
         match self {
             Unmade::OtherName => f.write_str("a file whose name isn't UTF-8 can't be opened"),
+            Unmade::WasRead => f.write_str("is read too: --out has to name another file"),
+            Unmade::WasReadAs => {
+                f.write_str("is read too, under another name: --out has to name another file")
+            }
             Unmade::Failed(error) => match error.kind() {
                 ErrorKind::AlreadyExists => f.write_str("is there already (--force overwrites it)"),
                 _ => write_failure(f, error),
             },
         }
     }
+}
+
+/// Why the maker of files makes none.
+#[derive(Drop)]
+pub enum Refused {
+    /// The file was read, under another name.
+    WasRead,
+    Failed(io::Error),
 }
 
 /// Who makes files by their names. Which it has made is the ghost member `made`, where that is
@@ -38,11 +55,19 @@ pub trait FileMaker {
     /// The files that were made.
     ghost made: { Self → Option (List MadeFile) } = { λ _. None };
 
-    /// Makes the file of this name with these octets. One that is there is overwritten where that
-    /// is said, and is else in the way. Where it errs, none was made.
-    fn make_file(&mut self, name: &str, octets: &[u8], overwrites: bool) -> io::Result<()>
-        ensures made { OnOk result (Makes (made self.old) (made self.new)
-            (record { name = name.now; octets = octets.now; overwrites = overwrites } ∷ [])) }
+    /// Makes the file of this name with these octets, where the files of these names were read. One
+    /// that is there is overwritten where that is said and it wasn't read, and is else in the way.
+    /// Where it errs, none was made, and what was there stands.
+    fn make_file(
+        &mut self,
+        name: &str,
+        octets: &[u8],
+        overwrites: bool,
+        read: &[&[u8]],
+    ) -> Result<(), Refused>
+        ensures made { let read = map (λ name. name.now) read.now in
+            OnOk result (Makes (made self.old) (made self.new)
+            (record { name = name.now; octets = octets.now; overwrites = overwrites; read = read } ∷ [])) }
         ensures unmade { OnErr result (made self.new ≡ made self.old) };
 }
 
@@ -52,40 +77,78 @@ pub struct SystemFiles<'a> {
     pub rt: &'a HostRuntime,
 }
 
-impl FileMaker for SystemFiles<'_> {
-    fn make_file(&mut self, name: &str, octets: &[u8], overwrites: bool) -> io::Result<()> {
-        let mut options = OpenOptions::new();
-        options.write(true);
-        options.create(overwrites);
-        options.truncate(overwrites);
-        options.create_new(!overwrites);
-        let mut file = options.open(self.rt, name)?;
-        let written = file.write_all(octets);
-        drop(file);
-        if written.is_err() && !overwrites {
-            // A part of what was to stand there isn't left.
-            let _removed = fs::remove_file(self.rt, name);
-        }
-        written
+impl SystemFiles<'_> {
+    // Whether the file that has these data is one of those of these names.
+    fn was_read(&self, there: &Metadata, read: &[&[u8]]) -> bool {
+        read.iter().any(|name| match str::from_utf8(name) {
+            Ok(name) => is_file(self.rt, there, name),
+            Err(_) => false,
+        })
     }
 }
 
-/// Makes the file of a name that may be no text. Errs where it can't be made.
+// That a file is in the way.
+fn in_the_way() -> Result<(), Refused> {
+    Err(Refused::Failed(io::Error::from(ErrorKind::AlreadyExists)))
+}
+
+// As the maker of files says that one can't be made.
+fn unless_failed(made: io::Result<()>) -> Result<(), Refused> {
+    match made {
+        Ok(()) => Ok(()),
+        Err(error) => Err(Refused::Failed(error)),
+    }
+}
+
+impl FileMaker for SystemFiles<'_> {
+    fn make_file(
+        &mut self,
+        name: &str,
+        octets: &[u8],
+        overwrites: bool,
+        read: &[&[u8]],
+    ) -> Result<(), Refused> {
+        match Place::of(self.rt, name) {
+            Place::Nothing => unless_failed(make_new(self.rt, name, octets, overwrites)),
+            Place::File(there) if self.was_read(&there, read) => Err(Refused::WasRead),
+            Place::File(_) | Place::Other if !overwrites => in_the_way(),
+            Place::File(there) => unless_failed(replace(self.rt, name, &there, octets)),
+            Place::Other => unless_failed(write_there(self.rt, name, octets)),
+        }
+    }
+}
+
+// Whether a name is one of these.
+fn is_among(name: &[u8], names: &[&[u8]]) -> bool
+    ensures { result ≡ is_among name.now (map (λ name. name.now) names.now) }
+{
+    names.iter().any(|other| *other == name)
+}
+
+/// Makes the file of a name that may be no text, where the files of these names were read. Errs
+/// where it can't be made, or is one of them.
 pub fn make_named<M: FileMaker>(
     files: &mut M,
     name: &[u8],
     octets: &[u8],
     overwrites: bool,
+    read: &[&[u8]],
 ) -> Result<(), Unmade>
-    ensures unmade { IfErr result (IsWhyUnmade name.now) }
+    ensures unmade { IfErr result (IsWhyUnmade (map (λ name. name.now) read.now) name.now) }
     ensures kept { OnErr result (M.made files.new ≡ M.made files.old) }
-    ensures made { OnOk result (Makes (M.made files.old) (M.made files.new)
-        (record { name = name.now; octets = octets.now; overwrites = overwrites } ∷ [])) }
+    ensures apart { OnOk result (IsFalse (is_among name.now (map (λ name. name.now) read.now))) }
+    ensures made { let read = map (λ name. name.now) read.now in
+        OnOk result (Makes (M.made files.old) (M.made files.new)
+        (record { name = name.now; octets = octets.now; overwrites = overwrites; read = read } ∷ [])) }
 {
+    if is_among(name, read) {
+        return Err(Unmade::WasRead);
+    }
     match str::from_utf8(name) {
-        Ok(name) => match files.make_file(name, octets, overwrites) {
+        Ok(name) => match files.make_file(name, octets, overwrites, read) {
             Ok(()) => Ok(()),
-            Err(error) => Err(Unmade::Failed(error)),
+            Err(Refused::WasRead) => Err(Unmade::WasReadAs),
+            Err(Refused::Failed(error)) => Err(Unmade::Failed(error)),
         },
         Err(_) => Err(Unmade::OtherName),
     }

@@ -1,17 +1,18 @@
 //! A run that prepares or completes a certificate or a list: from its words, over files and a
 //! clock, to what it puts out.
-ghost use Rattle.std.specs.Prelude.{◌≡◌, ◌≢◌, List, ℕ, map, IfErr, IfOk, IsFalse, IsTrue, OnErr, OnOk, Ok};
+ghost use Rattle.std.specs.Prelude.{◌≡◌, ◌≢◌, ◌++◌, List, ℕ, map, IfErr, IfOk, IsFalse, IsTrue, OnErr, OnOk, Ok};
 ghost use Rattle.std.specs.Io.KnownBytes.{Appends};
 ghost use Rattle.rpki_text.specs.CommandLines.Views.{word_octets};
 ghost use Rattle.rpki_requests.specs.Fulfilment.{Fulfils, context_of};
 ghost use Rattle.rpki_requests.specs.Refusals.{TellsPath};
 ghost use Rattle.rpki_requests.specs.RefusedErrands.{IsSoOf};
 ghost use Rattle.rpki_requests.specs.RequestMisuses.{misuse_text};
+ghost use Rattle.rpki_requests.specs.RequestWords.{values_of};
 ghost use Rattle.rpki_requests.specs.RequestWords.Views.{asked_fields};
 ghost use Rattle.rpki_command.specs.Messages.{misuse_message, refusal_message};
-ghost use Rattle.rpki_command.specs.Outputs.{Makes, Output, placed};
+ghost use Rattle.rpki_command.specs.Outputs.{IsApart, Makes, Output, placed};
 ghost use Rattle.rpki_command.specs.PemTexts.{IsPemText};
-ghost use Rattle.rpki_command.specs.RequestRuns.{AskedEnds, InputsEnd, IsLineOf, IsUnmadeOf, IsWritten, PlaceEnds, RequestEnds, WordsEnd};
+ghost use Rattle.rpki_command.specs.RequestRuns.{AskedEnds, InputsEnd, IsLineOf, IsUnmadeOf, IsWritten, PlaceEnds, RequestEnds, WordsEnd, names_read};
 ghost use Rattle.rpki_command.specs.RequestRuns.Views.{input_fields};
 
 use crate::about::usage;
@@ -136,20 +137,27 @@ pub struct Unplaced<'a> {
 }
 
 // Puts a text into the file that is named, if one is, and else out, as where `-` is named. Errs
-// where that file can't be made.
+// where that file can't be made, or is one of those that were read.
 fn put<'a, M: FileMaker, O: Write>(
     files: &mut M,
     out: &mut O,
     names: &[&'a [u8]],
     overwrites: bool,
+    read: &[&[u8]],
     text: &[u8],
 ) -> Result<io::Result<()>, Unplaced<'a>>
-    ensures written { let names = map (λ name. name.now) names.now in IfOk result (λ written.
+    ensures written { let names = map (λ name. name.now) names.now in
+        let read = map (λ name. name.now) read.now in IfOk result (λ written.
         OnOk written (Appends (O.contents out.old) (O.contents out.new)
-        (placed names overwrites text.now).text)) }
-    ensures made { let names = map (λ name. name.now) names.now in IfOk result (λ _.
-        Makes (M.made files.old) (M.made files.new) (placed names overwrites text.now).files) }
-    ensures unmade { IfErr result (IsUnmadeOf (map (λ name. name.now) names.now)) }
+        (placed names overwrites read text.now).text)) }
+    ensures made { let names = map (λ name. name.now) names.now in
+        let read = map (λ name. name.now) read.now in IfOk result (λ _.
+        Makes (M.made files.old) (M.made files.new)
+        (placed names overwrites read text.now).files) }
+    ensures apart { OnOk result (IsApart (map (λ name. name.now) names.now)
+        (map (λ name. name.now) read.now)) }
+    ensures unmade { IfErr result (IsUnmadeOf (map (λ name. name.now) names.now)
+        (map (λ name. name.now) read.now)) }
     ensures kept { OnErr result (M.made files.new ≡ M.made files.old) }
     ensures unwritten { OnErr result (out.new ≡ out.old) }
 {
@@ -159,7 +167,7 @@ fn put<'a, M: FileMaker, O: Write>(
     if *name == b"-".as_slice() {
         return Ok(out.write_all(text));
     }
-    match make_named(files, *name, text, overwrites) {
+    match make_named(files, *name, text, overwrites, read) {
         Ok(()) => Ok(Ok(())),
         Err(why) => Err(Unplaced { name: *name, why }),
     }
@@ -173,16 +181,18 @@ fn place<M: FileMaker, O: Write, E: Write>(
     err: &mut E,
     names: &[&[u8]],
     overwrites: bool,
+    read: &[&[u8]],
     text: &[u8],
 ) -> Result<Ended>
-    ensures ended { let names = map (λ name. name.now) names.now in IfOk result (λ ended.
-        (output : Output) × PlaceEnds names overwrites text.now ended.outcome output
+    ensures ended { let names = map (λ name. name.now) names.now in
+        let read = map (λ name. name.now) read.now in IfOk result (λ ended.
+        (output : Output) × PlaceEnds names overwrites read text.now ended.outcome output
         × OnOk ended.written (Appends (O.contents out.old) (O.contents out.new) output.text)
         × Appends (E.contents err.old) (E.contents err.new) output.said
         × Makes (M.made files.old) (M.made files.new) output.files) }
     ensures unwritten { OnErr result (out.new ≡ out.old) }
 {
-    match put(files, out, names, overwrites, text) {
+    match put(files, out, names, overwrites, read, text) {
         Ok(written) => Ok(Ended {
             outcome: Outcome::Success,
             written,
@@ -193,6 +203,34 @@ fn place<M: FileMaker, O: Write, E: Write>(
             Ok(silent(Outcome::Unread))
         }
     }
+}
+
+// Appends the values of an option.
+fn push_values<'a>(
+    alloc: Global,
+    order: &Order<'a>,
+    setting: Setting,
+    names: &mut Vec<&'a [u8]>,
+) -> Result<(), AllocError>
+    ensures { OnOk result (map (λ name. name.now) names.new.items
+        ≡ map (λ name. name.now) names.old.items ++ values_of setting (asked_fields order.now).given) }
+{
+    let values = order.values_of(alloc, setting)?;
+    names.extend_from_slice(&values)
+}
+
+// The names of all files of a request.
+fn names_read<'a>(alloc: Global, order: &Order<'a>) -> Result<Vec<&'a [u8]>, AllocError>
+    ensures { IfOk result (λ names. map (λ name. name.now) names.items
+        ≡ names_read (asked_fields order.now)) }
+{
+    let mut names = order.files.as_slice().to_vec(alloc)?;
+    push_values(alloc, order, Setting::Issuer, &mut names)?;
+    push_values(alloc, order, Setting::Crl, &mut names)?;
+    push_values(alloc, order, Setting::Key, &mut names)?;
+    push_values(alloc, order, Setting::Previous, &mut names)?;
+    push_values(alloc, order, Setting::Revoke, &mut names)?;
+    Ok(names)
 }
 
 // Puts out what a request gives at a moment, or says why it gives nothing, or why the file that it
@@ -215,14 +253,26 @@ fn answer_inputs<M: FileMaker, O: Write, E: Write>(
     ensures unwritten { OnErr result (out.new ≡ out.old) }
 {
     let names = order.values_of(alloc, Setting::Out)?;
+    let read = names_read(alloc, order)?;
     match text_of(alloc, order, objects, now) {
         Ok(text) => {
-            let ended = place(alloc, files, out, err, &names, order.overwrites, &text);
+            let ended = place(
+                alloc,
+                files,
+                out,
+                err,
+                &names,
+                order.overwrites,
+                &read,
+                &text,
+            );
             drop(text);
+            drop(read);
             drop(names);
             ended
         }
         Err(refusal) => {
+            drop(read);
             drop(names);
             refuse(err, &refusal)?;
             drop(refusal);

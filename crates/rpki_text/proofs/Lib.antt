@@ -2,6 +2,7 @@
 
 -- ---- certificates and lists as text
 mod CharacterTexts
+mod CountedValues
 mod DigitPlaces
 mod KindAnswers
 pub mod OneMoment

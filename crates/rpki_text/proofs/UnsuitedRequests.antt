@@ -40,8 +40,7 @@ extra_unsuited Show name r (inr (inr (inr (inr (inr given))))) suits = given.1 s
 extra_unsuited Validate name r given suits = false≢true (sym suits.1 ∙ given.1)
 extra_unsuited Tree name r (inl given) suits = given.1 suits.1.0
 extra_unsuited Tree name r (inr (inl given)) suits = given.1 suits.1.1
-extra_unsuited Tree name r (inr (inr (inl given))) suits = false≢true (sym given.1 ∙ suits.1.2)
-extra_unsuited Tree name r (inr (inr (inr given))) suits = false≢true (sym suits.1.3 ∙ given.1)
+extra_unsuited Tree name r (inr (inr given)) suits = false≢true (sym suits.1.2 ∙ given.1)
 extra_unsuited Help name r given suits = given
 extra_unsuited Version name r given suits = given
 
@@ -51,7 +50,7 @@ reason_unsuited (Unknown name) task r extra suits = extra_unsuited task name.now
 reason_unsuited NoFile task r (no_help, no_version, none) suits = some_files task r no_help no_version suits none
 reason_unsuited OneFile task r (seeks, not_one) suits = not_one (sought task r seeks suits).0
 reason_unsuited ListsIn task r (seeks, some) suits = some (sought task r seeks suits).1
-reason_unsuited NoLocator task r (is, none) suits = (subst (λ (t : Task). Suits t r) is suits).1.4 none
+reason_unsuited NoLocator task r (is, none) suits = (subst (λ (t : Task). Suits t r) is suits).1.3 none
 reason_unsuited NoLocatorIn task r (seeks, none) suits = (sought task r seeks suits).2 none
 reason_unsuited BoundsIn task r (is, none, bounds) suits =
     bounds (asks_no_bounds r.folders r none (subst (λ (t : Task). Suits t r) is suits).2)

@@ -188,8 +188,7 @@ SuitsFolders (first ∷ more) r = AsksSearch r
 -- what a tree wants: locators, and no option that it doesn't take
 abbrev pub AsksTree : RequestFields → Type 0
 AsksTree r =
-    (r.lists ≡ []) × (r.folders ≡ []) × (r.names ≡ true) × (r.all_entries ≡ false)
-    × (r.locators ≢ [])
+    (r.lists ≡ []) × (r.folders ≡ []) × (r.all_entries ≡ false) × (r.locators ≢ [])
 
 -- what the task wants: files, and no option that only another task takes
 abbrev pub Suits : Task → RequestFields → Type 0

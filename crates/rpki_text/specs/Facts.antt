@@ -15,6 +15,7 @@ use Rattle.rpki_ext.specs.SubjectAccess.{Access}
 use Rattle.rpki_der.specs.Tags.{CONTEXT, CONTEXT_CONSTRUCTED, OBJECT_IDENTIFIER, SEQUENCE}
 use Rattle.rpki_der.specs.Values.Reading.{◌>>=◌, value_at}
 use Rattle.rpki_text.specs.Notes.{HaveExtensions}
+use Rattle.rpki_text.specs.Qualifiers.{id_qt_cps}
 use Rattle.rpki_text.specs.declared.notes.fact.Fact.{Fact}
 use Rattle.rpki_text.specs.declared.notes.fact.FactKind.{FactKind}
 use Rattle.rpki_text.specs.declared.notes.fact.FactKind.TheVariants as fact
@@ -30,10 +31,6 @@ abbrev pub fact_view : Fact → FactFields
 fact_view f = record { kind = f.kind; octets = f.octets.now }
 
 -- ---- the statement of practices
-
--- id-qt-cps: 1.3.6.1.5.5.7.2.1 (RFC 5280 4.2.1.4)
-abbrev pub id_qt_cps : List ℕ
-id_qt_cps = pkix 0x02 0x01
 
 -- [UNIVERSAL 22] (X.680 8.6)
 abbrev pub IA5_STRING : ℕ

@@ -11,6 +11,7 @@ pub mod KeyTexts
 pub mod CertificateTexts
 -- ---- notes and facts
 pub mod Notes
+pub mod Qualifiers
 pub mod NoteTexts
 pub mod FaultSearch
 pub mod Facts

@@ -73,8 +73,7 @@ IsExtra Validate name r = (name ≡ codes "--all") × (r.all_entries ≡ true)
 IsExtra Tree name r =
     ((name ≡ codes "--crl") × (r.lists ≢ []))
     ⊎ (((name ≡ codes "--in") × (r.folders ≢ []))
-    ⊎ (((name ≡ codes "--no-names") × (r.names ≡ false))
-    ⊎ ((name ≡ codes "--all") × (r.all_entries ≡ true))))
+    ⊎ ((name ≡ codes "--all") × (r.all_entries ≡ true)))
 IsExtra _ name r = ⊥
 
 -- a path is to be sought in folders

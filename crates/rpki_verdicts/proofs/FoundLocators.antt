@@ -4,7 +4,7 @@ use Rattle.std.proofs.Common.{◌≡◌, ◌≢◌, ◌↔◌, ℕ, Bool, true, 
 use Rattle.std.proofs.lemmas.Bool.{true≢false, false≢true}
 use Rattle.rpki_cert.specs.Certificates.{CertFields, IsCertificate}
 use Rattle.rpki_der.specs.Encoding.{Means}
-use Rattle.rpki_path.specs.LocatedPaths.{IsLocatorOf}
+use Rattle.rpki_path.specs.LocatedPaths.{BeginsWithNumbers, IsLocatorOf}
 use Rattle.rpki_keys.specs.Locators.{IsLocator, NamedTal, TalFields}
 use Rattle.rpki_keys.specs.declared.tal.tal_error.TalError.{TalError}
 use Rattle.rpki_der.specs.Values.{IsUnambiguous}
@@ -12,7 +12,7 @@ use Rattle.rpki_files.specs.Contents.{BeginsWithCertificate}
 use Rattle.rpki_files.specs.Files.{FileFields}
 use Rattle.rpki_der.proofs.Formats.{one_meant}
 use Rattle.rpki_files.specs.LocatorFiles.{IsReadAs}
-use Rattle.rpki_verdicts.specs.GivenLocators.{LocatorFields, locator_files, locator_octets, IsRead, HasKeyRead, IsLocated, IsFirst}
+use Rattle.rpki_verdicts.specs.GivenLocators.{LocatorFields, locator_files, locator_octets, IsRead, HasKeyRead, HasNumbersIf, IsLocated, IsFirst}
 use Rattle.rpki_verdicts.proofs.FirstItems.{any_there, first_image}
 use Rattle.rpki_verdicts.proofs.ReadLocators.{read_at}
 
@@ -68,6 +68,16 @@ never_located strict anchor files (Some place) some h none = absurd (false≢tru
 pub some_octets : (locators : List LocatorFields) → (length locators ≡ 0 → ⊥) → locator_octets locators ≢ []
 some_octets [] some = absurd (some refl)
 some_octets (l ∷ ls) some = λ e. cc
+
+-- a trust anchor that lists a number
+pub numbers_if : (anchor : List ℕ) (files : List (List ℕ)) → BeginsWithNumbers anchor → HasNumbersIf files anchor
+numbers_if anchor [] has = tt
+numbers_if anchor (file ∷ files) has = has
+
+-- where no locators are given, that isn't asked
+pub unasked_numbers : (anchor : List ℕ) (files : List (List ℕ)) → files ≡ [] → HasNumbersIf files anchor
+unasked_numbers anchor [] is = tt
+unasked_numbers anchor (file ∷ files) is = absurd cc
 
 -- where none are given, none is asked for
 pub unasked : (strict : Bool) (anchor : List ℕ) (files : List (List ℕ)) → files ≡ [] → IsLocated strict files anchor

@@ -7,10 +7,11 @@ use Rattle.rpki_path.specs.AskedLists.{by_named_lists}
 use Rattle.rpki_cert.specs.Certificates.{CertFields, IsCertificate}
 use Rattle.rpki_path.specs.GivenPaths.{PathStrings, path_to, anchor_alone}
 use Rattle.rpki_path.specs.declared.judging.Judged.{Judged}
-use Rattle.rpki_path.specs.Judging.{IsAcceptedWith, IsRouterIfAny}
+use Rattle.rpki_path.specs.Judging.{IsAcceptedWith, IsRouterIfAny, last_certificate, last_key}
 use Rattle.rpki_keys.specs.KeyForms.{IsUsableKey}
 use Rattle.rpki_cert.specs.declared.inspect.Kind.{Kind}
 use Rattle.rpki_crl.specs.Lists.{CrlFields, CrlState, IsCertificateList}
+use Rattle.rpki_path.specs.LocatedPaths.{BeginsWithNoNumber, ListsSome}
 use Rattle.rpki_path.specs.NameChains.{strings_below}
 use Rattle.rpki_path.specs.Paths.{Path, Candidate, HasHeld, IsAccepted, certificate_at, last}
 use Rattle.rpki_der.specs.Values.{IsUnambiguous}
@@ -20,10 +21,10 @@ use Rattle.rpki_der.proofs.Formats.{one_meant}
 use Rattle.rpki_path.proofs.Rejections as paths
 use Rattle.rpki_path.proofs.UnchainedNames.{never_chained}
 use Rattle.rpki_files.specs.Contents.{BeginsWithCertificate}
-use Rattle.rpki_verdicts.specs.Reasons.{locator_reason}
-use Rattle.rpki_verdicts.specs.GivenLocators.{IsLocated}
+use Rattle.rpki_verdicts.specs.Reasons.{locator_reason, resources_reason}
+use Rattle.rpki_verdicts.specs.GivenLocators.{HasNumbersIf, IsLocated}
 use Rattle.rpki_verdicts.specs.PathFiles.{Demands, HasJudgedLast, IsGivenBy, IsJudgedAs, AreListsOf}
-use Rattle.rpki_verdicts.specs.PathAnswers.{last_certificate, last_key, reason_of, AreSame, HoldSame, IsUsablePath, IsVerdictOn, IsVerdictBy}
+use Rattle.rpki_verdicts.specs.PathAnswers.{reason_of, AreSame, HoldSame, IsUsablePath, IsVerdictOn, IsVerdictBy}
 use Rattle.rpki_verdicts.specs.PathAnswers.Steps.{IsNamedVerdict}
 use Rattle.rpki_verdicts.specs.declared.path.Fault.{Fault}
 use Rattle.rpki_verdicts.specs.declared.path.Verdict.{Verdict}
@@ -116,13 +117,22 @@ module _ (one_certificate : IsUnambiguous IsCertificate) where
   module _ (x : Context) (asked : RevocationChecks) (d : Demands) (files : List (List ℕ)) (g : PathStrings) where
     -- a trust anchor whose key no locator has
     pub other_key_verdict : (fault : Fault) → BeginsWithCertificate g.anchor → (IsLocated x.strict d.locators g.anchor → ⊥) → fault.index ≡ 0 → reason_of fault ≡ locator_reason → IsVerdictOn x asked d files g (Rejected fault)
-    other_key_verdict fault begins other place reason = ((λ j u. other u.located), inl (record { begins = begins; other = other; place_is = place; reason_is = reason }))
+    other_key_verdict fault begins other place reason = ((λ j u. other u.located), inl (inl (record { begins = begins; other = other; place_is = place; reason_is = reason })))
+
+    -- a trust anchor that lists no number, where a locator is given
+    no_numbers : (locators : List (List ℕ)) → (locators ≡ [] → ⊥) → BeginsWithNoNumber g.anchor → HasNumbersIf locators g.anchor → ⊥
+    no_numbers [] given none has = given refl
+    no_numbers (file ∷ locators) given none has = none.lists_none (subst ListsSome (one_meant IsCertificate one_certificate has.cert none.cert g.anchor has.begins none.begins) has.lists)
+
+    pub no_numbers_verdict : (fault : Fault) → (d.locators ≡ [] → ⊥) → BeginsWithNoNumber g.anchor → fault.index ≡ 0 → reason_of fault ≡ resources_reason → IsVerdictOn x asked d files g (Rejected fault)
+    no_numbers_verdict fault given none place reason = ((λ j u. no_numbers d.locators given none u.numbers), inl (inr (record { given = given; begins = none; place_is = place; reason_is = reason })))
 
     -- what names and the last key make of a valid path
-    module _ (judged : Judged) (place : ℕ) (located : IsLocated x.strict d.locators g.anchor) (accepted : IsAcceptedWith x asked g judged) (end : place + 1 ≡ length files) where
+    module _ (judged : Judged) (place : ℕ) (located : IsLocated x.strict d.locators g.anchor) (numbers : HasNumbersIf d.locators g.anchor) (accepted : IsAcceptedWith x asked g judged) (end : place + 1 ≡ length files) where
       pub named_verdict : (v : Verdict) → IsNamedVerdict g d.names judged place v → IsVerdictOn x asked d files g v
       named_verdict (Accepted j) (chained, k) = record {
         located = located;
+        numbers = numbers;
         accepted = subst (λ (i : Judged). IsAcceptedWith x asked g i) (sym k.0) accepted;
         chained = chained;
         usable = subst (λ (i : Judged). IsUsableKey (last_key i)) (sym k.0) k.1;

@@ -5,7 +5,7 @@ use Rattle.std.proofs.Common.{◌≡◌, ◌<◌, ℕ, Bool, true, false, not, L
 use Rattle.std.proofs.lemmas.List.{append_assoc}
 use Rattle.std.proofs.lemmas.List.Elements.{All-from_recursion}
 use Rattle.std.proofs.lemmas.Option.{slice_get_within, get_or_from_slice_get}
-use Rattle.rpki_path.specs.AskedLists.{by_lists}
+use Rattle.rpki_path.specs.AskedLists.{by_named_lists}
 use Rattle.rpki_path.specs.Asking.{RevocationChecks}
 use Rattle.rpki_folder.specs.declared.bounds.Ended.{Ended}
 use Rattle.rpki_folder.specs.declared.bounds.Ended.TheVariants.{Whole}
@@ -17,8 +17,12 @@ use Rattle.rpki_folder.specs.KeptLines.{AreLines, IsLine, IsRejectedWithin}
 use Rattle.rpki_folder.specs.declared.lines.Line.{Line}
 use Rattle.rpki_folder.specs.declared.lines.Line.TheVariants as line
 use Rattle.rpki_path.specs.declared.path_fault.PathFault.{PathFault}
+use Rattle.rpki_cert.specs.Certificates.{CertFields}
 use Rattle.rpki_cert.specs.Verification.{Context}
-use Rattle.rpki_folder.specs.Walks.{Root, AreAdmitted, IsAcceptedAs, IsReached, IsRight, IsRightOf, IsTold, Told, at_anchor, members_at}
+use Rattle.rpki_folder.specs.Walks.{Root, IsAcceptedAs, IsLookedAt, IsReached, IsRight, IsRightOf, IsTold, Tells, Told, at_anchor, members_at}
+use Rattle.rpki_folder.specs.declared.walk_error.WalkError.{WalkError}
+use Rattle.rpki_folder.proofs.KeptLineSteps.{told_so}
+use Rattle.rpki_folder.proofs.SearchSteps.{told_let_in}
 use Rattle.rpki_folder.specs.Folders.{octets_at}
 use Rattle.rpki_files.specs.Contents.{BeginsWithCertificate}
 use Rattle.rpki_files.specs.Files.{FileFields, contents}
@@ -55,10 +59,6 @@ files_more certs before old new places k so_far one =
 
 -- ---- what was told of the first certificate
 
-all_admitted : (above places : List ℕ) → AreAdmitted every above places
-all_admitted above [] = tt
-all_admitted above (place ∷ places) = (tt, all_admitted (above ++ place ∷ []) places)
-
 -- a verdict that accepts is right where a path leads
 reached_by : (x : Context) (asked : RevocationChecks) (root : Root) (members : List Candidate) (octets : List ℕ) (v : Result Judged PathFault) → IsOk v → IsRightOf x asked root members octets v → (kind : Kind) × (j : Judged) × BeginsWithKind kind octets × IsAcceptedAs x asked root members kind octets j
 reached_by x asked root members octets (Ok j) ok h = (h.0, j, h.1, h.2)
@@ -77,9 +77,9 @@ module _ (ts : List Told) (place : ℕ) where
   pub line_tells : (o : Option Line) (above : List ℕ) → above_by o ≡ Some above → ((l : Line) → o ≡ Some l → IsLine ts place l) → IsTold ts above place
   line_tells None above e kept = absurd cc
   line_tells (Some line.Unseen) above e kept = absurd cc
-  line_tells (Some (line.Accepted v)) above e kept =
-      let same : v.items ≡ above = cc in
-      subst (λ (l : List ℕ). IsTold ts l place) same (kept (line.Accepted v) refl)
+  line_tells (Some (line.Accepted path)) above e kept =
+      let same : path.above.items ≡ above = cc in
+      subst (λ (l : List ℕ). IsTold ts l place) same (told_so ts place path (kept (line.Accepted path) refl))
   line_tells (Some (line.Rejected n f)) above e kept = absurd cc
 
   never : (P : Told → Type 0) → AllByRecursion P ts → (above : List ℕ) (h : IsTold ts above place) → P h.1
@@ -90,7 +90,7 @@ module _ (ts : List Told) (place : ℕ) where
   line_denies None l is e kept above h = absurd cc
   line_denies (Some line.Unseen) l is e kept above h =
       never (λ t. t.place ≡ place → ⊥) (kept line.Unseen refl) above h h.4.1
-  line_denies (Some (line.Accepted v)) l is e kept above h = absurd cc
+  line_denies (Some (line.Accepted path)) l is e kept above h = absurd cc
   line_denies (Some (line.Rejected n f)) l is e kept above h =
       (never (IsRejectedWithin place n) (kept (line.Rejected n f) refl).1 above h h.4.1).0 h.4.2
 
@@ -109,23 +109,35 @@ module _ (x : Context) (q : TreeFields) (file : FileFields) (tree : Tree) (is : 
   kept_first : (l : Line) → slice_get tree.lines 0 ≡ Some l → IsLine is.grown.told 0 l
   kept_first = line_kept is.grown.told tree.lines 0 is.grown.lines_are
 
+  -- the walk from the tree's trust anchor
+  abbrev top : CertFields
+  top = is.grown.anchor_is.cert
+
+  abbrev admits : List ℕ → ℕ → Type 0
+  admits = IsLookedAt q.names every top (contents (certs_of tree))
+
+  tells : Tells {E = WalkError} x (by_named_lists q.names x is.grown.lists) admits (at_anchor is.grown.locator is.grown.anchor.octets) (contents (certs_of tree)) [] q.depth q.steps (Ok tree.ended) is.grown.told
+  tells = is.grown.tells top is.grown.anchor_is.valid.begins
+
   -- the line of the file accepts it: a valid path leads to it
   pub leads_by : (above : List ℕ) → above_by (slice_get tree.lines 0) ≡ Some above → Leads x q tree is.grown above
   leads_by above e =
-      told_reached x (by_lists x is.grown.lists) (at_anchor is.grown.locator is.grown.anchor.octets) (contents (certs_of tree)) is.grown.told is.grown.tells.right above 0
-      (line_tells is.grown.told 0 (slice_get tree.lines 0) above e kept_first)
+      let told = line_tells is.grown.told 0 (slice_get tree.lines 0) above e kept_first in (
+        told_reached x (by_named_lists q.names x is.grown.lists) (at_anchor is.grown.locator is.grown.anchor.octets) (contents (certs_of tree)) is.grown.told tells.right above 0 told,
+        told_let_in admits 0 is.grown.told above tells.let_in told,
+      )
 
   pub valid_by : (above : List ℕ) (path : List FileFields) → above_by (slice_get tree.lines 0) ≡ Some above → path ≡ files_at (certs_of tree) (tree.anchor ∷ above) ++ file ∷ [] → IsValidPathTo x q file path
   valid_by above path e path_is =
       let files = path_is ∙ ap (λ (o : Option FileFields). cons_option o (files_at (certs_of tree) above) ++ file ∷ []) is.grown.anchor_is.valid.candidate.file_is in
-      let asked = by_lists x is.grown.lists in
+      let asked = by_named_lists q.names x is.grown.lists in
       record {
         tree = tree;
         is = is;
         above = above;
         leads = leads_by above e;
         path_is = files;
-        is_valid = subst (λ (l : List FileFields). IsValidAmong x asked (contents l)) (sym files) (reached_files x asked is.grown.locator is.grown.anchor file (certs_of tree) above is.first_is (leads_by above e));
+        is_valid = subst (λ (l : List FileFields). IsValidAmong x asked (contents l)) (sym files) (reached_files x asked is.grown.locator is.grown.anchor file (certs_of tree) above is.first_is (leads_by above e).0);
       }
 
   -- there is a line of the file
@@ -140,7 +152,7 @@ module _ (x : Context) (q : TreeFields) (file : FileFields) (tree : Tree) (is : 
     is = is;
     none = λ above covers leads.
         line_denies is.grown.told 0 (slice_get tree.lines 0) first_line.0 first_line.1 e kept_first above
-        (is.grown.tells.complete above 0 covers (all_admitted [] (above ++ 0 ∷ [])) leads);
+        (tells.complete above 0 covers leads.1 leads.0);
   }
 
   -- what is sought, of either

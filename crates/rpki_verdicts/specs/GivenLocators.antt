@@ -1,7 +1,7 @@
 -- Files that are given as locators, and whether a trust anchor is one's (RFC 8630 3).
 use Rattle.std.specs.Prelude.{◌≡◌, ◌<◌, ℕ, Bool, Any, IsOkAnd, List, [], ◌∷◌, map, slice_get, Option, Some, None, Result, Ok}
 use Rattle.rpki_parts.specs.Keys.{KeyFields}
-use Rattle.rpki_path.specs.LocatedPaths.{IsLocatorOf}
+use Rattle.rpki_path.specs.LocatedPaths.{BeginsWithNumbers, IsLocatorOf}
 use Rattle.rpki_keys.specs.Locators.{NamedTal}
 use Rattle.rpki_keys.specs.declared.tal.tal_error.TalError.{TalError}
 use Rattle.rpki_files.specs.Files.{FileFields, contents}
@@ -40,6 +40,11 @@ HasTalRead locators key t = Any (λ l. l.read ≡ Ok t) locators × (key ≡ t.t
 abbrev pub IsLocated : Bool → List (List ℕ) → List ℕ → Type 0
 IsLocated strict [] anchor = Unit {0}
 IsLocated strict (file ∷ files) anchor = Any (IsLocatorOf strict anchor) (file ∷ files)
+
+-- if a locator is given, the trust anchor lists a number (RFC 8630 2.3)
+abbrev pub HasNumbersIf : List (List ℕ) → List ℕ → Type 0
+HasNumbersIf [] anchor = Unit {0}
+HasNumbersIf (file ∷ files) anchor = BeginsWithNumbers anchor
 
 -- the first of which this holds stands at this place; or it holds of none
 abbrev pub IsFirst : {X : Type 0} → (X → Type 0) → List X → Option ℕ → Type 0

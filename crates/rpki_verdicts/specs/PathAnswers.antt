@@ -2,12 +2,10 @@
 use Rattle.std.specs.Prelude.{◌≡◌, ◌≢◌, ◌↔◌, ◌⊎◌, ◌+◌, ℕ, Bool, IsTrue, List, [], ◌∷◌, length, Option, Some, None, slice_get}
 use Rattle.rpki_path.specs.Asking.{RevocationChecks, nobody}
 use Rattle.rpki_path.specs.AskedLists.{by_named_lists}
-use Rattle.rpki_cert.specs.Certificates.{CertFields}
 use Rattle.rpki_path.specs.GivenPaths.{PathStrings}
 use Rattle.rpki_path.specs.declared.judging.Judged.{Judged}
-use Rattle.rpki_path.specs.Judging.{IsAcceptedWith, IsFaultOf}
+use Rattle.rpki_path.specs.Judging.{IsAcceptedWith, IsFaultOf, last_key}
 use Rattle.rpki_keys.specs.KeyForms.{IsUsableKey}
-use Rattle.rpki_parts.specs.Keys.{KeyFields}
 use Rattle.rpki_crl.specs.Lists.{CrlState}
 use Rattle.rpki_keys.specs.LocatorFaults.{IsTalFault}
 use Rattle.rpki_path.specs.declared.path_fault.PathError.{PathError}
@@ -16,28 +14,18 @@ use Rattle.rpki_path.specs.declared.path_fault.PathFault.TheVariants.{Memory}
 use Rattle.rpki_blocks.specs.Sets.{Has}
 use Rattle.rpki_keys.specs.declared.tal.tal_error.TalError.{TalError}
 use Rattle.rpki_cert.specs.Verification.{Context, ResourceFields}
+use Rattle.rpki_path.specs.LocatedPaths.{BeginsWithNoNumber}
 use Rattle.rpki_path.specs.NameChains.{BeginChained, IsUnchained, strings_below}
 use Rattle.rpki_files.specs.Contents.{BeginsWithCertificate}
 use Rattle.rpki_files.specs.FaultRules.{rule_of}
-use Rattle.rpki_verdicts.specs.Reasons.{ReasonFields, reason, IsReason, key_reason, locator_reason, name_reason, tal_reason}
+use Rattle.rpki_verdicts.specs.Reasons.{ReasonFields, reason, IsReason, key_reason, locator_reason, name_reason, resources_reason, tal_reason}
 use Rattle.rpki_files.specs.LocatorFiles.{AreLocator}
-use Rattle.rpki_verdicts.specs.GivenLocators.{IsLocated}
+use Rattle.rpki_verdicts.specs.GivenLocators.{HasNumbersIf, IsLocated}
 use Rattle.rpki_verdicts.specs.PathFiles.{Demands, IsGivenBy, AreListsOf}
 use Rattle.rpki_verdicts.specs.declared.path.Fault.{Fault}
 use Rattle.rpki_verdicts.specs.declared.path.Verdict.{Verdict}
 use Rattle.rpki_verdicts.specs.declared.path.Verdict.TheVariants.{Accepted, Rejected}
 pub mod Steps
-
--- ---- the last key
-
--- the certificate of the last member: the router's, where it is one
-abbrev pub last_certificate : ResourceFields → Option CertFields → CertFields
-last_certificate holder None = holder.cert
-last_certificate holder (Some router) = router
-
--- the key that the last member signs with
-abbrev pub last_key : Judged → KeyFields
-last_key j = (last_certificate j.holder j.router).fields.key
 
 -- ---- a path that is accepted
 
@@ -45,12 +33,14 @@ last_key j = (last_certificate j.holder j.router).fields.key
 abbrev pub AreChained : Bool → PathStrings → Type 0
 AreChained names g = IsTrue names → BeginChained g.anchor (strings_below g)
 
--- the trust anchor is that of a locator (RFC 8630 3); the path is valid, with what its last member
--- holds; names chain (RFC 6487 7.2); and the last key is one that the RPKI uses (RFC 7935 3, RFC
--- 8608 3.1), as those above it are by the signatures that they verify
+-- the trust anchor is that of a locator (RFC 8630 3), and lists a number if one is given (RFC 8630
+-- 2.3); the path is valid, with what its last member holds; names chain (RFC 6487 7.2); and the last
+-- key is one that the RPKI uses (RFC 7935 3, RFC 8608 3.1), as those above it are by the signatures
+-- that they verify
 pub record IsUsablePath (x : Context) (asked : RevocationChecks) (d : Demands)
     (g : PathStrings) (j : Judged) : Type 0 where
   pub located : IsLocated x.strict d.locators g.anchor
+  pub numbers : HasNumbersIf d.locators g.anchor
   pub accepted : IsAcceptedWith x asked g j
   pub chained : AreChained d.names g
   pub usable : IsUsableKey (last_key j)
@@ -87,6 +77,13 @@ pub record HasOtherKey (x : Context) (d : Demands) (g : PathStrings) (fault : Fa
   pub place_is : fault.index ≡ 0
   pub reason_is : reason_of fault ≡ locator_reason
 
+-- a locator is given, and the trust anchor's octets begin with a certificate that lists no number
+pub record HasNoNumbers (d : Demands) (g : PathStrings) (fault : Fault) : Type 0 where
+  pub given : d.locators ≢ []
+  pub begins : BeginsWithNoNumber g.anchor
+  pub place_is : fault.index ≡ 0
+  pub reason_is : reason_of fault ≡ resources_reason
+
 -- the member at the fault's place is wrong, for its reason, and those above it are a valid path
 pub record IsWrong (x : Context) (asked : RevocationChecks) (files : List (List ℕ))
     (g : PathStrings) (fault : Fault) : Type 0 where
@@ -121,12 +118,12 @@ pub record EndsInBadKey (x : Context) (asked : RevocationChecks) (d : Demands)
 
 -- ---- the verdict
 
--- why it is rejected, in the order in which it is asked: of the trust anchor's locator, of the
--- path, of names, and of the last key; what is asked before the fault holds
+-- why it is rejected, in the order in which it is asked: of the trust anchor's locator and numbers,
+-- of the path, of names, and of the last key; what is asked before the fault holds
 abbrev pub IsFaultIn : Context → RevocationChecks → Demands → List (List ℕ) → PathStrings
     → Fault → Type 0
 IsFaultIn x asked d files g fault =
-    HasOtherKey x d g fault
+    (HasOtherKey x d g fault ⊎ HasNoNumbers d g fault)
     ⊎ (IsWrong x asked files g fault
     ⊎ (HasOtherName x asked d g fault ⊎ EndsInBadKey x asked d files g fault))
 

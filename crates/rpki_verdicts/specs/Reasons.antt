@@ -10,7 +10,7 @@ use Rattle.rpki_crl.specs.Revocation.{revocation_error_name}
 use Rattle.rpki_keys.specs.declared.tal.tal_error.TalError.{TalError}
 use Rattle.rpki_keys.specs.TalErrors.{tal_error_name}
 use Rattle.rpki_cert.specs.Verification.{verification_error_name}
-use Rattle.rpki_files.specs.FaultRules.{RuleFields, IsProfileRule, IsReadingRule, key_rule, name_rule, no_memory, other_key, revocation_rule, tal_rule, verification_rule}
+use Rattle.rpki_files.specs.FaultRules.{RuleFields, IsProfileRule, IsReadingRule, key_rule, name_rule, no_memory, no_resources, other_key, revocation_rule, tal_rule, verification_rule}
 
 -- the step at which a fault comes, its name, and its rule
 pub record ReasonFields : Type 0 where
@@ -37,6 +37,10 @@ IsReason path.Memory octets r = r ≡ reason (codes "memory") (path_fault_name p
 -- of a trust anchor whose key no locator has that is given
 abbrev pub locator_reason : ReasonFields
 locator_reason = reason (codes "locator") (codes "OtherKey") other_key
+
+-- of a trust anchor that has a locator's key, and lists no number
+abbrev pub resources_reason : ReasonFields
+resources_reason = reason (codes "locator") (codes "NoResources") no_resources
 
 -- of a file that is given as a locator, and is none
 abbrev pub tal_reason : TalError → ReasonFields

@@ -2,7 +2,7 @@
 -- bounds).
 use Rattle.std.specs.Prelude.{◌≡◌, ◌≢◌, ◌⊎◌, ◌+◌, ◌<◌, ℕ, Bool, true, false, All, List, [], ◌∷◌, ◌++◌, length, slice_get, filter_map, Option, Some, None, IsSome, IsTrue}
 use Rattle.rpki_path.specs.Asking.{RevocationChecks}
-use Rattle.rpki_path.specs.AskedLists.{by_lists}
+use Rattle.rpki_path.specs.AskedLists.{by_named_lists}
 use Rattle.rpki_cert.specs.Certificates.{CertFields, IsCertificate}
 use Rattle.rpki_der.specs.Encoding.{Means}
 use Rattle.rpki_folder.specs.declared.bounds.Ended.{Ended}
@@ -14,11 +14,11 @@ use Rattle.rpki_path.specs.Judging.{IsAcceptedWith}
 use Rattle.rpki_folder.specs.declared.lines.Line.{Line}
 use Rattle.rpki_folder.specs.declared.lines.Line.TheVariants as line
 use Rattle.rpki_cert.specs.Verification.{Context}
-use Rattle.rpki_folder.specs.Walks.{Covers, IsReached, at_anchor}
+use Rattle.rpki_folder.specs.Walks.{AreAdmitted, Covers, IsLookedAt, IsReached, at_anchor}
 use Rattle.rpki_files.specs.Contents.{BeginsWithCertificate, IsList}
 use Rattle.rpki_files.specs.Files.{FileFields, contents}
 use Rattle.rpki_verdicts.specs.PathFiles.{IsGivenBy}
-use Rattle.rpki_verdicts.specs.Trees.{HasLocator, HasNoAnchor, IsTreeOf, TreeFields, certs_of}
+use Rattle.rpki_verdicts.specs.Trees.{HasLocator, HasNoAnchor, IsTreeOf, TreeFields, certs_of, every}
 use Rattle.rpki_verdicts.specs.declared.unordered.Tree.{Tree}
 use Rattle.rpki_verdicts.specs.declared.unordered.WrongAnchor.{WrongAnchor}
 
@@ -34,11 +34,14 @@ pub record IsTreeWith (x : Context) (q : TreeFields) (file : FileFields) (tree :
   pub first_is : slice_get (certs_of tree) 0 ≡ Some file
 
 -- a valid path leads from the trust anchor of the tree, by the CAs at these places, to the first
--- certificate, where all lists among the files are asked
+-- certificate, where all lists among the files are asked; its names chain, if they are asked, and no
+-- issuer stands on it twice
 abbrev pub Leads : (x : Context) (q : TreeFields) (tree : Tree) → IsTreeOf x q tree → List ℕ → Type 0
 Leads x q tree is above =
-    IsReached x (by_lists x is.lists) (at_anchor is.locator is.anchor.octets)
+    IsReached x (by_named_lists q.names x is.lists) (at_anchor is.locator is.anchor.octets)
     (contents (certs_of tree)) above 0
+    × AreAdmitted (IsLookedAt q.names every is.anchor_is.cert (contents (certs_of tree))) []
+    (above ++ 0 ∷ [])
 
 -- the files are a valid path, as the verdict on a path has it, which asks for names and for the
 -- last key beside that
@@ -55,7 +58,7 @@ pub record IsValidPathTo (x : Context) (q : TreeFields) (file : FileFields) (pat
   pub above : List ℕ
   pub leads : Leads x q tree is.grown above
   pub path_is : path ≡ is.grown.anchor ∷ (files_at (certs_of tree) above ++ file ∷ [])
-  pub is_valid : IsValidAmong x (by_lists x is.grown.lists) (contents path)
+  pub is_valid : IsValidAmong x (by_named_lists q.names x is.grown.lists) (contents path)
 
 -- there is none, of those that the walk of the tree looked at
 pub record HasNoValidPath (x : Context) (q : TreeFields) (file : FileFields)
@@ -68,7 +71,7 @@ pub record HasNoValidPath (x : Context) (q : TreeFields) (file : FileFields)
 
 -- the places of the CAs above a certificate, where its line accepts it
 abbrev pub above_by : Option Line → Option (List ℕ)
-above_by (Some (line.Accepted above)) = Some above.items
+above_by (Some (line.Accepted path)) = Some path.above.items
 above_by _ = None
 
 -- ---- what stands above a file to which no valid path leads

@@ -7,7 +7,7 @@ use Rattle.std.specs.declared.cmp.Ordering.{Ordering}
 use Rattle.std.specs.declared.cmp.Ordering.TheVariants.{Less}
 use Rattle.std.specs.Prelude.{◌≡◌, ◌≢◌, ◌⊎◌, ℕ, List, [], ◌∷◌, length, map, slice_get, Any, Some, Ok, Bool, true, false, IsTrue, count_by}
 use Rattle.rpki_path.specs.Asking.{RevocationChecks}
-use Rattle.rpki_path.specs.AskedLists.{by_lists}
+use Rattle.rpki_path.specs.AskedLists.{by_named_lists}
 use Rattle.rpki_cert.specs.Certificates.{CertFields, IsCertificate}
 use Rattle.rpki_der.specs.Encoding.{Means}
 use Rattle.rpki_folder.specs.Folders.{FolderFields}
@@ -16,17 +16,16 @@ use Rattle.rpki_folder.specs.declared.lines.Line.{Line}
 use Rattle.rpki_folder.specs.declared.lines.Line.TheVariants as line
 use Rattle.rpki_folder.specs.declared.bounds.Ended.TheVariants.{Whole}
 use Rattle.rpki_crl.specs.Lists.{CrlState}
-use Rattle.rpki_path.specs.declared.located.LocatedError.{LocatedError}
-use Rattle.rpki_path.specs.declared.located.LocatedError.TheVariants.{OtherKey, Path as path}
+use Rattle.rpki_path.specs.declared.located.LocatedError.TheVariants.{OtherKey, NoResources, Path as path}
 use Rattle.rpki_path.specs.LocatedPaths.{BeginsWithKey}
 use Rattle.rpki_keys.specs.Locators.{NamedTal}
 use Rattle.rpki_der.specs.Times.{Moment, second_number}
 use Rattle.rpki_cert.specs.Verification.{Context}
 use Rattle.rpki_folder.specs.declared.walk_error.WalkError.{WalkError}
-use Rattle.rpki_folder.specs.declared.walk_error.WalkError.TheVariants.{Anchor}
-use Rattle.rpki_folder.specs.Walks.{Told, Tells, IsValidAnchor, IsWhyNone, at_anchor}
+use Rattle.rpki_folder.specs.declared.walk_error.WalkError.TheVariants.{Anchor, OtherName, Memory}
+use Rattle.rpki_folder.specs.Walks.{Told, TellsFrom, IsValidAnchor, IsWhyNone}
 use Rattle.rpki_files.specs.Contents.{BeginsWithCertificate}
-use Rattle.rpki_verdicts.specs.Reasons.{IsReason, locator_reason}
+use Rattle.rpki_verdicts.specs.Reasons.{IsReason, locator_reason, name_reason, resources_reason}
 use Rattle.rpki_files.specs.Files.{FileFields, contents}
 use Rattle.rpki_verdicts.specs.GivenLocators.{LocatorFields}
 use Rattle.rpki_verdicts.specs.PathAnswers.{reason_of}
@@ -41,11 +40,13 @@ pub mod Steps
 
 -- ---- what is asked
 
--- the files, those given as locators, whether they are read strictly, the moment, how many
--- certificates a path has at most below the trust anchor, and how many are verified at most
+-- the files, those given as locators, whether names have to chain, whether they are read strictly, the
+-- moment, how many certificates a path has at most below the trust anchor, and how many are verified
+-- at most
 pub record TreeFields : Type 0 where
   pub files : List FileFields
   pub locators : List LocatorFields
+  pub names : Bool
   pub strict : Bool
   pub at : Moment
   pub depth : ℕ
@@ -56,6 +57,7 @@ abbrev pub asked_of : TreeQuestion → TreeFields
 asked_of q = record {
   files = q.files.now;
   locators = q.locators.now;
+  names = q.names;
   strict = q.strict;
   at = q.at;
   depth = q.depth;
@@ -106,38 +108,43 @@ anchor_order c d =
     (slice_cmp nat_cmp c.signed_data.message d.signed_data.message)
 
 -- the certificate at a place has the key of a locator, and is valid as its trust anchor
-pub record IsValidAt (x : Context) (asked : RevocationChecks) (locators : List LocatorFields)
-    (certs : List FileFields) (place : ℕ) (file : FileFields) (t : NamedTal)
-    (c : CertFields) : Type 0 where
+pub record IsValidAt (x : Context) (asked : RevocationChecks) (names : Bool)
+    (locators : List LocatorFields) (certs : List FileFields) (place : ℕ) (file : FileFields)
+    (t : NamedTal) (c : CertFields) : Type 0 where
   pub candidate : IsCandidateAt locators certs place file t
   pub begins : Means IsCertificate c file.octets
-  pub is_valid : IsValidAnchor x asked t file.octets
+  pub is_valid : IsValidAnchor x asked names t file.octets
 
 -- the trust anchor stands at this place: a valid one, and no other valid one is greater, wherever
 -- it stands
-pub record IsAnchorAt (x : Context) (asked : RevocationChecks) (locators : List LocatorFields)
-    (certs : List FileFields) (place : ℕ) (anchor : FileFields) (t : NamedTal) : Type 0 where
+pub record IsAnchorAt (x : Context) (asked : RevocationChecks) (names : Bool)
+    (locators : List LocatorFields) (certs : List FileFields) (place : ℕ) (anchor : FileFields)
+    (t : NamedTal) : Type 0 where
   pub cert : CertFields
-  pub valid : IsValidAt x asked locators certs place anchor t cert
+  pub valid : IsValidAt x asked names locators certs place anchor t cert
   pub greatest : (k : ℕ) (other : FileFields) (u : NamedTal) (d : CertFields)
-      → IsValidAt x asked locators certs k other u d → anchor_order cert d ≡ Less → ⊥
+      → IsValidAt x asked names locators certs k other u d → anchor_order cert d ≡ Less → ⊥
 
 -- the step, the name and the rule of what is wrong with the trust anchor
-abbrev pub IsAnchorReason : List ℕ → LocatedError → Fault → Type 0
-IsAnchorReason octets OtherKey fault = reason_of fault ≡ locator_reason
-IsAnchorReason octets (path e) fault = IsReason e.fault octets (reason_of fault)
+abbrev pub IsAnchorReason : List ℕ → WalkError → Fault → Type 0
+IsAnchorReason octets (Anchor OtherKey) fault = reason_of fault ≡ locator_reason
+IsAnchorReason octets (Anchor NoResources) fault = reason_of fault ≡ resources_reason
+IsAnchorReason octets (Anchor (path e)) fault = IsReason e.fault octets (reason_of fault)
+IsAnchorReason octets OtherName fault = reason_of fault ≡ name_reason 0
+IsAnchorReason octets Memory fault = ⊥
 
 -- the file is wrong so as the trust anchor of a locator
-pub record IsWrongAs (x : Context) (asked : RevocationChecks) (t : NamedTal) (file : FileFields)
-    (fault : Fault) : Type 0 where
-  pub error : LocatedError
-  pub why : IsWhyNone x asked t file.octets (Anchor error)
+pub record IsWrongAs (x : Context) (asked : RevocationChecks) (names : Bool) (t : NamedTal)
+    (file : FileFields) (fault : Fault) : Type 0 where
+  pub error : WalkError
+  pub why : IsWhyNone x asked names t file.octets error
   pub reason_is : IsAnchorReason file.octets error fault
 
 -- the file has the key of one of the locators, and is wrong so as its trust anchor
-abbrev pub IsWrongOf : Context → RevocationChecks → List LocatorFields → FileFields → Fault → Type 0
-IsWrongOf x asked locators file fault =
-    (t : NamedTal) × IsAnchorOf locators t file × IsWrongAs x asked t file fault
+abbrev pub IsWrongOf : Context → RevocationChecks → Bool → List LocatorFields → FileFields → Fault
+    → Type 0
+IsWrongOf x asked names locators file fault =
+    (t : NamedTal) × IsAnchorOf locators t file × IsWrongAs x asked names t file fault
 
 -- ---- the answer
 
@@ -150,19 +157,20 @@ abbrev pub every : List ℕ → ℕ → Type 0
 every above place = Unit {0}
 
 -- The tree of the files: the trust anchor is a valid one of those that have the key of a locator; a
--- walk down from it over all certificates among them, with all lists among them, told verdicts that
--- are right and complete; and the line of each certificate is kept of these.
+-- walk down from it over all certificates among them, with all lists among them, and with names if
+-- they are asked, told verdicts that are right and complete; and the line of each certificate is kept
+-- of these.
 pub record IsTreeOf (x : Context) (q : TreeFields) (tree : Tree) : Type 0 where
   pub certs_are : AreCertificatesOf q.files (certs_of tree)
   pub lists : List CrlState
   pub lists_are : AreListsOf (contents q.files) lists
   pub anchor : FileFields
   pub locator : NamedTal
-  pub anchor_is : IsAnchorAt x (by_lists x lists) q.locators (certs_of tree) tree.anchor anchor
-      locator
+  pub anchor_is : IsAnchorAt x (by_named_lists q.names x lists) q.names q.locators (certs_of tree) tree.anchor
+      anchor locator
   pub told : List Told
-  pub tells : Tells {E = WalkError} x (by_lists x lists) every (at_anchor locator anchor.octets)
-      (contents (certs_of tree)) [] q.depth q.steps (Ok tree.ended) told
+  pub tells : TellsFrom {E = WalkError} x (by_named_lists q.names x lists) q.names every locator anchor.octets
+      (contents (certs_of tree)) q.depth q.steps (Ok tree.ended) told
   pub count_is : length tree.lines ≡ length (certs_of tree)
   pub lines_are : AreLines told tree.lines
 
@@ -174,11 +182,11 @@ pub record HasNoAnchor (x : Context) (q : TreeFields) (wrong : List WrongAnchor)
   pub lists : List CrlState
   pub lists_are : AreListsOf (contents q.files) lists
   pub wrong_are : AllByRecursion
-      (λ w. IsWrongOf x (by_lists x lists) q.locators w.file.now w.fault) wrong
+      (λ w. IsWrongOf x (by_named_lists q.names x lists) q.names q.locators w.file.now w.fault) wrong
   pub all : (place : ℕ) (file : FileFields) (t : NamedTal)
       → IsCandidateAt q.locators certs place file t → Any (λ w. w.file.now ≡ file) wrong
   pub none : (place : ℕ) (file : FileFields) (t : NamedTal) (c : CertFields)
-      → IsValidAt x (by_lists x lists) q.locators certs place file t c → ⊥
+      → IsValidAt x (by_named_lists q.names x lists) q.names q.locators certs place file t c → ⊥
 
 -- what is answered of the files
 abbrev pub IsTreeAnswer : Context → TreeFields → TreeAnswer → Type 0

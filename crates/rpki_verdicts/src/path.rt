@@ -10,12 +10,13 @@ ghost use Rattle.rpki_path.specs.Paths.{UnlessMemory};
 ghost use Rattle.rpki_path.specs.declared.path_fault.PathFault.TheVariants.{Memory};
 ghost use Rattle.rpki_path.specs.NameChains.{BeginPath, IsUnchained, strings_below};
 ghost use Rattle.rpki_files.specs.Contents.{BeginsWithCertificate};
-ghost use Rattle.rpki_verdicts.specs.Reasons.{locator_reason, name_reason, tal_reason};
+ghost use Rattle.rpki_verdicts.specs.Reasons.{locator_reason, name_reason, resources_reason, tal_reason};
 ghost use Rattle.rpki_files.specs.Files.{contents};
 ghost use Rattle.rpki_files.specs.LocatorFiles.{AreLocator};
-ghost use Rattle.rpki_verdicts.specs.GivenLocators.{IsLocated, IsRead, locator_octets};
+ghost use Rattle.rpki_verdicts.specs.GivenLocators.{HasNumbersIf, IsLocated, IsRead, locator_octets};
 ghost use Rattle.rpki_verdicts.specs.PathFiles.{IsJudgedAs, AreListsOf, Demands, IsAnchorLocator, IsPlaceOfLocator, demands_of};
-ghost use Rattle.rpki_verdicts.specs.PathAnswers.{last_key, reason_of, AreChained, AreSame, IsNoLocator, IsReasonAt, IsPathVerdict, IsVerdictBy};
+ghost use Rattle.rpki_verdicts.specs.PathAnswers.{reason_of, AreChained, AreSame, IsNoLocator, IsReasonAt, IsPathVerdict, IsVerdictBy};
+ghost use Rattle.rpki_path.specs.LocatedPaths.{BeginsWithNoNumber};
 ghost use Rattle.rpki_verdicts.specs.PathAnswers.Steps.{IsKindOfLast, IsKeyVerdict, IsNamedVerdict};
 ghost use Rattle.rpki_verdicts.specs.UnrevokedMembers.{AreUnrevoked};
 ghost use Rattle.rpki_verdicts.specs.declared.path.Verdict.TheVariants.{Accepted, Rejected};
@@ -27,12 +28,13 @@ use rpki_cert::{Cert, Kind, said_kind};
 use rpki_crl::Crl;
 use rpki_der::Time;
 use rpki_files::Object;
-use rpki_files::rules::{Rule, of_key, of_name, of_other_key, of_tal};
+use rpki_files::rules::{Rule, of_key, of_name, of_no_resources, of_other_key, of_tal};
 use rpki_keys::tal::TalError;
 use rpki_keys::{RsaVerifier, is_usable};
-use rpki_parts::PublicKey;
 use rpki_path::revocation::{GivenLists, NobodyAsked, RevocationSource};
-use rpki_path::{GivenPath, Judged, Member, PathError, first_unchained, judge as judge_path};
+use rpki_path::{
+    GivenPath, Judged, Member, PathError, first_unchained, judge as judge_path, lists_numbers,
+};
 use std::alloc::{AllocError, Global};
 use std::marker::Model;
 
@@ -177,22 +179,12 @@ fn rejected(error: PathError, files: &[Object<'_>]) -> Result<Fault, AllocError>
     })
 }
 
-// The key that the last member signs with.
-fn key_of(judged: &Judged) -> &PublicKey
-    ensures { result.now ≡ last_key judged.now }
-{
-    match &judged.router {
-        Some(router) => router.as_tbs().subject_public_key_info(),
-        None => judged.holder.as_cert().as_tbs().subject_public_key_info(),
-    }
-}
-
 // The verdict on a valid path, whose last member stands at this place: its key has to be one that
 // the RPKI uses.
 fn with_key(judged: Judged, index: usize) -> Verdict
     ensures { IsKeyVerdict judged index result }
 {
-    let key = key_of(&judged);
+    let key = judged.last_key();
     if is_usable(key) {
         return Verdict::Accepted(judged);
     }
@@ -261,6 +253,29 @@ fn has_other_key(question: &Question<'_, '_>) -> bool
     }
 }
 
+// Whether locators are given, and the trust anchor's certificate lists no number.
+fn has_no_numbers(question: &Question<'_, '_>) -> bool
+    ensures none { IsTrue result → (anchor : List ℕ) (more : List (List ℕ))
+        → contents question.now.members ≡ anchor ∷ more
+        → (locator_octets question.now.locators ≢ []) × BeginsWithNoNumber anchor }
+    ensures numbers { IsFalse result → (anchor : List ℕ) (more : List (List ℕ))
+        → contents question.now.members ≡ anchor ∷ more → BeginsWithCertificate anchor
+        → HasNumbersIf (locator_octets question.now.locators) anchor }
+{
+    if question.locators.is_empty() {
+        return false;
+    }
+    match anchor_certificate(question) {
+        Some(cert) => {
+            if lists_numbers(cert) {
+                return false;
+            }
+            true
+        }
+        None => false,
+    }
+}
+
 // Why the file at this place, which is given as a locator, is none.
 fn no_locator(index: usize, fault: &TalError) -> Fault
     ensures place { result.index ≡ index }
@@ -302,8 +317,21 @@ pub(crate) fn other_key() -> Fault
     }
 }
 
+// That the trust anchor lists no number.
+pub(crate) fn no_resources() -> Fault
+    ensures place { result.index ≡ 0 }
+    ensures reason { reason_of result ≡ resources_reason }
+{
+    Fault {
+        index: 0,
+        step: "locator",
+        name: "NoResources",
+        rule: of_no_resources(),
+    }
+}
+
 // That the names of the member at this place don't chain.
-fn other_name(index: usize) -> Fault
+pub(crate) fn other_name(index: usize) -> Fault
     ensures place { result.index ≡ index }
     ensures reason { reason_of result ≡ name_reason index }
 {
@@ -387,6 +415,9 @@ fn verdict_on<R: RevocationSource>(
     };
     if has_other_key(question) {
         return Ok(Some(Verdict::Rejected(other_key())));
+    }
+    if has_no_numbers(question) {
+        return Ok(Some(Verdict::Rejected(no_resources())));
     }
     match judge_path(
         alloc,

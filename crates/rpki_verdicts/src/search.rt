@@ -135,7 +135,7 @@ fn above_at<'t>(tree: &'t Tree<'_, '_>, place: usize) -> Option<&'t [usize]>
     ensures { option_map (λ above. above.now) result ≡ above_by (slice_get tree.now.lines place) }
 {
     match tree.lines.as_slice().get(place) {
-        Some(Line::Accepted(above)) => Some(above.as_slice()),
+        Some(Line::Accepted(path)) => Some(path.above.as_slice()),
         Some(_) | None => None,
     }
 }

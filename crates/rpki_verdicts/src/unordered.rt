@@ -1,22 +1,21 @@
 //! Files in no order: the trust anchor among them, and the verdict on every certificate below it,
 //! with real signatures and with the revocation lists among them.
 ghost use Rattle.std.specs.Prelude.{◌≡◌, ◌↔◌, ◌++◌, ◌∷◌, [], true, List, length, map, IfOk, IfSome, IfNone, OnOk, IsTrue};
-ghost use Rattle.rpki_path.specs.AskedLists.{by_lists};
+ghost use Rattle.rpki_path.specs.AskedLists.{by_named_lists};
 ghost use Rattle.rpki_folder.specs.Folders.{with_cert, with_list};
 ghost use Rattle.rpki_folder.specs.KeptLines.{BecameLines};
 ghost use Rattle.rpki_crl.specs.Lists.{CrlState, IsCertificateList};
 ghost use Rattle.rpki_keys.specs.RsaSignatures.{IsSignedByRsa};
 ghost use Rattle.rpki_cert.specs.SaidKinds.{BeginsWithSaid};
 ghost use Rattle.rpki_cert.specs.Verification.{context};
-ghost use Rattle.rpki_folder.specs.declared.walk_error.WalkError.TheVariants.{Anchor};
-ghost use Rattle.rpki_folder.specs.Walks.{Told, TellsBelow};
+ghost use Rattle.rpki_folder.specs.Walks.{IsLookedAt, Told, TellsBelow};
 ghost use Rattle.rpki_files.specs.Contents.{IsList};
 ghost use Rattle.rpki_files.specs.Files.{FileFields};
 ghost use Rattle.rpki_verdicts.specs.Trees.{AllAccepted, accepted_count, accepts, anchor_order, asked_of, HasLocator, IsAnchorOf, IsAnchorReason, IsFolderOf, IsTreeAnswer, every};
 ghost use Rattle.rpki_verdicts.specs.Trees.Steps.{AreTried, IsKept, IsTried, TakesPlace};
 
 use crate::locators::{GivenLocator, tal_of_key};
-use crate::path::{Fault, other_key, with_table};
+use crate::path::{Fault, no_resources, other_key, other_name, with_table};
 use crate::reasons::of_path;
 use rpki_cert::{Cert, ResourceCert, Said, laws};
 use rpki_crl::Crl;
@@ -30,13 +29,14 @@ use std::alloc::{AllocError, Global};
 use std::cmp::Ordering;
 use std::mem;
 
-/// What is asked of files in no order: the files, the locators, whether they are read strictly, the
-/// moment, how many certificates a path has at most below the trust anchor, and how many are
-/// verified at most.
+/// What is asked of files in no order: the files, the locators, whether names have to chain, whether
+/// the files are read strictly, the moment, how many certificates a path has at most below the trust
+/// anchor, and how many are verified at most.
 #[derive(Drop)]
 pub struct TreeQuestion<'q, 'n> {
     pub files: &'q [BareObject<'n>],
     pub locators: &'q [GivenLocator<'n>],
+    pub names: bool,
     pub strict: bool,
     pub at: Time,
     pub depth: usize,
@@ -205,6 +205,7 @@ fn walk_of<'w>(
     folder: &'w Folder,
 ) -> Walk<'w, AllAdmitted, RsaVerifier>
     ensures folder { result.folder.now ≡ folder.now }
+    ensures names { result.names ≡ question.now.names }
     ensures strict { result.strict ≡ question.now.strict }
     ensures at { result.at ≡ question.now.at }
     ensures depth { result.bounds.depth ≡ question.now.depth }
@@ -218,6 +219,7 @@ fn walk_of<'w>(
             depth: question.depth,
             steps: question.steps,
         },
+        names: question.names,
         strict: question.strict,
         at: question.at,
         verifier: &RsaVerifier,
@@ -226,12 +228,13 @@ fn walk_of<'w>(
 
 // What is told of the trust anchor, unless memory ran out.
 fn wrong_anchor(error: WalkError, anchor: &BareObject<'_>) -> Result<Fault, AllocError>
-    ensures { IfOk result (λ fault. (e : _) × (error ≡ Anchor e)
-        × IsAnchorReason anchor.now.octets e fault) }
+    ensures { IfOk result (IsAnchorReason anchor.now.octets error) }
 {
     match error {
         WalkError::Memory => Err(AllocError),
+        WalkError::OtherName => Ok(other_name(0)),
         WalkError::Anchor(LocatedError::OtherKey) => Ok(other_key()),
+        WalkError::Anchor(LocatedError::NoResources) => Ok(no_resources()),
         WalkError::Anchor(LocatedError::Path(error)) => {
             let (step, name, rule) = of_path(&error.fault, anchor.octets());
             drop(error);
@@ -253,7 +256,9 @@ fn try_anchor<'q, 'n>(
     file: &BareObject<'_>,
 ) -> Result<Tried<'q>, AllocError>
     ensures { let x = context IsSignedByRsa question.now.at question.now.strict in
-        IfOk result (IsTried x (by_lists x folder.now.lists) question.now.locators.now file.now) }
+        let q = question.now in
+        let asked = by_named_lists q.names x folder.now.lists in
+        IfOk result (IsTried x asked q.names q.locators.now file.now) }
 {
     let Some(tal) = locator_of(alloc, question.locators, file)? else {
         return Ok(Tried::OtherKey);
@@ -340,8 +345,9 @@ fn find_anchors<'q, 'n>(
 ) -> Result<Candidates<'q, 'n>, AllocError>
     ensures { let x = context IsSignedByRsa question.now.at question.now.strict in
         let files = map (λ f. f.now) certs.now in
-        let asked = by_lists x folder.now.lists in
-        IfOk result (AreTried x asked question.now.locators.now files (length files)) }
+        let q = question.now in
+        let asked = by_named_lists q.names x folder.now.lists in
+        IfOk result (AreTried x asked q.names q.locators.now files (length files)) }
 {
     laws::unambiguous();
     let mut found = Candidates {
@@ -365,9 +371,10 @@ fn walked(
 ) -> Result<Ended, AllocError>
     ensures { let q = question.now in
         let x = context IsSignedByRsa q.at q.strict in
-        let asked = by_lists x folder.now.lists in
+        let asked = by_named_lists q.names x folder.now.lists in
         (told : List Told) × BecameLines lines.old told lines.new
-        × TellsBelow x asked every anchor.now folder.now.certs [] q.depth q.steps result told }
+        × TellsBelow x asked (IsLookedAt q.names every anchor.now.cert folder.now.certs) anchor.now
+        folder.now.certs [] q.depth q.steps result told }
 {
     walk_of(alloc, question, folder).below(anchor, lines)
 }
@@ -383,6 +390,7 @@ fn grown<'q, 'n>(
     ensures { let x = context IsSignedByRsa question.now.at question.now.strict in
         IfOk result (IsTreeAnswer x (asked_of question.now)) }
 {
+    laws::unambiguous();
     let Candidates { best, wrong } = find_anchors(alloc, question, folder, &certs)?;
     let Some(anchor) = best else {
         drop(certs);
@@ -401,10 +409,11 @@ fn grown<'q, 'n>(
 
 /// Judges every certificate among files, in whatever order they are: finds the trust anchor, and
 /// walks down from it, with real signatures and with the revocation lists among the files. The
-/// trust anchor is a certificate that has the key of one of the locators (RFC 8630 3) and is valid;
+/// trust anchor is a certificate that has the key of one of the locators (RFC 8630 3), lists a number
+/// (RFC 8630 2.3) and is valid;
 /// of several the one that is valid longest, then the one that began last, and then the one whose
-/// signed octets are greatest. Of names and of the last key nothing is asked here. Errs only where
-/// memory runs out.
+/// signed octets are greatest. Names have to chain, if the question says so (RFC 6487 7.2); of the
+/// last key nothing is asked here. Errs only where memory runs out.
 pub fn judge_all<'q, 'n>(
     alloc: Global,
     question: &TreeQuestion<'q, 'n>,

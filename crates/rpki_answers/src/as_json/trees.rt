@@ -3,11 +3,13 @@ ghost use Rattle.std.specs.Prelude.{◌≡◌, ◌≤◌, ◌<◌, ◌+◌, ◌^
 ghost use Rattle.std.specs.List.{AllByRecursion, flat_map};
 ghost use Rattle.serde_json.specs.View.{view};
 ghost use Rattle.serde_json.specs.Written.{has_float};
-ghost use Rattle.rpki_answers.specs.JsonTrees.{AreCertificateMembers, AreFileMembers, AreFrontMembers, AreLineMembers, AreTreeItems, IsFileItem, IsTreeJson, accepted_members, end_members, ended_word, name_item, name_items, no_anchor_json, rejected_members, summary_members, tree_json_text, unjudged_members, unseen_word, why_json, wrong_anchor_json, wrong_items};
+ghost use Rattle.rpki_answers.specs.JsonTrees.{AreAcceptedBy, AreCertificateMembers, AreFileMembers, AreFrontMembers, AreLineMembers, AreTreeItems, IsFileItem, IsTreeJson, end_members, ended_word, name_item, name_items, no_anchor_json, rejected_members, summary_members, tree_json_text, unjudged_members, unseen_word, why_json, wrong_anchor_json, wrong_items};
 ghost use Rattle.rpki_answers.specs.JsonValues.{Pair, Puts, Pushes};
 ghost use Rattle.rpki_answers.specs.JsonVerdicts.{PushesSome, PutsSome};
 ghost use Rattle.rpki_answers.specs.TreeTexts.{SaysInOrder};
 ghost use Rattle.rpki_answers.specs.VerdictTexts.{file_name_at};
+ghost use Rattle.rpki_cert.specs.SaidKinds.{SaysKind};
+ghost use Rattle.rpki_path.specs.Judging.{last_certificate};
 ghost use Rattle.rpki_verdicts.specs.Reasons.{ReasonFields, IsReason};
 ghost use Rattle.rpki_verdicts.specs.PathAnswers.{reason_of};
 ghost use Rattle.rpki_verdicts.specs.Trees.{asked_of};
@@ -15,12 +17,13 @@ ghost use Rattle.rpki_verdicts.specs.Trees.{asked_of};
 use crate::as_json::left;
 use crate::as_json::objects::Members;
 use crate::as_json::texts::{value_text, values_text};
-use crate::as_json::verdicts::{no_locator, not_locators};
+use crate::as_json::verdicts::{no_locator, not_locators, put_judged};
 use crate::trees::TreeFinding;
-use rpki_der::Time;
+use rpki_cert::{Kind, said_kind};
 use rpki_files::{BareObject, Front};
-use rpki_folder::{Ended, Line};
-use rpki_path::PathFault;
+use rpki_folder::{Ended, FoundPath, Line};
+use rpki_path::{Judged, PathFault};
+use rpki_text::certificate::kind_name;
 use rpki_text::command_line::Format;
 use rpki_verdicts::reasons::of_path;
 use rpki_verdicts::{Fault, Tree, TreeAnswer, TreeQuestion, WrongAnchor};
@@ -63,20 +66,33 @@ fn push_names(
     Ok(())
 }
 
-// That a certificate is accepted, and below which.
+// As what the certificate that was accepted was judged: as what it says that it is.
+fn judged_as(judged: &Judged) -> Kind
+    ensures { let c = last_certificate judged.now.holder judged.now.router in
+        SaysKind result c.fields }
+{
+    match &judged.router {
+        Some(cert) => said_kind(cert.as_tbs()),
+        None => said_kind(judged.holder.as_cert().as_tbs()),
+    }
+}
+
+// That a certificate is accepted, below which, as what, and what it holds.
 fn put_accepted(
     out: &mut Members,
     alloc: Global,
     tree: &Tree<'_, '_>,
-    above: &[usize],
+    path: &FoundPath,
 ) -> Result<(), AllocError>
-    ensures { OnOk result (Puts (accepted_members tree.now above.now) out.old out.new) }
+    ensures { OnOk result (PutsSome (AreAcceptedBy tree.now path.now) out.old out.new) }
 {
     let mut names = Vec::new(alloc);
     push_name(alloc, &mut names, &tree.certs, tree.anchor)?;
-    push_names(alloc, &mut names, &tree.certs, above)?;
+    push_names(alloc, &mut names, &tree.certs, &path.above)?;
     out.text("verdict", "accepted")?;
-    out.value("above", Value::from(names))
+    out.value("above", Value::from(names))?;
+    out.text("judged_as", kind_name(judged_as(&path.judged)))?;
+    put_judged(out, alloc, &path.judged)
 }
 
 // That a certificate is rejected, how many stand above it, and why.
@@ -134,7 +150,7 @@ fn put_line(
         OnOk result (PutsSome Are out.old out.new) }
 {
     match line {
-        Some(Line::Accepted(above)) => put_accepted(out, alloc, tree, above),
+        Some(Line::Accepted(path)) => put_accepted(out, alloc, tree, path),
         Some(Line::Rejected(member, fault)) => put_rejected(out, file, *member, fault),
         Some(Line::Unseen) | None => out.text("verdict", unseen_word(tree.ended)),
     }
@@ -311,16 +327,20 @@ fn ended_word(ended: Ended) -> &'static str
 
 // The moment, how many certificates there are and how many are accepted, how far the walk went, and
 // what isn't asked.
-fn put_end(out: &mut Members, at: Time, tree: &Tree<'_, '_>) -> Result<(), AllocError>
-    ensures { OnOk result (Puts (end_members at tree.now) out.old out.new) }
+fn put_end(
+    out: &mut Members,
+    question: &TreeQuestion<'_, '_>,
+    tree: &Tree<'_, '_>,
+) -> Result<(), AllocError>
+    ensures { OnOk result (Puts (end_members (asked_of question.now) tree.now) out.old out.new) }
 {
-    out.moment("moment", at)?;
+    out.moment("moment", question.at)?;
     let count = tree.lines.as_slice().len();
     out.value("certificates", Value::from(count as u64))?;
     out.value("accepted", Value::from(tree.count_accepted() as u64))?;
     out.text("ended", ended_word(tree.ended))?;
     out.value("manifests_asked", Value::from(false))?;
-    out.value("names_asked", Value::from(false))?;
+    out.value("names_asked", Value::from(question.names))?;
     out.value("last_keys_asked", Value::from(false))
 }
 
@@ -394,7 +414,7 @@ fn put_summary(
 {
     let why = match finding {
         TreeFinding::Answered(TreeAnswer::Walked(tree)) => {
-            return put_end(out, question.at, tree);
+            return put_end(out, question, tree);
         }
         TreeFinding::Answered(TreeAnswer::NoAnchor(wrong)) => why_no_anchor(alloc, wrong)?,
         TreeFinding::NotALocator(fault) => no_locator(alloc, fault)?,

@@ -341,7 +341,13 @@ fn put_router(
     Ok(())
 }
 
-fn put_accepted(out: &mut Members, alloc: Global, judged: &Judged) -> Result<(), AllocError>
+/// Puts that a path is accepted, and what its last member holds; of a router what its certificate
+/// lists, and what the CA above it holds.
+pub(crate) fn put_judged(
+    out: &mut Members,
+    alloc: Global,
+    judged: &Judged,
+) -> Result<(), AllocError>
     ensures { let Are = AreAcceptedMembers judged.now.holder judged.now.router in
         OnOk result (PutsSome Are out.old out.new) }
 {
@@ -375,7 +381,7 @@ fn put_acceptance(
         OnOk result (PutsSome Are out.old out.new) }
 {
     put_tal(out, located(question))?;
-    put_accepted(out, alloc, judged)
+    put_judged(out, alloc, judged)
 }
 
 /// Makes the value of what is wrong of a file given as a locator that is none.

@@ -489,9 +489,6 @@ fn misuse_of_tree(request: &Request<'_>) -> Option<Misuse<'static>>
     if !request.folders.is_empty() {
         return Some(Misuse::Unknown(b"--in".as_slice()));
     }
-    if !request.names {
-        return Some(Misuse::Unknown(b"--no-names".as_slice()));
-    }
     if request.all {
         return Some(Misuse::Unknown(b"--all".as_slice()));
     }

@@ -1,5 +1,6 @@
-//! What stands next: the content of a value, an extension.
-ghost use Rattle.std.specs.Prelude.{◌≡◌, option_map};
+//! What stands next: the content of a value, an extension; and whether an identifier is one of some.
+ghost use Rattle.std.specs.List.{list_any};
+ghost use Rattle.std.specs.Prelude.{◌≡◌, bytes_eq, option_map};
 ghost use Rattle.rpki_der.specs.Extensions.{extension_format};
 ghost use Rattle.rpki_der.specs.Extensions.Views.{extension_view};
 ghost use Rattle.rpki_der.specs.Place.{remaining};
@@ -9,6 +10,13 @@ use rpki_der::{Cursor, take_extension};
 
 /// The identifier octet of a uniformResourceIdentifier, [6] (RFC 5280 4.2.1.6).
 pub(crate) const URI: u8 = 0x86;
+
+/// Tells whether the identifier is one of these.
+pub(crate) fn is_one_of(identifier: &[u8], ids: &[&[u8]]) -> bool
+    ensures { result ≡ list_any (λ id. bytes_eq identifier.now id.now) ids.now }
+{
+    ids.iter().any(|id| identifier == *id)
+}
 
 /// Returns the content of the value with this identifier octet that stands next.
 pub(crate) fn content<'a>(cursor: &mut Cursor<'a>, identifier: u8) -> Option<Cursor<'a>>

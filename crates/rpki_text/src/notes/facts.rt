@@ -6,7 +6,8 @@ ghost use Rattle.rpki_der.specs.Extensions.{Extension, IsExtension};
 ghost use Rattle.rpki_der.specs.Extensions.Views.{extension_view};
 ghost use Rattle.rpki_der.specs.Place.{remaining};
 ghost use Rattle.rpki_der.specs.Sequences.{AreEncodings};
-ghost use Rattle.rpki_text.specs.Facts.{AreFacts, fact_view, facts_in, facts_of, id_qt_cps, known_facts, source_of, statement_at, statement_facts, uri_by};
+ghost use Rattle.rpki_text.specs.Facts.{AreFacts, fact_view, facts_in, facts_of, known_facts, source_of, statement_at, statement_facts, uri_by};
+ghost use Rattle.rpki_text.specs.Qualifiers.{id_qt_cps};
 
 use crate::notes::contents::{content, next_extension};
 use crate::notes::fact::{Fact, FactKind};
@@ -23,8 +24,8 @@ const QT_CPS: &[u8] = &[0x2b, 0x06, 0x01, 0x05, 0x05, 0x07, 0x02, 0x01];
 
 const IA5_STRING: u8 = 0x16;
 
-// Whether the content of an OBJECT IDENTIFIER is id-qt-cps.
-fn is_cps(kind: &Cursor<'_>) -> bool
+/// Tells whether the content of an OBJECT IDENTIFIER is id-qt-cps.
+pub(crate) fn is_cps(kind: &Cursor<'_>) -> bool
     ensures { result ≡ bytes_eq (remaining kind.now) id_qt_cps }
 {
     kind.rest() == QT_CPS

@@ -1,6 +1,5 @@
 //! A walk over the extensions of a certificate, as they stand.
-ghost use Rattle.std.specs.Prelude.{◌≡◌, ◌↔◌, List, IsTrue, bytes_eq, true};
-ghost use Rattle.std.specs.List.{list_any};
+ghost use Rattle.std.specs.Prelude.{◌≡◌, ◌↔◌, List, IsTrue, true};
 ghost use Rattle.rpki_der.specs.Extensions.{Extension, IsExtension};
 ghost use Rattle.rpki_der.specs.Extensions.Views.{extension_view};
 ghost use Rattle.rpki_ext.specs.Kinds.{is_of};
@@ -10,7 +9,9 @@ ghost use Rattle.rpki_der.specs.Values.{IsValue};
 ghost use Rattle.rpki_text.specs.FaultSearch.{HasFault, sought_names, is_named};
 ghost use Rattle.rpki_text.specs.Notes.{HaveExtensions, HaveOne};
 
-use crate::notes::contents::next_extension;
+use crate::notes::access::{Method, has_at_least};
+use crate::notes::contents::{is_one_of, next_extension};
+use crate::notes::qualifiers::has_other_qualifiers;
 use bytes::Bytes;
 use rpki_der::{Cursor, oid};
 use rpki_ext::is_known;
@@ -22,6 +23,8 @@ pub(crate) enum Kinds {
     Addresses,
     Systems,
     Known,
+    Access,
+    Policies,
 }
 
 /// What may be wrong with an extension.
@@ -30,6 +33,9 @@ pub(crate) enum Fault {
     NotCritical,
     OtherContent,
     NotOneValue,
+    // So many descriptions have the method, or more.
+    AtLeast(usize, Method),
+    OtherQualifiers,
 }
 
 // The identifiers of IP resources in both modes (RFC 3779 2.2.1, RFC 8360 4.2.2.1).
@@ -38,12 +44,11 @@ const ADDRESSES: [&[u8]; 2] = [oid::PE_IP_ADDR_BLOCK, oid::PE_IP_ADDR_BLOCK_V2];
 // Those of AS resources (RFC 3779 3.2.1, RFC 8360 4.2.2.3).
 const SYSTEMS: [&[u8]; 2] = [oid::PE_AUTONOMOUS_SYS_IDS, oid::PE_AUTONOMOUS_SYS_IDS_V2];
 
-// Whether the identifier is one of these.
-fn is_one_of(identifier: &[u8], ids: &[&[u8]]) -> bool
-    ensures { result ≡ list_any (λ id. bytes_eq identifier.now id.now) ids.now }
-{
-    ids.iter().any(|id| identifier == *id)
-}
+// That of Subject Information Access (RFC 5280 4.2.2.2).
+const ACCESS: [&[u8]; 1] = [oid::PE_SUBJECT_INFO_ACCESS];
+
+// That of Certificate Policies (RFC 5280 4.2.1.4).
+const POLICIES: [&[u8]; 1] = [oid::CE_CERTIFICATE_POLICIES];
 
 impl Kinds {
     // Whether an extension with this identifier is of one of the kinds.
@@ -54,6 +59,8 @@ impl Kinds {
             Kinds::Addresses => is_one_of(identifier, &ADDRESSES),
             Kinds::Systems => is_one_of(identifier, &SYSTEMS),
             Kinds::Known => is_known(identifier),
+            Kinds::Access => is_one_of(identifier, &ACCESS),
+            Kinds::Policies => is_one_of(identifier, &POLICIES),
         }
     }
 }
@@ -86,6 +93,8 @@ impl Fault {
             Fault::NotCritical => !critical,
             Fault::OtherContent => content.rest() != written,
             Fault::NotOneValue => !is_one_value(content),
+            Fault::AtLeast(times, method) => has_at_least(content, times, method),
+            Fault::OtherQualifiers => has_other_qualifiers(content),
         }
     }
 }

@@ -16,6 +16,14 @@ pub enum Note {
     SubjectForm,
     /// Subject Information Access of an end entity names a notification file.
     EndEntityNotify,
+    /// Subject Information Access of an end entity has an unknown access method.
+    EndEntityMethod,
+    /// It has more than one signedObject.
+    EndEntityObjects,
+    /// Subject Information Access has rpkiNotify, and no https URI behind it.
+    NotifyForm,
+    /// Certificate Policies have qualifiers, and these aren't one statement of practices.
+    QualifierForm,
     /// The extension of IP resources isn't critical.
     IpNotCritical,
     /// The extension of AS resources isn't critical.
@@ -39,6 +47,10 @@ impl Note {
             Note::IssuerForm => "IssuerForm",
             Note::SubjectForm => "SubjectForm",
             Note::EndEntityNotify => "EndEntityNotify",
+            Note::EndEntityMethod => "EndEntityMethod",
+            Note::EndEntityObjects => "EndEntityObjects",
+            Note::NotifyForm => "NotifyForm",
+            Note::QualifierForm => "QualifierForm",
             Note::IpNotCritical => "IpNotCritical",
             Note::AsNotCritical => "AsNotCritical",
             Note::IpForm => "IpForm",
@@ -59,6 +71,11 @@ impl Note {
             Note::SubjectForm =>
                 "the subject's name isn't a CommonName, with a serialNumber at most, in PrintableStrings",
             Note::EndEntityNotify => "an end entity names a notification file",
+            Note::EndEntityMethod => "an end entity has an unknown access method",
+            Note::EndEntityObjects => "an end entity has more than one signedObject",
+            Note::NotifyForm => "no https URI is named for rpkiNotify",
+            Note::QualifierForm =>
+                "the policy has other qualifiers than one statement of practices (CPS)",
             Note::IpNotCritical => "IP resources aren't critical",
             Note::AsNotCritical => "AS resources aren't critical",
             Note::IpForm => "IP resources aren't sorted, merged and written in the shortest form",
@@ -77,6 +94,10 @@ impl Note {
             Note::IssuerForm => "RFC 6487 4.4",
             Note::SubjectForm => "RFC 6487 4.5",
             Note::EndEntityNotify => "RFC 6487 4.8.8.2",
+            Note::EndEntityMethod => "RFC 6487 4.8.8.2",
+            Note::EndEntityObjects => "RFC 6487 4.8.8.2",
+            Note::NotifyForm => "RFC 8182 3.2",
+            Note::QualifierForm => "RFC 7318 2",
             Note::IpNotCritical => "RFC 6487 4.8.10",
             Note::AsNotCritical => "RFC 6487 4.8.11",
             Note::IpForm => "RFC 3779 2.2.3",

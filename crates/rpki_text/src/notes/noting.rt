@@ -4,8 +4,9 @@ ghost use Rattle.std.specs.Int.Digits.{number_from_digits};
 ghost use Rattle.rpki_cert.specs.Certificates.{IsCertificate};
 ghost use Rattle.rpki_der.specs.Encoding.{Means};
 ghost use Rattle.rpki_der.specs.Extensions.{Extension};
-ghost use Rattle.rpki_text.specs.Notes.{AreNotes, Breaks, HaveExtensions, IsEndEntityWithNotify, HasOtherIssuer, HasOtherSubject};
+ghost use Rattle.rpki_text.specs.Notes.{AreNotes, Breaks, HaveExtensions, IsEndEntityWithNotify, HasOtherAccess, HasOtherIssuer, HasOtherNotify, HasOtherSubject};
 
+use crate::notes::access::Method;
 use crate::notes::canonical;
 use crate::notes::finding::{Fault, Kinds, has_one};
 use crate::notes::note::Note;
@@ -16,12 +17,16 @@ use rpki_files::Object;
 use std::alloc::{AllocError, Global};
 
 // Every note, in the order in which they are told.
-const NOTES: [Note; 10] = [
+const NOTES: [Note; 14] = [
     Note::SerialZero,
     Note::SerialLong,
     Note::IssuerForm,
     Note::SubjectForm,
     Note::EndEntityNotify,
+    Note::EndEntityMethod,
+    Note::EndEntityObjects,
+    Note::NotifyForm,
+    Note::QualifierForm,
     Note::IpNotCritical,
     Note::AsNotCritical,
     Note::IpForm,
@@ -71,6 +76,33 @@ fn is_end_entity_with_notify(tbs: &TbsCert) -> bool
     }
 }
 
+// Whether so many descriptions of an end entity have the method, or more.
+fn has_other_access(octets: &Bytes, tbs: &TbsCert, times: usize, method: Method) -> bool
+    ensures { (xs : List Extension) → HaveExtensions xs octets.now
+        → (IsTrue result ↔ HasOtherAccess times method tbs.now xs) }
+{
+    match tbs.key_usage() {
+        KeyUsage::Ca => false,
+        KeyUsage::Ee => has_one(octets, Kinds::Access, Fault::AtLeast(times, method), &[]),
+    }
+}
+
+// Whether rpkiNotify is there without an https URI.
+fn has_other_notify(octets: &Bytes, tbs: &TbsCert) -> bool
+    ensures { (xs : List Extension) → HaveExtensions xs octets.now
+        → (IsTrue result ↔ HasOtherNotify tbs.now xs) }
+{
+    match tbs.rpki_notify() {
+        Some(_) => false,
+        None => has_one(
+            octets,
+            Kinds::Access,
+            Fault::AtLeast(1, Method::RpkiNotify),
+            &[],
+        ),
+    }
+}
+
 // Whether the certificate that the octets begin with, which has these fields, breaks the rule of a
 // note.
 fn is_note(alloc: Global, octets: &Bytes, tbs: &TbsCert, note: Note) -> Result<bool, AllocError>
@@ -83,6 +115,10 @@ fn is_note(alloc: Global, octets: &Bytes, tbs: &TbsCert, note: Note) -> Result<b
         Note::IssuerForm => has_other_issuer(tbs),
         Note::SubjectForm => has_other_subject(tbs),
         Note::EndEntityNotify => is_end_entity_with_notify(tbs),
+        Note::EndEntityMethod => has_other_access(octets, tbs, 1, Method::Unknown),
+        Note::EndEntityObjects => has_other_access(octets, tbs, 2, Method::SignedObject),
+        Note::NotifyForm => has_other_notify(octets, tbs),
+        Note::QualifierForm => has_one(octets, Kinds::Policies, Fault::OtherQualifiers, &[]),
         Note::IpNotCritical => has_one(octets, Kinds::Addresses, Fault::NotCritical, &[]),
         Note::AsNotCritical => has_one(octets, Kinds::Systems, Fault::NotCritical, &[]),
         Note::IpForm => {

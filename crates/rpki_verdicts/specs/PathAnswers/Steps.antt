@@ -5,9 +5,10 @@ use Rattle.rpki_keys.specs.KeyForms.{IsUsableKey}
 use Rattle.rpki_cert.specs.declared.inspect.Kind.{Kind}
 use Rattle.rpki_cert.specs.declared.inspect.Kind.TheVariants.{Authority}
 use Rattle.rpki_path.specs.GivenPaths.{PathStrings}
+use Rattle.rpki_path.specs.Judging.{last_key}
 use Rattle.rpki_verdicts.specs.Reasons.{key_reason}
 use Rattle.rpki_verdicts.specs.PathFiles.{IsJudgedAs}
-use Rattle.rpki_verdicts.specs.PathAnswers.{last_key, reason_of, AreChained, IsOtherName}
+use Rattle.rpki_verdicts.specs.PathAnswers.{reason_of, AreChained, IsOtherName}
 use Rattle.rpki_verdicts.specs.declared.path.Verdict.{Verdict}
 use Rattle.rpki_verdicts.specs.declared.path.Verdict.TheVariants.{Accepted, Rejected}
 

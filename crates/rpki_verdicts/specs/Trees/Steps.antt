@@ -1,8 +1,9 @@
 -- What is found of certificates as trust anchors, one after the other.
 use Rattle.std.specs.List.{AllByRecursion}
 use Rattle.std.specs.declared.cmp.Ordering.TheVariants.{Less}
-use Rattle.std.specs.Prelude.{◌≡◌, ◌⊎◌, ◌<◌, ℕ, List, [], ◌∷◌, ◌++◌, Any, Option, None, Some}
+use Rattle.std.specs.Prelude.{◌≡◌, ◌⊎◌, ◌<◌, ℕ, Bool, IsTrue, List, [], ◌∷◌, ◌++◌, Any, Option, None, Some}
 use Rattle.rpki_path.specs.Asking.{RevocationChecks}
+use Rattle.rpki_path.specs.NameChains.{IsSelfNamed}
 use Rattle.rpki_cert.specs.Certificates.{CertFields}
 use Rattle.rpki_keys.specs.Locators.{NamedTal}
 use Rattle.rpki_cert.specs.Verification.{Context, ResourceFields}
@@ -18,11 +19,13 @@ use Rattle.rpki_verdicts.specs.declared.unordered.WrongAnchor.{WrongAnchor}
 
 -- what is found of a file's certificate: it has the key of no locator; it is a valid trust anchor
 -- of one, and holds this; or it is wrong so
-abbrev pub IsTried : Context → RevocationChecks → List LocatorFields → FileFields → Tried → Type 0
-IsTried x asked locators file OtherKey = HasLocator locators file → ⊥
-IsTried x asked locators file (Valid t r) =
+abbrev pub IsTried : Context → RevocationChecks → Bool → List LocatorFields → FileFields → Tried
+    → Type 0
+IsTried x asked names locators file OtherKey = HasLocator locators file → ⊥
+IsTried x asked names locators file (Valid t r) =
     IsAnchorOf locators t.now file × LeadsTo x asked (at_anchor t.now file.octets) [] r
-IsTried x asked locators file (Wrong fault) = IsWrongOf x asked locators file fault
+    × (IsTrue names → IsSelfNamed r.cert)
+IsTried x asked names locators file (Wrong fault) = IsWrongOf x asked names locators file fault
 
 -- a valid trust anchor takes the place of the one before
 abbrev pub TakesPlace : Option ValidAnchor → ResourceFields → Type 0
@@ -43,24 +46,25 @@ IsKept old place file (Valid t r) new =
 
 -- of the first n certificates this is a valid trust anchor, and no valid one is greater; or none is
 -- valid
-abbrev pub IsBestOf : Context → RevocationChecks → List LocatorFields → List FileFields → ℕ
+abbrev pub IsBestOf : Context → RevocationChecks → Bool → List LocatorFields → List FileFields → ℕ
     → Option ValidAnchor → Type 0
-IsBestOf x asked locators certs n None =
+IsBestOf x asked names locators certs n None =
     (k : ℕ) (file : FileFields) (t : NamedTal) (c : CertFields) → k < n
-    → IsValidAt x asked locators certs k file t c → ⊥
-IsBestOf x asked locators certs n (Some a) =
+    → IsValidAt x asked names locators certs k file t c → ⊥
+IsBestOf x asked names locators certs n (Some a) =
     LeadsTo x asked (at_anchor a.tal.now a.file.now.octets) [] a.issuer
-    × IsValidAt x asked locators certs a.place a.file.now a.tal.now a.issuer.cert
+    × IsValidAt x asked names locators certs a.place a.file.now a.tal.now a.issuer.cert
     × ((k : ℕ) (file : FileFields) (t : NamedTal) (c : CertFields) → k < n
-    → IsValidAt x asked locators certs k file t c → anchor_order a.issuer.cert c ≡ Less → ⊥)
+    → IsValidAt x asked names locators certs k file t c → anchor_order a.issuer.cert c ≡ Less → ⊥)
 
 -- the first n certificates were tried
-pub record AreTried (x : Context) (asked : RevocationChecks) (locators : List LocatorFields)
-    (certs : List FileFields) (n : ℕ) (found : Candidates) : Type 0 where
-  pub best : IsBestOf x asked locators certs n found.best
-  pub wrong_are : AllByRecursion (λ w. IsWrongOf x asked locators w.file.now w.fault)
+pub record AreTried (x : Context) (asked : RevocationChecks) (names : Bool)
+    (locators : List LocatorFields) (certs : List FileFields) (n : ℕ) (found : Candidates)
+    : Type 0 where
+  pub best : IsBestOf x asked names locators certs n found.best
+  pub wrong_are : AllByRecursion (λ w. IsWrongOf x asked names locators w.file.now w.fault)
       found.wrong.items
   pub all : (k : ℕ) (file : FileFields) (t : NamedTal) → k < n
       → IsCandidateAt locators certs k file t
       → Any (λ w. w.file.now ≡ file) found.wrong.items
-      ⊎ ((u : NamedTal) × (c : CertFields) × IsValidAt x asked locators certs k file u c)
+      ⊎ ((u : NamedTal) × (c : CertFields) × IsValidAt x asked names locators certs k file u c)

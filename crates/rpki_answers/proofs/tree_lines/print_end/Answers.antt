@@ -10,4 +10,4 @@ returns c =
     (then_appended _ _ _ _ _ (rw c.count_accepted.ensures at c.print_count-2.ensures)
     (then_appended _ _ _ _ _ c.print_reached.ensures
     (then_appended _ _ _ _ _ c.line.ensures
-    (last_appended _ _ _ c.line-2.ensures)))))
+    (last_appended _ _ _ (rw c.unasked.ensures at c.line-2.ensures))))))

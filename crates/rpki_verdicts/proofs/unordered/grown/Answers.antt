@@ -1,11 +1,13 @@
 use Rattle.std.specs.Prelude.{Ok, Option, None, Some}
 use Rattle.std.proofs.Common.{◌≡◌, [], ℕ, List, length, map, sym, ap, subst, ◌∙◌}
 use Rattle.std.proofs.lemmas.List.{length-map}
+use Rattle.rpki_cert.specs.Certificates.{CertFields}
 use Rattle.rpki_cert.specs.Verification.{context}
 use Rattle.rpki_keys.specs.RsaSignatures.{IsSignedByRsa}
-use Rattle.rpki_path.specs.AskedLists.{by_lists}
-use Rattle.rpki_folder.specs.Walks.{Tells, at_anchor}
+use Rattle.rpki_path.specs.AskedLists.{by_named_lists}
+use Rattle.rpki_folder.specs.Walks.{IsLookedAt, Tells, TellsFrom, at_anchor}
 use Rattle.rpki_folder.specs.declared.walk_error.WalkError.{WalkError}
+use Rattle.rpki_folder.proofs.AnchorSteps.{anchor_is}
 use Rattle.rpki_files.specs.Files.{FileFields}
 use Rattle.rpki_verdicts.specs.Trees.{every}
 use Rattle.rpki_verdicts.specs.Trees.Steps.{AreTried}
@@ -19,10 +21,10 @@ returns-in_default c =
     let x = context IsSignedByRsa q.at q.strict in
     let files = map (λ f. f.now) c.args.certs.items in
     let folder = c.args.folder.now in
-    let asked = by_lists x folder.lists in
+    let asked = by_named_lists q.names x folder.lists in
     let found = c.in_ok-best.field-0 in
     let same = ap (λ (l : List _). map (λ f. f.now) l) c.deref.ensures.value in
-    let are = subst (λ (l : List FileFields). AreTried x asked q.locators.now l (length l) found) same c.in_ok-best.ensures in
+    let are = subst (λ (l : List FileFields). AreTried x asked q.names q.locators.now l (length l) found) same c.in_ok-best.ensures in
     let no_best : found.best ≡ None = c.in_default.is in
     record {
       certs = files;
@@ -30,8 +32,8 @@ returns-in_default c =
       lists = folder.lists;
       lists_are = c.requires.lists_are;
       wrong_are = are.wrong_are;
-      all = all_wrong x asked q.locators.now files found are no_best;
-      none = none_valid x asked q.locators.now files found are no_best;
+      all = all_wrong x asked q.names q.locators.now files found are no_best;
+      none = none_valid x asked q.names q.locators.now files found are no_best;
     }
 
 pub returns : goal.returns
@@ -40,17 +42,21 @@ returns c =
     let x = context IsSignedByRsa q.at q.strict in
     let files = map (λ f. f.now) c.args.certs.items in
     let folder = c.args.folder.now in
-    let asked = by_lists x folder.lists in
+    let asked = by_named_lists q.names x folder.lists in
     let found = c.in_ok-best.field-0 in
     let same = ap (λ (l : List _). map (λ f. f.now) l) c.deref.ensures.value in
-    let are = subst (λ (l : List FileFields). AreTried x asked q.locators.now l (length l) found) same c.in_ok-best.ensures in
+    let are = subst (λ (l : List FileFields). AreTried x asked q.names q.locators.now l (length l) found) same c.in_ok-best.ensures in
     let anchor = c.in-Some.anchor in
     let best : found.best ≡ Some anchor = c.in-Some.is in
-    let taken = anchor_at x asked q.locators.now files found are anchor best in
+    let taken = anchor_at x asked q.names q.locators.now files found are anchor best in
     let root = at_anchor anchor.tal.now anchor.file.now.octets in
     let walk = c.in_ok-ended.ensures in
     let t = walk.2.2 root taken.0 in
-    let tells : Tells {E = WalkError} x asked every root folder.certs [] q.depth q.steps (Ok c.in_ok-ended.ended) walk.0 = record { right = t.right; few = t.few; used_up = t.used_up; too_deep = t.too_deep; complete = t.complete } in
+    let tells : TellsFrom {E = WalkError} x asked q.names every anchor.tal.now anchor.file.now.octets folder.certs q.depth q.steps (Ok c.in_ok-ended.ended) walk.0 =
+    λ top begins.
+    let is = anchor_is x asked anchor.tal.now anchor.file.now.octets anchor.issuer taken.0 c.unambiguous.ensures.certificate top begins in
+    subst (λ (d : CertFields). Tells {E = WalkError} x asked (IsLookedAt q.names every d folder.certs) root folder.certs [] q.depth q.steps (Ok c.in_ok-ended.ended) walk.0) is
+    (record { right = t.right; let_in = t.let_in; few = t.few; used_up = t.used_up; too_deep = t.too_deep; complete = t.complete }) in
     record {
       certs_are = c.requires.certs_are;
       lists = folder.lists;
@@ -59,7 +65,7 @@ returns c =
       locator = anchor.tal.now;
       anchor_is = taken.1;
       told = walk.0;
-      tells = subst (λ (l : List (List ℕ)). Tells {E = WalkError} x asked every root l [] q.depth q.steps (Ok c.in_ok-ended.ended) walk.0) c.requires.octets_are tells;
+      tells = subst (λ (l : List (List ℕ)). TellsFrom {E = WalkError} x asked q.names every anchor.tal.now anchor.file.now.octets l q.depth q.steps (Ok c.in_ok-ended.ended) walk.0) c.requires.octets_are tells;
       count_is = walk.1.0 ∙ c.in_ok-lines.ensures.count ∙ c.len.ensures ∙ c.args.certs.ok.0 ∙ sym (length-map c.args.certs.items (λ f. f.now));
       lines_are = walk.1.1 c.in_ok-lines.ensures.nothing;
     }

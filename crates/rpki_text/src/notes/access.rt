@@ -1,0 +1,83 @@
+//! The methods in Subject Information Access.
+ghost use Rattle.std.specs.List.{count_by};
+ghost use Rattle.std.specs.Prelude.{◌≡◌, ◌≤◌, ◌↔◌, IsTrue};
+ghost use Rattle.rpki_der.specs.Place.{remaining};
+ghost use Rattle.rpki_der.specs.Tags.{SEQUENCE};
+ghost use Rattle.rpki_der.specs.Values.Reading.{value_at};
+ghost use Rattle.rpki_parts.specs.NameTexts.Reading.{values_in};
+ghost use Rattle.rpki_text.specs.Notes.{descriptions_in, has_method, is_method};
+
+use crate::notes::contents::{content, is_one_of};
+use rpki_der::{Cursor, oid, tag};
+
+/// The access methods that notes ask for.
+#[derive(Clone, Copy)]
+pub(crate) enum Method {
+    SignedObject,
+    RpkiNotify,
+    // None of those that are known.
+    Unknown,
+}
+
+// The methods that are known (RFC 6487 4.8.8, RFC 8182 3.2).
+const KNOWN: [&[u8]; 4] = [
+    oid::AD_CA_REPOSITORY,
+    oid::AD_RPKI_MANIFEST,
+    oid::AD_SIGNED_OBJECT,
+    oid::AD_RPKI_NOTIFY,
+];
+
+impl Method {
+    // Whether the identifier is that of the method.
+    fn is(self, identifier: &[u8]) -> bool
+        ensures { result ≡ is_method self identifier.now }
+    {
+        match self {
+            Method::SignedObject => identifier == oid::AD_SIGNED_OBJECT,
+            Method::RpkiNotify => identifier == oid::AD_RPKI_NOTIFY,
+            Method::Unknown => !is_one_of(identifier, &KNOWN),
+        }
+    }
+
+    // Whether a description has the method.
+    fn is_in(self, description: &Cursor<'_>) -> bool
+        ensures { result ≡ has_method self (remaining description.now) }
+    {
+        let mut rest = description.fork();
+        match content(&mut rest, tag::OBJECT_IDENTIFIER) {
+            Some(identifier) => self.is(identifier.rest()),
+            None => false,
+        }
+    }
+}
+
+// Whether so many of the descriptions, one after the other, have the method, or more.
+fn are_at_least(descriptions: &Cursor<'_>, times: usize, method: Method) -> bool
+    ensures { let values = values_in (value_at SEQUENCE) (remaining descriptions.now) in
+        IsTrue result ↔ times ≤ count_by (has_method method) values }
+{
+    let mut left = times;
+    let mut rest = descriptions.fork();
+    while left > 0 {
+        let Some(description) = content(&mut rest, tag::SEQUENCE) else {
+            return false;
+        };
+        if method.is_in(&description) {
+            left -= 1;
+        }
+    }
+    true
+}
+
+/// Tells whether so many descriptions in the content of Subject Information Access have the method,
+/// or more.
+pub(crate) fn has_at_least(access: &Cursor<'_>, times: usize, method: Method) -> bool
+    ensures { IsTrue result
+        ↔ times ≤ count_by (has_method method) (descriptions_in (remaining access.now)) }
+{
+    let mut rest = access.fork();
+    match content(&mut rest, tag::SEQUENCE) {
+        Some(descriptions) => are_at_least(&descriptions, times, method),
+        None => times == 0,
+    }
+}
