@@ -33,6 +33,8 @@ static void path_said(uint32_t rounds) {
         .strict = 1,
         .revocation = RPKI_ASK_NOBODY,
         .anchor = RPKI_AS_GIVEN,
+        .key = RPKI_ANY_KEY, /* `validate_path` asks neither the last key nor names */
+        .names = RPKI_ANY_NAMES,
     };
     struct rpki_room room = {v4, 64, v6, 64, asn, 64};
     struct rpki_verdict out;

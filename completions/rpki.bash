@@ -5,7 +5,7 @@ _rpki() {
     case ${COMP_WORDS[1]} in
         show) options='--output --json --quiet --all --at --lenient --max-size --help' ;;
         validate) options='--output --json --quiet --tal --crl --in --depth --steps --no-names --at --lenient --max-size --help' ;;
-        tree) options='--output --json --quiet --tal --depth --steps --at --lenient --max-size --help' ;;
+        tree) options='--output --json --quiet --tal --depth --steps --no-names --at --lenient --max-size --help' ;;
         prepare)
             options='--issuer --crl --at --lenient --out --force --help'
             if [[ ${COMP_WORDS[2]} == list ]]; then

@@ -36,13 +36,13 @@ complete -c rpki -n $each -l max-size -x -d 'Refuse a file with more octets'
 
 complete -c rpki -n $walks -l depth -x -d 'Look at paths of at most so many certificates'
 complete -c rpki -n $walks -l steps -x -d 'Verify at most so many certificates'
+complete -c rpki -n $walks -l no-names -d 'Do not ask that names chain'
 
 complete -c rpki -n $show -l all -d 'Print every entry of a list'
 
 complete -c rpki -n $validate -l tal -r -F -d 'Add a locator of the trust anchor'
 complete -c rpki -n $validate -l crl -r -F -d 'Add a revocation list'
 complete -c rpki -n $validate -l in -r -F -d 'Seek the path to a file in a folder'
-complete -c rpki -n $validate -l no-names -d 'Do not ask that names chain'
 
 complete -c rpki -n $tree -l tal -r -F -d 'Add a locator of the trust anchor'
 

@@ -53,14 +53,23 @@
 extern "C" {
 #endif
 
-/* What rpki_abi_version answers where this header fits the library. */
-#define RPKI_ABI 3
+/* What rpki_abi_version returns if this header fits the library. */
+#define RPKI_ABI 4
 
 /* The version of Gonxebhula that this header is of: MAJOR.MINOR.PATCH. */
 #define RPKI_VERSION "0.2.0"
 
 /* Returns the number of the library's interface. */
 uint32_t rpki_abi_version(void);
+
+/* Holds a text of the library's own, which stays as long as the library is loaded. */
+struct rpki_text {
+    const char *text; /* ends with a 0 */
+    size_t size;      /* counts that 0 too */
+};
+
+/* Writes the library's version into *out, as RPKI_VERSION has it of the header. Returns RPKI_OK. */
+uint32_t rpki_version(struct rpki_text *out);
 
 /* Each struct that has a `size` has an initialiser, which sets the size and leaves all else 0:
  * struct rpki_question question = RPKI_QUESTION_INIT; */
@@ -172,12 +181,19 @@ enum rpki_fault {
     RPKI_REVOCATION_BAD_SIGNATURE = 502,
     RPKI_REVOCATION_STALE = 503,
     RPKI_REVOCATION_REVOKED = 504,
+    RPKI_REVOCATION_WRONG_ISSUER = 505,
 
     /* The issuer isn't the subject of the member above it; of an anchor, its own subject. */
     RPKI_OTHER_NAME = 600,
 
     /* The anchor's key isn't the locator's; of a folder, that of no certificate is. */
     RPKI_OTHER_KEY = 601,
+
+    /* The anchor has the locator's key, and lists no IP address and no AS number. */
+    RPKI_NO_RESOURCES = 602,
+
+    /* The RPKI doesn't use the last certificate's key; of a folder, the line's certificate's. */
+    RPKI_BAD_KEY = 603,
 
     /* The locator's octets aren't a trust anchor locator. No certificate has these faults. */
     RPKI_LOCATOR_NO_TEXT = 700, /* the locator isn't UTF-8, and `strict` isn't 0 */
@@ -258,7 +274,7 @@ uint32_t rpki_fault_sentence(uint32_t fault, uint8_t *out, size_t room, uint64_t
     X(308, "KeyUsage", "wrong key usage")                                         \
     X(309, "MissingCaRepository", "missing CA repository")                        \
     X(310, "MissingManifest", "missing manifest")                                 \
-    X(311, "ManifestNotChild", "manifest outside the repository")                 \
+    X(311, "ManifestNotChild", "manifest not directly below the repository")      \
     X(312, "SignedObjectPresent", "signed object present")                        \
     X(313, "AuthorityKeyIdentifier", "authority key identifier mismatch")         \
     X(314, "CrlUriPresent", "CRL URI present")                                    \
@@ -291,8 +307,11 @@ uint32_t rpki_fault_sentence(uint32_t fault, uint8_t *out, size_t room, uint64_t
     X(502, "BadSignature", "bad signature of the revocation list")                \
     X(503, "Stale", "stale revocation list")                                      \
     X(504, "Revoked", "certificate revoked")                                      \
+    X(505, "WrongIssuer", "wrong issuer of the revocation list")                  \
     X(600, "OtherName", "the issuer isn't the subject of the certificate above")  \
     X(601, "OtherKey", "the trust anchor's key isn't the locator's")              \
+    X(602, "NoResources", "the trust anchor lists no resources")                  \
+    X(603, "BadKey", "the last certificate's key isn't one that the RPKI uses")   \
     X(700, "NoText", "not UTF-8 text")                                            \
     X(701, "BadUri", "bad URI")                                                   \
     X(702, "NoUri", "no URI")                                                     \
@@ -415,6 +434,12 @@ uint32_t rpki_certificate_uri(const uint8_t *octets, size_t length, uint32_t whi
 uint32_t rpki_certificate_name(const uint8_t *octets, size_t length, uint32_t which, uint8_t *out,
                                size_t room, uint64_t *count);
 
+/* Writes the certificate's SubjectPublicKeyInfo in DER, and into *is_used 1 if the RPKI uses such a
+ * key, else 0: RSA of 2048 bits with the exponent 65537 (RFC 7935 3), or for routers an uncompressed
+ * point on the curve P-256 (RFC 8608 3.1). At a fault *is_used is 0. */
+uint32_t rpki_certificate_key(const uint8_t *octets, size_t length, uint8_t *out, size_t room,
+                              uint64_t *count, uint8_t *is_used);
+
 /* ---- revocation lists */
 
 /* Holds what a CRL has of a fixed size, and how many entries it has. */
@@ -446,6 +471,25 @@ uint32_t rpki_list_issuer(const uint8_t *octets, size_t length, uint8_t *out, si
  * times `count`. */
 uint32_t rpki_list_ask(const uint8_t *octets, size_t length, const uint8_t *serials,
                        size_t serials_length, uint8_t *answers, size_t count);
+
+/* Holds a revoked serial number in a table. */
+struct rpki_serial {
+    uint8_t serial[20]; /* has its greatest octet first */
+    uint32_t hint;      /* says where a search begins, and decides no answer */
+};
+
+/* Writes a table of the list, for a caller who asks it often: its serial numbers, ascending. It is
+ * a table only if there is room for all, so if *count is more than `room`, call again with more. The
+ * table is plain memory of the caller's: it may be copied, kept, and asked by threads side by side,
+ * and there is nothing to free. */
+uint32_t rpki_list_table(const uint8_t *octets, size_t length, struct rpki_serial *out,
+                         size_t room, uint64_t *count);
+
+/* Asks a table of `entries` serial numbers, as rpki_list_ask asks a list, in a fraction of a
+ * microsecond a serial number. If the entries aren't a table that rpki_list_table wrote, each answer
+ * is 0 or 1 and says nothing. Takes no memory. */
+uint32_t rpki_table_ask(const struct rpki_serial *table, size_t entries, const uint8_t *serials,
+                        size_t serials_length, uint8_t *answers, size_t count);
 
 /* ---- where reading stops */
 
@@ -518,21 +562,33 @@ enum rpki_revocation { RPKI_ASK_LISTS = 0, RPKI_ASK_NOBODY = 1 };
  * any. */
 enum rpki_trust { RPKI_ASK_LOCATOR = 0, RPKI_AS_GIVEN = 1 };
 
-/* Asks about a path. What a question leaves out it has to say: one of zeros, with members, asks
- * lists and a locator, and is rejected where there are none.
+/* Numbers what the last certificate's key has to be: one that the RPKI uses (RFC 7935 3, RFC 8608
+ * 3.1), or any. The keys above it verify signatures, which only such keys do. */
+enum rpki_last_key { RPKI_ASK_KEY = 0, RPKI_ANY_KEY = 1 };
+
+/* Numbers whether names are checked: those of the path, which have to chain as for rpki_path_names,
+ * and those of its CRLs. Names are compared byte by byte. */
+enum rpki_names { RPKI_ASK_NAMES = 0, RPKI_ANY_NAMES = 1 };
+
+/* Asks about a path. There are no permissive defaults: with zeros in `revocation`, `anchor`, `key`
+ * and `names`, CRLs, a TAL, a last key that the RPKI uses and names that chain are required.
  *
  * CRLs may be of any issuers, in any order; where they were found doesn't matter. Of each
  * certificate below the trust anchor the issuer's newest CRL that has begun decides:
  *   - It names the key that signed the certificate, and is signed by that key.
+ *   - With RPKI_ASK_NAMES its issuer is the subject of the certificate that has that key (RFC 5280
+ *     6.3.3 (b) (1)).
  *   - It has begun: its thisUpdate is neither after the time nor after its own nextUpdate. A CRL
  *     from the future, or one whose two times are exchanged, supersedes none.
  *   - Of these it has the greatest number (RFC 6487 5). Of several with one number, which RFC 5280
  *     5.2.3 forbids, one that revokes the certificate decides, then the one with the later
  *     thisUpdate, then the one with the later nextUpdate. So their order doesn't matter.
  * That CRL has to be current (its nextUpdate isn't before the time), and not to list the
- * certificate. If there is none, the certificate is rejected:
+ * certificate. If there is none, the certificate is rejected. A CRL of another name counts only for
+ * RPKI_REVOCATION_WRONG_ISSUER, if names are checked:
  *   - RPKI_REVOCATION_BAD_SIGNATURE: a CRL names the key but isn't signed by it;
  *   - RPKI_REVOCATION_STALE: all such CRLs have not begun yet;
+ *   - RPKI_REVOCATION_WRONG_ISSUER: the key signed a CRL that names it, but has another name;
  *   - RPKI_REVOCATION_NO_CRL: no CRL names the key. */
 struct rpki_question {
     size_t size;                 /* is sizeof(struct rpki_question) */
@@ -549,6 +605,8 @@ struct rpki_question {
                           * locator may be any octets, and else they are UTF-8 */
     uint32_t revocation; /* is an enum rpki_revocation */
     uint32_t anchor;     /* is an enum rpki_trust */
+    uint32_t key;        /* is an enum rpki_last_key; RPKI_BAD_KEY comes after all other faults */
+    uint32_t names;      /* is an enum rpki_names; RPKI_OTHER_NAME comes after all but RPKI_BAD_KEY */
 };
 
 /* Has room for the ranges that are held. */
@@ -572,16 +630,19 @@ struct rpki_verdict {
     uint64_t v4, v6, asn; /* count the ranges that the last member holds, where the fault is 0 */
 };
 
-/* Answers a question about a path. Signatures are checked as the RPKI has them (RFC 7935). Doesn't
- * ask whether names chain, which rpki_path_names does; nor whether the RPKI uses the last member's
- * key (RFC 7935 3, RFC 8608 3.1), with which no signature here is verified.
- * Writes the ranges that are held, as many as there is room for, and into *out how many there are:
- * where there are more, ask again with more room. *out holds after every fault.
- * Answers RPKI_BAD_CALL where `size` is another, lengths don't add up, a number of the question is
- * of none of its enums, or no moment is such; and where there are too few members (none, or the
- * anchor alone where the last one is to be an end entity or a router), or members below an
- * RPKI_ANCHOR. Where the locator is asked, that comes first: its fault, or that of the anchor's
- * octets, or RPKI_OTHER_KEY, each with the index 0. A list that can't be read comes next. */
+/* Validates a path. Signatures are checked as the RPKI has them (RFC 7935).
+ *
+ * Not checked: manifests.
+ *
+ * Writes the ranges that the path has, as many as there is room for, and into *out how many there
+ * are: if there are more, call again with more room. *out is valid after an error, too.
+ *
+ * Returns RPKI_BAD_CALL if `size` is another, lengths don't add up, a number of the question is of
+ * none of its enums, or the time doesn't exist; and if there are too few certificates (none, or the
+ * trust anchor alone if the last is to be an end entity or a router), or certificates below an
+ * RPKI_ANCHOR. If a TAL is required, it is checked first: its error, the error of the anchor's
+ * bytes, RPKI_OTHER_KEY or RPKI_NO_RESOURCES, each with index 0. A CRL that can't be read is
+ * reported next. */
 uint32_t rpki_path_validate(const struct rpki_question *question, struct rpki_room *room,
                             struct rpki_verdict *out);
 
@@ -637,6 +698,8 @@ struct rpki_folder_question {
     size_t steps;    /* is how many certificates are verified at most, each once for each path that
                       * leads to it; 0 is for 64 times as many as there are */
     uint32_t strict; /* is as for struct rpki_question */
+    uint32_t key;    /* is an enum rpki_last_key, for each certificate: one that is the last of a valid
+                      * path, but has another key, is rejected with RPKI_BAD_KEY */
 };
 
 /* Numbers what becomes of a string. */
@@ -657,6 +720,8 @@ struct rpki_line {
     uint64_t step;   /* counts the certificates above it, there or where it is accepted */
     uint64_t issuer; /* is the place among the strings of the authority right above it, where it is
                       * accepted. An authority that two paths lead to has a line for one of them */
+    uint32_t kind;   /* is as what it was judged, where it is accepted or rejected: an enum rpki_kind,
+                      * but for RPKI_ANCHOR */
 };
 
 /* Numbers how a walk ended. */
@@ -674,13 +739,16 @@ struct rpki_walk {
     uint64_t anchor; /* is the anchor's place among the strings, also where the fault is its own */
 };
 
-/* Judges all certificates of a folder, with signatures as for rpki_path_validate. Writes the line
- * of each string at its place, for as many as there is room for. Where the walk ended RPKI_WHOLE, a
- * certificate whose line is neither RPKI_LINE_ANCHOR nor RPKI_LINE_ACCEPTED is valid by no path.
- * Whether names chain isn't asked. What an accepted certificate holds rpki_path_validate writes.
- * After a fault no line is written, and *out holds. The fault is RPKI_BAD_CALL where `size` is
- * another, lengths don't add up or there is no such moment; the locator's; RPKI_OTHER_KEY where no
- * string has its key; or what is wrong of the anchor. */
+/* Validates all certificates of a directory, with signatures as for rpki_path_validate. Writes the
+ * line of each string at its place, for as many as there is room for. If the walk ended RPKI_WHOLE,
+ * a certificate whose line is neither RPKI_LINE_ANCHOR nor RPKI_LINE_ACCEPTED is valid by no path.
+ *
+ * Not checked: whether names chain. rpki_path_validate writes what an accepted certificate has.
+ *
+ * After an error no line is written, and *out is valid. The error is RPKI_BAD_CALL if `size` is
+ * another, lengths don't add up, or the time or the enum rpki_last_key doesn't exist; the TAL's;
+ * RPKI_OTHER_KEY if no string has its key; or what is wrong with the trust anchor, as
+ * RPKI_NO_RESOURCES. */
 uint32_t rpki_folder_judge(const struct rpki_folder_question *question, struct rpki_line *lines,
                            size_t room, struct rpki_walk *out);
 

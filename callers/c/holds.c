@@ -81,11 +81,8 @@ int main(void) {
     };
     struct rpki_room room = {.v4 = v4, .v4_room = 100};
     struct rpki_verdict verdict;
-    uint64_t place;
     if (rpki_path_validate(&question, &room, &verdict) != RPKI_OK)
         return reject(verdict.fault, verdict.index, members.count);
-    uint32_t names = rpki_path_names(&question.members, &place);
-    if (names != RPKI_OK) return reject(names, place, members.count);
     for (size_t i = 0; i < verdict.v4 && i < 100; i++) {
         const uint8_t *min = v4[i].min, *max = v4[i].max;
         printf("%d.%d.%d.%d to ", min[0], min[1], min[2], min[3]);

@@ -180,20 +180,9 @@ static struct rpki_verdict verdict_on(struct request *it, struct rpki_room *out)
     return verdict;
 }
 
-/* The verdict on the names of an accepted path. */
-static struct rpki_verdict names_of(struct request *it, struct rpki_verdict verdict) {
-    const struct rpki_strings members = strings_of(&it->path);
-    uint64_t place;
-    verdict.fault = rpki_path_names(&members, &place);
-    verdict.index = (uint32_t)place;
-    if (verdict.fault == RPKI_MEMORY) fail("memory", "there is no more");
-    return verdict;
-}
-
 /* A first call counts the ranges that are held, and a second one writes them. */
 static struct rpki_verdict judge(struct request *it, struct rpki_room *out) {
     struct rpki_verdict verdict = verdict_on(it, out);
-    if (verdict.fault == RPKI_OK) verdict = names_of(it, verdict);
     if (verdict.fault != RPKI_OK) return verdict;
     out->v4 = room_for(out->v4_room = verdict.v4, sizeof *out->v4);
     out->v6 = room_for(out->v6_room = verdict.v6, sizeof *out->v6);

@@ -21,6 +21,7 @@ Exceptions. str(fault) is such as "member 2: certificate revoked (Revoked)":
     VerificationFault    it isn't valid at the moment, or not issued by the member above it
     RevocationFault      the lists don't show that it isn't revoked
     NamesFault           its issuer isn't the subject of the member above it
+    KeyFault             the RPKI doesn't use the last member's key
     LocatorFault         the file is no locator, or the trust anchor has another key
     IssuingFault         no certificate or list can be issued so
     TypeError            an argument has another type: a text for bytes, 1 for a Kind ..
@@ -110,6 +111,7 @@ __all__ = [
     "Inherit",
     "InspectionFault",
     "IssuingFault",
+    "KeyFault",
     "Kind",
     "Line",
     "LocatorFault",
@@ -225,8 +227,12 @@ class NamesFault(Fault):
     """The issuer isn't the subject of the member above it."""
 
 
+class KeyFault(Fault):
+    """The RPKI doesn't use the key of the last member (RFC 7935 3, RFC 8608 3.1)."""
+
+
 class LocatorFault(Fault):
-    """The file is no trust anchor locator, or the trust anchor has another key."""
+    """The file is no trust anchor locator, or the trust anchor has another key or lists no number."""
 
 
 class IssuingFault(Fault):
@@ -247,6 +253,8 @@ _FAULTS: dict[int, type[Fault]] = {
     5: RevocationFault,
     600: NamesFault,
     601: LocatorFault,
+    602: LocatorFault,
+    raw.BAD_KEY: KeyFault,
     7: LocatorFault,
     8: IssuingFault,
 }
@@ -623,6 +631,21 @@ class Certificate:
         found = ((name, raw.certificate_uri(self.octets, at)) for at, name in enumerate(raw.URIS))
         return {name: uri.decode("ascii") for name, uri in found if uri}
 
+    @cached_property
+    def _key(self) -> tuple[bytes, bool]:
+        return raw.certificate_key(self.octets)
+
+    @property
+    def public_key(self) -> bytes:
+        """Its key: the SubjectPublicKeyInfo in DER."""
+        return self._key[0]
+
+    @property
+    def has_usable_key(self) -> bool:
+        """Whether the RPKI uses such a key: RSA of 2048 bits with the exponent 65537 (RFC 7935 3), or
+        for routers an uncompressed point on the curve P-256 (RFC 8608 3.1)."""
+        return self._key[1]
+
     def inspect(self, kind: Kind, strict: bool = True) -> None:
         """Checks that it meets the profile of a kind, and raises InspectionFault where it doesn't.
         Leniently, names may have other strings than RFC 6487 4.4 asks."""
@@ -796,18 +819,18 @@ def validate(
     at: datetime | None = None,
     strict: bool = True,
     chain_names: bool = True,
+    check_key: bool = True,
 ) -> Resources:
     """Validates a path of certificates, and gives what its last member holds.
 
     `members` are in order, the trust anchor first; `last` is what the last one is judged as. Of a
     router's certificate the answer is what the member above it holds. Signatures are checked (RFC
-    7935). Whether the RPKI uses the last member's own key isn't asked; `rpki validate` asks it.
+    7935).
 
     `lists` are revocation lists, in any order: each member below the trust anchor has to be unrevoked
     by the latest list of its issuer that has begun. Each stands alone: behind one nothing may stand,
     since that may be another one. They have to be given; `lists=None` says that nothing of
-    revocation is checked, so that a revoked member is accepted. That a list has its issuer's name
-    (RFC 5280 6.3.3 (b) (1)) isn't checked; `rpki validate` checks it.
+    revocation is checked, so that a revoked member is accepted.
 
     `locator` is the file of a trust anchor locator (TAL, RFC 8630), whose key the trust anchor has
     to have. It has to be given; `locator=None` says that the trust anchor is taken as given, so that
@@ -816,9 +839,12 @@ def validate(
     `at` is the validation time, by default now. It needs a time zone, as `datetime(2026, 6, 1,
     tzinfo=timezone.utc)` has one. `strict` requires the strings of RFC 6487 4.4 of names, and UTF-8
     of the TAL. `chain_names` requires that each issuer is the subject of the member above it (RFC
-    6487 7.2).
+    6487 7.2), and that a list has its issuer's name (RFC 5280 6.3.3 (b) (1)): one that has another
+    name is none, and the fault is `WrongIssuer` if there is no other. `check_key` requires that the RPKI uses the last member's key (RFC 7935 3, RFC 8608
+    3.1); the keys above it verify signatures, which only such keys do.
 
-    Raises the Fault of the first wrong member, or of the locator or a list that can't be read.
+    Raises the Fault of the first wrong member, or of the locator or a list that can't be read; the
+    members' names are checked behind all of these, and the last key at the end.
     Raises ValueError if there are too few members, if the last of several is to be a trust anchor,
     and if `at` has no time zone; TypeError if an argument has another type.
     """
@@ -827,13 +853,12 @@ def validate(
     all_lists = None if lists is None else _all_octets(lists, "lists")
     key = None if locator is None else _bytes(locator, "locator")
     number, is_strict = _kind(last, "last"), _flag(strict, "strict")
-    asked = raw.question(all_members, number, now, is_strict, all_lists, key)
+    waived = not _flag(check_key, "check_key"), not _flag(chain_names, "chain_names")
+    asked = raw.question(all_members, number, now, is_strict, all_lists, key, *waived)
     fault, index, held = raw.judge(asked)
     if fault == raw.BAD_CALL:
         raise ValueError(_why_no_path(len(all_members), last))
     _raise_at(fault, index, all_members, all_lists or ())
-    if _flag(chain_names, "chain_names"):
-        _raise(*raw.names(all_members))
     return Resources(_ipv4(held[0]), _ipv6(held[1]), _as_numbers(held[2]))
 
 
@@ -868,6 +893,8 @@ class Line:
     """The place of its issuer among the octets, where it is accepted."""
     fault: Fault | None = None
     """Why it is rejected."""
+    kind: Kind | None = None
+    """As what it was judged, where it is accepted or rejected: as what it says that it is."""
 
     @property
     def is_valid(self) -> bool:
@@ -891,9 +918,9 @@ class Folder:
 def _line(it: raw.Line) -> Line:
     state = State(it.what)
     if state is State.ACCEPTED:
-        return Line(state, it.step, it.issuer)
+        return Line(state, it.step, it.issuer, kind=Kind(it.kind))
     if state is State.REJECTED:
-        return Line(state, it.step, None, _fault(it.fault))
+        return Line(state, it.step, None, _fault(it.fault), Kind(it.kind))
     return Line(state)
 
 
@@ -903,6 +930,7 @@ def judge_folder(
     locator: Octets,
     at: datetime | None = None,
     strict: bool = True,
+    check_key: bool = True,
     depth: int = 32,
     steps: int | None = None,
 ) -> Folder:
@@ -916,7 +944,7 @@ def judge_folder(
     and no folder shows that a file was withheld: whoever reads manifests leaves out what they don't
     list.
 
-    `at` and `strict` are as for `validate`. A path has at most `depth` certificates below the trust
+    `at` and `strict` are as for `validate`, and `check_key` for each certificate. A path has at most `depth` certificates below the trust
     anchor, and at most `steps` certificates are verified, each once for each path that leads to it;
     64 times as many as there are, where it isn't given. `is_whole` of the answer says whether that
     was enough.
@@ -932,9 +960,12 @@ def judge_folder(
     tal = _bytes(locator, "locator")
     # of files that are read here only the joined octets stay
     strings = raw.strings_of(_all_octets(octets, "octets"))
-    asked = raw.folder_question(strings, tal, now, is_strict, depth, steps or 0)
+    any_key = not _flag(check_key, "check_key")
+    bounds = depth, steps or 0
+    asked = raw.folder_question(strings, tal, now, is_strict, bounds, any_key)
     walk, lines = raw.judge_folder(asked)
-    place = walk.anchor if 100 <= walk.fault < 600 else None
+    is_anchors = 100 <= walk.fault < 600 or walk.fault == FaultCode.NO_RESOURCES
+    place = walk.anchor if is_anchors else None
     _raise(walk.fault, place)
     return Folder(tuple(map(_line, lines)), walk.anchor, walk.ended == raw.WHOLE)
 
@@ -988,6 +1019,7 @@ class _Issuer:
     locator: bytes | None
     now: raw.Time
     strict: bool
+    chain_names: bool
 
     @classmethod
     def of(
@@ -999,26 +1031,25 @@ class _Issuer:
         strict: bool,
         chain_names: bool,
     ) -> _Issuer:
-        """Raises the NamesFault of the issuer's path, if its names don't chain and have to."""
-        members = _all_octets(issuers, "issuers")
-        it = cls(
-            members,
+        return cls(
+            _all_octets(issuers, "issuers"),
             None if lists is None else _all_octets(lists, "lists"),
             None if locator is None else _bytes(locator, "locator"),
             _time(datetime.now(timezone.utc) if at is None else at),
             _flag(strict, "strict"),
+            _flag(chain_names, "chain_names"),
         )
-        if _flag(chain_names, "chain_names") and members:
-            fault, place = raw.names(members)
-            # octets that are no certificate have another fault, which the call itself raises
-            if _FAULTS.get(fault) is NamesFault:
-                _raise(fault, place)
-        return it
 
     def question(self, last: Kind) -> raw.Question:
         """The question about the issuer's path, which ends in the kind."""
         return raw.question(
-            self.members, last.value, self.now, self.strict, self.lists, self.locator
+            self.members,
+            last.value,
+            self.now,
+            self.strict,
+            self.lists,
+            self.locator,
+            any_names=not self.chain_names,
         )
 
     def raise_fault(self, told: raw.Issued, no_call: str) -> None:

@@ -7,10 +7,10 @@ from collections.abc import Sequence
 from ctypes import c_size_t, c_uint8, c_uint16, c_uint32, c_uint64
 from typing import Any, TypeVar
 
-ABI = 3  # RPKI_ABI of rpki.h
+ABI = 4  # RPKI_ABI of rpki.h
 
 OK, MEMORY, BAD_CALL = 0, 1, 2
-BAD_URI = 802
+BAD_KEY, BAD_URI = 603, 802
 # enum rpki_state
 MISSING, INHERITED, LISTED = 0, 1, 2
 # enum rpki_ended
@@ -95,7 +95,7 @@ class Question(ctypes.Structure):
         ("locator", ctypes.POINTER(c_uint8)),
         ("locator_length", c_size_t),
         ("moment", Time),
-        *((name, c_uint32) for name in ("last", "strict", "revocation", "anchor")),
+        *((name, c_uint32) for name in ("last", "strict", "revocation", "anchor", "key", "names")),
     ]
 
 
@@ -131,7 +131,7 @@ class FolderQuestion(ctypes.Structure):
         ("locator_length", c_size_t),
         ("moment", Time),
         *((name, c_size_t) for name in ("depth", "steps")),
-        ("strict", c_uint32),
+        *((name, c_uint32) for name in ("strict", "key")),
     ]
 
 
@@ -141,6 +141,7 @@ class Line(ctypes.Structure):
     _fields_ = [
         *((name, c_uint32) for name in ("what", "fault")),
         *((name, c_uint64) for name in ("step", "issuer")),
+        ("kind", c_uint32),
     ]
 
 
@@ -287,8 +288,11 @@ def question(
     strict: bool,
     lists: Sequence[bytes] | None = None,
     locator: bytes | None = None,
+    any_key: bool = False,
+    any_names: bool = False,
 ) -> Question:
-    """A question about a path: lists and a locator are asked where they are given."""
+    """A question about a path: lists and a locator are asked where they are given, and the last key
+    and names unless any are accepted."""
     return Question(
         ctypes.sizeof(Question),
         strings_of(members),
@@ -299,6 +303,8 @@ def question(
         strict != 0,
         lists is None,
         locator is None,
+        any_key,
+        any_names,
     )
 
 
@@ -324,12 +330,12 @@ def all_of(element: type[Element], function: Any, *words: Any) -> list[Element]:
     return list(room)
 
 
-def bytes_of(function: Any, *words: Any) -> bytes:
-    """All octets that a call writes."""
+def bytes_of(function: Any, *words: Any, behind: Sequence[Any] = ()) -> bytes:
+    """All octets that a call writes, whose last arguments are these."""
     count = c_uint64()
-    call(function, *words, (c_uint8 * 0)(), c_size_t(0), ctypes.byref(count))
+    call(function, *words, (c_uint8 * 0)(), c_size_t(0), ctypes.byref(count), *behind)
     room = (c_uint8 * count.value)()
-    call(function, *words, room, c_size_t(count.value), ctypes.byref(count))
+    call(function, *words, room, c_size_t(count.value), ctypes.byref(count), *behind)
     return bytes(room)
 
 
@@ -369,6 +375,14 @@ def certificate_uri(octets: bytes, which: int) -> bytes:
 
 def certificate_name(octets: bytes, which: int) -> bytes:
     return bytes_of(lib.rpki_certificate_name, *octets_of(octets), c_uint32(which))
+
+
+def certificate_key(octets: bytes) -> tuple[bytes, bool]:
+    """The SubjectPublicKeyInfo, and whether the RPKI uses such a key."""
+    is_used = c_uint8()
+    function = lib.rpki_certificate_key
+    key = bytes_of(function, *octets_of(octets), behind=[ctypes.byref(is_used)])
+    return key, bool(is_used.value)
 
 
 def revocation_list(octets: bytes) -> List:
@@ -427,15 +441,13 @@ def judge(asked: Question) -> tuple[int, int, Held]:
     return OK, 0, (room.v4[: out.v4], room.v6[: out.v6], room.asn[: out.asn])
 
 
-def names(members: Sequence[bytes]) -> tuple[int, int]:
-    """The fault of a path's names, and the place of the member that has it."""
-    place = c_uint64()
-    fault: int = lib.rpki_path_names(ctypes.byref(strings_of(members)), ctypes.byref(place))
-    return fault, place.value
-
-
 def folder_question(
-    strings: Strings, locator: bytes, now: Time, strict: bool, depth: int, steps: int
+    strings: Strings,
+    locator: bytes,
+    now: Time,
+    strict: bool,
+    bounds: tuple[int, int],
+    any_key: bool,
 ) -> FolderQuestion:
     """A question about a folder."""
     return FolderQuestion(
@@ -443,9 +455,9 @@ def folder_question(
         strings,
         *octets_of(locator),
         now,
-        depth,
-        steps,
+        *bounds,
         strict != 0,
+        any_key,
     )
 
 

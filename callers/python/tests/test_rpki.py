@@ -4,6 +4,7 @@ tests/files.
     PYTHONPATH=callers/python RPKI_LIBRARY=FOLDER python3 -m unittest discover -s callers/python/tests
 """
 
+import base64
 import copy
 import functools
 import io
@@ -339,6 +340,61 @@ class Paths(unittest.TestCase):
         self.assertEqual((held.ipv4, held.ipv6), (listed.ipv4, listed.ipv6))
         self.assertEqual(held.as_numbers, listed.as_numbers)
 
+    def test_last_key(self) -> None:
+        """The keys of tests/files/keyed, of which make.py there says."""
+        folder = TOP / "tests" / "files" / "keyed"
+        day = datetime(2025, 6, 1, tzinfo=timezone.utc)
+        for name, kind, is_used in (
+            ("ca_2048", Kind.AUTHORITY, True),
+            ("ca_1024", Kind.AUTHORITY, False),
+            ("ee_2048", Kind.END_ENTITY, True),
+            ("ee_1024", Kind.END_ENTITY, False),
+            ("ee_3072", Kind.END_ENTITY, False),
+            ("ee_exponent_3", Kind.END_ENTITY, False),
+            ("router", Kind.ROUTER, True),
+            ("router_compressed", Kind.ROUTER, False),
+        ):
+            file = folder / f"{name}.cer"
+            members, asked = [folder / "ta.cer", file], {"lists": None, "at": day}
+            if is_used:
+                validate(members, last=kind, **asked)
+            else:
+                with self.assertRaises(rpki.KeyFault) as caught:
+                    validate(members, last=kind, **asked)
+                fault = caught.exception
+                self.assertEqual((fault.code, fault.member), (FaultCode.BAD_KEY, 1))
+            validate(members, last=kind, check_key=False, **asked)
+            it = Certificate(file)
+            self.assertEqual(it.has_usable_key, is_used)
+            pem = openssl("x509", "-inform", "DER", "-pubkey", "-noout", given=it.octets)
+            der = base64.b64decode(b"".join(pem.splitlines()[1:-1]))
+            self.assertEqual(it.public_key, der)
+        with self.assertRaisesRegex(TypeError, "^check_key: expected True or False"):
+            validate(members, last=kind, check_key=cast(Any, 0), **asked)
+
+    def test_list_names(self) -> None:
+        """The lists of tests/files/nobody, of which make.py there says."""
+        folder = TOP / "tests" / "files" / "nobody"
+        members = [folder / "ta.cer", folder / "ca.cer"]
+        asked: dict[str, Any] = {"last": Kind.AUTHORITY, "at": datetime(2025, 6, 1, tzinfo=timezone.utc)}
+        for names, wanted, waived in (
+            (["newer"], "WrongIssuer", None),
+            (["newer_revoking"], "WrongIssuer", "Revoked"),
+            (["newer_stale"], "WrongIssuer", "Stale"),
+            (["newer_forged"], "NoCrl", "BadSignature"),
+            (["newer", "plain"], None, None),
+            (["newer", "revoking"], "Revoked", None),
+            (["newer_revoking", "plain"], None, "Revoked"),
+        ):
+            for order in (names, names[::-1]):
+                lists = [folder / f"{name}.crl" for name in order]
+                for chain_names, name in ((True, wanted), (False, waived)):
+                    how = {**asked, "lists": lists, "chain_names": chain_names}
+                    if name is None:
+                        validate(members, **how)
+                    else:
+                        self.rejects(name, rpki.RevocationFault, 1, members, **how)
+
     def test_read_members(self) -> None:
         members = [Certificate(it) for it in self.members]
         lists = [RevocationList(it) for it in self.lists]
@@ -564,6 +620,7 @@ class Folders(unittest.TestCase):
     def test_any_order(self) -> None:
         second, anchor, leaf, tampered, first = self.members
         given = [*self.lists, second, anchor, leaf, b"no file", tampered, first]
+        ca, ee = Kind.AUTHORITY, Kind.END_ENTITY
         for _ in given:
             given = [*given[1:], given[0]]
             place = given.index
@@ -572,14 +629,14 @@ class Folders(unittest.TestCase):
             self.assertEqual(folder.anchor, place(anchor))
             line = dict(zip(given, folder.lines))
             self.assertEqual(line[anchor], Line(State.ANCHOR))
-            self.assertEqual(line[first], Line(State.ACCEPTED, 1, place(anchor)))
-            self.assertEqual(line[second], Line(State.ACCEPTED, 2, place(first)))
-            self.assertEqual(line[leaf], Line(State.ACCEPTED, 3, place(second)))
+            self.assertEqual(line[first], Line(State.ACCEPTED, 1, place(anchor), kind=ca))
+            self.assertEqual(line[second], Line(State.ACCEPTED, 2, place(first), kind=ca))
+            self.assertEqual(line[leaf], Line(State.ACCEPTED, 3, place(second), kind=ee))
             self.assertEqual({line[it].state for it in self.lists}, {State.LIST})
             self.assertEqual(line[b"no file"], Line(State.NEITHER))
             wrong = line[tampered]
             assert wrong.fault is not None
-            self.assertEqual((wrong.state, wrong.step), (State.REJECTED, 2))
+            self.assertEqual((wrong.state, wrong.step, wrong.kind), (State.REJECTED, 2, ca))
             self.assertEqual((wrong.fault.name, wrong.fault.member), ("BadSignature", None))
             valid = [it for it in given if line[it].is_valid]
             self.assertCountEqual(valid, [anchor, first, second, leaf])

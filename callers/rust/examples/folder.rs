@@ -27,9 +27,12 @@ fn judge(tal: &str, files: &[String]) -> std::io::Result<Result<Judged, Fault>> 
 
 fn main() -> ExitCode {
     let words: Vec<String> = std::env::args().skip(1).collect();
-    let [tal, files @ ..] = &words[..] else {
-        eprintln!("usage: folder TAL FILE..");
-        return ExitCode::from(2);
+    let (tal, files) = match &words[..] {
+        [tal, files @ ..] => (tal, files),
+        [] => {
+            eprintln!("usage: folder TAL FILE..");
+            return ExitCode::from(2);
+        }
     };
     let judged = match judge(tal, files) {
         Ok(Ok(judged)) => judged,

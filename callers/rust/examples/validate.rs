@@ -3,8 +3,9 @@
 //! usage: validate [OPTION].. [-l LIST.crl].. [-t LOCATOR.tal] YYYY-MM-DD LAST MEMBER.cer..
 //!        LAST: authority, ee, detached or router
 //!
-//! Names have to chain. CRLs are checked if some are given, and so is the anchor's key if a TAL is. The
-//! options `--no-names` and `--lenient` waive names and the strings of names.
+//! Names have to chain, and the RPKI has to use the last key. CRLs are checked if some are given, and so
+//! is the anchor's key if a TAL is. The options `--no-names`, `--any-key` and `--lenient` waive names,
+//! the last key and the strings of names.
 //! Ends with 0 where the path is accepted, with 1 where it is rejected, and with 2 where the words
 //! or a file are not as above, or the verdict can't be written.
 use gonxebhula::{Anchor, Fault, FaultKind, Holdings, Kind, Moment, Path, Place, Revocation};
@@ -18,7 +19,7 @@ use std::process::ExitCode;
 const MOST: u64 = 64 << 20;
 const USAGE: &str =
     "usage: validate [OPTION].. [-l LIST.crl].. [-t LOCATOR.tal] YYYY-MM-DD LAST MEMBER.cer..";
-const OPTIONS: [&str; 2] = ["--no-names", "--lenient"];
+const OPTIONS: [&str; 3] = ["--no-names", "--any-key", "--lenient"];
 
 fn print(held: &Holdings) -> io::Result<()> {
     let mut out = io::stdout().lock();
@@ -89,6 +90,7 @@ fn contents(file: &OsString) -> Result<Vec<u8>, String> {
 fn waive<'a>(path: Path<'a>, waived: &[&str]) -> Path<'a> {
     waived.iter().fold(path, |path, option| match *option {
         "--no-names" => path.without_names(),
+        "--any-key" => path.with_any_key(),
         _ => path.lenient(),
     })
 }
@@ -98,10 +100,10 @@ fn run(mut words: &[OsString]) -> Result<ExitCode, String> {
     let unwritten = |error: io::Error| format!("output: {error}");
     let mut waived = Vec::new();
     while let [option, rest @ ..] = words {
-        let Some(option) = OPTIONS.iter().find(|it| option == OsStr::new(it)) else {
-            break;
-        };
-        waived.push(*option);
+        match OPTIONS.iter().find(|it| option == OsStr::new(it)) {
+            Some(option) => waived.push(*option),
+            None => break,
+        }
         words = rest;
     }
     let mut lists = Vec::new();
@@ -119,8 +121,9 @@ fn run(mut words: &[OsString]) -> Result<ExitCode, String> {
             words = rest;
         }
     }
-    let [day, last, _, ..] = words else {
-        return Err(USAGE.to_owned());
+    let (day, last) = match words {
+        [day, last, _, ..] => (day, last),
+        _ => return Err(USAGE.to_owned()),
     };
     let files = &words[2..];
     let (last, now) = (

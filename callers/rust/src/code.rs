@@ -126,10 +126,16 @@ pub enum FaultCode {
     RevocationStale = 503,
     /// `RPKI_REVOCATION_REVOKED` of rpki.h.
     RevocationRevoked = 504,
+    /// `RPKI_REVOCATION_WRONG_ISSUER` of rpki.h.
+    RevocationWrongIssuer = 505,
     /// `RPKI_OTHER_NAME` of rpki.h.
     OtherName = 600,
     /// `RPKI_OTHER_KEY` of rpki.h.
     OtherKey = 601,
+    /// `RPKI_NO_RESOURCES` of rpki.h.
+    NoResources = 602,
+    /// `RPKI_BAD_KEY` of rpki.h.
+    BadKey = 603,
     /// `RPKI_LOCATOR_NO_TEXT` of rpki.h.
     LocatorNoText = 700,
     /// `RPKI_LOCATOR_BAD_URI` of rpki.h.
@@ -234,8 +240,11 @@ const ALL: &[FaultCode] = &[
     FaultCode::RevocationBadSignature,
     FaultCode::RevocationStale,
     FaultCode::RevocationRevoked,
+    FaultCode::RevocationWrongIssuer,
     FaultCode::OtherName,
     FaultCode::OtherKey,
+    FaultCode::NoResources,
+    FaultCode::BadKey,
     FaultCode::LocatorNoText,
     FaultCode::LocatorBadUri,
     FaultCode::LocatorNoUri,

@@ -41,14 +41,16 @@ pub enum FaultKind {
     Verification,
     /// The lists don't show that the certificate isn't revoked.
     ///
-    /// Its name is `NoCrl`, `WrongKeyId`, `BadSignature`, `Stale` or `Revoked`.
+    /// Its name is `NoCrl`, `WrongKeyId`, `BadSignature`, `Stale`, `Revoked` or `WrongIssuer`.
     Revocation,
     /// The issuer isn't the subject of the member above it. Its name is `OtherName`.
     Names,
-    /// The file is no trust anchor locator, or the trust anchor has another key.
+    /// The RPKI doesn't use the last certificate's key. Its name is `BadKey`.
+    Key,
+    /// The file is no trust anchor locator, or the trust anchor has another key or lists no number.
     ///
-    /// Its name is `OtherKey` for the key, and else `NoText`, `BadUri`, `NoUri`, `NoKey` or
-    /// `BadKey`.
+    /// Its name is `OtherKey` for the key, `NoResources` for the numbers, and else `NoText`,
+    /// `BadUri`, `NoUri`, `NoKey` or `BadKey`.
     Locator,
     /// The key, a URI, the fields or the octets are none of a certificate or a list that can be
     /// issued.
@@ -174,10 +176,8 @@ impl Fault {
 
     // Of the trust anchor at a place of a folder, or of its locator.
     pub(crate) fn of_anchor(number: u32, anchor: usize) -> Fault {
-        let place = (100..600)
-            .contains(&number)
-            .then_some(Place::Member(anchor));
-        Fault::at(number, place)
+        let is_anchors = matches!(number, 100..=599 | sys::NO_RESOURCES);
+        Fault::at(number, is_anchors.then_some(Place::Member(anchor)))
     }
 
     /// Returns the number, of `enum rpki_fault` of rpki.h. It tells the fault from all others, and
@@ -234,7 +234,8 @@ impl Fault {
             400..=499 => FaultKind::Verification,
             500..=599 => FaultKind::Revocation,
             600 => FaultKind::Names,
-            601 | 700..=799 => FaultKind::Locator,
+            603 => FaultKind::Key,
+            601..=602 | 700..=799 => FaultKind::Locator,
             800..=899 => FaultKind::Issuing,
             _ => FaultKind::Decode,
         }

@@ -1,5 +1,5 @@
 //! Certificates and revocation lists in any order.
-use crate::{check_library, slices, sys, Fault, Moment};
+use crate::{check_library, slices, sys, Fault, Kind, Moment};
 
 /// What became of one of the octets of a folder.
 #[derive(Clone, Debug, PartialEq, Eq, Hash)]
@@ -15,6 +15,8 @@ pub enum Line {
         step: usize,
         /// The place of its issuer among the octets.
         issuer: usize,
+        /// As what it was judged.
+        kind: Kind,
     },
     /// A certificate that is wrong below each valid path to its issuer.
     Rejected {
@@ -22,6 +24,8 @@ pub enum Line {
         step: usize,
         /// Why it is rejected.
         fault: Fault,
+        /// As what it was judged.
+        kind: Kind,
     },
     /// A revocation list.
     List,
@@ -42,15 +46,27 @@ impl Line {
             sys::ACCEPTED => Line::Accepted {
                 step,
                 issuer: it.issuer as usize,
+                kind: kind_of(it.kind),
             },
             sys::REJECTED => Line::Rejected {
                 step,
                 fault: Fault::new(it.fault),
+                kind: kind_of(it.kind),
             },
             sys::LIST => Line::List,
             sys::NEITHER => Line::Neither,
             _ => Line::Unseen,
         }
+    }
+}
+
+// A kind below a trust anchor.
+fn kind_of(number: u32) -> Kind {
+    match number {
+        1 => Kind::Authority,
+        2 => Kind::EndEntity,
+        3 => Kind::Detached,
+        _ => Kind::Router,
     }
 }
 
@@ -90,6 +106,7 @@ pub struct Folder<'a> {
     octets: Vec<&'a [u8]>,
     locator: &'a [u8],
     strict: bool,
+    check_key: bool,
     depth: usize,
     steps: usize,
 }
@@ -105,6 +122,7 @@ impl<'a> Folder<'a> {
             octets: slices(octets),
             locator,
             strict: true,
+            check_key: true,
             depth: 0,
             steps: 0,
         }
@@ -113,6 +131,12 @@ impl<'a> Folder<'a> {
     /// Lets names have other strings than RFC 6487 4.4 asks, and a locator's comments any octets.
     pub fn lenient(mut self) -> Folder<'a> {
         self.strict = false;
+        self
+    }
+
+    /// Doesn't check that the RPKI uses a certificate's key (RFC 7935 3, RFC 8608 3.1).
+    pub fn with_any_key(mut self) -> Folder<'a> {
+        self.check_key = false;
         self
     }
 
@@ -142,6 +166,7 @@ impl<'a> Folder<'a> {
             depth: self.depth,
             steps: self.steps,
             strict: self.strict,
+            any_key: !self.check_key,
         };
         let of_anchor = |(number, anchor)| Fault::of_anchor(number, anchor);
         let (walk, lines) = sys::judge_folder(&question).map_err(of_anchor)?;

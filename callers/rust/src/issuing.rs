@@ -187,21 +187,10 @@ impl<'a> Issuer<'a> {
     }
 
     /// Doesn't check that each issuer of the path is the subject of the certificate above it (RFC 6487
-    /// 7.2).
+    /// 7.2), and that a list has its issuer's name (RFC 5280 6.3.3).
     pub fn without_names(mut self) -> Issuer<'a> {
         self.chain_names = false;
         self
-    }
-
-    // The fault of names that don't chain and have to. Octets that are no certificate have another
-    // fault, which the call behind this one finds.
-    fn check_names(&self) -> Result<(), Fault> {
-        match sys::names(&self.path) {
-            Err((number, index)) if number == sys::OTHER_NAME && self.chain_names => {
-                Err(Fault::of_path(number, index, &self.path, &[]))
-            }
-            _ => Ok(()),
-        }
     }
 
     fn question(&self, kind: Kind) -> sys::Question<'_> {
@@ -215,6 +204,8 @@ impl<'a> Issuer<'a> {
             lists: self.revocation.lists(),
             locator: self.anchor.locator(),
             strict: self.strict,
+            any_key: false,
+            any_names: !self.chain_names,
             now: self.now.0,
         }
     }
@@ -251,7 +242,6 @@ impl<'a> Issuer<'a> {
     /// issued (`Place::Issued`, or `Place::Uri` for one of its URIs).
     pub fn prepare(&self, wanted: &Wanted<'_>) -> Result<Vec<u8>, Fault> {
         check_library();
-        self.check_names()?;
         if let Some(why) = self.why_unwanted(wanted) {
             return Err(Fault::bad_call(why));
         }
@@ -284,7 +274,6 @@ impl<'a> Issuer<'a> {
         signature: &[u8],
     ) -> Result<Certificate, Fault> {
         check_library();
-        self.check_names()?;
         let asked = sys::Completion {
             issuer: self.question(kind),
             prepared,
@@ -301,15 +290,14 @@ impl<'a> Issuer<'a> {
     /// serial number once.
     pub fn prepare_list(&self, wanted: &WantedList<'_>) -> Result<Vec<u8>, Fault> {
         check_library();
-        self.check_names()?;
         if self.path.is_empty() {
             return Err(Fault::bad_call("a list has an issuer, and there is none"));
         }
         let octets = self.prepared_list(wanted)?;
-        let Some(before) = wanted.previous else {
-            return Ok(octets);
+        let before = match wanted.previous {
+            Some(before) => RevocationList::read(before)?,
+            None => return Ok(octets),
         };
-        let before = RevocationList::read(before)?;
         let dropped = before.expired(wanted.expired)?;
         if dropped.is_empty() {
             return Ok(octets);
@@ -351,7 +339,6 @@ impl<'a> Issuer<'a> {
         signature: &[u8],
     ) -> Result<RevocationList, Fault> {
         check_library();
-        self.check_names()?;
         let asked = sys::ListCompletion {
             issuer: self.question(Kind::Authority),
             prepared,

@@ -366,6 +366,19 @@ impl Certificate {
         sys::certificate_name(&self.octets, 1).map_err(Fault::new)
     }
 
+    /// Returns its key: the SubjectPublicKeyInfo in DER.
+    pub fn public_key(&self) -> Result<Vec<u8>, Fault> {
+        let (key, _) = sys::certificate_key(&self.octets).map_err(Fault::new)?;
+        Ok(key)
+    }
+
+    /// Returns whether the RPKI uses such a key: RSA of 2048 bits with the exponent 65537 (RFC 7935 3),
+    /// or for routers an uncompressed point on the curve P-256 (RFC 8608 3.1).
+    pub fn has_usable_key(&self) -> Result<bool, Fault> {
+        let (_, is_used) = sys::certificate_key(&self.octets).map_err(Fault::new)?;
+        Ok(is_used)
+    }
+
     /// Checks that it meets the profile of a kind. Strictly, names have to have the strings of RFC
     /// 6487 4.4.
     pub fn inspect(&self, kind: Kind, strict: bool) -> Result<(), Fault> {
@@ -505,7 +518,8 @@ impl RevocationList {
     }
 
     /// Returns whether the serial number is on the list. Whose list it is isn't checked. Each call
-    /// reads the list: [`RevocationList::contains_each`] reads it once for many serial numbers.
+    /// reads the list: [`RevocationList::contains_each`] reads it once for many serial numbers, and
+    /// [`RevocationList::table`] once for as many calls as you like.
     pub fn contains(&self, serial_number: &[u8; 20]) -> Result<bool, Fault> {
         self.contains_each(std::slice::from_ref(serial_number))
             .map(|answers| answers[0])
@@ -514,6 +528,30 @@ impl RevocationList {
     /// Returns for each of these serial numbers whether it is on the list.
     pub fn contains_each(&self, serial_numbers: &[[u8; 20]]) -> Result<Vec<bool>, Fault> {
         sys::are_revoked(&self.octets, serial_numbers).map_err(Fault::new)
+    }
+
+    /// Returns a table of the serial numbers, for many questions at different times.
+    pub fn table(&self) -> Result<RevocationTable, Fault> {
+        let rows = sys::table(&self.octets).map_err(Fault::new)?;
+        Ok(RevocationTable { rows })
+    }
+}
+
+/// The serial numbers of a list, in 24 bytes each. [`RevocationList::table`] makes it.
+#[derive(Clone, Debug)]
+pub struct RevocationTable {
+    rows: Vec<sys::Serial>,
+}
+
+impl RevocationTable {
+    /// Returns whether the serial number is on the list.
+    pub fn contains(&self, serial_number: &[u8; 20]) -> bool {
+        sys::is_in(&self.rows, serial_number)
+    }
+
+    /// Returns for each of these serial numbers whether it is on the list.
+    pub fn contains_each(&self, serial_numbers: &[[u8; 20]]) -> Vec<bool> {
+        sys::are_in(&self.rows, serial_numbers)
     }
 }
 
@@ -631,6 +669,7 @@ pub struct Path<'a> {
     anchor: Anchor<'a>,
     strict: bool,
     chain_names: bool,
+    check_key: bool,
 }
 
 impl<'a> Path<'a> {
@@ -653,6 +692,7 @@ impl<'a> Path<'a> {
             anchor,
             strict: true,
             chain_names: true,
+            check_key: true,
         }
     }
 
@@ -662,9 +702,16 @@ impl<'a> Path<'a> {
         self
     }
 
-    /// Doesn't ask that each issuer is the subject of the member above it (RFC 6487 7.2).
+    /// Doesn't ask that each issuer is the subject of the member above it (RFC 6487 7.2), and that a
+    /// list has its issuer's name (RFC 5280 6.3.3).
     pub fn without_names(mut self) -> Path<'a> {
         self.chain_names = false;
+        self
+    }
+
+    /// Doesn't check that the RPKI uses the last certificate's key (RFC 7935 3, RFC 8608 3.1).
+    pub fn with_any_key(mut self) -> Path<'a> {
+        self.check_key = false;
         self
     }
 
@@ -681,8 +728,8 @@ impl<'a> Path<'a> {
     }
 
     /// Validates the path, with signatures (RFC 7935), and returns what its last member holds; of a
-    /// router's certificate, what the member above it holds. Errs with the fault of the first wrong
-    /// member. Whether the RPKI uses the last member's own key isn't asked; `rpki validate` asks it.
+    /// router's certificate, what the certificate above it holds. Errs with the fault of the first
+    /// wrong certificate; last with that of names, and of a last key that the RPKI doesn't use.
     pub fn validate(&self, now: Moment) -> Result<Holdings, Fault> {
         check_library();
         let question = sys::Question {
@@ -691,6 +738,8 @@ impl<'a> Path<'a> {
             lists: self.revocation.lists(),
             locator: self.anchor.locator(),
             strict: self.strict,
+            any_key: !self.check_key,
+            any_names: !self.chain_names,
             now: now.0,
         };
         let of_path = |(number, index)| {
@@ -701,9 +750,6 @@ impl<'a> Path<'a> {
             return Err(Fault::bad_call(why));
         }
         let held = sys::judge(&question).map_err(of_path)?;
-        if self.chain_names {
-            sys::names(&self.members).map_err(of_path)?;
-        }
         Ok(Holdings {
             ipv4: ipv4(held.v4),
             ipv6: ipv6(held.v6),

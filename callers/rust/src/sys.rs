@@ -6,11 +6,11 @@ use std::mem::size_of;
 use std::ptr;
 
 /// RPKI_ABI of rpki.h.
-pub const ABI: u32 = 3;
+pub const ABI: u32 = 4;
 pub const OK: u32 = 0;
 pub const MEMORY: u32 = 1;
 pub const BAD_CALL: u32 = 2;
-pub const OTHER_NAME: u32 = 600;
+pub const NO_RESOURCES: u32 = 602;
 pub const BAD_URI: u32 = 802;
 /// enum rpki_fate of rpki.h.
 pub const ANCHOR: u32 = 1;
@@ -86,6 +86,13 @@ pub struct Entry {
 }
 
 #[repr(C)]
+#[derive(Clone, Copy, Debug, Default)]
+pub struct Serial {
+    pub serial: [u8; 20],
+    pub hint: u32,
+}
+
+#[repr(C)]
 #[derive(Clone, Copy, Default)]
 struct CStop {
     fault: u32,
@@ -113,6 +120,8 @@ struct CQuestion {
     strict: u32,
     revocation: u32,
     anchor: u32,
+    key: u32,
+    names: u32,
 }
 
 #[repr(C)]
@@ -145,6 +154,7 @@ struct CFolderQuestion {
     depth: usize,
     steps: usize,
     strict: u32,
+    key: u32,
 }
 
 #[repr(C)]
@@ -154,6 +164,7 @@ pub struct Line {
     pub fault: u32,
     pub step: u64,
     pub issuer: u64,
+    pub kind: u32,
 }
 
 #[repr(C)]
@@ -276,6 +287,14 @@ extern "C" {
         room: usize,
         count: *mut u64,
     ) -> u32;
+    fn rpki_certificate_key(
+        octets: *const u8,
+        length: usize,
+        out: *mut u8,
+        room: usize,
+        count: *mut u64,
+        is_used: *mut u8,
+    ) -> u32;
     fn rpki_list_read(octets: *const u8, length: usize, out: *mut List) -> u32;
     fn rpki_list_entries(
         octets: *const u8,
@@ -299,6 +318,21 @@ extern "C" {
         answers: *mut u8,
         count: usize,
     ) -> u32;
+    fn rpki_list_table(
+        octets: *const u8,
+        length: usize,
+        out: *mut Serial,
+        room: usize,
+        count: *mut u64,
+    ) -> u32;
+    fn rpki_table_ask(
+        table: *const Serial,
+        entries: usize,
+        serials: *const u8,
+        serials_length: usize,
+        answers: *mut u8,
+        count: usize,
+    ) -> u32;
     fn rpki_stop_text(
         octets: *const u8,
         length: usize,
@@ -310,7 +344,6 @@ extern "C" {
         count: *mut u64,
     ) -> u32;
     fn rpki_path_validate(question: *const CQuestion, room: *mut Room, out: *mut Verdict) -> u32;
-    fn rpki_path_names(members: *const CStrings, place: *mut u64) -> u32;
     fn rpki_folder_judge(
         question: *const CFolderQuestion,
         lines: *mut Line,
@@ -414,6 +447,17 @@ pub fn certificate_name(octets: &[u8], which: u32) -> Called<Vec<u8>> {
     all_of(|out, room, count| unsafe { rpki_certificate_name(at, length, which, out, room, count) })
 }
 
+/// The SubjectPublicKeyInfo, and whether the RPKI uses such a key.
+pub fn certificate_key(octets: &[u8]) -> Called<(Vec<u8>, bool)> {
+    let (at, length) = (octets.as_ptr(), octets.len());
+    let is_used = Cell::new(0);
+    // SAFETY: the octets are those of one slice, and `all_of` gives room for as many as it says
+    let key = all_of(|out, room, count| unsafe {
+        rpki_certificate_key(at, length, out, room, count, is_used.as_ptr())
+    })?;
+    Ok((key, is_used.get() != 0))
+}
+
 pub fn list(octets: &[u8]) -> Called<List> {
     let mut out = List::default();
     // SAFETY: each pointer is that of a value, or of a slice with the length beside it
@@ -441,6 +485,37 @@ pub fn are_revoked(octets: &[u8], serials: &[[u8; 20]]) -> Called<Vec<bool>> {
     // SAFETY: `serials` has 20 times `count` octets, and `answers` has `count`
     let fault = unsafe { rpki_list_ask(at, length, asked, 20 * count, out, count) };
     answered(fault, answers.into_iter().map(|it| it != 0).collect())
+}
+
+/// A table of the serial numbers of a list.
+pub fn table(octets: &[u8]) -> Called<Vec<Serial>> {
+    let (at, length) = (octets.as_ptr(), octets.len());
+    // SAFETY: the octets are those of one slice, and `all_of` gives room for as many as it says
+    all_of(|out, room, count| unsafe { rpki_list_table(at, length, out, room, count) })
+}
+
+/// Whether a table has each of the serial numbers.
+pub fn are_in(table: &[Serial], serials: &[[u8; 20]]) -> Vec<bool> {
+    let mut answers = vec![0; serials.len()];
+    ask_table(table, serials, &mut answers);
+    answers.into_iter().map(|it| it != 0).collect()
+}
+
+/// Whether a table has the serial number.
+pub fn is_in(table: &[Serial], serial: &[u8; 20]) -> bool {
+    let mut answer = [0];
+    ask_table(table, std::slice::from_ref(serial), &mut answer);
+    answer[0] != 0
+}
+
+/// Writes the answer for each serial number, of which there are as many as answers.
+fn ask_table(table: &[Serial], serials: &[[u8; 20]], answers: &mut [u8]) {
+    assert_eq!(serials.len(), answers.len());
+    let (asked, out) = (serials.as_ptr().cast(), answers.as_mut_ptr());
+    let (entries, count) = (table.len(), serials.len());
+    // SAFETY: `serials` has 20 times `count` octets, `answers` has `count`, and `table` is one slice
+    let fault = unsafe { rpki_table_ask(table.as_ptr(), entries, asked, 20 * count, out, count) };
+    debug_assert_eq!(fault, OK);
 }
 
 /// Where the reading of octets stops, and the texts about the part there.
@@ -505,6 +580,8 @@ pub struct Question<'a> {
     pub lists: Option<&'a [&'a [u8]]>,
     pub locator: Option<&'a [u8]>,
     pub strict: bool,
+    pub any_key: bool,
+    pub any_names: bool,
     pub now: Time,
 }
 
@@ -529,6 +606,8 @@ impl Question<'_> {
             strict: self.strict.into(),
             revocation: self.lists.is_none().into(),
             anchor: self.locator.is_none().into(),
+            key: self.any_key.into(),
+            names: self.any_names.into(),
         }
     }
 }
@@ -582,15 +661,6 @@ pub fn judge(question: &Question<'_>) -> Result<Held, (u32, usize)> {
     }
 }
 
-/// Whether names chain: else a fault and its place.
-pub fn names(members: &[&[u8]]) -> Result<(), (u32, usize)> {
-    let members = Strings::of(members);
-    let mut place = 0;
-    // SAFETY: each pointer is that of a value, or of a slice with the length beside it
-    let fault = unsafe { rpki_path_names(&members.lent(), &mut place) };
-    answered(fault, ()).map_err(|fault| (fault, place as usize))
-}
-
 /// What is asked of a folder. No depth and no steps ask for the usual ones.
 pub struct FolderQuestion<'a> {
     pub strings: &'a [&'a [u8]],
@@ -599,6 +669,7 @@ pub struct FolderQuestion<'a> {
     pub depth: usize,
     pub steps: usize,
     pub strict: bool,
+    pub any_key: bool,
 }
 
 /// How the walk over a folder ended, and a line for each string; or a fault and its place.
@@ -613,6 +684,7 @@ pub fn judge_folder(question: &FolderQuestion<'_>) -> Result<(Walk, Vec<Line>), 
         depth: question.depth,
         steps: question.steps,
         strict: question.strict.into(),
+        key: question.any_key.into(),
     };
     let mut lines = vec![Line::default(); question.strings.len()];
     let mut out = Walk::default();

@@ -263,9 +263,15 @@ fn folders_are_judged() {
     ];
     let it = judged(&names, |folder| folder);
     assert!(it.is_whole && it.anchor == 2);
-    let accepted = |step, issuer| Line::Accepted { step, issuer };
-    let Line::Rejected { step: 2, fault } = it.lines[4].clone() else {
-        panic!("{:?}", it.lines[4]);
+    let accepted = |step, issuer, kind| Line::Accepted { step, issuer, kind };
+    let ca = Kind::Authority;
+    let fault = match it.lines[4].clone() {
+        Line::Rejected {
+            step: 2,
+            fault,
+            kind: Kind::Authority,
+        } => fault,
+        other => panic!("{other:?}"),
     };
     assert_eq!(
         (fault.name().as_str(), fault.place()),
@@ -273,13 +279,17 @@ fn folders_are_judged() {
     );
     let lines = [
         Line::List,
-        accepted(2, 7),
+        accepted(2, 7, ca),
         Line::Anchor,
         Line::List,
-        Line::Rejected { step: 2, fault },
-        accepted(3, 1),
+        Line::Rejected {
+            step: 2,
+            fault,
+            kind: ca,
+        },
+        accepted(3, 1, Kind::EndEntity),
         Line::Neither,
-        accepted(1, 2),
+        accepted(1, 2, ca),
         Line::List,
     ];
     assert_eq!(it.lines, lines);
@@ -439,6 +449,87 @@ fn what_is_held_can_be_asked() {
     }
     assert!(held.contains_as(64500) && held.contains_as(64510));
     assert!(!held.contains_as(64499) && !held.contains_as(64509) && !held.contains_as(u32::MAX));
+}
+
+#[test]
+fn last_keys_are_checked() {
+    let folder = concat!(env!("CARGO_MANIFEST_DIR"), "/../../tests/files/keyed");
+    let read = |name| std::fs::read(format!("{folder}/{name}.cer")).unwrap();
+    let anchor = read("ta");
+    // make.py there says which keys these have
+    for (name, kind, is_used) in [
+        ("ca_2048", Kind::Authority, true),
+        ("ca_1024", Kind::Authority, false),
+        ("ee_2048", Kind::EndEntity, true),
+        ("ee_1024", Kind::EndEntity, false),
+        ("ee_exponent_3", Kind::EndEntity, false),
+        ("router", Kind::Router, true),
+        ("router_compressed", Kind::Router, false),
+    ] {
+        let octets = read(name);
+        let (asked, given) = (Revocation::NotAsked, Anchor::AsGiven);
+        let path = Path::new([&anchor, &octets], kind, asked, given);
+        if is_used {
+            assert!(path.validate(at(NOON)).is_ok(), "{name}");
+        } else {
+            let fault = rejected(&path, NOON, "BadKey", Some(Place::Member(1)));
+            let (kind, code) = (fault.kind(), fault.code());
+            assert_eq!((kind, code), (FaultKind::Key, FaultCode::BadKey));
+        }
+        assert!(path.with_any_key().validate(at(NOON)).is_ok(), "{name}");
+        let it = Certificate::read(&octets).unwrap();
+        assert_eq!(it.has_usable_key().unwrap(), is_used);
+        // the SubjectPublicKeyInfo is a part of the certificate
+        let key = it.public_key().unwrap();
+        assert!(key.len() > 50 && octets.windows(key.len()).any(|part| part == key));
+    }
+}
+
+#[test]
+fn names_of_lists_are_checked() {
+    let folder = concat!(env!("CARGO_MANIFEST_DIR"), "/../../tests/files/nobody");
+    let read = |name: &str| std::fs::read(format!("{folder}/{name}")).unwrap();
+    let members = [read("ta.cer"), read("ca.cer")];
+    // make.py there says which lists have another name than the anchor, whose key signed all but one
+    for (names, wanted, waived) in [
+        (vec!["newer"], Some("WrongIssuer"), None),
+        (vec!["newer_revoking"], Some("WrongIssuer"), Some("Revoked")),
+        (vec!["newer_stale"], Some("WrongIssuer"), Some("Stale")),
+        (vec!["newer_forged"], Some("NoCrl"), Some("BadSignature")),
+        (vec!["newer", "plain"], None, None),
+        (vec!["plain", "newer"], None, None),
+        (vec!["newer", "revoking"], Some("Revoked"), None),
+        (vec!["newer_revoking", "plain"], None, Some("Revoked")),
+        (vec!["plain", "newer_revoking"], None, Some("Revoked")),
+    ] {
+        let lists: Vec<_> = names
+            .iter()
+            .map(|name| read(&format!("{name}.crl")))
+            .collect();
+        let asked = Revocation::by_lists(&lists);
+        let path = Path::new(&members, Kind::Authority, asked, Anchor::AsGiven);
+        for (path, name) in [(path.clone(), wanted), (path.without_names(), waived)] {
+            match name {
+                Some(name) => {
+                    let fault = rejected(&path, NOON, name, Some(Place::Member(1)));
+                    assert_eq!(fault.kind(), FaultKind::Revocation);
+                }
+                None => assert!(path.validate(at(NOON)).is_ok(), "{names:?}"),
+            }
+        }
+    }
+}
+
+#[test]
+fn lists_have_tables() {
+    let list = RevocationList::read(&octets("revoked.crl")).unwrap();
+    let table = list.table().unwrap();
+    let asked = [3, 2, 4, 0].map(number);
+    assert_eq!(table.contains_each(&asked), [true, false, false, false]);
+    assert!(table.contains(&number(3)) && !table.contains(&number(2)));
+    let none = RevocationList::read(&octets("first.crl")).unwrap();
+    assert!(!none.table().unwrap().contains(&number(3)));
+    assert_eq!(table.contains_each(&[]), []);
 }
 
 #[test]

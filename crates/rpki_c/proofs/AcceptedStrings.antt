@@ -10,13 +10,13 @@ use Rattle.rpki_cert.specs.declared.inspect.Kind.{Kind}
 use Rattle.rpki_cert.specs.declared.inspect.Kind.TheVariants.{Anchor, Authority, EndEntity, Detached, Router}
 use Rattle.rpki_files.specs.Contents.{BeginsWithCertificate}
 use Rattle.rpki_path.specs.Asking.{nobody}
-use Rattle.rpki_path.specs.AskedLists.{by_lists}
+use Rattle.rpki_path.specs.AskedLists.{by_named_lists}
 use Rattle.rpki_path.specs.GivenPaths.{IsSplitAs, PathStrings, path_to}
 use Rattle.rpki_path.specs.NameChains.{BeginPath, strings_below}
 use Rattle.rpki_path.specs.Paths.{Candidate, IsMember, Member, candidate}
 use Rattle.rpki_path.specs.declared.judging.Judged.{Judged}
 use Rattle.rpki_path.proofs.UnchainedNames.{accepted_begin}
-use Rattle.rpki_c.specs.Verdicts.{AnswersPath, AnswersStrings}
+use Rattle.rpki_c.specs.Verdicts.{AnswersNamed, AnswersPath, AnswersStrings, AnswersTrusted}
 use Rattle.rpki_c.specs.declared.question.RpkiQuestion.{RpkiQuestion}
 use Rattle.rpki_c.specs.declared.question.Terms.{Terms}
 use Rattle.rpki_c.specs.declared.refusal.Refusal.{Refusal}
@@ -64,12 +64,21 @@ path_begins g (p, of) =
 -- ---- answers
 
 module _ (x : Context) (q : RpkiQuestion) (t : Terms) where
+  -- of a path whose trust anchor is trusted
+  pub trusted_path : (path : PathStrings) (j : Judged) → AnswersTrusted x q t path (Ok j) → BeginPath path
+  trusted_path path j (inl (asks, inl none)) = absurd none
+  trusted_path path j (inl (asks, inr (octets, cut, inl none))) = absurd none
+  trusted_path path j (inl (asks, inr (octets, cut, inr (lists, are, is)))) = accepted_begin x (by_named_lists t.asks_names x lists) path j is
+  trusted_path path j (inr (asks, is)) = accepted_begin x nobody path j is
+
+  named_path : (path : PathStrings) (j : Judged) → AnswersNamed x q t path (Ok j) → BeginPath path
+  named_path path j (inl (none, judged)) = absurd none
+  named_path path j (inr (trusted, chained)) = trusted_path path j trusted
+
   accepted_path : (path : PathStrings) (j : Judged) → AnswersPath x q t path (Ok j) → BeginPath path
   accepted_path path j (inl h) = absurd h.1
-  accepted_path path j (inr (trusted, inl (asks, inl none))) = absurd none
-  accepted_path path j (inr (trusted, inl (asks, inr (octets, cut, inl none)))) = absurd none
-  accepted_path path j (inr (trusted, inl (asks, inr (octets, cut, inr (lists, are, is))))) = accepted_begin x (by_lists x lists) path j is
-  accepted_path path j (inr (trusted, inr (asks, is))) = accepted_begin x nobody path j is
+  accepted_path path j (inr (trusted, inl (wrong, unused))) = absurd (cc wrong)
+  accepted_path path j (inr (trusted, inr (named, key))) = named_path path j named
 
   -- where the path is accepted that the strings are, they begin with certificates
   pub accepted_strings : (strings : List (List ℕ)) (r : Result Judged Refusal) → AnswersStrings x q t strings r → IfOk r (λ j. All BeginsWithCertificate strings)

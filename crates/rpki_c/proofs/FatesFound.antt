@@ -1,9 +1,9 @@
 -- From the lines that a walk kept to what becomes of the strings.
 use Rattle.std.specs.List.{AllByRecursion, AllZip}
-use Rattle.std.specs.Prelude.{Bool, Any, Result, Ok, Err, IsOk, IfOk, IfErr, if◌then◌else◌}
+use Rattle.std.specs.Prelude.{Bool, false, Any, Result, Ok, Err, IsOk, IfOk, IfErr, if◌then◌else◌}
 use Rattle.std.proofs.Common.{◌≡◌, ◌+◌, ◌<◌, ℕ, List, [], ◌∷◌, ◌++◌, length, get_or, map, refl, sym, ap, subst, ◌∙◌, inl, inr, arith}
 use Rattle.std.proofs.lemmas.Bool.{cases_lt, cases_eq, eq-eqb, ne_eqb}
-use Rattle.std.proofs.lemmas.List.{append-nil, length-map, get_or_past}
+use Rattle.std.proofs.lemmas.List.{append-nil, length-map, map-append, get_or_past}
 use Rattle.std.proofs.lemmas.List.Elements.{All-from_recursion}
 use Rattle.rpki_der.specs.Values.{IsUnambiguous}
 use Rattle.rpki_der.proofs.Formats.{one_meant}
@@ -18,13 +18,13 @@ use Rattle.rpki_keys.specs.Locators.{NamedTal, TalFields}
 use Rattle.rpki_path.specs.LocatedPaths.{BeginsWithKey, BeginsWithOtherKey}
 use Rattle.rpki_path.specs.Paths.{Candidate, candidate, Member, IsMember, Finds, IsFault, trust_anchor_demand}
 use Rattle.rpki_path.specs.declared.judging.Judged.{Judged}
-use Rattle.rpki_path.specs.declared.located.LocatedError.TheVariants.{OtherKey, Path as path}
+use Rattle.rpki_path.specs.declared.located.LocatedError.TheVariants.{OtherKey, NoResources, Path as path}
 use Rattle.rpki_path.specs.declared.path_fault.PathError.{PathError}
 use Rattle.rpki_path.specs.declared.path_fault.PathFault.{PathFault}
 use Rattle.rpki_folder.specs.Folders.{octets_at, cas_at, NamesSigner}
 use Rattle.rpki_folder.specs.KeptLines.{step, IsRejectedWithin, IsLine}
 use Rattle.rpki_cert.specs.SaidKinds.{BeginsWithKind}
-use Rattle.rpki_folder.specs.Walks.{Root, at_anchor, members_at, LeadsTo, IsAcceptedAs, IsReached, IsRightOf, IsRight, Told, IsTold, told, Covers, AreAdmitted, IsWhyNone}
+use Rattle.rpki_folder.specs.Walks.{Root, at_anchor, members_at, LeadsTo, IsAcceptedAs, IsReached, IsRightOf, IsRight, Told, IsTold, told, Covers, AreAdmitted, StandsAt, IsLookedAt, IsWhyNone}
 use Rattle.rpki_folder.specs.declared.bounds.Ended.{Ended}
 use Rattle.rpki_folder.specs.declared.bounds.Ended.TheVariants.{TooDeep, OutOfSteps}
 use Rattle.rpki_folder.specs.declared.folder.Added.{Added}
@@ -32,11 +32,16 @@ use Rattle.rpki_folder.specs.declared.folder.Added.TheVariants.{Certificate, Lis
 use Rattle.rpki_folder.specs.declared.lines.Line.{Line}
 use Rattle.rpki_folder.specs.declared.lines.Line.TheVariants.{Unseen, Accepted, Rejected}
 use Rattle.rpki_folder.specs.declared.walk_error.WalkError.{WalkError}
-use Rattle.rpki_folder.specs.declared.walk_error.WalkError.TheVariants.{Anchor as at_fault, Memory}
+use Rattle.rpki_folder.specs.declared.walk_error.WalkError.TheVariants.{Anchor as at_fault, OtherName, Memory}
+use Rattle.rpki_folder.proofs.AnchorSteps.{anchor_is}
+use Rattle.rpki_folder.proofs.Descent.{no_certificate}
+use Rattle.rpki_folder.proofs.KeptLineSteps.{told_so}
+use Rattle.rpki_folder.proofs.Renamed.{all_looked_there}
 use Rattle.rpki_c.specs.FolderFates.{Fate, anchor, IsFirstWithKey, IsFate, IsValidFate, AreVerified, StandsBelow, AreFates, AreJudged}
 use Rattle.rpki_c.specs.FolderFates.Steps.{IsAddedAs, IsSorted, origin_of, kept_fate, added_fate, fate_at, IsWalked, refusal_of}
 use Rattle.rpki_c.specs.FolderQuestions.{asked_or, usual_steps}
 use Rattle.rpki_c.specs.FolderTelling.{AreLinesOf, AnswersBelow}
+use Rattle.rpki_c.specs.declared.folder_question.FolderTerms.{FolderTerms}
 use Rattle.rpki_c.specs.declared.refusal.Refusal.{Refusal}
 use Rattle.rpki_c.specs.declared.refusal.Refusal.TheVariants as refusal
 use Rattle.rpki_c.specs.declared.walking.Walked.{Walked}
@@ -55,7 +60,7 @@ of_told P Q ts all h = (h.1, subst P h.3 (All-from_recursion P ts all h.0 h.1 h.
 line_accepts : (origin : ℕ → ℕ) (ts : List Told) (above : List ℕ) (place : ℕ) (l : Line) → IsLine ts place l → IsTold ts above place → IsValidFate (kept_fate origin l)
 line_accepts origin ts above place Unseen h told =
     let w = of_told (λ t. t.place ≡ place → ⊥) (λ t. (t.above ≡ above) × (t.place ≡ place) × IsOk t.verdict) ts h told in absurd (w.1 w.2.1)
-line_accepts origin ts above place (Accepted v) h told = tt
+line_accepts origin ts above place (Accepted found) h told = tt
 line_accepts origin ts above place (Rejected n fault) h told =
     let w = of_told (IsRejectedWithin place n) (λ t. (t.above ≡ above) × (t.place ≡ place) × IsOk t.verdict) ts h.1 told in absurd ((w.1 w.2.1).0 w.2.2)
 
@@ -112,7 +117,7 @@ module _ (x : Context) (asked : RevocationChecks) (t : NamedTal) (top_octets : L
 
   -- ---- from the folder to the strings
 
-  module _ (s : Sorted) (sorted : IsSorted s) (top depth steps : ℕ) (kept : List Line) (count : length kept ≡ length s.folder.certs) (ended : Ended) (w : IsWalked x asked root s.folder.certs depth steps kept ended) where
+  module _ (s : Sorted) (sorted : IsSorted s) (top depth steps : ℕ) (kept : List Line) (count : length kept ≡ length s.folder.certs) (ended : Ended) (w : IsWalked x asked false root s.folder.certs depth steps kept ended) (law : IsUnambiguous IsCertificate) where
     abbrev strings : List (List ℕ)
     strings = s.strings.now
 
@@ -196,7 +201,7 @@ module _ (x : Context) (asked : RevocationChecks) (t : NamedTal) (top_octets : L
     -- what is kept of a certificate is right
     kept_right : (p i : ℕ) → origin_of s p ≡ i → BeginsCertificate (octets_at strings i) → (l : Line) → IsLine w.tells p l → IsFate x asked root strings top i (kept_fate (origin_of s) l)
     kept_right p i at begins Unseen h = begins
-    kept_right p i at begins (Accepted above) h = told_reached above.items p i at h
+    kept_right p i at begins (Accepted found) h = told_reached found.above.items p i at (told_so w.tells p found h)
     kept_right p i at begins (Rejected n fault) h = told_rejected p i n fault at h.0
 
     added_right : (i : ℕ) → i < length strings → (a : Added) → get_or s.added.items i Neither ≡ a → IsAddedAs (octets_at strings i) a → IsFate x asked root strings top i (added_fate (origin_of s) kept a)
@@ -237,6 +242,32 @@ module _ (x : Context) (asked : RevocationChecks) (t : NamedTal) (top_octets : L
     moved_cas above begins =
         same_cas strings certs moved above (all_weaker (λ (q : ℕ). BeginsCertificate (octets_at strings q)) (λ (q : ℕ). octets_at certs (moved q) ≡ octets_at strings q) moved_same above begins)
 
+    -- what stands in the folder stood among the strings
+    stood_added : (q : ℕ) (a : Added) → get_or s.added.items q Neither ≡ a → (c : CertFields) → Means IsCertificate c (octets_at certs (place_in a)) → StandsAt strings q c
+    stood_added q (Certificate p) is c stands = elim (cases_lt q (length strings)) [
+      | inl low ↦
+          let at = sorted.placed q p Neither low is in
+          subst (λ (o : List ℕ). Means IsCertificate c o) (sym (origin_same p) ∙ ap (λ (n : ℕ). octets_at strings n) (at.1 (length s.added.items))) stands
+      | inr high ↦
+          let n = sorted.count in
+          let past : get_or s.added.items q Neither ≡ Neither = get_or_past s.added.items q Neither (omega (arith, n, high)) in
+          absurd (cc (is, past))
+    ]
+    stood_added q list_added is c stands = absurd (no_certificate c (octets_at certs (length certs)) stands (get_or_past certs (length certs) [] (omega arith)))
+    stood_added q Neither is c stands = absurd (no_certificate c (octets_at certs (length certs)) stands (get_or_past certs (length certs) [] (omega arith)))
+
+    stood : (q : ℕ) (c : CertFields) → StandsAt certs (moved q) c → StandsAt strings q c
+    stood q c stands = stood_added q (get_or s.added.items q Neither) refl c stands
+
+    abbrev looked : CertFields → List (List ℕ) → List ℕ → List ℕ → Type 0
+    looked c all above places = AreAdmitted (IsLookedAt false (λ l p. Unit {0}) c all) above places
+
+    looked_in : (c : CertFields) (above : List ℕ) (i : ℕ) → Means IsCertificate c top_octets → looked c strings [] (above ++ i ∷ []) → looked w.holder.cert certs [] (map moved above ++ moved i ∷ [])
+    looked_in c above i begins h =
+        let is = anchor_is x asked t top_octets w.holder w.holds law c begins in
+        subst (λ (d : CertFields). looked d certs [] (map moved above ++ moved i ∷ [])) (sym is)
+        (subst (λ (l : List ℕ). looked c certs [] l) (map-append moved above (i ∷ [])) (all_looked_there moved strings certs stood false c [] (above ++ i ∷ []) h))
+
     valid_added : (i : ℕ) (a : Added) → i < length strings → get_or s.added.items i Neither ≡ a → IsAddedAs (octets_at strings i) a → BeginsCertificate (octets_at strings i) → (above : List ℕ) → IsTold w.tells above (place_in a) → IsValidFate (added_fate (origin_of s) kept a)
     valid_added i (Certificate p) low is says begins above told =
         let at = sorted.placed i p Neither low is in
@@ -244,12 +275,12 @@ module _ (x : Context) (asked : RevocationChecks) (t : NamedTal) (top_octets : L
     valid_added i list_added low is says begins above told = absurd (says.1.no_certificate begins.0 begins.1)
     valid_added i Neither low is says begins above told = absurd (says.0 begins.0 begins.1)
 
-    reached_valid : (above : List ℕ) (i : ℕ) → i < length strings → Covers ended depth (length above + 1) → IsReached x asked root strings above i → IsValidFate (added_fate (origin_of s) kept (get_or s.added.items i Neither))
-    reached_valid above i low covers h =
+    reached_valid : (c : CertFields) (above : List ℕ) (i : ℕ) → i < length strings → Means IsCertificate c top_octets → Covers ended depth (length above + 1) → looked c strings [] (above ++ i ∷ []) → IsReached x asked root strings above i → IsValidFate (added_fate (origin_of s) kept (get_or s.added.items i Neither))
+    reached_valid c above i low starts covers by h =
         let begins = accepted_begins strings above h.0 (octets_at strings i) h.1 h.2 h.3 in
         let itself : BeginsCertificate (octets_at strings i) = (h.2.0, h.2.1) in
         let there = reached_there strings certs above (map moved above) i (moved i) (moved_cas above begins) (moved_same i itself) h in
-        let told = w.complete (map moved above) (moved i) (subst (λ (n : ℕ). Covers ended depth (n + 1)) (sym (length-map above moved)) covers) (all_admitted [] (map moved above ++ moved i ∷ [])) there in
+        let told = w.complete (map moved above) (moved i) (subst (λ (n : ℕ). Covers ended depth (n + 1)) (sym (length-map above moved)) covers) (looked_in c above i starts by) there in
         valid_added i (get_or s.added.items i Neither) low refl (sorted.begins i Neither low) itself (map moved above) told
 
     -- ---- all of them
@@ -267,19 +298,19 @@ module _ (x : Context) (asked : RevocationChecks) (t : NamedTal) (top_octets : L
         | inl is ↦ subst (λ (f : Fate). IsFate x asked root strings top i f) (sym (at_top i is)) is
         | inr apart ↦ subst (λ (f : Fate). IsFate x asked root strings top i f) (sym (beside_top i apart)) (added_right i low (get_or s.added.items i Neither) refl (sorted.begins i Neither low))
       ];
-      complete = λ above i low covers h. elim (cases_eq i top) [
+      complete = λ c above i low starts covers by h. elim (cases_eq i top) [
         | inl is ↦ subst (λ (f : Fate). IsValidFate f) (sym (at_top i is)) tt
-        | inr apart ↦ subst (λ (f : Fate). IsValidFate f) (sym (beside_top i apart)) (reached_valid above i low covers h)
+        | inr apart ↦ subst (λ (f : Fate). IsValidFate f) (sym (beside_top i apart)) (reached_valid c above i low starts covers by h)
       ];
       too_deep = stands_below;
       used_up = verified;
     }
 
 -- what becomes of sorted strings, where the lists among them are asked
-pub judged_found : (x : Context) (t : NamedTal) (s : Sorted) (sorted : IsSorted s) (top depth steps : ℕ) (kept : List Line) (count : length kept ≡ length s.folder.certs) (ended : Ended)
-    → IsFirstWithKey t.tal s.strings.now top → IsWalked x (by_lists x s.folder.lists) (at_anchor t (octets_at s.strings.now top)) s.folder.certs depth (asked_or steps (usual_steps (length s.folder.certs))) kept ended
+pub judged_found : (x : Context) (t : NamedTal) (s : Sorted) (sorted : IsSorted s) (top depth steps : ℕ) (kept : List Line) (count : length kept ≡ length s.folder.certs) (ended : Ended) → IsUnambiguous IsCertificate
+    → IsFirstWithKey t.tal s.strings.now top → IsWalked x (by_lists x s.folder.lists) false (at_anchor t (octets_at s.strings.now top)) s.folder.certs depth (asked_or steps (usual_steps (length s.folder.certs))) kept ended
     → AreJudged x t s.strings.now top depth steps ended (fate_at s kept top)
-judged_found x t s sorted top depth steps kept count ended first w = record {
+judged_found x t s sorted top depth steps kept count ended law first w = record {
   top_is = first;
   lists = s.folder.lists;
   lists_are = sorted.lists_are;
@@ -287,7 +318,7 @@ judged_found x t s sorted top depth steps kept count ended first w = record {
   holds = w.holds;
   certs = s.folder.certs;
   certs_are = sorted.certs_are;
-  fates = fates_found x (by_lists x s.folder.lists) t (octets_at s.strings.now top) s sorted top depth (asked_or steps (usual_steps (length s.folder.certs))) kept count ended w;
+  fates = fates_found x (by_lists x s.folder.lists) t (octets_at s.strings.now top) s sorted top depth (asked_or steps (usual_steps (length s.folder.certs))) kept count ended w law;
 }
 
 -- ---- a wrong trust anchor
@@ -306,38 +337,44 @@ alone x asked octets e h = elim h [
 ]
 
 -- why a walk didn't begin
-refused_right : (x : Context) (asked : RevocationChecks) (t : NamedTal) (all : List (List ℕ)) (top depth steps : ℕ) → IsUnambiguous IsCertificate → IsFirstWithKey t.tal all top
-    → (e : WalkError) → IsWhyNone x asked t (octets_at all top) e → AnswersBelow x depth steps t all (Err (refusal_of top e))
-refused_right x asked t all top depth steps law first Memory h = tt
-refused_right x asked t all top depth steps law first (at_fault OtherKey) h = absurd (not_both t.tal (octets_at all top) law first.has_key h.1)
-refused_right x asked t all top depth steps law first (at_fault (path e)) h = (first, h.0, alone x asked (octets_at all top) e h.1.0)
+refused_right : (x : Context) (asked : RevocationChecks) (t : NamedTal) (all : List (List ℕ)) (top : ℕ) (f : FolderTerms) → IsUnambiguous IsCertificate → IsFirstWithKey t.tal all top
+    → (e : WalkError) → IsWhyNone x asked false t (octets_at all top) e → AnswersBelow x f t all (Err (refusal_of top e))
+refused_right x asked t all top f law first Memory h = tt
+refused_right x asked t all top f law first OtherName h = absurd (cc h.0)
+refused_right x asked t all top f law first (at_fault OtherKey) h = absurd (not_both t.tal (octets_at all top) law first.has_key h.1)
+refused_right x asked t all top f law first (at_fault NoResources) h = (first, h.1.1)
+refused_right x asked t all top f law first (at_fault (path e)) h = (first, h.0, alone x asked (octets_at all top) e h.1.0)
+
+-- where names aren't asked, none is wrong
+pub unnamed : (x : Context) (asked : RevocationChecks) (t : NamedTal) (octets : List ℕ) (e : WalkError) → IsWhyNone x asked false t octets e → e ≡ OtherName → ⊥
+unnamed x asked t octets e why is = let h : IsWhyNone x asked false t octets OtherName = subst (λ (f : WalkError). IsWhyNone x asked false t octets f) is why in absurd (cc h.0)
 
 -- ---- answers
 
-module _ (x : Context) (t : NamedTal) (s : Sorted) (top depth steps : ℕ) (first : IsFirstWithKey t.tal s.strings.now top) (octets : List ℕ) (there : octets ≡ octets_at s.strings.now top) where
+module _ (x : Context) (t : NamedTal) (s : Sorted) (top : ℕ) (f : FolderTerms) (first : IsFirstWithKey t.tal s.strings.now top) (octets : List ℕ) (there : octets ≡ octets_at s.strings.now top) where
   -- the answer of a walk that ended
-  pub walk_answered : (sorted : IsSorted s) (kept : List Line) (count : length kept ≡ length s.folder.certs) (ended : Ended) (within : ℕ) → within ≡ depth → (most : ℕ) → most ≡ asked_or steps (usual_steps (length s.folder.certs))
-      → IsWalked x (by_lists x s.folder.lists) (at_anchor t octets) s.folder.certs within most kept ended
-      → (r : Result Walked Refusal) → IfOk r (λ it. AreLinesOf top (fate_at s kept top) (length s.strings.now) it.lines.items) → IfOk r (λ it. it.ended ≡ ended) → IfOk r (λ it. it.anchor ≡ top)
-      → IfErr r (λ e. e ≡ refusal.Memory) → AnswersBelow x depth steps t s.strings.now r
-  walk_answered sorted kept count ended within same most as_many w (Ok it) lines ended_is anchor_is memory =
+  pub walk_answered : IsUnambiguous IsCertificate → (sorted : IsSorted s) (kept : List Line) (count : length kept ≡ length s.folder.certs) (ended : Ended) (within : ℕ) → within ≡ f.depth → (most : ℕ) → most ≡ asked_or f.steps (usual_steps (length s.folder.certs))
+      → IsWalked x (by_lists x s.folder.lists) false (at_anchor t octets) s.folder.certs within most kept ended
+      → (r : Result Walked Refusal) → IfOk r (λ it. AreLinesOf f.asks_key top s.strings.now (fate_at s kept top) (length s.strings.now) it.lines.items) → IfOk r (λ it. it.ended ≡ ended) → IfOk r (λ it. it.anchor ≡ top)
+      → IfErr r (λ e. e ≡ refusal.Memory) → AnswersBelow x f t s.strings.now r
+  walk_answered law sorted kept count ended within same most as_many w (Ok it) lines ended_is anchor_is memory =
       let fate = λ (i : ℕ). fate_at s kept top i in
-      let limit = asked_or steps (usual_steps (length s.folder.certs)) in
-      let walked : IsWalked x (by_lists x s.folder.lists) (at_anchor t (octets_at s.strings.now top)) s.folder.certs depth limit kept ended =
-      subst (λ (o : List ℕ). IsWalked x (by_lists x s.folder.lists) (at_anchor t o) s.folder.certs depth limit kept ended) there
-      (subst (λ (n : ℕ). IsWalked x (by_lists x s.folder.lists) (at_anchor t octets) s.folder.certs depth n kept ended) as_many
-      (subst (λ (n : ℕ). IsWalked x (by_lists x s.folder.lists) (at_anchor t octets) s.folder.certs n most kept ended) same w)) in
+      let limit = asked_or f.steps (usual_steps (length s.folder.certs)) in
+      let walked : IsWalked x (by_lists x s.folder.lists) false (at_anchor t (octets_at s.strings.now top)) s.folder.certs f.depth limit kept ended =
+      subst (λ (o : List ℕ). IsWalked x (by_lists x s.folder.lists) false (at_anchor t o) s.folder.certs f.depth limit kept ended) there
+      (subst (λ (n : ℕ). IsWalked x (by_lists x s.folder.lists) false (at_anchor t octets) s.folder.certs f.depth n kept ended) as_many
+      (subst (λ (n : ℕ). IsWalked x (by_lists x s.folder.lists) false (at_anchor t octets) s.folder.certs n most kept ended) same w)) in
       record {
         fate = fate;
-        judged = subst (λ (n : ℕ). AreJudged x t s.strings.now n depth steps it.ended fate) (sym anchor_is)
-            (subst (λ (e : Ended). AreJudged x t s.strings.now top depth steps e fate) (sym ended_is) (judged_found x t s sorted top depth steps kept count ended first walked));
-        lines_are = subst (λ (n : ℕ). AreLinesOf n fate (length s.strings.now) it.lines.items) (sym anchor_is) lines;
+        judged = subst (λ (n : ℕ). AreJudged x t s.strings.now n f.depth f.steps it.ended fate) (sym anchor_is)
+            (subst (λ (e : Ended). AreJudged x t s.strings.now top f.depth f.steps e fate) (sym ended_is) (judged_found x t s sorted top f.depth f.steps kept count ended law first walked));
+        lines_are = subst (λ (n : ℕ). AreLinesOf f.asks_key n s.strings.now fate (length s.strings.now) it.lines.items) (sym anchor_is) lines;
       }
-  walk_answered sorted kept count ended within same most as_many w (Err e) lines ended_is anchor_is memory =
-      subst (λ (r : Refusal). AnswersBelow x depth steps t s.strings.now (Err r)) (sym memory) tt
+  walk_answered law sorted kept count ended within same most as_many w (Err e) lines ended_is anchor_is memory =
+      subst (λ (r : Refusal). AnswersBelow x f t s.strings.now (Err r)) (sym memory) tt
 
   -- the answer where there was none
-  pub fault_answered : (asked : RevocationChecks) → IsUnambiguous IsCertificate → (e : WalkError) → IsWhyNone x asked t octets e → (r : Refusal) → r ≡ refusal_of top e → AnswersBelow x depth steps t s.strings.now (Err r)
+  pub fault_answered : (asked : RevocationChecks) → IsUnambiguous IsCertificate → (e : WalkError) → IsWhyNone x asked false t octets e → (r : Refusal) → r ≡ refusal_of top e → AnswersBelow x f t s.strings.now (Err r)
   fault_answered asked law e why r is =
-      subst (λ (q : Refusal). AnswersBelow x depth steps t s.strings.now (Err q)) (sym is)
-      (refused_right x asked t s.strings.now top depth steps law first e (subst (λ (o : List ℕ). IsWhyNone x asked t o e) there why))
+      subst (λ (q : Refusal). AnswersBelow x f t s.strings.now (Err q)) (sym is)
+      (refused_right x asked t s.strings.now top f law first e (subst (λ (o : List ℕ). IsWhyNone x asked false t o e) there why))

@@ -8,6 +8,7 @@ mod FatesFound
 mod FaultTables
 mod FolderTermsGiven
 mod Issuers
+mod KeysAsked
 mod ListTermsGiven
 mod ListsRead
 mod OneMore

@@ -14,7 +14,7 @@ kind_small EndEntity = omega arith
 kind_small Detached = omega arith
 kind_small Router = omega arith
 
-choice_small : (b : Bool) → choice_number b < 2
+pub choice_small : (b : Bool) → choice_number b < 2
 choice_small true = omega arith
 choice_small false = omega arith
 
@@ -32,3 +32,9 @@ no_revocation q h t terms = omega (arith, h, terms.lists_is, choice_small t.asks
 
 pub no_anchor : (q : RpkiQuestion) → 1 < q.anchor → HasNoTerms q
 no_anchor q h t terms = omega (arith, h, terms.locator_is, choice_small t.asks_locator)
+
+pub no_key : (q : RpkiQuestion) → 1 < q.key → HasNoTerms q
+no_key q h t terms = omega (arith, h, terms.key_is, choice_small t.asks_key)
+
+pub no_names : (q : RpkiQuestion) → 1 < q.names → HasNoTerms q
+no_names q h t terms = omega (arith, h, terms.names_is, choice_small t.asks_names)

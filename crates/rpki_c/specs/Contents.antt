@@ -1,5 +1,5 @@
 -- What a caller is told of a certificate and of a revocation list (own).
-use Rattle.std.specs.Prelude.{◌≡◌, ◌⊎◌, ◌+◌, ◌-◌, ◌*◌, ◌^◌, ◌<◌, ℕ, true, List, length, drop, get_or, slice_index_or, slice_range, min, Option, Some, None, replicate}
+use Rattle.std.specs.Prelude.{◌≡◌, ◌↔◌, ◌⊎◌, ◌+◌, ◌-◌, ◌*◌, ◌^◌, ◌<◌, ℕ, true, List, length, drop, get_or, slice_index_or, slice_range, min, Option, Some, None, replicate}
 use Rattle.std.specs.Int.Digits.{number_from_digits}
 use Rattle.rpki_der.specs.Times.{Moment}
 use Rattle.rpki_blocks.specs.Resources.{Resources, missing, inherit, blocks}
@@ -7,7 +7,10 @@ use Rattle.rpki_blocks.specs.declared.overclaim.Overclaim.{Overclaim}
 use Rattle.rpki_blocks.specs.declared.overclaim.Overclaim.TheVariants.{Refuse, Trim}
 use Rattle.rpki_ext.specs.declared.key_usage.KeyUsage.{KeyUsage}
 use Rattle.rpki_ext.specs.declared.key_usage.KeyUsage.TheVariants.{Ca, Ee}
-use Rattle.rpki_cert.specs.Certificates.{TbsFields}
+use Rattle.rpki_ext.specs.Kinds.{Means}
+use Rattle.rpki_cert.specs.Certificates.{CertFields, IsCertificate, TbsFields}
+use Rattle.rpki_keys.specs.KeyForms.{IsUsableKey}
+use Rattle.rpki_parts.specs.Keys.{IsPublicKey}
 use Rattle.rpki_crl.specs.Lists.{ListFields}
 use Rattle.rpki_crl.specs.RevokedEntries.{Entry, IsRevoked, Revoked}
 use Rattle.rpki_c.specs.TimeParts.{moment_of_parts}
@@ -51,6 +54,14 @@ presence_number (Some identifier) = 1
 abbrev pub identifier_octets : Option (List ℕ) → List ℕ
 identifier_octets None = replicate 20 0
 identifier_octets (Some identifier) = identifier
+
+-- the octets begin with a certificate of the key with this SubjectPublicKeyInfo (RFC 5280 4.1.2.7), of
+-- which this holds exactly where the RPKI uses it (RFC 7935 3, RFC 8608 3.1)
+pub record TellsKey (octets info : List ℕ) (used : Type 0) : Type 0 where
+  pub cert : CertFields
+  pub begins : Means IsCertificate cert octets
+  pub key_is : IsPublicKey cert.fields.key info
+  pub used_is : used ↔ IsUsableKey cert.fields.key
 
 -- the keys and the serial number are those of the fields
 pub record TellsKeys (f : TbsFields) (it : RpkiCertificate) : Type 0 where

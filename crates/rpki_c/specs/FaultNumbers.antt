@@ -75,8 +75,11 @@ refusal_number refusal.BadCall = 2
 refusal_number refusal.Memory = 1
 refusal_number (refusal.Locator e) = locator_number e
 refusal_number refusal.OtherKey = 601
+refusal_number (refusal.NoResources place) = 602
 refusal_number (refusal.List place e) = decode_number e
 refusal_number (refusal.Member e) = path_number e.fault
+refusal_number (refusal.OtherName place) = 600
+refusal_number refusal.UnusedKey = 603
 
 -- why a certificate isn't ready to be signed, or its signature isn't taken
 abbrev pub issuing_number : IssuingError → ℕ

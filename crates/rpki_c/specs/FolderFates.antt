@@ -1,7 +1,7 @@
 -- What becomes of strings, which are certificates and revocation lists in any order, below the
 -- trust anchor among them that has a locator's key (own).
 use Rattle.std.specs.List.{AllByRecursion}
-use Rattle.std.specs.Prelude.{◌≡◌, ◌⊎◌, ◌+◌, ◌<◌, ℕ, List, [], ◌∷◌, length, Err}
+use Rattle.std.specs.Prelude.{◌≡◌, ◌⊎◌, ◌+◌, ◌<◌, ℕ, false, List, [], ◌∷◌, ◌++◌, length, Err}
 use Rattle.rpki_ext.specs.Kinds.{Means}
 use Rattle.rpki_cert.specs.Certificates.{CertFields, IsCertificate}
 use Rattle.rpki_cert.specs.Verification.{Context, ResourceFields}
@@ -12,7 +12,7 @@ use Rattle.rpki_keys.specs.Locators.{NamedTal, TalFields}
 use Rattle.rpki_path.specs.LocatedPaths.{BeginsWithKey}
 use Rattle.rpki_path.specs.declared.path_fault.PathFault.{PathFault}
 use Rattle.rpki_folder.specs.Folders.{octets_at, BeginsNoCertificate}
-use Rattle.rpki_folder.specs.Walks.{Root, at_anchor, members_at, LeadsTo, IsReached, Told, IsRight, IsRightOf, Covers, HasBelow}
+use Rattle.rpki_folder.specs.Walks.{Root, at_anchor, members_at, LeadsTo, IsReached, Told, IsRight, IsRightOf, Covers, AreAdmitted, IsLookedAt, HasBelow}
 use Rattle.rpki_folder.specs.declared.bounds.Ended.{Ended}
 use Rattle.rpki_folder.specs.declared.bounds.Ended.TheVariants.{TooDeep, OutOfSteps}
 use Rattle.rpki_c.specs.FolderQuestions.{asked_or, usual_steps}
@@ -98,15 +98,16 @@ StandsBelow x asked root strings n =
     × HasBelow x asked (λ places place. Unit {0}) root strings [] above
 
 -- What becomes of the strings below the trust anchor at a place: each fate is right, and each
--- certificate is accepted to which a path leads that was looked at. A bound is said to have been
--- met only where it was.
+-- certificate is accepted to which a path leads that was looked at, on which no issuer stands twice.
+-- A bound is said to have been met only where it was.
 pub record AreFates (x : Context) (asked : RevocationChecks) (root : Root)
     (strings : List (List ℕ)) (top depth steps : ℕ) (ended : Ended) (fate : ℕ → Fate) : Type 0 where
   pub anchor_is : fate top ≡ anchor
   pub right : (place : ℕ) → place < length strings
       → IsFate x asked root strings top place (fate place)
-  pub complete : (above : List ℕ) (place : ℕ) → place < length strings
-      → Covers ended depth (length above + 1)
+  pub complete : (c : CertFields) (above : List ℕ) (place : ℕ) → place < length strings
+      → Means IsCertificate c root.anchor → Covers ended depth (length above + 1)
+      → AreAdmitted (IsLookedAt false (λ l p. Unit {0}) c strings) [] (above ++ place ∷ [])
       → IsReached x asked root strings above place → IsValidFate (fate place)
   pub too_deep : ended ≡ TooDeep → StandsBelow x asked root strings depth
   pub used_up : ended ≡ OutOfSteps → AreVerified x asked root strings steps

@@ -1,6 +1,7 @@
 -- What a caller asks of a folder, by octets, lengths and numbers (own).
 use Rattle.std.specs.Prelude.{◌≡◌, ◌≢◌, ◌↔◌, ◌==◌, ◌*◌, ◌^◌, ◌-◌, ℕ, IsTrue, min, if◌then◌else◌}
 use Rattle.rpki_der.specs.Times.{IsMoment}
+use Rattle.rpki_c.specs.Questions.{choice_number}
 use Rattle.rpki_c.specs.TimeParts.{moment_of_parts}
 use Rattle.rpki_c.specs.declared.folder_question.RpkiFolderQuestion.{RpkiFolderQuestion}
 use Rattle.rpki_c.specs.declared.folder_question.FolderTerms.{FolderTerms}
@@ -29,7 +30,8 @@ pub record HasFolderTerms (q : RpkiFolderQuestion) (t : FolderTerms) : Type 0 wh
   pub now_exists : IsMoment t.now
   pub depth_is : t.depth ≡ asked_or q.depth usual_depth
   pub steps_is : t.steps ≡ q.steps
+  pub key_is : q.key ≡ choice_number t.asks_key
 
--- there is no such moment, or it is a question of another size
+-- there is no such moment or choice, or it is a question of another size
 abbrev pub HasNoFolderTerms : RpkiFolderQuestion → Type 0
 HasNoFolderTerms q = (t : FolderTerms) → HasFolderTerms q t → ⊥

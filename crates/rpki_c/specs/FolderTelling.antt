@@ -1,9 +1,15 @@
 -- What is answered to a question about a folder, and what a caller is told of it (own).
-use Rattle.std.specs.Prelude.{◌≡◌, ◌≢◌, ◌⊎◌, ◌+◌, ◌<◌, ℕ, Bool, List, [], ◌∷◌, length, slice_index_or, Result, Ok, Err}
+use Rattle.std.specs.Prelude.{◌≡◌, ◌≢◌, ◌⊎◌, ◌+◌, ◌<◌, ℕ, Bool, List, [], ◌∷◌, length, slice_index_or, IsTrue, Result, Ok, Err}
 use Rattle.rpki_parts.specs.Signatures.{Verifies}
+use Rattle.rpki_ext.specs.Kinds.{Means}
+use Rattle.rpki_cert.specs.Certificates.{CertFields, IsCertificate}
+use Rattle.rpki_cert.specs.SaidKinds.{BeginsWithKind}
 use Rattle.rpki_cert.specs.Verification.{Context, context}
+use Rattle.rpki_cert.specs.declared.inspect.Kind.{Kind}
+use Rattle.rpki_keys.specs.KeyForms.{IsUsableKey}
 use Rattle.rpki_keys.specs.LocatorFaults.{RejectsTal}
 use Rattle.rpki_keys.specs.Locators.{NamedTal, IsLocator}
+use Rattle.rpki_path.specs.LocatedPaths.{BeginsWithNoNumber}
 use Rattle.rpki_path.specs.Paths.{Finds, trust_anchor_demand}
 use Rattle.rpki_path.specs.declared.path_fault.PathFault.TheVariants.{Memory}
 use Rattle.rpki_folder.specs.Folders.{octets_at}
@@ -12,6 +18,7 @@ use Rattle.rpki_folder.specs.declared.bounds.Ended.TheVariants.{Whole, TooDeep, 
 use Rattle.rpki_c.specs.FaultNumbers.{path_number, refusal_number}
 use Rattle.rpki_c.specs.FolderFates.{Fate, anchor, list, neither, unseen, accepted, rejected, IsFirstWithKey, NoneHasKey, AreJudged}
 use Rattle.rpki_c.specs.FolderQuestions.{HasFolderTerms, HasNoFolderTerms}
+use Rattle.rpki_c.specs.Questions.{kind_number}
 use Rattle.rpki_c.specs.Verdicts.{AreStringsOf, DontAddUp, Refused, IsUncalled}
 use Rattle.rpki_c.specs.Writing.{written_over}
 use Rattle.rpki_c.specs.declared.folder_lines.RpkiLine.{RpkiLine}
@@ -31,33 +38,63 @@ issuer_of top (place ∷ places) = issuer_of place places
 
 -- the line of which no more is told than what it is
 abbrev pub plain_line : ℕ → RpkiLine
-plain_line what = record { what = what; fault = 0; step = 0; issuer = 0 }
+plain_line what = record { what = what; fault = 0; step = 0; issuer = 0; kind = 0 }
 
--- the line of a fate, below the trust anchor at the place
-abbrev pub line_of : ℕ → Fate → RpkiLine
-line_of top unseen = plain_line 0
-line_of top anchor = plain_line 1
-line_of top (accepted above) =
-    record { what = 2; fault = 0; step = length above + 1; issuer = issuer_of top above }
-line_of top (rejected step fault) =
-    record { what = 3; fault = path_number fault; step = step; issuer = 0 }
-line_of top list = plain_line 4
-line_of top neither = plain_line 5
+-- the line of a certificate that is judged as one of the kind of this number, and accepted below the
+-- CAs at these places, below the trust anchor at a place
+abbrev pub accepted_line : (kind top : ℕ) → List ℕ → RpkiLine
+accepted_line kind top above =
+    record { what = 2; fault = 0; step = length above + 1; issuer = issuer_of top above; kind = kind }
 
--- these are the lines of so many fates
-pub record AreLinesOf (top : ℕ) (fate : ℕ → Fate) (count : ℕ) (lines : List RpkiLine) : Type 0 where
+-- the same of one that is rejected at a step, by a fault of this number
+abbrev pub rejected_line : (kind step fault : ℕ) → RpkiLine
+rejected_line kind step fault =
+    record { what = 3; fault = fault; step = step; issuer = 0; kind = kind }
+
+-- it is the number of the kind as which the certificate is judged with which the octets begin: the one
+-- that it says that it is
+abbrev pub IsKindSaid : List ℕ → ℕ → Type 0
+IsKindSaid octets n = (kind : Kind) × (n ≡ kind_number kind) × BeginsWithKind kind octets
+
+-- keys are asked, and the octets begin with a certificate whose key isn't one that the RPKI uses (RFC
+-- 7935 3, RFC 8608 3.1)
+abbrev pub HasWrongKey : Bool → List ℕ → Type 0
+HasWrongKey asks_key octets =
+    IsTrue asks_key × ((c : CertFields) × Means IsCertificate c octets × (IsUsableKey c.fields.key → ⊥))
+
+-- the line of a certificate that is accepted, unless its key is wrong
+abbrev pub IsAcceptedLine : Bool → (kind top : ℕ) → List ℕ → List ℕ → RpkiLine → Type 0
+IsAcceptedLine asks_key kind top octets above line =
+    (HasWrongKey asks_key octets × (line ≡ rejected_line kind (length above + 1) 603))
+    ⊎ ((HasWrongKey asks_key octets → ⊥) × (line ≡ accepted_line kind top above))
+
+-- the line of a string that has this fate: a certificate to which a valid path leads, but whose key is
+-- wrong, is told as rejected
+abbrev pub IsLineOf : Bool → ℕ → List ℕ → Fate → RpkiLine → Type 0
+IsLineOf asks_key top octets unseen line = line ≡ plain_line 0
+IsLineOf asks_key top octets anchor line = line ≡ plain_line 1
+IsLineOf asks_key top octets (accepted above) line =
+    (kind : ℕ) × IsKindSaid octets kind × IsAcceptedLine asks_key kind top octets above line
+IsLineOf asks_key top octets (rejected step fault) line =
+    (kind : ℕ) × IsKindSaid octets kind × (line ≡ rejected_line kind step (path_number fault))
+IsLineOf asks_key top octets list line = line ≡ plain_line 4
+IsLineOf asks_key top octets neither line = line ≡ plain_line 5
+
+-- these are the lines of so many strings, which have these fates
+pub record AreLinesOf (asks_key : Bool) (top : ℕ) (strings : List (List ℕ)) (fate : ℕ → Fate)
+    (count : ℕ) (lines : List RpkiLine) : Type 0 where
   pub count_is : length lines ≡ count
   pub line_is : (place : ℕ) (d : RpkiLine) → place < count
-      → slice_index_or lines place d ≡ line_of top (fate place)
+      → IsLineOf asks_key top (octets_at strings place) (fate place) (slice_index_or lines place d)
 
 -- ---- answers
 
 -- what became of the strings, below the locator's trust anchor among them
-pub record IsWalkOf (x : Context) (depth steps : ℕ) (t : NamedTal) (strings : List (List ℕ))
+pub record IsWalkOf (x : Context) (f : FolderTerms) (t : NamedTal) (strings : List (List ℕ))
     (w : Walked) : Type 0 where
   pub fate : ℕ → Fate
-  pub judged : AreJudged x t strings w.anchor depth steps w.ended fate
-  pub lines_are : AreLinesOf w.anchor fate (length strings) w.lines.items
+  pub judged : AreJudged x t strings w.anchor f.depth f.steps w.ended fate
+  pub lines_are : AreLinesOf f.asks_key w.anchor strings fate (length strings) w.lines.items
 
 -- the file is no locator
 abbrev pub IsNoLocator : Bool → List ℕ → Refusal → Type 0
@@ -67,22 +104,24 @@ IsNoLocator strict file _ = ⊥
 
 -- the answer of the strings below this locator: what became of them; or none has its key, or what
 -- is wrong of the first that has it
-abbrev pub AnswersBelow : Context → ℕ → ℕ → NamedTal → List (List ℕ) → Result Walked Refusal
+abbrev pub AnswersBelow : Context → FolderTerms → NamedTal → List (List ℕ) → Result Walked Refusal
     → Type 0
-AnswersBelow x depth steps t strings (Ok w) = IsWalkOf x depth steps t strings w
-AnswersBelow x depth steps t strings (Err refusal.OtherKey) = NoneHasKey t.tal strings
-AnswersBelow x depth steps t strings (Err (refusal.Member e)) =
+AnswersBelow x f t strings (Ok w) = IsWalkOf x f t strings w
+AnswersBelow x f t strings (Err refusal.OtherKey) = NoneHasKey t.tal strings
+AnswersBelow x f t strings (Err (refusal.NoResources place)) =
+    IsFirstWithKey t.tal strings place × BeginsWithNoNumber (octets_at strings place)
+AnswersBelow x f t strings (Err (refusal.Member e)) =
     IsFirstWithKey t.tal strings e.index × (e.fault ≢ Memory)
     × Finds x (trust_anchor_demand x) (octets_at strings e.index) e.fault
-AnswersBelow x depth steps t strings (Err refusal.Memory) = Unit {0}
-AnswersBelow x depth steps t strings _ = ⊥
+AnswersBelow x f t strings (Err refusal.Memory) = Unit {0}
+AnswersBelow x f t strings _ = ⊥
 
 -- the answer of the strings below the locator that the file is
-abbrev pub AnswersLocated : Context → ℕ → ℕ → List ℕ → List (List ℕ) → Result Walked Refusal
+abbrev pub AnswersLocated : Context → FolderTerms → List ℕ → List (List ℕ) → Result Walked Refusal
     → Type 0
-AnswersLocated x depth steps file strings r =
+AnswersLocated x f file strings r =
     Refused (IsNoLocator x.strict file) r
-    ⊎ ((t : NamedTal) × IsLocator x.strict t.tal file × AnswersBelow x depth steps t strings r)
+    ⊎ ((t : NamedTal) × IsLocator x.strict t.tal file × AnswersBelow x f t strings r)
 
 -- the answer of the question's strings
 abbrev pub AnswersGiven : Verifies → RpkiFolderQuestion → FolderTerms → Result Walked Refusal
@@ -90,7 +129,7 @@ abbrev pub AnswersGiven : Verifies → RpkiFolderQuestion → FolderTerms → Re
 AnswersGiven verifies q t r =
     Refused (IsUncalled (DontAddUp q.strings)) r
     ⊎ ((strings : List (List ℕ)) × AreStringsOf q.strings strings
-    × AnswersLocated (context verifies t.now t.strict) t.depth t.steps q.locator.now strings r)
+    × AnswersLocated (context verifies t.now t.strict) t q.locator.now strings r)
 
 -- the answer to a question about a folder, by this relation of signatures
 abbrev pub AnswersFolder : Verifies → RpkiFolderQuestion → Result Walked Refusal → Type 0
@@ -108,6 +147,7 @@ ended_number OutOfSteps = 3
 
 -- the place of the trust anchor that is wrong; 0 where another thing is
 abbrev pub anchor_place : Refusal → ℕ
+anchor_place (refusal.NoResources place) = place
 anchor_place (refusal.Member e) = e.index
 anchor_place _ = 0
 

@@ -9,6 +9,7 @@ pub mod FolderQuestions
 pub mod FolderTelling
 pub mod IssuedTelling
 pub mod ListAnswers
+pub mod ListTables
 pub mod Questions
 pub mod SignaturePlaces
 pub mod StopTelling

@@ -9,7 +9,7 @@ use Rattle.rpki_c.specs.declared.question.Terms.{Terms}
 
 -- how many octets a question has in the caller's memory
 abbrev pub question_size : ℕ
-question_size = 112
+question_size = 120
 
 -- the number of a kind of certificates
 abbrev pub kind_number : Kind → ℕ
@@ -33,6 +33,8 @@ pub record HasTerms (q : RpkiQuestion) (t : Terms) : Type 0 where
   pub now_exists : IsMoment t.now
   pub lists_is : q.revocation ≡ choice_number t.asks_lists
   pub locator_is : q.anchor ≡ choice_number t.asks_locator
+  pub key_is : q.key ≡ choice_number t.asks_key
+  pub names_is : q.names ≡ choice_number t.asks_names
 
 -- no kind, moment or choice has its numbers, or it is a question of another size
 abbrev pub HasNoTerms : RpkiQuestion → Type 0

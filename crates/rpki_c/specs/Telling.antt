@@ -18,10 +18,13 @@ use Rattle.rpki_c.specs.declared.strings.RpkiStrings.{RpkiStrings}
 
 -- ---- verdicts
 
--- the place of what is wrong, of so many members: the member's; behind all members, the list's; and
--- else the trust anchor's
+-- the place of what is wrong, of so many members: the member's; the last one's, whose key it is;
+-- behind all members, the list's; and else the trust anchor's
 abbrev pub refusal_place : ℕ → Refusal → ℕ
+refusal_place members (refusal.NoResources place) = place
 refusal_place members (refusal.Member e) = e.index
+refusal_place members (refusal.OtherName place) = place
+refusal_place members refusal.UnusedKey = members - 1
 refusal_place members (refusal.List place e) = members + place
 refusal_place members _ = 0
 

@@ -1,5 +1,5 @@
 -- What is answered to a question about a path, and what is then told of it (own).
-use Rattle.std.specs.Prelude.{◌≡◌, ◌≢◌, ◌⊎◌, ◌<◌, ℕ, Bool, true, false, List, [], length, sum, get_or, Result, Ok, Err}
+use Rattle.std.specs.Prelude.{◌≡◌, ◌≢◌, ◌⊎◌, ◌<◌, ℕ, Bool, true, false, List, [], length, sum, get_or, Result, Ok, Err, IfOk, IsTrue}
 use Rattle.std.specs.List.{AllZip}
 use Rattle.rpki_ext.specs.Kinds.{Means}
 use Rattle.rpki_der.specs.Place.{Rejects}
@@ -7,12 +7,14 @@ use Rattle.rpki_parts.specs.Signatures.{Verifies}
 use Rattle.rpki_cert.specs.Verification.{Context, context}
 use Rattle.rpki_crl.specs.Lists.{CrlFields, CrlState, IsCertificateList}
 use Rattle.rpki_path.specs.Asking.{RevocationChecks, nobody}
-use Rattle.rpki_path.specs.AskedLists.{by_lists}
+use Rattle.rpki_path.specs.AskedLists.{by_named_lists}
+use Rattle.rpki_keys.specs.KeyForms.{IsUsableKey}
 use Rattle.rpki_keys.specs.LocatorFaults.{RejectsTal}
 use Rattle.rpki_keys.specs.Locators.{TalFields, IsLocator}
 use Rattle.rpki_path.specs.GivenPaths.{PathStrings, CanEndIn, IsSplitAs}
-use Rattle.rpki_path.specs.Judging.{Judges, IsAcceptedWith}
-use Rattle.rpki_path.specs.LocatedPaths.{IsLocatorOf, BeginsWithOtherKey}
+use Rattle.rpki_path.specs.Judging.{Judges, IsAcceptedWith, last_key}
+use Rattle.rpki_path.specs.NameChains.{BeginChained, IsUnchained, strings_below}
+use Rattle.rpki_path.specs.LocatedPaths.{IsLocatorOf, BeginsWithKey, BeginsWithNoNumber, BeginsWithNumbers, BeginsWithOtherKey}
 use Rattle.rpki_path.specs.Paths.Steps.{IsUnread}
 use Rattle.rpki_path.specs.declared.judging.Judged.{Judged}
 use Rattle.rpki_c.specs.Questions.{HasTerms, HasNoTerms}
@@ -62,11 +64,14 @@ IsUnreadList strings refusal.Memory = Unit {0}
 IsUnreadList strings _ = ⊥
 
 -- the locator's file is none, or the trust anchor's octets don't begin with a certificate that has
--- its key
+-- its key and lists a number
 abbrev pub IsUntrusted : Bool → List ℕ → List ℕ → Refusal → Type 0
 IsUntrusted strict locator anchor (refusal.Locator e) = RejectsTal strict e locator
 IsUntrusted strict locator anchor refusal.OtherKey =
     (t : TalFields) × IsLocator strict t locator × BeginsWithOtherKey t anchor
+IsUntrusted strict locator anchor (refusal.NoResources place) =
+    (place ≡ 0)
+    × ((t : TalFields) × IsLocator strict t locator × BeginsWithKey t anchor × BeginsWithNoNumber anchor)
 IsUntrusted strict locator anchor (refusal.Member e) = (e.index ≡ 0) × IsUnread anchor e.fault
 IsUntrusted strict locator anchor refusal.Memory = Unit {0}
 IsUntrusted strict locator anchor _ = ⊥
@@ -84,32 +89,74 @@ AnswersJudged x asked path _ = ⊥
 abbrev pub IsGiven : List ℕ → CrlState → Type 0
 IsGiven octets l = IsCertificateList l.list octets
 
--- the answer, where the lists that these octets are are asked
-abbrev pub AnswersListed : Context → PathStrings → List (List ℕ) → Result Judged Refusal → Type 0
-AnswersListed x path octets r =
+-- the answer, where the lists that these octets are are asked; they have to have their issuers' names
+-- if names are asked (RFC 5280 6.3.3 (b) (1))
+abbrev pub AnswersListed : Context → Bool → PathStrings → List (List ℕ) → Result Judged Refusal
+    → Type 0
+AnswersListed x asks_names path octets r =
     Refused (IsUnreadList octets) r
-    ⊎ ((lists : List CrlState) × AllZip IsGiven octets lists × AnswersJudged x (by_lists x lists) path r)
+    ⊎ ((lists : List CrlState) × AllZip IsGiven octets lists
+    × AnswersJudged x (by_named_lists asks_names x lists) path r)
 
 -- the answer, where the caller's lists are asked
-abbrev pub AnswersWith : Context → PathStrings → RpkiStrings → Result Judged Refusal → Type 0
-AnswersWith x path s r =
+abbrev pub AnswersWith : Context → Bool → PathStrings → RpkiStrings → Result Judged Refusal → Type 0
+AnswersWith x asks_names path s r =
     Refused (IsUncalled (DontAddUp s)) r
-    ⊎ ((octets : List (List ℕ)) × AreStringsOf s octets × AnswersListed x path octets r)
+    ⊎ ((octets : List (List ℕ)) × AreStringsOf s octets × AnswersListed x asks_names path octets r)
 
 -- the answer of a path whose trust anchor is trusted: lists are asked, or nobody is
 abbrev pub AnswersTrusted : Context → RpkiQuestion → Terms → PathStrings → Result Judged Refusal → Type 0
 AnswersTrusted x q t path r =
-    ((t.asks_lists ≡ true) × AnswersWith x path q.lists r) ⊎ ((t.asks_lists ≡ false) × AnswersJudged x nobody path r)
+    ((t.asks_lists ≡ true) × AnswersWith x t.asks_names path q.lists r)
+    ⊎ ((t.asks_lists ≡ false) × AnswersJudged x nobody path r)
 
--- the trust anchor is taken as it is given, or has the locator's key
+-- the trust anchor is taken as it is given, or has the locator's key and lists a number
 abbrev pub IsTrusted : RpkiQuestion → Terms → List ℕ → Type 0
-IsTrusted q t anchor = (t.asks_locator ≡ false) ⊎ IsLocatorOf t.strict anchor q.locator.now
+IsTrusted q t anchor =
+    (t.asks_locator ≡ false)
+    ⊎ (IsLocatorOf t.strict anchor q.locator.now × BeginsWithNumbers anchor)
+
+-- where names are asked, each issuer is the subject of the certificate above, and the trust anchor's
+-- its own (RFC 6487 7.2, RFC 8630 2.3)
+abbrev pub AreChainedIf : Bool → PathStrings → Type 0
+AreChainedIf asks_names path = IsTrue asks_names → BeginChained path.anchor (strings_below path)
+
+-- names are asked, and those of the certificate at the place are the first that don't chain; or memory
+-- ran out
+abbrev pub IsOtherName : Bool → PathStrings → Refusal → Type 0
+IsOtherName asks_names path (refusal.OtherName place) =
+    IsTrue asks_names × IsUnchained path.anchor (strings_below path) place
+IsOtherName asks_names path refusal.Memory = Unit {0}
+IsOtherName asks_names path _ = ⊥
+
+-- the answer of a path whose trust anchor is trusted, and whose names are asked behind all else of it
+abbrev pub AnswersNamed : Context → RpkiQuestion → Terms → PathStrings → Result Judged Refusal → Type 0
+AnswersNamed x q t path r =
+    (Refused (IsOtherName t.asks_names path) r
+    × ((judged : Judged) × AnswersTrusted x q t path (Ok judged)))
+    ⊎ (AnswersTrusted x q t path r × IfOk r (λ judged. AreChainedIf t.asks_names path))
+
+-- where the last key is asked, it is one that the RPKI uses (RFC 7935 3, RFC 8608 3.1), as those above
+-- it are by the signatures that they verify
+abbrev pub HasKeyAsked : Bool → Judged → Type 0
+HasKeyAsked asks_key judged = IsTrue asks_key → IsUsableKey (last_key judged)
+
+-- the path is accepted but for its last key
+abbrev pub HasUnusedKey : Context → RpkiQuestion → Terms → PathStrings → Type 0
+HasUnusedKey x q t path =
+    (judged : Judged) × AnswersNamed x q t path (Ok judged) × (HasKeyAsked t.asks_key judged → ⊥)
+
+-- the answer of a path whose trust anchor is trusted, and of which the last key is asked at the end
+abbrev pub AnswersKeyed : Context → RpkiQuestion → Terms → PathStrings → Result Judged Refusal → Type 0
+AnswersKeyed x q t path r =
+    ((r ≡ Err refusal.UnusedKey) × HasUnusedKey x q t path)
+    ⊎ (AnswersNamed x q t path r × IfOk r (HasKeyAsked t.asks_key))
 
 -- the answer of a path
 abbrev pub AnswersPath : Context → RpkiQuestion → Terms → PathStrings → Result Judged Refusal → Type 0
 AnswersPath x q t path r =
     ((t.asks_locator ≡ true) × Refused (IsUntrusted t.strict q.locator.now path.anchor) r)
-    ⊎ (IsTrusted q t path.anchor × AnswersTrusted x q t path r)
+    ⊎ (IsTrusted q t path.anchor × AnswersKeyed x q t path r)
 
 -- the answer of these strings, of which the last is of the kind that is named
 abbrev pub AnswersStrings : Context → RpkiQuestion → Terms → List (List ℕ) → Result Judged Refusal → Type 0

@@ -15,7 +15,7 @@ use Rattle.rpki_c.specs.declared.wanted_list.RpkiWantedList.{RpkiWantedList}
 
 -- how many octets a wanted list has in the caller's memory
 abbrev pub wanted_list_size : ℕ
-wanted_list_size = 192
+wanted_list_size = 200
 
 -- the list is prepared so
 pub record HasListTerms (w : RpkiWantedList) (t : ListTerms) : Type 0 where
@@ -63,7 +63,7 @@ pub record GivesList (w : RpkiWantedList) (t : ListTerms) (it : WantedListFields
 
 -- how many octets a completion of a list has in the caller's memory
 abbrev pub list_completion_size : ℕ
-list_completion_size = 152
+list_completion_size = 160
 
 -- the list is completed so
 pub record HasListCompletionTerms (c : RpkiListCompletion) (t : Terms) : Type 0 where

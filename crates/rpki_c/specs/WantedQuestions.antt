@@ -24,7 +24,7 @@ use Rattle.rpki_c.specs.declared.wanted.WantedTerms.{WantedTerms}
 
 -- how many octets a wanted certificate has in the caller's memory
 abbrev pub wanted_size : ℕ
-wanted_size = 352
+wanted_size = 360
 
 -- the number of the policy: overclaimed resources are refused, or trimmed (RFC 8360)
 abbrev pub trim_number : Bool → ℕ
@@ -116,7 +116,7 @@ pub record IsKeyGiven (octets : List ℕ) (key : KeyFields) : Type 0 where
 
 -- how many octets a completion has in the caller's memory
 abbrev pub completion_size : ℕ
-completion_size = 160
+completion_size = 168
 
 -- the certificate is completed so
 pub record HasCompletionTerms (c : RpkiCompletion) (t : CompletionTerms) : Type 0 where

@@ -1,12 +1,13 @@
 //! Certificates for C.
-ghost use Rattle.std.specs.Prelude.{◌≡◌, ◌≢◌, ◌<◌, ◌≤◌, ◌↔◌, ◌==◌, not, map, IsTrue, IsNone, IfSome, OnOk, IfOk, IfErr, option_map};
+ghost use Rattle.std.specs.Prelude.{ℕ, List, ◌≡◌, ◌≢◌, ◌<◌, ◌≤◌, ◌↔◌, ◌==◌, not, map, IsTrue, IsNone, IfSome, OnOk, IfOk, IfErr, option_map};
+ghost use Rattle.rpki_der.specs.Place.{Rejects};
 ghost use Rattle.rpki_ext.specs.Kinds.{Means};
 ghost use Rattle.rpki_ext.specs.declared.inspection.InspectionError.{InspectionError as inspections};
 ghost use Rattle.rpki_cert.specs.Certificates.{CertFields, IsCertificate};
 ghost use Rattle.rpki_cert.specs.Profiles.{MeetsProfile, IsFirstFault};
 ghost use Rattle.rpki_cert.specs.declared.inspect.Kind.{Kind as kinds};
 ghost use Rattle.rpki_c.specs.Choices.{family_number, family_field, listed_blocks, uri_number, uri_field, octets_if_any, name_number, name_field};
-ghost use Rattle.rpki_c.specs.Contents.{state_number, TellsKeys, TellsCertificate};
+ghost use Rattle.rpki_c.specs.Contents.{state_number, TellsKey, TellsKeys, TellsCertificate};
 ghost use Rattle.rpki_folder.specs.Folders.{BeginsNoCertificate};
 ghost use Rattle.rpki_c.specs.FaultNumbers.{inspection_number};
 ghost use Rattle.rpki_c.specs.Writing.{IsWritten, as_struct, ip_struct};
@@ -18,8 +19,12 @@ ghost use Rattle.rpki_c.specs.Questions.{kind_number};
 use crate::copying::{RpkiAsRange, RpkiIpRange, put_addresses, put_as_numbers, put_octets};
 use crate::faults::{BAD_CALL, MEMORY, NONE, of_decoding, of_inspection};
 use crate::moments::{RpkiTime, parts_of};
+use crate::spans::key_span;
+use bytes::Bytes;
 use rpki_blocks::{AsResources, IpResources, Overclaim};
 use rpki_cert::{Cert, InspectionError, KeyUsage, Kind, TbsCert};
+use rpki_der::DecodeError;
+use rpki_keys::is_usable;
 use rpki_parts::{Https, Rsync};
 use std::alloc::Global;
 
@@ -141,6 +146,74 @@ pub extern "C" fn rpki_certificate_read(
         Ok(cert) => {
             put_data(cert.as_tbs(), out);
             drop(cert);
+            NONE
+        }
+        Err(fault) => fault,
+    }
+}
+
+// The SubjectPublicKeyInfo of the certificate that the octets begin with, and whether the RPKI uses
+// such a key.
+#[tactic(auto, using(crate::proofs::Unread::anyway))]
+fn key_in(alloc: Global, octets: &Bytes) -> Result<(Bytes, bool), DecodeError>
+    ensures key { IfOk result (λ it. TellsKey octets.now it.0 (IsTrue it.1)) }
+    ensures unread { IfErr result (λ e. Rejects e (BeginsNoCertificate octets.now)) }
+{
+    let cert = Cert::decode_shared(alloc, octets.clone()?)?;
+    let is_used = is_usable(cert.as_tbs().subject_public_key_info());
+    drop(cert);
+    let (from, to) = key_span(octets)?;
+    let info = octets.slice(from..to)?;
+    Ok((info, is_used))
+}
+
+// What is found of the caller's octets, or the number of a fault.
+#[tactic(auto, using(crate::proofs::Unread::unless_memory))]
+fn key_of(alloc: Global, octets: &[u8]) -> Result<(Bytes, bool), u32>
+    ensures key { IfOk result (λ it. TellsKey octets.now it.0 (IsTrue it.1)) }
+    ensures fault { IfErr result (λ fault. fault ≢ NONE) }
+    ensures unread { IfErr result (λ fault. fault ≢ MEMORY → BeginsNoCertificate octets.now) }
+{
+    let Ok(octets) = Bytes::copy_from_slice(alloc, octets) else {
+        return Err(MEMORY);
+    };
+    let found = key_in(alloc, &octets);
+    drop(octets);
+    match found {
+        Ok(found) => Ok(found),
+        Err(error) => {
+            let fault = of_decoding(&error);
+            drop(error);
+            Err(fault)
+        }
+    }
+}
+
+/// Writes the certificate's SubjectPublicKeyInfo in DER: as many octets as there is room for, and in
+/// `count` how many there are; and in `is_used` 1 where the RPKI uses such a key, and else 0.
+/// Answers 0, or the number of a fault.
+#[unsafe(no_mangle)]
+pub extern "C" fn rpki_certificate_key(
+    alloc: Global,
+    octets: &[u8],
+    out: &mut [u8],
+    count: &mut u64,
+    is_used: &mut u8,
+) -> u32
+    ensures key { result ≡ NONE → (info : List ℕ)
+        × TellsKey octets.now info (is_used.new ≡ 1) × (is_used.new ≤ 1)
+        × IsWritten info out.old out.new count.new }
+    ensures at_fault { result ≢ NONE → (count.new ≡ 0) × (is_used.new ≡ 0) }
+    ensures untouched { result ≢ NONE → out.new ≡ out.old }
+    ensures unread { result ≢ NONE → result ≢ MEMORY → BeginsNoCertificate octets.now }
+{
+    *count = 0;
+    *is_used = 0;
+    match key_of(alloc, octets) {
+        Ok((info, used)) => {
+            *count = put_octets(&info, out);
+            drop(info);
+            *is_used = if used { 1 } else { 0 };
             NONE
         }
         Err(fault) => fault,

@@ -37,6 +37,10 @@ pub(crate) const BAD_CALL: u32 = 2;
 pub(crate) const OTHER_NAME: u32 = 600;
 /// The trust anchor's key isn't the locator's.
 pub(crate) const OTHER_KEY: u32 = 601;
+/// The trust anchor lists no number.
+pub(crate) const NO_RESOURCES: u32 = 602;
+/// The RPKI doesn't use the last member's key.
+pub(crate) const BAD_KEY: u32 = 603;
 // No key is given.
 const NO_KEY: u32 = 800;
 // The RPKI doesn't use the key.
@@ -137,8 +141,11 @@ pub(crate) fn of_refusal(refusal: &Refusal) -> u32
         Refusal::Memory => MEMORY,
         Refusal::Locator(error) => faults::of_locator(error).number,
         Refusal::OtherKey => OTHER_KEY,
+        Refusal::NoResources(_) => NO_RESOURCES,
         Refusal::List(_, error) => of_decoding(error),
         Refusal::Member(error) => of_path(&error.fault),
+        Refusal::OtherName(_) => OTHER_NAME,
+        Refusal::UnusedKey => BAD_KEY,
     }
 }
 

@@ -3,6 +3,7 @@ ghost use Rattle.std.specs.Prelude.{◌≡◌, IsNone, IfSome};
 ghost use Rattle.rpki_c.specs.FolderQuestions.{asked_or as asked_else, HasFolderTerms, HasNoFolderTerms};
 
 use crate::moments::{RpkiTime, moment_of};
+use crate::question::is_asked;
 use crate::strings::RpkiStrings;
 use rpki_der::Time;
 use rpki_folder::Bounds;
@@ -23,6 +24,8 @@ pub struct RpkiFolderQuestion<'c> {
     /// How many certificates are verified at most; 0 for the usual steps.
     pub steps: usize,
     pub strict: u32,
+    /// Whether the RPKI has to use a certificate's key: 0 it has to, 1 it needn't.
+    pub key: u32,
 }
 
 /// How many octets a question about a folder has.
@@ -42,6 +45,8 @@ pub(crate) struct FolderTerms {
     pub(crate) depth: usize,
     /// How many certificates are verified at most; 0 for the usual steps.
     pub(crate) steps: usize,
+    /// Whether a certificate has to have a key that the RPKI uses.
+    pub(crate) asks_key: bool,
 }
 
 // What is asked for, or what is usual, where 0 is.
@@ -67,9 +72,9 @@ impl FolderTerms {
     }
 }
 
-/// Tells how the folder of a question is judged. Gives `None` where there is no such moment, and
-/// where the caller knows another struct.
-#[tactic(auto, using(crate::proofs::FolderTermsGiven::no_folder_size, crate::proofs::FolderTermsGiven::no_folder_moment))]
+/// Tells how the folder of a question is judged. Gives `None` where there is no such moment or
+/// choice, and where the caller knows another struct.
+#[tactic(auto, using(crate::proofs::FolderTermsGiven::no_folder_size, crate::proofs::FolderTermsGiven::no_folder_moment, crate::proofs::FolderTermsGiven::no_folder_key))]
 pub(crate) fn folder_terms_of(question: &RpkiFolderQuestion<'_>) -> Option<FolderTerms>
     ensures terms { IfSome result (HasFolderTerms question.now) }
     ensures none { IsNone result → HasNoFolderTerms question.now }
@@ -82,5 +87,6 @@ pub(crate) fn folder_terms_of(question: &RpkiFolderQuestion<'_>) -> Option<Folde
         now: moment_of(&question.moment)?,
         depth: asked_or(question.depth, USUAL_DEPTH),
         steps: question.steps,
+        asks_key: is_asked(question.key)?,
     })
 }

@@ -39,6 +39,7 @@ fn wrong_anchor(refusal: &Refusal) -> u64
     ensures { result ≡ anchor_place refusal.now }
 {
     match refusal {
+        Refusal::NoResources(place) => *place as u64,
         Refusal::Member(error) => error.index as u64,
         _ => 0,
     }

@@ -1,13 +1,15 @@
 //! The answer to a question about a path.
 ghost use Rattle.std.specs.List.{All};
-ghost use Rattle.std.specs.Prelude.{◌≡◌, IfOk, IfErr, IsTrue, Err};
+ghost use Rattle.std.specs.Prelude.{◌≡◌, IfOk, IfErr, IsTrue, MatchOption, Err};
 ghost use Rattle.rpki_cert.specs.Verification.{context};
 ghost use Rattle.rpki_path.specs.Judging.{Judges};
-ghost use Rattle.rpki_path.specs.AskedLists.{by_lists};
+ghost use Rattle.rpki_path.specs.AskedLists.{by_named_lists};
+ghost use Rattle.rpki_path.specs.NameChains.{BeginPath, IsUnchained, strings_below};
 ghost use Rattle.rpki_keys.specs.RsaSignatures.{IsSignedByRsa};
 ghost use Rattle.rpki_files.specs.Contents.{BeginsWithCertificate};
 ghost use Rattle.rpki_c.specs.Answered.{AnswersSaid, AnswersSaidMembers, AnswersSaidQuestion};
-ghost use Rattle.rpki_c.specs.Verdicts.{AreStringsOf, DontAddUp, IsUncalled, AnswersListed, AnswersWith, AnswersTrusted, AnswersPath, AnswersStrings, AnswersMembers, AnswersQuestion};
+ghost use Rattle.rpki_c.specs.declared.refusal.Refusal.TheVariants.{UnusedKey};
+ghost use Rattle.rpki_c.specs.Verdicts.{AreStringsOf, DontAddUp, IsUncalled, AnswersListed, AnswersWith, AnswersTrusted, AreChainedIf, IsOtherName, AnswersNamed, AnswersKeyed, AnswersPath, HasKeyAsked, AnswersStrings, AnswersMembers, AnswersQuestion};
 
 use crate::lists::lists_of;
 use crate::locators::ask_locator;
@@ -17,11 +19,11 @@ use crate::signatures::answers;
 use crate::strings::{RpkiStrings, cut};
 use bytes::Bytes;
 use rpki_crl::Crl;
-use rpki_keys::RsaVerifier;
+use rpki_keys::{RsaVerifier, is_usable};
 use rpki_parts::Verifier;
 use rpki_path::revocation::{GivenLists, NobodyAsked};
-use rpki_path::{GivenPath, Judged, Member, PathError, judge};
-use std::alloc::Global;
+use rpki_path::{GivenPath, Judged, Member, PathError, first_unchained, judge};
+use std::alloc::{AllocError, Global};
 
 /// Cuts the caller's octets into the strings of these lengths.
 pub(crate) fn strings_of(alloc: Global, strings: &RpkiStrings<'_>) -> Result<Vec<Bytes>, Refusal>
@@ -43,9 +45,9 @@ fn judge_lists<V: Verifier>(
     verifier: &V,
 ) -> Result<Judged, PathError>
     ensures { let x = context (V.verifies verifier.now) terms.now terms.strict in
-        Judges x (by_lists x lists.now) path.now result }
+        Judges x (by_named_lists terms.asks_names x lists.now) path.now result }
 {
-    let asked = GivenLists::new(lists);
+    let asked = GivenLists::with_names(lists, terms.asks_names);
     judge(alloc, path, &asked, terms.strict, terms.now, verifier)
 }
 
@@ -58,7 +60,7 @@ fn judge_listed<V: Verifier>(
     verifier: &V,
 ) -> Result<Judged, Refusal>
     ensures { let x = context (V.verifies verifier.now) terms.now terms.strict in
-        AnswersListed x path.now octets.now result }
+        AnswersListed x terms.asks_names path.now octets.now result }
 {
     let lists = lists_of(alloc, octets)?;
     let answer = judge_lists(alloc, path, &lists, terms, verifier);
@@ -75,7 +77,7 @@ fn judge_with<V: Verifier>(
     verifier: &V,
 ) -> Result<Judged, Refusal>
     ensures { let x = context (V.verifies verifier.now) terms.now terms.strict in
-        AnswersWith x path.now lists.now result }
+        AnswersWith x terms.asks_names path.now lists.now result }
 {
     let octets = strings_of(alloc, lists)?;
     let answer = judge_listed(alloc, path, &octets, terms, verifier);
@@ -101,6 +103,105 @@ fn judge_trusted<V: Verifier>(
     Ok(judge(alloc, path, &NobodyAsked, strict, now, verifier)?)
 }
 
+// The place of the first member whose names don't chain, if names are asked. All strings begin with
+// certificates, so this errs only if memory runs out.
+fn unchained(
+    alloc: Global,
+    path: &GivenPath<'_, '_>,
+    asks_names: bool,
+) -> Result<Option<usize>, AllocError>
+    requires { BeginPath path.now }
+    ensures { IfOk result (λ o. MatchOption o (AreChainedIf asks_names path.now)
+        (λ place. IsTrue asks_names × IsUnchained path.now.anchor (strings_below path.now) place)) }
+{
+    if !asks_names {
+        return Ok(None);
+    }
+    match first_unchained(alloc, path) {
+        Ok(place) => Ok(place),
+        Err(error) => {
+            if !error.is_memory() {
+                unreachable!();
+            }
+            drop(error);
+            Err(AllocError)
+        }
+    }
+}
+
+// What was judged of the path, whose names are asked.
+fn named(
+    alloc: Global,
+    path: &GivenPath<'_, '_>,
+    judged: Judged,
+    asks_names: bool,
+) -> Result<Judged, Refusal>
+    requires { BeginPath path.now }
+    ensures chained { IfOk result (λ it. (it ≡ judged) × AreChainedIf asks_names path.now) }
+    ensures other { IfErr result (IsOtherName asks_names path.now) }
+{
+    match unchained(alloc, path, asks_names) {
+        Ok(None) => Ok(judged),
+        Ok(Some(place)) => {
+            drop(judged);
+            Err(Refusal::OtherName(place))
+        }
+        Err(_) => {
+            drop(judged);
+            Err(Refusal::Memory)
+        }
+    }
+}
+
+// The answer of the path, whose trust anchor is trusted, and whose names are asked.
+fn judge_named<V: Verifier>(
+    alloc: Global,
+    path: &GivenPath<'_, '_>,
+    question: &RpkiQuestion<'_>,
+    terms: Terms,
+    verifier: &V,
+) -> Result<Judged, Refusal>
+    ensures { let x = context (V.verifies verifier.now) terms.now terms.strict in
+        AnswersNamed x question.now terms path.now result }
+{
+    let asks_names = terms.asks_names;
+    match judge_trusted(alloc, path, question, terms, verifier) {
+        Ok(judged) => named(alloc, path, judged, asks_names),
+        Err(refusal) => Err(refusal),
+    }
+}
+
+// What was judged, of which the last key is asked.
+fn keyed(judged: Judged, asks_key: bool) -> Result<Judged, Refusal>
+    ensures asked { IfOk result (λ it. (it ≡ judged) × HasKeyAsked asks_key judged) }
+    ensures unused { IfErr result (λ e. (e ≡ UnusedKey) × (HasKeyAsked asks_key judged → ⊥)) }
+{
+    if !asks_key || is_usable(judged.last_key()) {
+        return Ok(judged);
+    }
+    drop(judged);
+    Err(Refusal::UnusedKey)
+}
+
+// The answer of the path, whose trust anchor is trusted, and of which the last key is asked.
+#[tactic(auto, using(crate::proofs::KeysAsked::keyed_answer))]
+fn judge_keyed<V: Verifier>(
+    alloc: Global,
+    path: &GivenPath<'_, '_>,
+    question: &RpkiQuestion<'_>,
+    terms: Terms,
+    verifier: &V,
+) -> Result<Judged, Refusal>
+    ensures { let x = context (V.verifies verifier.now) terms.now terms.strict in
+        AnswersKeyed x question.now terms path.now result }
+{
+    let asks_key = terms.asks_key;
+    match judge_named(alloc, path, question, terms, verifier) {
+        Ok(judged) => keyed(judged, asks_key),
+        Err(refusal) => Err(refusal),
+    }
+}
+
 // The answer of the path.
 fn judge_path<V: Verifier>(
     alloc: Global,
@@ -115,7 +216,7 @@ fn judge_path<V: Verifier>(
     if terms.asks_locator {
         ask_locator(alloc, path.anchor, question.locator, terms.strict)?;
     }
-    judge_trusted(alloc, path, question, terms, verifier)
+    judge_keyed(alloc, path, question, terms, verifier)
 }
 
 // The answer to the question, whose members are these.

@@ -31,9 +31,11 @@ mod sorting;
 mod spans;
 mod stops;
 mod strings;
+mod tables;
 mod telling;
 mod unissued;
 mod values;
+mod version;
 mod walking;
 mod wanted;
 mod wanted_list;
@@ -41,7 +43,7 @@ mod wanted_list;
 /// Tells the number of this interface. It grows with each change that a caller has to follow.
 #[unsafe(no_mangle)]
 pub extern "C" fn rpki_abi_version() -> u32
-    ensures { result ≡ 3 }
+    ensures { result ≡ 4 }
 {
-    3
+    4
 }

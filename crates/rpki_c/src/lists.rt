@@ -69,9 +69,9 @@ fn put_list(list: &Crl, out: &mut RpkiList)
     out.entries = entries(list);
 }
 
-// The list that the octets begin with, or the number of a fault.
+/// The list that the octets begin with, or the number of a fault.
 #[tactic(auto, using(crate::proofs::Unread::unless_memory))]
-fn decoded(alloc: Global, octets: &[u8]) -> Result<Crl, u32>
+pub(crate) fn decoded(alloc: Global, octets: &[u8]) -> Result<Crl, u32>
     ensures read { IfOk result (λ l. Means IsCertificateList l.list octets.now) }
     ensures fault { IfErr result (λ fault. (fault ≢ NONE) × (fault ≢ BAD_CALL)) }
     ensures unread { IfErr result (λ fault. fault ≢ MEMORY → BeginsNoList octets.now) }
@@ -190,8 +190,8 @@ pub(crate) fn number_of(octets: &[u8; 20]) -> Serial
     }
 }
 
-// The serial number at this place.
-fn serial_at(serials: &[u8], at: usize) -> Serial
+/// The serial number at this place.
+pub(crate) fn serial_at(serials: &[u8], at: usize) -> Serial
     requires { 20 * at + 20 ≤ length serials.now }
     ensures { result ≡ serial_in serials.now at }
 {
@@ -200,8 +200,8 @@ fn serial_at(serials: &[u8], at: usize) -> Serial
     number_of(&octets)
 }
 
-// Whether there are 20 octets for each answer.
-fn add_up(serials: &[u8], answers: &[u8]) -> bool
+/// Whether there are 20 octets for each answer.
+pub(crate) fn add_up(serials: &[u8], answers: &[u8]) -> bool
     ensures { IsTrue result ↔ (length serials.now ≡ 20 * length answers.now) }
 {
     serials.len() % 20 == 0 && serials.len() / 20 == answers.len()

@@ -1,30 +1,33 @@
-//! Whether a trust anchor has a locator's key.
+//! Whether a trust anchor can be a locator's.
 ghost use Rattle.std.specs.Prelude.{◌≡◌, ℕ, Bool, List, OnOk, IfErr};
 ghost use Rattle.rpki_keys.specs.Locators.{IsLocator};
-ghost use Rattle.rpki_path.specs.LocatedPaths.{IsLocatorOf};
+ghost use Rattle.rpki_path.specs.LocatedPaths.{BeginsWithNumbers, IsLocatorOf};
 ghost use Rattle.rpki_c.specs.Verdicts.{IsUntrusted};
 
 use crate::refusal::Refusal;
 use rpki_keys::tal::Tal;
-use rpki_path::{Member, PathError, has_locator_key};
+use rpki_path::{LocatedError, Member, test_anchor};
 use std::alloc::Global;
 
-// Errs where the trust anchor has another key than the locator.
+// Errs where the trust anchor can't be the locator's.
 fn compared(alloc: Global, anchor: &Member<'_>, tal: &Tal) -> Result<(), Refusal>
     ensures same { (strict : Bool) (file : List ℕ) → IsLocator strict tal.now.tal file
         → OnOk result (IsLocatorOf strict anchor.now file) }
+    ensures numbers { OnOk result (BeginsWithNumbers anchor.now) }
     ensures refused { (strict : Bool) (file : List ℕ) → IsLocator strict tal.now.tal file
         → IfErr result (IsUntrusted strict file anchor.now) }
 {
-    match has_locator_key(alloc, anchor, tal) {
-        Ok(true) => Ok(()),
-        Ok(false) => Err(Refusal::OtherKey),
-        Err(fault) => Err(Refusal::Member(PathError { index: 0, fault })),
+    match test_anchor(alloc, anchor, tal) {
+        Ok(()) => Ok(()),
+        Err(LocatedError::OtherKey) => Err(Refusal::OtherKey),
+        Err(LocatedError::NoResources) => Err(Refusal::NoResources(0)),
+        Err(LocatedError::Path(error)) => Err(Refusal::Member(error)),
     }
 }
 
-/// Asks whether the trust anchor has the key of the locator that a file is (RFC 8630 3). Errs where
-/// it has another one, and where the file is no locator or the anchor no certificate.
+/// Asks whether the trust anchor has the key of the locator that a file is (RFC 8630 3), and lists a
+/// number (RFC 8630 2.3). Errs where it doesn't, and where the file is no locator or the anchor no
+/// certificate.
 pub(crate) fn ask_locator(
     alloc: Global,
     anchor: &Member<'_>,
@@ -32,6 +35,7 @@ pub(crate) fn ask_locator(
     strict: bool,
 ) -> Result<(), Refusal>
     ensures same { OnOk result (IsLocatorOf strict anchor.now file.now) }
+    ensures numbers { OnOk result (BeginsWithNumbers anchor.now) }
     ensures refused { IfErr result (IsUntrusted strict file.now anchor.now) }
 {
     let tal = Tal::read_named(alloc, String::new(alloc), file, strict)?;

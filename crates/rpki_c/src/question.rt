@@ -28,6 +28,10 @@ pub struct RpkiQuestion<'c> {
     pub revocation: u32,
     /// What the trust anchor's key is compared with: 0 the locator's, 1 nothing.
     pub anchor: u32,
+    /// Whether the RPKI has to use the last member's key: 0 it has to, 1 it needn't.
+    pub key: u32,
+    /// Whether names are checked, those of the path and of the lists: 0 they are, 1 they aren't.
+    pub names: u32,
 }
 
 /// How many octets a question has.
@@ -45,10 +49,14 @@ pub(crate) struct Terms {
     pub(crate) asks_lists: bool,
     /// Whether the trust anchor has to have the locator's key.
     pub(crate) asks_locator: bool,
+    /// Whether the last member has to have a key that the RPKI uses.
+    pub(crate) asks_key: bool,
+    /// Whether the path's names have to chain, and lists to have their issuers' names.
+    pub(crate) asks_names: bool,
 }
 
-// Whether a thing is asked, by the number of that choice.
-fn is_asked(number: u32) -> Option<bool>
+/// Tells whether a thing is asked, by the number of that choice.
+pub(crate) fn is_asked(number: u32) -> Option<bool>
     ensures none { IsNone result ↔ 1 < number }
     ensures asked { IfSome result (λ asked. number ≡ choice_number asked) }
 {
@@ -61,7 +69,7 @@ fn is_asked(number: u32) -> Option<bool>
 
 /// Tells how the path of a question is judged. Gives `None` where no kind, moment or choice has its
 /// numbers, and where the caller knows another struct.
-#[tactic(auto, using(crate::proofs::QuestionTerms::no_size, crate::proofs::QuestionTerms::no_kind, crate::proofs::QuestionTerms::no_moment, crate::proofs::QuestionTerms::no_revocation, crate::proofs::QuestionTerms::no_anchor))]
+#[tactic(auto, using(crate::proofs::QuestionTerms::no_size, crate::proofs::QuestionTerms::no_kind, crate::proofs::QuestionTerms::no_moment, crate::proofs::QuestionTerms::no_revocation, crate::proofs::QuestionTerms::no_anchor, crate::proofs::QuestionTerms::no_key, crate::proofs::QuestionTerms::no_names))]
 pub(crate) fn terms_of(question: &RpkiQuestion<'_>) -> Option<Terms>
     ensures terms { IfSome result (HasTerms question.now) }
     ensures none { IsNone result → HasNoTerms question.now }
@@ -75,5 +83,7 @@ pub(crate) fn terms_of(question: &RpkiQuestion<'_>) -> Option<Terms>
         now: moment_of(&question.moment)?,
         asks_lists: is_asked(question.revocation)?,
         asks_locator: is_asked(question.anchor)?,
+        asks_key: is_asked(question.key)?,
+        asks_names: is_asked(question.names)?,
     })
 }

@@ -17,10 +17,17 @@ pub(crate) enum Refusal {
     Locator(TalError),
     /// The trust anchor's key isn't the locator's.
     OtherKey,
+    /// The trust anchor, which stands at this place, lists no number.
+    NoResources(usize),
     /// The octets of the list at this place are none.
     List(usize, DecodeError),
     /// A member is wrong.
     Member(PathError),
+    /// The members are a valid path, but the issuer of the one at this place isn't the subject of the
+    /// one above it; of the trust anchor, its own.
+    OtherName(usize),
+    /// The members are a valid path, but the RPKI doesn't use the last one's key.
+    UnusedKey,
 }
 
 impl Refusal {
@@ -32,7 +39,10 @@ impl Refusal {
         ensures { result ≡ told_place (refusal_place members self.now) }
     {
         let place = match self {
+            Refusal::NoResources(place) => *place,
             Refusal::Member(error) => error.index,
+            Refusal::OtherName(place) => *place,
+            Refusal::UnusedKey => members.saturating_sub(1),
             Refusal::List(place, _) => members.saturating_add(*place),
             _ => 0,
         };

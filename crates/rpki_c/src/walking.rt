@@ -1,10 +1,11 @@
 //! The walk over a folder's strings, below the trust anchor among them.
-ghost use Rattle.std.specs.Prelude.{◌≡◌, ◌<◌, [], length, Err, IfOk, IfErr};
+ghost use Rattle.std.specs.Prelude.{◌≡◌, ◌≢◌, ◌<◌, [], length, Err, IfOk, IfErr};
 ghost use Rattle.rpki_cert.specs.Verification.{context};
-ghost use Rattle.rpki_path.specs.AskedLists.{by_lists};
+ghost use Rattle.rpki_path.specs.AskedLists.{by_named_lists};
 ghost use Rattle.rpki_keys.specs.RsaSignatures.{IsSignedByRsa};
 ghost use Rattle.rpki_folder.specs.KeptLines.{AreLines};
 ghost use Rattle.rpki_folder.specs.Walks.{at_anchor, IsWhyNone};
+ghost use Rattle.rpki_folder.specs.declared.walk_error.WalkError.TheVariants.{OtherName};
 ghost use Rattle.rpki_c.specs.FolderFates.{IsFirstWithKey};
 ghost use Rattle.rpki_c.specs.FolderFates.Steps.{IsSorted, IsWalked, fate_at, refusal_of};
 ghost use Rattle.rpki_c.specs.FolderTelling.{AreLinesOf, AnswersBelow, AnswersLocated, AnswersGiven, AnswersFolder};
@@ -33,13 +34,16 @@ pub(crate) struct Walked {
     pub(crate) anchor: usize,
 }
 
-// Why there was no walk below the trust anchor at a place.
+// Why there was no walk below the trust anchor at a place. Names aren't checked.
 fn refused(error: WalkError, place: usize) -> Refusal
+    requires { error ≢ OtherName }
     ensures { result ≡ refusal_of place error }
 {
     match error {
         WalkError::Memory => Refusal::Memory,
+        WalkError::OtherName => unreachable!(),
         WalkError::Anchor(LocatedError::OtherKey) => Refusal::OtherKey,
+        WalkError::Anchor(LocatedError::NoResources) => Refusal::NoResources(place),
         WalkError::Anchor(LocatedError::Path(error)) => {
             let fault = error.fault;
             Refusal::Member(PathError {
@@ -59,15 +63,15 @@ fn walk_below(
 ) -> Result<Ended, WalkError>
     ensures walked { let w = walk.now in
         let x = context IsSignedByRsa w.at w.strict in
-        let asked = by_lists x w.folder.now.lists in
+        let asked = by_named_lists w.names x w.folder.now.lists in
         let root = at_anchor tal.now anchor.now in
         let certs = w.folder.now.certs in
         AreLines [] kept.old
-        → IfOk result (IsWalked x asked root certs w.bounds.depth w.bounds.steps kept.new) }
+        → IfOk result (IsWalked x asked w.names root certs w.bounds.depth w.bounds.steps kept.new) }
     ensures fault { let w = walk.now in
         let x = context IsSignedByRsa w.at w.strict in
-        let asked = by_lists x w.folder.now.lists in
-        IfErr result (IsWhyNone x asked tal.now anchor.now) }
+        let asked = by_named_lists w.names x w.folder.now.lists in
+        IfErr result (IsWhyNone x asked w.names tal.now anchor.now) }
     ensures count { length kept.new ≡ length kept.old }
 {
     let issuer = walk.trust_anchor(tal, anchor)?;
@@ -82,17 +86,19 @@ fn with_lines(
     sorted: &Sorted<'_>,
     kept: &Lines,
     anchor: usize,
+    asks_key: bool,
     ended: Ended,
 ) -> Result<Walked, Refusal>
     requires sorted { IsSorted sorted.now }
     requires kept { length kept.now ≡ length sorted.now.folder.certs }
-    ensures lines { IfOk result (λ it. AreLinesOf anchor (fate_at sorted.now kept.now anchor)
-        (length sorted.now.strings.now) it.lines.items) }
+    ensures lines { let strings = sorted.now.strings.now in
+        let fate = fate_at sorted.now kept.now anchor in
+        IfOk result (λ it. AreLinesOf asks_key anchor strings fate (length strings) it.lines.items) }
     ensures ended { IfOk result (λ it. it.ended ≡ ended) }
     ensures anchor { IfOk result (λ it. it.anchor ≡ anchor) }
     ensures memory { IfErr result (λ r. r ≡ Memory) }
 {
-    let lines = sorted.lines(alloc, kept.as_slice(), anchor)?;
+    let lines = sorted.lines(alloc, kept.as_slice(), anchor, asks_key)?;
     Ok(Walked {
         lines,
         ended,
@@ -111,17 +117,18 @@ fn walk_from(
     requires sorted { IsSorted sorted.now }
     requires anchor { IsFirstWithKey tal.now.tal sorted.now.strings.now anchor }
     ensures { let x = context IsSignedByRsa terms.now terms.strict in
-        AnswersBelow x terms.depth terms.steps tal.now sorted.now.strings.now result }
+        AnswersBelow x terms tal.now sorted.now.strings.now result }
 {
     laws::unambiguous();
     let count = sorted.folder.certs().len();
-    let (strict, at) = (terms.strict, terms.now);
+    let (strict, at, asks_key) = (terms.strict, terms.now, terms.asks_key);
     let bounds = terms.bounds(count);
     let walk = Walk {
         alloc,
         folder: &sorted.folder,
         admission: &AllAdmitted,
         bounds,
+        names: false,
         strict,
         at,
         verifier: &RsaVerifier,
@@ -130,7 +137,7 @@ fn walk_from(
     let member = Member::of(&sorted.strings[anchor]);
     match walk_below(&walk, tal, &member, &mut kept) {
         Ok(ended) => {
-            let answer = with_lines(alloc, sorted, &kept, anchor, ended);
+            let answer = with_lines(alloc, sorted, &kept, anchor, asks_key, ended);
             drop(kept);
             answer
         }
@@ -150,7 +157,7 @@ fn walk_sorted(
 ) -> Result<Walked, Refusal>
     requires { IsSorted sorted.now }
     ensures { let x = context IsSignedByRsa terms.now terms.strict in
-        AnswersBelow x terms.depth terms.steps tal.now sorted.now.strings.now result }
+        AnswersBelow x terms tal.now sorted.now.strings.now result }
 {
     let found = sorted.anchor(alloc, tal)?;
     match found {
@@ -167,7 +174,7 @@ fn walk_strings(
     terms: FolderTerms,
 ) -> Result<Walked, Refusal>
     ensures { let x = context IsSignedByRsa terms.now terms.strict in
-        AnswersBelow x terms.depth terms.steps tal.now strings.now result }
+        AnswersBelow x terms tal.now strings.now result }
 {
     let sorted = Sorted::of(alloc, strings)?;
     let answer = walk_sorted(alloc, &sorted, tal, terms);
@@ -183,7 +190,7 @@ fn walk_located(
     terms: FolderTerms,
 ) -> Result<Walked, Refusal>
     ensures { let x = context IsSignedByRsa terms.now terms.strict in
-        AnswersLocated x terms.depth terms.steps file.now strings.now result }
+        AnswersLocated x terms file.now strings.now result }
 {
     let tal = Tal::read_named(alloc, String::new(alloc), file, terms.strict)?;
     let answer = walk_strings(alloc, strings, &tal, terms);

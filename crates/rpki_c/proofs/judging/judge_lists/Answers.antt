@@ -7,4 +7,4 @@ use Rattle.rpki_c.proofs.judging.judge_lists.Goals as goal
 pub returns : goal.returns
 returns g c =
     let x = context (g.V.Verifier.verifies c.args.verifier.now) c.args.terms.now c.args.terms.strict in
-    subst (λ (given : GivenFields). Judges x (by_named_lists given.names x given.lists) c.args.path.now c.judge.result) c.new-asked.ensures c.judge.ensures.judges
+    subst (λ (given : GivenFields). Judges x (by_named_lists given.names x given.lists) c.args.path.now c.judge.result) c.with_names-asked.ensures c.judge.ensures.judges
