@@ -18,6 +18,8 @@ PLACES = [
     ("crates/rpki_command/src/about.rt", r'const VERSION: &str = "rpki \(Gonxebhula\) ', r"\\n"),
     ("crates/rpki_command/specs/AboutTexts.antt", r'codes "rpki \(Gonxebhula\) ', r"\\n"),
     ("include/rpki.h", r'#define RPKI_VERSION "', '"'),
+    ("crates/rpki_c/src/version.rt", 'codes "', r'\\0"'),
+    ("crates/rpki_c/src/version.rt", 'out.text = b"', r'\\0"'),
     ("callers/python/pyproject.toml", r'^version = "', '"'),
     ("callers/python/rpki/__init__.py", r'^__version__ = "', '"'),
     ("callers/rust/Cargo.toml", r'^version = "', '"'),

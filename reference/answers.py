@@ -509,8 +509,11 @@ def folder(words, verifier=ref.stand_in):
     strings = [show.octets_of(word) for word in words.words[7:]]
     octets = show.octets_of(kind_and_digits[2])
     try:
-        if ref.decode_cert(octets).tbs.key != key:
+        tbs = ref.decode_cert(octets).tbs
+        if tbs.key != key:
             return refused('locator OtherKey')
+        if {tbs.v4, tbs.v6, tbs.asn} <= {'missing', 'inherit'}:
+            return refused('locator NoResources')
     except ref.DecodeError:
         pass
     try:

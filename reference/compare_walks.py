@@ -1,8 +1,8 @@
 #!/usr/bin/env python3
 """Compares what the command tells of folders into which a stranger writes with all valid paths.
 
-    python3 reference/compare_walks.py PROGRAM [--names] [--shares] [--count N] [--seed N]
-            [--only INDEX] [--jobs N] [--save FOLDER]
+    python3 reference/compare_walks.py PROGRAM [--shares] [--count N] [--seed N] [--only INDEX]
+            [--jobs N] [--save FOLDER]
 
 PROGRAM is the command, as the gate builds it or as `./rpki` compiles it. Each of N folders (200 if it
 isn't said) is that of strangers.py, half of them with files of a stranger. `tree -o json` tells of
@@ -17,15 +17,11 @@ each folder without these files, and with them. Compared is, for both,
 and, of both together, that each file of the folder to which a path without the stranger's keys leads is
 accepted, whatever the stranger added, and what such a path holds, where the command tells that.
 
-The rules of the walk that hold are said by options, since what is told depends on them:
-
---names    names are one switch: `tree` asks them of certificates and of lists, unless --no-names is
-           given, with which half of the folders are asked. Without it no names are asked.
---shares   what is left of a CA's steps is divided among the CAs below it, and no circle is walked.
-           Then three numbers of steps are asked too, with the walk of walks.py: what is told of a
-           path without the stranger's keys mustn't depend on what the stranger added. Without it
-           a walk is asked that meets no bound but the depth; one that does is only asked whether
-           what it tells is so.
+Names are asked of half of the folders, of certificates and of lists alike; the others are asked with
+--no-names. With --shares it is taken that what is left of a CA's steps is divided among the CAs
+below it. Then three numbers of steps are asked too, with the walk of walks.py: what is told of a path
+without the stranger's keys mustn't depend on what the stranger added. Without it a walk is asked that
+meets no bound but the depth; of one that does, it is only asked whether what it tells is so.
 
 A folder with more than MOST paths isn't asked. A folder that differs is made smaller, by leaving out
 files while it differs, and kept in FOLDER. A folder depends on the seed and its index alone. Prints each
@@ -77,7 +73,7 @@ def tell(program, files, locator, names, depth, steps):
         for name, octets in files.items():
             Path(room, name).write_bytes(octets)
         Path(room, 'ta.tal').write_bytes(locator)
-        words = [] if names is None or names else ['--no-names']
+        words = [] if names else ['--no-names']
         done = subprocess.run(
             [program, 'tree', '-o', 'json', '--at', AT, '--tal', 'ta.tal', '--depth', str(depth),
              '--steps', str(steps), *words, '--', *files], cwd=room, check=False,
@@ -90,7 +86,7 @@ class Folder:
 
     def __init__(self, question, files, names):
         self.names = list(files)
-        self.walks = walks.Walks(list(files.values()), rsa.verifier, bool(names), True,
+        self.walks = walks.Walks(list(files.values()), rsa.verifier, names, True,
                                  random_folders.NOW)
         self.anchor = self.walks.chosen(question.key)
         self.paths, self.wrong = {}, {}
@@ -261,7 +257,7 @@ def bounded_wrongs(program, question, folder, grown, names, rng):
 # ---- a folder
 
 def wrongs_of(question, options, rng, kinds):
-    names = rng.choice([True, False]) if options.names else None
+    names = rng.choice([True, False])
     folder = Folder(question, question.files, names)
     grown = Folder(question, question.with_added(), names)
     answers = []
@@ -347,7 +343,6 @@ def begin():
 def main():
     parser = argparse.ArgumentParser(description='compares what is told of folders')
     parser.add_argument('program')
-    parser.add_argument('--names', action='store_true')
     parser.add_argument('--shares', action='store_true')
     parser.add_argument('--count', type=int, default=200)
     parser.add_argument('--seed', type=int, default=1)

@@ -107,15 +107,17 @@ class Folder:
 
     def reached(self, anchor, strict, now, depth):
         """How many stand above each certificate at least to which a valid path of at most so many
-        leads below the anchor, and whether a CA stands at the depth with some below it.
+        leads below the anchor, and whether a CA stands at the depth with some below it. No path goes
+        on below a key that stands above.
 
-        Paths with the same end and the same resources there go on alike, so one of each is kept.
+        Paths with the same end, the same resources there and the same keys go on alike, so one of
+        each is kept.
         """
         heights, seen, is_bounded = {}, set(), False
-        row = [anchor]
+        row = [(anchor, frozenset([anchor.cert.tbs.key]))]
         for height in range(1, depth + 2):
             following = []
-            for issuer in row:
+            for issuer, keys in row:
                 for place, cert in self.below(issuer):
                     if height > depth:
                         is_bounded = True
@@ -125,10 +127,13 @@ class Folder:
                     except Refusal:
                         continue
                     heights.setdefault(place, height)
-                    state = place, result and (result.v4, result.v6, result.asn)
-                    if kind == CA and state not in seen:
+                    if kind != CA or cert.tbs.key in keys:
+                        continue
+                    keys_below = keys | {cert.tbs.key}
+                    state = place, (result.v4, result.v6, result.asn), keys_below
+                    if state not in seen:
                         seen.add(state)
-                        following.append(result)
+                        following.append((result, keys_below))
             row = following
         return heights, is_bounded
 
@@ -136,14 +141,15 @@ class Folder:
         """What a walk of this depth looks at: the places of the certificates that stand below the
         end of a valid path of fewer than so many, each with whether it is accepted below one; how
         many pairs there are of such a path and a certificate below it; and whether a CA stands at
-        the depth with some below it.
+        the depth with some below it. No path goes on below a key that stands above.
 
-        Paths with the same end and the same resources there are counted together.
+        Paths with the same end, the same resources there and the same keys are counted together.
         """
-        verdicts, steps, row = {}, 0, {None: (anchor, 1)}
+        verdicts, steps = {}, 0
+        row = {None: (anchor, frozenset([anchor.cert.tbs.key]), 1)}
         for _ in range(depth):
             following = {}
-            for issuer, count in row.values():
+            for issuer, keys, count in row.values():
                 for place, cert in self.below(issuer):
                     steps += count
                     verdicts.setdefault(place, False)
@@ -152,11 +158,14 @@ class Folder:
                     except Refusal:
                         continue
                     verdicts[place] = True
-                    if kind == CA:
-                        state = place, result.v4, result.v6, result.asn
-                        following[state] = result, following.get(state, (None, 0))[1] + count
+                    if kind != CA or cert.tbs.key in keys:
+                        continue
+                    keys_below = keys | {cert.tbs.key}
+                    state = place, result.v4, result.v6, result.asn, keys_below
+                    before = following.get(state, (None, None, 0))[2]
+                    following[state] = result, keys_below, before + count
             row = following
-        return verdicts, steps, any(self.below(issuer) for issuer, _ in row.values())
+        return verdicts, steps, any(self.below(issuer) for issuer, _, _ in row.values())
 
 
 def accepted(strings, key, strict, now, verifier=stand_in, depth=32):

@@ -894,8 +894,58 @@ def folders_of_files():
     # the renewal and the first have the key of one that is below both
     yield ('beside, looked at', looked_at(anchor, renewed, first, second, *lists, depth=8),
            ([(1, True), (2, True), (3, True)], 4, False))
+    # nothing is looked at below the circle: its key stands above
     yield ('a circle, looked at', looked_at(anchor, first, second, circle, *lists, depth=4),
-           ([(1, True), (2, True), (3, True)], 4, True))
+           ([(1, True), (2, True), (3, True)], 3, False))
+
+
+FOLDERS = 60                    # random ones into which a stranger writes
+SIGNERS = [random_folders.StandInSigner(bytes([97 + place])) for place in range(7)]
+
+
+def walked(question, files, names):
+    """A folder's walks, its trust anchor, and the valid paths of at most six below it."""
+    found = walks.Walks(list(files.values()), ref.stand_in, names, True, random_folders.NOW)
+    anchor = found.chosen(question.key)
+    return found, anchor, found.all_paths(anchor, 6, 300)[0] if anchor else {}
+
+
+def ends(paths):
+    return {path[-1] for path in paths}
+
+
+def told_free(found, told, keys):
+    """What is told of paths none of whose issuers has a key of the stranger."""
+    certs = {cert.signed.data: cert for _, cert in found.certs}
+    return {path: (tuple(faults), result and (result.v4, result.v6, result.asn))
+            for path, (faults, result) in told.items()
+            if walks.is_free([certs[it] for it in path], keys)}
+
+
+@checks
+def strangers_by_chance():
+    """A walk without bounds accepts what a valid path leads to, by valid paths; and what walks tell of
+    paths without a stranger's keys is the same with the stranger's files, at each number of steps."""
+    for number in range(FOLDERS):
+        rng = random.Random(f'strangers {number}')
+        question, names = strangers.Question(rng, SIGNERS), rng.choice([True, False])
+        try:
+            both = [walked(question, it, names) for it in (question.files, question.with_added())]
+        except walks.TooMany:
+            continue
+        yield (f'strangers {number}, the trust anchor', *(it and it.key() for _, it, _ in both))
+        if both[0][1] is None:
+            continue
+        for found, anchor, paths in both:
+            told, _ = found.walk(anchor, 6, 10 ** 9)
+            accepted = {path for path, (_, result) in told.items() if result is not None}
+            yield f'strangers {number}, no valid path', accepted - set(paths), set()
+            if all(len(path) < 7 for path in paths):
+                yield f'strangers {number}, accepted', ends(accepted), ends(paths)
+        for steps in (rng.randrange(1, 40), rng.randrange(1, 40), 6000):
+            yield (f'strangers {number}, {steps} steps', *(
+                told_free(found, found.walk(anchor, 6, steps)[0], question.keys)
+                for found, anchor, _ in both))
 
 
 FOLDERS = 60                    # random ones into which a stranger writes

@@ -57,14 +57,17 @@ int main(int count, char **words) {
         .anchor = counts[2] == 0 ? RPKI_AS_GIVEN : RPKI_ASK_LOCATOR,
 #if RPKI_ABI > 3
         .key = strchr(words[5], 'k') == NULL ? RPKI_ASK_KEY : RPKI_ANY_KEY,
+        .names = strchr(words[5], 'n') == NULL ? RPKI_ASK_NAMES : RPKI_ANY_NAMES,
 #endif
     };
     static struct rpki_room room;
     struct rpki_verdict verdict;
     if (rpki_path_validate(&question, &room, &verdict) != RPKI_OK) return tell(verdict.fault, verdict.index);
+#if RPKI_ABI < 4
     uint64_t place;
     uint32_t fault = rpki_path_names(&question.members, &place);
     if (strchr(words[5], 'n') == NULL && fault != RPKI_OK) return tell(fault, place);
+#endif
     puts("accepted");
     return 0;
 }

@@ -220,8 +220,10 @@ static uint32_t judge_with(struct rpki_strings lists, struct rpki_strings member
 /* the same, with answers of the caller's */
 static uint32_t judge_said(struct rpki_strings members, uint32_t last, const uint8_t *yes, size_t answers,
                            const struct rpki_time *at, struct rpki_verdict *out) {
-    const struct rpki_question question = about(members, last, at);
+    struct rpki_question question = about(members, last, at);
     struct rpki_room room = {0};
+    /* the test vectors' names don't chain, and their routers have keys of zeros */
+    question.names = RPKI_ANY_NAMES, question.key = RPKI_ANY_KEY;
     return rpki_path_validate_said(&question, yes, answers, &room, out);
 }
 
@@ -277,10 +279,10 @@ static void members(struct file anchor) {
 /* numbers that no fault has: just before, between and just behind those that are faults */
 static void numbers(void) {
     static const uint32_t none[] = {3,   99,  109, 119, 133, 139, 153, 159, 173, 179,  193,
-                                    199, 213, 219, 220, 299, 327, 399, 412, 499, 505,  599,
-                                    602, 699, 705, 1000, 0x80000000, UINT32_MAX};
+                                    199, 213, 219, 220, 299, 327, 399, 412, 499, 506,  599,
+                                    604, 699, 705, 1000, 0x80000000, UINT32_MAX};
     static const uint32_t some[] = {0,   1,   2,   100, 108, 120, 132, 140, 152, 160, 172,
-                                    180, 192, 200, 212, 300, 326, 400, 411, 500, 504, 600, 601,
+                                    180, 192, 200, 212, 300, 326, 400, 411, 500, 505, 600, 603,
                                     700, 704};
     uint64_t count;
     uint8_t octet = 7;
@@ -311,7 +313,7 @@ static void numbers(void) {
           "a name has no 0 at its end, and nothing is written behind it");
 }
 
-/* the header's texts of faults are the library's */
+/* the header's texts of faults are the library's, and its version */
 static void texts(void) {
     for (uint32_t number = 0; number < 1000; number++) {
         uint8_t name[100], sentence[100];
@@ -329,6 +331,10 @@ static void texts(void) {
               "the header's sentence of a fault is the library's");
     }
     check(rpki_name_of_fault(UINT32_MAX) == NULL && rpki_sentence_of_fault(UINT32_MAX) == NULL, "the last number is none");
+    struct rpki_text version = {NULL, 0};
+    check(rpki_version(&version) == RPKI_OK && strcmp(version.text, RPKI_VERSION) == 0
+              && version.size == strlen(RPKI_VERSION) + 1,
+          "the library's version is the header's");
 }
 
 /* whether a struct's memory is its size and zeros behind it */
@@ -846,7 +852,11 @@ static void choices(struct file anchor, struct file list) {
         check(answer(&question, &out) == RPKI_BAD_CALL, "lists are asked, or nobody is");
         question.revocation = RPKI_ASK_NOBODY, question.anchor = none[i];
         check(answer(&question, &out) == RPKI_BAD_CALL, "a locator is asked, or the anchor is as given");
-        question.anchor = RPKI_AS_GIVEN;
+        question.anchor = RPKI_AS_GIVEN, question.key = none[i];
+        check(answer(&question, &out) == RPKI_BAD_CALL, "the last key is asked, or any may stand there");
+        question.key = RPKI_ASK_KEY, question.names = none[i];
+        check(answer(&question, &out) == RPKI_BAD_CALL, "names are asked, or any may stand there");
+        question.names = RPKI_ASK_NAMES;
     }
     static const size_t sizes[] = {0, 1, sizeof question - 8, sizeof question - 1, sizeof question + 1,
                                    sizeof question + 8, SIZE_MAX};
@@ -1060,8 +1070,8 @@ static void routers(struct file anchor, struct file router, struct file refusing
     struct rpki_as_range asn[2];
     struct rpki_verdict out;
     memset(asn, 0xa5, sizeof asn);
-    const struct rpki_question question =
-        about(strings(path.octets, path.length, parts, 2), RPKI_ROUTER, &then);
+    struct rpki_question question = about(strings(path.octets, path.length, parts, 2), RPKI_ROUTER, &then);
+    question.names = RPKI_ANY_NAMES, question.key = RPKI_ANY_KEY;
     struct rpki_room room = {NULL, 0, NULL, 0, asn, 2};
     check(rpki_path_validate_said(&question, yes, 2, &room, &out) == RPKI_OK
               && out.v4 == 0 && out.v6 == 0 && out.asn == 1 && asn[0].min == 1 && asn[0].max == 10
@@ -1173,6 +1183,92 @@ static void chains(const char *folder, struct file list) {
     free(two.octets);
 }
 
+/* a path of two files, and whether its names are asked */
+static uint32_t named(struct file anchor, struct file below, uint32_t names, struct rpki_verdict *out) {
+    static const struct rpki_time at = {2025, 6, 1, 0, 0, 0, 0};
+    const struct file pair[] = {anchor, below};
+    size_t parts[2];
+    struct file path = joined(pair, 2, parts);
+    struct rpki_question question = about(strings(path.octets, path.length, parts, 2), RPKI_AUTHORITY, &at);
+    struct rpki_room room = {0};
+    struct rpki_verdict by_said;
+    question.names = names;
+    uint32_t fault = answer(&question, out);
+    check(rpki_path_validate_said(&question, (const uint8_t[]){1, 1}, 2, &room, &by_said) == fault
+              && memcmp(&by_said, out, sizeof by_said) == 0,
+          "names are asked too where the caller checks signatures");
+    free(path.octets);
+    return fault;
+}
+
+/* names of a path that is judged: they are asked behind all else but the last key, unless waived */
+static void judged_names(const char *folder) {
+    struct file ta = contents(folder, "named/ta.cer"), ca = contents(folder, "named/ca.cer");
+    struct file case_of = contents(folder, "named/ca_other_case.cer"), two = contents(folder, "named/ta_of_two_names.cer");
+    struct file expired = contents(folder, "expired.cer");
+    struct rpki_verdict out;
+    check(named(ta, ca, RPKI_ASK_NAMES, &out) == RPKI_OK && out.index == 0 && out.v4 > 0, "names that chain");
+    check(named(ta, case_of, RPKI_ASK_NAMES, &out) == RPKI_OTHER_NAME && out.index == 1 && out.v4 == 0,
+          "an issuer that isn't the anchor's subject");
+    check(named(ta, case_of, RPKI_ANY_NAMES, &out) == RPKI_OK && out.index == 0 && out.v4 > 0, "that issuer, waived");
+    check(named(two, ca, RPKI_ASK_NAMES, &out) == RPKI_OTHER_NAME && out.index == 0, "an anchor of two names");
+    check(named(two, ca, RPKI_ANY_NAMES, &out) == RPKI_OK, "that anchor, waived");
+    check(named(two, expired, RPKI_ASK_NAMES, &out) / 100 == 4 && out.index == 1, "names are asked behind the path");
+    const struct file files[] = {ta, ca, case_of, two, expired};
+    for (size_t i = 0; i < sizeof files / sizeof *files; i++) free(files[i].octets);
+}
+
+/* lists of another name, though the anchor's key signed them; tests/files/make.py says of each what it
+ * is. The verdict is as in tests/command, which asks rpki validate of them */
+static void named_lists(const char *folder) {
+    static const struct {
+        const char *lists[2];
+        uint32_t asked, waived;
+    } rows[] = {{{"newer.crl", NULL}, RPKI_REVOCATION_WRONG_ISSUER, RPKI_OK},
+                {{"newer_revoking.crl", NULL}, RPKI_REVOCATION_WRONG_ISSUER, RPKI_REVOCATION_REVOKED},
+                {{"newer_stale.crl", NULL}, RPKI_REVOCATION_WRONG_ISSUER, RPKI_REVOCATION_STALE},
+                {{"newer_forged.crl", NULL}, RPKI_REVOCATION_NO_CRL, RPKI_REVOCATION_BAD_SIGNATURE},
+                {{"newer.crl", "plain.crl"}, RPKI_OK, RPKI_OK},
+                {{"newer.crl", "revoking.crl"}, RPKI_REVOCATION_REVOKED, RPKI_OK},
+                {{"older.crl", "revoking.crl"}, RPKI_REVOCATION_REVOKED, RPKI_REVOCATION_REVOKED},
+                {{"newer_revoking.crl", "plain.crl"}, RPKI_OK, RPKI_REVOCATION_REVOKED},
+                {{"newer.crl", "not_yet.crl"}, RPKI_REVOCATION_STALE, RPKI_OK},
+                {{"newer.crl", "forged.crl"}, RPKI_REVOCATION_BAD_SIGNATURE, RPKI_OK}};
+    static const struct rpki_time at = {2025, 6, 1, 0, 0, 0, 0};
+    const struct file members[] = {contents(folder, "nobody/ta.cer"), contents(folder, "nobody/ca.cer")};
+    size_t parts[2], list_parts[2];
+    struct file path = joined(members, 2, parts);
+    struct rpki_question question = about(strings(path.octets, path.length, parts, 2), RPKI_AUTHORITY, &at);
+    struct rpki_verdict out;
+    question.revocation = RPKI_ASK_LISTS;
+    for (size_t i = 0; i < sizeof rows / sizeof *rows; i++) {
+        for (size_t first = 0; first < 2; first++) {
+            struct file lists[2];
+            size_t count = 0;
+            for (size_t j = 0; j < 2; j++) {
+                const char *name = rows[i].lists[(first + j) % 2];
+                char file[64];
+                if (name == NULL) continue;
+                snprintf(file, sizeof file, "nobody/%s", name);
+                lists[count++] = contents(folder, file);
+            }
+            struct file all = joined(lists, count, list_parts);
+            question.lists = strings(all.octets, all.length, list_parts, count);
+            question.names = RPKI_ASK_NAMES;
+            check(answer(&question, &out) == rows[i].asked && out.index == (rows[i].asked != RPKI_OK),
+                  "a list of another name is none");
+            question.names = RPKI_ANY_NAMES;
+            check(answer(&question, &out) == rows[i].waived && out.index == (rows[i].waived != RPKI_OK),
+                  "a list of any name, waived");
+            for (size_t j = 0; j < count; j++) free(lists[j].octets);
+            free(all.octets);
+        }
+    }
+    free(members[0].octets);
+    free(members[1].octets);
+    free(path.octets);
+}
+
 /* an anchor that stands alone and has to have a locator's key, at a moment when it is valid */
 static uint32_t locate(struct file anchor, const void *locator, size_t length, uint32_t strict) {
     static const struct rpki_time at = {2025, 6, 1, 0, 0, 0, 0};
@@ -1257,7 +1353,9 @@ static struct rpki_folder_question in_folder(const struct folder *it, const stru
 }
 
 static int is_line(struct rpki_line it, uint32_t what, uint32_t fault, uint64_t step, uint64_t issuer) {
-    return it.what == what && it.fault == fault && it.step == step && it.issuer == issuer;
+    const int is_judged = what == RPKI_LINE_ACCEPTED || what == RPKI_LINE_REJECTED;
+    return it.what == what && it.fault == fault && it.step == step && it.issuer == issuer
+        && (it.kind >= RPKI_AUTHORITY) == is_judged && it.kind <= RPKI_ROUTER;
 }
 
 /* the lines of the files of examples/, which stand from the place `from` on in this order: the
@@ -1270,6 +1368,9 @@ static void lines_from(struct folder *it, size_t from) {
     check(is_line(lines[at[0]], RPKI_LINE_ACCEPTED, 0, 3, at[1]), "the object is accepted");
     check(is_line(lines[at[1]], RPKI_LINE_ACCEPTED, 0, 2, at[2]), "second.cer is accepted");
     check(is_line(lines[at[2]], RPKI_LINE_ACCEPTED, 0, 1, at[3]), "first.cer is accepted");
+    check(lines[at[0]].kind == RPKI_END_ENTITY && lines[at[1]].kind == RPKI_AUTHORITY
+              && lines[at[2]].kind == RPKI_AUTHORITY,
+          "each is judged as what it says that it is");
     check(is_line(lines[at[3]], RPKI_LINE_ANCHOR, 0, 0, 0), "the anchor is one");
     for (size_t i = 4; i < 7; i++) check(is_line(lines[at[i]], RPKI_LINE_LIST, 0, 0, 0), "a list is one");
     for (size_t i = 7; i < 9; i++) check(is_line(lines[at[i]], RPKI_LINE_NEITHER, 0, 0, 0), "other octets are neither");
@@ -1321,6 +1422,9 @@ static void folders(const char *examples) {
     other.moment.month = 13;
     check(judge_folder(&it, other, 9) == RPKI_BAD_CALL, "there is no month 13");
     other = question;
+    other.key = 2;
+    check(judge_folder(&it, other, 9) == RPKI_BAD_CALL, "keys are asked, or any may stand there");
+    other = question;
     other.locator = NULL, other.locator_length = 0;
     check(judge_folder(&it, other, 9) == RPKI_LOCATOR_NO_KEY, "no octets are no locator");
     struct rpki_walk walk = {7, 7, 7};
@@ -1370,6 +1474,142 @@ static void folders(const char *examples) {
           "where lists are missing the first is rejected, and what is below it unseen");
     for (size_t i = 0; i < 7; i++) free(it.files[i].octets);
     free(it.locator.octets);
+}
+
+/* ---- the last key */
+
+/* the key that the certificate has is told, and whether the RPKI uses it (RFC 7935 3, RFC 8608 3.1) */
+static void key_of(struct file it, uint8_t is_used) {
+    uint64_t count = 7, again = 7;
+    uint8_t told = 7;
+    check(rpki_certificate_key(it.octets, it.length, NULL, 0, &count, &told) == RPKI_OK && told == is_used && count > 0,
+          "a certificate has a key");
+    uint8_t *key = malloc(count + 1);
+    key[count] = 7, told = 7;
+    check(rpki_certificate_key(it.octets, it.length, key, count + 1, &again, &told) == RPKI_OK && again == count
+              && told == is_used && key[count] == 7,
+          "nothing is written behind a key");
+    size_t at = 0;
+    while (at + count <= it.length && memcmp(it.octets + at, key, count) != 0) at++;
+    check(at + count <= it.length && key[0] == 0x30, "it is a SEQUENCE of the certificate");
+    uint8_t first = 7;
+    check(rpki_certificate_key(it.octets, it.length, &first, 1, &again, &told) == RPKI_OK && again == count
+              && first == 0x30,
+          "a key is cut");
+    told = 7;
+    check(is_decoding(rpki_certificate_key(it.octets, it.length - 1, &first, 1, &again, &told)) && again == 0 && told == 0,
+          "a cut certificate has no key");
+    free(key);
+}
+
+/* a certificate below the anchor, whose key the RPKI uses or not: by each call that judges it */
+static void keyed(struct file anchor, struct file list, struct file locator, struct file it, uint32_t last,
+                  int is_used) {
+    static const struct rpki_time at = {2025, 6, 1, 0, 0, 0, 0};
+    const uint32_t wanted = is_used ? RPKI_OK : RPKI_BAD_KEY;
+    const struct file pair[] = {anchor, it};
+    size_t lengths[2];
+    struct file path = joined(pair, 2, lengths);
+    struct rpki_question question = about(strings(path.octets, path.length, lengths, 2), last, &at);
+    struct rpki_verdict out;
+    struct rpki_room room = {0};
+    key_of(it, (uint8_t)is_used);
+    check(answer(&question, &out) == wanted && out.index == !is_used && (is_used || out.v4 == 0),
+          "the last member's key is asked");
+    check(rpki_path_validate_said(&question, (const uint8_t[]){1, 1}, 2, &room, &out) == wanted && out.index == !is_used,
+          "it is asked too where the caller checks signatures");
+    question.key = RPKI_ANY_KEY;
+    check(answer(&question, &out) == RPKI_OK && (last == RPKI_ROUTER || out.v4 + out.v6 + out.asn > 0),
+          "any key may stand there where it isn't asked");
+    struct folder folder = {.files = {it, list, anchor}, .count = 3, .locator = locator};
+    struct rpki_folder_question asked = in_folder(&folder, &at);
+    check(judge_folder(&folder, asked, 3) == RPKI_OK && folder.walk.anchor == 2
+              && (is_used ? is_line(folder.lines[0], RPKI_LINE_ACCEPTED, 0, 1, 2)
+                          : is_line(folder.lines[0], RPKI_LINE_REJECTED, RPKI_BAD_KEY, 1, 0)),
+          "a folder asks the key of each certificate");
+    check(folder.lines[0].kind == last, "it is judged as what it says, whatever its key");
+    asked.key = RPKI_ANY_KEY;
+    check(judge_folder(&folder, asked, 3) == RPKI_OK && is_line(folder.lines[0], RPKI_LINE_ACCEPTED, 0, 1, 2),
+          "or of none");
+    free(path.octets);
+}
+
+static void keys(const char *folder) {
+    static const struct {
+        const char *name;
+        uint32_t last;
+        int is_used;
+    } members[] = {{"keyed/ee_2048.cer", RPKI_END_ENTITY, 1},       {"keyed/ee_1024.cer", RPKI_END_ENTITY, 0},
+                   {"keyed/ee_3072.cer", RPKI_END_ENTITY, 0},       {"keyed/ee_exponent_3.cer", RPKI_END_ENTITY, 0},
+                   {"keyed/ca_2048.cer", RPKI_AUTHORITY, 1},        {"keyed/ca_1024.cer", RPKI_AUTHORITY, 0},
+                   {"keyed/ca_3072.cer", RPKI_AUTHORITY, 0},        {"keyed/ca_exponent_3.cer", RPKI_AUTHORITY, 0},
+                   {"keyed/router.cer", RPKI_ROUTER, 1},            {"keyed/router_compressed.cer", RPKI_ROUTER, 0}};
+    struct file ta = contents(folder, "keyed/ta.cer"), list = contents(folder, "keyed/ta.crl");
+    struct file tal = contents(folder, "keyed/ta.tal");
+    key_of(ta, 1);
+    for (size_t i = 0; i < sizeof members / sizeof *members; i++) {
+        struct file it = contents(folder, members[i].name);
+        keyed(ta, list, tal, it, members[i].last, members[i].is_used);
+        free(it.octets);
+    }
+    free(ta.octets);
+    free(list.octets);
+    free(tal.octets);
+}
+
+/* ---- tables */
+
+/* what a list and its table answer of each number of two octets */
+static void same_answers(struct file list, const struct rpki_serial *table, size_t entries) {
+    static uint8_t serials[65536][20], of_list[65536], of_table[65536];
+    for (size_t i = 0; i < 65536; i++) serials[i][18] = (uint8_t)(i >> 8), serials[i][19] = (uint8_t)i;
+    memset(of_table, 7, sizeof of_table);
+    check(rpki_list_ask(list.octets, list.length, serials[0], sizeof serials, of_list, 65536) == RPKI_OK
+              && rpki_table_ask(table, entries, serials[0], sizeof serials, of_table, 65536) == RPKI_OK
+              && memcmp(of_list, of_table, 65536) == 0,
+          "a table answers as its list does");
+}
+
+/* the tables of lists, with each room, and what is no table */
+static void tables(struct file list, struct file empty, const char *folder) {
+    static const char *const names[] = {"ca1_revoking_ca2.crl", "ta.crl", "sharing/ca_revoking.crl"};
+    struct rpki_serial table[40];
+    uint64_t count = 7;
+    for (size_t i = 0; i < 5; i++) {
+        struct file it = i < 2 ? (i ? empty : list) : contents(folder, names[i - 2]);
+        struct rpki_list read;
+        memset(table, 0xa5, sizeof table);
+        check(rpki_list_read(it.octets, it.length, &read) == RPKI_OK && read.entries <= 40, "a list is read");
+        check(rpki_list_table(it.octets, it.length, table, 40, &count) == RPKI_OK && count == read.entries
+                  && (count == 40 || table[count].hint == 0xa5a5a5a5),
+              "a table has the entries of its list");
+        for (size_t k = 1; k < count; k++)
+            check(memcmp(table[k - 1].serial, table[k].serial, 20) <= 0, "a table ascends");
+        same_answers(it, table, count);
+        for (size_t k = 0; k < count; k++) table[k].hint ^= UINT32_MAX;
+        same_answers(it, table, count);
+        for (size_t room = 0; room <= count; room++) {
+            uint64_t again = 7;
+            check(rpki_list_table(it.octets, it.length, room ? table : NULL, room, &again) == RPKI_OK && again == count,
+                  "the count of a table doesn't depend on the room");
+        }
+        check(is_decoding(rpki_list_table(it.octets, it.length - 1, table, 40, &count)) && count == 0, "a cut list has no table");
+        if (i >= 2) free(it.octets);
+    }
+    uint8_t serial[20] = {0}, answer = 7;
+    check(rpki_table_ask(NULL, 0, serial, 20, &answer, 1) == RPKI_OK && answer == 0, "an empty table has nothing");
+    answer = 7;
+    check(rpki_table_ask(table, 1, serial, 19, &answer, 1) == RPKI_BAD_CALL && answer == 7, "a serial number is cut");
+    check(rpki_table_ask(table, 1, NULL, 0, NULL, 0) == RPKI_OK, "nothing is asked of a table");
+    /* octets that are no table: it ends, and each answer is 0 or 1 */
+    for (uint32_t turn = 0; turn < 1000; turn++) {
+        uint8_t *octets = (uint8_t *)table;
+        for (size_t i = 0; i < sizeof table; i++) octets[i] = (uint8_t)(turn * 31 + i * i * (turn | 1) / 7);
+        for (size_t entries = 0; entries <= 40; entries++) {
+            memcpy(serial, table[entries % 40].serial, 20);
+            check(rpki_table_ask(table, entries, serial, 20, &answer, 1) == RPKI_OK && answer <= 1, "no table, any answer");
+        }
+    }
 }
 
 /* ---- issuing */
@@ -1780,6 +2020,73 @@ static void list_completions(struct rpki_wanted_list wanted, struct rpki_strings
     free(made.octets);
 }
 
+/* a number from a row that goes by all numbers below 2^64 but 0 (Marsaglia, xorshift) */
+static uint64_t next_number(void) {
+    static uint64_t state = 88172645463325252u;
+    state ^= state << 13;
+    state ^= state >> 7;
+    return state ^= state << 17;
+}
+
+/* a list that revokes `count` serial numbers of 20, 10 and 1 octets, with a signature of zeros */
+static struct file long_list(struct rpki_wanted_list wanted, struct rpki_entry *entries, size_t count) {
+    static const uint8_t behind[] = {0x30, 13,   6, 9, 0x2a, 0x86, 0x48, 0x86, 0xf7, 0x0d, 1,
+                                     1,    0x0b, 5, 0, 3,    0x82, 1,    1,    0};
+    for (size_t i = 0; i < count; i++) {
+        memset(&entries[i], 0, sizeof entries[i]);
+        entries[i].date = now;
+        for (size_t k = i % 3 == 0 ? 0 : i % 3 == 1 ? 10 : 19; k < 20; k++) entries[i].serial[k] = (uint8_t)(next_number() >> 40);
+        entries[i].serial[0] &= 0x7f;
+        entries[i].serial[19] |= 1;
+    }
+    wanted.revoked = entries, wanted.revoked_count = count;
+    struct file prepared = list_prepared(wanted, "a long list");
+    size_t content = prepared.length + sizeof behind + 256;
+    struct file it = {malloc(content + 5), content + 5};
+    const uint8_t head[] = {0x30, 0x83, (uint8_t)(content >> 16), (uint8_t)(content >> 8), (uint8_t)content};
+    memcpy(it.octets, head, 5);
+    memcpy(it.octets + 5, prepared.octets, prepared.length);
+    memcpy(it.octets + 5 + prepared.length, behind, sizeof behind);
+    memset(it.octets + it.length - 256, 0, 256);
+    free(prepared.octets);
+    return it;
+}
+
+/* a long list and its table answer alike: of what is on it, of its neighbours, and of other numbers */
+static void long_tables(struct rpki_wanted_list wanted) {
+    enum { COUNT = 3000 };
+    struct rpki_entry *entries = malloc(COUNT * sizeof *entries);
+    struct file list = long_list(wanted, entries, COUNT);
+    uint64_t count = 0;
+    check(rpki_list_table(list.octets, list.length, NULL, 0, &count) == RPKI_OK && count > 2000, "a long list has a table");
+    struct rpki_serial *table = malloc(count * sizeof *table);
+    check(rpki_list_table(list.octets, list.length, table, count, &count) == RPKI_OK, "it is written");
+    uint8_t(*serials)[20] = malloc(4 * COUNT * 20), *of_list = malloc(4 * COUNT), *of_table = malloc(4 * COUNT);
+    for (size_t i = 0; i < COUNT; i++) {
+        for (size_t k = 0; k < 4; k++) memcpy(serials[4 * i + k], entries[i].serial, 20);
+        serials[4 * i + 1][19]--;
+        serials[4 * i + 2][19]++;
+        for (size_t k = 0; k < 20; k++) serials[4 * i + 3][k] = (uint8_t)(next_number() >> 40);
+    }
+    check(rpki_list_ask(list.octets, list.length, serials[0], 4 * COUNT * 20, of_list, 4 * COUNT) == RPKI_OK
+              && rpki_table_ask(table, count, serials[0], 4 * COUNT * 20, of_table, 4 * COUNT) == RPKI_OK
+              && memcmp(of_list, of_table, 4 * COUNT) == 0,
+          "a long table answers as its list does");
+    size_t wrong = 0;
+    for (size_t i = 0; i < COUNT; i++) wrong += of_table[4 * i] != 1 || of_table[4 * i + 1] == 1;
+    check(wrong == 0, "what is on the list is in its table, and even numbers aren't");
+    for (size_t i = 0; i < count; i++) table[i].hint = (uint32_t)next_number();
+    check(rpki_table_ask(table, count, serials[0], 4 * COUNT * 20, of_table, 4 * COUNT) == RPKI_OK
+              && memcmp(of_list, of_table, 4 * COUNT) == 0,
+          "no hint changes an answer");
+    free(entries);
+    free(list.octets);
+    free(table);
+    free(serials);
+    free(of_list);
+    free(of_table);
+}
+
 static void issuing_lists(struct file anchor, struct file first, struct file empty, struct file list) {
     const struct rpki_strings alone = strings(anchor.octets, anchor.length, &anchor.length, 1);
     struct file both = {malloc(anchor.length + first.length), anchor.length + first.length};
@@ -1790,6 +2097,7 @@ static void issuing_lists(struct file anchor, struct file first, struct file emp
     lists_wanted(list_below(alone, empty), list);
     entries_wanted(list_below(alone, empty), list_below(path, list));
     list_completions(list_below(alone, empty), path);
+    long_tables(list_below(alone, empty));
     struct rpki_issued told;
     struct rpki_wanted_list wanted;
     memset(&wanted, 0, sizeof wanted);
@@ -1835,8 +2143,12 @@ int main(int count, char **words) {
     routers(above, router, refusing);
     no_router(anchor, first, second, empty);
     chains(words[3], list);
+    judged_names(words[3]);
+    named_lists(words[3]);
     locators(words[3], list);
     folders(words[1]);
+    keys(words[3]);
+    tables(list, empty, words[3]);
     issuing(anchor, first);
     issuing_lists(anchor, first, empty, list);
     const struct file files[] = {anchor, first, second, object, list, empty, above, router, refusing};

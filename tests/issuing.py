@@ -807,6 +807,7 @@ def try_out():
     if Path('/dev/full').exists():
         fails('a full disk', rpki('prepare', 'ca', *words_of(
             WANTED['ca'] | {'at': AT, 'out': '/dev/full'}), '--force'), 'rpki: /dev/full: ')
+    try_force(octets, is_written, fails)
     sign(octets, 'anchor')
     done = complete(ANCHOR, '--pem', '--out', 'made.pem')
     check('complete --pem --out', done.returncode == 0 and not done.stdout
@@ -815,6 +816,87 @@ def try_out():
     done = rpki('complete', '--out', 'a', '--out', 'b', 'signed.tbs', 'signed.sig')
     check('--out twice: status 2', done.returncode == 2 and b'--out stands twice' in done.stderr,
           done.stderr)
+
+
+def try_force(octets, is_written, fails):
+    """A file that is there is replaced as a whole or stays, and one that is read is never replaced."""
+    def force(out, **changes):
+        return rpki('prepare', 'ca', *words_of(WANTED['ca'] | {'at': AT, 'out': out} | changes),
+                    '--force')
+
+    def stays(what, held=b'before', file='made.tbs'):
+        check(f'{what}: the old file stays', Path(file).read_bytes() == held)
+        check(f'{what}: nothing is left beside it', not list(Path(file).parent.glob('.rpki-*')))
+
+    old = Path('made.tbs')
+    old.write_bytes(b'before')
+    done = subprocess.run([program, 'prepare', 'ca', *words_of(
+        WANTED['ca'] | {'at': AT, 'out': 'made.tbs'}), '--force'], stdin=subprocess.DEVNULL,
+        capture_output=True, preexec_fn=limit_files)
+    fails('--force, and files may have 100 octets', done, 'rpki: made.tbs: ')
+    stays('--force, and files may have 100 octets')
+    Path('disk').mkdir()
+    mounted = subprocess.run(['mount', '-t', 'tmpfs', '-o', 'size=4k', 'tmpfs', 'disk'],
+                             capture_output=True).returncode == 0
+    if mounted:
+        try:
+            Path('disk/made.tbs').write_bytes(b'before')
+            fails('--force on a full disk', force('disk/made.tbs'), 'rpki: disk/made.tbs: ')
+            stays('--force on a full disk', file='disk/made.tbs')
+            fails('--out on a full disk', prepare('ca', out='disk/new.tbs'), 'rpki: disk/new.tbs: ')
+            check('no part of it is left', os.listdir('disk') == ['made.tbs'])
+        finally:
+            subprocess.run(['umount', 'disk'], check=True)
+    else:
+        print('left out: no file system may be mounted')
+    # a link stays, and the mode of the file behind it; the file's other names keep the old octets
+    old.chmod(0o600)
+    os.symlink('made.tbs', 'to')
+    os.link('made.tbs', 'other')
+    is_written('--force through a link', force('to'), octets)
+    check('the link, the mode and the other name stay', os.readlink('to') == 'made.tbs'
+          and old.stat().st_mode & 0o777 == 0o600 and Path('other').read_bytes() == b'before')
+    # what a run left that a signal ended is in nobody's way
+    Path('.rpki-0').write_bytes(b'left')
+    is_written('--force beside a .rpki-0', force('made.tbs'), octets)
+    old.unlink()
+    is_written('--out beside a .rpki-0', prepare('ca', out='made.tbs'), octets)
+    check('which stays', Path('.rpki-0').read_bytes() == b'left' and not Path('.rpki-1').exists())
+    Path('.rpki-0').unlink()
+    # no name beside it
+    Path('taken').mkdir()
+    for number in range(1000):
+        Path(f'taken/.rpki-{number}').touch()
+    Path('taken/made.tbs').write_bytes(b'before')
+    fails('no name beside it', force('taken/made.tbs'), 'too many files .rpki-N')
+    check('no name beside it: the old file stays', Path('taken/made.tbs').read_bytes() == b'before')
+    if os.geteuid() != 0:
+        Path('shut').mkdir()
+        Path('shut/made.tbs').write_bytes(b'before')
+        Path('shut').chmod(0o500)
+        fails('a folder that is shut', force('shut/made.tbs'), 'rpki: shut/made.tbs: permission denied')
+        stays('a folder that is shut', file='shut/made.tbs')
+        old.chmod(0o400)
+        fails('a file that is shut', force('made.tbs'), 'rpki: made.tbs: permission denied')
+        stays('a file that is shut', octets)
+        old.chmod(0o600)
+    # an output that is an input, by its name, by other names of it, by links
+    held = Path('anchor.cer').read_bytes()
+    os.symlink('anchor.cer', 'same.cer')
+    os.link('anchor.cer', 'twin.cer')
+    for out in ['anchor.cer', './anchor.cer', os.path.abspath('anchor.cer'), 'same.cer', 'twin.cer']:
+        for done in [force(out), prepare('ca', out=out)]:
+            fails(f'--out {out} of an issuer', done, f'rpki: {out}: is read too')
+        stays(f'--out {out} of an issuer', held, 'anchor.cer')
+    key = Path('ca.pub').read_bytes()
+    fails('--out of the key', force('ca.pub'), 'rpki: ca.pub: is read too: --out has to name another file')
+    stays('--out of the key', key, 'ca.pub')
+    sign(octets, 'anchor')
+    for out in ['signed.tbs', './signed.sig']:
+        before = Path(out).read_bytes()
+        fails(f'complete --out {out}', complete(ANCHOR, '--force', '--out', out),
+              f'rpki: {out}: is read too')
+        stays(f'complete --out {out}', before, out)
 
 
 def try_help():

@@ -94,7 +94,9 @@ def answer_of(question):
     octets = b''.join(members)
     yes = bytes(is_signed(it, octets) for it in signatures_of(members))
     now = raw.Time(int(at[:4]), *(int(at[i:i + 2]) for i in range(4, 14, 2)))
-    asked = raw.question(members, LAST[kinds[-1]].value, now, mode == 'strict')
+    # the rows ask neither names nor the last key
+    asked = raw.question(members, LAST[kinds[-1]].value, now, mode == 'strict', any_key=True,
+                         any_names=True)
     room = raw.room_for(ROOM, ROOM, ROOM)
     out = raw.Verdict()
     raw.lib.rpki_path_validate_said(

@@ -144,8 +144,9 @@ def extended_key_usage(*purposes):
     return extension('2.5.29.37', seq(*map(oid, purposes)))
 
 
-def policy(identifier='1.3.6.1.5.5.7.14.2', critical=True):
-    return extension('2.5.29.32', seq(seq(oid(identifier))), critical)
+def policy(identifier='1.3.6.1.5.5.7.14.2', critical=True, qualifiers=()):
+    more = [seq(*qualifiers)] if qualifiers else []
+    return extension('2.5.29.32', seq(seq(oid(identifier), *more)), critical)
 
 
 def uri(text):
@@ -458,6 +459,26 @@ def nobody(ta, ca):
     yield 'newer.crl', revocation_list(ta, 8, name=other)
     yield 'newer_revoking.crl', revocation_list(ta, 8, revoked, name=other)
     yield 'newer_stale.crl', revocation_list(ta, 8, end='250101000000Z', name=other)
+    for label, name in (('forged', None), ('newer_forged', other)):
+        by_other = bytearray(revocation_list(ta, 8, name=name))
+        by_other[-1] ^= 1
+        yield f'{label}.crl', bytes(by_other)
+
+
+def bare(ta, ca):
+    """Apart from the others: trust anchors of one key that list nothing (RFC 8630 2.3), one that lists
+    AS numbers alone, a CA that inherits below each of them, and their locator."""
+    full = ca_extensions('ta', ta, ta, 'ta', ['0.0.0.0/0'], ['::/0'], [(0, 2**32 - 1)])
+    rows = (('no_systems', {'ip': None, 'as': systems([])}),
+            ('no_addresses', {'ip': addresses([], []), 'as': None}),
+            ('inheriting', {'ip': addresses('inherit', 'inherit'), 'as': None}),
+            ('systems', {'ip': None}))
+    for place, (name, numbers) in enumerate(rows):
+        yield f'ta_{name}.cer', certificate(
+            ta, ta, 1 + place, changed(full, aki=None, lists=None, issuer=None, **numbers))
+    yield 'ca.cer', certificate(ca, ta, 0xcf01, changed(
+        ca_extensions('ca', ca, ta, 'ta', 'inherit', 'inherit', 'inherit')))
+    yield 'ta.tal', locator(f'{SITE}/ta.cer', ta)
 
 
 def noted(ca, key):
@@ -482,6 +503,23 @@ def noted(ca, key):
         more={'subject': common_name('ROUTER-0000FBF0', 0x0c)}, **{'as': systems([64496])})
     yield 'leaf_with_notify', made(leaf, information=information(
         object=f'{SITE}/ca/leaf.roa', notify='https://rpki.example.net/notification.xml'))
+    place, web = ('object', uri(f'{SITE}/ca/leaf.roa')), 'https://rpki.example.net'
+    yield 'leaf_with_timestamps', made(leaf, information=described(
+        place, ('timestamps', uri(f'{web}/time'))))
+    yield 'leaf_with_two_objects', made(leaf, information=described(
+        place, ('object', uri(f'{web}/leaf.roa'))))
+    yield 'leaf_with_one_object_twice', made(leaf, information=described(place, place))
+    places = [('repository', uri(f'{SITE}/sub/')), ('manifest', uri(f'{SITE}/sub/sub.mft'))]
+    by_rsync = ('notify', uri(f'{SITE}/notification.xml'))
+    yield 'notify_by_rsync', made(information=described(*places, by_rsync))
+    yield 'notify_by_both', made(information=described(
+        *places, by_rsync, ('notify', uri(f'{web}/notification.xml'))))
+    practices = seq(oid('1.3.6.1.5.5.7.2.1'), der(0x16, f'{web}/cps.html'.encode()))
+    notice = seq(oid('1.3.6.1.5.5.7.2.2'), seq(der(0x0c, b'notice')))
+    yield 'policy_practices', made(policy=policy(qualifiers=[practices]))
+    yield 'policy_practices_twice', made(policy=policy(qualifiers=[practices, practices]))
+    yield 'policy_notice', made(policy=policy(qualifiers=[notice]))
+    yield 'policy_practices_notice', made(policy=policy(qualifiers=[practices, notice]))
     yield 'addresses_not_critical', made(ip=addresses(CA2['v4'], CA2['v6'], critical=False))
     yield 'systems_not_critical', made(**{'as': systems(CA2['asn'], critical=False)})
     yield 'addresses_unsorted', made(ip=addresses(CA2['v4'][::-1], CA2['v6']))
@@ -510,8 +548,8 @@ def noted(ca, key):
 
 
 def keyed(ta, router, compressed, *keys):
-    """Apart from the others: a trust anchor and, below it, members whose keys the RPKI uses or not
-    (RFC 7935 3, RFC 8608 3.1), each signed by the trust anchor's."""
+    """Apart from the others: a trust anchor with its list and its locator, and below it members whose
+    keys the RPKI uses or not (RFC 7935 3, RFC 8608 3.1), each signed by the trust anchor's."""
     anchor = ca_extensions('ta', ta, ta, 'ta', ['0.0.0.0/0'], ['::/0'], [(0, 2**32 - 1)])
     yield 'ta.cer', certificate(ta, ta, 1, changed(anchor, aki=None, lists=None, issuer=None))
     for place, (name, key) in enumerate(zip(('2048', *SIZES), keys)):
@@ -521,6 +559,8 @@ def keyed(ta, router, compressed, *keys):
         yield f'ee_{name}', certificate(key, ta, 0x8f10 + place, changed(leaf))
     yield 'router', router_certificate(router, ta, 'ta', 0x8f20, [64496, (65000, 65009)])
     yield 'router_compressed', router_certificate(compressed, ta, 'ta', 0x8f21, [64496])
+    yield 'ta.crl', revocation_list(ta, 7)
+    yield 'ta.tal', locator(f'{SITE}/ta.cer', ta)
 
 
 def locator(place, key):
@@ -589,6 +629,7 @@ def uris(ca, key):
 
 # The folders, and the keys that the files of each take.
 FOLDERS = {'twins': (twins, ('ta', 'ca')), 'nobody': (nobody, ('ta', 'ca')),
+           'bare': (bare, ('ta', 'ca')),
            'sharing': (sharing, ('ta', 'ca', 'leaf')),
            'noted': (noted, ('ca', 'key')), 'wide': (wide, ('ta',)),
            'named': (named, ('ta', 'ca', 'below')), 'uris': (uris, ('ca', 'key')),

@@ -205,7 +205,7 @@ fn lines_made(alloc: Global) -> Option<Told> {
 // and 9 where nothing was told.
 fn kept(lines: &Lines, place: usize) -> usize {
     match lines.as_slice().get(place) {
-        Some(Line::Accepted(above)) => above.len(),
+        Some(Line::Accepted(path)) => path.above.len(),
         Some(Line::Rejected(1, PathFault::Revocation(_))) => 8,
         Some(Line::Unseen) => 9,
         _ => 10,
@@ -341,6 +341,7 @@ fn down(alloc: Global, path: &str, folder: &Folder, tal: &Tal) -> Option<Told> {
         folder,
         admission: &AllAdmitted,
         bounds: Bounds { depth: 3, steps: 9 },
+        names: false,
         strict: true,
         at: new_year()?,
         verifier: &StandIn,

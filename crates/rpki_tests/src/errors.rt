@@ -146,6 +146,7 @@ fn of_paths(rt: HostRuntime) {
             => "Path: certificate 2: out of memory";
         LocatedError::OtherKey
             => "OtherKey: the trust anchor has another key than the locator";
+        LocatedError::NoResources => "NoResources: the trust anchor lists no resources";
     }
 }
 

@@ -121,6 +121,7 @@ fn of_certificates_and_lists(rt: HostRuntime) {
         RevocationError::BadSignature => "";
         RevocationError::Stale => "";
         RevocationError::Revoked => "";
+        RevocationError::WrongIssuer => "";
     }
 }
 

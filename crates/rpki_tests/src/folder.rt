@@ -47,6 +47,7 @@ fn walk<'w, V: Verifier>(
         folder,
         admission: &AllAdmitted,
         bounds,
+        names: false,
         strict: true,
         at: anchors::now(rt),
         verifier,
@@ -76,26 +77,40 @@ fn line(lines: &Lines, place: usize) -> (usize, &'static str) {
     match lines.as_slice().get(place) {
         None => (0, "none"),
         Some(Line::Unseen) => (0, "unseen"),
-        Some(Line::Accepted(above)) => (above.len(), "accepted"),
+        Some(Line::Accepted(path)) => (path.above.len(), "accepted"),
         Some(Line::Rejected(step, fault)) => (*step, fault.name()),
     }
 }
 
+// The authority has the anchor's key: it is judged, and nothing below it is.
 #[test]
-fn a_loop_of_keys_ends_at_the_depth(rt: HostRuntime) {
+fn no_path_goes_in_a_circle(rt: HostRuntime) {
     let alloc = rt.alloc();
     let mut folder = Folder::new(alloc);
     assert!(rt; add(&rt, &mut folder, authority(&rt, alloc)) == Added::Certificate(0));
     assert!(rt; add(&rt, &mut folder, list_octets(&rt, alloc)) == Added::List);
-    let (ended, lines) = walked(&rt, alloc, &folder, 3, 100);
-    assert!(rt; ended == Ended::TooDeep);
+    let (ended, lines) = walked(&rt, alloc, &folder, 3, 1);
+    assert!(rt; ended == Ended::Whole);
     assert!(rt; line(&lines, 0) == (0, "accepted"));
     drop(lines);
     drop(folder);
 }
 
 #[test]
-fn a_loop_of_keys_ends_with_the_steps(rt: HostRuntime) {
+fn a_walk_ends_at_the_depth(rt: HostRuntime) {
+    let alloc = rt.alloc();
+    let mut folder = Folder::new(alloc);
+    add(&rt, &mut folder, authority(&rt, alloc));
+    add(&rt, &mut folder, list_octets(&rt, alloc));
+    let (ended, lines) = walked(&rt, alloc, &folder, 0, 100);
+    assert!(rt; ended == Ended::TooDeep);
+    assert!(rt; line(&lines, 0) == (0, "unseen"));
+    drop(lines);
+    drop(folder);
+}
+
+#[test]
+fn a_walk_ends_with_the_steps(rt: HostRuntime) {
     let alloc = rt.alloc();
     let mut folder = Folder::new(alloc);
     for _ in 0..40 {
@@ -186,22 +201,22 @@ fn an_anchor_of_another_key_begins_no_walk(rt: HostRuntime) {
     drop(folder);
 }
 
-// Two certificates of one key stand side by side, and each is below both: two are told below the
-// anchor, and two below each of these. The second is told first below the first.
+// Two certificates of one key stand side by side: two are told, and none below them, as that key is
+// the anchor's.
 #[test]
-fn renewals_that_lie_side_by_side_are_both_walked(rt: HostRuntime) {
+fn renewals_that_lie_side_by_side_are_both_judged(rt: HostRuntime) {
     let alloc = rt.alloc();
     let mut folder = Folder::new(alloc);
     add(&rt, &mut folder, authority(&rt, alloc));
     add(&rt, &mut folder, authority(&rt, alloc));
     add(&rt, &mut folder, list_octets(&rt, alloc));
-    let (ended, lines) = walked(&rt, alloc, &folder, 2, 5);
+    let (ended, lines) = walked(&rt, alloc, &folder, 2, 1);
     assert!(rt; ended == Ended::OutOfSteps);
     drop(lines);
-    let (ended, lines) = walked(&rt, alloc, &folder, 2, 6);
-    assert!(rt; ended == Ended::TooDeep);
+    let (ended, lines) = walked(&rt, alloc, &folder, 2, 2);
+    assert!(rt; ended == Ended::Whole);
     assert!(rt; line(&lines, 0) == (0, "accepted"));
-    assert!(rt; line(&lines, 1) == (1, "accepted"));
+    assert!(rt; line(&lines, 1) == (0, "accepted"));
     drop(lines);
     drop(folder);
 }

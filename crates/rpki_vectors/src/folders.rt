@@ -39,6 +39,10 @@ fn told(out: &mut Answer, answer: Result<Ended, WalkError>, lines: &Lines) {
         Ok(Ended::OutOfSteps) => out.text("out"),
         Err(WalkError::Anchor(LocatedError::Path(error))) => refused(out, &error),
         Err(WalkError::Anchor(LocatedError::OtherKey)) => out.text("refused locator OtherKey"),
+        Err(WalkError::Anchor(LocatedError::NoResources)) => {
+            out.text("refused locator NoResources")
+        }
+        Err(WalkError::OtherName) => out.text("refused names OtherName"),
         Err(WalkError::Memory) => out.fail(),
     }
 }
@@ -70,6 +74,7 @@ fn walked<V: Verifier>(
             depth: words.number(3) as usize,
             steps: words.number(4) as usize,
         },
+        names: false,
         strict: words.is(1, "strict"),
         at,
         verifier,

@@ -9,7 +9,7 @@ use rpki_cert::ResourceCert;
 use rpki_der::Time;
 use rpki_keys::tal::Tal;
 use rpki_parts::StandIn;
-use rpki_path::{LocatedError, Member, has_locator_key, validate_located};
+use rpki_path::{LocatedError, Member, has_locator_key, test_anchor, validate_located};
 
 // Whether the trust anchor has the locator's key; `none` where no certificate is read.
 fn has_key(out: &mut Answer, tal: &Tal, anchor: &Bytes) {
@@ -26,11 +26,29 @@ fn has_key(out: &mut Answer, tal: &Tal, anchor: &Bytes) {
     }
 }
 
+// Whether the trust anchor can be the locator's, or why it can't; `none` where no certificate is read.
+fn fits(out: &mut Answer, tal: &Tal, anchor: &Bytes) {
+    out.field("fits");
+    match test_anchor(out.alloc(), &Member::of(anchor), tal) {
+        Ok(()) => out.yes(true),
+        Err(LocatedError::OtherKey) => out.text("OtherKey"),
+        Err(LocatedError::NoResources) => out.text("NoResources"),
+        Err(LocatedError::Path(error)) => {
+            if error.is_memory() {
+                out.fail();
+            }
+            drop(error);
+            out.text("none");
+        }
+    }
+}
+
 fn told(out: &mut Answer, answer: Result<ResourceCert, LocatedError>) {
     match answer {
         Ok(last) => validated(out, Ok(last)),
         Err(LocatedError::Path(error)) => validated(out, Err(error)),
         Err(LocatedError::OtherKey) => out.text("refused locator OtherKey"),
+        Err(LocatedError::NoResources) => out.text("refused locator NoResources"),
     }
 }
 
@@ -46,6 +64,7 @@ fn below(words: &Words<'_>, out: &mut Answer, tal: &Tal, anchor: &Bytes, now: Ti
     drop(store);
     told(out, answer);
     has_key(out, tal, anchor);
+    fits(out, tal, anchor);
     Some(())
 }
 
@@ -59,7 +78,7 @@ fn answered(words: &Words<'_>, out: &mut Answer) -> Option<()> {
 }
 
 /// Tells what the last member of a path below a locator holds, or which member is refused, and why,
-/// under the stand-in; and whether the trust anchor has the locator's key.
+/// under the stand-in; and whether the trust anchor has the locator's key, and can be the locator's.
 pub fn located(words: &Words<'_>, out: &mut Answer) {
     if answered(words, out).is_none() {
         out.text("unfit");
