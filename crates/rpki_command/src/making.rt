@@ -1,5 +1,6 @@
 //! Where files are made, and why one can't be.
-ghost use Rattle.std.specs.Prelude.{◌≡◌, [], ◌∷◌, List, None, Option, IfErr, IsFalse, OnErr, OnOk, map};
+ghost use Rattle.std.specs.List.{list_any};
+ghost use Rattle.std.specs.Prelude.{◌≡◌, [], ◌∷◌, List, None, Option, IfErr, IsFalse, OnErr, OnOk, bytes_eq, map};
 ghost use Rattle.rpki_command.specs.Outputs.{Makes, is_among};
 ghost use Rattle.rpki_command.specs.UnreadFiles.{IsWhyUnmade, unmade_text};
 
@@ -118,11 +119,18 @@ impl FileMaker for SystemFiles<'_> {
     }
 }
 
+// Whether a name is one of these, each of which is borrowed.
+fn is_one_of(name: &[u8], names: &[&[u8]]) -> bool
+    ensures { result ≡ list_any (λ other. bytes_eq other.now name.now) names.now }
+{
+    names.iter().any(|other| *other == name)
+}
+
 // Whether a name is one of these.
 fn is_among(name: &[u8], names: &[&[u8]]) -> bool
     ensures { result ≡ is_among name.now (map (λ name. name.now) names.now) }
 {
-    names.iter().any(|other| *other == name)
+    is_one_of(name, names)
 }
 
 /// Makes the file of a name that may be no text, where the files of these names were read. Errs
