@@ -1,4 +1,4 @@
-//! Values of DER (X.690): a cursor over shared octets, pieces that keep their octets, writers, and
+//! Values of DER (X.690): a cursor over shared bytes, pieces that keep their bytes, writers, and
 //! errors.
 pub use rpki_der::{
     Cursor, DecodeError, EncodeError, Field, MAX_LEN, Oid, Piece, enclose, end_extension,

@@ -27,13 +27,13 @@ pub(crate) trait Elements {
         ensures reads { Took (element self.now).read cursor.old result cursor.new }
         ensures keeps { Keeps result cursor.old cursor.new };
 
-    /// For how many blocks room is made before a sequence of so many octets is read: for one of
-    /// seven octets each at least, which is a whole address of IPv4, and of three at most.
+    /// For how many blocks room is made before a sequence of so many bytes is read: for one of
+    /// seven bytes each at least, which is a whole address of IPv4, and of three at most.
     fn room(&self, octets: usize) -> usize
         ensures enough { octets / 7 < result }
         ensures few { result ≤ octets / 3 + 1 };
 
-    /// An element has octets.
+    /// An element has bytes.
     ghost shrinks: { (kind : Self) → Shrinks (element kind).read };
 }
 

@@ -135,7 +135,7 @@ impl Cert {
     ///
     /// # Errors
     ///
-    /// Returns an error if the octets begin with no certificate; which one is unspecified. Returns
+    /// Returns an error if the bytes begin with no certificate; which one is unspecified. Returns
     /// `Memory` if memory runs out.
     ///
     /// # Not checked
@@ -149,10 +149,10 @@ impl Cert {
         Cert::decode_shared(alloc, Bytes::copy_from_slice(alloc, octets)?)
     }
 
-    /// Decodes the certificate at the start of shared octets and ignores what follows (own).
+    /// Decodes the certificate at the start of shared bytes and ignores what follows (own).
     ///
     /// The certificate shares the buffer and keeps all of it alive; a copy ([`Cert::try_clone`])
-    /// copies no octets.
+    /// copies no bytes.
     ///
     /// # Errors
     ///
@@ -172,7 +172,7 @@ impl Cert {
     ///
     /// # Errors
     ///
-    /// Returns an error if the remaining octets begin with no certificate; which one is
+    /// Returns an error if the remaining bytes begin with no certificate; which one is
     /// unspecified.
     ///
     /// # Not checked
@@ -212,7 +212,7 @@ impl Cert {
     ///
     /// # Errors
     ///
-    /// Returns an error if the remaining octets begin with no such content; which one is
+    /// Returns an error if the remaining bytes begin with no such content; which one is
     /// unspecified.
     ///
     /// # Not checked
@@ -241,11 +241,11 @@ impl Cert {
     }
 
     /// Appends the certificate: the SEQUENCE of the to-be-signed part, as it was read or made, the
-    /// algorithm and the signature. For a certificate that was read these are its own octets.
+    /// algorithm and the signature. For a certificate that was read these are its own bytes.
     ///
     /// # Errors
     ///
-    /// Returns `TooLong` if the content would have 2^32 octets or more, or `Memory`. Then nothing
+    /// Returns `TooLong` if the content would have 2^32 bytes or more, or `Memory`. Then nothing
     /// is appended.
     pub fn encode_ref(&self, alloc: Global, out: &mut Vec<u8>) -> Result<(), EncodeError>
         ensures { Writes (signed_part self.now.signed_data) out.old.items result out.new.items }
@@ -253,7 +253,7 @@ impl Cert {
         self.parts.signed_data.encode_ref(alloc, out)
     }
 
-    /// Writes the certificate's octets, as [`Cert::encode_ref`] does, into a buffer of their own.
+    /// Writes the certificate's bytes, as [`Cert::encode_ref`] does, into a buffer of their own.
     ///
     /// # Errors
     ///

@@ -13,7 +13,7 @@ use rpki_der::{EncodeError, Piece, put_extension};
 use std::alloc::{AllocError, Global};
 use std::marker::Model;
 
-/// The octets of the extensions that are added at one place.
+/// The bytes of the extensions that are added at one place.
 #[derive(Drop)]
 pub(crate) struct Added {
     octets: Vec<u8>,
@@ -75,7 +75,7 @@ fn empty_places(alloc: Global, count: usize) -> Result<Vec<Added>, AllocError>
     Ok(places)
 }
 
-/// Gathers the octets of what is added at each of so many places, and behind the last. It looks at
+/// Gathers the bytes of what is added at each of so many places, and behind the last. It looks at
 /// each extension once.
 pub(crate) fn gathered(
     alloc: Global,
@@ -96,7 +96,7 @@ pub(crate) fn gathered(
     Ok(places)
 }
 
-/// Writes the octets of the new extensions: at each place what is added there, and the old
+/// Writes the bytes of the new extensions: at each place what is added there, and the old
 /// extension that the order names.
 pub(crate) fn sequence_octets(
     alloc: Global,

@@ -30,7 +30,7 @@ pub(crate) fn are_unknown(extras: &[Extra]) -> bool
     true
 }
 
-/// Returns whether each is to stand before one of so many places, or behind the last.
+/// Returns whether each is placed before one of so many places, or after the last.
 pub(crate) fn are_placed(extras: &[Extra], count: usize) -> bool
     ensures { IsTrue result ↔ ArePlaced count extras.now }
 {

@@ -21,8 +21,8 @@ use rpki_der::{Cursor, DecodeError, EncodeError, Piece, enclose, tag};
 use std::alloc::{AllocError, Global};
 use std::marker::Model;
 
-/// What a certificate is built of: the values before its extensions, the extensions, each as it
-/// stands, and what stands behind its TBSCertificate (RFC 5280 4.1).
+/// What a certificate is built of: the values before its extensions, the extensions, each as it is,
+/// and what follows its TBSCertificate (RFC 5280 4.1).
 #[derive(Drop)]
 pub(crate) struct Frame {
     pub(crate) before: Vec<Piece>,
@@ -107,8 +107,11 @@ fn certificate_frame(alloc: Global, octets: &Bytes) -> Result<Frame, DecodeError
     read(alloc, octets)
 }
 
-/// Reads what the certificate that the octets begin with is built of. Errs with `NoCertificate`
-/// where they begin with none, or with `Memory`.
+/// Reads what the certificate at the start of the bytes is built of.
+///
+/// # Errors
+///
+/// Returns `NoCertificate` if the bytes start with no certificate, and `Memory`.
 pub(crate) fn frame_of(alloc: Global, octets: &[u8]) -> Result<Frame, RearrangeError>
     ensures ok { IfOk result (λ frame. BeginsWith octets.now frame) }
     ensures rejected { IfErr result (λ e. (order : List ℕ) (extras : List Extra)
@@ -171,8 +174,11 @@ impl Frame {
         Ok(content)
     }
 
-    /// Writes the certificate with the octets of other extensions. Errs with `TooLong` where its
-    /// content would have 2^32 octets or more.
+    /// Writes the certificate with the bytes of other extensions.
+    ///
+    /// # Errors
+    ///
+    /// Returns `TooLong` if its content would have 2^32 bytes or more, and `Memory`.
     pub(crate) fn with_extensions(
         &self,
         alloc: Global,

@@ -22,10 +22,10 @@ pub enum IssueCaError<E> {
     /// The certificate wasn't made, or the signer didn't sign it (own).
     #[error("certificate not signed")]
     Signing(SigningError<E>),
-    /// The certificate's octets weren't written: memory ran out (own).
+    /// The certificate's bytes weren't written: memory ran out (own).
     #[error("certificate not captured: {0}")]
     Encode(EncodeError),
-    /// The certificate's octets couldn't be read again (RFC 6487 4).
+    /// The certificate's bytes couldn't be read again (RFC 6487 4).
     #[error("certificate not read again: {0}")]
     Decode(DecodeError),
     /// The certificate that was read again isn't valid below the issuer (RFC 6487 7.2).
@@ -123,16 +123,16 @@ fn make_and_read<S: Signer>(
 }
 
 /// Issues a CA's certificate with these fields below this issuer (RFC 6487 4): makes and signs it,
-/// writes it, reads it again from its octets, and validates it ([`Cert::validate_ca_at`]). Returns
+/// writes it, reads it again from its bytes, and validates it ([`Cert::validate_ca_at`]). Returns
 /// it with the resources that it holds, and exactly these fields.
 ///
 /// # Errors
 ///
 /// Returns the error of the first step that fails:
 ///
-/// - `Signing`: a content would have 2^32 octets or more, or the signer's error
+/// - `Signing`: a content would have 2^32 bytes or more, or the signer's error
 /// - `Encode`: memory ran out
-/// - `Decode`: the octets don't begin with a certificate: there are no resources, or the IPv4
+/// - `Decode`: the bytes don't begin with a certificate: there are no resources, or the IPv4
 ///   resources aren't whole IPv4 addresses. Otherwise only memory can run out.
 /// - `Validation`: a fault of the profile, or a check of verification that fails, as a signature
 ///   that isn't by the issuer's key

@@ -1,4 +1,4 @@
-//! Certificates are made: fields go in, octets come out.
+//! Certificates are made: fields go in, bytes come out.
 ghost use Rattle.std.specs.Prelude.{◌≡◌, unwrap_or, ◌^◌, ◌<◌, length, Ok, IfOk, IfErr, OnOk};
 ghost use Rattle.rpki_der.specs.declared.error.EncodeError.TheVariants.{Memory};
 ghost use Rattle.rpki_parts.specs.KeyNames.{subject_name};
@@ -100,14 +100,14 @@ impl TbsCert {
         SignedData::sign(alloc, signer, key, self.signature(), octets)
     }
 
-    /// Makes and signs the certificate with these fields. The signer signs exactly the octets that
+    /// Makes and signs the certificate with these fields. The signer signs exactly the bytes that
     /// [`TbsCert::encode_ref`] writes, with the key that `key` names. The fields are used up, also
     /// after an error.
     ///
     /// # Errors
     ///
     /// - `TooLong`: the content of the TBSCertificate or of the whole certificate would have 2^32
-    ///   octets or more
+    ///   bytes or more
     /// - the signer's error, as it is
     /// - `Memory`: memory ran out
     ///

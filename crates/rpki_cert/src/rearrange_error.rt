@@ -8,7 +8,7 @@ use thiserror::Error;
 /// Why a certificate isn't rearranged (own).
 #[derive(Debug, Drop, Error)]
 pub enum RearrangeError {
-    /// The octets begin with no certificate (RFC 6487 4).
+    /// The bytes begin with no certificate (RFC 6487 4).
     #[error("no certificate")]
     NoCertificate,
     /// The order doesn't name each extension once, or an extension is to be added after an index
@@ -18,7 +18,7 @@ pub enum RearrangeError {
     /// An extension to add is of a known kind (own).
     #[error("added extension of a known kind")]
     KnownExtra,
-    /// A content would have 2^32 octets or more (own).
+    /// A content would have 2^32 bytes or more (own).
     #[error("content too long")]
     TooLong,
     /// Memory ran out (own).

@@ -81,7 +81,7 @@ fn make(
     Ok(answer)
 }
 
-/// Rearranges the extensions of the certificate that the octets begin with, and adds others (own).
+/// Rearranges the extensions of the certificate that the bytes begin with, and adds others (own).
 /// At each index is the old extension that the order names; extensions to add come just before the
 /// index that they name, or after the last. Enclosing lengths are adjusted, and the signature's
 /// value stays. What followed the certificate is dropped.
@@ -90,15 +90,15 @@ fn make(
 ///
 /// Returns the first of these errors whose condition holds, or `Memory`:
 ///
-/// - `NoCertificate`: the octets begin with no certificate
+/// - `NoCertificate`: the bytes begin with no certificate
 /// - `NotAnOrder`: the order doesn't name each extension once, or an extension is to be added after
 ///   an index that doesn't exist
 /// - `KnownExtra`: an extension to add is of a known kind
-/// - `TooLong`: a content would have 2^32 octets or more
+/// - `TooLong`: a content would have 2^32 bytes or more
 ///
 /// # Not checked
 ///
-/// Whether the signature verifies: other octets are signed now.
+/// Whether the signature verifies: other bytes are signed now.
 pub fn rearrange(
     alloc: Global,
     octets: &[u8],

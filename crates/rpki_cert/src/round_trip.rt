@@ -1,5 +1,5 @@
 //! What the public clauses give together: a certificate that was made is read again from its own
-//! octets.
+//! bytes.
 ghost use Rattle.std.specs.Prelude.{◌≡◌, ◌^◌, ◌<◌, length, IfOk, IfErr};
 ghost use Rattle.rpki_der.specs.declared.error.EncodeError.TheVariants.{Memory};
 ghost use Rattle.rpki_parts.specs.SignedDatas.{signed_content};

@@ -1,5 +1,5 @@
-//! Certificates are verified, at a moment and under an issuer (RFC 6487 7.2; own: revocation and
-//! the chaining of names are the caller's to ask).
+//! Verifies certificates, at a time and below an issuer (RFC 6487 7.2; own: revocation and name
+//! chaining are checks of their own).
 ghost use Rattle.std.specs.Prelude.{◌≡◌, ◌≢◌, ℕ, ◌↔◌, ◌⊎◌, IsTrue, IsOk, OnOk, IfOk, IfErr};
 ghost use Rattle.rpki_blocks.specs.Sets.{Has};
 ghost use Rattle.rpki_parts.specs.Conditions.{Tests};

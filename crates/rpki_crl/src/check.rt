@@ -1,4 +1,4 @@
-//! Certificates are looked for on the list of their issuer (RFC 6487 7.2, RFC 5280 6.3.3).
+//! Checks certificates against the CRL of their issuer (RFC 6487 7.2, RFC 5280 6.3.3).
 ghost use Rattle.std.specs.Prelude.{◌≡◌, ◌↔◌, Some, IsOk};
 ghost use Rattle.rpki_parts.specs.Conditions.{Tests};
 ghost use Rattle.rpki_cert.specs.Certificates.{CertFields};
@@ -13,7 +13,7 @@ use rpki_der::{Serial, Time};
 use rpki_parts::{Rsync, Verifier};
 
 impl Crl {
-    // Whether this list of the issuer leaves the certificate with the serial number unrevoked.
+    // Whether this CRL of the issuer leaves the certificate with the serial number unrevoked.
     fn check<V: Verifier>(
         &self,
         serial: Serial,
@@ -59,8 +59,8 @@ impl CrlStore {
     ///
     /// # Not checked
     ///
-    /// Whether the CRL's time has begun, whether its issuer is the issuer's subject (RFC 5280 6.3.3
-    /// (b) (1)), and whether it is the newest (own).
+    /// Whether the CRL's thisUpdate has come, whether its issuer is the issuer's subject (RFC 5280
+    /// 6.3.3 (b) (1)), and whether it is the newest (own).
     pub fn check<V: Verifier>(
         &self,
         crl_uri: &Rsync,
@@ -73,7 +73,7 @@ impl CrlStore {
         ensures checks { let x = context (V.verifies verifier.now) now strict in
             Tests (RevocationCheck x issuer.now.cert.fields serial
             (IsUnderUri self.now.pairs crl_uri.now)) revocation_checks result }
-        // Ok exactly where a certificate with this number that names this URI is unrevoked.
+        // Ok if and only if a certificate with this number that names this URI is unrevoked.
         ensures unrevoked { let x = context (V.verifies verifier.now) now strict in
             (c : CertFields) → c.fields.serial ≡ serial
             → c.fields.extensions.crl_uri ≡ Some crl_uri.now

@@ -1,4 +1,4 @@
-//! Revocation lists, read and asked.
+//! CRLs: reading, and the search for a serial number.
 ghost use Rattle.std.specs.Prelude.{◌≡◌, ◌↔◌, ◌^◌, ◌<◌, ◌≤◌, true, false, length, IsTrue, IfOk, IsOk, OnOk, OnErr, IsErrOf, IfSome};
 ghost use Rattle.rpki_der.specs.Answers.{AnswersOrMemoryBy};
 ghost use Rattle.rpki_der.specs.Place.{remaining, Keeps, AnswersOptionalOrMemoryBy, MeansOrMemoryBy};
@@ -24,9 +24,8 @@ use rpki_parts::SignedData;
 use std::alloc::{AllocError, Global};
 use std::marker::Model;
 
-/// A revocation list: what is signed, as it was read or made, with its signature, and the fields
-/// that it has (RFC 5280 5.1, RFC 6487 5). Its serials may stand in a table too, which answers
-/// sooner.
+/// A CRL: its TBSCertList as it was read or made, its signature, and its fields (RFC 5280 5.1,
+/// RFC 6487 5). Its serials may also be in a table, which makes searches faster.
 #[derive(Drop)]
 pub struct Crl {
     list: TbsCertList<RevokedCertificates>,
@@ -50,7 +49,7 @@ impl Model for Crl {
 }
 
 impl Crl {
-    /// Makes the list with these fields and this signed data, without a table.
+    /// Makes the CRL with these fields and this signed data, without a table.
     pub(crate) fn from_parts(list: TbsCertList<RevokedCertificates>, signed_data: SignedData) -> Crl
         ensures { result ≡ record {
           list = record { fields = list; signed_data = signed_data };
@@ -64,7 +63,7 @@ impl Crl {
         }
     }
 
-    // What stands in the SEQUENCE, by the reading function.
+    // Reads the content of the SEQUENCE, by the reading function.
     #[tactic(auto, unfolding(crate::specs::Lists::certificate_list_content_format))]
     fn read_content(alloc: Global, content: &mut Cursor<'_>) -> Result<Crl, DecodeError>
         ensures reads { let format = certificate_list_content_format levels in
@@ -109,12 +108,11 @@ impl Crl {
         Ok(crl)
     }
 
-    /// Decodes the CRL at the start of `octets` and ignores what follows (RFC 5280 5.1, RFC 6487
-    /// 5).
+    /// Decodes the CRL at the start of `octets` and ignores the rest (RFC 5280 5.1, RFC 6487 5).
     ///
     /// # Errors
     ///
-    /// Returns an error if the octets begin with no CRL; which one is unspecified.
+    /// Returns an error if the bytes start with no CRL (which one is unspecified), and `Memory`.
     ///
     /// # Not checked
     ///
@@ -127,10 +125,10 @@ impl Crl {
         Crl::decode_shared(alloc, Bytes::copy_from_slice(alloc, octets)?)
     }
 
-    /// Decodes the CRL at the start of shared octets and ignores what follows (own).
+    /// Decodes the CRL at the start of shared bytes and ignores the rest (own).
     ///
-    /// What is kept shares the buffer and keeps all of it alive; a copy ([`Crl::try_clone`]) copies
-    /// no octets.
+    /// The CRL shares the buffer and keeps all of it alive; a copy ([`Crl::try_clone`]) copies no
+    /// bytes.
     ///
     /// # Errors
     ///
@@ -144,8 +142,12 @@ impl Crl {
         Crl::take_from(alloc, &mut cursor)
     }
 
-    /// Reads the list that stands next, one SEQUENCE (RFC 5280 5.1, RFC 6487 5). Fails if no front
-    /// of the remaining octets is one; which error is returned is unspecified.
+    /// Reads the next CRL, one SEQUENCE (RFC 5280 5.1, RFC 6487 5).
+    ///
+    /// # Errors
+    ///
+    /// Returns an error if the remaining bytes start with no CRL (which one is unspecified), and
+    /// `Memory`.
     #[tactic(auto, using(rpki_der::proofs::FormatAnswers::answers_or_memory_alone, crate::proofs::ListFormats::certificate_list_alone))]
     pub fn take_from(alloc: Global, cursor: &mut Cursor<'_>) -> Result<Crl, DecodeError>
         ensures answers { let format = certificate_list_format levels in
@@ -155,8 +157,8 @@ impl Crl {
         Crl::read(alloc, cursor)
     }
 
-    /// Reads the list where a SEQUENCE stands next. Returns `None` at the end and before another
-    /// identifier octet.
+    /// Reads the CRL if the next value is a SEQUENCE. Returns `None` at the end and before another
+    /// identifier octet (RFC 5280 5.1).
     pub fn take_opt_from(alloc: Global, cursor: &mut Cursor<'_>) -> Result<Option<Crl>, DecodeError>
         ensures answers { let encodes = IsCertificateList in
             AnswersOptionalOrMemoryBy (λ c. c.list) SEQUENCE encodes cursor.old result cursor.new }
@@ -169,7 +171,7 @@ impl Crl {
         }
     }
 
-    /// Reads what stands inside the SEQUENCE of a list, without its identifier and length.
+    /// Reads the content of a CRL's SEQUENCE, without its identifier and length (RFC 5280 5.1).
     #[tactic(auto, using(rpki_der::proofs::FormatAnswers::answers_or_memory_alone, crate::proofs::ListFormats::certificate_list_content_alone))]
     pub fn from_constructed(alloc: Global, content: &mut Cursor<'_>) -> Result<Crl, DecodeError>
         ensures answers { let format = certificate_list_content_format levels in
@@ -179,22 +181,22 @@ impl Crl {
         Crl::read_content(alloc, content)
     }
 
-    /// Returns the fields of what is signed.
+    /// Returns the fields of the TBSCertList (RFC 5280 5.1.2).
     pub fn as_cert_list(&self) -> &TbsCertList<RevokedCertificates>
         ensures { result.now ≡ self.now.list.fields }
     {
         &self.list
     }
 
-    /// Returns what is signed, as it was read or made, and its signature.
+    /// Returns the TBSCertList's bytes, as they were read or made, and the signature.
     pub fn signed_data(&self) -> &SignedData
         ensures { result.now ≡ self.now.list.signed_data }
     {
         &self.signed_data
     }
 
-    /// Sorts the serials into a table, from which later questions are answered. When out of memory
-    /// it leaves the list as it was.
+    /// Sorts the serials into a table, in which later searches are made. If memory runs out, the
+    /// CRL stays as it was.
     pub fn cache_serials(&mut self, alloc: Global) -> Result<(), AllocError>
         ensures list { self.new.list ≡ self.old.list }
         ensures cached { OnOk result (self.new.is_cached ≡ true) }
@@ -217,11 +219,13 @@ impl Crl {
         self.contains_counted(serial).0
     }
 
-    /// Returns whether the list revokes this serial number, and how many serials were looked at to
-    /// tell: without a table those of the entries up to the first that has the serial, or of all;
-    /// with one those at which a search by halving looks, in the serial's bucket or in the whole
-    /// table: at most as many as the number of entries has binary digits, and at least one where
-    /// the list has the serial. Takes no memory.
+    /// Returns whether the CRL revokes this serial number, and how many serials the search read.
+    /// Takes no memory.
+    ///
+    /// Without a table the search reads the entries up to the first with the serial, or all. With
+    /// one it is a binary search in the serial's bucket or in the whole table. It reads at most as
+    /// many serials as the number of entries has binary digits, and at least one if the CRL has the
+    /// serial.
     pub fn contains_counted(&self, serial: Serial) -> (bool, usize)
         ensures revoked { IsTrue result.0 ↔ IsRevoked serial self.now.list.fields.revoked.entries }
         ensures walked { self.now.is_cached ≡ false
@@ -241,9 +245,12 @@ impl Crl {
         }
     }
 
-    /// Appends the list: the SEQUENCE of what is signed, as it was read or made, the algorithm and
-    /// the signature. For a list that was read these are its own octets. Errs with `TooLong` where
-    /// the content would have 2^32 octets or more.
+    /// Appends the CRL: the SEQUENCE of its TBSCertList, as it was read or made, its algorithm and
+    /// its signature (RFC 5280 5.1). A CRL that was read is written as the bytes that were read.
+    ///
+    /// # Errors
+    ///
+    /// Returns `TooLong` if the content would have 2^32 bytes or more, and `Memory`.
     pub fn encode_ref(&self, alloc: Global, out: &mut Vec<u8>) -> Result<(), EncodeError>
         ensures { Writes (signed_part self.now.list.signed_data)
             out.old.items result out.new.items }
@@ -251,7 +258,11 @@ impl Crl {
         self.signed_data.encode_ref(alloc, out)
     }
 
-    /// Writes the list's octets, as [`Crl::encode_ref`] does, into a buffer of their own.
+    /// Writes the CRL's bytes, as [`Crl::encode_ref`] does, into a buffer of their own.
+    ///
+    /// # Errors
+    ///
+    /// As [`Crl::encode_ref`].
     pub fn to_captured(&self, alloc: Global) -> Result<Bytes, EncodeError>
         ensures ok { IfOk result (λ octets. octets ≡ signed_data self.now.list.signed_data) }
         ensures too_long { IsErrOf result EncodeError.TooLong
@@ -264,7 +275,7 @@ impl Crl {
         Ok(Bytes::from_vec(octets).map_err(AllocError::from)?)
     }
 
-    /// Clones the list, with a table where this one has one.
+    /// Clones the CRL, and its table if it has one.
     pub fn try_clone(&self, alloc: Global) -> Result<Crl, AllocError>
         ensures { IfOk result (λ c. c ≡ self.now) }
     {

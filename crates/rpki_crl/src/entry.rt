@@ -1,4 +1,4 @@
-//! An entry of a certificate revocation list.
+//! An entry of a CRL.
 ghost use Rattle.std.specs.Prelude.{◌≡◌, ◌<◌, ◌++◌, length, take, OnOk, OnErr, IfErr};
 ghost use Rattle.rpki_der.specs.Place.{remaining, Keeps, AnswersOptionalBy};
 ghost use Rattle.rpki_der.specs.Answers.{AnswersBy};
@@ -12,17 +12,17 @@ ghost use Rattle.rpki_crl.specs.RevokedEntries.Views.{entry_of};
 use rpki_der::{Cursor, DecodeError, EncodeError, Serial, Time, end_value, tag};
 use std::alloc::Global;
 
-/// A revoked certificate: its serial number, and the moment of its revocation (RFC 5280 5.1.2.6).
+/// A revoked certificate: its serial number, and its revocation date (RFC 5280 5.1.2.6).
 #[derive(Clone, Copy)]
 pub struct CrlEntry {
     /// The serial number of the certificate.
     pub user_certificate: Serial,
-    /// The moment from which it is revoked.
+    /// The time from which it is revoked.
     pub revocation_date: Time,
 }
 
 impl CrlEntry {
-    /// Makes the entry with this serial number and moment.
+    /// Makes the entry with this serial number and time.
     pub fn new(user_certificate: Serial, revocation_date: Time) -> CrlEntry
         ensures serial { result.user_certificate ≡ user_certificate }
         ensures date { result.revocation_date ≡ revocation_date }
@@ -33,7 +33,7 @@ impl CrlEntry {
         }
     }
 
-    // What stands in the SEQUENCE, by the reading function.
+    // Reads the content of the SEQUENCE, by the reading function.
     #[tactic(auto, unfolding(crate::specs::RevokedEntries::entry_content_format))]
     #[inline(always)]
     fn take_content(content: &mut Cursor<'_>) -> Result<CrlEntry, DecodeError>
@@ -51,7 +51,7 @@ impl CrlEntry {
         })
     }
 
-    // The entry that stands next, by the reading function.
+    // Reads the next entry, by the reading function.
     #[tactic(auto, unfolding(crate::specs::RevokedEntries::entry_format))]
     #[inline(always)]
     fn take_entry(cursor: &mut Cursor<'_>) -> Result<CrlEntry, DecodeError>
@@ -67,7 +67,11 @@ impl CrlEntry {
         Ok(entry)
     }
 
-    /// Reads the SEQUENCE of a serial number and a time that must stand next (RFC 5280 5.1).
+    /// Reads the next entry: the SEQUENCE of a serial number and a time (RFC 5280 5.1).
+    ///
+    /// # Errors
+    ///
+    /// Returns an error if the next value is no entry.
     #[tactic(auto, using(rpki_der::proofs::FormatAnswers::answers_alone, crate::proofs::EntryReads::entry_alone))]
     #[inline(always)]
     pub fn take_from(cursor: &mut Cursor<'_>) -> Result<CrlEntry, DecodeError>
@@ -76,8 +80,8 @@ impl CrlEntry {
         CrlEntry::take_entry(cursor)
     }
 
-    /// Reads the entry where a SEQUENCE stands next. Returns `None` at the end and before another
-    /// identifier octet.
+    /// Reads the entry if the next value is a SEQUENCE. Returns `None` at the end and before
+    /// another identifier octet (RFC 5280 5.1).
     pub fn take_opt_from(cursor: &mut Cursor<'_>) -> Result<Option<CrlEntry>, DecodeError>
         ensures answers { AnswersOptionalBy entry_of SEQUENCE IsEntry cursor.old result cursor.new }
         ensures keeps { Keeps result cursor.old cursor.new }
@@ -88,7 +92,7 @@ impl CrlEntry {
         }
     }
 
-    /// Reads what stands inside the SEQUENCE of an entry, without its identifier and length.
+    /// Reads the content of an entry's SEQUENCE, without its identifier and length (RFC 5280 5.1).
     #[tactic(auto, using(rpki_der::proofs::FormatAnswers::answers_alone, crate::proofs::EntryReads::entry_content_alone))]
     pub fn from_constructed(content: &mut Cursor<'_>) -> Result<CrlEntry, DecodeError>
         ensures { AnswersBy entry_of entry_content_format content.old result content.new }
@@ -96,7 +100,7 @@ impl CrlEntry {
         CrlEntry::take_content(content)
     }
 
-    // Appends both, or a part of them where memory runs out.
+    // Appends both, or a part of them if memory runs out.
     #[tactic(auto, unfolding(crate::specs::RevokedEntries::entry_content_format))]
     fn append_content(self, alloc: Global, out: &mut Vec<u8>) -> Result<(), EncodeError>
         ensures ok { OnOk result
@@ -109,8 +113,11 @@ impl CrlEntry {
         self.revocation_date.encode_varied(alloc, out)
     }
 
-    /// Appends the entry: the SEQUENCE of its serial number and its time (RFC 5280 5.1). The only
-    /// error is `Memory`.
+    /// Appends the entry: the SEQUENCE of its serial number and its time (RFC 5280 5.1).
+    ///
+    /// # Errors
+    ///
+    /// Returns `Memory` only.
     #[tactic(auto, unfolding(crate::specs::RevokedEntries::entry_format))]
     pub fn encode(self, alloc: Global, out: &mut Vec<u8>) -> Result<(), EncodeError>
         ensures ok { OnOk result (out.new.items ≡ out.old.items ++ entry (entry_of self)) }

@@ -1,4 +1,4 @@
-//! The extensions of a revocation list, in one pass, whatever order they stand in.
+//! Reads the extensions of a CRL in one pass, in any order.
 ghost use Rattle.std.specs.Prelude.{◌≡◌, ◌⊎◌, true, false, OnOk, OnErr, IfErr};
 ghost use Rattle.rpki_der.specs.Primitives.{IsOid};
 ghost use Rattle.rpki_der.specs.Place.{remaining};
@@ -15,7 +15,7 @@ use rpki_ext::{take_authority_key_identifier, take_extension};
 use rpki_parts::KeyIdentifier;
 use std::alloc::Global;
 
-/// The kinds of extensions that revocation lists know (RFC 6487 5).
+/// The kinds of extensions that a CRL may have (RFC 6487 5).
 #[derive(Clone, Copy)]
 enum ListKind {
     AuthorityKeyIdentifier,
@@ -23,7 +23,7 @@ enum ListKind {
 }
 
 impl ListKind {
-    // What errors call it.
+    // The name that errors give it.
     fn field(self) -> Field
         ensures { result ≡ field_of self }
     {
@@ -34,7 +34,7 @@ impl ListKind {
     }
 }
 
-// The kind that an identifier names; `None` where it isn't known.
+// The kind that an identifier names; `None` if it isn't known.
 fn kind_of(identifier: &[u8]) -> Option<ListKind>
     ensures { NamesListKind identifier.now result }
 {
@@ -47,7 +47,7 @@ fn kind_of(identifier: &[u8]) -> Option<ListKind>
     }
 }
 
-/// What the extensions of a revocation list give.
+/// The values of a CRL's extensions.
 #[derive(Clone, Copy)]
 pub(crate) struct CrlExtensions {
     pub(crate) authority_key_identifier: KeyIdentifier,
@@ -70,7 +70,7 @@ fn refuse(alloc: Global, identifier: &[u8]) -> DecodeError
     }
 }
 
-/// What the extensions that were seen so far gave.
+/// The values of the extensions that were read so far.
 #[derive(Clone, Copy)]
 struct ReadListExtensions {
     authority_key_identifier: Option<KeyIdentifier>,
@@ -166,7 +166,7 @@ impl ReadListExtensions {
 }
 
 impl CrlExtensions {
-    // What was seen, if both kinds were; else the first that wasn't is named.
+    // The values, if both kinds were read; else an error that names the first missing kind.
     fn complete(seen: ReadListExtensions) -> Result<CrlExtensions, DecodeError>
         ensures reads { ReturnsBy extensions_view result (both_seen (sights_of seen)) }
         ensures named { IfErr result (λ e. e ≡ DecodeError.Missing (field_of (first_unseen seen))) }
@@ -183,7 +183,11 @@ impl CrlExtensions {
         })
     }
 
-    /// Reads all extensions of a list, and returns what they give (RFC 6487 5).
+    /// Reads all extensions of a CRL and returns their values (RFC 6487 5).
+    ///
+    /// # Errors
+    ///
+    /// Returns an error if an extension is unknown, repeated, malformed or missing, and `Memory`.
     #[tactic(auto, unfolding(crate::specs::ListExtensions::list_extensions_of))]
     pub(crate) fn from_row(
         alloc: Global,

@@ -1,4 +1,4 @@
-//! The fields of a revocation list that is being made: setters, and a small question.
+//! The fields of a CRL that is being made: setters, and the check of its nextUpdate.
 ghost use Rattle.std.specs.Prelude.{◌≡◌, ◌↔◌, ◌<◌, IsTrue};
 ghost use Rattle.rpki_der.specs.Times.{second_number};
 
@@ -7,7 +7,7 @@ use rpki_der::{Serial, Time};
 use rpki_parts::{KeyIdentifier, Name, RpkiSignatureAlgorithm};
 
 impl<C: Drop> TbsCertList<C> {
-    /// Sets the algorithm that stands inside the signed data (RFC 5280 5.1.2.2).
+    /// Sets the algorithm inside the TBSCertList (RFC 5280 5.1.2.2).
     pub fn set_signature(&mut self, signature: RpkiSignatureAlgorithm)
         ensures { self.new ≡ record self.old { algorithm = signature } }
     {
@@ -21,14 +21,14 @@ impl<C: Drop> TbsCertList<C> {
         self.issuer = issuer;
     }
 
-    /// Sets the moment at which the list was made (RFC 5280 5.1.2.4).
+    /// Sets thisUpdate, the time at which the CRL was made (RFC 5280 5.1.2.4).
     pub fn set_this_update(&mut self, this_update: Time)
         ensures { self.new ≡ record self.old { this_update = this_update } }
     {
         self.this_update = this_update;
     }
 
-    /// Sets the moment by which the next list is to be made (RFC 5280 5.1.2.5).
+    /// Sets nextUpdate, the time by which the next CRL is due (RFC 5280 5.1.2.5).
     pub fn set_next_update(&mut self, next_update: Time)
         ensures { self.new ≡ record self.old { next_update = next_update } }
     {
@@ -51,7 +51,7 @@ impl<C: Drop> TbsCertList<C> {
         self.extensions.authority_key_identifier = identifier;
     }
 
-    /// Sets the number of the list (RFC 5280 5.2.3).
+    /// Sets the CRL number (RFC 5280 5.2.3).
     pub fn set_crl_number(&mut self, crl_number: Serial)
         ensures { let extensions = record self.old.extensions { crl_number = crl_number } in
             self.new ≡ record self.old { extensions = extensions } }
@@ -61,7 +61,7 @@ impl<C: Drop> TbsCertList<C> {
 }
 
 impl<C> TbsCertList<C> {
-    /// Returns whether the next list was to be made before this moment.
+    /// Returns whether nextUpdate is before this time (RFC 5280 5.1.2.5).
     pub fn is_stale(&self, now: Time) -> bool
         ensures { IsTrue result ↔ (second_number self.now.next_update < second_number now) }
     {

@@ -1,4 +1,4 @@
-//! An extension that a revocation list may not have.
+//! The error of an extension that a CRL may not have.
 ghost use Rattle.std.specs.Prelude.{◌≡◌, IfOk, codes};
 
 use rpki_der::{DecodeError, Oid};
@@ -7,7 +7,7 @@ use std::fmt;
 use std::fmt::{Display, Formatter, Write};
 use std::marker::Model;
 
-/// A revocation list has an extension that none may have (RFC 6487 5).
+/// A CRL has an extension that no CRL may have (RFC 6487 5).
 #[derive(Debug, Drop)]
 pub struct InvalidExtension {
     oid: Oid,
@@ -22,7 +22,7 @@ impl Model for InvalidExtension {
 }
 
 impl InvalidExtension {
-    /// Makes the error of an extension under this identifier.
+    /// Makes the error of an extension with this identifier.
     pub fn new(oid: Oid) -> InvalidExtension
         ensures { result ≡ oid }
     {

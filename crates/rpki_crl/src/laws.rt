@@ -9,9 +9,9 @@ ghost use Rattle.rpki_parts.specs.SignedDatas.{signed_data};
 ghost use Rattle.rpki_crl.specs.Lists.{CrlFields, ListFields, ListFits, IsMadeList, IsTbsCertList, IsCertificateList, IsCertificateListWithin, list_encoding};
 ghost use Rattle.rpki_crl.specs.RevokedEntries.{Entry, Revoked, AreEntries, IsRevokedCertificates, FitsEntry, entries};
 
-/// Says that a string begins with at most one revocation list, with its fields and entries, and
-/// that no list's octets are a proper beginning of another's. This holds also of what is signed in
-/// it, and of the list of entries, present or absent.
+/// States that a string of bytes starts with at most one CRL, with its fields and entries, and
+/// that no CRL's bytes are a proper prefix of another's. This also holds for the TBSCertList, and
+/// for the revokedCertificates, present or absent.
 pub fn unambiguous()
     ensures list { IsUnambiguous IsCertificateList }
     ensures data { IsUnambiguous IsTbsCertList }
@@ -20,22 +20,21 @@ pub fn unambiguous()
         → BeginsOrAbsent SEQUENCE IsRevokedCertificates b s tail → (r ≡ s) × (rest ≡ tail) }
 {}
 
-/// Says that a sequence of octets is at most one list of entries.
+/// States that a sequence of bytes is at most one sequence of entries.
 pub fn one_row()
     ensures { (ds es : List Entry) (b : List ℕ) → AreEntries ds b → AreEntries es b → ds ≡ es }
 {}
 
-/// Says that a list's octets are the SEQUENCE of what is signed, its algorithm and its signature as
-/// they are kept. So what is written of a list that was read are the octets that were read.
+/// States that a CRL's bytes are the SEQUENCE of its TBSCertList, its algorithm and its signature
+/// as they are kept. A CRL that was read is therefore written as the bytes that were read.
 pub fn octets_are_kept()
     ensures { (r : CrlFields) (b : List ℕ) → IsCertificateList r b → b ≡ signed_data r.signed_data }
 {}
 
-/// Says that what is written of fields is a TBSCertList of these fields, through every form of
-/// length, where the fields have an encoding. A list whose signed octets are that encoding is read
-/// from its own octets, where its signature names the algorithm that was asked for, and they fit.
-/// What is made of entries is read as these entries, where their serial numbers are below 2^160
-/// and their moments exist. There are such fields.
+/// States that fields which have an encoding are written as a TBSCertList of these fields, with
+/// every form of length. A CRL whose signed bytes are that encoding is read from its own bytes, if
+/// its signature names the requested algorithm and its length fits. Entries are read as they were
+/// written, if their serial numbers are below 2^160 and their times exist. Such fields exist.
 pub fn written_is_read()
     ensures data { (f : ListFields Revoked) → ListFits f → IsTbsCertList f (list_encoding f) }
     ensures list { (r : CrlFields) → IsMadeList r
@@ -44,10 +43,9 @@ pub fn written_is_read()
     ensures premises { (f : ListFields Revoked) × ListFits f }
 {}
 
-/// Says that a revocation list under one bound of depth is one under a greater bound, with the
-/// octets, fields and entries that it has: the bound concerns its issuer's name alone. So what
-/// readers took when skipped values might stand 16 deep is read under today's 32, at the front of
-/// whatever octets, with the rest that it had.
+/// States that a CRL under one bound of depth is a CRL under a greater bound, with the same bytes,
+/// fields and entries: the bound concerns its issuer's name alone. A CRL that was read with a bound
+/// of 16 is therefore read with today's 32, at the start of any bytes, with the same rest.
 pub fn still_read()
     ensures general { (d e : ℕ) (r : CrlFields) (b : List ℕ) → d ≤ e
         → IsCertificateListWithin d r b → IsCertificateListWithin e r b }

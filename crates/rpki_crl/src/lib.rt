@@ -1,4 +1,4 @@
-//! Revocation lists (RFC 5280 5, RFC 6487 5).
+//! CRLs: certificate revocation lists (RFC 5280 5, RFC 6487 5).
 #![tactic(auto)]
 
 mod check;

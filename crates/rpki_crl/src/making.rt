@@ -1,4 +1,4 @@
-//! Revocation lists are made: fields go in, octets come out.
+//! Makes CRLs: fields go in, bytes come out.
 ghost use Rattle.std.specs.Prelude.{◌≡◌, ◌^◌, ◌<◌, length, Ok, IfOk, IfErr, OnOk, false};
 ghost use Rattle.std.specs.Iterator.{IsFinite};
 ghost use Rattle.rpki_der.specs.declared.error.EncodeError.TheVariants.{Memory};
@@ -17,7 +17,7 @@ use rpki_parts::{SignedData, Signer, SigningError};
 use std::alloc::{AllocError, Global};
 
 impl TbsCertList<RevokedCertificates> {
-    // The octets that `encode_ref` writes, with the signer's signature.
+    // The bytes that `encode_ref` writes, with the signer's signature.
     #[tactic(auto, unfolding(crate::specs::Lists::list_format))]
     fn sign<S: Signer>(
         &self,
@@ -40,7 +40,7 @@ impl TbsCertList<RevokedCertificates> {
         SignedData::sign(alloc, signer, key, self.signature(), octets)
     }
 
-    // The list with these fields and this signature.
+    // The CRL with these fields and this signature.
     fn signed_by<S: Signer>(
         self,
         alloc: Global,
@@ -67,8 +67,11 @@ impl TbsCertList<RevokedCertificates> {
 }
 
 impl<C: IntoIterator<Item = CrlEntry>> TbsCertList<C> {
-    /// Writes the entries as octets, in their order, and keeps the other data. The only error is
-    /// `Memory`.
+    /// Encodes the entries, in their order, and keeps the other fields.
+    ///
+    /// # Errors
+    ///
+    /// Returns `Memory` only.
     pub fn to_revoked(self, alloc: Global) -> Result<TbsCertList<RevokedCertificates>, EncodeError>
         requires { (it : C.IntoIter) → C.into_iter_gives self.revoked it →
             C.IntoIter.can_next it × IsFinite (C.IntoIter.remaining it) }
@@ -97,10 +100,14 @@ impl<C: IntoIterator<Item = CrlEntry>> TbsCertList<C> {
         })
     }
 
-    /// Makes the list with these fields. The signer signs exactly the octets that are kept, with
-    /// the key that `key` names, and the entries are those of the iterator, in their order. The
-    /// signer's error is passed on. Errs with `TooLong` also where the data or the whole list would
-    /// have a content of 2^32 octets or more.
+    /// Makes the CRL with these fields (RFC 5280 5.1, RFC 6487 5). The signer signs exactly the
+    /// bytes that are kept, with the key that `key` names. The entries are those of the iterator,
+    /// in their order.
+    ///
+    /// # Errors
+    ///
+    /// Returns the signer's error if it fails, `TooLong` if the content of the TBSCertList or of
+    /// the CRL would have 2^32 bytes or more, and `Memory`.
     pub fn into_crl<S: Signer>(
         self,
         alloc: Global,

@@ -6,24 +6,24 @@ use thiserror::Error;
 /// Why a certificate isn't found unrevoked (RFC 6487 7.2, RFC 5280 6.3.3).
 #[derive(Debug, Clone, Copy, PartialEq, Eq, Error)]
 pub enum RevocationError {
-    /// No list is stored under the URI.
+    /// No CRL is stored under the URI.
     #[error("missing revocation list")]
     NoCrl,
-    /// The list names another key than the issuer's as the one that signs it.
+    /// The CRL's authority key identifier isn't that of the issuer's key (RFC 5280 5.2.1).
     #[error("wrong authority key identifier of the revocation list")]
     WrongKeyId,
-    /// The issuer's key didn't sign the list.
+    /// The issuer's key didn't sign the CRL.
     #[error("bad signature of the revocation list")]
     BadSignature,
-    /// The moment isn't within the list's time: its next update was due before it, or, of lists
-    /// that are given, the list's own time begins after it.
+    /// The validation time isn't within the CRL's times: its nextUpdate is before it, or, if CRLs
+    /// are given, its thisUpdate is after it.
     #[error("stale revocation list")]
     Stale,
-    /// The list has the serial number.
+    /// The CRL has the serial number.
     #[error("certificate revoked")]
     Revoked,
-    /// Of lists that are given and whose issuer names are compared: the issuer's key signed one,
-    /// which has another issuer, and none has the issuer's name.
+    /// CRLs are given, their issuer names are compared, the issuer's key signed one of them, and no
+    /// such CRL has the issuer's name (RFC 5280 6.3.3 (b) (1)).
     #[error("wrong issuer of the revocation list")]
     WrongIssuer,
 }

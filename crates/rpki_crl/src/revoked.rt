@@ -1,4 +1,4 @@
-//! The list of entries of a certificate revocation list.
+//! The revoked certificates of a CRL.
 ghost use Rattle.std.specs.Prelude.{◌≡◌, ◌↔◌, IsTrue, IfOk, IfErr, map};
 ghost use Rattle.rpki_der.specs.declared.error.EncodeError.TheVariants.{Memory};
 ghost use Rattle.rpki_der.specs.Place.{remaining, Keeps};
@@ -17,8 +17,8 @@ use rpki_der::{Cursor, DecodeError, EncodeError, Piece, Serial, put_value, tag};
 use std::alloc::{AllocError, Global};
 use std::marker::Model;
 
-/// The revoked certificates of a list, kept as the octets that encode them: always a SEQUENCE OF
-/// entries, without identifier and length.
+/// The revoked certificates of a CRL, kept as the bytes that encode them: always a SEQUENCE OF
+/// entries, without identifier and length (RFC 5280 5.1.2.6).
 #[derive(Drop)]
 pub struct RevokedCertificates {
     octets: Piece,
@@ -36,7 +36,7 @@ impl Model for RevokedCertificates {
     ghost invariant = { λ r. entries_pass r.octets ≡ Some tt };
 }
 
-/// The entries of a list, in their order.
+/// The entries of a CRL, in their order.
 #[derive(Drop)]
 pub struct RevokedCertificatesIter<'a> {
     rest: Cursor<'a>,
@@ -76,7 +76,7 @@ impl<'a> Iterator for RevokedCertificatesIter<'a> {
     }
 }
 
-// Checks that the remaining octets are a sequence of entries.
+// Checks that the remaining bytes are a sequence of entries.
 fn check(cursor: &Cursor<'_>) -> Result<(), DecodeError>
     ensures { Returns result (entries_pass (remaining cursor.now)) }
 {
@@ -98,7 +98,7 @@ fn kept(alloc: Global, content: &mut Cursor<'_>) -> Result<RevokedCertificates, 
 }
 
 impl RevokedCertificates {
-    // No entries, in a vector without octets.
+    // No entries, in an empty vector.
     fn none() -> RevokedCertificates
         ensures { result ≡ no_entries }
     {
@@ -107,14 +107,18 @@ impl RevokedCertificates {
         }
     }
 
-    /// Makes a list of no entries.
+    /// Makes revoked certificates without entries.
     pub fn empty(_alloc: Global) -> RevokedCertificates
         ensures { result ≡ no_entries }
     {
         RevokedCertificates::none()
     }
 
-    /// Makes the list of the entries of a slice, in their order. The only error is `Memory`.
+    /// Makes revoked certificates of the entries of a slice, in their order.
+    ///
+    /// # Errors
+    ///
+    /// Returns `Memory` only.
     pub(crate) fn from_entries(
         alloc: Global,
         elements: &[CrlEntry],
@@ -133,7 +137,7 @@ impl RevokedCertificates {
         })
     }
 
-    // The list that stands next, by the reading function.
+    // Reads the next SEQUENCE of entries, by the reading function.
     #[tactic(auto, unfolding(crate::specs::RevokedEntries::revoked_format))]
     pub(crate) fn read(
         alloc: Global,
@@ -152,8 +156,12 @@ impl RevokedCertificates {
         Ok(list)
     }
 
-    /// Reads the SEQUENCE of entries that stands next (RFC 5280 5.1). Where no SEQUENCE stands next
-    /// there are none.
+    /// Reads the next SEQUENCE of entries (RFC 5280 5.1). If the next value is no SEQUENCE, the
+    /// result has no entries.
+    ///
+    /// # Errors
+    ///
+    /// Returns an error if the next value is a SEQUENCE, but not of entries, and `Memory`.
     #[tactic(auto, using(crate::proofs::ListReads::answers_revoked))]
     pub fn take_from(
         alloc: Global,
@@ -182,8 +190,7 @@ impl RevokedCertificates {
         self.contains_counted(serial).0
     }
 
-    /// Returns whether some entry has this serial number, and how many entries were looked at to
-    /// tell.
+    /// Returns whether some entry has this serial number, and how many entries the search read.
     pub(crate) fn contains_counted(&self, serial: Serial) -> (bool, usize)
         ensures entries { AreEntries self.now.entries self.now.octets }
         ensures revoked { IsTrue result.0 ↔ IsRevoked serial self.now.entries }
@@ -205,8 +212,12 @@ impl RevokedCertificates {
         (false, count)
     }
 
-    /// Appends the SEQUENCE of the entries, as they were read or made; nothing where there are none
-    /// (RFC 5280 5.1.2.6). Errs with `TooLong` where they have 2^32 octets or more.
+    /// Appends the SEQUENCE of the entries, as they were read or made; nothing if there are none
+    /// (RFC 5280 5.1.2.6).
+    ///
+    /// # Errors
+    ///
+    /// Returns `TooLong` if they have 2^32 bytes or more, and `Memory`.
     #[tactic(auto, unfolding(crate::specs::RevokedEntries::revoked_format))]
     pub fn encode_ref(&self, _alloc: Global, out: &mut Vec<u8>) -> Result<(), EncodeError>
         ensures { Writes (revoked_part self.now) out.old.items result out.new.items }

@@ -1,4 +1,4 @@
-//! What the public clauses give together: a list that was made is read again from its own octets.
+//! What the public clauses give together: a CRL that was made is read again from its own bytes.
 ghost use Rattle.std.specs.Prelude.{◌≡◌, ◌^◌, ◌<◌, length, false, IfOk, IfErr};
 ghost use Rattle.rpki_der.specs.declared.error.EncodeError.TheVariants.{Memory};
 ghost use Rattle.rpki_parts.specs.SignedDatas.{signed_content};
@@ -9,9 +9,12 @@ use crate::laws;
 use rpki_der::EncodeError;
 use std::alloc::Global;
 
-/// Writes a list that `into_crl` made, and reads it again: it is the same, its entries too, where
-/// its signature names the algorithm that was asked for. Its serials are in no table. The only
-/// error is `Memory`.
+/// Writes a CRL that `into_crl` made and reads it again. The result has the same fields and
+/// entries, if its signature names the requested algorithm, and has no table of serials (own).
+///
+/// # Errors
+///
+/// Returns `Memory` only.
 pub fn read_again(alloc: Global, made: &Crl) -> Result<Crl, EncodeError>
     requires written { ListFits made.now.list.fields }
     requires message { made.now.list.signed_data.message ≡ list_encoding made.now.list.fields }

@@ -1,4 +1,4 @@
-//! Revocation lists under their URIs.
+//! CRLs under their URIs.
 ghost use Rattle.std.specs.Prelude.{◌≡◌, ◌++◌, [], ◌∷◌, true, false, IfOk, IfErr, OnOk, OnErr, option_map};
 ghost use Rattle.rpki_crl.specs.Stores.{StoreFields, IsEarliest, as_stored, stored};
 
@@ -7,7 +7,7 @@ use rpki_parts::Rsync;
 use std::alloc::{AllocError, Global};
 use std::marker::Model;
 
-/// Revocation lists, each under the URI where it was found.
+/// CRLs, each under the URI where it was found (RFC 6487 4.8.6).
 #[derive(Drop)]
 pub struct CrlStore {
     alloc: Global,
@@ -23,7 +23,7 @@ impl Model for CrlStore {
     ghost view = { λ s. record { pairs = s.pairs.items; caches = s.caches } };
 }
 
-// The list, with a table of its serials where they are to be cached; or the list as it was.
+// The CRL, with a table of its serials if they are to be cached; or the CRL as it was.
 fn with_table(alloc: Global, caches: bool, mut crl: Crl) -> Result<Crl, Crl>
     ensures stored { IfOk result (λ kept. kept ≡ as_stored caches crl) }
     ensures same { IfErr result (λ same. same ≡ crl) }
@@ -35,7 +35,7 @@ fn with_table(alloc: Global, caches: bool, mut crl: Crl) -> Result<Crl, Crl>
 }
 
 impl CrlStore {
-    /// Makes a store without lists, which grows by this allocator.
+    /// Makes a store without CRLs, which grows by this allocator.
     pub fn new(alloc: Global) -> CrlStore
         ensures { result ≡ record { pairs = []; caches = false } }
     {
@@ -46,15 +46,18 @@ impl CrlStore {
         }
     }
 
-    /// Turns the table on: from now on the serials of each list that is pushed are sorted into one.
+    /// Turns tables on: from now on the serials of each CRL that is pushed are sorted into one.
     pub fn enable_serial_caching(&mut self)
         ensures { self.new ≡ record self.old { caches = true } }
     {
         self.caches = true;
     }
 
-    /// Stores a list under its URI. When out of memory it hands back the very pair, and the store
-    /// is as it was.
+    /// Stores a CRL under its URI.
+    ///
+    /// # Errors
+    ///
+    /// Returns an error with the URI and the CRL if memory runs out; the store is unchanged.
     pub fn push(&mut self, uri: Rsync, crl: Crl) -> Result<(), (Rsync, Crl)>
         ensures stored { let pair = stored self.old.caches uri crl in
             OnOk result (self.new ≡ record self.old { pairs = self.old.pairs ++ pair ∷ [] }) }
@@ -74,7 +77,7 @@ impl CrlStore {
         }
     }
 
-    /// Returns the list that was pushed first under an equal URI. Takes no memory.
+    /// Returns the CRL that was pushed first under an equal URI. Takes no memory.
     pub fn get(&self, uri: &Rsync) -> Option<&Crl>
         ensures { IsEarliest uri.now self.now.pairs (option_map (λ crl. crl.now) result) }
     {

@@ -1,4 +1,4 @@
-//! Serial numbers in a sorted table, and how many of them a search looks at.
+//! The sorted table of a CRL's serial numbers, and the search in it.
 ghost use Rattle.std.specs.Prelude.{◌≡◌, ◌↔◌, ◌+◌, ◌*◌, ◌^◌, ◌%◌, ◌<◌, ◌≤◌, ◌/◌, ◌⊎◌, IsTrue, IfOk, IfSome, IfNone, Contains, length, get_or};
 ghost use Rattle.std.specs.Int.Digits.{number_from_digits};
 ghost use Rattle.std.specs.List.Sorted.{IsPermutation};
@@ -13,7 +13,7 @@ use std::alloc::{AllocError, Global};
 use std::cmp::Ordering;
 use std::marker::Model;
 
-/// How many stored serials were looked at.
+/// Counts the stored serials that a search reads.
 #[derive(Drop)]
 pub(crate) struct Count {
     looks: usize,
@@ -34,7 +34,7 @@ impl Count {
         Count { looks: 0 }
     }
 
-    /// Returns how many there were.
+    /// Returns the count.
     pub(crate) fn get(&self) -> usize
         ensures { result ≡ self.now }
     {
@@ -42,8 +42,8 @@ impl Count {
     }
 }
 
-/// Serial numbers, none below an earlier one, and where their buckets begin. A serial is searched
-/// for in its bucket alone: a few numbers that stand side by side.
+/// Serial numbers in ascending order, and the start of each bucket. A search for a serial reads
+/// only its bucket: a few adjacent numbers.
 #[derive(Drop)]
 pub(crate) struct SerialTable {
     serials: Vec<Serial>,
@@ -133,7 +133,7 @@ fn scale_of(serials: &[Serial]) -> (u128, u32)
     (base, shift)
 }
 
-// Where the buckets of ascending serials begin, up to the last serial's.
+// The starts of the buckets of ascending serials, up to the last serial's.
 fn starts_of(
     alloc: Global,
     serials: &[Serial],
@@ -159,7 +159,7 @@ fn starts_of(
 }
 
 impl SerialTable {
-    /// Sorts the serials of the entries of a list into a table.
+    /// Sorts the serials of a CRL's entries into a table.
     pub(crate) fn of(alloc: Global, list: &RevokedCertificates) -> Result<SerialTable, AllocError>
         ensures { IfOk result (λ table. IsPermutation (serials_of list.now.entries) table) }
     {
@@ -178,8 +178,8 @@ impl SerialTable {
         })
     }
 
-    // Between which places the serial can stand: those of its bucket; all, from the last bucket on
-    // and where it has none.
+    // The range of places in which the serial can be: its bucket's; all places if the serial has no
+    // bucket or is in the last one or after it.
     fn places_of(&self, serial: Serial) -> (usize, usize)
         ensures range { IsRange self.now serial result.0 result.1 }
         ensures ascending { AreAscending self.now }
@@ -197,7 +197,7 @@ impl SerialTable {
         (self.starts[bucket], self.starts[bucket + 1])
     }
 
-    // Looks at the stored serial in this place, and counts that: the one call that looks at any.
+    // Reads the stored serial in this place and counts it: the only call that reads one.
     fn compare_at(&self, place: usize, serial: Serial, count: &mut Count) -> Ordering
         requires place { place < length self.now }
         requires room { count.old + 1 < 2 ^ 64 }
@@ -209,8 +209,8 @@ impl SerialTable {
         self.serials[place].cmp(&serial)
     }
 
-    /// Returns whether the table has this serial, and how many of the stored ones were looked at to
-    /// tell.
+    /// Returns whether the table has this serial, and how many of the stored serials the search
+    /// read.
     pub(crate) fn contains(&self, serial: Serial) -> (bool, Count)
         ensures found { IsTrue result.0 ↔ Contains self.now serial }
         ensures few { result.1 ≤ digits (length self.now) }

@@ -1,4 +1,4 @@
-//! The data of a revocation list: its fields, and how it is read.
+//! The TBSCertList of a CRL: its fields, and how it is read.
 ghost use Rattle.std.specs.Prelude.{◌≡◌, IfOk};
 ghost use Rattle.std.specs.Borrow.{sem};
 ghost use Rattle.rpki_der.specs.Answers.{AnswersOrMemory};
@@ -18,8 +18,8 @@ use rpki_parts::{KeyIdentifier, Name, RpkiSignatureAlgorithm};
 use std::alloc::{AllocError, Global};
 use std::marker::Model;
 
-/// The data of a revocation list: all but its signature, with the revoked certificates in the form
-/// of `C` (RFC 5280 5.1.2, RFC 6487 5).
+/// The TBSCertList of a CRL: all but its signature, with the revoked certificates in the form of
+/// `C` (RFC 5280 5.1.2, RFC 6487 5).
 #[derive(Drop)]
 pub struct TbsCertList<C> {
     pub(crate) signature: RpkiSignatureAlgorithm,
@@ -77,7 +77,7 @@ fn take_extensions(alloc: Global, cursor: &mut Cursor<'_>) -> Result<CrlExtensio
 }
 
 impl TbsCertList<RevokedCertificates> {
-    // What stands inside the SEQUENCE, by the reading function.
+    // Reads the content of the SEQUENCE, by the reading function.
     #[tactic(auto, unfolding(crate::specs::Lists::list_content_format))]
     fn take_content(
         alloc: Global,
@@ -128,9 +128,13 @@ impl TbsCertList<RevokedCertificates> {
         Ok(list)
     }
 
-    /// Reads the TBSCertList that stands next, one SEQUENCE (RFC 5280 5.1.2, RFC 6487 5), whatever
-    /// order its extensions stand in. Fails if no front of the remaining octets is one; which error
-    /// is returned is unspecified.
+    /// Reads the next TBSCertList, one SEQUENCE with its extensions in any order (RFC 5280 5.1.2,
+    /// RFC 6487 5).
+    ///
+    /// # Errors
+    ///
+    /// Returns an error if the remaining bytes start with no TBSCertList (which one is
+    /// unspecified), and `Memory`.
     #[tactic(auto, using(rpki_der::proofs::FormatAnswers::answers_or_memory_alone, crate::proofs::ListFormats::list_alone))]
     pub fn take_from(
         alloc: Global,
@@ -194,7 +198,7 @@ impl<C> TbsCertList<C> {
         }
     }
 
-    /// Returns the algorithm that stands inside the signed data (RFC 5280 5.1.2.2).
+    /// Returns the algorithm inside the TBSCertList (RFC 5280 5.1.2.2).
     pub fn signature(&self) -> RpkiSignatureAlgorithm
         ensures { result ≡ self.now.algorithm }
     {
@@ -208,14 +212,14 @@ impl<C> TbsCertList<C> {
         &self.issuer
     }
 
-    /// Returns the moment at which the list was made (RFC 5280 5.1.2.4).
+    /// Returns thisUpdate, the time at which the CRL was made (RFC 5280 5.1.2.4).
     pub fn this_update(&self) -> Time
         ensures { result ≡ self.now.this_update }
     {
         self.this_update
     }
 
-    /// Returns the moment by which the next list is to be made (RFC 5280 5.1.2.5).
+    /// Returns nextUpdate, the time by which the next CRL is due (RFC 5280 5.1.2.5).
     pub fn next_update(&self) -> Time
         ensures { result ≡ self.now.next_update }
     {
@@ -229,8 +233,8 @@ impl<C> TbsCertList<C> {
         &self.revoked_certs
     }
 
-    /// Lends the revoked certificates to be changed in place. When the borrow ends, the list has
-    /// the revoked certificates that were left there.
+    /// Lends the revoked certificates to be changed in place. When the borrow ends, the CRL has the
+    /// revoked certificates that were left there.
     pub fn revoked_certs_mut(&mut self) -> &mut C
         ensures* lends { sem 𝓛 (LendsRevoked C.row self.entry result) }
         ensures value { result.now ≡ self.old.revoked }
@@ -245,7 +249,7 @@ impl<C> TbsCertList<C> {
         &self.extensions.authority_key_identifier
     }
 
-    /// Returns the number of the list (RFC 5280 5.2.3).
+    /// Returns the CRL number (RFC 5280 5.2.3).
     pub fn crl_number(&self) -> Serial
         ensures { result ≡ self.now.extensions.crl_number }
     {

@@ -1,4 +1,4 @@
-//! Revocation lists are verified.
+//! Verifies CRLs.
 ghost use Rattle.std.specs.Prelude.{◌≡◌, ◌↔◌, IsOk, IfErr};
 ghost use Rattle.rpki_cert.specs.Verification.{IsSignedBy};
 ghost use Rattle.rpki_crl.specs.Revocation.{NamesIssuer};
@@ -35,8 +35,8 @@ impl Crl {
         }
     }
 
-    /// Checks that the key signed the CRL, by the verifier's answer about the octets that are kept
-    /// (RFC 5280 6.3.3). Takes no memory.
+    /// Checks that the key signed the CRL, by the verifier's answer about the kept bytes (RFC 5280
+    /// 6.3.3). Takes no memory.
     ///
     /// # Errors
     ///

@@ -1,4 +1,4 @@
-//! How the data of a revocation list is written.
+//! Writes the TBSCertList of a CRL.
 ghost use Rattle.std.specs.Prelude.{◌≡◌, ◌^◌, ◌++◌, ◌<◌, length, take, OnErr, OnOk};
 ghost use Rattle.rpki_der.specs.Writers.{SaysLong, Writes};
 ghost use Rattle.rpki_der.specs.Times.{IsMoment};
@@ -20,7 +20,7 @@ use std::alloc::Global;
 const VERSION_2: [u8; 3] = [tag::INTEGER, 0x01, 0x01];
 
 impl CrlExtensions {
-    // Appends both extensions, one after the other, or a part of them where it errs.
+    // Appends both extensions, one after the other, or a part of them if it fails.
     fn append_sequence(&self, alloc: Global, out: &mut Vec<u8>) -> Result<(), EncodeError>
         ensures ok { OnOk result
             (out.new.items ≡ out.old.items ++ list_sequence (extensions_view self.now)) }
@@ -34,7 +34,7 @@ impl CrlExtensions {
         end_extension(out, start, oid::CE_CRL_NUMBER, false, number)
     }
 
-    // Appends them inside their two tags, or a part of them where it errs.
+    // Appends them inside their two tags, or a part of them if it fails.
     fn append_tagged(&self, alloc: Global, out: &mut Vec<u8>) -> Result<(), EncodeError>
         ensures ok { OnOk result
             (out.new.items ≡ out.old.items ++ tagged_list_extensions (extensions_view self.now)) }
@@ -65,7 +65,7 @@ impl TbsCertList<RevokedCertificates> {
         let _identifier = self.extensions.authority_key_identifier.as_octets();
     }
 
-    // Appends what stands inside the SEQUENCE, or a part of it where it errs.
+    // Appends the content of the SEQUENCE, or a part of it if it fails.
     #[tactic(auto, unfolding(crate::specs::Lists::list_content_format))]
     fn append_content(&self, alloc: Global, out: &mut Vec<u8>) -> Result<(), EncodeError>
         ensures ok { OnOk result (out.new.items ≡ out.old.items ++ list_content self.now) }
@@ -83,8 +83,11 @@ impl TbsCertList<RevokedCertificates> {
     }
 
     /// Appends the TBSCertList with these fields (RFC 5280 5.1.2, RFC 6487 5): the entries as they
-    /// are kept, and both extensions in one fixed order, without flags. Errs with `TooLong` where
-    /// its content would have 2^32 octets or more.
+    /// are kept, and both extensions in one fixed order, without flags.
+    ///
+    /// # Errors
+    ///
+    /// Returns `TooLong` if the content would have 2^32 bytes or more, and `Memory`.
     #[tactic(auto, unfolding(crate::specs::Lists::list_format))]
     pub fn encode_ref(&self, alloc: Global, out: &mut Vec<u8>) -> Result<(), EncodeError>
         ensures writes { Writes (list_part self.now) out.old.items result out.new.items }

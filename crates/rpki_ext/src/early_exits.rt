@@ -1,4 +1,4 @@
-//! What is owned at an early exit is let go by a call of one small function, which is proved once.
+//! Drops what is owned at an early exit, by a call of one small function, which is proved once.
 ghost use Rattle.std.specs.Prelude.{◌≡◌, Ok, Err, IfOk, IfErr};
 
 /// Pairs a value with the result of a step after it.

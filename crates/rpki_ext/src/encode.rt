@@ -30,7 +30,7 @@ fn append_nested(out: &mut Vec<u8>, tags: &[u8], octets: &[u8]) -> Result<(), En
 }
 
 /// Appends the extension whose content is a value with the first of these identifier octets, which
-/// has one with the next, and so on; the last one has these octets.
+/// has one with the next, and so on; the last one has these bytes.
 #[tactic(auto, using(rpki_der::proofs::ExtensionWritten::content_longer))]
 pub(crate) fn put_nested_extension(
     out: &mut Vec<u8>,
@@ -49,8 +49,8 @@ pub(crate) fn put_nested_extension(
     end_extension(out, start, id, critical, content)
 }
 
-/// Appends the description of this method with this URI (RFC 5280 4.2.2.1), or a part of it where
-/// it errs.
+/// Appends the description of this method with this URI (RFC 5280 4.2.2.1), or a part of it if it
+/// fails.
 #[tactic(auto, unfolding(crate::specs::GeneralNames::uri_format))]
 pub(crate) fn append_description(
     out: &mut Vec<u8>,

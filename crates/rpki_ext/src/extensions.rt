@@ -1,5 +1,4 @@
-//! What the extensions of a certificate give, kind by kind: how they are read where they stand, and
-//! how they are written.
+//! The extensions of a certificate, kind by kind: reading each in its place, and writing them.
 ghost use Rattle.std.specs.Prelude.{◌≡◌, ◌++◌, length, take, map, false, if◌then◌else◌, is_some, OnErr, OnOk, IfErr, IfOk, None, Some};
 ghost use Rattle.rpki_der.specs.Extensions.{Extension, part_of};
 ghost use Rattle.rpki_der.specs.Place.{remaining};
@@ -338,7 +337,7 @@ pub(crate) enum Named {
 }
 
 impl Named {
-    /// Returns the kind that an identifier names, or `None` where it isn't known.
+    /// Returns the kind that an identifier names, or `None` if it isn't known.
     pub(crate) fn of(identifier: &[u8]) -> Option<Named>
         ensures { Names identifier.now result }
     {
@@ -373,8 +372,8 @@ impl Named {
         }
     }
 
-    /// Returns whether it must be critical or must not be, or `None` where the flag isn't tested
-    /// (RFC 6487 4.8).
+    /// Returns whether it must be critical or must not be, or `None` if the flag isn't tested (RFC
+    /// 6487 4.8).
     pub(crate) fn must_be_critical(self) -> Option<bool>
         ensures { result ≡ wanted self }
     {

@@ -1,5 +1,5 @@
-//! Single extensions of certificates and revocation lists, the sequence of them that a certificate
-//! has, and the faults of inspection.
+//! Single extensions of certificates and CRLs, the sequence of a certificate's extensions, and the
+//! errors of inspection.
 #![tactic(auto)]
 
 mod authority_access;

@@ -1,4 +1,4 @@
-//! The extensions of a certificate, in one pass, whatever order they stand in.
+//! The extensions of a certificate, read in one pass, in any order.
 ghost use Rattle.std.specs.Prelude.{◌≡◌, ◌⊎◌, true, false, OnOk, OnErr, IfErr, Some, unwrap_or, bytes_eq};
 ghost use Rattle.std.specs.List.{list_any};
 ghost use Rattle.rpki_der.specs.Place.{remaining, MeansOrMemory, Rejects};
@@ -30,7 +30,7 @@ fn pass_over(alloc: Global, identifier: &[u8], critical: bool) -> Result<(), Dec
     Err(DecodeError::UnexpectedCritical(Oid::new(identifier)?))
 }
 
-/// Whether an identifier is this one. Nearly all that aren't differ in the last octet. A comparison
+/// Whether an identifier is this one. Nearly all that aren't differ in the last byte. A comparison
 /// that stands here alone is proved faster.
 #[inline(always)]
 pub(crate) fn is(identifier: &[u8], known: &[u8]) -> bool

@@ -1,19 +1,19 @@
-//! Who an issuer is, and whether it stands above already.
+//! The entity of an issuer, by which circles are found.
 ghost use Rattle.std.specs.Prelude.{◌≡◌, ◌↔◌, IsTrue};
 ghost use Rattle.rpki_path.specs.Repeats.{AreOneEntity};
 
 use rpki_cert::Cert;
 use rpki_parts::PublicKey;
 
-// Whether the keys are one: their algorithm and their bits are.
+// Whether the keys are equal: their algorithms and their bits are.
 fn is_one_key(one: &PublicKey, other: &PublicKey) -> bool
     ensures { IsTrue result ↔ one.now ≡ other.now }
 {
     one.algorithm() == other.algorithm() && one.bits() == other.bits()
 }
 
-/// Tells whether two certificates are of one entity: they have one key, and one subject if names
-/// are checked.
+/// Returns whether two certificates are of one entity: they have the same key, and the same subject
+/// if names are checked (own).
 pub(crate) fn are_one_entity(one: &Cert, other: &Cert, names: bool) -> bool
     ensures { IsTrue result ↔ AreOneEntity names one.now other.now }
 {

@@ -1,4 +1,4 @@
-//! A certificate of a folder: its octets, and what it says.
+//! A certificate of a folder: its bytes, and what it says.
 ghost use Rattle.std.specs.Prelude.{◌≡◌, IfOk};
 ghost use Rattle.rpki_ext.specs.Kinds.{Means};
 ghost use Rattle.rpki_cert.specs.Certificates.{IsCertificate};
@@ -10,9 +10,9 @@ use rpki_path::Member;
 use std::alloc::{AllocError, Global};
 use std::marker::Model;
 
-/// A certificate of a folder: octets that start with one, and what it says (its kind, its issuer's
+/// A certificate of a folder: bytes that start with it, and what it says (its kind, its issuer's
 /// key identifier). Other fields are decoded again if they are needed, because a decoded
-/// certificate takes as much memory as its octets.
+/// certificate takes as much memory as its bytes.
 #[derive(Drop)]
 pub struct Filed {
     octets: Bytes,
@@ -31,7 +31,7 @@ impl Model for Filed {
 }
 
 impl Filed {
-    /// Keeps octets that start with a certificate, and what it says.
+    /// Keeps bytes that start with a certificate, and what it says.
     pub(crate) fn new(octets: Bytes, said: Said) -> Filed
         requires { BeginsWithSaid said octets }
         ensures { result ≡ octets }
@@ -39,7 +39,7 @@ impl Filed {
         Filed { octets, said }
     }
 
-    /// Returns the octets.
+    /// Returns the bytes.
     pub fn octets(&self) -> &Bytes
         ensures { result.now ≡ self.now }
     {
@@ -53,7 +53,7 @@ impl Filed {
         self.said
     }
 
-    /// Decodes the certificate at the start of the octets. The certificate shares the octets.
+    /// Decodes the certificate at the start of the bytes. The certificate shares the bytes.
     ///
     /// # Errors
     ///

@@ -35,12 +35,12 @@ pub enum Found {
     /// No valid path to the certificate was found. How the walk ended says what that means:
     ///
     /// - [`Ended::Whole`]: no valid path of admitted certificates exists in the folder.
-    /// - [`Ended::TooDeep`]: none exists within the depth.
-    /// - [`Ended::OutOfSteps`]: none was found before the limit of steps was reached.
+    /// - [`Ended::TooDeep`]: no valid path exists within the depth.
+    /// - [`Ended::OutOfSteps`]: no valid path was found before the limit of steps was reached.
     NotFound(Ended),
 }
 
-// What was found of the certificate at a place.
+// The result of the search for the certificate at a place.
 #[derive(Drop)]
 struct Sought {
     alloc: Global,
@@ -118,7 +118,7 @@ impl Visitor for Sought {
 }
 
 impl Sought {
-    // What was found.
+    // The result.
     fn into_found(self) -> Option<FoundPath>
         ensures { result ≡ self.found }
     {

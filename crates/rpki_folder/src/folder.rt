@@ -24,7 +24,7 @@ pub enum Added {
     Certificate(usize),
     /// A CRL.
     List,
-    /// Nothing: the octets start with neither a certificate nor a CRL.
+    /// Nothing: the bytes start with neither a certificate nor a CRL.
     Neither,
 }
 
@@ -62,7 +62,7 @@ impl Model for Folder {
         → places_in f.lists_by_signer.places key ≡ list_places key f.lists.items) };
 }
 
-// Lets a fault go, unless it is that memory ran out.
+// Drops an error, unless it is that memory ran out.
 fn rejects(fault: DecodeError) -> Result<(), AllocError>
     ensures { OnOk result (fault ≢ Memory) }
 {
@@ -85,7 +85,7 @@ impl Folder {
         }
     }
 
-    /// Adds octets that start with a certificate, with what that certificate says, and returns its
+    /// Adds bytes that start with a certificate, with what that certificate says, and returns its
     /// place.
     ///
     /// # Errors
@@ -94,7 +94,7 @@ impl Folder {
     ///
     /// # Not checked
     ///
-    /// The octets aren't decoded again: `said` has to be what the certificate says.
+    /// The bytes aren't decoded again: `said` has to be what the certificate says.
     pub fn add_cert(&mut self, octets: Bytes, said: Said) -> Result<usize, AllocError>
         requires { BeginsWithSaid said octets }
         ensures ok { OnOk result (self.new ≡ with_cert self.old octets) }
@@ -113,8 +113,8 @@ impl Folder {
         }
     }
 
-    /// Adds a CRL. A search for a serial number walks its entries, unless its serial numbers are
-    /// cached ([`Crl::cache_serials`]).
+    /// Adds a CRL. A search for a serial number reads its entries one by one, unless its serial
+    /// numbers are cached ([`Crl::cache_serials`]).
     ///
     /// # Errors
     ///
@@ -143,8 +143,8 @@ impl Folder {
         }
     }
 
-    /// Adds the certificate or the CRL at the start of `octets`, ignores what follows, and returns
-    /// which of the two it was. The serial numbers of a CRL are cached.
+    /// Adds the certificate or the CRL at the start of `octets`, ignores the rest, and returns
+    /// which of the two was added. The serial numbers of a CRL are cached.
     ///
     /// # Errors
     ///
@@ -166,7 +166,7 @@ impl Folder {
         }
     }
 
-    // Adds the list with which octets begin that begin with no certificate.
+    // Adds the CRL at the start of bytes that start with no certificate.
     fn add_other(&mut self, octets: Bytes) -> Result<Added, AllocError>
         requires { (c : CertFields) → Means IsCertificate c octets → ⊥ }
         ensures ok { IfOk result (IsAdded octets self.old self.new) }
@@ -203,7 +203,7 @@ impl Folder {
     }
 
     /// Returns the places of the certificates whose Authority Key Identifier is this key identifier
-    /// (RFC 5280 4.2.1.1), the one that was added first in front.
+    /// (RFC 5280 4.2.1.1), in the order in which they were added.
     pub fn signed_by(&self, key: &KeyIdentifier) -> &[usize]
         ensures { ArePlacesOf self.now.certs key.now result.now }
     {

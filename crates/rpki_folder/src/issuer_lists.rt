@@ -1,4 +1,4 @@
-//! The lists of one issuer, each of which is verified once.
+//! The CRLs of one issuer, each of which is verified once.
 ghost use Rattle.std.specs.Prelude.{◌≡◌, ◌<◌, ◌↔◌, Bool, length, map, slice_index_or, IsTrue, IfOk, option_copied};
 ghost use Rattle.rpki_der.specs.Times.{Moment};
 ghost use Rattle.rpki_cert.specs.Verification.{context};
@@ -15,14 +15,14 @@ use rpki_path::revocation::{goes_first, has_begun, is_named_by, is_signed_by, sa
 use std::alloc::{AllocError, Global};
 use std::marker::Model;
 
-/// What is kept of given lists for one issuer, so that each of them is verified once, and not once
-/// for each certificate below the issuer. It answers of these as
-/// [`rpki_path::revocation::GivenLists`] of all lists does.
+/// The given CRLs of one issuer. Each is verified once, and not once for each certificate below the
+/// issuer. The answers for these certificates are those of [`rpki_path::revocation::GivenLists`]
+/// with all CRLs.
 #[derive(Drop)]
 pub(crate) struct IssuerLists<'l> {
-    // Those that can be asked.
+    // The eligible CRLs.
     eligible: Vec<&'l Crl>,
-    // What a certificate fails where there are none.
+    // The error of a certificate if no CRL is eligible.
     otherwise: RevocationError,
 }
 
@@ -38,7 +38,7 @@ impl<'l> Model for IssuerLists<'l> {
     } };
 }
 
-// The list at a place.
+// The CRL at a place.
 fn list_at(lists: &[Crl], place: usize) -> &Crl
     requires { place < length lists.now }
     ensures { result.now ≡ slice_index_or lists.now place result.now }
@@ -46,7 +46,7 @@ fn list_at(lists: &[Crl], place: usize) -> &Crl
     &lists[place]
 }
 
-// Whether the list has the issuer's name, if names are checked.
+// Whether the CRL has the issuer's name, if names are checked.
 fn has_name(list: &Crl, issuer: &ResourceCert, names: bool) -> bool
     ensures { IsTrue result ↔ HasName names issuer.now.cert.fields list.now }
 {
@@ -56,7 +56,7 @@ fn has_name(list: &Crl, issuer: &ResourceCert, names: bool) -> bool
     is_named_by(list, issuer)
 }
 
-// Whether the issuer's key signed the list, and its time has begun. The signature is verified last,
+// Whether the issuer's key signed the CRL, and its time has come. The signature is verified last,
 // as that takes longest.
 fn is_current<V: Verifier>(list: &Crl, issuer: &ResourceCert, now: Time, verifier: &V) -> bool
     ensures { let current = IsCurrent (V.verifies verifier.now) now issuer.now.cert.fields in
@@ -65,8 +65,8 @@ fn is_current<V: Verifier>(list: &Crl, issuer: &ResourceCert, now: Time, verifie
     has_begun(list, now) && is_signed_by(list, issuer, verifier)
 }
 
-// The issuer's lists: those that name its key, at the places that are told, and have its name, if
-// names are checked.
+// The issuer's CRLs: those that name its key, at the given places, and have its name, if names are
+// checked.
 fn named_lists<'l>(
     alloc: Global,
     lists: &'l [Crl],
@@ -90,7 +90,7 @@ fn named_lists<'l>(
     Ok(named)
 }
 
-// Those of the issuer's lists that it signed, and whose time has begun.
+// The CRLs of the issuer that it signed, and whose time has come.
 fn current_lists<'l, V: Verifier>(
     alloc: Global,
     named: &[&'l Crl],
@@ -112,7 +112,7 @@ fn current_lists<'l, V: Verifier>(
     Ok(kept)
 }
 
-// What a certificate below the issuer fails if all lists that name its key have another name.
+// The error of a certificate below the issuer if all CRLs that name its key have another name.
 fn why_unnamed<V: Verifier>(
     lists: &[Crl],
     places: &[usize],
@@ -134,8 +134,8 @@ fn why_unnamed<V: Verifier>(
     RevocationError::NoCrl
 }
 
-// What a certificate below the issuer fails if none of the issuer's lists can be asked. A list whose
-// time has begun isn't signed by the issuer then, so no signature is verified twice.
+// The error of a certificate below the issuer if none of the issuer's CRLs is eligible. A CRL whose
+// time has come isn't signed by the issuer then, so no signature is verified twice.
 fn why_none<V: Verifier>(
     lists: &[Crl],
     places: &[usize],
@@ -162,7 +162,7 @@ fn why_none<V: Verifier>(
     RevocationError::Stale
 }
 
-// The latest of these lists where they are asked of the certificate.
+// The newest of these CRLs for the certificate.
 fn latest<'l>(lists: &[&'l Crl], cert: &Cert) -> Option<&'l Crl>
     ensures { let given = map (λ l. l.now) lists.entry.now in
         IsLatestIfAny (λ _. Unit {0}) cert.now given (option_copied result) }
@@ -178,8 +178,12 @@ fn latest<'l>(lists: &[&'l Crl], cert: &Cert) -> Option<&'l Crl>
 }
 
 impl<'l> IssuerLists<'l> {
-    /// Keeps what is asked below the issuer of these lists, of which those at the places name its
-    /// key. The others aren't looked at, nor those of another name, if names are checked.
+    /// Keeps the CRLs that are searched below the issuer: of those at `places`, which have its key
+    /// identifier, the CRLs with its name if names are checked, and else all. No other CRL is read.
+    ///
+    /// # Errors
+    ///
+    /// Returns an error only if memory runs out.
     pub(crate) fn new<V: Verifier>(
         alloc: Global,
         lists: &'l [Crl],
@@ -203,8 +207,12 @@ impl<'l> IssuerLists<'l> {
         })
     }
 
-    /// Asks whether the certificate, which is valid below the issuer, is unrevoked. Takes no
-    /// memory, and verifies nothing.
+    /// Checks that the certificate, which is valid below the issuer, isn't revoked. Takes no
+    /// memory, and verifies no signature.
+    ///
+    /// # Errors
+    ///
+    /// Returns the first check that fails, in the order of [`RevocationError`]'s variants.
     pub(crate) fn ask(&self, cert: &Cert, now: Time) -> Result<(), RevocationError>
         ensures { IsAnswered self.now now cert.now result }
     {

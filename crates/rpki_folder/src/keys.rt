@@ -32,7 +32,11 @@ impl KeyTable {
         }
     }
 
-    /// Adds a place of the key. Errs where memory runs out, and the table is then as it was.
+    /// Adds a place of the key.
+    ///
+    /// # Errors
+    ///
+    /// Returns an error only if memory runs out. The table is then unchanged.
     pub(crate) fn add(&mut self, key: &KeyIdentifier, place: usize) -> Result<(), AllocError>
         ensures ok { OnOk result ((k : List ℕ) → places_in self.new.places k
             ≡ with_place key.now place k (places_in self.old.places k)) }

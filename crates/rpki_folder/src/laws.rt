@@ -1,4 +1,4 @@
-//! What follows of paths through a folder.
+//! Laws about paths through a folder.
 ghost use Rattle.std.specs.Prelude.{◌≡◌, ◌≢◌, ◌↔◌, ◌+◌, ◌++◌, ◌∷◌, ℕ, Bool, true, List, [], length, Contains, Ok, map};
 ghost use Rattle.rpki_der.specs.Times.{Moment};
 ghost use Rattle.rpki_parts.specs.Keys.{KeyFields};
@@ -24,13 +24,14 @@ use crate::Admission;
 use rpki_parts::Verifier;
 use rpki_path::revocation::RevocationSource;
 
-/// Says that to which certificates a valid path leads doesn't depend on where they stand in a
-/// folder, nor on the order of its lists: where each certificate of a folder stands in another one
-/// at the place that is told, and both have the same lists, as where all was added in another
-/// order, a path that leads to it in the first leads to it in the second, by the places where the
-/// CAs above it stand there (`reached`), and where a walk looks at its certificates in the first, it
-/// does in the second (`looked_at`). By [`crate::Walk::from_anchor`] walks that end `Whole` accept
-/// the same certificates in both.
+/// States that the order in which certificates and CRLs are added to a folder doesn't matter: which
+/// certificates a valid path leads to depends neither on their places nor on the order of the CRLs.
+///
+/// The premises: a second folder has each certificate of the first at the place `moved`, and both
+/// have the same CRLs. Then a path that leads to a certificate in the first folder leads to it in
+/// the second, by the moved places of the CAs above it (`reached`). If a walk judges the
+/// certificates of a path in the first folder, it judges them in the second (`looked_at`). By
+/// [`crate::Walk::from_anchor`] walks that end `Whole` accept the same certificates in both.
 pub fn blind_to_order<V: Verifier>()
     ensures reached { (verifier : V) (now : Moment) (strict names : Bool) (root : Root)
         (folder other : FolderFields) (moved : ℕ → ℕ)
@@ -49,12 +50,12 @@ pub fn blind_to_order<V: Verifier>()
         → AreAdmitted (IsLookedAt names (λ l p. Unit {0}) top other.certs) [] (map moved places) }
 {}
 
-/// Says what nobody can change by files that are added to a folder. These are signed by some keys
-/// alone, or by none; or they are copies of files that were there ([`AddsOnly`]). Then a path on
-/// which no issuer has one of these keys is valid with the certificates and lists of the one folder
-/// exactly if it is with those of the other (`paths`); so it holds the same numbers. Below an issuer
-/// without such a key the same certificates are unrevoked (`revocation`). And a valid trust anchor
-/// without such a key is in both or in neither (`anchors`).
+/// States what added files can't change. Each added file is signed by one of some keys or by no
+/// key, or is a copy of a file of the folder ([`AddsOnly`]). A path on which no issuer has one of
+/// these keys is valid with the certificates and CRLs of the one folder if and only if it is valid
+/// with those of the other, with the same resources (`paths`). Below an issuer without such a key
+/// the same certificates are unrevoked (`revocation`). A valid trust anchor without such a key is
+/// in both folders or in neither (`anchors`).
 ///
 /// [`AddsOnly`]: ../specs/Strangers.antt
 pub fn isolated<V: Verifier>()
@@ -76,8 +77,8 @@ pub fn isolated<V: Verifier>()
         → HasCertificate old c ↔ HasCertificate new c }
 {}
 
-/// Says that the names of a path chain (RFC 6487 7.2) of which a walk with names looked at each
-/// certificate below the trust anchor, whose own two names are one.
+/// States that a path's names chain (RFC 6487 7.2) if a walk that checks names judged each of its
+/// certificates below the trust anchor, and the trust anchor's issuer is its own subject.
 pub fn looked_at_chains<A: Admission>()
     ensures { (admission : A) (anchor : List ℕ) (certs : List (List ℕ)) (above : List ℕ)
         (place : ℕ) (kind : Kind) (p : Path)
@@ -88,11 +89,10 @@ pub fn looked_at_chains<A: Admission>()
         → NamesChain p }
 {}
 
-/// Says that a walk loses nothing by going on below no entity that stands above: of what it looks at
-/// it tells the verdicts, and each certificate that isn't a router's, to which a valid path leads of a
-/// length that the walk's end covers, was accepted, by that path or by one that isn't longer. The
-/// first premise is about who is asked for revocation
-/// ([`rpki_path::revocation::laws::asks_by_entity`]).
+/// States that a walk loses nothing by never going below an entity a second time. If a valid path
+/// leads to a certificate that isn't a router's, and the walk's end covers the path's length, the
+/// walk accepted the certificate, by that path or by one that isn't longer. The first premise is
+/// about the source of revocation ([`rpki_path::revocation::laws::asks_by_entity`]).
 pub fn nothing_is_lost<R: RevocationSource, V: Verifier>()
     ensures { (verifier : V) (source : R) (now : Moment) (strict names : Bool) (t : NamedTal)
         (anchor : List ℕ) (certs : List (List ℕ)) (depth steps : ℕ) (ended : Ended)

@@ -14,7 +14,7 @@ use std::mem;
 #[derive(Drop)]
 pub enum Line {
     /// No verdict: no valid path leads to a CA whose key signed the certificate, the walk didn't
-    /// admit it below such a CA, names don't chain, or the walk reached a limit before.
+    /// admit it below such a CA, name chaining fails, or the walk reached a limit before.
     Unseen,
     /// The certificate was accepted; this is the first path that led to it, and the resources that
     /// it holds there.
@@ -40,7 +40,7 @@ impl Model for Lines {
     ghost view = { λ l. l.lines.items };
 }
 
-// Whether the line stays where the certificate is rejected at this step.
+// Whether the line stays as it is if the certificate is rejected at this path index.
 fn stays(line: &Line, step: usize) -> bool
     ensures { IsTrue result ↔ Stays step line.now }
 {
@@ -97,7 +97,7 @@ impl Lines {
     }
 
     // Keeps that the certificate was rejected, unless it was accepted, or rejected at a higher
-    // step.
+    // path index.
     fn reject(&mut self, above: &[usize], place: usize, fault: PathFault)
         requires { place < length self.old }
         ensures lines { (ts : List Told) → AreLines ts self.old

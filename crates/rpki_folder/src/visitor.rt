@@ -13,7 +13,7 @@ pub struct Accepted<'w> {
     /// The accepted certificate with the resources that it holds; for a router's certificate, the
     /// CA above it with its resources.
     pub holder: &'w ResourceCert,
-    /// The accepted router's certificate, which holds nothing itself (RFC 8209).
+    /// The accepted router's certificate, which holds no resources itself (RFC 8209).
     pub router: Option<&'w Cert>,
 }
 
@@ -27,7 +27,7 @@ impl<'w> Model for Accepted<'w> {
 }
 
 impl<'w> Accepted<'w> {
-    // Of a member of a path.
+    // A certificate of a path that isn't a router's.
     pub(crate) fn member(holder: &'w ResourceCert) -> Accepted<'w>
         ensures { result ≡ record { holder = holder.now; router = None } }
     {
@@ -35,7 +35,7 @@ impl<'w> Accepted<'w> {
         Accepted { holder, router }
     }
 
-    // Of a router below a holder.
+    // A router below a CA that holds resources.
     pub(crate) fn router(holder: &'w ResourceCert, cert: &'w Cert) -> Accepted<'w>
         ensures { result ≡ record { holder = holder.now; router = Some cert.now } }
     {

@@ -41,25 +41,25 @@ use rpki_path::{
 use std::alloc::{AllocError, Global};
 use std::rc::Rc;
 
-/// A walk down through a folder: which certificates are looked at, how far, and when.
+/// A walk down through a folder: its files, its limits, its validation time and its checks.
 #[derive(Drop)]
 pub struct Walk<'w, A, V> {
-    /// Where memory comes from.
+    /// The allocator.
     pub alloc: Global,
-    /// The certificates and the lists, which are asked for revocation
-    /// ([`rpki_path::revocation::GivenLists`]).
+    /// The certificates and the CRLs. Revocation is checked against these CRLs, as by
+    /// [`rpki_path::revocation::GivenLists`].
     pub folder: &'w Folder,
-    /// Which certificates are let in.
+    /// Decides which certificates the walk judges.
     pub admission: &'w A,
-    /// How far the walk goes.
+    /// The limits of depth and of steps.
     pub bounds: Bounds,
-    /// Whether names have to chain (RFC 6487 7.2, RFC 5280 6.1.3 (a) (4)).
+    /// Whether name chaining is checked (RFC 6487 7.2, RFC 5280 6.1.3 (a) (4)).
     pub names: bool,
-    /// Whether the stricter profile is asked for.
+    /// Whether the stricter profile is required; it affects only which string types names may have.
     pub strict: bool,
-    /// The moment.
+    /// The validation time.
     pub at: Time,
-    /// How signatures are verified.
+    /// The verifier of signatures.
     pub verifier: &'w V,
 }
 
@@ -81,7 +81,7 @@ fn at_top<T: Drop>(answer: Result<T, PathFault>) -> Result<T, LocatedError>
     }
 }
 
-// The locator's name, which is shared.
+// The TAL's name, which is shared.
 fn name_of(tal: &Tal) -> Result<Rc<TalInfo>, PathFault>
     ensures ok { IfOk result (λ info. rc_value info ≡ tal.now.name) }
     ensures memory { IfErr result (λ e. e ≡ Memory) }
@@ -89,7 +89,7 @@ fn name_of(tal: &Tal) -> Result<Rc<TalInfo>, PathFault>
     Ok(tal.info().clone()?)
 }
 
-// Tells what is wrong with a certificate, unless memory ran out.
+// The error of a certificate, unless memory ran out.
 fn reject<W: Visitor>(
     above: &[usize],
     place: usize,
@@ -110,7 +110,7 @@ fn reject<W: Visitor>(
 }
 
 impl<'w, A: Admission, V: Verifier> Walk<'w, A, V> {
-    // The certificate at a place, as a member of this role below an issuer, where nobody is asked.
+    // The certificate at a place, validated in this role below an issuer, without revocation.
     fn unasked_member(
         &self,
         issuer: &ResourceCert,
@@ -137,7 +137,7 @@ impl<'w, A: Admission, V: Verifier> Walk<'w, A, V> {
         validator.member(issuer, &self.folder.certs()[place].member(), role)
     }
 
-    // Judges another certificate, where the issuer's lists are asked.
+    // Judges a certificate that isn't a router's, by the issuer's CRLs.
     fn member(
         &self,
         issuer: &ResourceCert,
@@ -166,7 +166,7 @@ impl<'w, A: Admission, V: Verifier> Walk<'w, A, V> {
         Ok(member)
     }
 
-    // The certificate at a place, as a router's below an issuer, where nobody is asked.
+    // The certificate at a place, validated as a router's below an issuer, without revocation.
     fn unasked_router(&self, issuer: &ResourceCert, place: usize) -> Result<Cert, PathFault>
         requires { place < length self.now.folder.now.certs }
         ensures begins { let w = self.now in
@@ -189,7 +189,7 @@ impl<'w, A: Admission, V: Verifier> Walk<'w, A, V> {
         validator.router(&self.folder.certs()[place].member(), issuer)
     }
 
-    // Judges a router's certificate, where the issuer's lists are asked.
+    // Judges a router's certificate, by the issuer's CRLs.
     fn router(
         &self,
         issuer: &ResourceCert,
@@ -218,8 +218,8 @@ impl<'w, A: Admission, V: Verifier> Walk<'w, A, V> {
         Ok(cert)
     }
 
-    // Tells the answer on the certificate at a place that is judged as a member, and returns that
-    // where it is accepted.
+    // Calls the visitor with the verdict on the certificate at a place, which isn't a router's, and
+    // returns the certificate if it is accepted.
     fn tell_member<W: Visitor>(
         &self,
         issuer: &ResourceCert,
@@ -257,7 +257,7 @@ impl<'w, A: Admission, V: Verifier> Walk<'w, A, V> {
         }
     }
 
-    // Tells the answer on the certificate at a place that is judged as a router's.
+    // Calls the visitor with the verdict on the router's certificate at a place.
     fn tell_router<W: Visitor>(
         &self,
         issuer: &ResourceCert,
@@ -291,8 +291,8 @@ impl<'w, A: Admission, V: Verifier> Walk<'w, A, V> {
         }
     }
 
-    // Judges the certificate at a place below an issuer as what it says that it is, tells the
-    // answer, and returns the CA below which the walk goes on.
+    // Judges the certificate at a place below an issuer as the kind that it says, calls the visitor
+    // with the verdict, and returns the CA below which the walk goes on.
     fn look_at<W: Visitor>(
         &self,
         issuer: &ResourceCert,
@@ -341,7 +341,7 @@ impl<'w, A: Admission, V: Verifier> Walk<'w, A, V> {
         }
     }
 
-    // What is kept of the folder's lists for an issuer.
+    // The CRLs of the folder that are searched below an issuer.
     fn lists_of(&self, issuer: &ResourceCert) -> Result<IssuerLists<'_>, AllocError>
         ensures { let w = self.now in
             let x = context (V.verifies w.verifier.now) w.at w.strict in
@@ -353,8 +353,8 @@ impl<'w, A: Admission, V: Verifier> Walk<'w, A, V> {
         IssuerLists::new(alloc, lists, places, issuer, self.names, now, self.verifier)
     }
 
-    // Whether the certificate at a place is looked at below the issuer: it is let in there, and its
-    // issuer's name is that of the issuer, if names are checked.
+    // Whether the certificate at a place is judged below the issuer: it is admitted there, and its
+    // issuer is the issuer's subject, if names are checked.
     fn is_looked_at(
         &self,
         issuer: &ResourceCert,
@@ -379,7 +379,7 @@ impl<'w, A: Admission, V: Verifier> Walk<'w, A, V> {
         Ok(is_named)
     }
 
-    // Whether the certificate at a place is of one entity with this one.
+    // Whether the certificate at a place is of the same entity as this one.
     fn is_one_at(&self, place: usize, cert: &Cert) -> Result<bool, AllocError>
         requires { place < length self.now.folder.now.certs }
         ensures { let w = self.now in
@@ -393,7 +393,7 @@ impl<'w, A: Admission, V: Verifier> Walk<'w, A, V> {
         Ok(is_one)
     }
 
-    // Whether this certificate is of one entity with the one below which the walk began, or with
+    // Whether this certificate is of the same entity as the one below which the walk started, or as
     // one at these places.
     fn is_one_of(
         &self,
@@ -419,8 +419,8 @@ impl<'w, A: Admission, V: Verifier> Walk<'w, A, V> {
         Ok(false)
     }
 
-    // Whether the issuer, which is the last of the CAs at these places, is of an entity that stands
-    // above it.
+    // Whether the issuer, which is the last of the CAs at these places, is of an entity that is
+    // above it already.
     fn is_in_circle(
         &self,
         top: &ResourceCert,
@@ -445,8 +445,8 @@ impl<'w, A: Admission, V: Verifier> Walk<'w, A, V> {
         }
     }
 
-    // The walk below an issuer with these lists, to the certificates at these places, for this
-    // depth. It began below the certificate at the top.
+    // The walk below an issuer with these CRLs, to the certificates at these places, for this
+    // depth. It started below the certificate at the top.
     #[cycle(descend)]
     fn each_below<W: Visitor>(
         &self,
@@ -508,9 +508,9 @@ impl<'w, A: Admission, V: Verifier> Walk<'w, A, V> {
         Ok(ended)
     }
 
-    // The walk below an issuer, for this depth, which began below the certificate at the top. It
-    // doesn't go on below an entity that stands above. Where nothing stands below the issuer, its
-    // lists aren't verified.
+    // The walk below an issuer, for this depth, which started below the certificate at the top. It
+    // doesn't go on below an entity that is above already. If no certificate is below the issuer,
+    // its CRLs aren't verified.
     #[cycle(descend)]
     fn descend<W: Visitor>(
         &self,
@@ -552,16 +552,28 @@ impl<'w, A: Admission, V: Verifier> Walk<'w, A, V> {
         ended
     }
 
-    /// Walks below an issuer that was validated before. Each certificate of the folder that names
-    /// the key of an accepted CA as the one that signs it, whose issuer is that CA's subject if
-    /// names are checked, and that is let in there, is judged as what it says that it is
-    /// ([`rpki_cert::said_kind`]), and the visitor is told the verdict: that of
-    /// [`rpki_path::judge`] on the path that leads to it, with the folder's lists. Certificates of
-    /// one key, as renewals that lie side by side, are each judged, and so are those below each of
-    /// them; but nothing below one of an entity that stands above it, where every path would go in
-    /// a circle ([`rpki_path::laws::has_no_repeat`] says that nothing is lost by it). Returns
-    /// whether everything was looked at; a bound that was met is told. Errs where memory runs out;
-    /// what was told before is right.
+    /// Walks below an issuer that was validated before, and calls the visitor with each verdict.
+    /// Returns how the walk ended: every certificate was judged, or which limit was reached.
+    ///
+    /// The walk judges a certificate of the folder below an accepted CA if
+    ///
+    /// - its authority key identifier is that of the CA's key (RFC 5280 4.2.1.1)
+    /// - its issuer is the CA's subject, if names are checked
+    /// - it is admitted there ([`Admission`])
+    ///
+    /// It is judged as the kind that it says ([`rpki_cert::said_kind`]). The verdict is that of
+    /// [`rpki_path::judge`] on the path that leads to it, with the folder's CRLs. Certificates of
+    /// one key, such as renewals, are each judged, and so are the certificates below each of them.
+    /// The walk doesn't go below an entity a second time, because every such path would be a
+    /// circle; nothing is lost by that ([`crate::laws::nothing_is_lost`]).
+    ///
+    /// # Errors
+    ///
+    /// Returns an error only if memory runs out. The verdicts before it are right.
+    ///
+    /// # Not checked
+    ///
+    /// Whether the issuer is valid, and manifests.
     pub fn below<W: Visitor>(
         &self,
         issuer: &ResourceCert,
@@ -585,7 +597,7 @@ impl<'w, A: Admission, V: Verifier> Walk<'w, A, V> {
         ended
     }
 
-    // What the trust anchor holds, which has to have the locator's key and to list a number.
+    // The trust anchor with its resources; it has to have the TAL's key and to list a number.
     fn validated_anchor(&self, tal: &Tal, anchor: &Member<'_>) -> Result<ResourceCert, LocatedError>
         ensures ok { let w = self.now in
             let x = context (V.verifies w.verifier.now) w.at w.strict in
@@ -609,9 +621,18 @@ impl<'w, A: Admission, V: Verifier> Walk<'w, A, V> {
         at_top(validator.trust_anchor(anchor, name))
     }
 
-    /// Validates the trust anchor, which has to have the locator's key (RFC 8630 3), to list an IP
-    /// address or an AS number and, if names are checked, to have one name (RFC 8630 2.3), and
-    /// returns what it holds. Errs with what is wrong with it, or where memory runs out.
+    /// Validates the trust anchor, and returns it with the resources that it holds. It has to have
+    /// the TAL's key (RFC 8630 3) and to list an IP address or an AS number (RFC 8630 2.3). If
+    /// names are checked, its issuer has to be its own subject (RFC 8630 2.3).
+    ///
+    /// # Errors
+    ///
+    /// Returns [`WalkError::Anchor`] or [`WalkError::OtherName`] if the trust anchor isn't valid,
+    /// and [`WalkError::Memory`] if memory runs out.
+    ///
+    /// # Not checked
+    ///
+    /// Whether the trust anchor is revoked: no CRL is above it.
     pub fn trust_anchor(&self, tal: &Tal, anchor: &Member<'_>) -> Result<ResourceCert, WalkError>
         ensures ok { let w = self.now in
             let x = context (V.verifies w.verifier.now) w.at w.strict in
@@ -631,17 +652,26 @@ impl<'w, A: Admission, V: Verifier> Walk<'w, A, V> {
         Ok(issuer)
     }
 
-    /// Walks down from the trust anchor of a locator: validates it ([`Walk::trust_anchor`]), and
-    /// walks below it ([`Walk::below`]). The trust anchor itself isn't told. Errs with what is
-    /// wrong with it, and then nothing was told; or where memory runs out.
+    /// Walks down from the trust anchor of a TAL: validates it ([`Walk::trust_anchor`]), and walks
+    /// below it ([`Walk::below`]). The visitor isn't called for the trust anchor itself.
+    ///
+    /// # Errors
+    ///
+    /// Returns [`WalkError::Anchor`] or [`WalkError::OtherName`] if the trust anchor isn't valid;
+    /// the visitor wasn't called then. Returns [`WalkError::Memory`] if memory runs out; the
+    /// verdicts before it are right.
+    ///
+    /// # Not checked
+    ///
+    /// Whether the folder has all certificates and CRLs of the repository, and whether manifests
+    /// list them ([`Admission`] can restrict the walk to those that are listed).
     pub fn from_anchor<W: Visitor>(
         &self,
         tal: &Tal,
         anchor: &Member<'_>,
         visitor: &mut W,
     ) -> Result<Ended, WalkError>
-        // Each verdict is right, and where the walk ended, it looked at each path that its end
-        // says.
+        // Each verdict is right, and the walk judged each path that its end covers.
         ensures tells { let w = self.now in
             let x = context (V.verifies w.verifier.now) w.at w.strict in
             let asked = by_named_lists w.names x w.folder.now.lists in
@@ -650,12 +680,12 @@ impl<'w, A: Admission, V: Verifier> Walk<'w, A, V> {
             (more : List Told) × W.became visitor.old more visitor.new
             × TellsFrom x asked w.names admits tal.now anchor.now certs w.bounds.depth
             w.bounds.steps result more }
-        // It begins at a valid trust anchor.
+        // It starts at a valid trust anchor.
         ensures anchor { let w = self.now in
             let x = context (V.verifies w.verifier.now) w.at w.strict in
             let asked = by_named_lists w.names x w.folder.now.lists in
             IfOk result (λ _. IsValidAnchor x asked w.names tal.now anchor.now) }
-        // The trust anchor is wrong so.
+        // The error is one of the trust anchor.
         ensures fault { let w = self.now in
             let x = context (V.verifies w.verifier.now) w.at w.strict in
             let asked = by_named_lists w.names x w.folder.now.lists in

@@ -5,15 +5,15 @@ use rpki_path::LocatedError;
 use std::alloc::AllocError;
 use thiserror::Error;
 
-/// The error of a walk that doesn't start, or that doesn't end.
+/// The error of a walk that can't start, or that stops before its end.
 #[derive(Debug, Drop, Error)]
 pub enum WalkError {
     /// The trust anchor isn't valid: it is rejected, its key isn't the TAL's (RFC 8630 3), or it
     /// lists no resources.
     #[error("{0}")]
     Anchor(LocatedError),
-    /// The trust anchor is valid, but its issuer's name isn't its subject's, and name chaining is
-    /// checked (RFC 5280 6.1.3).
+    /// The trust anchor is valid, but its issuer isn't its own subject, and name chaining is
+    /// checked (RFC 8630 2.3, RFC 5280 3.2).
     #[error("the trust anchor's issuer isn't its subject")]
     OtherName,
     /// Memory ran out.

@@ -1,5 +1,5 @@
-//! What follows of two walks from one trust anchor, of a directory and of the same one with files
-//! that were added.
+//! Laws about two walks from one trust anchor: over a directory, and over the same directory with
+//! added files.
 ghost use Rattle.std.specs.Prelude.{◌+◌, ◌++◌, ℕ, Bool, List, Contains, Result};
 ghost use Rattle.rpki_der.specs.Times.{Moment};
 ghost use Rattle.rpki_parts.specs.Keys.{KeyFields};
@@ -18,17 +18,18 @@ ghost use Rattle.rpki_isolation.specs.ToldWalks.{IsAcceptedBelow, IsAllFreeOf, I
 
 use rpki_parts::Verifier;
 
-/// Says that files of strangers change no verdict of a walk below CAs that have no key of theirs.
-/// Take a directory, and the same one with files that were added: each was signed by some keys alone,
-/// or by none, or it is a copy, as [`rpki_folder::laws::isolated`] has them. Take a walk through each
+/// States that files of strangers change no verdict of a walk below CAs that have no key of theirs.
+///
+/// Take a directory, and the same one with added files. Each added file was signed by one of some
+/// keys, or by none, or is a copy, as in [`rpki_folder::laws::isolated`]. Take a walk through each
 /// of the two from one trust anchor. Take a path on which no CA, the trust anchor included, has one
 /// of these keys.
 ///
-/// Two verdicts on one certificate below the path, one of each walk, say the same (`alike`): both
-/// accept it, with the same resources, or both reject it, for the same reason. The reasons may differ
-/// only if no CRL can be used: a forged CRL makes a bad signature of a missing CRL. The walk with the
-/// added files accepts what the other accepted, if its limits let it look so far (`stays`). The
-/// converse is so, too (`only`).
+/// Two verdicts on one certificate below the path, one of each walk, are the same (`alike`): both
+/// accept it, with the same resources, or both reject it, for the same reason. The reasons may
+/// differ only if no CRL can be used: a forged CRL turns a missing CRL into a bad signature. The
+/// walk with the added files accepts what the other accepted, if its limits let it go so far
+/// (`stays`), and the other way round (`only`).
 pub fn isolated_walks<V: Verifier>()
     ensures alike { (verifier : V) (now : Moment) (strict names : Bool) (keys : List KeyFields)
         (old new : FolderFields) (t : NamedTal) (anchor : List ℕ)
@@ -60,9 +61,9 @@ pub fn isolated_walks<V: Verifier>()
     rpki_cert::laws::unambiguous();
 }
 
-/// Says of three files that they add no more than [`isolated_walks`] supposes: a copy of
-/// a certificate's file, with any bytes behind it (`copy`); a certificate that no key but these
-/// signed (`own`); and a CRL that no key but these signed (`own_list`).
+/// States that three kinds of files add no more than [`isolated_walks`] supposes: a copy of a
+/// certificate's file, followed by any bytes (`copy`); a certificate that no key but these signed
+/// (`own`); and a CRL that no key but these signed (`own_list`).
 pub fn added_files<V: Verifier>()
     ensures copy { (verifier : V) (keys : List KeyFields) (old : FolderFields)
         (octets more : List ℕ) → Contains old.certs octets

@@ -1,4 +1,4 @@
-//! A verifier that takes each signature for valid.
+//! A verifier that accepts every signature.
 
 use rpki_parts::{PublicKey, RpkiSignatureAlgorithm, Verifier};
 

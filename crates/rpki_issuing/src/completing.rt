@@ -15,11 +15,11 @@ use rpki_der::Time;
 use rpki_parts::Verifier;
 use std::alloc::Global;
 
-/// Completes a prepared certificate with the octets of its signature. Returns the certificate.
+/// Completes a prepared certificate with the bytes of its signature. Returns the certificate.
 ///
 /// If the certificate is still ready in this role at `now`, the result is `Ok` if and only if the
 /// verifier accepts `signature` as one of [`Prepared::octets`] by the issuer's key. The certificate
-/// is decoded again from its own octets, and is valid in its role as [`Cert::validate_ca_at`] and
+/// is decoded again from its own bytes, and is valid in its role as [`Cert::validate_ca_at`] and
 /// its siblings say.
 ///
 /// # Errors

@@ -13,7 +13,7 @@ pub enum IssuingError {
     /// their IPv4 resources aren't whole IPv4 addresses (RFC 6487 4.8, RFC 3779 2.2.3).
     #[error("fields of no certificate")]
     Unwritable,
-    /// The certificate is too long: a content would have 2^32 octets or more (own).
+    /// The certificate is too long: a content would have 2^32 bytes or more (own).
     #[error("content too long")]
     TooLong,
     /// The certificate doesn't meet the profile of its kind, or a check below its issuer fails (RFC

@@ -18,8 +18,8 @@ ghost use Rattle.rpki_issuing.specs.declared.role.Role.{Role};
 
 use rpki_parts::Verifier;
 
-/// Says that a ready certificate is valid once it is signed: with each signature of its octets that
-/// the verifier accepts by the issuer's key, it is a certificate that is valid in its role.
+/// States that a ready certificate is valid once it is signed: with each signature of its bytes
+/// that the verifier accepts by the issuer's key, it is a certificate that is valid in its role.
 pub fn ready_once_signed<V: Verifier>()
     ensures { (verifier : V) (now : Moment) (strict : Bool) (role : Role) (f : TbsFields)
         (value : List ℕ) → IsReady now strict role f
@@ -27,7 +27,7 @@ pub fn ready_once_signed<V: Verifier>()
         → IsValidAs (context (V.verifies verifier) now strict) role (signed_with f value) }
 {}
 
-/// Says that a CRL that leaves others unrevoked and revokes its own (as [`crate::complete_list`]
+/// States that a CRL which leaves others unrevoked and revokes its own (as [`crate::complete_list`]
 /// promises) does so too if it is the first one of a store under its URI:
 /// [`rpki_crl::CrlStore::check`] returns `Ok` for each serial number that isn't on it, and
 /// `Revoked` for each other.
@@ -47,7 +47,7 @@ pub fn stored_list_answers<V: Verifier>()
         revocation_checks Revoked }
 {}
 
-/// Says that a current CRL answers for its issuer ([`crate::complete_list`] promises that it is
+/// States that a current CRL answers for its issuer ([`crate::complete_list`] promises that it is
 /// current). If it is used for a certificate, whatever other CRLs are given, the certificate is
 /// unrevoked if its serial number isn't on the CRL, and otherwise `Revoked` is the first check that
 /// fails ([`rpki_path::revocation::GivenLists`]).
@@ -57,8 +57,8 @@ pub fn current_list_answers<V: Verifier>()
         IsCurrentList x issuer list → AnswersFor x issuer list }
 {}
 
-/// Says which numbers have at most 20 octets as an INTEGER (RFC 5280 5.2.3, X.690 8.3): those below
-/// 2^159, since the first bit is the sign's.
+/// States which numbers have at most 20 bytes as an INTEGER (RFC 5280 5.2.3, X.690 8.3): those
+/// below 2^159, because the first bit is the sign's.
 pub fn twenty_octets()
     ensures { (n : ℕ) → HasAtMostTwentyOctets n ↔ (n < 2 ^ 159) }
 {}

@@ -2,7 +2,7 @@
 //! completed by its signature once that verifies.
 //!
 //! `values` has the values that a person writes as texts, and `wanted` makes certificates and CRLs
-//! of such values, as octets.
+//! of such values, as bytes.
 #![tactic(auto)]
 
 mod any_signature;

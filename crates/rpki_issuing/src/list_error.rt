@@ -12,7 +12,7 @@ pub enum ListError {
     /// 5, RFC 5280 5.1.2.4, 5.1.2.5).
     #[error("{0}")]
     Invalid(RevocationError),
-    /// The CRL is too long: a content would have 2^32 octets or more (own).
+    /// The CRL is too long: a content would have 2^32 bytes or more (own).
     #[error("content too long")]
     TooLong,
     /// Memory ran out.

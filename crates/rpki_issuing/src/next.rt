@@ -19,7 +19,7 @@ pub enum NextListError {
     /// The CRL number isn't greater than the previous CRL's (RFC 5280 5.2.3).
     #[error("the number isn't greater")]
     Number,
-    /// The CRL number has more than 20 octets as an INTEGER: it is 2^159 or more (RFC 5280 5.2.3).
+    /// The CRL number has more than 20 bytes as an INTEGER: it is 2^159 or more (RFC 5280 5.2.3).
     #[error("the number is too long")]
     LongNumber,
     /// nextUpdate is before thisUpdate (own).
@@ -175,7 +175,7 @@ fn check(
 /// Returns the first error:
 ///
 /// - `Number` if `number` isn't greater than the previous CRL's (RFC 5280 5.2.3)
-/// - `LongNumber` if `number` has more than 20 octets as an INTEGER (RFC 5280 5.2.3)
+/// - `LongNumber` if `number` has more than 20 bytes as an INTEGER (RFC 5280 5.2.3)
 /// - `UpdateOrder` if `next_update` is before `this_update`
 /// - `Memory` if memory runs out
 ///

@@ -45,7 +45,7 @@ impl Prepared {
         &self.unsigned
     }
 
-    /// Returns the octets to sign: the TBSCertificate with these fields, with its identifier and
+    /// Returns the bytes to sign: the TBSCertificate with these fields, with its identifier and
     /// length (RFC 5280 4.1.1.3).
     pub fn octets(&self) -> &[u8]
         ensures octets { result.now ≡ encoding self.now }

@@ -112,7 +112,7 @@ impl PreparedList {
         self.unsigned.as_cert_list()
     }
 
-    /// Returns the octets to sign: the TBSCertList with these fields, with its identifier and
+    /// Returns the bytes to sign: the TBSCertList with these fields, with its identifier and
     /// length (RFC 5280 5.1.1.3).
     pub fn octets(&self) -> &[u8]
         ensures octets { result.now ≡ list_encoding self.now }
@@ -163,11 +163,11 @@ pub fn prepare_list(
     }
 }
 
-/// Completes a prepared CRL with the octets of its signature. Returns the CRL.
+/// Completes a prepared CRL with the bytes of its signature. Returns the CRL.
 ///
 /// If the CRL is still ready below this issuer at `now`, the result is `Ok` if and only if the
 /// verifier accepts `signature` as one of [`PreparedList::octets`] by the issuer's key. The CRL is
-/// decoded again from its own octets, and is current. Below this issuer each serial number that
+/// decoded again from its own bytes, and is current. Below this issuer each serial number that
 /// isn't on it passes the checks of [`rpki_crl::CrlStore::check`], and each that is on it fails as
 /// `Revoked`.
 ///

@@ -1,5 +1,5 @@
-//! Certificates and CRLs made of the values that a person chooses: their fields, the octets to
-//! sign, and the octets of the certificate or CRL that a signature completes.
+//! Certificates and CRLs made of the values that a person chooses: their fields, the bytes to
+//! sign, and the bytes of the certificate or CRL that a signature completes.
 
 pub mod issuers;
 mod lists;

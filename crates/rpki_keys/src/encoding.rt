@@ -1,4 +1,4 @@
-//! What a signature has to encode.
+//! The encoding of a message for a signature.
 ghost use Rattle.std.specs.Prelude.{◌≡◌};
 ghost use Rattle.rpki_keys.specs.RsaSignatures.{emsa_pkcs1_v1_5};
 

@@ -1,4 +1,4 @@
-//! What a public key is, and whether the RPKI uses it.
+//! The form of a public key, and whether the RPKI uses such a key.
 ghost use Rattle.std.specs.Prelude.{◌≡◌, ◌↔◌, IsTrue};
 ghost use Rattle.rpki_keys.specs.KeyForms.{IsUsableKey, IsKeyForm, ArePointOf};
 

@@ -1,9 +1,10 @@
-//! Keys of the RPKI, signatures by them (RFC 7935 2, 3), and the locators that name a trust
-//! anchor's key (`tal`): what the bits of a public key are, whether the RPKI uses it, and
-//! RSASSA-PKCS1-v1_5 with SHA-256 by RSA keys of 2048 bits and the exponent 65537, on numbers of
-//! many limbs (`numbers`). Certificates are read whatever the bits of their keys say; who uses a
-//! key asks here. Signatures are verified here, and made elsewhere: this code runs in variable
-//! time, which is harmless where all that it reads is public, and unfit for a private key.
+//! Keys of the RPKI, signatures by them (RFC 7935 2, 3), and TALs, which name a trust anchor's key
+//! (`tal`): the form of a public key, whether the RPKI uses such a key, and RSASSA-PKCS1-v1_5 with
+//! SHA-256 for RSA keys of 2048 bits with the exponent 65537, on numbers of many limbs (`numbers`).
+//!
+//! Certificates are read whatever the bits of their keys are; a caller who uses a key checks it
+//! here. Signatures are verified here, and made elsewhere. This code runs in variable time, which
+//! is harmless because all its inputs are public, and which makes it unfit for a private key.
 #![tactic(auto)]
 
 mod curve;

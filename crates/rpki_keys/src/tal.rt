@@ -1,5 +1,5 @@
-//! Trust anchor locators (RFC 8630): where the certificate of a trust anchor may be found, and the
-//! key that it has to have. Nothing is fetched.
+//! TALs, trust anchor locators (RFC 8630): the URIs of a trust anchor's certificate, and the key
+//! that it has to have. Nothing is fetched.
 
 mod digits;
 pub mod laws;

@@ -1,5 +1,4 @@
-//! What copies and equality of values promise, each as the contract of a function that only calls
-//! them.
+//! Copies and comparisons of values, each with its promise as a contract.
 
 ghost use Rattle.std.specs.Prelude.{◌≡◌, ◌↔◌, IsTrue, IsOkAnd};
 

@@ -31,10 +31,10 @@ fn status_of(answer: Result<Status, RunFault>) -> u8
 /// exit status:
 ///
 /// - 0 if the question was answered
-/// - 1 if the answer is `refused`: octets were rejected
+/// - 1 if the answer is `refused`: bytes were rejected
 /// - 2 if the input doesn't have its form
-/// - 3 if reading, writing or memory failed, or if the input is too long; nothing else reports
-///   which
+/// - 3 if reading, writing or memory failed, or if the input is too long; no output says which of
+///   these
 ///
 /// The reader and the writer that are lent show what was read and what was written.
 ///

@@ -1,4 +1,4 @@
-//! What the line program's input asks.
+//! The line program's input, as a question.
 ghost use Rattle.std.specs.Prelude.{IfOk};
 ghost use Rattle.rpki_lines.specs.Questions.{IsInput};
 
@@ -6,14 +6,14 @@ use crate::lines::{RevokedQuestion, revoked_from, split_line};
 use crate::path_lines::{PathQuestion, moment_from, path_from};
 use std::alloc::{AllocError, Global};
 
-/// What the line program's input is read as.
+/// A question of the line program's input, or the line that isn't one.
 #[derive(Drop)]
 pub(crate) enum Input {
-    /// Whether a list of revoked certificates has a serial number.
+    /// Whether revokedCertificates have a serial number.
     Revoked(RevokedQuestion),
     /// Whether strings are a valid path.
     Path(PathQuestion),
-    /// The number, from 1, of the first line that doesn't fit, or that is missing.
+    /// The number, from 1, of the first line that is wrong or missing.
     Bad(usize),
 }
 

@@ -32,7 +32,7 @@ fn split_once(separator: u8, text: &[u8]) -> Option<(&[u8], &[u8])>
     Some((&text[..at], &text[at + 1..]))
 }
 
-/// Splits a text. Returns its first line, and what follows that line's end.
+/// Splits a text. Returns its first line, and the text after that line's end.
 pub(crate) fn split_line(text: &[u8]) -> Option<(&[u8], &[u8])>
     ensures line { IfSome result (λ parts. IsFirstLine parts.0.now parts.1.now text.now) }
     ensures shorter { IfSome result (λ parts. length parts.1.now < length text.now) }
@@ -47,7 +47,7 @@ pub(crate) fn split_line(text: &[u8]) -> Option<(&[u8], &[u8])>
     }
 }
 
-/// Returns what stands behind this beginning of a line.
+/// Returns the rest of a line that starts with these bytes.
 pub(crate) fn behind<'a>(beginning: &[u8], line: &'a [u8]) -> Option<&'a [u8]>
     ensures some { IfSome result (λ rest. line.now ≡ beginning.now ++ rest.now) }
     ensures none { IfNone result ((rest : List ℕ) → line.now ≡ beginning.now ++ rest → ⊥) }
@@ -101,8 +101,7 @@ fn from_word(alloc: Global, word: &[u8]) -> Result<Option<Vec<u8>>, AllocError>
     from_digits(alloc, word)
 }
 
-/// Reads a line that has this name, with its space, and then a word. Returns the octets of the
-/// word.
+/// Reads a line with this name, a space and a word. Returns the bytes of the word.
 pub(crate) fn octets_behind(
     alloc: Global,
     name: &[u8],
@@ -122,7 +121,7 @@ pub(crate) fn octets_behind(
     Ok(Some(Bytes::from_vec(octets)?))
 }
 
-/// A list of revoked certificates, and the serial number that is sought there.
+/// Revoked certificates, and the serial number that is searched among them.
 #[derive(Drop)]
 pub(crate) struct RevokedQuestion {
     pub(crate) list: Bytes,

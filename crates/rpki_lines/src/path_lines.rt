@@ -1,4 +1,4 @@
-//! The lines that ask whether strings are a valid path.
+//! The lines of a question about a path.
 ghost use Rattle.std.specs.Prelude.{◌<◌, ℕ, Bool, List, [], ◌∷◌, Some, None, IfOk, IfSome, IfNone};
 ghost use Rattle.std.specs.List.{AllZip};
 ghost use Rattle.rpki_der.specs.Times.{Moment};
@@ -27,7 +27,7 @@ pub(crate) struct PathQuestion {
     pub(crate) leaf: Option<Leaf>,
 }
 
-/// Reads the moment of a line `at YYYYMMDDhhmmss`.
+/// Reads the time of a line `at YYYYMMDDhhmmss`.
 pub(crate) fn moment_from(line: &[u8]) -> Option<Time>
     ensures some { IfSome result (λ now. IsMomentLine now line.now) }
     ensures none { IfNone result ((now : Moment) → IsMomentLine now line.now → ⊥) }
@@ -134,7 +134,7 @@ fn anchor_from(alloc: Global, now: Time, strict: bool, text: &[u8]) -> Result<In
     members_from(alloc, now, strict, anchor, rest)
 }
 
-/// Reads the lines from the second on: first whether names are inspected strictly.
+/// Reads the lines from the second on; the first of them says whether names are inspected strictly.
 pub(crate) fn path_from(alloc: Global, now: Time, text: &[u8]) -> Result<Input, AllocError>
     ensures { (before : List (List ℕ)) → AllZip IsLine (at_moment now ∷ []) before
         → IfOk result (IsReadBehind before text.now) }

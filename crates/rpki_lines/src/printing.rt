@@ -15,7 +15,7 @@ pub(crate) trait Ends {
 
     type Number: Bound;
 
-    /// What is printed of a number.
+    /// The printed text of a number.
     ghost text: { ℕ → List ℕ };
 
     /// Writes the number as it is printed.

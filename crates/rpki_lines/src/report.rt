@@ -1,4 +1,4 @@
-//! What the line program prints.
+//! The output of the line program.
 ghost use Rattle.std.specs.Prelude.{◌≡◌, ◌≢◌, ℕ, List, [], ◌∷◌, IfOk, OnOk, Contains, cond, string_bytes, codes, decimal};
 ghost use Rattle.rpki_path.specs.Paths.{IsUnasked};
 ghost use Rattle.rpki_lines.specs.Program.{decode_faults, output_of, IsToldBy, PrintsFault, Says, SaysOfList, SaysOfPath};
@@ -20,7 +20,7 @@ use rpki_parts::{StandIn, TalInfo};
 use rpki_path::{PathError, PathFault, validate_path};
 use std::alloc::{AllocError, Global};
 
-/// What is printed, and how the run ends.
+/// The text that is printed, and how the run ends.
 #[derive(Drop)]
 pub(crate) struct Report {
     pub(crate) status: Status,

@@ -1,4 +1,4 @@
-//! One run of the line program: from the octets of a reader to those of a writer.
+//! One run of the line program: from the bytes of a reader to those of a writer.
 ghost use Rattle.std.specs.Prelude.{◌≡◌, ◌≢◌, ◌↔◌, ◌⊎◌, ◌+◌, ◌^◌, ◌≤◌, length, IfOk, OnOk, IsErr, IfErr, IsErrOf};
 ghost use Rattle.std.specs.Io.KnownBytes.{Appends, Consumes, IsAtEnd};
 ghost use Rattle.rpki_lines.specs.Watching.{device, HasFailed, Takes, TakesAtMost};
@@ -11,7 +11,7 @@ use std::alloc::{AllocError, Global};
 use std::io::{Read, Write};
 use thiserror::Error;
 
-/// The most octets that an input may have: 2^24.
+/// The most bytes that an input may have: 2^24.
 pub const MAX_INPUT: usize = 0x100_0000;
 
 /// How a run ended that wrote an answer.
@@ -19,7 +19,8 @@ pub const MAX_INPUT: usize = 0x100_0000;
 pub enum Status {
     /// The question was answered.
     Done,
-    /// The answer is `refused`: the octets of the question are no list, or no valid path.
+    /// The answer is `refused`: the bytes of the question aren't revokedCertificates, or aren't a
+    /// valid path.
     Refused,
     /// The input doesn't have its form; the answer is `bad input` and a line's number.
     BadInput,
@@ -37,7 +38,7 @@ pub enum RunFault {
     /// Memory ran out.
     #[error("out of memory")]
     Memory,
-    /// The input has more than [`MAX_INPUT`] octets.
+    /// The input has more than [`MAX_INPUT`] bytes.
     #[error("the input is too long")]
     TooLong,
 }
@@ -81,15 +82,14 @@ impl From<AllocError> for RunFault {
     }
 }
 
-/// Reads the whole input and writes its answer. The end of the last line may be absent. Octets are
+/// Reads the whole input and writes its answer. The end of the last line may be absent. Bytes are
 /// written in hexadecimal digits, or as `-` if there are none.
 ///
-/// The line `revoked LIST SERIAL` asks whether a list of revoked certificates
-/// (`revokedCertificates`, RFC 5280 5.1) has a serial number, which is below 2^160. The answer is
-/// one of:
+/// The line `revoked LIST SERIAL` asks whether revokedCertificates (RFC 5280 5.1) have a serial
+/// number, which is below 2^160. The answer is one of:
 ///
 /// - `yes` or `no`
-/// - `refused decode` and an error's name, if the octets aren't a list
+/// - `refused decode` and an error's name, if the bytes aren't revokedCertificates
 ///
 /// These lines ask whether strings are a valid path at that time, with dummy signatures:
 ///
@@ -106,8 +106,8 @@ impl From<AllocError> for RunFault {
 /// - `refused`, the path index of the first wrong certificate (the trust anchor's is 0), `decode`,
 ///   `inspect` or `verify`, and the error's name
 ///
-/// The answer to any other input is `bad input` and the number of the first line that doesn't fit,
-/// or that is missing.
+/// The answer to any other input is `bad input` and the number of the first line that is wrong or
+/// missing.
 ///
 /// # Errors
 ///
@@ -115,14 +115,14 @@ impl From<AllocError> for RunFault {
 ///
 /// - `Read` if and only if the reader failed
 /// - `Write` if and only if the writer failed
-/// - `TooLong` if the input has more than [`MAX_INPUT`] octets
+/// - `TooLong` if the input has more than [`MAX_INPUT`] bytes
 /// - `Memory` if memory runs out
 ///
 /// Nothing is written before an error other than `Write`.
 ///
 /// # Not checked
 ///
-/// Signatures (see above), CRLs, and whether names chain.
+/// Signatures (see above), CRLs, and name chaining.
 pub fn run<R: Read, W: Write>(
     alloc: Global,
     reader: &mut Watched<R>,

@@ -35,7 +35,7 @@ impl<T> Watched<T> {
 }
 
 impl<T: Read> Watched<T> {
-    /// Reads into the slice. Returns how many octets were read; 0 of a slice that isn't empty means
+    /// Reads into the slice. Returns how many bytes were read; 0 for a slice that isn't empty means
     /// the end.
     ///
     /// # Errors
@@ -56,7 +56,7 @@ impl<T: Read> Watched<T> {
 }
 
 impl<T: Write> Watched<T> {
-    /// Writes octets from the start of the slice. Returns how many were written.
+    /// Writes bytes from the start of the slice. Returns how many were written.
     ///
     /// # Errors
     ///

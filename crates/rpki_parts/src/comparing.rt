@@ -1,4 +1,4 @@
-//! What copies and equality of values promise, each in a function that only asks.
+//! Copies and equality of values, each with its promise as a contract.
 
 ghost use Rattle.std.specs.Prelude.{◌≡◌, ◌↔◌, IsTrue, IsOkAnd};
 

@@ -1,4 +1,4 @@
-//! Names, kept as they stand.
+//! Names, kept as they are encoded.
 ghost use Rattle.rpki_parts.specs.KeyNames.{digit, hexadecimal, name_of_digits};
 ghost use Rattle.std.specs.Prelude.{◌≡◌, ◌≢◌, ◌<◌, ◌++◌, IfOk, IfErr, OnOk, is_ok, is_some};
 ghost use Rattle.rpki_der.specs.Answers.{AnswersOrMemory};

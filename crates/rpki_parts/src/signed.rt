@@ -1,4 +1,4 @@
-//! Signed data: octets and their signature.
+//! Signed data: bytes and their signature.
 ghost use Rattle.std.specs.Prelude.{◌≡◌, ◌↔◌, ◌^◌, ◌<◌, ◌++◌, Ok, IfOk, IfErr, IsOk, OnErr, OnOk, length, take};
 ghost use Rattle.rpki_der.specs.Writers.{SaysLong, Writes};
 ghost use Rattle.rpki_der.specs.Answers.{AnswersOrMemory};

@@ -9,7 +9,7 @@ use std::alloc::AllocError;
 use std::str;
 use thiserror::Error;
 
-/// The bytes aren't a URI of the scheme that was asked for.
+/// The bytes aren't a URI of the expected scheme.
 #[derive(Debug, Clone, Copy, PartialEq, Eq, Error)]
 #[error("bad URI")]
 pub struct BadUri;
@@ -28,7 +28,7 @@ impl BadUri {
 /// The reason why a text gave no URI.
 #[derive(Debug, Drop, Error)]
 pub enum UriError {
-    /// The text isn't a URI of the scheme that was asked for.
+    /// The text isn't a URI of the expected scheme.
     #[error("bad URI")]
     BadUri,
     /// Memory ran out.
@@ -84,7 +84,7 @@ impl From<AllocError> for UriError {
     }
 }
 
-/// The number of octets of `rsync://` and of `https://`.
+/// The number of bytes of `rsync://` and of `https://`.
 const SCHEME_LENGTH: usize = 8;
 
 // The text of a URI, which is ASCII.

@@ -1,4 +1,4 @@
-//! Whether a moment lies in a period of validity.
+//! Whether a time lies in a period of validity.
 ghost use Rattle.rpki_parts.specs.Conditions.{Tests};
 ghost use Rattle.rpki_parts.specs.ValidAt.{IsInTime, validity_faults};
 

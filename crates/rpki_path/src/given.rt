@@ -1,4 +1,4 @@
-//! The members of a path that is asked about.
+//! The certificates of a path that is to be validated.
 ghost use Rattle.std.specs.Prelude.{◌≡◌, ◌≢◌, ◌↔◌, ℕ, List, length, IsSome, IfSome};
 ghost use Rattle.rpki_cert.specs.declared.inspect.Kind.TheVariants as cert;
 ghost use Rattle.rpki_path.specs.GivenPaths.{string_count, path_strings, path_to, CanEndIn, IsSplitAs};
@@ -7,7 +7,7 @@ use crate::members::Member;
 use rpki_cert::Kind;
 use std::marker::Model;
 
-/// The last member of a path, where it isn't a CA.
+/// The last certificate of a path, if it isn't a CA's.
 #[derive(Clone, Copy, Drop)]
 pub enum Last<'p, 'm> {
     /// An end entity, which signs an object that its certificate names.
@@ -18,7 +18,7 @@ pub enum Last<'p, 'm> {
     Router(&'p Member<'m>),
 }
 
-// The last member as one of this kind, where that isn't a CA.
+// The last certificate as one of this kind, if that isn't a CA.
 fn last_as<'p, 'm>(kind: Kind, end: &'p Member<'m>) -> Option<Last<'p, 'm>>
     ensures { kind ≢ cert.Anchor → kind ≢ cert.Authority → (anchor : List ℕ) (cas : List (List ℕ))
         → path_strings anchor cas result ≡ path_to anchor cas kind end.now }
@@ -31,8 +31,8 @@ fn last_as<'p, 'm>(kind: Kind, end: &'p Member<'m>) -> Option<Last<'p, 'm>>
     }
 }
 
-/// The members of a path that is asked about: the trust anchor, the CAs below it from the top down,
-/// and the last, where it isn't a CA.
+/// The certificates of a path that is to be validated: the trust anchor, the CAs below it from the
+/// top down, and the last certificate, if it isn't a CA's.
 #[derive(Drop)]
 pub struct GivenPath<'p, 'm> {
     pub anchor: &'p Member<'m>,
@@ -49,9 +49,9 @@ impl<'p, 'm> Model for GivenPath<'p, 'm> {
 }
 
 impl<'p, 'm> GivenPath<'p, 'm> {
-    /// Splits members, the trust anchor first, as the kind of the last one says. Gives `None` where
-    /// they are too few (none at all; or one alone, which is to be an end entity or a router), and
-    /// where others follow one that is to be the trust anchor.
+    /// Splits the certificates, the trust anchor first, by the kind of the last one. Returns `None`
+    /// if there is none, if the only one is to be an end entity or a router, or if the last one of
+    /// several is to be the trust anchor.
     pub fn of(members: &'p [Member<'m>], last: Kind) -> Option<GivenPath<'p, 'm>>
         ensures some { IsSome result ↔ CanEndIn last (length members.now) }
         ensures split { IfSome result (IsSplitAs members.now last) }

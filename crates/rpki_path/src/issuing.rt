@@ -1,4 +1,4 @@
-//! What the public clauses give together: a CA below the last member of a valid path is issued.
+//! What the public clauses give together: a CA below the last certificate of a path is issued.
 ghost use Rattle.std.specs.Prelude.{◌≡◌, ◌^◌, ◌<◌, ℕ, List, length, Option, Ok, Err, IfOk, IfErr};
 ghost use Rattle.rpki_parts.specs.Signatures.{SignatureFields};
 ghost use Rattle.rpki_parts.specs.SignedDatas.{signed_content};
@@ -19,12 +19,17 @@ use rpki_der::Time;
 use rpki_parts::{Signer, Verifier};
 use std::alloc::Global;
 
-/// Issues a CA below this issuer, where nothing but memory is in the way: the fields can be
-/// written, the signer refuses for out of memory alone, and with each signature that it may give
-/// the certificate isn't too long, and is valid below the issuer. The answer is then Ok or out of
-/// memory. Where the issuer is the last member of a valid path, and no list that is asked revokes
-/// the new certificate, this is the last member of a valid path that is longer by it, and has
-/// exactly what that path holds.
+/// Issues a CA below this issuer if nothing but memory can prevent it (own).
+///
+/// The premises: the fields can be written, the signer fails only if memory runs out, and with each
+/// signature that it may give the certificate isn't too long and is valid below the issuer. If the
+/// issuer is the last certificate of a valid path, and no searched CRL revokes the new certificate,
+/// the new certificate is the last of a valid path that is longer by one, and it holds exactly what
+/// that path holds.
+///
+/// # Errors
+///
+/// Returns `Memory` only.
 pub fn issue_below<S: Signer, V: Verifier>(
     alloc: Global,
     tbs: TbsCert,

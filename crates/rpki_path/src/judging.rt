@@ -1,4 +1,4 @@
-//! The verdict on a path, whatever its last member is and whoever is asked for revocation.
+//! The verdict on a path, for each kind of last certificate and each source of revocation.
 ghost use Rattle.std.specs.Prelude.{◌≡◌, ◌<◌, [], IfOk, IfErr};
 ghost use Rattle.std.proofs.Common.{rc_value};
 ghost use Rattle.rpki_cert.specs.Verification.{context};
@@ -17,8 +17,8 @@ use rpki_parts::{PublicKey, TalInfo, Verifier};
 use std::alloc::Global;
 use std::rc::Rc;
 
-/// What the last member of a valid path holds (of a router: the CA above it), and the router's
-/// certificate, where the last is one's.
+/// The result of [`judge`]: the last certificate of a valid path with the resources that it holds
+/// (above a router, the CA), and the router's certificate, if the last is a router's.
 #[derive(Drop)]
 pub struct Judged {
     pub holder: ResourceCert,
@@ -29,7 +29,7 @@ impl Judged {
     ghost use Rattle.std.specs.Prelude.{◌≡◌};
     ghost use Rattle.rpki_path.specs.Judging.{last_key};
 
-    /// Returns the key of the last member's certificate.
+    /// Returns the key of the path's last certificate.
     pub fn last_key(&self) -> &PublicKey
         ensures { result.now ≡ last_key self.now }
     {
@@ -40,7 +40,7 @@ impl Judged {
     }
 }
 
-// A locator without a name.
+// A TAL without a name.
 fn nameless(alloc: Global) -> Result<Rc<TalInfo>, PathFault>
     ensures ok { IfOk result (λ tal. rc_value tal ≡ []) }
     ensures memory { IfErr result (λ e. e ≡ Memory) }
@@ -48,7 +48,7 @@ fn nameless(alloc: Global) -> Result<Rc<TalInfo>, PathFault>
     Ok(TalInfo::from_name(String::new(alloc)).into_rc(alloc)?)
 }
 
-// The verdict on the path, whose locator has no name.
+// The verdict on the path, whose TAL has no name.
 fn verdict<R: RevocationSource, V: Verifier>(
     path: &GivenPath<'_, '_>,
     tal: Rc<TalInfo>,
@@ -92,7 +92,7 @@ fn verdict<R: RevocationSource, V: Verifier>(
 ///
 /// # Not checked
 ///
-/// Whether names chain ([`crate::first_unchained`]), whether the trust anchor has a TAL's key
+/// Name chaining ([`crate::first_unchained`]), whether the trust anchor has a TAL's key
 /// ([`crate::has_locator_key`]), and manifests (own).
 pub fn judge<R: RevocationSource, V: Verifier>(
     alloc: Global,
@@ -102,8 +102,8 @@ pub fn judge<R: RevocationSource, V: Verifier>(
     now: Time,
     verifier: &V,
 ) -> Result<Judged, PathError>
-    // Ok exactly where the path is valid, with what its last member holds; and an error says what
-    // is wrong of the string at its index, those before it being a valid path.
+    // Ok if and only if the path is valid, with what its last certificate holds. An error says what
+    // is wrong with the string at its index, if those before it are a valid path.
     ensures judges { let x = context (V.verifies verifier.now) now strict in
         Judges x (R.asks asked.now x) path.now result }
     // The index is that of a string.

@@ -1,5 +1,5 @@
 //! Laws about paths. Each is the contract of a function with no parameters, whose body names at
-//! most the law that it stands on.
+//! most the law that it uses.
 ghost use Rattle.std.specs.Prelude.{◌≡◌, ◌+◌, ◌-◌, ◌<◌, ◌≤◌, ◌↔◌, ℕ, Bool, List, [], ◌∷◌, ◌++◌};
 ghost use Rattle.rpki_der.specs.Times.{Moment};
 ghost use Rattle.rpki_cert.specs.Certificates.{CertFields, IsCertificate};
@@ -17,7 +17,7 @@ use crate::revocation::RevocationSource;
 use rpki_cert::laws;
 use rpki_parts::Verifier;
 
-/// Says that strings begin with the members of at most one path.
+/// States that strings of bytes start with the certificates of at most one path.
 pub fn one_path()
     ensures { (anchor : List ℕ) (below : List Candidate) (p q : Path)
         → IsPathOf anchor below p → IsPathOf anchor below q → p ≡ q }
@@ -25,8 +25,8 @@ pub fn one_path()
     laws::unambiguous();
 }
 
-/// Says that where the members of a path pass on more, those below them hold more: a number that is
-/// held stays held, and what overclaims nothing stays so.
+/// States that if the certificates of a path pass on more, those below them hold more: a number
+/// that is held stays held, and a certificate that doesn't overclaim stays so.
 pub fn monotone()
     ensures holds { (p q : Path) → PassesMore p q → (i : ℕ) → i ≤ last p
         → (k : NumberKind) (n : ℕ) → n ≤ greatest_number k → Holds p i k n → Holds q i k n }
@@ -35,12 +35,12 @@ pub fn monotone()
         → HeldCheck (HeldAt p i) c e → HeldCheck (HeldAt q i) c e }
 {}
 
-/// Says that issuing goes on from a valid path: what is valid below the last member, with what it
-/// gets of the numbers that this member has, is the last member of a valid path that is longer by
-/// it, and has exactly what that path holds (`path`). So where strings are accepted, they and the
-/// octets of the new certificate are accepted with what was issued (`strings`). The premises are
-/// what [`crate::judge`], [`crate::validate_path`] and [`rpki_cert::issue_ca`] promise, and what
-/// who is asked for revocation does ([`RevocationSource::ask`]).
+/// States that a valid path can be issued below: a certificate that is valid below the last one,
+/// with its part of the resources that the last one holds, is the last certificate of a valid path
+/// that is longer by one, and has exactly what that path holds (`path`). If strings are accepted,
+/// they and the bytes of the new certificate are accepted with what was issued (`strings`). The
+/// premises are what [`crate::judge`], [`crate::validate_path`] and [`rpki_cert::issue_ca`]
+/// promise, and what the source of revocation does ([`RevocationSource::ask`]).
 pub fn issued_below<R: RevocationSource, V: Verifier>()
     ensures path { (verifier : V) (source : R) (now : Moment) (strict : Bool)
         (p : Path) (tal : List ℕ) (issuer r : ResourceFields) (kind : Kind)
@@ -60,10 +60,11 @@ pub fn issued_below<R: RevocationSource, V: Verifier>()
         → IsAccepted x asked anchor (below ++ candidate kind octets ∷ []) tal r }
 {}
 
-/// Says that the names of a path chain exactly where [`crate::is_self_named`] says so of the trust
-/// anchor, and [`crate::names_chain`] of each later member below the one above it: those of a trust
-/// anchor alone (`anchor`), and those of a path that is longer by one member (`below`). So who
-/// validates a path step by step asks the same as [`crate::first_unchained`].
+/// States name chaining step by step: a path's names chain if and only if [`crate::is_self_named`]
+/// is true for the trust anchor, and [`crate::names_chain`] for each later certificate below the
+/// one above it. `anchor` states it for a trust anchor alone, `below` for a path that is longer by
+/// one certificate. A caller who validates step by step checks the same as
+/// [`crate::first_unchained`].
 pub fn names_step_by_step()
     ensures anchor { (c : CertFields)
         → NamesChain (record { anchor = c; below = [] }) ↔ IsSelfNamed c }
@@ -71,10 +72,10 @@ pub fn names_step_by_step()
         ↔ (NamesChain p × IsNamedBelow (certificate_at p (last p)) m.cert) }
 {}
 
-/// Says that a walkable path on which one entity stands twice stays walkable without the
+/// States that a walkable path on which one entity appears twice stays walkable without the
 /// certificates between (`walkable`), is shorter by these (`shorter`), holds at least as much
 /// (`holds`), and ends in the same certificate, unless that is the second of the two (`end`). The
-/// first premise is about who is asked for revocation
+/// first premise is about the source of revocation
 /// ([`crate::revocation::laws::asks_by_entity`]).
 pub fn cut_is_walkable<R: RevocationSource, V: Verifier>()
     ensures walkable { (verifier : V) (source : R) (now : Moment) (strict names : Bool)
@@ -92,9 +93,10 @@ pub fn cut_is_walkable<R: RevocationSource, V: Verifier>()
         → certificate_at (without p i j) (last (without p i j)) ≡ certificate_at p (last p) }
 {}
 
-/// Says that each certificate to which a walkable path leads has one on which no issuer stands
-/// twice, made of certificates of the first path, which isn't longer and whose last certificate
-/// holds at least as much. So a walk that goes on below no entity that stands above loses nothing.
+/// States that each certificate to which a walkable path leads has a walkable path on which no
+/// issuer appears twice. It is made of certificates of the first path, isn't longer, and its last
+/// certificate holds at least as much. A walk that never goes below an entity a second time
+/// therefore loses nothing.
 pub fn has_no_repeat<R: RevocationSource, V: Verifier>()
     ensures { (verifier : V) (source : R) (now : Moment) (strict names : Bool) (p : Path)
         → let x = context (V.verifies verifier) now strict in

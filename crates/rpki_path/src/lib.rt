@@ -1,5 +1,5 @@
-//! Whole paths, from a trust anchor down to a last member (RFC 6487 7.2), and who answers for
-//! revocation along them (`revocation`).
+//! Certification paths, from a trust anchor down to the last certificate (RFC 6487 7.2), and the
+//! sources that answer for revocation along them (`revocation`).
 #![tactic(auto)]
 
 mod given;

@@ -1,4 +1,4 @@
-//! Whole paths from the trust anchor of a locator.
+//! Certification paths from the trust anchor of a TAL.
 ghost use Rattle.std.specs.Prelude.{◌≡◌, ◌↔◌, ℕ, List, Ok, Err, IsTrue, IsFalse, IfOk, OnOk, IfErr};
 ghost use Rattle.std.proofs.Common.{rc_value};
 ghost use Rattle.rpki_blocks.specs.IssuedSets.{IsListed};
@@ -27,16 +27,16 @@ use std::alloc::Global;
 use std::rc::Rc;
 use thiserror::Error;
 
-/// Why a path isn't accepted below the trust anchor of a locator.
+/// Why a path isn't accepted below the trust anchor of a TAL (RFC 8630 3).
 #[derive(Debug, Drop, Error)]
 pub enum LocatedError {
-    /// The trust anchor's key isn't the locator's.
+    /// The trust anchor's key isn't the TAL's (RFC 8630 3).
     #[error("the trust anchor has another key than the locator")]
     OtherKey,
-    /// The trust anchor lists no IP address and no AS number.
+    /// The trust anchor lists no IP address and no AS number (RFC 8630 2.3).
     #[error("the trust anchor lists no resources")]
     NoResources,
-    /// A member of the path is wrong.
+    /// A certificate of the path is wrong.
     #[error("{0}")]
     Path(PathError),
 }
@@ -53,7 +53,7 @@ impl LocatedError {
         }
     }
 
-    /// Tells whether memory ran out.
+    /// Returns whether memory ran out.
     pub fn is_memory(&self) -> bool
         ensures { IsTrue result ↔ IsOutOfMemory self.now }
     {
@@ -74,12 +74,12 @@ impl From<PathError> for LocatedError {
     }
 }
 
-/// Returns whether the certificate with which a trust anchor's octets begin has the TAL's key (RFC
+/// Returns whether the certificate at the start of a trust anchor's bytes has the TAL's key (RFC
 /// 8630 3): its algorithm and its bits. A certificate that was read before isn't read again.
 ///
 /// # Errors
 ///
-/// Returns `Decode` if the octets don't begin with a certificate, or `Memory`.
+/// Returns `Decode` if the bytes don't start with a certificate, and `Memory`.
 ///
 /// # Not checked
 ///
@@ -110,8 +110,8 @@ fn lists_number<B: Bound>(resources: &Resources<B>) -> bool
     resources.is_present()
 }
 
-/// Tells whether the certificate lists an IP address or an AS number itself, as a trust anchor has to
-/// (RFC 8630 2.3). What it inherits doesn't count.
+/// Returns whether the certificate itself lists an IP address or an AS number, as a trust anchor
+/// has to (RFC 8630 2.3). Inherited resources don't count.
 pub fn lists_numbers(cert: &Cert) -> bool
     ensures { IsTrue result ↔ ListsSome cert.now }
 {
@@ -121,7 +121,7 @@ pub fn lists_numbers(cert: &Cert) -> bool
         || lists_number(tbs.as_resources())
 }
 
-// Whether the certificate can be the locator's trust anchor.
+// Whether the certificate can be the TAL's trust anchor.
 fn test_cert(cert: &Cert, tal: &Tal) -> Result<(), LocatedError>
     ensures ok { (octets : List ℕ) → Means IsCertificate cert.now octets
         → OnOk result (BeginsWithAnchor tal.now.tal octets) }
@@ -137,10 +137,21 @@ fn test_cert(cert: &Cert, tal: &Tal) -> Result<(), LocatedError>
     Ok(())
 }
 
-/// Tests that the certificate with which a trust anchor's octets begin can be the locator's trust
-/// anchor: it has the locator's key (RFC 8630 3), and lists an IP address or an AS number (RFC 8630
-/// 2.3). A member that was read isn't read again. Errs with `OtherKey` or `NoResources`, or at place
-/// 0 where the octets don't begin with a certificate (`Decode`), or where memory ran out.
+/// Checks that the certificate at the start of a trust anchor's bytes can be the TAL's trust
+/// anchor: it has the TAL's key (RFC 8630 3), and lists an IP address or an AS number (RFC 8630
+/// 2.3). A certificate that was read before isn't read again.
+///
+/// # Errors
+///
+/// Returns the first of these errors whose condition holds:
+///
+/// - `Decode` at path index 0: the bytes don't start with a certificate; or `Memory`
+/// - `OtherKey`: the certificate doesn't have the TAL's key
+/// - `NoResources`: the certificate lists no IP address and no AS number
+///
+/// # Not checked
+///
+/// Whether the certificate is valid, and whether its own key signed it.
 pub fn test_anchor(alloc: Global, anchor: &Member<'_>, tal: &Tal) -> Result<(), LocatedError>
     ensures ok { OnOk result (BeginsWithAnchor tal.now.tal anchor.now) }
     ensures fault { IfErr result (IsAnchorFault tal.now.tal anchor.now) }
@@ -156,7 +167,7 @@ pub fn test_anchor(alloc: Global, anchor: &Member<'_>, tal: &Tal) -> Result<(), 
     }
 }
 
-// The locator's name, which is shared.
+// The TAL's name, which is shared.
 fn name_of(tal: &Tal) -> Result<Rc<TalInfo>, PathFault>
     ensures ok { IfOk result (λ info. rc_value info ≡ tal.now.name) }
     ensures memory { IfErr result (λ e. e ≡ Memory) }
@@ -164,7 +175,7 @@ fn name_of(tal: &Tal) -> Result<Rc<TalInfo>, PathFault>
     Ok(tal.info().clone()?)
 }
 
-// The answer of the walk below a trust anchor that can be the locator's.
+// The answer of the walk below a trust anchor that can be the TAL's.
 fn walked_from<R: RevocationSource, V: Verifier>(
     validator: &Validator<'_, '_, R, V>,
     tal: &Tal,
@@ -193,7 +204,7 @@ fn walked_from<R: RevocationSource, V: Verifier>(
 /// Validates a path below a TAL: as [`crate::validate_path_with`] does, after the trust anchor's
 /// key was compared with the TAL's (RFC 8630 3, step 3) and the anchor was found to list an IP
 /// address or an AS number (RFC 8630 2.3). Returns what the last certificate holds, with the TAL's
-/// name. Nothing is fetched: the octets are the caller's.
+/// name. Nothing is fetched: the caller passes the bytes.
 ///
 /// # Errors
 ///
@@ -202,8 +213,8 @@ fn walked_from<R: RevocationSource, V: Verifier>(
 ///
 /// # Not checked
 ///
-/// Whether a CRL is its issuer's newest, whether names chain ([`crate::first_unchained`]), and
-/// manifests (own).
+/// Whether a CRL is its issuer's newest, name chaining ([`crate::first_unchained`]), and manifests
+/// (own).
 pub fn validate_located<V: Verifier>(
     alloc: Global,
     tal: &Tal,
@@ -215,13 +226,13 @@ pub fn validate_located<V: Verifier>(
     now: Time,
     verifier: &V,
 ) -> Result<ResourceCert, LocatedError>
-    // Ok exactly where each string begins with a member of a valid path, none of which is revoked
-    // and whose trust anchor has the locator's key and lists a number.
+    // Ok if and only if each string starts with a certificate of a valid path, none of which is
+    // revoked and whose trust anchor has the TAL's key and lists a number.
     ensures validates { let x = context (V.verifies verifier.now) now strict in
         let asked = by_uri x store.now.pairs in
         ValidatesFrom x asked tal.now anchor.now (candidates cas.now leaf) result }
-    // The trust anchor has another key, or lists no number; or the members before the index are a
-    // valid path, unrevoked, and the fault is that of the string there.
+    // The trust anchor has another key, or lists no number; or the certificates before the index
+    // are a valid path, unrevoked, and the error is that of the string there.
     ensures named { let x = context (V.verifies verifier.now) now strict in
         let asked = by_uri x store.now.pairs in
         IfErr result (IsLocatedFault x asked tal.now.tal anchor.now (candidates cas.now leaf)) }

@@ -1,4 +1,4 @@
-//! A member of a path: its octets, and the certificate where it was read of them already.
+//! A certificate of a path: its bytes, and what was read of them already.
 ghost use Rattle.std.specs.Prelude.{◌≡◌, IfOk, IfErr, IfSome};
 ghost use Rattle.rpki_ext.specs.Kinds.{Means};
 ghost use Rattle.rpki_cert.specs.Certificates.{IsCertificate};
@@ -10,9 +10,8 @@ use rpki_cert::Cert;
 use std::alloc::{AllocError, Global};
 use std::marker::Model;
 
-/// A member of a path that is asked about: octets that have to begin with a certificate, and that
-/// certificate, where it was read of them already. What is asked of a path reads it only where it
-/// wasn't.
+/// One certificate of a path: bytes that have to start with a certificate, and that certificate, if
+/// it was read already. A check of a path reads it only if it wasn't.
 #[derive(Drop)]
 pub struct Member<'p> {
     octets: &'p Bytes,
@@ -32,7 +31,7 @@ impl<'p> Model for Member<'p> {
 }
 
 impl<'p> Member<'p> {
-    /// Makes a member of octets of which nothing was read.
+    /// Makes a member of bytes of which nothing was read.
     pub fn of(octets: &'p Bytes) -> Member<'p>
         ensures { result ≡ octets.now }
     {
@@ -40,7 +39,7 @@ impl<'p> Member<'p> {
         Member { octets, read }
     }
 
-    /// Makes a member of octets and the certificate that they begin with.
+    /// Makes a member of bytes and the certificate that they start with.
     pub fn read_as(octets: &'p Bytes, cert: &'p Cert) -> Member<'p>
         requires { Means IsCertificate cert.now octets.now }
         ensures { result ≡ octets.now }
@@ -50,6 +49,10 @@ impl<'p> Member<'p> {
     }
 
     /// Makes a member of each of these strings, of which nothing was read.
+    ///
+    /// # Errors
+    ///
+    /// Returns an error only if memory runs out.
     pub fn of_each(alloc: Global, strings: &'p [Bytes]) -> Result<Vec<Member<'p>>, AllocError>
         ensures { IfOk result (λ members. members.items ≡ strings.now) }
     {
@@ -60,21 +63,21 @@ impl<'p> Member<'p> {
         Ok(members)
     }
 
-    /// Returns the octets.
+    /// Returns the bytes.
     pub fn octets(&self) -> &Bytes
         ensures { result.now ≡ self.now }
     {
         self.octets
     }
 
-    /// Returns the certificate that the octets begin with, where it was read already.
+    /// Returns the certificate at the start of the bytes, if it was read already.
     pub fn cert(&self) -> Option<&Cert>
         ensures { IfSome result (λ c. Means IsCertificate c.now self.now) }
     {
         self.read
     }
 
-    // The certificate that the octets begin with: a copy of the one that was read, or read now.
+    // The certificate at the start of the bytes: a copy of the one that was read, or read now.
     pub(crate) fn decoded(&self, alloc: Global) -> Result<Cert, PathFault>
         ensures ok { IfOk result (λ c. Means IsCertificate c self.now) }
         ensures fault { IfErr result (IsUnread self.now) }

@@ -1,4 +1,4 @@
-//! Whether the names of a path chain.
+//! Name chaining: whether the names of a path chain (RFC 5280 6.1.3 (a) (4)).
 ghost use Rattle.std.specs.Prelude.{◌≡◌, ◌↔◌, ◌<◌, Ok, Err, IsTrue, OnOk, IfOk, IfErr, IfSome, map};
 ghost use Rattle.rpki_cert.specs.declared.inspect.Kind.TheVariants.{Authority};
 ghost use Rattle.rpki_path.specs.GivenPaths.{path_strings, string_count};
@@ -13,12 +13,12 @@ use rpki_cert::{Cert, ResourceCert};
 use rpki_parts::Name;
 use std::alloc::{AllocError, Global};
 
-// Why a walk over names stops at a member.
+// Why a walk over names stops at a certificate.
 #[derive(Drop)]
 enum Stop {
     // Its issuer isn't the subject of the one above it.
     Unchained,
-    // The string doesn't begin with a certificate, or memory ran out.
+    // The string doesn't start with a certificate, or memory ran out.
     Unread(PathFault),
 }
 
@@ -39,7 +39,7 @@ struct Stopped {
     why: Stop,
 }
 
-// What a step at this place gives.
+// The result of a step at this path index.
 fn step_at(place: usize, step: Result<Name, Stop>) -> Result<Name, Stopped>
     ensures ok { IfOk result (λ name. step ≡ Ok name) }
     ensures place { IfErr result (λ s. s.place ≡ place) }
@@ -106,7 +106,7 @@ fn anchor_subject(alloc: Global, anchor: &Member<'_>) -> Result<Name, Stop>
     }
 }
 
-// The subject of the member that stands below this name.
+// The subject of the next certificate, below this name.
 fn member_subject(alloc: Global, above: &Name, member: &Member<'_>) -> Result<Name, Stop>
     ensures ok { IfOk result (BeginsNamed above.now member.now) }
     ensures stop { IfErr result (IsStopBelow above.now member.now) }
@@ -122,7 +122,7 @@ fn member_subject(alloc: Global, above: &Name, member: &Member<'_>) -> Result<Na
     }
 }
 
-// The subject of the member at this place, in place of that of the one above it.
+// The subject of the certificate at this path index, in place of the one above it.
 fn next(alloc: Global, above: Name, place: usize, member: &Member<'_>) -> Result<Name, Stopped>
     ensures ok { IfOk result (BeginsNamed above member.now) }
     ensures place { IfErr result (λ s. s.place ≡ place) }
@@ -149,7 +149,7 @@ fn authority_subject(
     Ok(above)
 }
 
-// The subject of the last member of all.
+// The subject of the last certificate of all.
 fn last_subject(
     alloc: Global,
     anchor: &Member<'_>,
@@ -179,17 +179,17 @@ fn last_subject(
 ///
 /// # Errors
 ///
-/// Returns the path index of the first string that doesn't begin with a certificate, if the names
+/// Returns the path index of the first string that doesn't start with a certificate, if the names
 /// above it chain (`Decode`), or at which memory ran out.
 ///
 /// # Not checked
 ///
 /// Everything else: [`crate::judge`] validates a path.
 pub fn first_unchained(alloc: Global, path: &GivenPath<'_, '_>) -> Result<Option<usize>, PathError>
-    // That names chain, the first place where they don't, or the first where no certificate is
-    // read.
+    // That names chain, the first path index at which they don't, or the first at which no
+    // certificate is read.
     ensures names { TellsNames path.now result }
-    // The place and the index are those of a string.
+    // Both indexes are those of a string.
     ensures place { IfOk result (λ found. IfSome found (λ place. place < string_count path.now)) }
     ensures index { IfErr result (λ e. e.index < string_count path.now) }
 {

@@ -7,23 +7,23 @@ use rpki_der::DecodeError;
 use std::alloc::AllocError;
 use thiserror::Error;
 
-/// What is wrong with one member of a path.
+/// What is wrong with one certificate of a path.
 #[derive(Debug, Drop, Error)]
 pub enum PathFault {
-    /// The string doesn't begin with a certificate.
+    /// The string doesn't start with a certificate.
     #[error("{0}")]
     Decode(DecodeError),
     /// The certificate doesn't meet the profile of its kind.
     #[error("{0}")]
     Inspect(InspectionError),
-    /// The certificate isn't valid at the moment, or not issued by the one above it.
+    /// The certificate isn't valid at this time, or not issued by the one above it.
     #[error("{0}")]
     Verify(VerificationError),
     /// Memory ran out.
     #[error("out of memory")]
     Memory,
-    /// A check of the issuer's revocation list fails: there is none, it isn't the issuer's, it is
-    /// stale, or it names the certificate.
+    /// A check of the issuer's CRL fails: there is no CRL, it isn't the issuer's, it isn't current,
+    /// or it revokes the certificate (RFC 5280 6.3.3).
     #[error("{0}")]
     Revocation(RevocationError),
 }
@@ -46,7 +46,7 @@ impl PathFault {
         }
     }
 
-    /// Tells whether memory ran out.
+    /// Returns whether memory ran out.
     pub fn is_memory(&self) -> bool
         ensures { IsTrue result ↔ self.now ≡ Memory }
     {
@@ -126,11 +126,11 @@ impl From<RevocationError> for PathFault {
     }
 }
 
-/// Which member of a path is wrong, and why.
+/// Which certificate of a path is wrong, and why.
 #[derive(Debug, Drop, Error)]
 #[error("certificate {index}: {fault}")]
 pub struct PathError {
-    /// The member's place; the trust anchor is at place 0.
+    /// The path index; the trust anchor has index 0.
     pub index: usize,
     /// What is wrong with it.
     pub fault: PathFault,
@@ -147,7 +147,7 @@ impl PathError {
         "PathError"
     }
 
-    /// Tells whether memory ran out.
+    /// Returns whether memory ran out.
     pub fn is_memory(&self) -> bool
         ensures { IsTrue result ↔ self.now.fault ≡ Memory }
     {

@@ -1,6 +1,6 @@
-//! Who answers for revocation: whether the certificates of a path are revoked (RFC 6487 7.2).
-//! A store of lists does, or lists as they were given (`GivenLists`), or nobody (`NobodyAsked`), or
-//! a source of the caller's own.
+//! The sources that answer whether the certificates of a path are revoked (RFC 6487 7.2): a store
+//! of CRLs, CRLs as they were given (`GivenLists`), a source that checks nothing (`NobodyAsked`),
+//! or a source of the caller's own.
 
 mod given;
 pub mod laws;

@@ -1,4 +1,4 @@
-//! Routers' certificates, below the last member of a path (RFC 8209 3.3).
+//! Router certificates, below the last certificate of a path (RFC 8209 3.3).
 ghost use Rattle.std.specs.Prelude.{OnOk, IfErr, IfNone, option_map};
 ghost use Rattle.rpki_cert.specs.Verification.{context};
 ghost use Rattle.rpki_path.specs.Asking.{RevocationChecks};
@@ -16,7 +16,7 @@ use rpki_der::Time;
 use rpki_parts::Verifier;
 use std::alloc::Global;
 
-// Whether the octets begin with a router's certificate that is valid below the issuer.
+// Whether the bytes start with a router's certificate that is valid below the issuer.
 fn test_router<R: RevocationSource, V: Verifier>(
     alloc: Global,
     octets: &Bytes,
@@ -45,8 +45,9 @@ fn test_router<R: RevocationSource, V: Verifier>(
 
 /// Validates a router's certificate below the last certificate of a path.
 ///
-/// The octets have to begin with a certificate; what follows is ignored. It is decoded, inspected
-/// as a router's and verified below this issuer at this time (RFC 8209 3.3). If CRLs are given,
+/// The bytes have to start with a certificate; the rest is ignored. The certificate is decoded,
+/// inspected as a router's and verified below this issuer at this time (RFC 8209 3.3). If CRLs are
+/// given,
 /// [`CrlStore::check`] decides whether it is revoked. The issuer is what `validate_path` and
 /// `validate_path_with` return. A router is no `Leaf` of theirs: a path ends in a [`ResourceCert`],
 /// and none is made of a router's certificate. [`crate::judge`] validates both at once.
@@ -57,7 +58,7 @@ fn test_router<R: RevocationSource, V: Verifier>(
 ///
 /// # Not checked
 ///
-/// Whether a CRL is its issuer's newest, and whether names chain (own).
+/// Whether a CRL is its issuer's newest, and name chaining (own).
 pub fn validate_router<V: Verifier>(
     alloc: Global,
     octets: &Bytes,
@@ -67,17 +68,17 @@ pub fn validate_router<V: Verifier>(
     now: Time,
     verifier: &V,
 ) -> Result<(), PathFault>
-    // The octets begin with a router's certificate that is valid below the issuer, and unrevoked
-    // where lists are given.
+    // The bytes start with a router's certificate that is valid below the issuer, and unrevoked if
+    // CRLs are given.
     ensures ok { let x = context (V.verifies verifier.now) now strict in
         let asked = by_uri_if_any x (option_map (λ store. store.now.pairs) lists.entry) in
         OnOk result (BeginsWithRouter x asked issuer.now octets.now) }
-    // They begin with none, unless memory ran out.
+    // The bytes start with no such certificate, unless memory ran out.
     ensures rejected { let x = context (V.verifies verifier.now) now strict in
         let asked = by_uri_if_any x (option_map (λ store. store.now.pairs) lists.entry) in
         let accepted = BeginsWithRouter x asked issuer.now octets.now in
         IfErr result (λ e. UnlessMemory e (accepted → ⊥)) }
-    // The fault is what is wrong with these octets.
+    // The error is one of these bytes.
     ensures fault { let x = context (V.verifies verifier.now) now strict in
         let asked = by_uri_if_any x (option_map (λ store. store.now.pairs) lists.entry) in
         IfErr result (Finds x (router_demand x asked issuer.now) octets.now) }

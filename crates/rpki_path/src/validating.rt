@@ -1,5 +1,5 @@
-//! Whole paths: from a trust anchor down to the last member (RFC 6487 7.2; own: the chaining of
-//! names is the caller's to ask).
+//! Certification paths: from a trust anchor down to the last certificate (RFC 6487 7.2; own: name
+//! chaining is a check of its own).
 ghost use Rattle.std.specs.Prelude.{◌≡◌, Ok, Err, IfOk, IfErr};
 ghost use Rattle.std.proofs.Common.{rc_value};
 ghost use Rattle.rpki_cert.specs.Verification.{context};
@@ -20,7 +20,7 @@ use rpki_parts::{TalInfo, Verifier};
 use std::alloc::Global;
 use std::rc::Rc;
 
-/// The last certificate of a path, where it isn't a CA's.
+/// The last certificate of a path, if it isn't a CA's.
 #[derive(Drop)]
 pub enum Leaf {
     /// An end entity, which signs an object that its certificate names.
@@ -29,7 +29,7 @@ pub enum Leaf {
     DetachedEe(Bytes),
 }
 
-// Members of which nothing was read.
+// Certificates of which nothing was read yet.
 fn members_of<'p>(alloc: Global, strings: &'p [Bytes]) -> Result<Vec<Member<'p>>, PathFault>
     ensures ok { IfOk result (λ members. members.items ≡ strings.now) }
     ensures memory { IfErr result (λ e. e ≡ Memory) }
@@ -37,7 +37,7 @@ fn members_of<'p>(alloc: Global, strings: &'p [Bytes]) -> Result<Vec<Member<'p>>
     Ok(Member::of_each(alloc, strings)?)
 }
 
-// The answer of the walk down to the leaf, below members of which nothing was read.
+// The answer of the walk down to the leaf, below certificates of which nothing was read yet.
 fn to_leaf<R: RevocationSource, V: Verifier>(
     validator: &Validator<'_, '_, R, V>,
     anchor: &Member<'_>,
@@ -95,7 +95,7 @@ pub(crate) fn walked<R: RevocationSource, V: Verifier>(
 /// Validates a path: the trust anchor, the CAs below it from the top down, and a leaf, if there is
 /// one.
 ///
-/// Each string has to begin with a certificate; what follows is ignored. A certificate is decoded,
+/// Each string has to start with a certificate; the rest is ignored. A certificate is decoded,
 /// inspected as its kind and verified before the next one is: the trust anchor at this time and by
 /// its own key, each later one below the one above it (RFC 6487 7.2). Returns the last certificate,
 /// with the resources that the trust anchor lists and every later one lists or inherits, and with
@@ -109,7 +109,7 @@ pub(crate) fn walked<R: RevocationSource, V: Verifier>(
 ///
 /// # Not checked
 ///
-/// Whether a certificate is revoked ([`validate_path_with`]), whether names chain
+/// Whether a certificate is revoked ([`validate_path_with`]), name chaining
 /// ([`crate::first_unchained`]), whether the trust anchor has a TAL's key
 /// ([`crate::validate_located`]), and manifests (own).
 pub fn validate_path<V: Verifier>(
@@ -122,10 +122,10 @@ pub fn validate_path<V: Verifier>(
     now: Time,
     verifier: &V,
 ) -> Result<ResourceCert, PathError>
-    // Ok exactly where each string begins with a member of a valid path: the headline.
+    // Ok if and only if each string starts with a certificate of a valid path: the headline.
     ensures validates { let x = context (V.verifies verifier.now) now strict in
         Validates x nobody anchor.now (candidates cas.now leaf) (rc_value tal) result }
-    // The members before the index are a valid path, and the fault is that of the string there.
+    // The certificates before the index are a valid path; the error is that of the string there.
     ensures named { let x = context (V.verifies verifier.now) now strict in
         IfErr result (IsFault x nobody anchor.now (candidates cas.now leaf)) }
     ensures unasked { IfErr result (λ e. IsUnasked e.fault) }
@@ -153,7 +153,7 @@ pub fn validate_path<V: Verifier>(
 ///
 /// # Not checked
 ///
-/// Whether a CRL is its issuer's newest: the first under the URI is used. Whether names chain
+/// Whether a CRL is its issuer's newest: the first under the URI is used. Name chaining
 /// ([`crate::first_unchained`]), and manifests (own).
 pub fn validate_path_with<V: Verifier>(
     alloc: Global,
@@ -166,12 +166,12 @@ pub fn validate_path_with<V: Verifier>(
     now: Time,
     verifier: &V,
 ) -> Result<ResourceCert, PathError>
-    // Ok exactly where each string begins with a member of a valid path, none of which is revoked.
+    // Ok if and only if each string starts with a certificate of a valid path, none revoked.
     ensures validates { let x = context (V.verifies verifier.now) now strict in
         let asked = by_uri x store.now.pairs in
         Validates x asked anchor.now (candidates cas.now leaf) (rc_value tal) result }
-    // The members before the index are a valid path, unrevoked, and the fault is that of the string
-    // there.
+    // The certificates before the index are a valid path, unrevoked, and the error is that of the
+    // string there.
     ensures named { let x = context (V.verifies verifier.now) now strict in
         let asked = by_uri x store.now.pairs in
         IfErr result (IsFault x asked anchor.now (candidates cas.now leaf)) }

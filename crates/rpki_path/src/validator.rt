@@ -1,4 +1,4 @@
-//! The one walk down a path, for each verifier and whoever is asked for revocation.
+//! The walk down a path, for each verifier and each source of revocation.
 ghost use Rattle.std.specs.Prelude.{◌≡◌, ℕ, List, Ok, Err, IfOk, OnOk, IfErr, map};
 ghost use Rattle.std.proofs.Common.{rc_value};
 ghost use Rattle.rpki_ext.specs.Kinds.{Means};
@@ -22,8 +22,8 @@ use rpki_parts::{TalInfo, Verifier};
 use std::alloc::Global;
 use std::rc::Rc;
 
-/// What a member below the trust anchor is to be. (A router is none: of its certificate no numbers
-/// are held.)
+/// The kind that a certificate below the trust anchor has to be. (A router isn't among them: it
+/// holds no resources of the path.)
 #[derive(Clone, Copy)]
 pub enum Role {
     /// A CA.
@@ -34,7 +34,7 @@ pub enum Role {
     Detached,
 }
 
-/// Returns what was answered of the member at this place.
+/// Returns the answer for the certificate at this path index.
 pub(crate) fn placed<T: Drop>(index: usize, answer: Result<T, PathFault>) -> Result<T, PathError>
     ensures ok { IfOk result (λ r. answer ≡ Ok r) }
     ensures index { IfErr result (λ e. e.index ≡ index) }
@@ -46,32 +46,40 @@ pub(crate) fn placed<T: Drop>(index: usize, answer: Result<T, PathFault>) -> Res
     }
 }
 
-// An answer, once the issuer is let go.
+// An answer, after the issuer is dropped.
 fn without<T: Drop, A>(_issuer: T, answer: A) -> A
     ensures { result ≡ answer }
 {
     answer
 }
 
-/// Who validates certificate by certificate: the steps of which [`crate::judge`] and the calls
-/// beside it make a path, for a caller who goes down many paths.
+/// Validates paths certificate by certificate, for a caller who goes down many paths.
+/// [`crate::judge`] and the calls like it make a path of the same steps.
 #[derive(Drop)]
 pub struct Validator<'r, 'v, R, V> {
-    /// Where memory comes from.
+    /// The allocator.
     pub alloc: Global,
-    /// Who is asked for revocation.
+    /// The source of revocation.
     pub asked: &'r R,
-    /// Whether the stricter profile is asked for.
+    /// Whether the stricter profile is required; it affects only which string types names may have.
     pub strict: bool,
-    /// The moment.
+    /// The validation time.
     pub at: Time,
-    /// How signatures are verified.
+    /// The verifier of signatures.
     pub verifier: &'v V,
 }
 
 impl<'r, 'v, R: RevocationSource, V: Verifier> Validator<'r, 'v, R, V> {
-    /// Validates the trust anchor of a path, and returns what it lists, with the locator's name.
-    /// Errs with what is wrong with it.
+    /// Validates the trust anchor of a path, and returns the resources that it lists, with the
+    /// TAL's name.
+    ///
+    /// # Errors
+    ///
+    /// Returns the first check that fails.
+    ///
+    /// # Not checked
+    ///
+    /// Whether its key is the TAL's ([`crate::test_anchor`]).
     pub fn trust_anchor(
         &self,
         anchor: &Member<'_>,
@@ -117,8 +125,16 @@ impl<'r, 'v, R: RevocationSource, V: Verifier> Validator<'r, 'v, R, V> {
         }
     }
 
-    /// Validates the member that stands below an issuer, which was validated before, and asks
-    /// whether it is revoked. Returns what it holds. Errs with the first check that isn't true.
+    /// Validates the next certificate below an issuer that was validated before, and checks that it
+    /// isn't revoked (RFC 6487 7.2). Returns the certificate with the resources that it holds.
+    ///
+    /// # Errors
+    ///
+    /// Returns the first check that fails.
+    ///
+    /// # Not checked
+    ///
+    /// Name chaining ([`crate::names_chain`]).
     pub fn member(
         &self,
         issuer: &ResourceCert,
@@ -142,7 +158,7 @@ impl<'r, 'v, R: RevocationSource, V: Verifier> Validator<'r, 'v, R, V> {
         Ok(member)
     }
 
-    // The member at this place, in place of its issuer.
+    // The certificate at this path index, in place of its issuer.
     fn next(
         &self,
         issuer: ResourceCert,
@@ -189,8 +205,8 @@ impl<'r, 'v, R: RevocationSource, V: Verifier> Validator<'r, 'v, R, V> {
         Ok(issuer)
     }
 
-    /// Validates the trust anchor, the CAs below it, and the end entity below them, if the last is
-    /// one.
+    /// Validates the trust anchor, the CAs below it, and the end entity below them, if the last
+    /// certificate is one.
     pub(crate) fn members(
         &self,
         anchor: &Member<'_>,
@@ -218,8 +234,8 @@ impl<'r, 'v, R: RevocationSource, V: Verifier> Validator<'r, 'v, R, V> {
         }
     }
 
-    // Whether the router's certificate is valid below the issuer, and not revoked. A fault is one
-    // of all octets that begin with it.
+    // Whether the router's certificate is valid below the issuer, and not revoked. An error is one
+    // of all bytes that start with it.
     fn test_router(&self, cert: &Cert, issuer: &ResourceCert) -> Result<(), PathFault>
         ensures ok { let v = self.now in
             let x = context (V.verifies v.verifier.now) v.at v.strict in
@@ -237,9 +253,16 @@ impl<'r, 'v, R: RevocationSource, V: Verifier> Validator<'r, 'v, R, V> {
         Ok(())
     }
 
-    /// Validates the router's certificate that the member's octets begin with, below an issuer that
-    /// was validated before, and asks whether it is revoked (RFC 8209 3.3). Errs with the first
-    /// check that isn't true.
+    /// Validates the router's certificate at the start of these bytes, below an issuer that was
+    /// validated before, and checks that it isn't revoked (RFC 8209 3.3).
+    ///
+    /// # Errors
+    ///
+    /// Returns the first check that fails.
+    ///
+    /// # Not checked
+    ///
+    /// Name chaining ([`crate::names_chain`]).
     pub fn router(&self, given: &Member<'_>, issuer: &ResourceCert) -> Result<Cert, PathFault>
         ensures begins { IfOk result (λ c. Means IsCertificate c given.now) }
         ensures under { let v = self.now in

@@ -1,2 +1,2 @@
-//! Signatures by the RPKI's RSA keys, verified from octets.
+//! Signatures by the RPKI's RSA keys, verified from bytes.
 pub use rpki_keys::{is_rpki_key, verify};

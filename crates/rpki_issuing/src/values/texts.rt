@@ -54,7 +54,7 @@ impl Textual for Https {
 // The octets of 2^159, the greatest first.
 const LIMIT: [u8; 20] = [128, 0, 0, 0, 0, 0, 0, 0, 0, 0, 0, 0, 0, 0, 0, 0, 0, 0, 0, 0];
 
-/// Returns the serial number with these octets, the most significant one first, or `None` if no
+/// Returns the serial number with these bytes, the most significant one first, or `None` if no
 /// certificate may have it: it has to be positive and below 2^159 (RFC 5280 4.1.2.2).
 pub fn serial_of(octets: &[u8]) -> Option<Serial>
     ensures { Finds (λ n. IsAllowedSerial n octets.now) result }

@@ -1,4 +1,4 @@
-//! Certificates are prepared for signing, and completed by their signatures, as octets.
+//! Certificates are prepared for signing, and completed by their signatures, as bytes.
 ghost use Rattle.std.specs.Prelude.{◌≡◌, ◌≢◌, ◌⊎◌, ◌↔◌, ◌<◌, ◌≤◌, ◌^◌, ℕ, List, length, option_map, IsOk, IsTrue, OnOk, IfOk, IfErr, MatchOption};
 ghost use Rattle.rpki_cert.specs.Certificates.{IsCertificate, encoding};
 ghost use Rattle.rpki_cert.specs.Verification.{context};
@@ -32,17 +32,17 @@ pub enum WantedError {
     Broken(IssuingRule),
     /// The certificate's fields aren't ready to be signed.
     Unready(IssuingError),
-    /// The octets aren't those that are prepared of the fields.
+    /// The bytes aren't those that are prepared of the fields.
     OtherOctets,
-    /// The signature isn't one of the octets by the issuer's key.
+    /// The signature isn't one of the bytes by the issuer's key.
     Unsigned(IssuingError),
-    /// The issuer's CRLs don't say that the certificate is unrevoked.
+    /// The issuer's CRLs don't show that the certificate is unrevoked.
     Listed(RevocationError),
     /// The CRL may not follow the previous one.
     NoList(NextListError),
     /// The CRL's fields aren't ready to be signed.
     UnreadyList(ListError),
-    /// The signature isn't one of the CRL's octets by the issuer's key.
+    /// The signature isn't one of the CRL's bytes by the issuer's key.
     UnsignedList(ListError),
     /// Memory ran out.
     Memory,
@@ -154,7 +154,7 @@ fn octets_to_sign<R: RevocationSource>(
 }
 
 /// Prepares a certificate of the kind with these fields below `issuer`, or without an issuer if it
-/// is a trust anchor's. Returns the octets to sign.
+/// is a trust anchor's. Returns the bytes to sign.
 ///
 /// The result is `Ok` if and only if only the signature is missing, the rules for issuers
 /// ([`IssuingRule`]) are kept, and `asked` leaves the certificate unrevoked.
@@ -275,7 +275,7 @@ fn completed(
     }
 }
 
-/// Completes a prepared certificate with its signature. Returns the certificate's octets.
+/// Completes a prepared certificate with its signature. Returns the certificate's bytes.
 ///
 /// The result is `Ok` if and only if all of these are so:
 ///

@@ -1,4 +1,4 @@
-//! To-be-signed parts, decoded from their octets.
+//! To-be-signed parts, decoded from their bytes.
 ghost use Rattle.std.specs.Prelude.{IfOk, MatchOption};
 ghost use Rattle.rpki_cert.specs.Certificates.{TbsFields, IsTbsCertificate};
 
@@ -7,8 +7,8 @@ use rpki_cert::{TbsCert, laws};
 use rpki_der::Cursor;
 use std::alloc::{AllocError, Global};
 
-/// Decodes a TBSCertificate. Returns its fields, or `None` if the octets aren't one, also if more
-/// octets follow it.
+/// Decodes a TBSCertificate. Returns its fields, or `None` if the bytes aren't one, also if more
+/// bytes follow it.
 ///
 /// # Errors
 ///

@@ -32,8 +32,11 @@ fn has_own_key(tbs: &TbsCert, kind: Kind, issuer: Option<&ResourceCert>) -> bool
     }
 }
 
-/// Checks the rules of a certificate of the kind below its issuer. Errs with the first that isn't
-/// kept.
+/// Checks the rules of a certificate of the kind below its issuer.
+///
+/// # Errors
+///
+/// Returns the first rule that isn't kept.
 pub(crate) fn check_rules(
     tbs: &TbsCert,
     kind: Kind,

@@ -1,4 +1,4 @@
-//! Base64 whose digits stand in lines.
+//! Base64 digits on several lines.
 ghost use Rattle.std.specs.Prelude.{◌≡◌, ◌≢◌, ◌++◌, List, ℕ, IfOk, OnOk, OnErr, MatchOption};
 ghost use Rattle.base64.specs.GeneralPurpose.{IsBytes};
 ghost use Rattle.rpki_keys.specs.Digits.{base64_of, without_white_space};
@@ -30,8 +30,8 @@ pub fn push_digits(digits: &mut Vec<u8>, line: &[u8]) -> Result<(), AllocError>
     Ok(())
 }
 
-/// Decodes digits of base64 (RFC 4648 4), with padding, and with zeros for its bits (RFC 4648 3.5).
-/// Returns `None` if they encode no octets.
+/// Decodes digits of base64 (RFC 4648 4), with padding, whose unused bits have to be 0 (RFC 4648
+/// 3.5). Returns `None` if they encode no bytes.
 ///
 /// # Errors
 ///

@@ -1,4 +1,4 @@
-//! The lines of octets, one after the other.
+//! The lines of a text.
 ghost use Rattle.std.specs.Prelude.{◌≡◌, ◌≢◌, ◌<◌, ◌∷◌, [], length};
 ghost use Rattle.std.specs.Str.Lines.{lines, strip_carriage_return};
 

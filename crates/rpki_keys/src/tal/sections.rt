@@ -1,4 +1,4 @@
-//! The sections of a locator: comments, URIs, an empty line, and the digits of the key.
+//! The sections of a TAL: comments, URIs, an empty line, and the digits of the key.
 ghost use Rattle.std.specs.Prelude.{◌≡◌, ◌≢◌, ◌++◌, [], ◌∷◌, ◌↔◌, IsTrue, OnOk, IfOk, IfErr, map};
 ghost use Rattle.std.specs.List.{flat_map};
 ghost use Rattle.std.specs.Str.Lines.{lines};

@@ -1,4 +1,4 @@
-//! Locators are read.
+//! Reads TALs.
 ghost use Rattle.std.specs.Prelude.{◌≡◌, ◌↔◌, ◌⊎◌, IsTrue, IfOk, IfErr, map};
 ghost use Rattle.std.proofs.Common.{string_bytes, rc_value};
 ghost use Rattle.std.specs.Str.Lines.{lines};
@@ -77,17 +77,17 @@ impl Tal {
     /// The file has lines of comments, which start with `#`; at least one line that is an rsync or
     /// https URI; an empty line; and a SubjectPublicKeyInfo in base64, whose digits may have white
     /// space between them. Lines end with LF or CRLF. In strict mode the file is UTF-8, else the
-    /// comments may be any octets (own).
+    /// comments may be any bytes (own).
     ///
     /// # Errors
     ///
-    /// Returns what is wrong first, from the file's beginning on:
+    /// Returns the first error, from the start of the file on:
     ///
     /// - `NoText`: the file isn't UTF-8, in strict mode
     /// - `BadUri`: a line after the comments is neither an rsync nor an https URI, nor empty
     /// - `NoUri`: the empty line comes before any URI
     /// - `NoKey`: the file ends before the empty line
-    /// - `BadKey`: what follows the empty line isn't a public key in base64
+    /// - `BadKey`: the rest of the file isn't a public key in base64
     /// - `Memory`: memory ran out
     ///
     /// # Not checked

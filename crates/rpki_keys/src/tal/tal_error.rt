@@ -1,8 +1,8 @@
-//! Why a file isn't a locator.
+//! The errors of reading a TAL.
 use std::alloc::AllocError;
 use thiserror::Error;
 
-/// Why a file isn't a TAL: what is wrong first, from its beginning on (RFC 8630 2.2).
+/// Why a file isn't a TAL: the first error, from the start of the file on (RFC 8630 2.2).
 #[derive(Debug, Drop, Error)]
 pub enum TalError {
     /// The file is read in strict mode and isn't UTF-8 (RFC 8630 2.2).
@@ -17,7 +17,7 @@ pub enum TalError {
     /// The file ends before the empty line after the URIs (RFC 8630 2.2).
     #[error("no key")]
     NoKey,
-    /// What follows the empty line isn't a public key in base64 (RFC 8630 2.2).
+    /// The text after the empty line isn't a public key in base64 (RFC 8630 2.2).
     #[error("bad key")]
     BadKey,
     /// Memory ran out (own).

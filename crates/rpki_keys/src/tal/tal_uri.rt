@@ -1,4 +1,4 @@
-//! The URIs of a locator.
+//! The URIs of a TAL.
 ghost use Rattle.std.specs.Prelude.{◌≡◌, ◌⊎◌, Some, OnOk, IfOk, IfErr, ◌++◌, ◌∷◌, [], map};
 ghost use Rattle.std.specs.List.{AllByRecursion};
 ghost use Rattle.rpki_keys.specs.Locators.{IsTalUri, uri_text};

@@ -1,4 +1,4 @@
-//! Lists as a caller gives them, of which the issuer's latest is asked.
+//! CRLs as a caller gives them, of which the issuer's newest is searched.
 ghost use Rattle.std.specs.Prelude.{◌≡◌, ◌<◌, ◌↔◌, false, IsTrue, IfSome, option_copied};
 ghost use Rattle.std.specs.Ordering.{MatchOrdering};
 ghost use Rattle.rpki_der.specs.Times.{second_number};
@@ -16,22 +16,35 @@ use rpki_parts::Verifier;
 use std::cmp::Ordering;
 use std::marker::Model;
 
-/// Revocation lists as a caller gives them, in any order and of any issuers. Of a certificate below
-/// its issuer the issuer's latest list is asked: of the lists that name the key that signed the
-/// certificate, that the issuer's key signed, and that aren't from after the moment or from after
-/// their own next update, the one with the greatest number (RFC 6487 5). If names are checked, only
-/// the lists count whose issuer is the subject of the issuer's certificate (RFC 5280 6.3.3 (b)
-/// (1)). Of lists of one number, which RFC 5280 5.2.3 forbids, one that revokes the certificate
-/// goes first, then the one of the later thisUpdate, then the one of the later nextUpdate (own). A
-/// list that another key signed, or whose time hasn't begun, hides none. If there is no such list,
-/// each that names the key is asked, and one fails a check: `BadSignature` if another key signed one
-/// of them, else `Stale`, as their time hasn't begun. If none names the key (and, if names are
-/// checked, the issuer), the answer is `WrongIssuer` if names are checked and the issuer's key signed
-/// one that names the key, and else `NoCrl`. The answer is the same for every order of the lists
+/// CRLs as a caller gives them, in any order and of any issuers.
+///
+/// A certificate is searched in its issuer's newest CRL: the eligible CRL with the greatest CRL
+/// number (RFC 6487 5). A CRL is eligible if
+///
+/// - its authority key identifier is that of the certificate (RFC 5280 5.2.1)
+/// - the issuer's key signed it (RFC 5280 6.3.3)
+/// - its thisUpdate is neither after the validation time nor after its own nextUpdate
+/// - if names are checked, its issuer is the subject of the issuer's certificate (RFC 5280 6.3.3
+///   (b) (1))
+///
+/// Two CRLs of one number are forbidden (RFC 5280 5.2.3). If there are such, a CRL that revokes the
+/// certificate goes first, then the CRL of the later thisUpdate, then the CRL of the later
+/// nextUpdate (own). A CRL that isn't eligible never hides an eligible CRL.
+///
+/// If no CRL is eligible, the error is
+///
+/// - `NoCrl` or `WrongIssuer` if no CRL has the key identifier (and, if names are checked, the
+///   issuer's name): `WrongIssuer` if names are checked and the issuer's key signed a CRL with the
+///   key identifier
+/// - else `BadSignature` if another key signed one of these CRLs
+/// - else `Stale`: the thisUpdate of each is after the validation time or after its own nextUpdate
+///
+/// The answer is the same for every order of the CRLs
 /// ([`crate::revocation::laws::blind_to_order`]).
 ///
-/// A list is looked up in its table where its serial numbers are cached ([`Crl::cache_serials`]),
-/// and else walked. Each signature is verified at most once a question. Asking takes no memory.
+/// A search uses the CRL's table if its serial numbers are cached ([`Crl::cache_serials`]).
+/// Otherwise it reads the entries one by one. Each signature is verified at most once per search. A
+/// search takes no memory.
 #[derive(Drop)]
 pub struct GivenLists<'l> {
     lists: &'l [Crl],
@@ -47,7 +60,7 @@ impl<'l> Model for GivenLists<'l> {
 }
 
 impl<'l> GivenLists<'l> {
-    /// Makes a source of these lists, whose issuer names aren't compared.
+    /// Makes a source of these CRLs, whose issuer names aren't compared.
     pub fn new(lists: &'l [Crl]) -> GivenLists<'l>
         ensures { result ≡ record { lists = lists.now; names = false } }
     {
@@ -57,8 +70,8 @@ impl<'l> GivenLists<'l> {
         }
     }
 
-    /// Makes a source of these lists, whose issuer names are compared with their issuers' subjects
-    /// if `names` is true. It is to be true if the names of certificates are checked.
+    /// Makes a source of these CRLs, whose issuer names are compared with their issuers' subjects
+    /// if `names` is true. Pass true if the names of certificates are checked.
     pub fn with_names(lists: &'l [Crl], names: bool) -> GivenLists<'l>
         ensures { result ≡ record { lists = lists.now; names = names } }
     {
@@ -66,7 +79,7 @@ impl<'l> GivenLists<'l> {
     }
 }
 
-// Whether the list names the key that the certificate names as the one that signs it.
+// Whether the CRL's authority key identifier is that of the certificate.
 fn is_for(list: &Crl, cert: &Cert) -> bool
     ensures { IsTrue result ↔ IsFor cert.now list.now }
 {
@@ -74,8 +87,8 @@ fn is_for(list: &Crl, cert: &Cert) -> bool
     cert.as_tbs().authority_key_identifier() == Some(named)
 }
 
-/// Tells whether the list's issuer is the issuer's subject (RFC 5280 6.3.3 (b) (1)). Names are
-/// compared octet by octet.
+/// Returns whether the CRL's issuer is the issuer's subject (RFC 5280 6.3.3 (b) (1)). Names are
+/// compared byte by byte (own).
 pub fn is_named_by(list: &Crl, issuer: &ResourceCert) -> bool
     ensures { IsTrue result ↔ IsNamedBy issuer.now.cert.fields list.now.list }
 {
@@ -83,7 +96,7 @@ pub fn is_named_by(list: &Crl, issuer: &ResourceCert) -> bool
     list.as_cert_list().issuer().as_bytes() == subject.as_bytes()
 }
 
-// Whether the list is for the certificate, and has the issuer's name, if names are checked.
+// Whether the CRL is for the certificate, and has the issuer's name, if names are checked.
 fn is_for_below(list: &Crl, cert: &Cert, issuer: &ResourceCert, names: bool) -> bool
     ensures { let fields = issuer.now.cert.fields in
         IsTrue result ↔ IsForBelow names fields cert.now list.now }
@@ -94,8 +107,8 @@ fn is_for_below(list: &Crl, cert: &Cert, issuer: &ResourceCert, names: bool) -> 
     is_for(list, cert)
 }
 
-/// Tells whether the time of the list has begun: its thisUpdate is neither after the moment nor
-/// after its own nextUpdate (RFC 5280 5.1.2.4, 5.1.2.5, 6.3.3).
+/// Returns whether the CRL's time has come: its thisUpdate is neither after this time nor after its
+/// own nextUpdate (RFC 5280 5.1.2.4, 5.1.2.5, 6.3.3).
 pub fn has_begun(list: &Crl, now: Time) -> bool
     ensures { IsTrue result ↔ HasBegun now list.now.list }
 {
@@ -103,7 +116,7 @@ pub fn has_begun(list: &Crl, now: Time) -> bool
     made <= now && made <= list.as_cert_list().next_update()
 }
 
-/// Tells whether the issuer's key signed the list (RFC 5280 6.3.3).
+/// Returns whether the issuer's key signed the CRL (RFC 5280 6.3.3).
 pub fn is_signed_by<V: Verifier>(list: &Crl, issuer: &ResourceCert, verifier: &V) -> bool
     ensures { let key = issuer.now.cert.fields.key in
         IsTrue result ↔ IsSignedBy (V.verifies verifier.now) key list.now.list.signed_data }
@@ -112,14 +125,14 @@ pub fn is_signed_by<V: Verifier>(list: &Crl, issuer: &ResourceCert, verifier: &V
     list.verify_signature(key, verifier).is_ok()
 }
 
-// Whether the list has the serial number of the certificate.
+// Whether the CRL has the serial number of the certificate.
 fn revokes(list: &Crl, cert: &Cert) -> bool
     ensures { IsTrue result ↔ Revokes cert.now list.now }
 {
     list.contains(cert.as_tbs().serial_number())
 }
 
-// How the numbers of two lists compare.
+// How the numbers of two CRLs compare.
 fn by_number(list: &Crl, other: &Crl) -> Ordering
     ensures { let number = list.now.list.fields.extensions.crl_number in
         let others = other.now.list.fields.extensions.crl_number in
@@ -129,7 +142,7 @@ fn by_number(list: &Crl, other: &Crl) -> Ordering
     number.cmp(&other.as_cert_list().crl_number())
 }
 
-// How the moments of thisUpdate of two lists compare.
+// How the times of thisUpdate of two CRLs compare.
 fn by_this_update(list: &Crl, other: &Crl) -> Ordering
     ensures { let moment = second_number list.now.list.fields.this_update in
         let others = second_number other.now.list.fields.this_update in
@@ -139,7 +152,7 @@ fn by_this_update(list: &Crl, other: &Crl) -> Ordering
     moment.cmp(&other.as_cert_list().this_update())
 }
 
-// Whether the nextUpdate of a list is later than that of another one.
+// Whether the nextUpdate of one CRL is later than that of another.
 fn is_due_later(list: &Crl, other: &Crl) -> bool
     ensures { let moment = list.now.list.fields.next_update in
         let others = other.now.list.fields.next_update in
@@ -148,7 +161,7 @@ fn is_due_later(list: &Crl, other: &Crl) -> bool
     list.as_cert_list().next_update() > other.as_cert_list().next_update()
 }
 
-// Whether a list is later than another one: by its thisUpdate, and where these are equal, by its
+// Whether one CRL is later than another: by its thisUpdate, and if these are equal, by its
 // nextUpdate.
 fn is_later(list: &Crl, other: &Crl) -> bool
     ensures { IsTrue result ↔ IsLater list.now other.now }
@@ -160,8 +173,8 @@ fn is_later(list: &Crl, other: &Crl) -> bool
     }
 }
 
-// Whether a list takes the place of another one of the same number: one that revokes the
-// certificate goes first, and then the later one.
+// Whether one CRL supersedes another of the same number: a CRL that revokes the certificate goes
+// first, and then the later CRL.
 fn supersedes_equal(list: &Crl, kept: &Crl, cert: &Cert) -> bool
     ensures { IsTrue result ↔ SupersedesEqual cert.now list.now kept.now }
 {
@@ -172,9 +185,9 @@ fn supersedes_equal(list: &Crl, kept: &Crl, cert: &Cert) -> bool
     is_later(list, kept)
 }
 
-/// Tells whether a list takes the place of another one of the same issuer, where it is asked of the
-/// certificate: the greater number supersedes (RFC 6487 5). Two different lists never have one
-/// number (RFC 5280 5.2.3); where they do, neither may hide that the other revokes the certificate.
+/// Returns whether one CRL supersedes another of the same issuer for this certificate: the greater
+/// number supersedes (RFC 6487 5). Two different CRLs never have one number (RFC 5280 5.2.3). If
+/// they do, neither may hide that the other revokes the certificate (own).
 pub fn supersedes(list: &Crl, kept: &Crl, cert: &Cert) -> bool
     ensures { IsTrue result ↔ Supersedes cert.now list.now kept.now }
 {
@@ -185,8 +198,8 @@ pub fn supersedes(list: &Crl, kept: &Crl, cert: &Cert) -> bool
     }
 }
 
-/// Tells whether the list takes the place of the one that is kept, if one is, where it is asked of
-/// the certificate.
+/// Returns whether the CRL supersedes the kept CRL for this certificate; true if none is kept
+/// (own).
 pub fn goes_first(list: &Crl, kept: Option<&Crl>, cert: &Cert) -> bool
     ensures { let goes = Supersedes cert.now list.now in
         IsTrue result ↔ IfSome (option_copied kept.entry) goes }
@@ -197,8 +210,8 @@ pub fn goes_first(list: &Crl, kept: Option<&Crl>, cert: &Cert) -> bool
     }
 }
 
-// Whether the list is eligible, and takes the place of the one that is kept, if one is. The
-// signature is verified last, as that takes longest.
+// Whether the CRL is eligible, and supersedes the kept CRL, if one is kept. The signature is
+// verified last, as that takes longest.
 fn is_next<V: Verifier>(
     list: &Crl,
     kept: Option<&Crl>,
@@ -219,7 +232,7 @@ fn is_next<V: Verifier>(
         && is_signed_by(list, issuer, verifier)
 }
 
-// The latest of the eligible lists.
+// The newest of the eligible CRLs.
 fn latest<'l, V: Verifier>(
     lists: &'l [Crl],
     cert: &Cert,
@@ -243,7 +256,7 @@ fn latest<'l, V: Verifier>(
     kept
 }
 
-// A list for the certificate, with the issuer's name if names are checked, whoever signed it.
+// A CRL for the certificate, with the issuer's name if names are checked, whoever signed it.
 fn one_for<'l>(lists: &'l [Crl], cert: &Cert, issuer: &ResourceCert, names: bool) -> Option<&'l Crl>
     ensures { let is_for = IsForBelow names issuer.now.cert.fields cert.now in
         IsOneIfAny is_for lists.now (option_copied result) }
@@ -256,7 +269,7 @@ fn one_for<'l>(lists: &'l [Crl], cert: &Cert, issuer: &ResourceCert, names: bool
     None
 }
 
-// A list for the certificate that the issuer's key signed, whatever its name.
+// A CRL for the certificate that the issuer's key signed, whatever its name.
 fn signed_one<'l, V: Verifier>(
     lists: &'l [Crl],
     cert: &Cert,
@@ -276,7 +289,7 @@ fn signed_one<'l, V: Verifier>(
     None
 }
 
-// Why no list is asked, if none is for the certificate, with the issuer's name if names are checked.
+// The error if no CRL is for the certificate, with the issuer's name if names are checked.
 fn why_unasked<V: Verifier>(
     lists: &[Crl],
     cert: &Cert,
@@ -297,8 +310,8 @@ fn why_unasked<V: Verifier>(
     }
 }
 
-// Whether the issuer's key signed a list that isn't eligible, if that is for the certificate. One
-// whose time has begun isn't signed then, so no signature is verified twice.
+// Whether the issuer's key signed a CRL that isn't eligible, if that is for the certificate. A CRL
+// whose time has come isn't signed by it then, so no signature is verified twice.
 fn is_signed_if_for<V: Verifier>(
     list: &Crl,
     cert: &Cert,
@@ -321,7 +334,7 @@ fn is_signed_if_for<V: Verifier>(
     !has_begun(list, now) && is_signed_by(list, issuer, verifier)
 }
 
-// Whether the issuer's key signed each list for the certificate, where none is eligible.
+// Whether the issuer's key signed each CRL for the certificate, if none is eligible.
 fn are_signed<V: Verifier>(
     lists: &[Crl],
     cert: &Cert,
@@ -345,7 +358,7 @@ fn are_signed<V: Verifier>(
     true
 }
 
-// Why the certificate isn't found unrevoked where no list is eligible.
+// The error of the certificate if no CRL is eligible.
 fn why_none<V: Verifier>(
     lists: &[Crl],
     cert: &Cert,
@@ -374,8 +387,16 @@ fn why_none<V: Verifier>(
     RevocationError::Stale
 }
 
-/// Tells what the latest list of an issuer says of a certificate below it: that the list is stale,
-/// or else that it has the serial number, or neither.
+/// Checks a certificate against its issuer's newest CRL (RFC 5280 6.3.3).
+///
+/// # Errors
+///
+/// Returns `Stale` if the CRL's nextUpdate is before this time, else `Revoked` if the CRL has the
+/// serial number.
+///
+/// # Not checked
+///
+/// Whether the CRL is the issuer's, and its signature.
 pub fn said_by(list: &Crl, cert: &Cert, now: Time) -> Result<(), RevocationError>
     ensures { IsSaidBy now cert.now list.now result }
 {

@@ -1,4 +1,4 @@
-//! What follows of given lists.
+//! Laws about given CRLs.
 ghost use Rattle.std.specs.Prelude.{◌↔◌, List, Bool, Any};
 ghost use Rattle.rpki_der.specs.Times.{Moment};
 ghost use Rattle.rpki_cert.specs.Certificates.{TbsFields, CertFields};
@@ -12,9 +12,9 @@ ghost use Rattle.rpki_path.specs.Repeats.{AsksByEntity};
 
 use rpki_parts::Verifier;
 
-/// Says that a certificate that given lists leave unrevoked is left so by one list among them: it
+/// States that a certificate which given CRLs leave unrevoked is left so by one CRL among them: it
 /// names the issuer's key, that key signed it, it has the issuer's name if names are checked, the
-/// moment lies between its two updates, and it doesn't have the serial number (RFC 5280 6.3.3).
+/// time lies between its two updates, and it doesn't have the serial number (RFC 5280 6.3.3).
 pub fn left_by_one<V: Verifier>()
     ensures { (v : V) (now : Moment) (strict names : Bool) (lists : List CrlState)
         (issuer : TbsFields) (c : CertFields) → let x = context (V.verifies v) now strict in
@@ -22,9 +22,9 @@ pub fn left_by_one<V: Verifier>()
         → Any (λ l. LeavesUnrevoked names x issuer c l.list) lists }
 {}
 
-/// Says that what given lists answer doesn't depend on their order, nor on how often each of them
-/// is given: with the same lists each check of a certificate below its issuer comes out the same
-/// (`checks`). So they leave the same certificates unrevoked (`unrevoked`), and the first check
+/// States that the answer of given CRLs depends neither on their order nor on how often each of
+/// them is given: with the same CRLs each check of a certificate below its issuer has the same
+/// result (`checks`). They leave the same certificates unrevoked (`unrevoked`), and the first check
 /// that fails is the same.
 pub fn blind_to_order<V: Verifier>()
     ensures checks { (v : V) (now : Moment) (strict names : Bool) (lists others : List CrlState)
@@ -38,9 +38,10 @@ pub fn blind_to_order<V: Verifier>()
         ↔ IsUnrevokedBy (by_named_lists names x others) issuer c }
 {}
 
-/// Says that who is asked here looks at no more of an issuer than its key and its identifier, and at
-/// its subject if names are checked: nobody, the lists of a store, and given lists. So two certificates of one CA's key ask the same
-/// of what stands below ([`crate::laws::cut_is_walkable`]).
+/// States that the sources of this crate (no check, the CRLs of a store, and given CRLs) read no
+/// more of an issuer than its key and its identifier, and its subject if names are checked. Two
+/// certificates of one CA's key therefore require the same of the certificates below
+/// ([`crate::laws::cut_is_walkable`]).
 pub fn asks_by_entity<V: Verifier>()
     ensures nobody { (names : Bool) → AsksByEntity names nobody }
     ensures uri { (v : V) (now : Moment) (strict names : Bool) (pairs : List Stored)

@@ -1,4 +1,4 @@
-//! Who is asked whether a certificate is revoked.
+//! The interface of a source that answers whether a certificate is revoked.
 ghost use Rattle.rpki_parts.specs.Conditions.{Tests};
 ghost use Rattle.rpki_cert.specs.Verification.{context};
 ghost use Rattle.rpki_crl.specs.Revocation.{revocation_checks};
@@ -10,19 +10,22 @@ use rpki_parts::Verifier;
 
 /// Answers whether certificates are revoked.
 ///
-/// The relation `asks`, which an implementation states, has the checks that are made of a
-/// certificate below its issuer, each named by the error that it gives. [`CrlStore`] answers by the
-/// URI that the certificate names, [`crate::revocation::GivenLists`] by the issuer's newest CRL,
+/// The relation `asks`, which an implementation states, has the checks of a certificate below its
+/// issuer, each named by its error. [`CrlStore`] answers by the URI that the certificate names,
+/// [`crate::revocation::GivenLists`] by the issuer's newest CRL.
 /// [`crate::revocation::NobodyAsked`] accepts every certificate.
 pub trait RevocationSource {
     ghost use Rattle.rpki_cert.specs.Verification.{Context};
     ghost use Rattle.rpki_path.specs.Asking.{RevocationChecks};
 
-    /// The checks that are made of a certificate below its issuer, in this context.
+    /// The checks of a certificate below its issuer, in this context.
     ghost asks: { Self → Context → RevocationChecks };
 
-    /// Asks whether the certificate below the issuer is unrevoked. Errs with the first check that
-    /// isn't true, in the order of [`RevocationError`]'s variants.
+    /// Checks that the certificate below the issuer isn't revoked (RFC 6487 7.2).
+    ///
+    /// # Errors
+    ///
+    /// Returns the first check that fails, in the order of [`RevocationError`]'s variants.
     fn ask<V: Verifier>(
         &self,
         cert: &Cert,
