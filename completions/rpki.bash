@@ -4,7 +4,7 @@ _rpki() {
     COMPREPLY=()
     case ${COMP_WORDS[1]} in
         show) options='--output --json --quiet --all --at --lenient --max-size --help' ;;
-        validate) options='--output --json --quiet --tal --crl --in --depth --steps --no-names --at --lenient --max-size --help' ;;
+        validate) options='--output --json --quiet --tal --crl --in --depth --steps --trust-first --no-crl --no-names --at --lenient --max-size --help' ;;
         tree) options='--output --json --quiet --tal --depth --steps --no-names --at --lenient --max-size --help' ;;
         prepare)
             options='--issuer --crl --at --lenient --out --force --help'
@@ -22,6 +22,10 @@ _rpki() {
     fi
     if ((COMP_CWORD == 2)) && [[ ${COMP_WORDS[1]} == prepare ]]; then
         mapfile -t COMPREPLY < <(compgen -W 'ca ee detached router anchor list' -- "$word")
+        return
+    fi
+    if ((COMP_CWORD == 2)) && [[ ${COMP_WORDS[1]} == help ]]; then
+        mapfile -t COMPREPLY < <(compgen -W 'show validate tree prepare complete' -- "$word")
         return
     fi
     [[ -n $options ]] || return

@@ -16,7 +16,7 @@ set -l each '__fish_seen_subcommand_from show validate tree'
 set -l all "$each; or begin; $issuing; end"
 
 complete -c rpki -n $first -f
-complete -c rpki -n '__fish_seen_subcommand_from help' -f
+complete -c rpki -n '__fish_seen_subcommand_from help' -f -a 'show validate tree prepare complete'
 complete -c rpki -n $first -a show -d 'Print what certificates, lists and locators hold'
 complete -c rpki -n $first -a validate -d 'Validate a path of certificates'
 complete -c rpki -n $first -a tree -d 'Judge every certificate among files'
@@ -43,6 +43,8 @@ complete -c rpki -n $show -l all -d 'Print every entry of a list'
 complete -c rpki -n $validate -l tal -r -F -d 'Add a locator of the trust anchor'
 complete -c rpki -n $validate -l crl -r -F -d 'Add a revocation list'
 complete -c rpki -n $validate -l in -r -F -d 'Seek the path to a file in a folder'
+complete -c rpki -n $validate -l trust-first -d 'Accept any trust anchor'
+complete -c rpki -n $validate -l no-crl -d 'Check no revocation'
 
 complete -c rpki -n $tree -l tal -r -F -d 'Add a locator of the trust anchor'
 

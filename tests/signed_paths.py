@@ -254,7 +254,8 @@ class Command:
         self.program, self.known = Path(program).resolve(), known
 
     def answer(self, question, files):
-        done = ran(self.program, 'validate', '-o', 'json', '--at', question.text_of_day(), *files)
+        done = ran(self.program, 'validate', '-o', 'json', '--trust-first', '--no-crl', '--at',
+                   question.text_of_day(), *files)
         if done.returncode > 1:
             return f'status {done.returncode}: {done.stderr}'
         said = json.loads(done.stdout)

@@ -58,7 +58,7 @@ def bits(octets, unused=0):
     return der(3, bytes([unused]), octets)
 
 
-TRUE = der(1, b'\xff')
+TRUE, FALSE = der(1, b'\xff'), der(1, b'\0')
 NULL = der(5)
 RSA_SHA256 = seq(oid('1.2.840.113549.1.1.11'), NULL)
 
@@ -497,10 +497,17 @@ def noted(ca, key):
     yield 'serial_of_20_octets', made(more={'serial_octets': number(2**159 - 1)})
     yield 'serial_of_21_octets', made(more={'serial_octets': number(2**159)})
     yield 'issuer_utf8', made(more={'issuer_name': common_name('ca', 0x0c)})
+    yield 'begin_generalized', made(more={'begin': f'20{BEGIN}'})
+    yield 'end_generalized', made(more={'end': f'20{END}'})
+    yield 'end_of_2050', made(more={'end': '20500101000000Z'})
     yield 'subject_utf8', made(more={'subject': common_name('sub', 0x0c)})
     yield 'router_utf8', made(
         leaf, information=None, ip=None, purposes=extended_key_usage('1.3.6.1.5.5.7.3.30'),
         more={'subject': common_name('ROUTER-0000FBF0', 0x0c)}, **{'as': systems([64496])})
+    yield 'subject_with_a_control', made(more={'subject': common_name('su\x01b')})
+    yield 'issuer_with_an_underscore', made(more={'issuer_name': common_name('c_a')})
+    yield 'subject_with_each', made(more={'subject': common_name(
+        "AZaz09 '()+,-./:=?")})
     yield 'leaf_with_notify', made(leaf, information=information(
         object=f'{SITE}/ca/leaf.roa', notify='https://rpki.example.net/notification.xml'))
     place, web = ('object', uri(f'{SITE}/ca/leaf.roa')), 'https://rpki.example.net'
@@ -538,6 +545,12 @@ def noted(ca, key):
     yield 'octets_behind_systems', made(**{'as': extension(
         '1.3.6.1.5.5.7.1.8', seq(der(0xa0, seq(number(3333)))) + NULL, True)})
     yield 'octets_in_an_unknown', made(other=extension('1.2.3.4', NULL + NULL))
+    unknown = seq(oid('1.2.3.4'), octet_string(NULL))
+    yield 'false_of_an_unknown', made(other=seq(oid('1.2.3.4'), FALSE, octet_string(NULL)))
+    yield 'false_of_a_key', made(ski=seq(oid('2.5.29.14'), FALSE, octet_string(octet_string(key.identifier))))
+    yield 'unknown_twice', made(other=unknown + extension('1.2.3.4', octet_string(b'more')))
+    yield 'two_unknown', made(other=unknown + extension('1.2.3.5', NULL))
+    yield 'unknown_apart', made(other=unknown + seq(oid('1.2.3.5'), FALSE, octet_string(NULL)) + unknown)
     yield 'several', made(
         ip=addresses(CA2['v4'][::-1], CA2['v6'], critical=False),
         **{'as': systems([64496, 3333], critical=False)}, more={'serial_octets': number(0)})

@@ -33,10 +33,6 @@ last_appended old new text p = subst (λ (l : List ℕ). Appends old l new) (sym
 
 -- ---- some text
 
--- no text
-pub none_appended : (Holds : List ℕ → Type 0) (page : Option (List ℕ)) → Holds [] → AppendsSome Holds page page
-none_appended Holds page holds = inl ([], holds, nothing_more page)
-
 -- a text of which it holds
 pub such_appended : (Holds : List ℕ → Type 0) (old new : Option (List ℕ)) (text : List ℕ) → Holds text → Appends old text new → AppendsSome Holds old new
 such_appended Holds old new text holds p =

@@ -13,3 +13,4 @@ mod WholeFiles
 mod WholeTrees
 mod WholeValues
 mod WholeVerdicts
+mod AddedNodes

@@ -1,7 +1,7 @@
 -- What is pushed of each file, one after the other.
 use Rattle.std.specs.Option.{option_map}
-use Rattle.std.specs.Prelude.{Option, Some, None, Result, Ok, Err, OnOk, slice_get}
-use Rattle.std.proofs.Common.{◌≡◌, ◌∙◌, ◌+◌, ◌<◌, ◌≤◌, ℕ, List, [], ◌∷◌, ◌++◌, length, take, get_or, map, refl, sym, ap, subst}
+use Rattle.std.specs.Prelude.{Option, Some, None, slice_get}
+use Rattle.std.proofs.Common.{◌≡◌, ◌∙◌, ◌+◌, ◌<◌, ◌≤◌, ℕ, List, [], ◌∷◌, ◌++◌, length, take, get_or, map, sym, ap, subst}
 use Rattle.std.proofs.lemmas.List.{append-nil, map-append, take_more, take_all}
 use Rattle.std.proofs.lemmas.Option.{slice_get-map}
 use Rattle.serde_json.specs.Data.{Data, string}
@@ -10,9 +10,9 @@ use Rattle.serde_json.specs.declared.value.Value.{Value}
 use Rattle.rpki_files.specs.Files.{FileFields}
 use Rattle.rpki_answers.specs.JsonValues.{Pushes}
 use Rattle.rpki_answers.specs.JsonTrees.{name_item}
-use Rattle.rpki_answers.specs.JsonVerdicts.{IsLeftItem, PushesSome, left_items}
+use Rattle.rpki_answers.specs.JsonVerdicts.{PushesSome}
 use Rattle.rpki_answers.specs.TreeTexts.{SaysInOrder}
-use Rattle.rpki_answers.specs.VerdictTexts.{Leaves, SaysOfEach, file_name_at}
+use Rattle.rpki_answers.specs.VerdictTexts.{SaysOfEach, file_name_at}
 use Rattle.rpki_answers.proofs.AppendedTexts.{order_more, says_more}
 use Rattle.rpki_answers.proofs.PushedValues.{then_pushed}
 
@@ -38,11 +38,6 @@ pub name_pushed : {R : Type 0} (now : R → FileFields) (files : List R) (place 
 name_pushed now files place file old new value there is shown =
     subst (λ (o : Option FileFields). Pushes (name_item (option_map (λ file. file.name) o)) old new) (sym (slice_get-map now files place ∙ ap (option_map now) there))
     (ap (map view) is ∙ map-append view old (value ∷ []) ∙ ap (λ (d : Data). map view old ++ d ∷ []) shown)
-
--- how many octets stand behind
-pub left_pushed : {V T E : Type 0} (encodes : V → List ℕ → Type 0) (file : FileFields) (left : Option ℕ) (r : Result T E) (old new : List Value) → Leaves encodes file.octets left → OnOk r (Pushes (left_items file.name left) old new) → OnOk r (PushesSome (IsLeftItem encodes file) old new)
-left_pushed encodes file left (Ok x) old new leaves pushes = (left_items file.name left, (left, leaves, refl), pushes)
-left_pushed encodes file left (Err e) old new leaves pushes = tt
 
 -- of one file more, with the places before and behind it
 pub next_pushed : (Says : ℕ → ℕ → FileFields → List Data → Type 0) (files : List FileFields) (i mid last : ℕ) (file : FileFields) (old so_far new : List Value) → i < length files → file ≡ get_or files i file → PushesSome (SaysInOrder Says 0 mid (take i files)) old so_far → PushesSome (Says mid last file) so_far new → PushesSome (SaysInOrder Says 0 last (take (i + 1) files)) old new

@@ -10,10 +10,9 @@ use Rattle.rpki_verdicts.specs.PathFiles.{QuestionFields}
 use Rattle.rpki_verdicts.specs.Trees.{TreeFields}
 use Rattle.rpki_answers.specs.JsonAnswers.{IsJsonOfFiles, is_single}
 use Rattle.rpki_answers.specs.JsonTrees.{IsTreeJson}
-use Rattle.rpki_answers.specs.JsonVerdicts.{IsJsonOfPath}
 use Rattle.rpki_answers.specs.ShownTexts.{IsTextOfFiles}
 use Rattle.rpki_answers.specs.TreeTexts.{IsAcceptingFinding, IsTreeFinding, IsTreeText}
-use Rattle.rpki_answers.specs.VerdictTexts.{IsTextOfPath}
+use Rattle.rpki_answers.specs.Verdicts.{IsJsonOfPath, IsTextOfPath}
 use Rattle.rpki_text.specs.declared.command_line.arguments.Format.{Format}
 use Rattle.rpki_text.specs.declared.command_line.arguments.Task.{Task}
 use Rattle.rpki_text.specs.declared.command_line.arguments.Task.TheVariants.{Show, Validate, Tree}

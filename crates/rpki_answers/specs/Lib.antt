@@ -1,6 +1,5 @@
 -- The definitions that the contracts of answers cite.
 pub mod Outcomes
-pub mod RejectionDetails
 pub mod VerdictTexts
 pub mod TreeTexts
 pub mod NoteLines
@@ -12,8 +11,10 @@ pub mod JsonKeys
 pub mod JsonNotes
 pub mod JsonFiles
 pub mod JsonTexts
-pub mod JsonDetails
 pub mod JsonVerdicts
+pub mod ToldValues
+pub mod RejectionDetails
+pub mod Verdicts
 pub mod JsonTrees
 pub mod JsonAnswers
 pub mod AnswerTexts

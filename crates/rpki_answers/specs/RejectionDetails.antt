@@ -2,21 +2,20 @@
 -- which keys differ, which moment is over, what else a file is that is no certificate, and that the
 -- files stand the other way round.
 use Rattle.std.specs.Option.{option_map}
-use Rattle.std.specs.Prelude.{◌≡◌, ◌↔◌, ◌-◌, ℕ, Bool, IsTrue, if◌then◌else◌, List, [], ◌++◌, length, codes, slice_get, Option, Some, None}
+use Rattle.std.specs.Prelude.{◌≡◌, ◌↔◌, ◌-◌, ℕ, Bool, IsTrue, if◌then◌else◌, List, [], ◌∷◌, ◌++◌, length, codes, slice_get, Option, Some, None}
 use Rattle.rpki_cert.specs.Certificates.{CertFields, IsCertificate}
 use Rattle.rpki_der.specs.Encoding.{Means}
 use Rattle.rpki_cert.specs.declared.inspect.Kind.TheVariants.{Anchor}
 use Rattle.rpki_cert.specs.Profiles.{MeetsProfile}
-use Rattle.rpki_der.specs.Texts.{time_text}
 use Rattle.rpki_der.specs.Times.{Moment}
 use Rattle.rpki_files.specs.FileSorts.{IsToldSort}
 use Rattle.rpki_files.specs.Files.{FileFields}
 use Rattle.rpki_files.specs.SortTexts.{description}
 use Rattle.rpki_files.specs.declared.sorts.Sort.{Sort}
-use Rattle.rpki_text.specs.CertificateTexts.{uri_line}
-use Rattle.rpki_text.specs.Pages.{colons_text, line, line_if_any}
+use Rattle.rpki_document.specs.Documents.{text, characters, say, tell, Node, line, told_line}
 use Rattle.rpki_verdicts.specs.PathFiles.{QuestionFields}
 use Rattle.rpki_verdicts.specs.declared.path.Fault.{Fault}
+use Rattle.rpki_answers.specs.ToldValues.{identifier_told, moment_told}
 use Rattle.rpki_answers.specs.declared.details.Cause.{Cause}
 use Rattle.rpki_answers.specs.declared.details.Cause.TheVariants.{NoList, OtherKey, NotYetValid, Expired, Other}
 use Rattle.rpki_answers.specs.declared.details.Details.{Details}
@@ -80,57 +79,67 @@ pub record AreDetails (question : QuestionFields) (fault : Fault) (d : Details) 
   pub sort_is : IsSortAt question.members fault.index d.sort
   pub order_is : TellsOrder question.strict question.members d.is_turned
 
--- ---- in lines
+-- ---- in a document
 
--- the key identifier of the issuer, where it is there
+-- the identifier of a key, if it is there
+abbrev pub identifier_nodes : List ℕ → List ℕ → Option (List ℕ) → List Node
+identifier_nodes label key None = []
+identifier_nodes label key (Some octets) = told_line label key (identifier_told octets) ∷ []
+
+-- where the CRL is
+abbrev pub uri_nodes : List ℕ → List ℕ → Option (List ℕ) → List Node
+uri_nodes label key None = []
+uri_nodes label key (Some uri) = told_line label key (characters uri) ∷ []
+
+-- an end of a period, and the time at which is judged
+abbrev pub bound_node : List ℕ → List ℕ → Moment → Moment → Node
+bound_node label key bound at = line label (
+    tell key (moment_told bound) ∷ say (codes ", validation time ") ∷ tell (codes "moment") (moment_told at) ∷ [])
+
+-- the identifier of the issuer's key, and that of the certificate's own
 abbrev pub issuer_key : CertFields → Option (List ℕ)
-issuer_key c = option_map colons_text c.fields.extensions.authority_key_identifier
+issuer_key c = c.fields.extensions.authority_key_identifier
 
--- that of the certificate's own key
 abbrev pub own_key : CertFields → List ℕ
-own_key c = colons_text c.fields.extensions.subject_key_identifier
+own_key c = c.fields.extensions.subject_key_identifier
 
--- an end of a period, and the moment that was asked
-abbrev pub bound_text : Moment → Moment → List ℕ
-bound_text bound asked = time_text bound ++ (codes ", asked at " ++ time_text asked)
+-- of a certificate, and the one above it: the CRL that is needed, and the key that has to sign it;
+-- the keys that should be one; the end of the period that is over or hasn't begun
+abbrev pub cause_nodes : Cause → Moment → CertFields → Option CertFields → List Node
+cause_nodes NoList at c above =
+    uri_nodes (codes "CRL needed") (codes "wanted_crl") c.fields.extensions.crl_uri
+    ++ identifier_nodes (codes "Issuer's key") (codes "aki") (issuer_key c)
+cause_nodes OtherKey at c above =
+    identifier_nodes (codes "Issuer's key") (codes "aki") (issuer_key c)
+    ++ identifier_nodes (codes "Key above") (codes "ski_above") (option_map own_key above)
+cause_nodes NotYetValid at c above =
+    bound_node (codes "Valid from") (codes "valid_since") c.fields.validity.not_before at ∷ []
+cause_nodes Expired at c above =
+    bound_node (codes "Valid until") (codes "valid_until") c.fields.validity.not_after at ∷ []
+cause_nodes Other at c above = []
 
--- of a member, and the one above it: the list that is wanted, and the key that has to sign it; the
--- keys that should be one; the end of the period that is over or hasn't begun
-abbrev pub cause_text : Cause → Moment → CertFields → Option CertFields → List ℕ
-cause_text NoList asked c above =
-    uri_line (codes "Wanted list") c.fields.extensions.crl_uri ++ line_if_any (codes "Issuer's key") (issuer_key c)
-cause_text OtherKey asked c above =
-    line_if_any (codes "Issuer's key") (issuer_key c) ++ line_if_any (codes "Key above") (option_map own_key above)
-cause_text NotYetValid asked c above = line (codes "Valid from") (bound_text c.fields.validity.not_before asked)
-cause_text Expired asked c above = line (codes "Valid until") (bound_text c.fields.validity.not_after asked)
-cause_text Other asked c above = []
-
--- the same where the member begins with a certificate
-abbrev pub member_details : Cause → Moment → Option CertFields → Option CertFields → List ℕ
-member_details cause asked None above = []
-member_details cause asked (Some c) above = cause_text cause asked c above
+-- the same if the file begins with a certificate
+abbrev pub member_nodes : Cause → Moment → Option CertFields → Option CertFields → List Node
+member_nodes cause at None above = []
+member_nodes cause at (Some c) above = cause_nodes cause at c above
 
 -- what is said of files that stand the other way round
 abbrev pub order_text : List ℕ
 order_text = codes "the files stand from the trust anchor down; here the last one is a trust anchor"
 
-abbrev pub order_line : Bool → List ℕ
-order_line is_turned = if is_turned then line (codes "Order") order_text else []
+abbrev pub order_nodes : Bool → List Node
+order_nodes is_turned = if is_turned then told_line (codes "Order") (codes "order") (text order_text) ∷ [] else []
 
--- what a file of this sort is, and what to do, where it is of one
-abbrev pub sort_line : Option Sort → List ℕ
-sort_line None = []
-sort_line (Some s) = line (codes "Kind") (description s).name
+-- what a file of this sort is, and what to do, if it is of one
+abbrev pub sort_nodes : Option Sort → List Node
+sort_nodes None = []
+sort_nodes (Some s) =
+    told_line (codes "Kind") (codes "kind") (text (description s).name)
+    ∷ told_line (codes "To do") (codes "advice") (text (description s).advice)
+    ∷ []
 
-abbrev pub advice_line : Option Sort → List ℕ
-advice_line None = []
-advice_line (Some s) = line (codes "To do") (description s).advice
-
-abbrev pub sort_lines : Option Sort → List ℕ
-sort_lines sort = sort_line sort ++ advice_line sort
-
--- the lines behind a rejection
-abbrev pub details_text : Details → List ℕ
-details_text d =
-    member_details d.cause d.moment (option_map (λ c. c.now) d.member) (option_map (λ c. c.now) d.above)
-    ++ (sort_lines d.sort ++ order_line d.is_turned)
+-- what is told of a rejection beside its rule
+abbrev pub details_nodes : Details → List Node
+details_nodes d =
+    member_nodes d.cause d.moment (option_map (λ c. c.now) d.member) (option_map (λ c. c.now) d.above)
+    ++ (sort_nodes d.sort ++ order_nodes d.is_turned)

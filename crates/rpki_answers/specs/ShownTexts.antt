@@ -1,4 +1,5 @@
 -- What is shown of files.
+use Rattle.rpki_files.specs.SortTexts.{description}
 use Rattle.std.specs.Fmt.{decimal}
 use Rattle.std.specs.List.{concat, flat_map}
 use Rattle.std.specs.Prelude.{◌≡◌, ◌≢◌, ◌↔◌, ◌⊎◌, ℕ, Bool, IsTrue, IsFalse, ◌==◌, if◌then◌else◌, List, [], ◌∷◌, ◌++◌, map, option_map, codes, Option, Some, None}
@@ -27,7 +28,6 @@ use Rattle.rpki_text.specs.ListTexts.{list_text}
 use Rattle.rpki_text.specs.Pages.{line, line_feed, line_if_any, characters_text, colons_text, count_text, file_name_text}
 use Rattle.rpki_answers.specs.FactTexts.{facts_lines}
 use Rattle.rpki_answers.specs.NoteLines.{notes_lines}
-use Rattle.rpki_answers.specs.RejectionDetails.{advice_line, sort_line}
 use Rattle.rpki_answers.specs.VerdictTexts.{SaysOfEach}
 use Rattle.rpki_text.specs.declared.certificate.Findings.{Findings}
 use Rattle.rpki_text.specs.declared.keys.KeyAnswer.{KeyAnswer}
@@ -42,6 +42,15 @@ use Rattle.rpki_files.specs.declared.rules.Rule.{Rule}
 use Rattle.rpki_files.specs.declared.sorts.Sort.{Sort}
 use Rattle.rpki_files.specs.declared.sorts.Sort.TheVariants.{Request, Version1}
 use Rattle.rpki_answers.specs.declared.showing.Options.{Options}
+
+-- what a file of this sort is, and what to do, where it is of one
+abbrev pub sort_line : Option Sort → List ℕ
+sort_line None = []
+sort_line (Some s) = line (codes "Kind") (description s).name
+
+abbrev pub advice_line : Option Sort → List ℕ
+advice_line None = []
+advice_line (Some s) = line (codes "To do") (description s).advice
 
 -- ---- around an object
 

@@ -1,5 +1,4 @@
-//! Certificates, lists and locators as JSON, with the names that rpki-client gives to what it shows
-//! too.
+//! Certificates, CRLs and TALs as JSON, with rpki-client's names for what it prints too.
 ghost use Rattle.std.specs.Prelude.{◌≡◌, codes, map, option_map, string_bytes, IfOk, OnOk};
 ghost use Rattle.serde_json.specs.View.{view};
 ghost use Rattle.rpki_keys.specs.Locators.{uri_text};
@@ -9,10 +8,9 @@ ghost use Rattle.rpki_answers.specs.JsonValues.{Puts, array_of, count_member_if_
 
 mod ascii;
 mod blocks;
-mod details;
 mod facts;
 mod files;
-mod key;
+pub(crate) mod key;
 mod notes;
 mod objects;
 mod texts;
@@ -38,9 +36,8 @@ use serde_json::Value;
 use std::alloc::{AllocError, Global};
 pub use texts::value_text;
 pub use trees::tree;
-pub use verdicts::path;
 
-/// A file that is shown: its name, its octets in DER, and how many of them stand behind its object.
+/// A file that is shown: its name, its bytes in DER, and how many bytes follow its object.
 #[derive(Clone, Copy)]
 pub struct Shown<'a> {
     pub name: &'a str,
@@ -220,7 +217,7 @@ fn known_certificate(
     Ok(out.into_value())
 }
 
-/// Makes the value of a certificate with what is said of it beside its fields.
+/// Makes the value of a certificate, with its facts and notes.
 pub fn certificate(
     alloc: Global,
     file: &Shown<'_>,
@@ -257,7 +254,7 @@ fn entries(alloc: Global, revoked: &RevokedCertificates) -> Result<Value, AllocE
     Ok(Value::from(items))
 }
 
-/// Makes the value of a list.
+/// Makes the value of a CRL.
 pub fn list(alloc: Global, file: &Shown<'_>, it: &Crl) -> Result<Value, AllocError>
     ensures { IfOk result (λ made. view made ≡ list_json file.now it.now.list.fields) }
 {
@@ -319,7 +316,7 @@ fn known_locator(
     Ok(out.into_value())
 }
 
-/// Makes the value of a locator.
+/// Makes the value of a TAL.
 pub fn locator(alloc: Global, file: &Shown<'_>, tal: &Tal) -> Result<Value, AllocError>
     ensures { IfOk result (λ made. IsLocatorJson file.now tal.now.tal (view made)) }
 {
@@ -327,7 +324,7 @@ pub fn locator(alloc: Global, file: &Shown<'_>, tal: &Tal) -> Result<Value, Allo
     known_locator(alloc, file, tal, &answer)
 }
 
-/// Makes the value of a file that looks like a locator and is none, for this reason.
+/// Makes the value of a file that looks like a TAL and isn't one, for this reason.
 pub fn no_locator(
     alloc: Global,
     file: &Shown<'_>,
@@ -343,7 +340,7 @@ pub fn no_locator(
     Ok(out.into_value())
 }
 
-/// Puts in what a fault means, and the section of the standard.
+/// Adds what an error means, and the section of the standard.
 pub fn put_rule(out: &mut Members, rule: Rule) -> Result<(), AllocError>
     ensures { OnOk result (Puts (rule_members rule) out.old out.new) }
 {
@@ -381,7 +378,7 @@ fn put_advice(out: &mut Members, kind: &str, advice: &str) -> Result<(), AllocEr
     out.text("advice", advice)
 }
 
-/// Puts in the sort of a file and what to do, where it is of one.
+/// Adds the sort of a file and what to do, if the file is of a known sort.
 #[tactic(auto, unfolding(crate::specs::JsonValues::put_all))]
 pub fn put_sort(out: &mut Members, sort: Option<Sort>) -> Result<(), AllocError>
     ensures { OnOk result (Puts (sort_members sort) out.old out.new) }
@@ -395,8 +392,8 @@ pub fn put_sort(out: &mut Members, sort: Option<Sort>) -> Result<(), AllocError>
     }
 }
 
-/// Makes the value of a file that is neither: its sort, the fault and its rule, the field at which
-/// reading stops, the octet at which that begins, what is wanted there, and what is found.
+/// Makes the value of a file that can't be read: its sort, the error and its rule, the field at
+/// which reading stops, the field's offset, what is expected there, and what is found.
 pub fn rejected(alloc: Global, file: &Shown<'_>, it: &Rejection) -> Result<Value, AllocError>
     ensures { let why = string_bytes it.now.why in
         IfOk result (λ made.

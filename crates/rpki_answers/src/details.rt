@@ -1,24 +1,22 @@
-//! What a rejection tells beside its rule, so that its reader can act.
-ghost use Rattle.std.specs.Prelude.{◌≡◌, ◌↔◌, option_map, IsTrue, Some};
-ghost use Rattle.std.specs.Fmt.{WritesOnOk};
-ghost use Rattle.rpki_text.specs.CertificateTexts.{uri_line};
-ghost use Rattle.rpki_text.specs.Pages.{colons_text, line, line_if_any};
-ghost use Rattle.rpki_answers.specs.RejectionDetails.{AreDetails, IsAnchor, IsCause, IsCertificateAt, IsSortAt, TellsOrder, bound_text, cause_text, details_text, member_details, order_line, own_key, sort_lines};
+//! What a rejection says besides its rule, so that its reader can act.
+ghost use Rattle.std.specs.Prelude.{◌≡◌, ◌↔◌, [], ◌∷◌, option_map, IsTrue, OnOk, Some};
+ghost use Rattle.rpki_document.specs.Building.{Adds};
+ghost use Rattle.rpki_answers.specs.RejectionDetails.{AreDetails, IsAnchor, IsCause, IsCertificateAt, IsSortAt, TellsOrder, bound_node, cause_nodes, details_nodes, identifier_nodes, member_nodes, order_nodes, own_key, sort_nodes, uri_nodes};
 
+use crate::told::{identifier_leaf, moment_leaf};
 use rpki_cert::Cert;
 use rpki_der::Time;
+use rpki_document::{Leaf, Part, Piece, add_line, add_told};
 use rpki_files::{Object, Sort, describe};
 use rpki_parts::{KeyIdentifier, Rsync};
-use rpki_text::certificate::write_key_identifier;
-use rpki_text::{Characters, write_line};
 use rpki_verdicts::{Fault, Question};
-use std::fmt;
+use std::alloc::{AllocError, Global};
 
-/// What is said of files that stand the other way round.
+/// What is said of files in the reverse order.
 pub const ORDER: &str =
     "the files stand from the trust anchor down; here the last one is a trust anchor";
 
-/// The faults of which there is more to tell than their rule.
+/// The errors that have more to say than their rule.
 #[derive(Clone, Copy)]
 pub enum Cause {
     /// The list of the member's issuer isn't among those given.
@@ -30,9 +28,9 @@ pub enum Cause {
     Other,
 }
 
-/// What is told of a fault beside its rule: its cause, the moment that was asked, the certificates
-/// of the member at its place and of the one above it, the sort of that member's file, and whether
-/// the files stand the other way round.
+/// The details of an error besides its rule: its cause, the validation time, the certificate at its
+/// path index and the one above it, the sort of that certificate's file, and whether the files are in
+/// the reverse order.
 #[derive(Clone, Copy)]
 pub struct Details<'q> {
     pub cause: Cause,
@@ -112,7 +110,7 @@ fn is_turned(files: &[Object<'_>], strict: bool) -> bool
     is_anchor(last, strict) && !is_anchor(first, strict)
 }
 
-/// Finds what is told of a fault beside its rule.
+/// Finds the details of an error.
 pub fn details_of<'q>(question: &Question<'q, '_>, fault: &Fault) -> Details<'q>
     ensures { AreDetails question.now fault.now result }
 {
@@ -127,175 +125,251 @@ pub fn details_of<'q>(question: &Question<'q, '_>, fault: &Fault) -> Details<'q>
     }
 }
 
-// ---- in lines
+// ---- in a document
 
-// An end of a period, and the moment that was asked.
-#[derive(Clone, Copy)]
-struct Bound {
-    bound: Time,
-    asked: Time,
-}
-
-impl fmt::Display for Bound {
-    ghost output = { λ it. Some (bound_text it.bound it.asked) };
-
-    fn fmt<W: fmt::Write>(&self, f: &mut fmt::Formatter<W>) -> fmt::Result {
-        let bound = self.bound;
-        let asked = self.asked;
-        write!(f, "{bound}, asked at {asked}")
-    }
-}
-
-fn write_uri<W: fmt::Write>(
-    f: &mut fmt::Formatter<W>,
-    label: &str,
-    uri: Option<&Rsync>,
-) -> fmt::Result
-    ensures { let octets = option_map (λ it. it.now) uri.entry in
-        WritesOnOk W.write_str_gives f.old result (uri_line label.now octets) f.new }
-{
-    match uri {
-        Some(uri) => write_line(f, label, &Characters(uri.as_bytes())),
-        None => Ok(()),
-    }
-}
-
-fn write_key<W: fmt::Write>(
-    f: &mut fmt::Formatter<W>,
-    label: &str,
+fn add_identifier<'p>(
+    parts: &mut Vec<Part<'p>>,
+    alloc: Global,
+    label: &'p str,
+    key: &'p str,
     identifier: Option<KeyIdentifier>,
-) -> fmt::Result
-    ensures { WritesOnOk W.write_str_gives f.old result
-        (line_if_any label.now (option_map colons_text identifier)) f.new }
+) -> Result<(), AllocError>
+    ensures { let its = identifier_nodes label.now key.now identifier in
+        OnOk result (Adds its parts.old.items parts.new.items) }
 {
     match identifier {
-        Some(identifier) => write_key_identifier(f, label, &identifier),
-        None => Ok(()),
-    }
-}
-
-fn write_own_key<W: fmt::Write>(
-    f: &mut fmt::Formatter<W>,
-    label: &str,
-    cert: Option<&Cert>,
-) -> fmt::Result
-    ensures { let identifier = option_map (λ c. own_key c.now) cert.entry in
-        WritesOnOk W.write_str_gives f.old result (line_if_any label.now identifier) f.new }
-{
-    match cert {
-        Some(cert) => {
-            let identifier = cert.as_tbs().subject_key_identifier();
-            write_key_identifier(f, label, &identifier)
+        Some(identifier) => {
+            let leaf = identifier_leaf(alloc, &identifier)?;
+            add_told(parts, alloc, label, key, leaf)
         }
         None => Ok(()),
     }
 }
 
-// The list that is wanted, and the key that has to sign it.
-fn write_wanted<W: fmt::Write>(
-    f: &mut fmt::Formatter<W>,
-    details: &Details<'_>,
-    cert: &Cert,
-) -> fmt::Result
-    ensures { let above = option_map (λ c. c.now) details.now.above in
-        WritesOnOk W.write_str_gives f.old result
-        (cause_text Cause.NoList details.now.moment cert.now above) f.new }
+fn add_own_key<'p>(
+    parts: &mut Vec<Part<'p>>,
+    alloc: Global,
+    label: &'p str,
+    key: &'p str,
+    cert: Option<&Cert>,
+) -> Result<(), AllocError>
+    ensures { let identifier = option_map own_key (option_map (λ c. c.now) cert.entry) in
+        let its = identifier_nodes label.now key.now identifier in
+        OnOk result (Adds its parts.old.items parts.new.items) }
 {
-    write_uri(f, "Wanted list", cert.as_tbs().crl_uri())?;
-    write_key(f, "Issuer's key", cert.as_tbs().authority_key_identifier())
+    match cert {
+        Some(cert) => {
+            let leaf = identifier_leaf(alloc, &cert.as_tbs().subject_key_identifier())?;
+            add_told(parts, alloc, label, key, leaf)
+        }
+        None => Ok(()),
+    }
+}
+
+fn add_uri<'p>(
+    parts: &mut Vec<Part<'p>>,
+    alloc: Global,
+    label: &'p str,
+    key: &'p str,
+    uri: Option<&'p Rsync>,
+) -> Result<(), AllocError>
+    ensures { let its = uri_nodes label.now key.now (option_map (λ it. it.now) uri.entry) in
+        OnOk result (Adds its parts.old.items parts.new.items) }
+{
+    match uri {
+        Some(uri) => add_told(parts, alloc, label, key, Leaf::Characters(uri.as_bytes())),
+        None => Ok(()),
+    }
+}
+
+// The CRL that is needed, and the key that has to sign it.
+fn add_needed<'p>(
+    parts: &mut Vec<Part<'p>>,
+    alloc: Global,
+    details: &Details<'_>,
+    cert: &'p Cert,
+) -> Result<(), AllocError>
+    ensures { let above = option_map (λ c. c.now) details.now.above in
+        let its = cause_nodes Cause.NoList details.now.moment cert.now above in
+        OnOk result (Adds its parts.old.items parts.new.items) }
+{
+    add_uri(
+        parts,
+        alloc,
+        "CRL needed",
+        "wanted_crl",
+        cert.as_tbs().crl_uri(),
+    )?;
+    add_identifier(
+        parts,
+        alloc,
+        "Issuer's key",
+        "aki",
+        cert.as_tbs().authority_key_identifier(),
+    )
 }
 
 // The keys that should be one.
-fn write_keys<W: fmt::Write>(
-    f: &mut fmt::Formatter<W>,
+fn add_keys<'p>(
+    parts: &mut Vec<Part<'p>>,
+    alloc: Global,
     details: &Details<'_>,
-    cert: &Cert,
-) -> fmt::Result
+    cert: &'p Cert,
+) -> Result<(), AllocError>
     ensures { let above = option_map (λ c. c.now) details.now.above in
-        WritesOnOk W.write_str_gives f.old result
-        (cause_text Cause.OtherKey details.now.moment cert.now above) f.new }
+        let its = cause_nodes Cause.OtherKey details.now.moment cert.now above in
+        OnOk result (Adds its parts.old.items parts.new.items) }
 {
-    write_key(f, "Issuer's key", cert.as_tbs().authority_key_identifier())?;
-    write_own_key(f, "Key above", details.above)
+    add_identifier(
+        parts,
+        alloc,
+        "Issuer's key",
+        "aki",
+        cert.as_tbs().authority_key_identifier(),
+    )?;
+    add_own_key(parts, alloc, "Key above", "ski_above", details.above)
 }
 
-fn write_bound<W: fmt::Write>(
-    f: &mut fmt::Formatter<W>,
-    label: &str,
+// An end of a period, and the time at which is judged.
+fn add_bound<'p>(
+    parts: &mut Vec<Part<'p>>,
+    alloc: Global,
+    label: &'p str,
+    key: &'p str,
     bound: Time,
-    asked: Time,
-) -> fmt::Result
-    ensures { WritesOnOk W.write_str_gives f.old result
-        (line label.now (bound_text bound asked)) f.new }
+    at: Time,
+) -> Result<(), AllocError>
+    ensures { let its = bound_node label.now key.now bound at in
+        OnOk result (Adds (its ∷ []) parts.old.items parts.new.items) }
 {
-    write_line(f, label, &Bound { bound, asked })
+    let bound = moment_leaf(alloc, bound)?;
+    let at = moment_leaf(alloc, at)?;
+    let pieces = vec![in alloc;
+        Piece::Tell(key, bound),
+        Piece::Say(", validation time "),
+        Piece::Tell("moment", at),
+    ]?;
+    add_line(parts, label, pieces)
 }
 
-fn write_cause<W: fmt::Write>(
-    f: &mut fmt::Formatter<W>,
+// The beginning of a period that hasn't begun.
+fn add_not_yet(
+    parts: &mut Vec<Part<'_>>,
+    alloc: Global,
     details: &Details<'_>,
     cert: &Cert,
-) -> fmt::Result
+) -> Result<(), AllocError>
     ensures { let above = option_map (λ c. c.now) details.now.above in
-        WritesOnOk W.write_str_gives f.old result
-        (cause_text details.now.cause details.now.moment cert.now above) f.new }
+        let its = cause_nodes Cause.NotYetValid details.now.moment cert.now above in
+        OnOk result (Adds its parts.old.items parts.new.items) }
 {
-    let validity = cert.as_tbs().validity();
+    let bound = cert.as_tbs().validity().not_before();
+    add_bound(
+        parts,
+        alloc,
+        "Valid from",
+        "valid_since",
+        bound,
+        details.moment,
+    )
+}
+
+// The end of one that is over.
+fn add_expired(
+    parts: &mut Vec<Part<'_>>,
+    alloc: Global,
+    details: &Details<'_>,
+    cert: &Cert,
+) -> Result<(), AllocError>
+    ensures { let above = option_map (λ c. c.now) details.now.above in
+        let its = cause_nodes Cause.Expired details.now.moment cert.now above in
+        OnOk result (Adds its parts.old.items parts.new.items) }
+{
+    let bound = cert.as_tbs().validity().not_after();
+    add_bound(
+        parts,
+        alloc,
+        "Valid until",
+        "valid_until",
+        bound,
+        details.moment,
+    )
+}
+
+fn add_cause<'p>(
+    parts: &mut Vec<Part<'p>>,
+    alloc: Global,
+    details: &Details<'_>,
+    cert: &'p Cert,
+) -> Result<(), AllocError>
+    ensures { let above = option_map (λ c. c.now) details.now.above in
+        let its = cause_nodes details.now.cause details.now.moment cert.now above in
+        OnOk result (Adds its parts.old.items parts.new.items) }
+{
     match details.cause {
-        Cause::NoList => write_wanted(f, details, cert),
-        Cause::OtherKey => write_keys(f, details, cert),
-        Cause::NotYetValid => write_bound(f, "Valid from", validity.not_before(), details.moment),
-        Cause::Expired => write_bound(f, "Valid until", validity.not_after(), details.moment),
+        Cause::NoList => add_needed(parts, alloc, details, cert),
+        Cause::OtherKey => add_keys(parts, alloc, details, cert),
+        Cause::NotYetValid => add_not_yet(parts, alloc, details, cert),
+        Cause::Expired => add_expired(parts, alloc, details, cert),
         Cause::Other => Ok(()),
     }
 }
 
-fn write_member<W: fmt::Write>(f: &mut fmt::Formatter<W>, details: &Details<'_>) -> fmt::Result
+fn add_member<'p>(
+    parts: &mut Vec<Part<'p>>,
+    alloc: Global,
+    details: &Details<'p>,
+) -> Result<(), AllocError>
     ensures { let d = details.now in
         let member = option_map (λ c. c.now) d.member in
         let above = option_map (λ c. c.now) d.above in
-        WritesOnOk W.write_str_gives f.old result
-        (member_details d.cause d.moment member above) f.new }
+        let its = member_nodes d.cause d.moment member above in
+        OnOk result (Adds its parts.old.items parts.new.items) }
 {
     match details.member {
-        Some(cert) => write_cause(f, details, cert),
+        Some(cert) => add_cause(parts, alloc, details, cert),
         None => Ok(()),
     }
 }
 
-// What the member's file is, and what to do, where it is of a sort.
-fn write_sort<W: fmt::Write>(f: &mut fmt::Formatter<W>, sort: Option<Sort>) -> fmt::Result
-    ensures { WritesOnOk W.write_str_gives f.old result (sort_lines sort) f.new }
+// What a file of this sort is, and what to do.
+fn add_description(parts: &mut Vec<Part<'_>>, alloc: Global, sort: Sort) -> Result<(), AllocError>
+    ensures { OnOk result (Adds (sort_nodes (Some sort)) parts.old.items parts.new.items) }
+{
+    let told = describe(sort);
+    add_told(parts, alloc, "Kind", "kind", Leaf::Text(told.name))?;
+    add_told(parts, alloc, "To do", "advice", Leaf::Text(told.advice))
+}
+
+// Adds the lines of a sort, if there is one.
+fn add_sort(parts: &mut Vec<Part<'_>>, alloc: Global, sort: Option<Sort>) -> Result<(), AllocError>
+    ensures { OnOk result (Adds (sort_nodes sort) parts.old.items parts.new.items) }
 {
     match sort {
-        Some(sort) => {
-            let told = describe(sort);
-            let name = told.name;
-            let advice = told.advice;
-            write_line(f, "Kind", &name)?;
-            write_line(f, "To do", &advice)
-        }
+        Some(sort) => add_description(parts, alloc, sort),
         None => Ok(()),
     }
 }
 
-fn write_order<W: fmt::Write>(f: &mut fmt::Formatter<W>, is_turned: bool) -> fmt::Result
-    ensures { WritesOnOk W.write_str_gives f.old result (order_line is_turned) f.new }
+fn add_order(parts: &mut Vec<Part<'_>>, alloc: Global, is_turned: bool) -> Result<(), AllocError>
+    ensures { OnOk result (Adds (order_nodes is_turned) parts.old.items parts.new.items) }
 {
     if is_turned {
-        let order = ORDER;
-        write_line(f, "Order", &order)
+        add_told(parts, alloc, "Order", "order", Leaf::Text(ORDER))
     } else {
         Ok(())
     }
 }
 
-impl fmt::Display for Details<'_> {
-    ghost output = { λ details. Some (details_text details) };
-
-    fn fmt<W: fmt::Write>(&self, f: &mut fmt::Formatter<W>) -> fmt::Result {
-        write_member(f, self)?;
-        write_sort(f, self.sort)?;
-        write_order(f, self.is_turned)
-    }
+/// Adds the details of an error.
+pub fn add_details<'p>(
+    parts: &mut Vec<Part<'p>>,
+    alloc: Global,
+    details: &Details<'p>,
+) -> Result<(), AllocError>
+    ensures { OnOk result (Adds (details_nodes details.now) parts.old.items parts.new.items) }
+{
+    add_member(parts, alloc, details)?;
+    add_sort(parts, alloc, details.sort)?;
+    add_order(parts, alloc, details.is_turned)
 }

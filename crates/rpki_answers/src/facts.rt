@@ -1,4 +1,4 @@
-//! What a certificate says beside the fields that readers keep, for a person.
+//! Facts for a person: what a certificate has beside the fields that readers keep.
 ghost use Rattle.std.specs.Prelude.{◌≡◌, Some};
 ghost use Rattle.std.specs.Fmt.{WritesOnOk};
 ghost use Rattle.rpki_answers.specs.FactTexts.{fact_label, fact_text, facts_lines, is_identifier};
@@ -25,7 +25,7 @@ fn is_identifier(kind: FactKind) -> bool
     }
 }
 
-/// What is told of a fact: an identifier, or a URI.
+/// The text of a fact: an identifier, or a URI.
 #[derive(Drop)]
 pub struct Told<'a>(pub Fact<'a>);
 

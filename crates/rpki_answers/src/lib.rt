@@ -1,5 +1,5 @@
-//! What the command answers of files, as text for a person or as JSON: what a file holds, the
-//! verdict on a path, and a line for each of files in no order; and how a run ends by it.
+//! The answers of the command about files, as text for a person or as JSON: the content of a file,
+//! the verdict on a path, and a line for each of several files; and the outcome of a run.
 #![tactic(auto)]
 
 mod as_json;
@@ -9,8 +9,10 @@ mod notes;
 mod outcome_laws;
 mod outcomes;
 mod showing;
+mod told;
 mod tree_lines;
 mod trees;
+mod verdict_document;
 mod verdict_lines;
 mod verdicts;
 

@@ -1,4 +1,4 @@
-//! Notes for a person: what is taken of a certificate although a standard forbids it.
+//! Notes for a person: what is accepted of a certificate although a standard forbids it.
 ghost use Rattle.std.specs.Prelude.{Some};
 ghost use Rattle.std.specs.Fmt.{WritesOnOk};
 ghost use Rattle.rpki_answers.specs.NoteLines.{noted_text, notes_lines};

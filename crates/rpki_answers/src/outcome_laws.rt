@@ -11,8 +11,8 @@ ghost use Rattle.rpki_answers.specs.declared.outcomes.Outcome.{Outcome};
 
 use rpki_verdicts::one_answer;
 
-/// Says that what files hold has at most one outcome at a moment, of all tasks but a tree, which
-/// may meet its bounds sooner or later.
+/// States that the contents of files have at most one outcome at a time, for each task but `tree`,
+/// which may or may not reach its limits.
 pub fn one_outcome()
     ensures { (task : Task) → (task ≡ Tree → ⊥) → (now : Moment) (strict : Bool) (d : Demands)
         (files lists : List (List ℕ)) (one other : Outcome)

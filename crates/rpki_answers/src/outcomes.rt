@@ -1,23 +1,23 @@
-//! How a run ends, and its exit status.
+//! The outcome of a run, and its exit status.
 ghost use Rattle.std.specs.Prelude.{◌≡◌, IsFalse, IsTrue};
 ghost use Rattle.rpki_answers.specs.Outcomes.{run_status};
 
-/// How a run ends that doesn't fail.
+/// The outcome of a run that doesn't fail.
 #[derive(Clone, Copy, Debug, PartialEq, Eq)]
 pub enum Outcome {
-    /// All files are shown, or the path is accepted, or something was prepared or completed; or a
-    /// text about the command was asked for.
+    /// All files are shown, the path is accepted, something was prepared or completed, or a text
+    /// about the command was printed.
     Success,
-    /// A file is no certificate, list or locator; the path is rejected; a file given as a list or a
-    /// locator is none; what was to be prepared or completed is refused.
+    /// A file is no certificate, CRL or TAL; the path is rejected; a file given as a CRL or a TAL
+    /// isn't one; or a request is refused.
     Rejection,
-    /// The command line has another form.
+    /// The words aren't a command line.
     WrongUse,
-    /// A file that is named can't be read, or the one that is to be written can't be made.
+    /// A named file can't be read, or the file of the result can't be written.
     Unread,
 }
 
-/// What is written, and how the run ends.
+/// The text that is written, and the outcome.
 #[derive(Drop)]
 pub struct Answer {
     pub text: String,
@@ -25,7 +25,7 @@ pub struct Answer {
 }
 
 impl Outcome {
-    /// Returns success for yes, and rejection for no.
+    /// Returns success if `yes`, and else rejection.
     pub fn of_answer(yes: bool) -> Outcome
         ensures success { IsTrue yes → result ≡ Outcome.Success }
         ensures rejection { IsFalse yes → result ≡ Outcome.Rejection }
@@ -38,7 +38,7 @@ impl Outcome {
     }
 }
 
-/// Returns the exit status of a run. An error says that the clock, memory or an output failed.
+/// Returns the exit status of a run. An error means that the clock, memory or an output failed.
 pub fn status_of<E: Drop>(ended: &Result<Outcome, E>) -> u8
     ensures { result ≡ run_status ended.now }
 {

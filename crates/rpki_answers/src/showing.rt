@@ -15,8 +15,7 @@ ghost use Rattle.rpki_text.specs.Facts.{AreFacts, fact_view};
 ghost use Rattle.rpki_text.specs.Notes.{AreNotes};
 ghost use Rattle.rpki_answers.specs.Outcomes.{IsOutcomeOfShow};
 ghost use Rattle.rpki_text.specs.Pages.{Appends, AppendsSome, line};
-ghost use Rattle.rpki_answers.specs.RejectionDetails.{advice_line, sort_line};
-ghost use Rattle.rpki_answers.specs.ShownTexts.{IsCertificateFileText, IsFileText, IsFurtherText, IsListFileText, IsOtherFileText, IsRejection, IsTextOfFiles, IsToldAsCertificate, IsToldAsList, IsToldRule, IsUnreadFileText, certificate_file_text, file_lines, found_line, left_line, left_text, list_file_text, stop_text};
+ghost use Rattle.rpki_answers.specs.ShownTexts.{advice_line, sort_line, IsCertificateFileText, IsFileText, IsFurtherText, IsListFileText, IsOtherFileText, IsRejection, IsTextOfFiles, IsToldAsCertificate, IsToldAsList, IsToldRule, IsUnreadFileText, certificate_file_text, file_lines, found_line, left_line, left_text, list_file_text, stop_text};
 ghost use Rattle.rpki_answers.specs.VerdictTexts.{SaysOfEach};
 
 mod locators;
@@ -41,7 +40,7 @@ use sha2::{Digest, Sha256};
 use std::alloc::{AllocError, Global};
 use std::fmt;
 
-/// How files are shown.
+/// The options of `show`.
 #[derive(Clone, Copy)]
 pub struct Options {
     pub at: Time,
@@ -101,8 +100,8 @@ fn ended(page: &mut Page, left: usize)
     }
 }
 
-/// What is said of a fault: its text, the sort of the file, the rule of that sort or else of the
-/// fault, and where the reading stops, with what is wanted there.
+/// The text of an error: the error, the sort of the file, the rule of that sort or else of the
+/// error, and the place where reading stops, with what is expected there.
 #[derive(Drop)]
 pub struct Rejection {
     pub why: String,
@@ -155,8 +154,8 @@ fn told<'a>(fault: &'a DecodeError, plain: &'a DecodeError, is_true: bool) -> &'
     if is_true { fault } else { plain }
 }
 
-/// Finds what is said of a fault of a file that begins with neither a certificate nor a list. What
-/// isn't true where reading stops isn't said.
+/// Makes the text of the error of a file that starts with neither a certificate nor a CRL. What
+/// isn't true at the place where reading stops is left out.
 pub fn rejection_of(
     alloc: Global,
     object: &Object<'_>,
@@ -254,7 +253,7 @@ fn print_unread(page: &mut Page, object: &Object<'_>, fault: &DecodeError)
     }
 }
 
-/// What is said of a certificate beside its fields.
+/// The facts and notes of a certificate.
 #[derive(Clone, Copy)]
 pub struct Remarks<'a> {
     pub facts: &'a [Fact<'a>],
@@ -404,8 +403,11 @@ fn show_other(
     }
 }
 
-/// Shows a file, and says whether it begins with a certificate or a list, or is a locator. Errs
-/// only where memory runs out.
+/// Shows a file, and returns whether it starts with a certificate or a CRL, or is a TAL.
+///
+/// # Errors
+///
+/// Returns an error only if memory runs out.
 pub fn show(page: &mut Page, object: &Object<'_>, options: &Options) -> Result<bool, AllocError>
     ensures shows { IfOk result (λ shows.
         IsTrue shows ↔ CanBeShown options.now.strict object.now.octets) }
@@ -466,8 +468,12 @@ fn show_all(page: &mut Page, objects: &[Object<'_>], options: &Options) -> Resul
     Ok(are_more & is_first)
 }
 
-/// Writes the text of the objects, as lines for a person. The outcome is success where each begins
-/// with a certificate or a list, or is a locator.
+/// Writes the text of the objects, as lines for a person. The outcome is success if each starts
+/// with a certificate or a CRL, or is a TAL.
+///
+/// # Errors
+///
+/// Returns an error only if memory runs out.
 pub fn shown(alloc: Global, objects: &[Object<'_>], options: &Options) -> Result<Answer, AllocError>
     ensures outcome { IfOk result (λ answer.
         IsOutcomeOfShow options.now.strict (contents objects.now) answer.outcome) }

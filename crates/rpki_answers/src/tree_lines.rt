@@ -367,8 +367,8 @@ fn print_finding(page: &mut Page, question: &TreeQuestion<'_, '_>, finding: &Tre
     }
 }
 
-/// Writes a line for each file, and how the walk ended; or why there is no trust anchor, or what is
-/// wrong of the files given as locators.
+/// Writes a line for each file, and how the walk ended; or why there is no trust anchor; or what is
+/// wrong with a file that is given as a TAL.
 pub fn tree_text(
     alloc: Global,
     question: &TreeQuestion<'_, '_>,

@@ -1,5 +1,5 @@
-//! The verdicts on the certificates among files, for a person or as JSON, and how a run ends by
-//! them.
+//! The verdicts on the certificates among files, for a person or as JSON, and the outcome of a run
+//! by them.
 ghost use Rattle.std.specs.Prelude.{◌≡◌, ◌≢◌, ◌↔◌, All, IfOk, IsTrue, MatchOption, string_bytes};
 ghost use Rattle.rpki_keys.specs.RsaSignatures.{IsSignedByRsa};
 ghost use Rattle.rpki_cert.specs.Verification.{context};
@@ -19,8 +19,8 @@ use rpki_text::command_line::Format;
 use rpki_verdicts::{Fault, Question, TreeAnswer, TreeQuestion, first_no_locator, judge_all};
 use std::alloc::{AllocError, Global};
 
-/// What is found of files in no order: that one given as a locator is none, and why, so that
-/// nothing is judged; or the verdicts.
+/// The findings on files in any order: the verdicts; or that a file given as a TAL isn't one, and
+/// why, so that nothing is judged.
 #[derive(Drop)]
 pub enum TreeFinding<'q, 'n> {
     NotALocator(Fault),
@@ -88,9 +88,13 @@ fn written(
     as_json::tree(alloc, question, finding, format)
 }
 
-/// Judges all certificates among files, and writes what is found of each file, as lines for a
-/// person or as JSON. The outcome is success where each file given as a locator is one, each
-/// certificate but the trust anchor is accepted, and no bound was met.
+/// Judges all certificates among files, and writes the findings on each file, as lines for a person
+/// or as JSON. The outcome is success if each file given as a TAL is one, each certificate but the
+/// trust anchor is accepted, and no limit was reached.
+///
+/// # Errors
+///
+/// Returns an error only if memory runs out.
 pub fn treed(
     alloc: Global,
     question: &TreeQuestion<'_, '_>,

@@ -6,21 +6,25 @@ ghost use Rattle.rpki_files.specs.Contents.{IsList};
 ghost use Rattle.rpki_files.specs.Files.{contents};
 ghost use Rattle.rpki_verdicts.specs.GivenLocators.{IsRead};
 ghost use Rattle.rpki_verdicts.specs.PathFiles.{demands_of};
-ghost use Rattle.rpki_answers.specs.JsonVerdicts.{IsJsonOfPath, IsVerdictLines};
+ghost use Rattle.rpki_document.specs.Building.{nodes_of};
+ghost use Rattle.rpki_document.specs.Documents.{document_json, document_of, document_text};
+ghost use Rattle.rpki_answers.specs.JsonTexts.{value_text};
 ghost use Rattle.rpki_answers.specs.Outcomes.{IsOutcomeOfValidate};
-ghost use Rattle.rpki_answers.specs.VerdictTexts.{IsAcceptedFinding, IsFinding, IsTextOfPath};
+ghost use Rattle.rpki_answers.specs.Verdicts.{IsJsonOfPath, IsTextOfPath};
+ghost use Rattle.rpki_answers.specs.VerdictTexts.{IsAcceptedFinding, IsFinding};
 
-use crate::as_json;
+use crate::as_json::value_text;
 use crate::outcomes::{Answer, Outcome};
-use crate::verdict_lines::verdict_text;
+use crate::verdict_document::verdict_document;
+use rpki_document::{Part, json_of, text_of};
 use rpki_files::Object;
 use rpki_text::command_line::Format;
 use rpki_verdicts::{Fault, Question, Verdict, first_no_locator, judge};
 use std::alloc::{AllocError, Global};
 
-/// What is found of a path: that a file given as a locator is none, and why, or that one given as a
-/// list is none, so that nothing is judged; or the verdict, which there is where the path has a
-/// file.
+/// The findings on a path: the verdict, which exists if the path has a file; or that a file given
+/// as a TAL isn't one, and why; or that a file given as a CRL isn't one. Nothing is judged in the
+/// last two cases.
 #[derive(Drop)]
 pub enum Finding {
     NotALocator(Fault),
@@ -28,21 +32,29 @@ pub enum Finding {
     Decided(Option<Verdict>),
 }
 
-// What is found, as JSON.
-fn json_text(
-    alloc: Global,
-    question: &Question<'_, '_>,
-    finding: &Finding,
-    format: Format,
-) -> Result<String, AllocError>
-    requires { All (IsRead question.now.strict) question.now.locators }
-    ensures { IfOk result (λ text.
-        IsVerdictLines format question.now finding.now (string_bytes text)) }
+// The JSON of a document, in a format.
+fn json_text(alloc: Global, parts: &Vec<Part<'_>>, format: Format) -> Result<String, AllocError>
+    ensures { let d = document_of (nodes_of parts.now.items) in
+        IfOk result (λ text. string_bytes text ≡ value_text format (document_json d)) }
 {
-    let value = as_json::path(alloc, question, finding)?;
-    let text = as_json::value_text(alloc, &value, format);
+    let value = json_of(alloc, parts)?;
+    let text = value_text(alloc, &value, format);
     drop(value);
     text
+}
+
+// A document in a format.
+fn rendered(alloc: Global, parts: &Vec<Part<'_>>, format: Format) -> Result<String, AllocError>
+    ensures text { let d = document_of (nodes_of parts.now.items) in
+        format ≡ Format.Text → IfOk result (λ text. string_bytes text ≡ document_text d) }
+    ensures json { let d = document_of (nodes_of parts.now.items) in
+        format ≢ Format.Text
+        → IfOk result (λ text. string_bytes text ≡ value_text format (document_json d)) }
+{
+    if format == Format::Text {
+        return text_of(alloc, parts);
+    }
+    json_text(alloc, parts, format)
 }
 
 // Whether each file given as a list is one.
@@ -83,9 +95,13 @@ fn is_accepted(finding: &Finding) -> bool
     }
 }
 
-/// Validates the path and writes what is found, as lines for a person or as JSON. The outcome is
-/// success where each file given as a locator is one, each given as a list is one, with nothing
-/// behind it, and the path is accepted.
+/// Validates the path and writes the findings, as lines for a person or as JSON. The outcome is
+/// success if each file given as a TAL is one, each file given as a CRL is one that nothing
+/// follows, and the path is accepted.
+///
+/// # Errors
+///
+/// Returns an error only if memory runs out.
 pub fn validated(
     alloc: Global,
     question: &Question<'_, '_>,
@@ -106,14 +122,14 @@ pub fn validated(
 {
     let finding = find(alloc, question)?;
     let is_accepted = is_accepted(&finding);
-    let text = if format == Format::Text {
-        verdict_text(alloc, question, &finding)
-    } else {
-        json_text(alloc, question, &finding, format)
-    };
+    let parts = verdict_document(alloc, question, &finding);
     drop(finding);
+    let parts = parts?;
+    let text = rendered(alloc, &parts, format);
+    drop(parts);
+    let text = text?;
     Ok(Answer {
-        text: text?,
+        text,
         outcome: Outcome::of_answer(is_accepted),
     })
 }

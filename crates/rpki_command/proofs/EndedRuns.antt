@@ -12,7 +12,7 @@ use Rattle.rpki_cert.specs.Verification.{Context, context}
 use Rattle.rpki_files.specs.Files.{contents}
 use Rattle.rpki_verdicts.specs.GivenLocators.{locator_files}
 use Rattle.rpki_verdicts.specs.PathFiles.{Demands}
-use Rattle.rpki_command.specs.AboutTexts.{about_text}
+use Rattle.rpki_command.specs.AboutTexts.{about_text, topic_of}
 use Rattle.rpki_text.specs.CommandLines.{RequestFields, with_files, IsCommandLine}
 use Rattle.rpki_answers.specs.Outcomes.{AsksOfFiles, IsOutcomeOf, demands_by, run_status}
 use Rattle.rpki_command.specs.ListedFolders.{Lists}
@@ -57,18 +57,18 @@ module _ (reads : Reads) (lists : Lists) (r : RequestFields) (now : Moment) (tex
 
 module _ (reads : Reads) (lists : Lists) (tells : Moment → Type 0) (words : List (List ℕ)) (r : RequestFields) (line : IsCommandLine r words) where
   -- a text about the command
-  about_ends : (task : Task) → (AsksOfFiles task → ⊥) → TaskEnds task reads lists tells r Success (about_text task) []
+  about_ends : (task : Task) → (AsksOfFiles task → ⊥) → TaskEnds task (topic_of words) reads lists tells r Success (about_text task (topic_of words)) []
   about_ends Show none = absurd (none (inl refl))
   about_ends Validate none = absurd (none (inr (inl refl)))
   about_ends Tree none = absurd (none (inr (inr refl)))
   about_ends Help none = (refl, refl, refl)
   about_ends Version none = (refl, refl, refl)
 
-  pub run_about : (AsksOfFiles r.task → ⊥) → LineEnds reads lists tells words Success (about_text r.task) []
+  pub run_about : (AsksOfFiles r.task → ⊥) → LineEnds reads lists tells words Success (about_text r.task (topic_of words)) []
   run_about none = (r, line, about_ends r.task none)
 
   -- the answer of files
-  answer_ends : (task : Task) → AsksOfFiles task → (now : Moment) (outcome : Outcome) (text said : List ℕ) → IsMomentBy tells r.at now → IsAnswerOf reads lists r now outcome text said → TaskEnds task reads lists tells r outcome text said
+  answer_ends : (task : Task) → AsksOfFiles task → (now : Moment) (outcome : Outcome) (text said : List ℕ) → IsMomentBy tells r.at now → IsAnswerOf reads lists r now outcome text said → TaskEnds task (topic_of words) reads lists tells r outcome text said
   answer_ends Show asks now outcome text said moment answer = (now, moment, answer)
   answer_ends Validate asks now outcome text said moment answer = (now, moment, answer)
   answer_ends Tree asks now outcome text said moment answer = (now, moment, answer)

@@ -1,5 +1,4 @@
 -- Lemmas of the command's proofs.
-mod EndedRequests
 mod EndedRuns
 mod ListedNames
 mod ListsAmong

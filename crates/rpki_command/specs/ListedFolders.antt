@@ -36,11 +36,9 @@ listing_of (Some names) = holds names
 abbrev pub SystemLists : Lists
 SystemLists name given = Unit {0}
 
--- the folder of this name can't be listed, of which this is said; or the name is none's
-abbrev pub IsUnlisted : Lists → List ℕ → List ℕ → Type 0
-IsUnlisted lists name said =
-    (((IsUtf8 name → ⊥) ⊎ lists name no_folder) × (said ≡ []))
-    ⊎ (lists name barred × IsToldUnlisted name said)
+-- the name is no folder's
+abbrev pub IsNoFolder : Lists → List ℕ → Type 0
+IsNoFolder lists name = (IsUtf8 name → ⊥) ⊎ lists name no_folder
 
 -- ---- the names in it
 
@@ -85,12 +83,18 @@ is_passed name = not (is_taken name)
 abbrev pub told_count : ℕ → ℕ
 told_count count = min count (2 ^ 64 - 1)
 
+-- the name under which a folder stays that can't be listed: no file has it, and it doesn't end as the
+-- name of a folder that is opened again
+abbrev pub closed_name : List ℕ → List ℕ
+closed_name name = slashed name ++ codes "."
+
 -- these names stand for the name: those in its folder that are taken, sorted by their octets, while
--- so many others are passed over; or it alone, where it is no folder's, or the folder can't be
--- listed, which is said
+-- so many others are passed over; or it alone, where it is no folder's; or the name that stays of a
+-- folder that can't be listed, which is said
 abbrev pub StandFor : Lists → List ℕ → List (List ℕ) → ℕ → List ℕ → Type 0
 StandFor lists name its passed said =
-    (IsUnlisted lists name said × (its ≡ name ∷ []) × (passed ≡ 0))
+    (IsNoFolder lists name × (its ≡ name ∷ []) × (passed ≡ 0) × (said ≡ []))
+    ⊎ (lists name barred × IsToldUnlisted name said × (its ≡ closed_name name ∷ []) × (passed ≡ 0))
     ⊎ ((given : List (List ℕ)) × (sorted : List (List ℕ)) × lists name (holds given)
     × IsPermutation given sorted × IsSorted (slice_cmp nat_cmp) sorted × (its ≡ filter is_taken sorted)
     × (passed ≡ count_by is_passed sorted) × (said ≡ []))

@@ -17,8 +17,8 @@ use Rattle.rpki_requests.specs.declared.refusals.Refusal.{Refusal}
 use Rattle.rpki_requests.specs.declared.refusals.Refusal.TheVariants.{Value}
 use Rattle.rpki_requests.specs.declared.words.Setting.{Setting}
 use Rattle.rpki_requests.specs.declared.words.Setting.TheVariants.{At, Crl, Issuer, Key, Out, Previous, Revoke}
-use Rattle.rpki_command.specs.AboutTexts.{usage_text}
-use Rattle.rpki_command.specs.Messages.{SaysRequestMisuse, refusal_message}
+use Rattle.rpki_command.specs.AboutTexts.{help_text, topic_of}
+use Rattle.rpki_command.specs.Messages.{SaysRequestMisuse, refusal_message, refusal_outcome}
 use Rattle.rpki_command.specs.Moments.{IsMomentBy}
 use Rattle.rpki_command.specs.Outputs.{IsApart, Output, only_said, only_text, placed}
 use Rattle.rpki_command.specs.PemTexts.{IsPemText}
@@ -28,7 +28,7 @@ use Rattle.rpki_command.specs.declared.files.Unread.TheVariants.{Memory}
 use Rattle.rpki_command.specs.declared.inputs.Unreadable.{Unreadable}
 use Rattle.rpki_command.specs.declared.requests.Unplaced.{Unplaced}
 use Rattle.rpki_answers.specs.declared.outcomes.Outcome.{Outcome}
-use Rattle.rpki_answers.specs.declared.outcomes.Outcome.TheVariants.{Success, Rejection, WrongUse, Unread}
+use Rattle.rpki_answers.specs.declared.outcomes.Outcome.TheVariants.{Success, WrongUse, Unread}
 pub mod Views
 
 -- ---- the files
@@ -108,13 +108,11 @@ abbrev pub GivesText : AskedFields → InputFields → Moment → List ℕ → T
 GivesText asked inputs now text =
     (given : Made) × Fulfils asked inputs now given × IsWritten asked.is_pem given text
 
--- it gives nothing, and this is said: why, and what that says of the issuer's path and of what is
--- asked is so
-abbrev pub GivesNothing : AskedFields → InputFields → Moment → List ℕ → Type 0
-GivesNothing asked inputs now said =
-    (why : Refusal) × ((given : Made) → Fulfils asked inputs now given → ⊥)
-    × TellsPath (context_of asked now) inputs.issuers inputs.lists why × IsSoOf asked inputs now why
-    × (said ≡ refusal_message why)
+-- it gives nothing, and what this says of the issuer's path and of what is asked is so
+pub record GivesNothing (asked : AskedFields) (inputs : InputFields) (now : Moment) (why : Refusal) : Type 0 where
+  pub nothing : (given : Made) → Fulfils asked inputs now given → ⊥
+  pub path_is : TellsPath (context_of asked now) inputs.issuers inputs.lists why
+  pub so : IsSoOf asked inputs now why
 
 -- this is the file of the first of these names, and can't be made for its reason, where those of
 -- others were read
@@ -133,14 +131,14 @@ PlaceEnds names overwrites read text Unread output =
     × IsLineAbout (called file.name.now) (unmade_text file.why) said × (output ≡ only_said said)
 PlaceEnds names overwrites read text _ output = ⊥
 
--- with these files at this moment the request ends so: with rejection, or as putting out what it
--- gives does, on standard output or into the file that `--out` names
+-- with these files at this moment the request ends so: as putting out what it gives does, on
+-- standard output or into the file that `--out` names; or as why it gives nothing, which is said
 abbrev pub InputsEnd : AskedFields → InputFields → Moment → Outcome → Output → Type 0
-InputsEnd asked inputs now Rejection output =
-    (said : List ℕ) × GivesNothing asked inputs now said × (output ≡ only_said said)
 InputsEnd asked inputs now outcome output =
-    (text : List ℕ) × GivesText asked inputs now text
-    × PlaceEnds (values_of Out asked.given) asked.overwrites (names_read asked) text outcome output
+    ((text : List ℕ) × GivesText asked inputs now text
+    × PlaceEnds (values_of Out asked.given) asked.overwrites (names_read asked) text outcome output)
+    ⊎ ((why : Refusal) × GivesNothing asked inputs now why × (outcome ≡ refusal_outcome why)
+    × (output ≡ only_said (refusal_message asked why)))
 
 -- at a moment that may be asked, with the files as they are read, it ends so
 pub record ReadEnds (reads : Reads) (tells : Moment → Type 0) (asked : AskedFields) (outcome : Outcome) (output : Output) : Type 0 where
@@ -150,38 +148,43 @@ pub record ReadEnds (reads : Reads) (tells : Moment → Type 0) (asked : AskedFi
   pub inputs_are : AreInputs reads asked inputs
   pub ends : InputsEnd asked inputs now outcome output
 
--- `--at` has another value than a moment, and this is said
-abbrev pub HasNoMoment : List GivenFields → List ℕ → Type 0
-HasNoMoment given said =
-    ((named : Option Moment) → IsNamedMoment given named → ⊥) × (said ≡ refusal_message (Value At))
+-- `--at` has another value than a moment, which ends the run with wrong use and is said
+abbrev pub EndsWithoutMoment : AskedFields → Outcome → Output → Type 0
+EndsWithoutMoment asked outcome output =
+    ((named : Option Moment) → IsNamedMoment asked.given named → ⊥) × (outcome ≡ WrongUse)
+    × (output ≡ only_said (refusal_message asked (Value At)))
 
--- a run that asks this ends so, and puts this out: as its files do; with rejection also where
--- `--at` names no moment; and as unread also where a file can't be read, which is said of one
+-- a file can't be read, which ends the run as unread and is said of one
+abbrev pub EndsUnread : Reads → AskedFields → Outcome → Output → Type 0
+EndsUnread reads asked outcome output =
+    (file : Unreadable) × (said : List ℕ) × IsUnreadInput reads asked file × IsLineOf file said
+    × (outcome ≡ Unread) × (output ≡ only_said said)
+
+-- a run that asks this ends so, and puts this out: where `--at` names no moment, or a file can't be
+-- read, with that; and else as its files do
 abbrev pub AskedEnds : Reads → (Moment → Type 0) → AskedFields → Outcome → Output → Type 0
-AskedEnds reads tells asked Success output = ReadEnds reads tells asked Success output
-AskedEnds reads tells asked Rejection output =
-    ((said : List ℕ) × HasNoMoment asked.given said × (output ≡ only_said said))
-    ⊎ ReadEnds reads tells asked Rejection output
-AskedEnds reads tells asked Unread output =
-    ((file : Unreadable) × (said : List ℕ) × IsUnreadInput reads asked file × IsLineOf file said
-    × (output ≡ only_said said))
-    ⊎ ReadEnds reads tells asked Unread output
-AskedEnds reads tells asked WrongUse output = ⊥
+AskedEnds reads tells asked outcome output =
+    EndsWithoutMoment asked outcome output
+    ⊎ (EndsUnread reads asked outcome output ⊎ ReadEnds reads tells asked outcome output)
 
 -- ---- words
 
--- a run on these words, which don't ask how the command is used, ends so: with wrong use exactly
--- where they ask for nothing to be prepared or completed, and then says what is wrong; else as what
--- they ask does
-abbrev pub WordsEnd : Reads → (Moment → Type 0) → List (List ℕ) → Outcome → Output → Type 0
-WordsEnd reads tells words WrongUse output =
-    ((asked : AskedFields) → IsRequestLine asked words → ⊥)
+-- the words ask for nothing to be prepared or completed, which ends the run with wrong use; and this
+-- says what is wrong
+abbrev pub EndsAsMisuse : List (List ℕ) → Outcome → Output → Type 0
+EndsAsMisuse words outcome output =
+    ((asked : AskedFields) → IsRequestLine asked words → ⊥) × (outcome ≡ WrongUse)
     × ((said : List ℕ) × SaysRequestMisuse words said × (output ≡ only_said said))
+
+-- a run on these words, which don't ask how the command is used, ends so: where they ask for nothing
+-- to be prepared or completed, with that; and else as what they ask does
+abbrev pub WordsEnd : Reads → (Moment → Type 0) → List (List ℕ) → Outcome → Output → Type 0
 WordsEnd reads tells words outcome output =
-    (asked : AskedFields) × IsRequestLine asked words × AskedEnds reads tells asked outcome output
+    EndsAsMisuse words outcome output
+    ⊎ ((asked : AskedFields) × IsRequestLine asked words × AskedEnds reads tells asked outcome output)
 
 -- a run on these words ends so, and puts this out: how the command is used, where they ask that
 abbrev pub RequestEnds : Reads → (Moment → Type 0) → List (List ℕ) → Outcome → Output → Type 0
 RequestEnds reads tells words outcome output =
-    (AsksHelp words × (outcome ≡ Success) × (output ≡ only_text usage_text))
+    (AsksHelp words × (outcome ≡ Success) × (output ≡ only_text (help_text (topic_of words))))
     ⊎ ((AsksHelp words → ⊥) × WordsEnd reads tells words outcome output)

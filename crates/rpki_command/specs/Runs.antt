@@ -6,9 +6,10 @@ use Rattle.std.specs.Io.KnownBytes.{Appends}
 use Rattle.rpki_der.specs.Times.{Moment}
 use Rattle.rpki_files.specs.Files.{FileFields}
 use Rattle.rpki_verdicts.specs.GivenLocators.{LocatorFields, locator_files}
-use Rattle.rpki_command.specs.AboutTexts.{usage_text, version_text}
+use Rattle.rpki_command.specs.AboutTexts.{help_text, topic_of, version_text}
 use Rattle.rpki_answers.specs.AnswerTexts.{IsTextBy, IsJsonBy}
 use Rattle.rpki_text.specs.CommandLines.{RequestFields, with_files, IsCommandLine}
+use Rattle.rpki_command.specs.declared.about.Topic.{Topic}
 use Rattle.rpki_command.specs.ListedFolders.{Lists, AreFilesOf}
 use Rattle.rpki_answers.specs.Outcomes.{EndsBy}
 use Rattle.rpki_command.specs.Messages.{SaysLineMisuse}
@@ -93,10 +94,10 @@ IsAnswerOf reads lists r now outcome text said = IsAnswerAmong r.folders reads l
 
 -- what is asked ends so, with this text, and this is said: a text about the command and nothing, or
 -- the answer of files
-abbrev pub TaskEnds : Task → Reads → Lists → (Moment → Type 0) → RequestFields → Outcome → List ℕ → List ℕ → Type 0
-TaskEnds Help reads lists tells r outcome text said = (outcome ≡ Success) × (text ≡ usage_text) × (said ≡ [])
-TaskEnds Version reads lists tells r outcome text said = (outcome ≡ Success) × (text ≡ version_text) × (said ≡ [])
-TaskEnds _ reads lists tells r outcome text said =
+abbrev pub TaskEnds : Task → Topic → Reads → Lists → (Moment → Type 0) → RequestFields → Outcome → List ℕ → List ℕ → Type 0
+TaskEnds Help topic reads lists tells r outcome text said = (outcome ≡ Success) × (text ≡ help_text topic) × (said ≡ [])
+TaskEnds Version topic reads lists tells r outcome text said = (outcome ≡ Success) × (text ≡ version_text) × (said ≡ [])
+TaskEnds _ topic reads lists tells r outcome text said =
     (now : Moment) × IsMomentBy tells r.at now × IsAnswerOf reads lists r now outcome text said
 
 -- a run on these words ends so, with this text, and this is said: with wrong use, none, and what is
@@ -105,7 +106,8 @@ abbrev pub LineEnds : Reads → Lists → (Moment → Type 0) → List (List ℕ
 LineEnds reads lists tells words WrongUse text said =
     ((r : RequestFields) → IsCommandLine r words → ⊥) × (text ≡ []) × SaysLineMisuse words said
 LineEnds reads lists tells words outcome text said =
-    (r : RequestFields) × IsCommandLine r words × TaskEnds r.task reads lists tells r outcome text said
+    (r : RequestFields) × IsCommandLine r words
+    × TaskEnds r.task (topic_of words) reads lists tells r outcome text said
 
 -- ---- a run
 

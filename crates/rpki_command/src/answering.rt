@@ -1,4 +1,4 @@
-//! What is answered of files.
+//! The answers about files.
 ghost use Rattle.std.specs.Prelude.{◌≡◌, ◌≢◌, ◌↔◌, ◌⊎◌, [], All, List, length, map, IfOk, IsFalse, IsTrue, string_bytes};
 ghost use Rattle.std.specs.Bool.{MatchBool};
 ghost use Rattle.rpki_keys.specs.RsaSignatures.{IsSignedByRsa};
@@ -6,11 +6,10 @@ ghost use Rattle.rpki_cert.specs.Verification.{context};
 ghost use Rattle.rpki_answers.specs.AnswerTexts.{IsJsonBy, IsTextBy, IsTreeJsonBy, IsTreeTextBy, options_of, question_of, tree_question_of};
 ghost use Rattle.rpki_text.specs.CommandLines.Views.{fields_of};
 ghost use Rattle.rpki_answers.specs.JsonAnswers.{IsJsonOfFiles, is_single};
-ghost use Rattle.rpki_answers.specs.JsonVerdicts.{IsJsonOfPath};
 ghost use Rattle.rpki_answers.specs.Outcomes.{IsOutcomeOfTree, AreAllRead, EndsBy, IsOutcomeOfShow, IsOutcomeOfValidate};
 ghost use Rattle.rpki_command.specs.NamedFiles.{AreGiven, AreNamed};
 ghost use Rattle.rpki_answers.specs.ShownTexts.{IsTextOfFiles};
-ghost use Rattle.rpki_answers.specs.VerdictTexts.{IsTextOfPath};
+ghost use Rattle.rpki_answers.specs.Verdicts.{IsJsonOfPath, IsTextOfPath};
 ghost use Rattle.rpki_files.specs.Files.{FileFields, contents, file_names};
 ghost use Rattle.rpki_verdicts.specs.GivenLocators.{IsRead, LocatorFields, locator_files};
 ghost use Rattle.rpki_verdicts.specs.PathFiles.{demands_of};
@@ -23,7 +22,7 @@ use rpki_text::command_line::{Format, Request, Task};
 use rpki_verdicts::{GivenLocator, Question, TreeQuestion};
 use std::alloc::{AllocError, Global};
 
-/// Returns whether all files of these names could be read, of which so many could be.
+/// Returns whether all files of these names could be read, of which `count` could be.
 pub fn are_read(names: &[&[u8]], count: usize) -> bool
     ensures { let names = map (λ name. name.now) names.now in (files : List FileFields)
         → AreNamed names files → count ≡ length files
@@ -32,8 +31,7 @@ pub fn are_read(names: &[&[u8]], count: usize) -> bool
     count == names.len()
 }
 
-/// Returns whether all files, lists and locators of a request could be read, of which so many could
-/// be.
+/// Returns whether all files, CRLs and TALs of a request could be read, of which so many could be.
 pub fn are_all_read(request: &Request<'_>, files: usize, lists: usize, locators: usize) -> bool
     ensures { let r = fields_of request.now in (read lists_read : List FileFields)
         → (locators_read : List LocatorFields) → AreGiven r read lists_read locators_read
@@ -125,14 +123,14 @@ fn if_read(answer: Answer, are_all_read: bool) -> Answer
     }
 }
 
-/// How many certificates a path has at most below a trust anchor, where the command line doesn't
-/// say it.
+/// The greatest depth of a path below a trust anchor, if the command line doesn't set it.
 const USUAL_DEPTH: usize = 32;
 
-/// How many certificates are verified at most for each file that is named, where it doesn't.
+/// The most certificates that are verified for each named file, if the command line doesn't set a
+/// limit.
 const USUAL_STEPS: usize = 64;
 
-/// Returns what a request asks of files in no order.
+/// Returns the question of a request about files in any order.
 pub fn tree_question<'q, 'n>(
     request: &Request<'_>,
     now: Time,
@@ -227,8 +225,12 @@ fn unjudged(alloc: Global) -> Answer
     }
 }
 
-/// Answers what `show` or `validate` asks at this moment, where these of its files, lists and
-/// locators could be read, as if it weren't quiet.
+/// Answers `show` or `validate` at this time, with those of its files, CRLs and TALs that could be
+/// read, as if `--quiet` weren't given.
+///
+/// # Errors
+///
+/// Returns an error only if memory runs out.
 pub fn answer_objects(
     alloc: Global,
     request: &Request<'_>,
@@ -262,8 +264,12 @@ pub fn answer_objects(
     }
 }
 
-/// Answers what `tree` asks at this moment, where these of its files, lists and locators could be
-/// read, as if it weren't quiet.
+/// Answers `tree` at this time, with those of its files, CRLs and TALs that could be read, as if
+/// `--quiet` weren't given.
+///
+/// # Errors
+///
+/// Returns an error only if memory runs out.
 pub fn answer_tree(
     alloc: Global,
     request: &Request<'_>,
@@ -288,7 +294,7 @@ pub fn answer_tree(
     tree(alloc, request, now, files, locators, are_all_read)
 }
 
-/// Leaves the outcome of an answer, and its text unless it is asked to be quiet.
+/// Keeps the outcome of an answer, and its text unless `--quiet` is given.
 pub fn quieted(alloc: Global, answer: Answer, is_quiet: bool) -> Answer
     ensures outcome { result.outcome ≡ answer.outcome }
     ensures quiet { IsTrue is_quiet → string_bytes result.text ≡ [] }

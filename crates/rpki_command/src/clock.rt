@@ -1,4 +1,4 @@
-//! Who tells the moment.
+//! The source of the validation time.
 ghost use Rattle.std.specs.Prelude.{IfOk};
 ghost use Rattle.rpki_command.specs.Moments.{IsMomentBy};
 
@@ -8,19 +8,23 @@ use rpki_text::moments;
 use std::rt::Clock;
 use std::time::{SystemTime, UNIX_EPOCH};
 
-/// Who tells the moment. Which it is is the relation `tells`, which who implements this states.
+/// A source of time. An implementation states by the relation `tells` which times it may return.
 pub trait MomentSource {
     ghost use Rattle.rpki_der.specs.Times.{Moment};
 
-    /// The moment that is told may be this one.
+    /// The source may return this time.
     ghost tells: { Self → Moment → Type 0 };
 
-    /// Tells the moment.
+    /// Returns the time.
+    ///
+    /// # Errors
+    ///
+    /// Returns an error if the source fails.
     fn tell(&self) -> Result<Time>
         ensures { IfOk result (tells self.now) };
 }
 
-/// The system's clock tells a day and a time of the calendar.
+/// Returns the system's time, if it is a day and a time of the calendar.
 impl MomentSource for HostRuntime {
     ghost use Rattle.rpki_der.specs.Times.{IsMoment};
 
@@ -33,7 +37,11 @@ impl MomentSource for HostRuntime {
     }
 }
 
-/// Returns the moment that is named, or asks the clock.
+/// Returns the given time, or reads the clock.
+///
+/// # Errors
+///
+/// Returns an error if the clock is read and fails.
 pub fn moment<C: MomentSource>(clock: &C, named: Option<Time>) -> Result<Time>
     ensures { IfOk result (IsMomentBy (C.tells clock.now) named) }
 {

@@ -1,11 +1,11 @@
-//! How a run ended, when its text was written.
+//! The end of a run whose text was written.
 ghost use Rattle.std.specs.Bool.{MatchBool};
 ghost use Rattle.std.specs.Prelude.{◌≡◌};
 
 use rpki_answers::Outcome;
 use std::io;
 
-/// How a run ended, and whether all of its text could be written.
+/// The outcome of a run, and whether all of its text could be written.
 #[derive(Drop)]
 pub struct Ended {
     pub outcome: Outcome,
@@ -13,7 +13,7 @@ pub struct Ended {
 }
 
 impl Ended {
-    /// Leaves the outcome where all files could be read; else it is that one couldn't be.
+    /// Keeps the outcome if all files could be read, and else sets it to [`Outcome::Unread`].
     pub fn if_read(self, are_all_read: bool) -> Ended
         ensures outcome { MatchBool are_all_read
             (result.outcome ≡ self.outcome) (result.outcome ≡ Outcome.Unread) }

@@ -1,14 +1,13 @@
-//! The files that stand for the names of a request: where a name is a folder's, those in it and
-//! below it.
+//! The files of a request's names: if a name is a directory's, the files in it and below it.
 ghost use Rattle.std.specs.Cmp.Lexicographic.{slice_cmp};
 ghost use Rattle.std.specs.List.{count_by, filter};
 ghost use Rattle.std.specs.List.Sorted.{IsPermutation, IsSorted};
 ghost use Rattle.std.specs.Ordering.{nat_cmp};
-ghost use Rattle.std.specs.Prelude.{◌≡◌, ◌||◌, ◌⊎◌, ◌+◌, ◌++◌, ◌∷◌, [], Bool, List, ℕ, Ok, Some, map, IfOk, MatchOption, OnOk, true};
+ghost use Rattle.std.specs.Prelude.{◌≡◌, ◌≢◌, ◌||◌, ◌⊎◌, ◌+◌, ◌++◌, ◌∷◌, [], Bool, List, ℕ, Ok, Some, map, IfErr, IfOk, MatchOption, OnOk, true};
 ghost use Rattle.std.specs.Bool.{MatchBool};
 ghost use Rattle.std.specs.Io.KnownBytes.{Appends};
 ghost use Rattle.rpki_text.specs.CommandLines.Views.{fields_of, word_octets};
-ghost use Rattle.rpki_command.specs.ListedFolders.{AreDown, AreFilesOf, AreOpened, IsUnlisted, StandFor, StandsForItself, holds, is_folder_name, is_passed, is_taken, told_count};
+ghost use Rattle.rpki_command.specs.ListedFolders.{AreDown, AreFilesOf, AreOpened, IsNoFolder, StandFor, StandsForItself, barred, closed_name, holds, is_folder_name, is_passed, is_taken, told_count};
 ghost use Rattle.rpki_command.specs.Messages.{passed_message};
 
 use crate::files::{FileSource, Unread};
@@ -19,7 +18,7 @@ use std::alloc::{AllocError, Global};
 use std::io;
 use std::io::Write;
 
-/// How many levels of folders are opened below one that is named.
+/// The levels of directories that are opened below a named one.
 const LEVELS: usize = 32;
 
 // The names that stand for others, and how many files were passed over.
@@ -59,33 +58,29 @@ fn sorted(mut names: Vec<Vec<u8>>) -> Vec<Vec<u8>>
     names
 }
 
-// What the folder of a name has, unless it is none or can't be listed, which is said.
-fn listed<F: FileSource, E: Write>(
+// What the folder of a name has, unless it is none. Errs where it can't be listed.
+fn listed<F: FileSource>(
     alloc: Global,
     files: &F,
-    err: &mut E,
     name: &[u8],
-) -> Result<Option<Vec<Vec<u8>>>>
-    ensures { let lists = F.lists files.now in IfOk result (λ listed. (said : List ℕ)
-        × MatchOption listed (IsUnlisted lists name.now said)
-        (λ given. lists name.now (holds (word_octets given.items)) × (said ≡ []))
-        × Appends (E.contents err.old) (E.contents err.new) said) }
+) -> Result<Option<Vec<Vec<u8>>>, Unread>
+    ensures listed { let lists = F.lists files.now in IfOk result (λ listed.
+        MatchOption listed (IsNoFolder lists name.now)
+        (λ given. lists name.now (holds (word_octets given.items)))) }
+    ensures unlisted { IfErr result (λ why.
+        why ≢ Unread.Memory → F.lists files.now name.now barred) }
 {
-    let Ok(text) = str::from_utf8(name) else {
-        return Ok(None);
-    };
-    match files.list_folder(alloc, text) {
-        Ok(listed) => Ok(listed),
-        Err(Unread::Memory) => Err(anyhow!("out of memory")),
-        Err(why) => {
-            tell(alloc, err, name, &why)?;
-            drop(why);
-            Ok(None)
-        }
+    match str::from_utf8(name) {
+        Ok(text) => files.list_folder(alloc, text),
+        Err(_) => Ok(None),
     }
 }
 
-/// Adds a name. Errs only where memory runs out.
+/// Adds a name.
+///
+/// # Errors
+///
+/// Returns an error only if memory runs out.
 pub fn push(all: &mut Vec<Vec<u8>>, name: Vec<u8>) -> Result<(), AllocError>
     ensures { OnOk result
         (word_octets all.new.items ≡ word_octets all.old.items ++ name.items ∷ []) }
@@ -112,7 +107,19 @@ fn push_taken(all: &mut Vec<Vec<u8>>, names: Vec<Vec<u8>>) -> Result<usize, Allo
     Ok(passed)
 }
 
-// Adds what stands for a name. Returns how many files are passed over.
+// The name under which a folder stays that can't be listed: no file has it, and it isn't opened again.
+fn closed(mut name: Vec<u8>) -> Result<Vec<u8>, AllocError>
+    ensures { IfOk result (λ closed. closed.items ≡ closed_name name.items) }
+{
+    if !is_folder_name(name.as_slice()) {
+        name.push(b'/')?;
+    }
+    name.push(b'.')?;
+    Ok(name)
+}
+
+// Adds what stands for a name. Returns how many files are passed over. Says where the name is that
+// of a folder that can't be listed.
 fn push_opened<F: FileSource, E: Write>(
     alloc: Global,
     files: &F,
@@ -126,13 +133,20 @@ fn push_opened<F: FileSource, E: Write>(
         × (told ≡ told_count passed)
         × Appends (E.contents err.old) (E.contents err.new) said) }
 {
-    match listed(alloc, files, err, name.as_slice())? {
-        Some(given) => {
+    match listed(alloc, files, name.as_slice()) {
+        Ok(Some(given)) => {
             let passed = push_taken(all, sorted(given))?;
             Ok(passed)
         }
-        None => {
+        Ok(None) => {
             push(all, name)?;
+            Ok(0)
+        }
+        Err(Unread::Memory) => Err(anyhow!("out of memory")),
+        Err(why) => {
+            tell(alloc, err, name.as_slice(), &why)?;
+            drop(why);
+            push(all, closed(name)?)?;
             Ok(0)
         }
     }
@@ -237,9 +251,12 @@ fn tell_passed<E: Write>(err: &mut E, passed: usize) -> io::Result<()>
     )
 }
 
-/// Returns the names of the files that stand for names of which each may be a folder's. Says which
-/// folder can't be listed, and how many files are passed over. Errs only where memory runs out, or
-/// this can't be said.
+/// Returns the names of the files, if each given name may be a directory's. Reports each directory
+/// that can't be listed, and how many files are skipped, on standard error.
+///
+/// # Errors
+///
+/// Returns an error only if memory runs out or writing to standard error fails.
 pub fn opened<F: FileSource, E: Write>(
     alloc: Global,
     files: &F,
@@ -261,8 +278,12 @@ pub fn opened<F: FileSource, E: Write>(
     Ok(all)
 }
 
-/// Returns the names of the files that the request is about: where it may name folders, those of
-/// the files in them and below them, as [`opened`] does, and else its own.
+/// Returns the names of a request's files: those of the files in and below its directories, as
+/// [`opened`] does, if it may name directories, and else its own.
+///
+/// # Errors
+///
+/// Returns an error only if memory runs out or writing to standard error fails.
 pub fn file_names<F: FileSource, E: Write>(
     alloc: Global,
     files: &F,
@@ -283,7 +304,11 @@ pub fn file_names<F: FileSource, E: Write>(
     }
 }
 
-/// Returns the request with these files in place of its own. Errs only where memory runs out.
+/// Returns the request with these files in place of its own.
+///
+/// # Errors
+///
+/// Returns an error only if memory runs out.
 pub fn with_files<'a>(
     alloc: Global,
     request: Request<'a>,
@@ -301,7 +326,11 @@ pub fn with_files<'a>(
     Ok(request)
 }
 
-/// Returns the request with these files behind its own. Errs only where memory runs out.
+/// Returns the request with these files after its own.
+///
+/// # Errors
+///
+/// Returns an error only if memory runs out.
 pub fn with_further<'a>(
     request: Request<'a>,
     names: &'a [Vec<u8>],
@@ -316,8 +345,11 @@ pub fn with_further<'a>(
     Ok(request)
 }
 
-/// Returns the request with these files and lists in place of its own. Errs only where memory runs
-/// out.
+/// Returns the request with these files and CRLs in place of its own.
+///
+/// # Errors
+///
+/// Returns an error only if memory runs out.
 pub fn with_path<'a>(
     alloc: Global,
     request: Request<'a>,

@@ -1,4 +1,4 @@
-//! The files that a request to prepare or to complete something names.
+//! The files of a request that prepares or completes a certificate or a CRL.
 ghost use Rattle.std.specs.Prelude.{◌≡◌, ◌≢◌, ◌∷◌, [], ◌++◌, List, ℕ, map, IfErr, IfOk, OnOk};
 ghost use Rattle.rpki_files.specs.Files.{contents};
 ghost use Rattle.rpki_requests.specs.RequestWords.{values_of};
@@ -17,14 +17,14 @@ use std::alloc::{AllocError, Global};
 // How many octets a file may have.
 const MOST: u64 = 67_108_864;
 
-/// A file that can't be read, by its name, and why.
+/// A file that can't be read, by its name, and the reason.
 #[derive(Drop)]
 pub struct Unreadable<'a> {
     pub name: &'a [u8],
     pub why: Unread,
 }
 
-/// The objects of the files that a request names.
+/// The objects of a request's files.
 #[derive(Drop)]
 pub struct Objects<'a> {
     pub issuers: Vec<Object<'a>>,
@@ -36,7 +36,7 @@ pub struct Objects<'a> {
 }
 
 impl<'a> Objects<'a> {
-    /// Lends them.
+    /// Borrows the objects, as the inputs of a request.
     pub fn as_inputs(&self) -> Inputs<'_, 'a>
         ensures { result ≡ input_fields self.now }
     {
@@ -149,8 +149,11 @@ fn objects_of<'a, F: FileSource>(
     all
 }
 
-/// Reads the files that a request names, each of at most the usual size. Errs at the first that
-/// can't be read, or where memory runs out.
+/// Reads the files of a request, each of at most the default size.
+///
+/// # Errors
+///
+/// Returns the first file that can't be read, or that memory ran out.
 pub fn read_inputs<'a, F: FileSource>(
     alloc: Global,
     files: &F,

@@ -1,6 +1,6 @@
-//! The command for people, `rpki show`, `rpki validate`, `rpki tree`, `rpki prepare` and `rpki
-//! complete`: shows certificates, revocation lists and locators of files, validates paths of files,
-//! judges all certificates among files, and prepares and completes certificates and lists.
+//! The command for people: `rpki show`, `rpki validate`, `rpki tree`, `rpki prepare` and `rpki
+//! complete`. It shows certificates, CRLs and TALs, validates paths of files, validates all
+//! certificates among files, and prepares and completes certificates and CRLs.
 #![tactic(auto)]
 
 ghost use Rattle.std.specs.Prelude.{◌≡◌, ◌≢◌, ◌↔◌, ◌⊎◌, ◌≤◌, IfOk, IsErr, IsErrAnd, IsOkAnd};
@@ -91,9 +91,9 @@ fn failed<E: Write>(alloc: Global, err: &mut Speaker<E>, error: Error) -> ExitCo
 // The exit status is 0 where all files were shown, the path or all certificates are accepted, or
 // something was prepared or completed; 1 where a file is no certificate, list or locator, the path
 // is rejected, a file given as a list or a locator is none, or nothing is prepared or completed; 2
-// where the command line has another form; and 3 where a file can't be read or made, which is said,
-// or where the clock, memory or an output failed, which the last line says, unless it can't be
-// said.
+// where the command line has another form, or an option a value that it doesn't take; and 3 where a
+// file can't be read or made, which is said, or where the clock, memory or an output failed, which
+// the last line says, unless it can't be said.
 fn command<S: FileSource + MomentSource, M: FileMaker, O: Write, E: Write>(
     alloc: Global,
     system: &S,

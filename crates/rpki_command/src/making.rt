@@ -1,4 +1,4 @@
-//! Where files are made, and why one can't be.
+//! The maker of files, and why a file can't be written.
 ghost use Rattle.std.specs.List.{list_any};
 ghost use Rattle.std.specs.Prelude.{◌≡◌, [], ◌∷◌, List, None, Option, IfErr, IsFalse, OnErr, OnOk, bytes_eq, map};
 ghost use Rattle.rpki_command.specs.Outputs.{Makes, is_among};
@@ -10,14 +10,14 @@ use std::fs::Metadata;
 use std::io::ErrorKind;
 use std::{fmt, io};
 
-/// Why a file can't be made.
+/// Why a file can't be written.
 #[derive(Drop)]
 pub enum Unmade {
-    /// Its name isn't UTF-8, so it can't be opened here.
+    /// Its name isn't UTF-8, which names of files have to be here (own).
     OtherName,
-    /// It is read too.
+    /// This run read it.
     WasRead,
-    /// It is read too, under another name.
+    /// This run read it, under another name.
     WasReadAs,
     Failed(io::Error),
 }
@@ -40,25 +40,28 @@ impl fmt::Display for Unmade {
     }
 }
 
-/// Why the maker of files makes none.
+/// Why the maker of files writes none.
 #[derive(Drop)]
 pub enum Refused {
-    /// The file was read, under another name.
+    /// This run read the file, under another name.
     WasRead,
     Failed(io::Error),
 }
 
-/// Who makes files by their names. Which it has made is the ghost member `made`, where that is
-/// known, which who implements this states. Of the system's files none is known.
+/// A maker of files by their names. An implementation states by the ghost member `made` which files
+/// it has written, if that is known. It isn't known for the system's files.
 pub trait FileMaker {
     ghost use Rattle.rpki_command.specs.Outputs.{MadeFile};
 
-    /// The files that were made.
+    /// The files that were written.
     ghost made: { Self → Option (List MadeFile) } = { λ _. None };
 
-    /// Makes the file of this name with these octets, where the files of these names were read. One
-    /// that is there is overwritten where that is said and it wasn't read, and is else in the way.
-    /// Where it errs, none was made, and what was there stands.
+    /// Writes the file of this name with these bytes; `read` has the names of the files that were
+    /// read. An existing file is overwritten only if `overwrites` is set and it wasn't read.
+    ///
+    /// # Errors
+    ///
+    /// Returns why the file can't be written. An existing file is then unchanged.
     fn make_file(
         &mut self,
         name: &str,
@@ -72,7 +75,7 @@ pub trait FileMaker {
         ensures unmade { OnErr result (made self.new ≡ made self.old) };
 }
 
-/// The system's files.
+/// Writes the system's files.
 #[derive(Drop)]
 pub struct SystemFiles<'a> {
     pub rt: &'a HostRuntime,
@@ -133,8 +136,12 @@ fn is_among(name: &[u8], names: &[&[u8]]) -> bool
     is_one_of(name, names)
 }
 
-/// Makes the file of a name that may be no text, where the files of these names were read. Errs
-/// where it can't be made, or is one of them.
+/// Writes the file of a name, which may not be UTF-8; `read` has the names of the files that were
+/// read.
+///
+/// # Errors
+///
+/// Returns why the file can't be written, or that it is one of those that were read.
 pub fn make_named<M: FileMaker>(
     files: &mut M,
     name: &[u8],

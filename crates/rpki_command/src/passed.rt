@@ -1,5 +1,4 @@
-//! What a search says of the files among which it seeks: of those that it passes over, and where
-//! there is no list.
+//! The reports of a search: the files that it skips, and that there is no CRL.
 ghost use Rattle.std.specs.Io.KnownBytes.{Appends};
 ghost use Rattle.std.specs.Prelude.{◌≡◌, ◌==◌, [], List, ℕ, Ok, OnOk, Some, codes, if◌then◌else◌};
 ghost use Rattle.rpki_text.specs.CommandLines.Views.{word_octets};
@@ -69,8 +68,12 @@ fn tell_each<E: Write>(alloc: Global, err: &mut E, files: &[BareObject<'_>]) -> 
     Ok(())
 }
 
-/// Says which of the files behind the first are passed over, since they are neither certificates
-/// nor lists. Errs only where memory runs out, or this can't be said.
+/// Reports on standard error which files after the first are skipped, because they are neither
+/// certificates nor CRLs.
+///
+/// # Errors
+///
+/// Returns an error only if memory runs out or writing to standard error fails.
 pub fn tell_others<E: Write>(alloc: Global, err: &mut E, files: &[BareObject<'_>]) -> Result<()>
     ensures { OnOk result ((said : List ℕ) × SaysOfOthers files.now said
         × Appends (E.contents err.old) (E.contents err.new) said) }
@@ -81,7 +84,11 @@ pub fn tell_others<E: Write>(alloc: Global, err: &mut E, files: &[BareObject<'_>
     }
 }
 
-/// Says that no path is sought, where there is no list. Errs only where this can't be said.
+/// Reports on standard error that no path is searched, because there is no CRL.
+///
+/// # Errors
+///
+/// Returns an error only if writing to standard error fails.
 pub fn tell_no_list<E: Write>(err: &mut E, lists: &[Vec<u8>]) -> io::Result<()>
     ensures said { let message = no_list_message (word_octets lists.now) in
         OnOk result (Appends (E.contents err.old) (E.contents err.new) message) }

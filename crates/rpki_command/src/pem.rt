@@ -1,4 +1,4 @@
-//! Certificates and revocation lists in PEM.
+//! Certificates and CRLs in PEM (RFC 7468).
 ghost use Rattle.std.specs.Prelude.{◌≡◌, ◌++◌, List, ℕ, IfOk, OnOk};
 ghost use Rattle.rpki_command.specs.PemTexts.{AreInLines, IsPemText, ended, ended_rest, mark};
 
@@ -50,7 +50,7 @@ fn push_mark(text: &mut Vec<u8>, word: &str, label: &str) -> Result<(), AllocErr
     push_line(text, b"-----")
 }
 
-/// Returns octets in PEM, under a label.
+/// Returns bytes in PEM, under a label (RFC 7468 2).
 #[tactic(auto, unfolding(rpki_keys::specs::Digits::base64_of))]
 pub fn pem_text(alloc: Global, label: &str, octets: &[u8]) -> Result<Vec<u8>, AllocError>
     ensures { IfOk result (λ text. IsPemText label.now octets.now text.items) }

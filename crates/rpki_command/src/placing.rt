@@ -1,5 +1,5 @@
-//! How a file of the system gets its octets: they are written beside its place, under a name that
-//! nothing has, and are then put there in one step. So a full disk or a signal leaves what was there.
+//! How a file of the system is written: under a new name beside its place, and then put there in
+//! one step. A full disk or a signal therefore leaves the existing file unchanged.
 use std::alloc::{AllocError, Global};
 use std::fs::{File, Metadata, OpenOptions};
 use std::io::{ErrorKind, Write};
@@ -9,18 +9,18 @@ use std::{fs, io};
 // How many names are tried beside a place.
 const TRIES: u32 = 1000;
 
-/// What is at a place.
+/// The entry at a place.
 #[derive(Drop)]
 pub enum Place {
     Nothing,
-    /// A file, or a link to one, which has these data.
+    /// A file, or a link to one, with these metadata.
     File(Metadata),
-    /// A folder, a device, a pipe, or a link that leads nowhere.
+    /// A directory, a device, a pipe, or a link that leads nowhere.
     Other,
 }
 
 impl Place {
-    /// Returns what is at the place of this name.
+    /// Returns the entry at the place of this name.
     pub fn of(rt: &HostRuntime, name: &str) -> Place {
         if fs::symlink_metadata(rt, name).is_err() {
             return Place::Nothing;
@@ -32,7 +32,7 @@ impl Place {
     }
 }
 
-/// Returns whether the file of this name is the one that has these data.
+/// Returns whether the file of this name is the one with these metadata.
 pub fn is_file(rt: &HostRuntime, there: &Metadata, name: &str) -> bool {
     match fs::metadata(rt, name) {
         Ok(other) => other.dev() == there.dev() && other.ino() == there.ino(),
@@ -131,18 +131,31 @@ fn place_beside(
     put_there
 }
 
-/// Makes the file of a place where nothing is.
+/// Writes a file at a place that is empty.
 pub fn make_new(rt: &HostRuntime, place: &str, octets: &[u8], overwrites: bool) -> io::Result<()> {
     let beside = open_beside(rt, place)?;
     place_beside(rt, beside, place, octets, overwrites)
+}
+
+// Makes a file beside the place of one that has these data, which the same may read. Errs where it
+// can't be made so, and has left nothing.
+fn open_beside_as(rt: &HostRuntime, place: &str, there: &Metadata) -> io::Result<Beside> {
+    let beside = open_beside(rt, place)?;
+    match beside.file.set_permissions(there.permissions()) {
+        Ok(()) => Ok(beside),
+        Err(error) => {
+            let _removed = fs::remove_file(rt, beside.name.as_str());
+            drop(beside);
+            Err(error)
+        }
+    }
 }
 
 // Puts octets in place of a file that isn't a link, and keeps who may read it.
 fn replace_file(rt: &HostRuntime, place: &str, there: &Metadata, octets: &[u8]) -> io::Result<()> {
     // What may not be written isn't replaced.
     drop(OpenOptions::new().write(true).open(rt, place)?);
-    let beside = open_beside(rt, place)?;
-    let _kept = beside.file.set_permissions(there.permissions());
+    let beside = open_beside_as(rt, place, there)?;
     place_beside(rt, beside, place, octets, true)
 }
 
@@ -154,7 +167,7 @@ fn is_link(rt: &HostRuntime, name: &str) -> bool {
     }
 }
 
-/// Puts octets in place of the file that has these data. A link to it stays.
+/// Replaces the content of the file with these metadata. A link to it stays.
 pub fn replace(rt: &HostRuntime, name: &str, there: &Metadata, octets: &[u8]) -> io::Result<()> {
     if !is_link(rt, name) {
         return replace_file(rt, name, there, octets);
@@ -165,7 +178,7 @@ pub fn replace(rt: &HostRuntime, name: &str, there: &Metadata, octets: &[u8]) ->
     replaced
 }
 
-/// Writes octets to what isn't a file, as a device.
+/// Writes bytes to an entry that isn't a file, such as a device.
 pub fn write_there(rt: &HostRuntime, name: &str, octets: &[u8]) -> io::Result<()> {
     let mut options = OpenOptions::new();
     options.write(true);

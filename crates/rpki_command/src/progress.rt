@@ -1,4 +1,4 @@
-//! How far the reading of many files is, for a person who waits.
+//! The progress of reading many files, for a person who waits.
 ghost use Rattle.std.specs.Prelude.{◌≡◌, ◌⊎◌, ◌↔◌, ◌≤◌, ◌%◌, IsTrue, OnOk};
 ghost use Rattle.std.specs.Io.KnownBytes.{Appends};
 ghost use Rattle.rpki_command.specs.Messages.{progress_message};
@@ -28,8 +28,8 @@ fn put_progress<E: Write>(err: &mut E, read: usize, of: usize) -> io::Result<()>
     write!(err, "\rrpki: {read} of {of} files read")
 }
 
-/// Tells on standard error, where that is a terminal, how many files of how many were read: after
-/// each thousand, and of as many after the last.
+/// Reports on standard error, if that is a terminal, how many of the files were read: after each
+/// thousand files, and after the last one if there are at least a thousand.
 pub fn tell_read(rt: &HostRuntime, read: usize, of: usize) {
     if !is_told(read, of) {
         return;

@@ -1,4 +1,4 @@
-//! The files that a request names, and what is said of those that can't be read.
+//! The files of a request, and the reports on those that can't be read.
 ghost use Rattle.std.specs.Io.KnownBytes.{Appends};
 ghost use Rattle.std.specs.Prelude.{◌≡◌, [], ◌∷◌, ◌++◌, All, List, ℕ, Some, map, IfErr, IfOk, MatchOption, OnOk};
 ghost use Rattle.rpki_text.specs.CommandLines.Views.{fields_of};
@@ -29,8 +29,11 @@ fn put_line<E: Write>(err: &mut E, name: &[u8], why: &str) -> io::Result<()>
     writeln!(err, "rpki: {name}: {why}")
 }
 
-/// Says in a line with a file's name why nothing comes of it. Errs where memory runs out or writing
-/// fails.
+/// Writes a line with a file's name and what is wrong with it.
+///
+/// # Errors
+///
+/// Returns an error if memory runs out or writing fails.
 pub fn tell<E: Write, W: Display>(alloc: Global, err: &mut E, name: &[u8], why: &W) -> Result<()>
     ensures { OnOk result ((line : List ℕ) × IsLineAbout (called name.now) (W.output why.now) line
         × Appends (E.contents err.old) (E.contents err.new) line) }
@@ -41,7 +44,7 @@ pub fn tell<E: Write, W: Display>(alloc: Global, err: &mut E, name: &[u8], why: 
     Ok(())
 }
 
-/// Returns what the file of this name holds, or why it can't be read.
+/// Returns the content of the file of this name, or why it can't be read.
 pub fn octets_by<'a, F: FileSource>(
     alloc: Global,
     files: &F,
@@ -91,10 +94,14 @@ pub trait Kept<'a>: Sized + Drop {
     ghost use Rattle.rpki_files.specs.Files.{FileFields};
     ghost use Rattle.rpki_files.specs.PemFiles.{IsObjectOf};
 
-    /// The file's name, and the octets of its object.
+    /// The file's name, and the bytes of its object.
     ghost fields: { Self → FileFields };
 
-    /// Reads the object of a file. Errs only where memory runs out.
+    /// Reads the object of a file.
+    ///
+    /// # Errors
+    ///
+    /// Returns an error only if memory runs out.
     fn keep(alloc: Global, name: &'a str, file: Vec<u8>) -> Result<Self, AllocError>
         ensures name { IfOk result (λ kept. (fields kept).name ≡ name.now) }
         ensures object { IfOk result (λ kept. IsObjectOf file.items (fields kept).octets) };
@@ -166,8 +173,12 @@ fn push_locator<'a, F: FileSource, E: Write>(
     }
 }
 
-/// Reads the files of these names as locators, each of so many octets at most, and says of each
-/// that can't be read why. Errs only where memory runs out, or this can't be said.
+/// Reads the files of these names as TALs, each of at most so many bytes, and reports on standard
+/// error why a file can't be read.
+///
+/// # Errors
+///
+/// Returns an error only if memory runs out or writing to standard error fails.
 pub fn read_locators<'a, F: FileSource, E: Write>(
     alloc: Global,
     files: &F,
@@ -189,8 +200,12 @@ pub fn read_locators<'a, F: FileSource, E: Write>(
     Ok(all)
 }
 
-/// Reads the files of these names, each of so many octets at most, and says of each that can't be
-/// read why. Errs only where memory runs out, or this can't be said.
+/// Reads the files of these names, each of at most so many bytes, and reports on standard error why
+/// a file can't be read.
+///
+/// # Errors
+///
+/// Returns an error only if memory runs out or writing to standard error fails.
 pub fn read_files<'a, F: FileSource, E: Write, K: Kept<'a>>(
     alloc: Global,
     files: &F,
@@ -213,7 +228,7 @@ pub fn read_files<'a, F: FileSource, E: Write, K: Kept<'a>>(
     Ok(all)
 }
 
-/// The files, lists and locators that a request names, as far as they can be read.
+/// The files, CRLs and TALs of a request that could be read.
 #[derive(Drop)]
 pub struct GivenFiles<'a, K> {
     pub files: Vec<K>,
@@ -221,8 +236,12 @@ pub struct GivenFiles<'a, K> {
     pub locators: Vec<GivenLocator<'a>>,
 }
 
-/// Reads the files, lists and locators that a request names, and says of each that can't be read
-/// why. Errs only where memory runs out, or this can't be said.
+/// Reads the files, CRLs and TALs of a request, and reports on standard error why a file can't be
+/// read.
+///
+/// # Errors
+///
+/// Returns an error only if memory runs out or writing to standard error fails.
 pub fn read_given<'a, F: FileSource, E: Write, K: Kept<'a>>(
     alloc: Global,
     files: &F,

@@ -1,5 +1,5 @@
-//! A run that prepares or completes a certificate or a list: from its words, over files and a
-//! clock, to what it puts out.
+//! A run that prepares or completes a certificate or a CRL: from its words, with a source of files
+//! and a clock, to its output.
 ghost use Rattle.std.specs.Prelude.{◌≡◌, ◌≢◌, ◌++◌, List, ℕ, map, IfErr, IfOk, IsFalse, IsTrue, OnErr, OnOk, Ok};
 ghost use Rattle.std.specs.Io.KnownBytes.{Appends};
 ghost use Rattle.rpki_text.specs.CommandLines.Views.{word_octets};
@@ -9,13 +9,13 @@ ghost use Rattle.rpki_requests.specs.RefusedErrands.{IsSoOf};
 ghost use Rattle.rpki_requests.specs.RequestMisuses.{misuse_text};
 ghost use Rattle.rpki_requests.specs.RequestWords.{values_of};
 ghost use Rattle.rpki_requests.specs.RequestWords.Views.{asked_fields};
-ghost use Rattle.rpki_command.specs.Messages.{misuse_message, refusal_message};
+ghost use Rattle.rpki_command.specs.Messages.{misuse_message, refusal_hint, refusal_message, refusal_outcome, told_refusal, topic_asked};
 ghost use Rattle.rpki_command.specs.Outputs.{IsApart, Makes, Output, placed};
 ghost use Rattle.rpki_command.specs.PemTexts.{IsPemText};
 ghost use Rattle.rpki_command.specs.RequestRuns.{AskedEnds, InputsEnd, IsLineOf, IsUnmadeOf, IsWritten, PlaceEnds, RequestEnds, WordsEnd, names_read};
 ghost use Rattle.rpki_command.specs.RequestRuns.Views.{input_fields};
 
-use crate::about::usage;
+use crate::about::{Topic, topic_of};
 use crate::clock::{MomentSource, moment};
 use crate::ended::Ended;
 use crate::files::{FileSource, Unread};
@@ -28,37 +28,87 @@ use bytes::Bytes;
 use rpki_answers::Outcome;
 use rpki_der::Time;
 use rpki_requests::{
-    Made, Misuse, Order, Refusal, Setting, asks_help, fulfil, named_moment, read_request,
+    Errand, Made, Misuse, Order, Refusal, Setting, ToldRefusal, asks_help, fulfil, named_moment,
+    read_request, words_about,
 };
 use std::alloc::{AllocError, Global};
 use std::io;
 use std::io::Write;
 
 // Says what is wrong of the words, unless memory ran out.
-fn say<E: Write>(err: &mut E, misuse: &Misuse<'_>) -> Result<()>
+fn say<E: Write>(err: &mut E, topic: Topic, misuse: &Misuse<'_>) -> Result<()>
     ensures memory { OnOk result (misuse.now ≢ Misuse.Memory) }
     ensures said { OnOk result (Appends (E.contents err.old) (E.contents err.new)
-        (misuse_message (misuse_text misuse.now))) }
+        (misuse_message topic (misuse_text misuse.now))) }
 {
     if let Misuse::Memory = misuse {
         return Err(anyhow!("out of memory"));
     }
-    writeln!(err, "rpki: {misuse}")?;
-    err.write_all(usage().as_bytes())?;
+    let called = topic.called();
+    let hint = topic.hint();
+    write!(err, "{called}: {misuse}\n{hint}")?;
     Ok(())
 }
 
-// Says why a request gives nothing, unless memory ran out.
-fn refuse<E: Write>(err: &mut E, refusal: &Refusal) -> Result<()>
+// The command by which an errand is asked.
+fn topic_asked(errand: Errand) -> Topic
+    ensures { result ≡ topic_asked errand }
+{
+    match errand {
+        Errand::Completion => Topic::Complete,
+        _ => Topic::Prepare,
+    }
+}
+
+// How a run ends by a refusal.
+fn refusal_outcome(refusal: &Refusal) -> Outcome
+    ensures { result ≡ refusal_outcome refusal.now }
+{
+    match refusal {
+        Refusal::Value(_) => Outcome::WrongUse,
+        _ => Outcome::Rejection,
+    }
+}
+
+// The line that says where the help is that a refusal asks for.
+fn refusal_hint(topic: Topic, refusal: &Refusal) -> &'static str
+    ensures { result.now ≡ refusal_hint topic refusal.now }
+{
+    match refusal {
+        Refusal::Value(_) => topic.hint(),
+        _ => "",
+    }
+}
+
+// Says why a request gives nothing, of a wrong value also where the command's help is.
+fn say_refusal<E: Write>(
+    err: &mut E,
+    topic: Topic,
+    refusal: &Refusal,
+    words: &[&[u8]],
+) -> Result<()>
+    ensures { let words = map (λ word. word.now) words.now in OnOk result
+        (Appends (E.contents err.old) (E.contents err.new)
+        (told_refusal topic words refusal.now)) }
+{
+    let called = topic.called();
+    let told = ToldRefusal { refusal, words };
+    let hint = refusal_hint(topic, refusal);
+    write!(err, "{called}: {told}\n{hint}")?;
+    Ok(())
+}
+
+// Says why an order gives nothing, unless memory ran out.
+fn refuse<E: Write>(alloc: Global, err: &mut E, order: &Order<'_>, refusal: &Refusal) -> Result<()>
     ensures memory { OnOk result (refusal.now ≢ Refusal.Memory) }
-    ensures said { OnOk result
-        (Appends (E.contents err.old) (E.contents err.new) (refusal_message refusal.now)) }
+    ensures said { OnOk result (Appends (E.contents err.old) (E.contents err.new)
+        (refusal_message (asked_fields order.now) refusal.now)) }
 {
     if let Refusal::Memory = refusal {
         return Err(anyhow!("out of memory"));
     }
-    writeln!(err, "rpki: {refusal}")?;
-    Ok(())
+    let words = words_about(alloc, order, refusal)?;
+    say_refusal(err, topic_asked(order.errand), refusal, &words)
 }
 
 // Says which file can't be read, and why, unless memory ran out.
@@ -129,7 +179,7 @@ fn text_of(
     Ok(written(alloc, made, order.is_pem)?)
 }
 
-/// A file that can't be made, by its name, and why.
+/// A file that can't be written, by its name, and the reason.
 #[derive(Drop)]
 pub struct Unplaced<'a> {
     pub name: &'a [u8],
@@ -274,9 +324,10 @@ fn answer_inputs<M: FileMaker, O: Write, E: Write>(
         Err(refusal) => {
             drop(read);
             drop(names);
-            refuse(err, &refusal)?;
+            refuse(alloc, err, order, &refusal)?;
+            let outcome = refusal_outcome(&refusal);
             drop(refusal);
-            Ok(silent(Outcome::Rejection))
+            Ok(silent(outcome))
         }
     }
 }
@@ -302,9 +353,9 @@ fn answer_order<S: FileSource + MomentSource, M: FileMaker, O: Write, E: Write>(
     let named = match named_moment(alloc, order, Setting::At) {
         Ok(named) => named,
         Err(refusal) => {
-            refuse(err, &refusal)?;
+            refuse(alloc, err, order, &refusal)?;
             drop(refusal);
-            return Ok(silent(Outcome::Rejection));
+            return Ok(silent(Outcome::WrongUse));
         }
     };
     let now = moment(system, named)?;
@@ -345,17 +396,21 @@ fn answer_words<S: FileSource + MomentSource, M: FileMaker, O: Write, E: Write>(
             ended
         }
         Err(misuse) => {
-            say(err, &misuse)?;
+            say(err, topic_of(words), &misuse)?;
             Ok(silent(Outcome::WrongUse))
         }
     }
 }
 
-/// Answers words that begin as a request does: puts out what is prepared or completed, of files as
-/// reading them gives them, at the moment that is named or else at the one that the clock tells. Of
-/// words that ask nothing it says what is wrong, and why a request gives nothing, or why a file
-/// can't be read or made. Where words ask how the command is used it writes that. Errs where memory
-/// runs out, or where the clock or what says it fails, and has written nothing on standard output.
+/// Runs words that start as a request does: writes what is prepared or completed of the source's
+/// files, at the given time or else at the clock's. Reports on standard error what is wrong with
+/// the words, why the request is refused, or why a file can't be read or written. If the words ask
+/// for help, writes the usage text.
+///
+/// # Errors
+///
+/// Returns an error if memory runs out, or if the clock or an output fails; nothing was written on
+/// standard output then.
 pub fn run_request<S: FileSource + MomentSource, M: FileMaker, O: Write, E: Write>(
     alloc: Global,
     system: &S,
@@ -372,7 +427,7 @@ pub fn run_request<S: FileSource + MomentSource, M: FileMaker, O: Write, E: Writ
     ensures unwritten { OnErr result (out.new ≡ out.old) }
 {
     if asks_help(words) {
-        let written = out.write_all(usage().as_bytes());
+        let written = out.write_all(topic_of(words).help().as_bytes());
         return Ok(Ended {
             outcome: Outcome::Success,
             written,

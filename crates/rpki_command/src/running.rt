@@ -1,4 +1,4 @@
-//! A run of the command: from its words, over files and a clock, to what it puts out.
+//! A run of the command: from its words, with a source of files and a clock, to its output.
 ghost use Rattle.std.specs.Prelude.{◌≡◌, ◌≢◌, ◌⊎◌, List, ℕ, IfOk, OnErr, OnOk, string_bytes};
 ghost use Rattle.std.specs.Io.KnownBytes.{Appends};
 ghost use Rattle.rpki_text.specs.CommandLines.Views.{fields_of, word_octets};
@@ -8,7 +8,7 @@ ghost use Rattle.rpki_command.specs.Messages.{misuse_message};
 ghost use Rattle.rpki_command.specs.Outputs.{Makes, Output};
 ghost use Rattle.rpki_command.specs.Runs.{IsAnswer, IsAnswerBy, IsAnswerIn, IsAnswerOf, IsAnswerOfNamed, IsWholeAnswer, LineEnds, RunEnds};
 
-use crate::about::{text_about, usage};
+use crate::about::{Topic, text_about, topic_of};
 use crate::answering::{answer_objects, answer_tree, quieted};
 use crate::clock::{MomentSource, moment};
 use crate::ended::Ended;
@@ -28,17 +28,18 @@ use std::alloc::Global;
 use std::io::Write;
 
 // Says what is wrong of the command line, unless memory ran out.
-fn say<E: Write>(err: &mut E, misuse: &Misuse<'_>) -> Result<()>
+fn say<E: Write>(err: &mut E, topic: Topic, misuse: &Misuse<'_>) -> Result<()>
     ensures memory { OnOk result (misuse.now ≢ Misuse.Memory) }
     ensures said { OnOk result
         (Appends (E.contents err.old) (E.contents err.new)
-        (misuse_message (misuse_text misuse.now))) }
+        (misuse_message topic (misuse_text misuse.now))) }
 {
     if let Misuse::Memory = misuse {
         return Err(anyhow!("out of memory"));
     }
-    writeln!(err, "rpki: {misuse}")?;
-    err.write_all(usage().as_bytes())?;
+    let called = topic.called();
+    let hint = topic.hint();
+    write!(err, "{called}: {misuse}\n{hint}")?;
     Ok(())
 }
 
@@ -134,9 +135,13 @@ fn answered<F: FileSource, E: Write>(
     Ok(quieted(alloc, answer, request.quiet))
 }
 
-/// Answers at this moment what a request asks of files, as reading them gives them, and writes the
-/// answer; of each that can't be read it says why. Errs where memory runs out or this can't be
-/// said, and has written no answer.
+/// Answers a request about the source's files at this time, and writes the answer. Reports on
+/// standard error each file that can't be read.
+///
+/// # Errors
+///
+/// Returns an error if memory runs out or writing to standard error fails; no answer was written
+/// then.
 pub fn answer<F: FileSource, O: Write, E: Write>(
     alloc: Global,
     files: &F,
@@ -279,14 +284,14 @@ fn run_line<S: FileSource + MomentSource, O: Write, E: Write>(
     let request = match read_words(alloc, words) {
         Ok(request) => request,
         Err(misuse) => {
-            say(err, &misuse)?;
+            say(err, topic_of(words), &misuse)?;
             return Ok(Ended {
                 outcome: Outcome::WrongUse,
                 written: Ok(()),
             });
         }
     };
-    if let Some(text) = text_about(request.task) {
+    if let Some(text) = text_about(request.task, topic_of(words)) {
         let written = out.write_all(text.as_bytes());
         return Ok(Ended {
             outcome: Outcome::Success,
@@ -297,11 +302,15 @@ fn run_line<S: FileSource + MomentSource, O: Write, E: Write>(
     answer_named(alloc, system, out, err, request, now)
 }
 
-/// Answers the words behind the program's name: puts out what they ask, of files and folders as
-/// reading and listing them gives them, at the moment that they name, or else at the one that the
-/// clock tells; or says what is wrong of them. Of a request to prepare or to complete something
-/// that gives nothing it says why, and why a file can't be read or made. Errs where memory runs
-/// out, or where the clock or what says it fails, and has written nothing on standard output.
+/// Runs the words after the program's name: writes the answer to their request about the source's
+/// files and directories, at the given time or else at the clock's. Reports on standard error what
+/// is wrong with the words, why a request to prepare or complete is refused, and why a file can't
+/// be read or written.
+///
+/// # Errors
+///
+/// Returns an error if memory runs out, or if the clock or standard error fails; nothing was
+/// written on standard output then.
 pub fn run<S: FileSource + MomentSource, M: FileMaker, O: Write, E: Write>(
     alloc: Global,
     system: &S,

@@ -1,4 +1,4 @@
-//! A path that is sought: the names of its files, and of the lists beside them.
+//! The search for a path: the names of its files, and of the CRLs beside them.
 ghost use Rattle.std.specs.Prelude.{◌≡◌, ◌↔◌, ◌++◌, ◌∷◌, [], List, ℕ, map, IfOk, IsTrue, Ok, OnOk};
 ghost use Rattle.std.specs.Io.KnownBytes.{Appends};
 ghost use Rattle.rpki_keys.specs.RsaSignatures.{IsSignedByRsa};
@@ -27,14 +27,14 @@ use std::alloc::{AllocError, Global};
 use std::io;
 use std::io::Write;
 
-/// The names of the files of a path that was sought, and those of all lists among which it was.
+/// The names of the files of a path that was searched, and of all CRLs among the files.
 #[derive(Drop)]
 pub struct SoughtNames {
     pub files: Vec<Vec<u8>>,
     pub lists: Vec<Vec<u8>>,
-    /// How the walk ended, where it came to no valid path; else whole.
+    /// How the walk ended that found no valid path; else `Whole`.
     pub ended: Ended,
-    /// Whether all files among which it was sought could be read.
+    /// Whether all files that were searched could be read.
     pub are_all_read: bool,
 }
 
@@ -250,11 +250,14 @@ fn sought_if_read<E: Write>(
     Ok(Some(sought))
 }
 
-/// Seeks the path to the first file of a request among the others, as reading them gives them. Of
-/// each that can't be read it says why, and gives none where that is the first file or a locator.
-/// It says which of the others are passed over, since they are neither certificates nor lists;
-/// where there is no list; and where it met a bound before it came to a valid path. Errs only where
-/// memory runs out, or this can't be said.
+/// Searches the path to the first file of a request among the source's other files. Returns `None`
+/// if the first file or a TAL can't be read. Reports on standard error each file that can't be
+/// read, the files that are skipped because they are neither certificates nor CRLs, that there is
+/// no CRL, and a limit that was reached before a valid path was found.
+///
+/// # Errors
+///
+/// Returns an error only if memory runs out or writing to standard error fails.
 pub fn names_sought<F: FileSource, E: Write>(
     alloc: Global,
     files: &F,

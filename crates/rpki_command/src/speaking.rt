@@ -1,4 +1,4 @@
-//! Where a run says what is wrong, and in the end that it failed.
+//! The output on which a run reports what is wrong, and that it failed.
 ghost use Rattle.std.specs.Prelude.{◌⊎◌, IsFalse, IsTrue};
 ghost use Rattle.std.specs.Io.KnownBytes.{Appends};
 ghost use Rattle.rpki_lines.specs.Watching.{HasFailed, device};
@@ -8,7 +8,7 @@ use rpki_lines::Watched;
 use std::io;
 use std::io::Write;
 
-/// An output on which a run says what is wrong. It remembers whether it has failed.
+/// An output on which a run reports what is wrong. It remembers whether writing failed.
 #[derive(Drop)]
 pub struct Speaker<W> {
     watched: Watched<W>,
@@ -30,7 +30,7 @@ impl<W: Write> Write for Speaker<W> {
 }
 
 impl<W: Write> Speaker<W> {
-    /// Speaks on an output, which hasn't failed yet.
+    /// Wraps an output on which no writing has failed yet.
     pub fn new(output: W) -> Speaker<W>
         ensures { HasFailed result.watched → ⊥ }
     {
@@ -55,7 +55,7 @@ impl<W: Write> Speaker<W> {
         true
     }
 
-    /// Says in a line why a run failed, unless the output fails.
+    /// Writes a line that says why a run failed, unless the output fails.
     pub fn tell_failure(&mut self, why: &str)
         ensures { let message = failure_message why.now in HasFailed self.new.watched
             ⊎ Appends (W.contents (device self.old.watched))

@@ -1,11 +1,15 @@
-//! The words of the command line, as octets.
+//! The words of the command line, as bytes.
 use anyhow::{Result, anyhow};
 use std::env::{Env, FillError};
 
-/// How many octets a word has at most: Linux hands no longer one to a program.
+/// The most bytes of a word: Linux passes no longer word to a program.
 const LONGEST: usize = 131_072;
 
-/// Reads the words behind the program's name. They need be no text.
+/// Reads the words after the program's name, which may not be UTF-8.
+///
+/// # Errors
+///
+/// Returns an error if the system or memory fails.
 pub fn words_of(rt: &HostRuntime) -> Result<Vec<Vec<u8>>> {
     let mut room = vec![in rt.alloc(); 0u8; LONGEST]?;
     let mut words = Vec::new(rt.alloc());

@@ -15,9 +15,13 @@ use rpki::repository::x509::Time;
 use std::alloc::Global;
 use std::rc::Rc;
 
-/// Tells whether the last of these certificates, from the trust anchor down, holds the AS number at
-/// this moment. Errs where they aren't a valid path, and where the lists of the store revoke one of
-/// them or don't tell.
+/// Returns whether the last of these certificates, from the trust anchor down, holds the AS number
+/// at this time.
+///
+/// # Errors
+///
+/// Returns an error if they aren't a valid path, or if the store's CRLs don't leave each of them
+/// unrevoked.
 pub fn holds_as(
     alloc: Global,
     store: &CrlStore,

@@ -1,4 +1,4 @@
-//! Issues the certificate of a CA, with whoever signs for its issuer.
+//! Issues the certificate of a CA, with a signer for its issuer.
 ghost use Rattle.std.specs.Prelude.{Ok, IfOk};
 ghost use Rattle.rpki.specs.Certificates.{encoding};
 
@@ -8,7 +8,7 @@ use rpki::repository::x509::{Serial, Validity};
 use rpki::uri::Rsync;
 use std::alloc::Global;
 
-/// Where the issuer of a CA publishes, and where the CA does.
+/// The URIs of a CA's issuer, and those of the CA.
 #[derive(Drop)]
 pub struct Places {
     pub issuer: Rsync,
@@ -17,7 +17,7 @@ pub struct Places {
     pub manifest: Rsync,
 }
 
-// Sets what the certificate of a CA has below this issuer, whose resources it has.
+// Sets the fields of a CA's certificate below this issuer, whose resources it inherits.
 fn set_authority(tbs: &mut TbsCert, issuer: &Cert, places: Places) {
     tbs.set_basic_ca(Some(true));
     tbs.set_authority_key_identifier(Some(issuer.as_tbs().subject_key_identifier()));
@@ -31,7 +31,11 @@ fn set_authority(tbs: &mut TbsCert, issuer: &Cert, places: Places) {
 }
 
 /// Issues the certificate of a CA with this key, below an issuer. The signer has the issuer's key,
-/// which `signing_key` names, and signs exactly what the certificate says. Errs where it doesn't.
+/// which `signing_key` names, and signs exactly the fields of the certificate.
+///
+/// # Errors
+///
+/// Returns the signer's error, or that memory ran out or a content is too long.
 pub fn issue<S: Signer>(
     alloc: Global,
     issuer: &Cert,

@@ -1,4 +1,4 @@
-//! What the examples of docs/RATTLE.md answer, asked as any caller of the crate `rpki` would.
+//! The answers of the examples of docs/RATTLE.md, as any caller of the crate `rpki` gets them.
 
 use crate::asking::holds_as;
 use crate::issuing::{Places, issue};

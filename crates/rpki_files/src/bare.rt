@@ -1,4 +1,4 @@
-//! Objects of many files, of which only the octets are kept.
+//! Objects of many files, of which only the bytes are kept.
 ghost use Rattle.std.specs.Prelude.{◌≡◌, ◌↔◌, ℕ, List, IfOk, IfSome, IsTrue, MatchOption};
 ghost use Rattle.rpki_cert.specs.Certificates.{CertFields, IsCertificate};
 ghost use Rattle.rpki_der.specs.Encoding.{Means};
@@ -14,19 +14,19 @@ use rpki_crl::Crl;
 use std::alloc::{AllocError, Global};
 use std::marker::Model;
 
-/// What a file is among others, without what was read of it.
+/// The kind of an object, without what was read of it.
 #[derive(Clone, Copy)]
 pub enum Front {
-    /// The octets begin with a certificate, which says this.
+    /// The bytes start with a certificate, which says this of itself.
     Certificate(Said),
-    /// They are a revocation list, behind which none stands.
+    /// The bytes are a CRL, and no byte follows it.
     List,
     Neither,
 }
 
-/// An object without what was read of it, which would take as much memory as its octets: its file's
-/// name, its octets, in DER, what it is among others, and how many octets stand behind the
-/// certificate or the list that they begin with.
+/// An object without what was read of it, which would take as much memory as its bytes: its file's
+/// name, its bytes in DER, its kind, and how many bytes follow the certificate or the CRL at their
+/// start.
 #[derive(Drop)]
 pub struct BareObject<'a> {
     name: &'a str,
@@ -89,30 +89,30 @@ impl<'a> BareObject<'a> {
         self.name
     }
 
-    /// Returns the octets of the object.
+    /// Returns the bytes of the object.
     pub fn octets(&self) -> &Bytes
         ensures { result.now ≡ self.now.octets }
     {
         &self.octets
     }
 
-    /// Returns what the octets are among others: a certificate where they begin with one, a
-    /// revocation list where they are one, or neither.
+    /// Returns the kind of the object: a certificate if the bytes start with one, a CRL if they are
+    /// one, or neither.
     pub fn front(&self) -> Front
         ensures { IsFront self.now.octets result }
     {
         self.front
     }
 
-    /// Returns how many octets stand behind the certificate or the list that the octets begin with,
-    /// and 0 where they begin with neither.
+    /// Returns how many bytes follow the certificate or the CRL at the start of the bytes, and 0 if
+    /// they start with neither.
     pub fn left(&self) -> usize
         ensures { StandBehind self.now.octets result }
     {
         self.left
     }
 
-    /// Returns whether the octets begin with a certificate.
+    /// Returns whether the bytes start with a certificate.
     pub fn is_certificate(&self) -> bool
         ensures { IsTrue result ↔ BeginsWithCertificate self.now.octets }
     {
@@ -122,7 +122,7 @@ impl<'a> BareObject<'a> {
         }
     }
 
-    /// Returns whether the octets are a revocation list, behind which none stands.
+    /// Returns whether the bytes are a CRL, and no byte follows it.
     pub fn is_list(&self) -> bool
         ensures { IsTrue result ↔ IsList self.now.octets }
     {
@@ -132,8 +132,11 @@ impl<'a> BareObject<'a> {
         }
     }
 
-    /// Reads the certificate that the octets begin with, if they begin with one. Errs only where
-    /// memory runs out.
+    /// Reads the certificate at the start of the bytes, if they start with one.
+    ///
+    /// # Errors
+    ///
+    /// Returns an error only if memory runs out.
     pub fn certificate(&self, alloc: Global) -> Result<Option<Cert>, AllocError>
         ensures { let octets = self.now.octets in IfOk result (λ found.
             MatchOption found (BeginsWithCertificate octets → ⊥)
@@ -148,8 +151,11 @@ impl<'a> BareObject<'a> {
         }
     }
 
-    /// Reads the revocation list that the octets are, if they are one: none stands behind it. Errs
-    /// only where memory runs out.
+    /// Reads the CRL that the bytes are, if they are one and no byte follows it.
+    ///
+    /// # Errors
+    ///
+    /// Returns an error only if memory runs out.
     pub fn whole_list(&self, alloc: Global) -> Result<Option<Crl>, AllocError>
         ensures { let octets = self.now.octets in IfOk result (λ found.
             MatchOption found (IsList octets → ⊥) (λ l. IsCertificateList l.list octets)) }
@@ -159,7 +165,11 @@ impl<'a> BareObject<'a> {
     }
 }
 
-/// Reads the object of a file, in DER or in PEM, and what it begins with, of which no more is kept.
+/// Reads the object of a file, in DER or in PEM, and keeps only its bytes and its kind.
+///
+/// # Errors
+///
+/// Returns an error only if memory runs out.
 pub fn read_bare_object<'a>(
     alloc: Global,
     name: &'a str,

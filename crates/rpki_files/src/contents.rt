@@ -1,4 +1,4 @@
-//! What octets begin with: a certificate, a revocation list, or neither.
+//! What bytes start with: a certificate, a CRL, or neither.
 ghost use Rattle.std.specs.Prelude.{◌≡◌, ◌≢◌, ◌↔◌, false, ℕ, List, IsSomeAnd, IfOk, IfSome, MatchOption};
 ghost use Rattle.rpki_der.specs.Encoding.{Means};
 ghost use Rattle.rpki_der.specs.Place.{MeansOrMemoryBy, remaining};
@@ -15,7 +15,7 @@ use rpki_crl::{Crl, laws};
 use rpki_der::{Cursor, DecodeError};
 use std::alloc::{AllocError, Global};
 
-/// What the octets begin as.
+/// What the first values of bytes look like.
 #[derive(Clone, Copy)]
 pub enum Form {
     Certificate,
@@ -43,8 +43,8 @@ fn first_inside(octets: &Bytes) -> Option<u8>
     data.rest().first().copied()
 }
 
-/// Returns what the octets look like: a list where they begin with one, and none where they begin
-/// with a certificate.
+/// Returns what the bytes look like: `List` if they start with a CRL, and another form if they
+/// start with a certificate. No more than the first identifiers are read (own).
 pub fn looks_like(octets: &Bytes) -> Form
     ensures list { BeginsWithList octets.now → result ≡ Form.List }
     ensures certificate { BeginsWithCertificate octets.now → result ≢ Form.List }
@@ -61,18 +61,17 @@ pub fn looks_like(octets: &Bytes) -> Form
     }
 }
 
-/// What octets begin with, and how many octets stand behind it.
+/// What bytes start with, and how many bytes follow it.
 #[derive(Drop)]
 pub enum Content {
     Certificate(Cert, usize),
     List(Crl, usize),
-    /// Neither: what they look like can't be read, and this is why.
+    /// Neither. This is the error of reading what the bytes look like.
     Neither(DecodeError),
 }
 
 impl Content {
-    /// Returns the revocation list that octets are of which this was read, if they are one: none
-    /// stands behind it.
+    /// Returns the CRL, if the bytes of which this was read are one and no byte follows it.
     pub(crate) fn whole_list(&self) -> Option<&Crl>
         ensures { (octets : List ℕ) → IsContent octets self.now
             → MatchOption result (IsList octets → ⊥)
@@ -86,7 +85,7 @@ impl Content {
         }
     }
 
-    /// Keeps that list alone.
+    /// Returns the CRL as [`Content::whole_list`] does, and drops the rest.
     pub(crate) fn into_whole_list(self) -> Option<Crl>
         ensures { (octets : List ℕ) → IsContent octets self
             → MatchOption result (IsList octets → ⊥) (λ list. IsCertificateList list.list octets) }
@@ -109,7 +108,7 @@ impl Content {
     }
 }
 
-/// Reads the certificate that the octets begin with, and counts the octets behind it.
+/// Reads the certificate at the start of the bytes, and counts the bytes that follow it.
 pub(crate) fn certificate_in(alloc: Global, octets: &Bytes) -> Result<(Cert, usize), DecodeError>
     ensures means { MeansOrMemoryBy (λ found. found.0) (Means IsCertificate) result octets.now }
     ensures left { IfOk result (λ found. BeginsBefore IsCertificate octets.now found.0 found.1) }
@@ -119,7 +118,7 @@ pub(crate) fn certificate_in(alloc: Global, octets: &Bytes) -> Result<(Cert, usi
     Ok((cert, cursor.rest().len()))
 }
 
-/// Reads the revocation list that the octets begin with, and counts the octets behind it.
+/// Reads the CRL at the start of the bytes, and counts the bytes that follow it.
 pub(crate) fn list_in(alloc: Global, octets: &Bytes) -> Result<(Crl, usize), DecodeError>
     ensures means { let encodes = Means IsCertificateList in
         MeansOrMemoryBy (λ found. found.0.list) encodes result octets.now }
@@ -166,7 +165,11 @@ fn as_list(alloc: Global, octets: &Bytes) -> Result<Content, AllocError>
     }
 }
 
-/// Reads what octets begin with. Errs only where memory runs out.
+/// Reads the certificate or the CRL at the start of the bytes.
+///
+/// # Errors
+///
+/// Returns an error only if memory runs out.
 pub fn read_content(alloc: Global, octets: &Bytes) -> Result<Content, AllocError>
     ensures { IfOk result (IsContent octets.now) }
 {

@@ -1,4 +1,4 @@
-//! Certificates and revocation lists decoded, and where their reading stops otherwise.
+//! Certificates and CRLs decoded, and the place where reading stops otherwise.
 ghost use Rattle.std.specs.Prelude.{◌≡◌, ◌≢◌, ◌≤◌, false, true, length, IfErr, IfOk};
 ghost use Rattle.rpki_cert.specs.Certificates.{IsCertificate};
 ghost use Rattle.rpki_crl.specs.Lists.{IsCertificateList};
@@ -17,10 +17,10 @@ use std::alloc::{AllocError, Global};
 use std::fmt;
 use thiserror::Error;
 
-/// Why octets can't be read as a certificate, or as a revocation list.
+/// The error of bytes that can't be read as a certificate or as a CRL.
 #[derive(Debug, Drop, Error)]
 pub enum Misread {
-    /// They begin with none: their reading stops at this place.
+    /// The bytes don't start with a certificate or a CRL: reading stops at this place.
     #[error("{fault}: {place}")]
     Stopped { fault: DecodeError, place: Place },
     #[error("out of memory")]
@@ -42,7 +42,7 @@ impl Misread {
         }
     }
 
-    /// Tells whether memory ran out.
+    /// Returns whether memory ran out.
     pub fn is_memory(&self) -> bool
         ensures { IsTrue result ↔ self.now ≡ Memory }
     {
@@ -79,9 +79,13 @@ impl fmt::Debug for Place {
     }
 }
 
-/// Tells where the reading of octets as a certificate, or as a list, stops: the first part that has
-/// not the form that it must have, or else the signature. Tells what is wanted and what is found
-/// there, and whether what a fault names is true of it. Errs only where memory runs out.
+/// Finds the place where reading bytes as a certificate or as a CRL stops: the first part that
+/// doesn't have its form, or else the signature. Returns what is expected there and what is found,
+/// and whether the error is true of the place.
+///
+/// # Errors
+///
+/// Returns an error only if memory runs out.
 pub fn place_for(
     alloc: Global,
     octets: &Bytes,
@@ -128,12 +132,12 @@ fn why_unread(alloc: Global, octets: &Bytes, is_list: bool, fault: DecodeError) 
     }
 }
 
-/// Decodes the certificate at the start of the octets as [`Cert::decode_shared`] does, and ignores
-/// what follows.
+/// Decodes the certificate at the start of the bytes as [`Cert::decode_shared`] does, and ignores
+/// the rest.
 ///
 /// # Errors
 ///
-/// Returns where reading stops and why, if the octets begin with no certificate.
+/// Returns where reading stops and why, if the bytes start with no certificate, and `Memory`.
 pub fn decode_cert(alloc: Global, octets: &Bytes) -> Result<Cert, Misread>
     ensures read { IfOk result (λ cert. Means IsCertificate cert octets.now) }
     ensures misread { IfErr result (IsMisread false octets.now) }
@@ -144,12 +148,11 @@ pub fn decode_cert(alloc: Global, octets: &Bytes) -> Result<Cert, Misread>
     }
 }
 
-/// Decodes the CRL at the start of the octets as [`Crl::decode_shared`] does, and ignores what
-/// follows.
+/// Decodes the CRL at the start of the bytes as [`Crl::decode_shared`] does, and ignores the rest.
 ///
 /// # Errors
 ///
-/// Returns where reading stops and why, if the octets begin with no CRL.
+/// Returns where reading stops and why, if the bytes start with no CRL, and `Memory`.
 pub fn decode_crl(alloc: Global, octets: &Bytes) -> Result<Crl, Misread>
     ensures read { IfOk result (λ list. Means IsCertificateList list.list octets.now) }
     ensures uncached { IfOk result (λ list. list.is_cached ≡ false) }

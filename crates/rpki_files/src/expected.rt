@@ -1,4 +1,4 @@
-//! The parts at which reading may stop, and what is wanted there.
+//! The parts at which reading may stop, and what is expected there.
 ghost use Rattle.std.specs.Prelude.{◌≡◌};
 ghost use Rattle.rpki_files.specs.PartTexts.{field_text, part_text};
 
@@ -9,10 +9,10 @@ use crate::kinds::Kind;
 pub enum Field {
     /// The version of a certificate.
     Version,
-    /// The version of a list.
+    /// The version of a CRL.
     ListVersion,
     Serial,
-    /// The signature algorithm inside what is signed.
+    /// The signature algorithm inside the to-be-signed part.
     Algorithm,
     Issuer,
     Validity,
@@ -24,12 +24,12 @@ pub enum Field {
     SignatureAlgorithm,
 }
 
-/// A part of a certificate or of a list at which reading may stop.
+/// A part of a certificate or of a CRL at which reading may stop.
 #[derive(Clone, Copy)]
 pub enum Part {
-    /// The SEQUENCE around all.
+    /// The outer SEQUENCE.
     Outer,
-    /// The SEQUENCE that is signed.
+    /// The SEQUENCE of the to-be-signed part (TBSCertificate, TBSCertList).
     Signed,
     Field(Field),
     /// The SEQUENCE of the revoked certificates.
@@ -40,13 +40,13 @@ pub enum Part {
     Extensions,
     /// An extension that isn't well formed.
     Extension,
-    /// An extension of this kind, which may not stand as it stands.
+    /// An extension of this kind whose flag or content isn't the one that its kind has.
     Kind(Kind),
-    /// An extension of this kind behind another one of it.
+    /// A second extension of this kind.
     Second(Kind),
-    /// What stands where the extensions, or what is signed, have to end.
+    /// A value after the extensions or after the to-be-signed part, which have to end here.
     Behind,
-    /// The algorithm beside the signature of a list, where it isn't the one inside.
+    /// The algorithm beside the signature of a CRL, if it isn't the one inside.
     OtherAlgorithm,
     Signature,
 }
@@ -92,7 +92,7 @@ impl Field {
 }
 
 impl Part {
-    /// Returns its name.
+    /// Returns the name of the part.
     pub fn name(self) -> &'static str
         ensures { result.now ≡ (part_text self).name }
     {
@@ -111,7 +111,7 @@ impl Part {
         }
     }
 
-    /// Returns what has to stand there, with the section that asks it.
+    /// Returns what is expected of the part, with the section that requires it.
     pub fn wanted(self) -> &'static str
         ensures { result.now ≡ (part_text self).wanted }
     {

@@ -1,6 +1,6 @@
-//! Faults: a table, where each has one line with its number, its name in the library, what the
-//! library prints of it, and for a person what it means and the section that it breaks. The numbers
-//! are those of `include/rpki.h`; none gets another meaning.
+//! The table of errors. Each line has an error's number, its name in the library, what the library
+//! prints of it, what it means for a person, and the section that it breaks. The numbers are those
+//! of `include/rpki.h`; no number gets a second meaning.
 ghost use Rattle.std.specs.Prelude.{◌≡◌, ◌≢◌, ◌↔◌, ◌<◌, ◌≤◌, ◌/◌, ◌==◌, bytes_eq, find, is_some, map, option_copied, option_map, slice_get, true};
 ghost use Rattle.rpki_der.specs.ErrorNames.{decode_error_name};
 ghost use Rattle.rpki_der.specs.declared.error.DecodeError.{DecodeError as decodings};
@@ -21,9 +21,9 @@ use rpki_crl::RevocationError;
 use rpki_der::{DecodeError, Field};
 use rpki_keys::tal::TalError;
 
-/// Has what is told of a fault. If it speaks of a part of a certificate or list, the part's number
-/// is added to its number, the part's name stands between two texts, and where no section stands
-/// here it is the part's.
+/// A line of the table of errors. If the error is about a part of a certificate or CRL, the part's
+/// number is added to the error's, the part's name is printed between `before` and `behind`, and an
+/// empty section means that of the part.
 #[derive(Clone, Copy)]
 pub struct Fault {
     pub number: u32,
@@ -34,31 +34,31 @@ pub struct Fault {
     pub section: &'static str,
 }
 
-/// Has what is told of a part of a certificate or list.
+/// A line of the table of parts of a certificate or CRL.
 #[derive(Clone, Copy)]
 pub struct Part {
     pub name: &'static str,
     pub section: &'static str,
 }
 
-/// Says what a fault is about, as the hundreds of its number do.
+/// What an error is about; the hundreds of its number say it.
 #[derive(Clone, Copy)]
 pub enum FaultKind {
-    /// It is of no kind alone.
+    /// Not one of the other kinds.
     General,
-    /// Octets can't be read.
+    /// The bytes can't be read.
     Reading,
     /// A certificate doesn't meet its profile.
     Inspection,
-    /// A certificate isn't valid at the moment, or not its issuer's.
+    /// A certificate isn't valid at this time, or not its issuer's.
     Verification,
-    /// The lists don't show that a certificate isn't revoked.
+    /// The CRLs don't show that a certificate isn't revoked.
     Revocation,
-    /// A path isn't the one that is asked.
+    /// A path's names, its trust anchor or its last key aren't the required ones.
     Path,
-    /// A file isn't a locator.
+    /// A file isn't a TAL.
     Locator,
-    /// No certificate and no list is issued.
+    /// No certificate and no CRL is issued.
     Issuing,
 }
 
@@ -283,7 +283,7 @@ const PARTS: &[Part] = &parts! {
     "CrlNumber" "RFC 6487 5",
 };
 
-/// Returns the faults of a kind.
+/// Returns the errors of a kind.
 #[tactic(auto, unfolding(crate::specs::FaultTable::general_faults, crate::specs::FaultTable::reading_faults, crate::specs::FaultTable::inspection_faults, crate::specs::FaultTable::verification_faults, crate::specs::FaultTable::revocation_faults, crate::specs::FaultTable::path_faults, crate::specs::FaultTable::locator_faults, crate::specs::FaultTable::issuing_faults))]
 pub fn faults_of(kind: FaultKind) -> &'static [Fault]
     ensures { map fault_fields result.now ≡ table_of kind }
@@ -330,7 +330,7 @@ fn kind_of(hundreds: u32) -> FaultKind
     }
 }
 
-/// Finds the fault that has the number.
+/// Finds the error with this number.
 pub fn numbered(number: u32) -> Option<&'static Fault>
     ensures { option_map fault_fields (option_copied result) ≡ fault_numbered number }
 {
@@ -343,7 +343,7 @@ fn part_at(parts: &[Part], place: u32) -> Option<&Part>
     parts.get(place as usize)
 }
 
-/// Finds the part that has the number.
+/// Finds the part with this number.
 pub fn numbered_part(number: u32) -> Option<&'static Part>
     ensures { option_map part_fields (option_copied result) ≡ part_numbered number }
 {
@@ -367,7 +367,8 @@ fn or_none(found: Option<&'static Fault>) -> &'static Fault
     }
 }
 
-/// Finds the fault of a kind, or of none, that has this name.
+/// Finds the error with this name: among those of no kind, then among those of this kind. Returns
+/// the table's line `None` if there is none.
 pub fn named(kind: FaultKind, name: &str) -> &'static Fault
     ensures { fault_fields result.now ≡ fault_named kind name.now }
 {
@@ -375,7 +376,7 @@ pub fn named(kind: FaultKind, name: &str) -> &'static Fault
     or_none(general.or(named_in(faults_of(kind), name)))
 }
 
-/// Finds what is told of a fault of reading.
+/// Finds the table's line of an error of reading.
 pub fn of_reading(error: &DecodeError) -> &'static Fault
     ensures fault { fault_fields result.now ≡ reading_fault error.now }
     ensures memory { result.now.number ≡ 1 ↔ error.now ≡ decoding.Memory }
@@ -385,7 +386,7 @@ pub fn of_reading(error: &DecodeError) -> &'static Fault
     named(FaultKind::Reading, error.name())
 }
 
-/// Finds what is told of a fault of inspection.
+/// Finds the table's line of an error of inspection.
 pub fn of_inspection(error: InspectionError) -> &'static Fault
     ensures fault { fault_fields result.now ≡ inspection_fault error }
     ensures hundreds { (result.now.number / 100) ≡ 3 }
@@ -393,7 +394,7 @@ pub fn of_inspection(error: InspectionError) -> &'static Fault
     named(FaultKind::Inspection, error.name())
 }
 
-/// Finds what is told of a fault of verification.
+/// Finds the table's line of an error of verification.
 pub fn of_verification(error: &VerificationError) -> &'static Fault
     ensures fault { fault_fields result.now ≡ verification_fault error.now }
     ensures hundreds { result.now.number ≢ 1 → (result.now.number / 100) ≡ 4 }
@@ -401,7 +402,7 @@ pub fn of_verification(error: &VerificationError) -> &'static Fault
     named(FaultKind::Verification, error.name())
 }
 
-/// Finds what is told of a fault of revocation.
+/// Finds the table's line of an error of revocation.
 pub fn of_revocation(error: &RevocationError) -> &'static Fault
     ensures fault { fault_fields result.now ≡ revocation_fault error.now }
     ensures hundreds { (result.now.number / 100) ≡ 5 }
@@ -409,7 +410,7 @@ pub fn of_revocation(error: &RevocationError) -> &'static Fault
     named(FaultKind::Revocation, error.name())
 }
 
-/// Finds what is told of a fault of a locator.
+/// Finds the table's line of an error of a TAL.
 pub fn of_locator(error: &TalError) -> &'static Fault
     ensures fault { fault_fields result.now ≡ locator_fault error.now }
     ensures hundreds { result.now.number ≢ 1 → (result.now.number / 100) ≡ 7 }
@@ -417,7 +418,7 @@ pub fn of_locator(error: &TalError) -> &'static Fault
     named(FaultKind::Locator, error.name())
 }
 
-/// Tells the number of a part, which is its place in the table.
+/// Returns the number of a part, which is its index in the table.
 pub fn part_number(field: Field) -> u32
     ensures number { result ≡ field_number field }
     ensures small { result < 13 }
@@ -425,7 +426,7 @@ pub fn part_number(field: Field) -> u32
     field as u32
 }
 
-/// Says that each fault is in the table under its name, and found by its number too.
+/// States that each error is in the table under its name, and is found by its number too.
 pub fn faults_are_found()
     ensures reading { (e : decodings) → IsFaultOf (decode_error_name e) (reading_fault e) }
     ensures inspection { (e : inspections)

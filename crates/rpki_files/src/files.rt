@@ -1,4 +1,4 @@
-//! Files: in DER or in PEM, with what their octets begin with.
+//! Files, in DER or in PEM, with the certificate or CRL at their start.
 ghost use Rattle.std.specs.List.{starts_with};
 ghost use Rattle.std.specs.Prelude.{◌≡◌, ◌≢◌, ◌↔◌, ◌++◌, ℕ, nat_eq, List, IsTrue, IfOk, MatchOption};
 ghost use Rattle.rpki_cert.specs.Certificates.{IsCertificate};
@@ -16,8 +16,8 @@ use rpki_keys::tal::{octets_of, push_digits};
 use std::alloc::{AllocError, Global};
 use std::marker::Model;
 
-/// A file: its name, the octets of its object, in DER, what was read of them, and their sort where
-/// that is neither a certificate nor a list.
+/// A file: its name, the bytes of its object in DER, what was read of them, and their sort if they
+/// are neither a certificate nor a CRL.
 #[derive(Drop)]
 pub struct Object<'a> {
     name: &'a str,
@@ -46,30 +46,30 @@ impl<'a> Object<'a> {
         self.name
     }
 
-    /// Returns the octets of the object.
+    /// Returns the bytes of the object.
     pub fn octets(&self) -> &Bytes
         ensures { result.now ≡ self.now.octets }
     {
         &self.octets
     }
 
-    /// Returns what the octets begin with.
+    /// Returns what the bytes start with.
     pub fn content(&self) -> &Content
         ensures { IsContent self.now.octets result.now }
     {
         &self.content
     }
 
-    /// Returns the sort of the octets, where they begin with neither a certificate nor a list and
-    /// are of one.
+    /// Returns the sort of the bytes, if they start with neither a certificate nor a CRL and are of
+    /// a known sort.
     pub fn sort(&self) -> Option<Sort>
         ensures { IsToldSort self.now.octets result }
     {
         self.sort
     }
 
-    /// Returns the certificate that the octets begin with, if they begin with one, and how many
-    /// octets stand behind it.
+    /// Returns the certificate at the start of the bytes, if there is one, and how many bytes
+    /// follow it.
     pub fn certificate(&self) -> Option<(&Cert, usize)>
         ensures { FindsBefore (λ c. c.now) IsCertificate self.now.octets result }
     {
@@ -79,8 +79,7 @@ impl<'a> Object<'a> {
         }
     }
 
-    /// Returns the revocation list that the octets begin with, if they begin with one, and how many
-    /// octets stand behind it.
+    /// Returns the CRL at the start of the bytes, if there is one, and how many bytes follow it.
     pub fn list(&self) -> Option<(&Crl, usize)>
         ensures { FindsBefore (λ l. l.now.list) IsCertificateList self.now.octets result }
     {
@@ -90,7 +89,7 @@ impl<'a> Object<'a> {
         }
     }
 
-    /// Returns the revocation list that the octets are, if they are one: none stands behind it.
+    /// Returns the CRL, if the bytes are one and no byte follows it.
     pub fn whole_list(&self) -> Option<&Crl>
         ensures { MatchOption result (IsList self.now.octets → ⊥)
             (λ list. IsCertificateList list.now.list self.now.octets) }
@@ -98,7 +97,7 @@ impl<'a> Object<'a> {
         self.content().whole_list()
     }
 
-    /// Returns whether the octets are a revocation list, behind which none stands.
+    /// Returns whether the bytes are a CRL, and no byte follows it.
     #[tactic(auto, using(crate::proofs::FoundOctets::some_or_none))]
     pub fn is_list(&self) -> bool
         ensures { IsTrue result ↔ IsList self.now.octets }
@@ -194,14 +193,18 @@ fn has_begin_line(text: &[u8]) -> bool
         .any(|line| is_begin_line(line))
 }
 
-/// Returns whether octets are a text in which several objects of PEM begin.
+/// Returns whether the bytes are a text in which several PEM objects start (RFC 7468 2).
 pub fn is_several_pem(octets: &[u8]) -> bool
     ensures { IsTrue result ↔ IsSeveralPem octets.now }
 {
     is_text(octets) && begins_again(octets)
 }
 
-/// Returns whether octets are a text in which an object of PEM begins that has no end.
+/// Returns whether the bytes are a text in which a PEM object starts that has no end (RFC 7468 2).
+///
+/// # Errors
+///
+/// Returns an error only if memory runs out.
 pub fn is_unended_pem(alloc: Global, octets: &[u8]) -> Result<bool, AllocError>
     ensures { IfOk result (λ is. IsTrue is ↔ IsUnendedPem octets.now) }
 {
@@ -217,7 +220,12 @@ pub fn is_unended_pem(alloc: Global, octets: &[u8]) -> Result<bool, AllocError>
     }
 }
 
-/// Returns whether octets are a text in which an object of PEM begins that can't be read.
+/// Returns whether the bytes are a text in which a PEM object starts that can't be read (RFC 7468
+/// 2).
+///
+/// # Errors
+///
+/// Returns an error only if memory runs out.
 pub fn is_damaged_pem(alloc: Global, octets: &[u8]) -> Result<bool, AllocError>
     ensures { IfOk result (λ is. IsTrue is ↔ IsDamagedPem octets.now) }
 {
@@ -233,7 +241,12 @@ pub fn is_damaged_pem(alloc: Global, octets: &[u8]) -> Result<bool, AllocError>
     }
 }
 
-/// Returns whether octets are base64, white space aside, and begin as that of a certificate does.
+/// Returns whether the bytes are base64, white space aside, and start as that of a certificate
+/// does.
+///
+/// # Errors
+///
+/// Returns an error only if memory runs out.
 pub fn is_bare_base64(alloc: Global, octets: &[u8]) -> Result<bool, AllocError>
     ensures { IfOk result (λ is. IsTrue is ↔ IsBareBase64 octets.now) }
 {
@@ -310,8 +323,12 @@ fn object_of<'a>(alloc: Global, name: &'a str, octets: Bytes) -> Result<Object<'
     }
 }
 
-/// Reads the object of a file, in DER or in PEM, what it begins with, and its sort where that is
-/// neither a certificate nor a list.
+/// Reads the object of a file, in DER or in PEM, what it starts with, and its sort if that is
+/// neither a certificate nor a CRL.
+///
+/// # Errors
+///
+/// Returns an error only if memory runs out.
 pub fn read_object<'a>(
     alloc: Global,
     name: &'a str,

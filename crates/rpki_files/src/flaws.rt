@@ -1,4 +1,4 @@
-//! What is found where reading stops: the flaws of octets, and their texts.
+//! The flaws that are found where reading stops, and their texts.
 ghost use Rattle.std.specs.Prelude.{◌≡◌, ◌++◌, Some, codes};
 ghost use Rattle.rpki_files.specs.FlawTexts.{bare_flaw_text, extension_flaw_text, flaw_text, serial_flaw_text, tagged_values, text_among, time_flaw_text, value_named, version_flaw_text, which_time};
 
@@ -8,16 +8,16 @@ use std::fmt;
 /// What is wrong with the content of a serial number.
 #[derive(Clone, Copy)]
 pub enum SerialFlaw {
-    /// It has no octets.
+    /// The content is empty.
     Empty,
     Negative,
-    /// It isn't in the shortest form.
+    /// The content isn't in the shortest form.
     Padded,
     /// The number has more than 20 octets.
     Large,
 }
 
-/// Which other version it is.
+/// Which other version is found.
 #[derive(Clone, Copy)]
 pub enum VersionFlaw {
     One,
@@ -28,7 +28,7 @@ pub enum VersionFlaw {
 /// What is wrong with a time.
 #[derive(Clone, Copy)]
 pub enum TimeFlaw {
-    /// The numbers of a time don't stand there.
+    /// There are no numbers of a time.
     Form,
     Month,
     Day,
@@ -43,16 +43,16 @@ pub enum ExtensionFlaw {
     Critical,
     NotCritical,
     OtherContent,
-    /// Another one of its kind stands before it.
+    /// An extension of the same kind comes before it.
     Second,
 }
 
-/// What is found where reading stops.
+/// What is found at the place where reading stops.
 #[derive(Clone, Copy)]
 pub enum Flaw {
     /// The file ends there.
     End,
-    /// A value that begins with another identifier octet, this one.
+    /// A value with another identifier octet, this one.
     Other(u8),
     /// No value that ends within the file.
     Broken,
@@ -60,9 +60,9 @@ pub enum Flaw {
     Version(VersionFlaw),
     ListVersion(VersionFlaw),
     Time(TimeFlaw),
-    /// Of the first time of a validity.
+    /// The flaw of a validity's first time.
     NotBefore(TimeFlaw),
-    /// Of its second time.
+    /// The flaw of a validity's second time.
     NotAfter(TimeFlaw),
     Extension(ExtensionFlaw),
 }

@@ -1,4 +1,4 @@
-//! The first flaw of the octets from the one on at which reading stops.
+//! The first flaw of the bytes from the place on where reading stops.
 ghost use Rattle.std.specs.Prelude.{◌≡◌, ◌≤◌, ◌↔◌, ◌∷◌, ℕ, Bool, List, Contains, IfOk, IsTrue, drop, if◌then◌else◌, length, map};
 ghost use Rattle.rpki_der.specs.Encoding.{Means};
 ghost use Rattle.rpki_der.specs.Extensions.{Extension, IsExtension};
@@ -560,7 +560,7 @@ fn flaw_of(
     first_flaw(alloc, part, &at, is_list)
 }
 
-/// Finds what is wrong with a part from an octet of the file on: its first flaw.
+/// Finds the first flaw of a part, from this byte of the file on.
 pub(crate) fn flaw_at(
     alloc: Global,
     part: Part,

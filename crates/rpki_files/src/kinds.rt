@@ -1,4 +1,4 @@
-//! The kinds of extensions: their names, and whether one may stand as it stands.
+//! The kinds of extensions: their names, and the form that each has to have.
 ghost use Rattle.std.specs.Prelude.{◌≡◌, ◌++◌, ◌↔◌, IsTrue, IsOk, MatchResult, Some};
 ghost use Rattle.rpki_der.specs.Place.{remaining};
 ghost use Rattle.rpki_files.specs.KnownKinds.{IsNamed, kind_among, place_kinds, resource_kinds, known_in_certificates, known_in_lists, known_kind, called, kind_name, kind_wanted, HasContent, MayHaveFlag, SaysWhether};
@@ -13,7 +13,8 @@ use rpki_ext::{
 };
 use std::alloc::Global;
 
-/// The kinds that certificates and lists know. Resources have two identifiers (RFC 8360 4.2).
+/// The kinds of extensions that a certificate or a CRL may have. Resources have two identifiers
+/// (RFC 8360 4.2).
 #[derive(Clone, Copy, PartialEq, Eq)]
 pub enum Kind {
     BasicConstraints,
@@ -28,9 +29,9 @@ pub enum Kind {
     IpResources,
     AsResources,
     CrlNumber,
-    /// One that certificates don't know.
+    /// An extension that no certificate of the profile has.
     Unknown,
-    /// One that lists may not have.
+    /// An extension that no CRL may have.
     NoList,
 }
 
@@ -95,7 +96,7 @@ fn of_list(identifier: &[u8]) -> Kind
 }
 
 impl Kind {
-    /// Returns the kind that an identifier names in a list, or in a certificate.
+    /// Returns the kind that an identifier names in a CRL, or in a certificate.
     pub fn of(identifier: &[u8], is_list: bool) -> Kind
         ensures { result ≡ known_kind is_list identifier.now }
     {
@@ -147,7 +148,7 @@ impl Kind {
         }
     }
 
-    /// Returns its name, as RFC 6487 4.8 and 5 have it.
+    /// Returns the name of the kind, as in RFC 6487 4.8 and 5.
     pub fn name(self) -> &'static str
         ensures { result.now ≡ kind_name self }
     {
@@ -168,7 +169,7 @@ impl Kind {
         }
     }
 
-    /// Returns what is wanted of an extension of this kind. In lists no flag is.
+    /// Returns what is expected of an extension of this kind. In a CRL no flag is required.
     pub fn wanted(self) -> &'static str
         ensures { result.now ≡ kind_wanted self }
     {
@@ -217,9 +218,12 @@ impl Kind {
         }
     }
 
-    /// Reads an extension with this flag and this content in a list, or in a certificate. Fails
-    /// where the flag is another one or the content has another form; which error it is doesn't
-    /// matter but for `Memory`.
+    /// Reads an extension with this flag and this content in a CRL, or in a certificate.
+    ///
+    /// # Errors
+    ///
+    /// Returns an error if the flag or the form of the content isn't that of the kind (which error
+    /// is unspecified), and `Memory`.
     pub fn read(
         self,
         alloc: Global,

@@ -1,5 +1,5 @@
-//! Files of certificates, revocation lists and locators: the object that a file holds, in DER or
-//! PEM, what a certificate is, where reading stops and what is found there, and what a fault means,
+//! Files with certificates, CRLs and TALs: the object that a file has, in DER or PEM, the kind of a
+//! certificate, the place where reading stops and what is found there, and what an error means,
 //! with the standard's section.
 #![tactic(auto)]
 

@@ -1,4 +1,4 @@
-//! Files as trust anchor locators.
+//! Files that are TALs.
 ghost use Rattle.std.specs.Char.{is_ascii_whitespace};
 ghost use Rattle.std.specs.List.{list_all, starts_with};
 ghost use Rattle.std.specs.Prelude.{◌≡◌, nat_eq, codes, option_map, IfOk};
@@ -7,8 +7,12 @@ ghost use Rattle.rpki_files.specs.LocatorFiles.{IsReadAs, behind_comments, looks
 use rpki_keys::tal::{Tal, TalError};
 use std::alloc::{AllocError, Global};
 
-/// Reads octets as a locator of this name, strictly or not, or finds why they are none. Errs only
-/// where memory runs out.
+/// Reads bytes as a TAL of this name, in strict mode or not, or finds why they aren't one (RFC 8630
+/// 2.2).
+///
+/// # Errors
+///
+/// Returns an error only if memory runs out.
 pub fn read_locator(
     alloc: Global,
     name: &str,
@@ -61,8 +65,8 @@ fn behind_comments(octets: &[u8]) -> Option<&[u8]>
         .find(|line| !stands_before_uris(line))
 }
 
-/// Tells whether octets look like a locator, be they one or not: the first line behind comments and empty
-/// lines begins as a URI.
+/// Returns whether bytes look like a TAL, whether they are one or not: the first line after
+/// comments and empty lines starts with a URI.
 pub fn looks_like_locator(octets: &[u8]) -> bool
     ensures { result ≡ looks_like_locator octets.now }
 {

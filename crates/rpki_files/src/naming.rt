@@ -1,4 +1,4 @@
-//! Whether what a fault of reading names is true of the place where reading stops.
+//! Whether an error of reading is true of the place where reading stops.
 ghost use Rattle.std.specs.Prelude.{◌≡◌, ◌≤◌, ◌↔◌, ℕ, List, true, IfOk, IsTrue, MatchOption, drop, length};
 ghost use Rattle.rpki_der.specs.Encoding.{Means};
 ghost use Rattle.rpki_der.specs.Extensions.{Extension, IsExtension};
@@ -307,7 +307,7 @@ fn begins_truly(fault: &DecodeError, part: Part, octets: &Bytes, is_list: bool) 
     names_truly(fault, part, &at, is_list)
 }
 
-/// Tells whether what a fault names is true of this part, which begins at this octet.
+/// Returns whether an error of reading is true of this part, which starts at this byte.
 pub(crate) fn holds_at(
     fault: &DecodeError,
     part: Part,

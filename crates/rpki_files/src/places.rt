@@ -1,4 +1,4 @@
-//! Where the reading of a file stops.
+//! The place where the reading of a file stops.
 ghost use Rattle.std.specs.Prelude.{◌≡◌, ◌≢◌, ◌≤◌, ◌<◌, ◌↔◌, ◌++◌, ◌∷◌, ◌+◌, false, true, false, List, [], drop, length, map, Contains, IfErr, IfOk, IsErr, IsTrue, MatchResult, OnOk};
 ghost use Rattle.rpki_parts.specs.Algorithms.{Algorithm};
 ghost use Rattle.rpki_der.specs.declared.error.DecodeError.TheVariants as decoding;
@@ -27,14 +27,14 @@ use rpki_parts::comparing::equal_algorithms;
 use rpki_parts::{Name, PublicKey, RpkiSignatureAlgorithm, Validity};
 use std::alloc::{AllocError, Global};
 
-/// The part at which reading stops, the octet of the file at which it stops, what is wanted there,
-/// and what is found.
+/// The part at which reading stops, the offset in the file at which it stops, what is expected
+/// there, and what is found.
 #[derive(Clone, Copy)]
 pub struct Place {
     pub field: &'static str,
     pub octet: usize,
     pub wanted: &'static str,
-    /// The first flaw of the octets from there on.
+    /// The first flaw of the bytes from there on.
     pub found: Option<Flaw>,
 }
 
@@ -618,9 +618,12 @@ fn stop_in(alloc: Global, octets: &Bytes, is_list: bool) -> Result<(Part, usize)
     }
 }
 
-/// Tells where the reading of octets as a certificate, or as a list, stops: the first part that has
-/// not the form that it must have, or else the signature. Tells what is wanted and what is found
-/// there. Errs only where memory runs out.
+/// Finds the place where reading bytes as a certificate or as a CRL stops: the first part that
+/// doesn't have its form, or else the signature. Returns what is expected there and what is found.
+///
+/// # Errors
+///
+/// Returns an error only if memory runs out.
 pub(crate) fn stop_of(
     alloc: Global,
     octets: &Bytes,

@@ -1,5 +1,5 @@
-//! The extensions of octets that are built as a certificate is, and whether Certificate Policies
-//! are among them.
+//! The extensions of bytes that are built like a certificate, and whether Certificate Policies are
+//! among them.
 ghost use Rattle.std.specs.Prelude.{◌≡◌, ◌↔◌, IsTrue, option_map};
 ghost use Rattle.rpki_der.specs.Encoding.{Means};
 ghost use Rattle.rpki_der.specs.Place.{remaining};
@@ -39,7 +39,7 @@ fn past_fields(fields: &mut Cursor<'_>) -> Option<()>
     Some(())
 }
 
-/// Returns a cursor over the extensions of octets that are built as a certificate is, if they are.
+/// Returns a cursor over the extensions of bytes that are built like a certificate, if they are.
 #[tactic(auto, unfolding(crate::specs::PolicyPresence::Reading::extensions_at))]
 pub fn extensions_in(octets: &Bytes) -> Option<Cursor<'_>>
     ensures { option_map remaining result ≡ extensions_at octets.now }
@@ -190,8 +190,8 @@ pub(crate) fn lack(elements: &Cursor<'_>, wanted: Wanted) -> bool
     are_extensions(elements) && !begins_with_one(elements, wanted)
 }
 
-/// Returns whether an extension with the identifier of Certificate Policies stands among those at
-/// the front of a certificate's, be it one of the profile or not.
+/// Returns whether the extensions at the start of a certificate's have one with the identifier of
+/// Certificate Policies (RFC 5280 4.2.1.4), whether it is of the profile or not.
 pub fn has_policies(octets: &Bytes) -> bool
     ensures { IsTrue result ↔ HasPolicies octets.now }
 {
@@ -203,8 +203,8 @@ pub fn has_policies(octets: &Bytes) -> bool
     }
 }
 
-/// Returns whether an extension with the identifier of Extended Key Usage stands among those at the
-/// front of a certificate's.
+/// Returns whether the extensions at the start of a certificate's have one with the identifier of
+/// Extended Key Usage (RFC 5280 4.2.1.12).
 pub fn has_purposes(octets: &Bytes) -> bool
     ensures { IsTrue result ↔ HasPurposes octets.now }
 {
@@ -218,8 +218,9 @@ pub fn has_purposes(octets: &Bytes) -> bool
     }
 }
 
-/// Returns whether octets are built as a certificate is, whose extensions are well formed, and none
-/// of them is one that only certificates of the RPKI have: resources, or its one policy.
+/// Returns whether bytes are built like a certificate with well-formed extensions, none of which is
+/// one that only certificates of the RPKI have: resources, or the RPKI's policy (RFC 3779, RFC
+/// 6484).
 pub fn is_other_certificate(octets: &Bytes) -> bool
     ensures { IsTrue result ↔ IsOtherCertificate octets.now }
 {

@@ -1,4 +1,4 @@
-//! What a fault means for a person, and the section of the standard that it breaks.
+//! What an error means for a person, and the section of the standard that it breaks.
 ghost use Rattle.std.specs.Prelude.{◌≡◌};
 ghost use Rattle.rpki_files.specs.FaultTable.{fault_fields};
 ghost use Rattle.rpki_files.specs.FaultRules.{IsFileRule, IsProfileRule, IsReadingRule, field_section, inspection_rule, key_rule, list_rule, name_rule, no_memory, no_resources, other_key, profile_rule, reading_rule, revocation_rule, fault_rule, rule_of, tal_rule, verification_rule};
@@ -12,7 +12,7 @@ use rpki_der::{DecodeError, Field};
 use rpki_keys::tal::TalError;
 use rpki_parts::PublicKeyFormat;
 
-/// A sentence, and the section that asks it.
+/// A sentence, and the section that requires it.
 #[derive(Clone, Copy)]
 pub struct Rule {
     pub says: &'static str,
@@ -44,14 +44,14 @@ fn rule_in(fault: &Fault) -> Rule
     meaning(fault.says, fault.section)
 }
 
-/// Tells what it means that memory ran out.
+/// Returns what it means that memory ran out.
 pub fn out_of_memory() -> Rule
     ensures { rule_of result ≡ no_memory }
 {
     rule_in(faults::named(FaultKind::General, "Memory"))
 }
 
-/// Tells what a fault of inspection means.
+/// Returns what an error of inspection means.
 pub fn of_inspection(fault: InspectionError) -> Rule
     ensures { rule_of result ≡ inspection_rule fault }
 {
@@ -71,42 +71,42 @@ fn of_profile(fault: InspectionError, purposes: bool) -> Rule
     }
 }
 
-/// Tells what a fault of inspection of the certificate with which these octets begin means.
+/// Returns what an error of inspection means for the certificate at the start of these bytes.
 pub fn of_inspected(fault: InspectionError, octets: &Bytes) -> Rule
     ensures { IsProfileRule fault octets.now (rule_of result) }
 {
     of_profile(fault, has_purposes(octets))
 }
 
-/// Tells what a fault of verification means.
+/// Returns what an error of verification means.
 pub fn of_verification(fault: &VerificationError) -> Rule
     ensures { rule_of result ≡ verification_rule fault.now }
 {
     rule_in(faults::of_verification(fault))
 }
 
-/// Tells what it means that no locator that is given has the trust anchor's key.
+/// Returns what it means that no given TAL has the trust anchor's key (RFC 8630 3).
 pub fn of_other_key() -> Rule
     ensures { rule_of result ≡ other_key }
 {
     rule_in(faults::named(FaultKind::Path, "OtherKey"))
 }
 
-/// Tells what it means that a trust anchor lists no number.
+/// Returns what it means that a trust anchor lists no resources (RFC 8630 2.3).
 pub fn of_no_resources() -> Rule
     ensures { rule_of result ≡ no_resources }
 {
     rule_in(faults::named(FaultKind::Path, "NoResources"))
 }
 
-/// Tells what is wrong of a file that is given as a locator.
+/// Returns what is wrong with a file that is given as a TAL.
 pub fn of_tal(fault: &TalError) -> Rule
     ensures { rule_of result ≡ tal_rule fault.now }
 {
     rule_in(faults::of_locator(fault))
 }
 
-/// Tells what it means that the names of the member at this place don't chain.
+/// Returns what it means that name chaining fails at this path index (RFC 5280 6.1.3 (a) (4)).
 pub fn of_name(place: usize) -> Rule
     ensures { rule_of result ≡ name_rule place }
 {
@@ -119,14 +119,14 @@ pub fn of_name(place: usize) -> Rule
     rule_in(faults::named(FaultKind::Path, "OtherName"))
 }
 
-/// Tells what a fault of revocation means.
+/// Returns what an error of revocation means.
 pub fn of_revocation(fault: &RevocationError) -> Rule
     ensures { rule_of result ≡ revocation_rule fault.now }
 {
     rule_in(faults::of_revocation(fault))
 }
 
-/// Tells why a last member's key of this algorithm can't be used.
+/// Returns why the last certificate's key, which has this algorithm, can't be used (RFC 7935 3).
 pub fn of_key(algorithm: PublicKeyFormat) -> Rule
     ensures { rule_of result ≡ key_rule algorithm }
 {
@@ -164,7 +164,7 @@ fn of_certificate(fault: &DecodeError, policies: bool) -> Rule
     }
 }
 
-/// Tells what a fault of reading a certificate in these octets means.
+/// Returns what an error of reading a certificate in these bytes means.
 pub fn of_reading(fault: &DecodeError, octets: &Bytes) -> Rule
     ensures { IsReadingRule fault.now octets.now (rule_of result) }
 {
@@ -186,7 +186,7 @@ fn of_list(fault: &DecodeError) -> Rule
     }
 }
 
-/// Tells what a fault of reading a file means, which looks like a list, or doesn't.
+/// Returns what an error of reading a file means, which looks like a CRL, or doesn't.
 pub fn of_file(fault: &DecodeError, octets: &Bytes, is_list: bool) -> Rule
     ensures { IsFileRule is_list fault.now octets.now (rule_of result) }
 {

@@ -1,4 +1,4 @@
-//! The sorts of files that are often given for certificates or lists, and what is said of them.
+//! The sorts of files that are often given in place of certificates or CRLs, with their texts.
 ghost use Rattle.std.specs.Prelude.{◌≡◌, ◌↔◌, option_map, IfOk, IsTrue};
 ghost use Rattle.rpki_der.specs.Place.{remaining};
 ghost use Rattle.rpki_files.specs.FileSorts.{BeginSo, IsOfSort, IsSortOf, type_octets};
@@ -12,19 +12,19 @@ use bytes::Bytes;
 use rpki_der::{Cursor, tag};
 use std::alloc::{AllocError, Global};
 
-/// A sort of file that holds neither a certificate of the RPKI nor a revocation list.
+/// A sort of file that is neither a certificate of the RPKI nor a CRL.
 #[derive(Clone, Copy)]
 pub enum Sort {
     Empty,
     /// Base64 without the lines of PEM around it.
     Base64,
-    /// PEM in which several objects begin.
+    /// PEM in which several objects start.
     SeveralPem,
     /// PEM whose object has no end.
     UnendedPem,
     /// PEM whose object isn't base64.
     DamagedPem,
-    /// A trust anchor locator, or what looks like one.
+    /// A TAL, or a file that looks like one.
     Locator,
     /// A signed object that is a route origin authorization.
     Roa,
@@ -44,7 +44,7 @@ pub enum Sort {
     PublicKey,
     /// A certification request of PKCS #10.
     Request,
-    /// A certificate of version 1, which is the one that stands nowhere.
+    /// A certificate of version 1, which has no version field.
     Version1,
     /// A certificate with extensions, but without resources and without the RPKI's policy.
     OtherCertificate,
@@ -251,9 +251,12 @@ fn is_of_sort(alloc: Global, octets: &Bytes, sort: Sort) -> Result<bool, AllocEr
     }
 }
 
-/// Finds the sort of a file with these octets: the first one, in the order of [`Sort`], that they
-/// are of. There is none where they are of no such sort. Takes time linear in the octets. Errs only
-/// where memory runs out.
+/// Finds the sort of a file with these bytes: the first sort, in the order of [`Sort`], that they
+/// are of. Returns `None` if they are of none. The time is linear in the number of bytes.
+///
+/// # Errors
+///
+/// Returns an error only if memory runs out.
 pub fn sort_of(alloc: Global, octets: &Bytes) -> Result<Option<Sort>, AllocError>
     ensures { IfOk result (IsSortOf octets.now) }
 {
@@ -266,8 +269,8 @@ pub fn sort_of(alloc: Global, octets: &Bytes) -> Result<Option<Sort>, AllocError
     Ok(None)
 }
 
-/// What is said of a sort: its name, what it is for a reader who wants a certificate, the section
-/// that says what files of the sort are, and what to do.
+/// The texts of a sort: its name, what it is for a reader who expects a certificate, the section
+/// that defines such files, and what to do.
 #[derive(Clone, Copy)]
 pub struct Description {
     pub name: &'static str,
@@ -290,7 +293,7 @@ macro_rules! descriptions {
     };
 }
 
-/// Tells what is said of a sort.
+/// Returns the texts of a sort.
 pub fn describe(sort: Sort) -> Description
     ensures name { result.name.now ≡ (description sort).name }
     ensures says { result.says.now ≡ (description sort).says }

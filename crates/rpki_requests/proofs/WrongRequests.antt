@@ -2,11 +2,12 @@
 use Rattle.rpki_requests.specs.RequestMisuses.{HasWrongCount, IsReason}
 use Rattle.rpki_requests.specs.RequestWords.{AskedFields}
 use Rattle.rpki_requests.specs.declared.words.Misuse.{Misuse}
-use Rattle.rpki_requests.specs.declared.words.Misuse.TheVariants.{NoErrand, Unknown, NoValue, Unsuited, UnsuitedSwitch, Missing, Repeated, Files, Memory}
+use Rattle.rpki_requests.specs.declared.words.Misuse.TheVariants.{NoErrand, UnknownErrand, Unknown, NoValue, Unsuited, UnsuitedSwitch, Missing, Repeated, Files, Memory}
 
 -- what is told of an option that stands so often is a reason
 pub reason_of : (misuse : Misuse) (asked : AskedFields) → HasWrongCount misuse asked → IsReason misuse asked
 reason_of NoErrand asked h = h
+reason_of (UnknownErrand word) asked h = h
 reason_of (Unknown word) asked h = h
 reason_of (NoValue setting) asked h = h
 reason_of (Unsuited setting) asked h = h

@@ -1,5 +1,6 @@
 -- The definitions that the contracts of requests cite.
 pub mod RequestWords
+pub mod ExpectedValues
 pub mod RequestMisuses
 pub mod OptionValues
 pub mod RequestFiles

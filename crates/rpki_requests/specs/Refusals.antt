@@ -1,6 +1,6 @@
 -- Why a request gives nothing, and what is said of it (own).
-use Rattle.std.specs.Prelude.{◌≢◌, ℕ, List, ◌++◌, Result, Ok, Err, codes}
-use Rattle.std.specs.Fmt.{decimal}
+use Rattle.std.specs.List.{flat_map}
+use Rattle.std.specs.Prelude.{◌≢◌, ℕ, List, [], ◌++◌, get_or, Result, Ok, Err, codes}
 use Rattle.rpki_ext.specs.Inspection.{inspection_error_name}
 use Rattle.rpki_issuing.specs.declared.issuing_error.IssuingError.{IssuingError}
 use Rattle.rpki_issuing.specs.declared.issuing_error.IssuingError.TheVariants as issuing
@@ -22,9 +22,13 @@ use Rattle.rpki_issuing.specs.declared.wanted.preparing.WantedError.TheVariants 
 use Rattle.rpki_issuing.specs.declared.wanted.rules.IssuingRule.{IssuingRule}
 use Rattle.rpki_issuing.specs.declared.wanted.rules.IssuingRule.TheVariants.{ZeroSerial, EarlyValidity, IssuerKey}
 use Rattle.rpki_requests.specs.RequestFiles.{IsNoAuthority, IsNoListAt, chained}
-use Rattle.rpki_requests.specs.RequestWords.{setting_name}
+use Rattle.rpki_requests.specs.ExpectedValues.{expected_value, value_kind}
+use Rattle.rpki_requests.specs.RequestWords.{AskedFields, setting_name, values_of}
 use Rattle.rpki_requests.specs.declared.refusals.Refusal.{Refusal}
 use Rattle.rpki_requests.specs.declared.refusals.Refusal.TheVariants.{Value, NoKey, UnusedKey, Rejected, NoAuthority, OtherCrl, NoIssuer, OtherList, OtherCertificate, NoName, Files, NotToSign, OtherName, Unfit, Memory}
+use Rattle.rpki_requests.specs.declared.words.Setting.{Setting}
+use Rattle.rpki_requests.specs.declared.words.Setting.TheVariants.{Issuer, Key, Crl, Previous, Revoke}
+use Rattle.rpki_text.specs.Pages.{characters_text}
 
 -- ---- when one comes
 
@@ -113,33 +117,66 @@ wanted_text (wanted.UnreadyList e) = list_text e
 wanted_text (wanted.UnsignedList e) = list_text e
 wanted_text wanted.Memory = codes "out of memory"
 
--- of the issuer's path the member that is wrong, the step, and why
-abbrev pub path_text : Fault → List ℕ
-path_text fault =
+-- the words of a request that a refusal is about: the values of an option, or the files
+abbrev pub words_about : AskedFields → Refusal → List (List ℕ)
+words_about asked (Value setting) = values_of setting asked.given
+words_about asked NoKey = values_of Key asked.given
+words_about asked (UnusedKey format) = []
+words_about asked (Rejected fault) = values_of Issuer asked.given
+words_about asked NoAuthority = values_of Issuer asked.given
+words_about asked (OtherCrl place) = values_of Crl asked.given
+words_about asked NoIssuer = []
+words_about asked OtherList = values_of Previous asked.given
+words_about asked (OtherCertificate place) = values_of Revoke asked.given
+words_about asked NoName = []
+words_about asked Files = asked.files
+words_about asked NotToSign = asked.files
+words_about asked (OtherName place) = []
+words_about asked (Unfit e) = []
+words_about asked Memory = []
+
+-- a word behind a space
+abbrev pub spaced : List ℕ → List ℕ
+spaced word = codes " " ++ characters_text word
+
+-- an option and these words
+abbrev pub given_text : Setting → List (List ℕ) → List ℕ
+given_text setting words = setting_name setting ++ flat_map spaced words
+
+-- an option and the word at this place
+abbrev pub given_at : Setting → List (List ℕ) → ℕ → List ℕ
+given_at setting words place = setting_name setting ++ spaced (get_or words place [])
+
+-- of the issuer's path the file that is rejected, the step, and why
+abbrev pub path_text : List (List ℕ) → Fault → List ℕ
+path_text words fault =
     let why = fault.step.now ++ (codes ", " ++ fault_text fault.name.now (rule_of fault.rule)) in
-    codes "issuer " ++ (decimal fault.index ++ (codes " is rejected at " ++ why))
+    given_at Issuer words fault.index ++ (codes ": rejected at " ++ why)
 
--- why a file that is given as a list is none, and what to do
-abbrev pub other_crl : List ℕ
-other_crl =
-    codes " of --crl is no revocation list, or octets stand behind it: give each list in a file of its own"
-
-abbrev pub refusal_text : Refusal → List ℕ
-refusal_text (Value setting) = setting_name setting ++ codes " has no value that it takes"
-refusal_text NoKey = codes "the key's file is no public key"
-refusal_text (UnusedKey format) = fault_text (codes "BadKey") (key_rule format)
-refusal_text (Rejected fault) = path_text fault
-refusal_text NoAuthority = codes "the last issuer is no CA"
-refusal_text (OtherCrl place) =
-    codes "file " ++ (decimal place ++ other_crl)
-refusal_text NoIssuer = codes "a revocation list has an issuer"
-refusal_text OtherList = codes "the previous list isn't one that the issuer signed"
-refusal_text (OtherCertificate place) =
-    codes "file " ++ (decimal place ++ codes " of --revoke isn't a certificate of the issuer")
-refusal_text NoName = codes "the subject would have no name"
-refusal_text Files = codes "complete takes two files"
-refusal_text NotToSign =
-    codes "the first file isn't what is to be signed of a certificate or a list"
-refusal_text (OtherName place) = fault_text (codes "OtherName") (name_rule place)
-refusal_text (Unfit e) = wanted_text e
-refusal_text Memory = codes "out of memory"
+-- why a request gives nothing, where it is about these words, and what is expected
+abbrev pub refusal_text : List (List ℕ) → Refusal → List ℕ
+refusal_text words (Value setting) =
+    given_text setting words
+    ++ (codes ": not " ++ (value_kind setting ++ (codes "; expected " ++ expected_value setting)))
+refusal_text words NoKey =
+    given_text Key words ++ codes ": not a public key; expected a SubjectPublicKeyInfo, in DER or PEM"
+refusal_text words (UnusedKey format) = fault_text (codes "BadKey") (key_rule format)
+refusal_text words (Rejected fault) = path_text words fault
+refusal_text words NoAuthority =
+    given_text Issuer words ++ codes ": the last certificate is not a CA's; expected a CA's"
+refusal_text words (OtherCrl place) =
+    given_at Crl words place ++ codes ": not a CRL, or bytes follow it; expected one CRL in each file"
+refusal_text words NoIssuer = codes "--issuer: missing; expected the path of the CRL's issuer"
+refusal_text words OtherList =
+    given_text Previous words ++ codes ": not a CRL that the issuer signed; expected the issuer's last one"
+refusal_text words (OtherCertificate place) =
+    given_at Revoke words place
+    ++ codes ": not a certificate of the issuer; expected one that names the issuer's key"
+refusal_text words NoName = codes "the subject would have no name"
+refusal_text words Files = codes "wrong number of files; expected PREPARED and SIGNATURE"
+refusal_text words NotToSign =
+    characters_text (get_or words 0 [])
+    ++ codes ": not a TBSCertificate or TBSCertList; expected what `rpki prepare` writes"
+refusal_text words (OtherName place) = fault_text (codes "OtherName") (name_rule place)
+refusal_text words (Unfit e) = wanted_text e
+refusal_text words Memory = codes "out of memory"

@@ -3,12 +3,13 @@
 use Rattle.std.specs.Prelude.{◌≡◌, ◌≢◌, ◌≤◌, ◌⊎◌, ℕ, List, [], ◌∷◌, ◌++◌, length, map, fold, true, false, codes}
 use Rattle.rpki_text.specs.Pages.{characters_text}
 use Rattle.rpki_text.specs.WordParts.{AreInOrder, IsFirstWrong, IsOption, Joins, words_before, words_behind}
+use Rattle.rpki_requests.specs.ExpectedValues.{expected_value}
 use Rattle.rpki_requests.specs.RequestWords.{AskedFields, IsRequestPart, RequestPart, demand, errand_words, file, files_wanted, only_errand, setting_name, switch_name, takes, values_of, with_part}
 use Rattle.rpki_requests.specs.declared.words.Demand.{Demand}
 use Rattle.rpki_requests.specs.declared.words.Demand.TheVariants.{Never, AtMostOnce, Once, AtLeastOnce}
 use Rattle.rpki_requests.specs.declared.words.Errand.{Errand}
 use Rattle.rpki_requests.specs.declared.words.Misuse.{Misuse}
-use Rattle.rpki_requests.specs.declared.words.Misuse.TheVariants.{NoErrand, Unknown, NoValue, Unsuited, UnsuitedSwitch, Missing, Repeated, Files, Memory}
+use Rattle.rpki_requests.specs.declared.words.Misuse.TheVariants.{NoErrand, UnknownErrand, Unknown, NoValue, Unsuited, UnsuitedSwitch, Missing, Repeated, Files, Memory}
 use Rattle.rpki_requests.specs.declared.words.Setting.{Setting}
 use Rattle.rpki_requests.specs.declared.words.Switch.{Switch}
 use Rattle.rpki_requests.specs.declared.words.Switch.TheVariants.{Trim, Pem}
@@ -19,7 +20,7 @@ use Rattle.rpki_requests.specs.declared.words.Switch.TheVariants.{Trim, Pem}
 -- none of those that name what is asked
 abbrev pub IsNoErrand : Misuse → List (List ℕ) → Type 0
 IsNoErrand NoErrand words = (words ≡ []) ⊎ (words ≡ codes "prepare" ∷ [])
-IsNoErrand (Unknown word) words =
+IsNoErrand (UnknownErrand word) words =
     ((rest : List (List ℕ)) × (words ≡ word.now ∷ rest)
     × (word.now ≢ codes "prepare") × (word.now ≢ codes "complete"))
     ⊎ ((rest : List (List ℕ)) × (words ≡ codes "prepare" ∷ word.now ∷ rest)
@@ -89,15 +90,27 @@ IsMisuse misuse words =
 
 -- ---- what is said of it
 
--- what is wrong first: nothing is named; a word is unknown; an option has no value, doesn't belong
--- to what is asked, is missing or stands twice; there are too few files, or too many
+-- what can be prepared
+abbrev pub kinds : List ℕ
+kinds = codes "ca, ee, detached, router, anchor or list"
+
+-- that there is no such option, or that what is asked doesn't take it
+abbrev pub no_option : List ℕ
+no_option = codes ": not an option of this command"
+
+-- what is wrong first, and what is expected
 abbrev pub misuse_text : Misuse → List ℕ
-misuse_text NoErrand = codes "nothing is named that is to be prepared"
-misuse_text (Unknown word) = codes "unknown: " ++ characters_text word.now
-misuse_text (NoValue setting) = setting_name setting ++ codes " wants a value"
-misuse_text (Unsuited setting) = setting_name setting ++ codes " doesn't belong here"
-misuse_text (UnsuitedSwitch given) = switch_name given ++ codes " doesn't belong here"
-misuse_text (Missing setting) = setting_name setting ++ codes " is missing"
-misuse_text (Repeated setting) = setting_name setting ++ codes " stands twice"
-misuse_text Files = codes "prepare takes no file, and complete takes two"
+misuse_text NoErrand = codes "nothing to prepare; expected " ++ kinds
+misuse_text (UnknownErrand word) =
+    characters_text word.now ++ (codes ": unknown kind; expected " ++ kinds)
+misuse_text (Unknown word) = characters_text word.now ++ no_option
+misuse_text (NoValue setting) =
+    setting_name setting ++ (codes ": no value; expected " ++ expected_value setting)
+misuse_text (Unsuited setting) = setting_name setting ++ no_option
+misuse_text (UnsuitedSwitch given) = switch_name given ++ no_option
+misuse_text (Missing setting) =
+    setting_name setting ++ (codes ": missing; expected " ++ expected_value setting)
+misuse_text (Repeated setting) = setting_name setting ++ codes ": given more than once; expected once"
+misuse_text Files =
+    codes "wrong number of files; expected PREPARED and SIGNATURE for complete, none for prepare"
 misuse_text Memory = codes "out of memory"

@@ -1,4 +1,4 @@
-//! What a request gives: the octets that are to be signed, or a certificate or a revocation list.
+//! What a request makes: the to-be-signed bytes, or a certificate or a CRL.
 ghost use Rattle.std.specs.Prelude.{◌≡◌, ◌≢◌, ◌⊎◌, ◌↔◌, ℕ, List, [], ◌∷◌, option_map, Option, IfErr, IfOk, IsTrue, MatchOption};
 ghost use Rattle.rpki_files.specs.Files.{contents};
 ghost use Rattle.rpki_crl.specs.Lists.{IsTbsCertList};
@@ -36,8 +36,8 @@ use std::alloc::Global;
 use std::marker::Model;
 
 /// The files that a request names, as they were read: those of the issuer's path, from the trust
-/// anchor down, the lists that it is judged with, those of the subject's key, of the issuer's list
-/// before, of the certificates that are revoked, and the others.
+/// anchor down, the CRLs that it is validated with, the file of the subject's key, the issuer's
+/// previous CRL, the certificates to be revoked, and the others.
 #[derive(Drop)]
 pub struct Inputs<'f, 'n> {
     pub issuers: &'f [Object<'n>],
@@ -64,14 +64,14 @@ impl<'f, 'n> Model for Inputs<'f, 'n> {
     } };
 }
 
-/// What a request gives.
+/// The result of a request.
 #[derive(Drop)]
 pub enum Made {
-    /// The octets that are to be signed.
+    /// The to-be-signed bytes: a TBSCertificate or a TBSCertList, in DER.
     ToSign(Bytes),
     /// A certificate, in DER.
     Certificate(Bytes),
-    /// A revocation list, in DER.
+    /// A CRL, in DER.
     RevocationList(Bytes),
 }
 
@@ -535,10 +535,19 @@ fn completed(
     made
 }
 
-/// Fulfils a request by the files that it names, at a moment: prepares what is to be signed, or
-/// completes it by its signature. What is completed is accepted at that moment, by the same files: a
-/// certificate as the last one of the issuer's path, a list as one that answers for its issuer
-/// (`accepted`).
+/// Fulfils a request with the files that it names, at this time: prepares the to-be-signed bytes,
+/// or completes them with their signature. A completed certificate or CRL is accepted at this time
+/// with the same files: the certificate as the last of the issuer's path, the CRL as one that
+/// answers for its issuer (`accepted`).
+///
+/// # Errors
+///
+/// Returns why the request is refused, and `Memory`.
+///
+/// # Not checked
+///
+/// When a certificate or CRL is prepared: whether the signer has the key. Completion verifies the
+/// signature.
 pub fn fulfil(
     alloc: Global,
     order: &Order<'_>,

@@ -1,4 +1,4 @@
-//! Who issues: the last of the CAs of a path.
+//! The issuer: the last of the CAs of a path.
 ghost use Rattle.std.specs.Prelude.{◌≡◌, ◌≢◌, All, Option, None, IfErr, IfOk, MatchOption};
 ghost use Rattle.rpki_keys.specs.RsaSignatures.{IsSignedByRsa};
 ghost use Rattle.rpki_cert.specs.Verification.{ResourceFields, context};
@@ -90,9 +90,14 @@ fn issuer_of_path(
     }
 }
 
-/// Returns the CA that the path of these files ends in, and what it holds, where each file that is
-/// given as a list is one, with nothing behind it. The path is judged with real signatures and with
-/// these lists, and its names have to chain. Gives `None` where there is no file.
+/// Returns the CA in which the path of these files ends, with the resources that it holds, or
+/// `None` if there is no file. The path is validated with real signatures, with the given CRLs and
+/// with name chaining.
+///
+/// # Errors
+///
+/// Returns why the path is rejected, or that a file given as a CRL isn't one or is followed by
+/// other bytes, and `Memory`.
 pub(crate) fn issuer_of(
     alloc: Global,
     files: &[Object<'_>],

@@ -1,4 +1,4 @@
-//! The keys of a request's files, which the RPKI uses: the subject's, and that of what is signed.
+//! The keys in a request's files, which have to be keys that the RPKI uses.
 ghost use Rattle.std.specs.Prelude.{◌≡◌, IfErr, IfOk};
 ghost use Rattle.rpki_cert.specs.Certificates.{IsTbsCertificate};
 ghost use Rattle.rpki_keys.specs.KeyForms.{IsUsableKey};
@@ -50,7 +50,12 @@ fn read_key(alloc: Global, octets: &Bytes) -> Result<PublicKey, Refusal>
     }
 }
 
-/// Returns the key that the one file is, which has to be one that the RPKI uses.
+/// Returns the subject's key that the only file has, which has to be a key that the RPKI uses (RFC
+/// 7935 3).
+///
+/// # Errors
+///
+/// Returns why there is no such key, and `Memory`.
 pub(crate) fn subject_key(alloc: Global, files: &[Object<'_>]) -> Result<PublicKey, Refusal>
     ensures { let files = contents files.now in
         AnswersOnly (IsKeyFault files) (IsKeyFile files) result }
@@ -88,7 +93,12 @@ fn read_data(alloc: Global, octets: &Bytes) -> Result<TbsCert, Refusal>
     }
 }
 
-/// Returns the fields of what is to be signed, whose key has to be one that the RPKI uses.
+/// Returns the fields of the TBSCertificate in these bytes, whose key has to be one that the RPKI
+/// uses (RFC 7935 3).
+///
+/// # Errors
+///
+/// Returns why there are no such fields, and `Memory`.
 pub(crate) fn to_sign(alloc: Global, octets: &Bytes) -> Result<TbsCert, Refusal>
     ensures { AnswersOnly (IsDataFault octets.now) (λ f. IsToSign f octets.now) result }
 {

@@ -1,7 +1,8 @@
-//! Certificates and revocation lists whose keys lie elsewhere: what is asked to be prepared for
-//! signing, or to be completed once it is signed, and what that gives.
+//! Certificates and CRLs whose keys are elsewhere: the requests to prepare them for signing, or to
+//! complete them with a signature, and the results.
 #![tactic(auto)]
 
+mod expected;
 mod fulfilling;
 mod issuers;
 mod keys;
@@ -11,7 +12,7 @@ mod values;
 mod words;
 
 pub use fulfilling::{Inputs, Made, fulfil};
-pub use refusals::Refusal;
+pub use refusals::{Refusal, ToldRefusal, words_about};
 pub use values::named_moment;
 pub use words::{
     Demand, Errand, Given, Misuse, Order, Setting, Switch, asks_help, demand_of, is_request,

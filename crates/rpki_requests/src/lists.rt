@@ -1,4 +1,4 @@
-//! The revocation list that options and files ask for, and the one that is completed.
+//! The CRL that options and files request, and the CRL that is completed.
 ghost use Rattle.std.specs.List.{AllZip};
 ghost use Rattle.std.specs.Prelude.{◌≡◌, ◌↔◌, ◌≤◌, ◌++◌, ◌∷◌, [], length, map, option_map, Some, IfErr, IfOk, IsTrue, MatchOption, OnOk};
 ghost use Rattle.rpki_cert.specs.Certificates.{CertFields, IsCertificate};
@@ -256,7 +256,11 @@ fn wanted_list(
     })
 }
 
-/// Returns the fields of the list that options and files ask for below the issuer.
+/// Returns the fields of the CRL that options and files request below the issuer (RFC 6487 5).
+///
+/// # Errors
+///
+/// Returns why the request is refused, and `Memory`.
 pub(crate) fn list_asked(
     alloc: Global,
     order: &Order<'_>,
@@ -281,7 +285,11 @@ pub(crate) fn list_asked(
     }
 }
 
-/// Returns the fields of the TBSCertList that the octets are, if they are one.
+/// Returns the fields of the TBSCertList that the bytes are, or `None` if they aren't one.
+///
+/// # Errors
+///
+/// Returns an error only if memory runs out.
 pub(crate) fn list_to_sign(
     alloc: Global,
     octets: &Bytes,

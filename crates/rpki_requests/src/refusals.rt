@@ -1,53 +1,59 @@
-//! Why a request gives nothing.
-ghost use Rattle.std.specs.Prelude.{◌≡◌, Some};
+//! Why a request is refused.
+ghost use Rattle.std.specs.List.{flat_map};
+ghost use Rattle.std.specs.Prelude.{◌≡◌, ◌++◌, [], Some, get_or, map, IfOk};
 ghost use Rattle.std.specs.Fmt.{WritesOnOk};
 ghost use Rattle.rpki_crl.specs.Revocation.{revocation_error_name};
 ghost use Rattle.rpki_files.specs.FaultRules.{revocation_rule, rule_of};
-ghost use Rattle.rpki_requests.specs.Refusals.{fault_text, issuing_text, list_text, next_text, path_text, refusal_text, rule_text, wanted_text};
+ghost use Rattle.rpki_requests.specs.Refusals.{fault_text, given_at, given_text, issuing_text, list_text, next_text, path_text, refusal_text, rule_text, spaced, wanted_text, words_about};
+ghost use Rattle.rpki_requests.specs.RequestWords.Views.{asked_fields};
 ghost use Rattle.rpki_requests.specs.declared.refusals.Refusal.TheVariants.{Memory};
 
-use crate::words::Setting;
+use crate::words::{Order, Setting};
 use rpki_cert::ValidationError;
 use rpki_crl::RevocationError;
 use rpki_files::rules::{Rule, of_inspection, of_key, of_name, of_revocation, of_verification};
 use rpki_issuing::wanted::{IssuingRule, WantedError};
 use rpki_issuing::{IssuingError, ListError, NextListError};
 use rpki_parts::PublicKeyFormat;
+use rpki_text::Characters;
 use rpki_verdicts::Fault;
-use std::alloc::AllocError;
+use std::alloc::{AllocError, Global};
 use std::fmt;
 
-/// Why a request gives nothing.
+/// Why a request is refused.
 #[derive(Drop)]
 pub enum Refusal {
-    /// The option isn't given a value that it takes, or is given several where it takes one.
+    /// The option's value isn't one that it accepts, or the option is given several values and
+    /// accepts one.
     Value(Setting),
     /// The file of the subject's key isn't a SubjectPublicKeyInfo.
     NoKey,
-    /// The RPKI doesn't use the key of the certificate.
+    /// The RPKI doesn't use the certificate's key (RFC 7935 3, RFC 8608 3.1).
     UnusedKey(PublicKeyFormat),
     /// The issuer's path is rejected.
     Rejected(Fault),
-    /// The last member of the issuer's path isn't a CA.
+    /// The last certificate of the issuer's path isn't a CA's.
     NoAuthority,
-    /// The file that is given as a list for the issuer's path, at this place, is none, or octets
-    /// stand behind it.
+    /// The file at this index that is given as a CRL for the issuer's path isn't a CRL, or other
+    /// bytes follow it.
     OtherCrl(usize),
-    /// A revocation list has no issuer.
+    /// A CRL is requested without an issuer.
     NoIssuer,
-    /// The previous list isn't one that the issuer's key signed.
+    /// The previous CRL isn't one that the issuer's key signed.
     OtherList,
-    /// What is to be revoked, at this place, isn't a certificate that names the issuer's key.
+    /// The file at this index that is to be revoked isn't a certificate that names the issuer's
+    /// key.
     OtherCertificate(usize),
     /// The subject would have no name.
     NoName,
-    /// There aren't two files to be completed.
+    /// The number of files to be completed isn't two.
     Files,
-    /// The first of them is neither a TBSCertificate nor a TBSCertList.
+    /// The first of the two files is neither a TBSCertificate nor a TBSCertList.
     NotToSign,
-    /// The name of its issuer isn't that of the certificate above, if there is one, or its own.
+    /// The issuer's name in the first file isn't the subject of the certificate above, or, if
+    /// there is none, its own subject.
     OtherName(usize),
-    /// It isn't ready to be signed, or wasn't signed.
+    /// The certificate or CRL isn't ready to be signed, or isn't signed.
     Unfit(WantedError),
     /// Memory ran out.
     Memory,
@@ -176,29 +182,182 @@ fn write_wanted<W: fmt::Write>(f: &mut fmt::Formatter<W>, error: &WantedError) -
     }
 }
 
-// Writes which member of the issuer's path is wrong, and why.
-fn write_fault<W: fmt::Write>(f: &mut fmt::Formatter<W>, fault: &Fault) -> fmt::Result
-    ensures { WritesOnOk W.write_str_gives f.old result (path_text fault.now) f.new }
+/// Returns the words of a request that a refusal is about: the values of an option, or the files.
+pub fn words_about<'a>(
+    alloc: Global,
+    order: &Order<'a>,
+    refusal: &Refusal,
+) -> Result<Vec<&'a [u8]>, AllocError>
+    ensures { IfOk result (λ words. map (λ word. word.now) words.items
+        ≡ words_about (asked_fields order.now) refusal.now) }
 {
-    let index = fault.index;
+    match refusal {
+        Refusal::Value(setting) => order.values_of(alloc, *setting),
+        Refusal::NoKey => order.values_of(alloc, Setting::Key),
+        Refusal::Rejected(_) | Refusal::NoAuthority => order.values_of(alloc, Setting::Issuer),
+        Refusal::OtherCrl(_) => order.values_of(alloc, Setting::Crl),
+        Refusal::OtherList => order.values_of(alloc, Setting::Previous),
+        Refusal::OtherCertificate(_) => order.values_of(alloc, Setting::Revoke),
+        Refusal::Files | Refusal::NotToSign => order.files.as_slice().to_vec(alloc),
+        Refusal::UnusedKey(_)
+        | Refusal::NoIssuer
+        | Refusal::NoName
+        | Refusal::OtherName(_)
+        | Refusal::Unfit(_)
+        | Refusal::Memory => Ok(Vec::new(alloc)),
+    }
+}
+
+/// Why a request gives nothing, with the words that this is about.
+#[derive(Drop)]
+pub struct ToldRefusal<'a> {
+    pub refusal: &'a Refusal,
+    pub words: &'a [&'a [u8]],
+}
+
+// The word at a place; none where there is no such place.
+fn word_at<'a>(words: &[&'a [u8]], place: usize) -> &'a [u8]
+    ensures { result.now ≡ get_or (map (λ word. word.now) words.now) place [] }
+{
+    match words.get(place) {
+        Some(word) => *word,
+        None => b"".as_slice(),
+    }
+}
+
+// Writes a word behind a space.
+fn write_spaced<W: fmt::Write>(f: &mut fmt::Formatter<W>, word: &[u8]) -> fmt::Result
+    ensures { WritesOnOk W.write_str_gives f.old result (spaced word.now) f.new }
+{
+    let word = Characters(word);
+    write!(f, " {word}")
+}
+
+// Writes an option and these words.
+fn write_given<W: fmt::Write>(
+    f: &mut fmt::Formatter<W>,
+    setting: Setting,
+    words: &[&[u8]],
+) -> fmt::Result
+    ensures { WritesOnOk W.write_str_gives f.old result
+        (given_text setting (map (λ word. word.now) words.now)) f.new }
+{
+    f.write_str(setting.name())?;
+    write_words(f, words)
+}
+
+// Writes words, each behind a space.
+fn write_words<W: fmt::Write>(f: &mut fmt::Formatter<W>, words: &[&[u8]]) -> fmt::Result
+    ensures { WritesOnOk W.write_str_gives f.old result
+        (flat_map spaced (map (λ word. word.now) words.now)) f.new }
+{
+    for word in words {
+        write_spaced(f, *word)?;
+    }
+    Ok(())
+}
+
+// Writes an option and the word at a place.
+fn write_given_at<W: fmt::Write>(
+    f: &mut fmt::Formatter<W>,
+    setting: Setting,
+    words: &[&[u8]],
+    place: usize,
+) -> fmt::Result
+    ensures { WritesOnOk W.write_str_gives f.old result
+        (given_at setting (map (λ word. word.now) words.now) place) f.new }
+{
+    f.write_str(setting.name())?;
+    write_spaced(f, word_at(words, place))
+}
+
+// Writes which file of the issuer's path is rejected, and why.
+fn write_fault<W: fmt::Write>(
+    f: &mut fmt::Formatter<W>,
+    words: &[&[u8]],
+    fault: &Fault,
+) -> fmt::Result
+    ensures { WritesOnOk W.write_str_gives f.old result
+        (path_text (map (λ word. word.now) words.now) fault.now) f.new }
+{
     let step = fault.step;
     let reason = Reason {
         name: fault.name,
         rule: fault.rule,
     };
-    write!(f, "issuer {index} is rejected at {step}, {reason}")
+    write_given_at(f, Setting::Issuer, words, fault.index)?;
+    write!(f, ": rejected at {step}, {reason}")
 }
 
-impl fmt::Display for Refusal {
-    ghost output = { λ refusal. Some (refusal_text refusal) };
+// Writes that values aren't of the option, and which it takes.
+fn write_wrong_value<W: fmt::Write>(
+    f: &mut fmt::Formatter<W>,
+    setting: Setting,
+    words: &[&[u8]],
+) -> fmt::Result
+    ensures { WritesOnOk W.write_str_gives f.old result
+        (refusal_text (map (λ word. word.now) words.now) (Refusal.Value setting)) f.new }
+{
+    let kind = setting.value_kind();
+    let expected = setting.expected_value();
+    write_given(f, setting, words)?;
+    write!(f, ": not {kind}; expected {expected}")
+}
+
+// Writes an option, these words, and what is said of them.
+fn write_of_all<W: fmt::Write>(
+    f: &mut fmt::Formatter<W>,
+    setting: Setting,
+    words: &[&[u8]],
+    said: &str,
+) -> fmt::Result
+    ensures { WritesOnOk W.write_str_gives f.old result
+        (given_text setting (map (λ word. word.now) words.now) ++ said.now) f.new }
+{
+    write_given(f, setting, words)?;
+    f.write_str(said)
+}
+
+// Writes an option, the word at a place, and what is said of it.
+fn write_of_one<W: fmt::Write>(
+    f: &mut fmt::Formatter<W>,
+    setting: Setting,
+    words: &[&[u8]],
+    place: usize,
+    said: &str,
+) -> fmt::Result
+    ensures { WritesOnOk W.write_str_gives f.old result
+        (given_at setting (map (λ word. word.now) words.now) place ++ said.now) f.new }
+{
+    write_given_at(f, setting, words, place)?;
+    f.write_str(said)
+}
+
+// Writes that the first file isn't what is to be signed.
+fn write_not_to_sign<W: fmt::Write>(f: &mut fmt::Formatter<W>, words: &[&[u8]]) -> fmt::Result
+    ensures { WritesOnOk W.write_str_gives f.old result
+        (refusal_text (map (λ word. word.now) words.now) Refusal.NotToSign) f.new }
+{
+    let word = Characters(word_at(words, 0));
+    write!(
+        f,
+        "{word}: not a TBSCertificate or TBSCertList; expected what `rpki prepare` writes"
+    )
+}
+
+impl fmt::Display for ToldRefusal<'_> {
+    ghost output = { λ told. Some (refusal_text (map (λ word. word.now) told.words.now) told.refusal.now) };
 
     fn fmt<W: fmt::Write>(&self, f: &mut fmt::Formatter<W>) -> fmt::Result {
-        match self {
-            Refusal::Value(setting) => {
-                let option = setting.name();
-                write!(f, "{option} has no value that it takes")
-            }
-            Refusal::NoKey => f.write_str("the key's file is no public key"),
+        let words = self.words;
+        match self.refusal {
+            Refusal::Value(setting) => write_wrong_value(f, *setting, words),
+            Refusal::NoKey => write_of_all(
+                f,
+                Setting::Key,
+                words,
+                ": not a public key; expected a SubjectPublicKeyInfo, in DER or PEM",
+            ),
             Refusal::UnusedKey(format) => {
                 let reason = Reason {
                     name: "BadKey",
@@ -206,31 +365,39 @@ impl fmt::Display for Refusal {
                 };
                 write!(f, "{reason}")
             }
-            Refusal::Rejected(fault) => write_fault(f, fault),
-            Refusal::NoAuthority => f.write_str("the last issuer is no CA"),
-            Refusal::OtherCrl(place) => {
-                let place = *place;
-                write!(
-                    f,
-                    "file {place} of --crl is no revocation list, or octets stand behind it: give each list in a file of its own"
-                )
+            Refusal::Rejected(fault) => write_fault(f, words, fault),
+            Refusal::NoAuthority => write_of_all(
+                f,
+                Setting::Issuer,
+                words,
+                ": the last certificate is not a CA's; expected a CA's",
+            ),
+            Refusal::OtherCrl(place) => write_of_one(
+                f,
+                Setting::Crl,
+                words,
+                *place,
+                ": not a CRL, or bytes follow it; expected one CRL in each file",
+            ),
+            Refusal::NoIssuer => {
+                f.write_str("--issuer: missing; expected the path of the CRL's issuer")
             }
-            Refusal::NoIssuer => f.write_str("a revocation list has an issuer"),
-            Refusal::OtherList => {
-                f.write_str("the previous list isn't one that the issuer signed")
-            }
-            Refusal::OtherCertificate(place) => {
-                let place = *place;
-                write!(
-                    f,
-                    "file {place} of --revoke isn't a certificate of the issuer"
-                )
-            }
+            Refusal::OtherList => write_of_all(
+                f,
+                Setting::Previous,
+                words,
+                ": not a CRL that the issuer signed; expected the issuer's last one",
+            ),
+            Refusal::OtherCertificate(place) => write_of_one(
+                f,
+                Setting::Revoke,
+                words,
+                *place,
+                ": not a certificate of the issuer; expected one that names the issuer's key",
+            ),
             Refusal::NoName => f.write_str("the subject would have no name"),
-            Refusal::Files => f.write_str("complete takes two files"),
-            Refusal::NotToSign => {
-                f.write_str("the first file isn't what is to be signed of a certificate or a list")
-            }
+            Refusal::Files => f.write_str("wrong number of files; expected PREPARED and SIGNATURE"),
+            Refusal::NotToSign => write_not_to_sign(f, words),
             Refusal::OtherName(place) => {
                 let reason = Reason {
                     name: "OtherName",

@@ -1,4 +1,4 @@
-//! The values of options: those of the certificate that is wanted, and the moment.
+//! The values of options: those of the requested certificate, and times.
 ghost use Rattle.std.specs.Prelude.{◌≡◌, ◌≢◌, ◌≤◌, ◌⊎◌, length, option_map, Ok, Err, IfErr, IfOk};
 ghost use Rattle.rpki_issuing.specs.BlockTexts.{AreListed};
 ghost use Rattle.rpki_requests.specs.OptionValues.{GivesNumbers, GivesPlaces, GivesWanted, IsMomentSaid, SaysAtMostOnce, SaysOnce, given_alone};
@@ -69,7 +69,11 @@ fn once<T: Textual>(alloc: Global, order: &Order<'_>, setting: Setting) -> Resul
     }
 }
 
-/// Returns the moment that an option names, if it is given.
+/// Returns the time that an option has as its value, if it is given.
+///
+/// # Errors
+///
+/// Returns an error if the value isn't a time or is given twice, and `Memory`.
 pub fn named_moment(
     alloc: Global,
     order: &Order<'_>,
@@ -194,7 +198,11 @@ fn places(alloc: Global, order: &Order<'_>) -> Result<Places, Refusal>
     }
 }
 
-/// Returns what the options of a request want of a certificate.
+/// Returns the values of the options for a certificate.
+///
+/// # Errors
+///
+/// Returns the first option whose value isn't accepted, and `Memory`.
 pub(crate) fn wanted(alloc: Global, order: &Order<'_>) -> Result<Wanted, Refusal>
     ensures { let given = (asked_fields order.now).given in
         AnswersOnly (IsOption given) (GivesWanted given) result }

@@ -1,4 +1,4 @@
-//! Which words ask for a certificate or a revocation list to be prepared, or to be completed.
+//! The words that request a certificate or a CRL to be prepared or completed.
 ghost use Rattle.std.specs.Prelude.{◌≡◌, ◌≢◌, ◌↔◌, ℕ, List, [], ◌∷◌, ◌++◌, codes, count_by, filter, Contains, length, map, fold, IfErr, IfNone, IfOk, IfSome, IsTrue, MatchOption, OnOk, Some};
 ghost use Rattle.std.specs.Fmt.{WritesOnOk};
 ghost use Rattle.rpki_text.specs.CommandLines.Views.{word_octets};
@@ -12,8 +12,8 @@ use rpki_text::command_line::parts::{around_dashes, is, is_option, place_of_equa
 use std::alloc::{AllocError, Global};
 use std::fmt;
 
-/// What is to be prepared for signing, of a certificate its kind, or a revocation list; or that
-/// what is signed is to be completed.
+/// The task of a request: to prepare a certificate of a kind or a CRL for signing, or to complete
+/// what was prepared.
 #[derive(Clone, Copy, PartialEq, Eq)]
 pub enum Errand {
     /// A CA's certificate: `prepare ca`.
@@ -26,24 +26,25 @@ pub enum Errand {
     Router,
     /// A trust anchor's: `prepare anchor`.
     Anchor,
-    /// A revocation list: `prepare list`.
+    /// A CRL: `prepare list`.
     RevocationList,
     /// What was prepared, with its signature: `complete`.
     Completion,
 }
 
-/// The name of an option that takes a value, as the next word or behind `=`.
+/// The name of an option that takes a value, as the next word or after `=`.
 #[derive(Clone, Copy, PartialEq, Eq)]
 pub enum Setting {
     /// A file of the issuer's path, from the trust anchor down: `--issuer`.
     Issuer,
     /// The file of the subject's key: `--key`.
     Key,
-    /// The serial number, of a certificate that is wanted or of one that is revoked: `--serial`.
+    /// The serial number of the requested certificate, or of a certificate to be revoked:
+    /// `--serial`.
     Serial,
-    /// The first moment of the validity: `--from`.
+    /// The start of the validity: `--from`.
     From,
-    /// The last moment of the validity: `--until`.
+    /// The end of the validity: `--until`.
     Until,
     /// IPv4 addresses: `--ipv4`.
     Ipv4,
@@ -61,38 +62,38 @@ pub enum Setting {
     Object,
     /// The URI of the issuer's certificate: `--issuer-uri`.
     IssuerUri,
-    /// The URI of the issuer's revocation list: `--crl-uri`.
+    /// The URI of the issuer's CRL: `--crl-uri`.
     CrlUri,
-    /// A file of a list that the issuer's path is judged with: `--crl`.
+    /// The file of a CRL that the issuer's path is validated with: `--crl`.
     Crl,
-    /// The file of the issuer's list before: `--previous`.
+    /// The file of the issuer's previous CRL: `--previous`.
     Previous,
-    /// The number of the list: `--number`.
+    /// The CRL number: `--number`.
     Number,
-    /// The file of a certificate that is revoked: `--revoke`.
+    /// The file of a certificate to be revoked: `--revoke`.
     Revoke,
-    /// The moment by which the next list is to be made: `--next-update`.
+    /// The time by which the next CRL is due: `--next-update`.
     NextUpdate,
-    /// The moment at which the issuer's path is judged, and a list is made: `--at`.
+    /// The time at which the issuer's path is validated and a CRL is made: `--at`.
     At,
-    /// The file to which is written what is prepared or completed: `--out`.
+    /// The file for the result: `--out`.
     Out,
 }
 
 /// An option that takes no value.
 #[derive(Clone, Copy, PartialEq, Eq)]
 pub enum Switch {
-    /// Resources that the issuer doesn't hold are trimmed (RFC 8360): `--trim`.
+    /// Drop resources that the issuer doesn't hold (RFC 8360): `--trim`.
     Trim,
-    /// Names are read leniently: `--lenient`.
+    /// Accept more string types in names: `--lenient`.
     Lenient,
-    /// What is completed is written in PEM: `--pem`.
+    /// Write the completed certificate or CRL in PEM: `--pem`.
     Pem,
-    /// A file that is there is overwritten: `--force`.
+    /// Overwrite an existing file: `--force`.
     Force,
 }
 
-/// How often an errand takes an option.
+/// How often an option may be given for an errand.
 #[derive(Clone, Copy, PartialEq, Eq)]
 pub enum Demand {
     Never,
@@ -102,45 +103,47 @@ pub enum Demand {
     AtLeastOnce,
 }
 
-/// An option with the value that it is given.
+/// An option with its value.
 #[derive(Clone, Copy)]
 pub struct Given<'a> {
     pub setting: Setting,
     pub value: &'a [u8],
 }
 
-/// What is asked. Options and files stand in the order of their words.
+/// A request. Options and files are in the order of their words.
 #[derive(Drop)]
 pub struct Order<'a> {
     pub errand: Errand,
     pub given: Vec<Given<'a>>,
     pub files: Vec<&'a [u8]>,
-    /// Whether resources that the issuer doesn't hold are trimmed.
+    /// Whether resources that the issuer doesn't hold are dropped (RFC 8360).
     pub trims: bool,
-    /// Whether names are read strictly.
+    /// Whether names may only have the string types of the profile.
     pub strict: bool,
-    /// Whether what is completed is written in PEM.
+    /// Whether the completed certificate or CRL is written in PEM.
     pub is_pem: bool,
-    /// Whether a file that is there is overwritten.
+    /// Whether an existing file is overwritten.
     pub overwrites: bool,
 }
 
-/// Why the words ask nothing.
+/// Why the words aren't a request.
 #[derive(Drop)]
 pub enum Misuse<'a> {
-    /// There is no word, or none behind `prepare`.
+    /// There is no word, or no word after `prepare`.
     NoErrand,
-    /// The word is no errand, or no option.
+    /// The word names nothing that is to be prepared.
+    UnknownErrand(&'a [u8]),
+    /// There is no such option.
     Unknown(&'a [u8]),
-    /// The option stands last, without its value.
+    /// The option is the last word, without its value.
     NoValue(Setting),
-    /// The option isn't one of this errand.
+    /// The errand doesn't accept this option.
     Unsuited(Setting),
-    /// The option, which takes no value, isn't one of this errand.
+    /// The errand doesn't accept this option, which takes no value.
     UnsuitedSwitch(Switch),
-    /// The errand wants this option.
+    /// The errand requires this option.
     Missing(Setting),
-    /// The option is given more than once, where it may be given once.
+    /// The option is given more than once, and may be given once.
     Repeated(Setting),
     /// There are too few files, or too many.
     Files,
@@ -192,37 +195,54 @@ impl Switch {
     }
 }
 
+/// What can be prepared.
+const KINDS: &str = "ca, ee, detached, router, anchor or list";
+
 impl fmt::Display for Misuse<'_> {
     ghost output = { λ misuse. Some (misuse_text misuse) };
 
     fn fmt<W: fmt::Write>(&self, f: &mut fmt::Formatter<W>) -> fmt::Result {
         match self {
-            Misuse::NoErrand => f.write_str("nothing is named that is to be prepared"),
+            Misuse::NoErrand => {
+                let kinds = KINDS;
+                write!(f, "nothing to prepare; expected {kinds}")
+            }
+            Misuse::UnknownErrand(word) => {
+                let word = Characters(*word);
+                let kinds = KINDS;
+                write!(f, "{word}: unknown kind; expected {kinds}")
+            }
             Misuse::Unknown(word) => {
                 let word = Characters(*word);
-                write!(f, "unknown: {word}")
+                write!(f, "{word}: not an option of this command")
             }
             Misuse::NoValue(setting) => {
                 let option = setting.name();
-                write!(f, "{option} wants a value")
+                let expected = setting.expected_value();
+                write!(f, "{option}: no value; expected {expected}")
             }
             Misuse::Unsuited(setting) => {
                 let option = setting.name();
-                write!(f, "{option} doesn't belong here")
+                write!(f, "{option}: not an option of this command")
             }
             Misuse::UnsuitedSwitch(switch) => {
                 let option = switch.name();
-                write!(f, "{option} doesn't belong here")
+                write!(f, "{option}: not an option of this command")
             }
             Misuse::Missing(setting) => {
                 let option = setting.name();
-                write!(f, "{option} is missing")
+                let expected = setting.expected_value();
+                write!(f, "{option}: missing; expected {expected}")
             }
             Misuse::Repeated(setting) => {
                 let option = setting.name();
-                write!(f, "{option} stands twice")
+                write!(f, "{option}: given more than once; expected once")
             }
-            Misuse::Files => f.write_str("prepare takes no file, and complete takes two"),
+            Misuse::Files => {
+                f.write_str(
+                    "wrong number of files; expected PREPARED and SIGNATURE for complete, none for prepare",
+                )
+            }
             Misuse::Memory => f.write_str("out of memory"),
         }
     }
@@ -296,14 +316,14 @@ fn errand_of(words: &[Vec<u8>]) -> Result<(Errand, &[Vec<u8>]), Misuse<'_>>
         return Ok((Errand::Completion, behind));
     }
     if !is(first.as_slice(), "prepare") {
-        return Err(Misuse::Unknown(first.as_slice()));
+        return Err(Misuse::UnknownErrand(first.as_slice()));
     }
     let Some((second, rest)) = behind.split_first() else {
         return Err(Misuse::NoErrand);
     };
     match prepared_of(second.as_slice()) {
         Some(errand) => Ok((errand, rest)),
-        None => Err(Misuse::Unknown(second.as_slice())),
+        None => Err(Misuse::UnknownErrand(second.as_slice())),
     }
 }
 
@@ -515,7 +535,7 @@ fn of_lists(often: Demand, errand: Errand) -> Demand
     }
 }
 
-/// Returns how often an errand takes an option.
+/// Returns how often an option may be given for an errand.
 pub fn demand_of(setting: Setting, errand: Errand) -> Demand
     ensures { result ≡ demand setting errand }
 {
@@ -598,7 +618,11 @@ fn values_among<'a>(
 }
 
 impl<'a> Order<'a> {
-    /// Returns the values that an option is given, in the order of the words.
+    /// Returns the values of an option, in the order of the words.
+    ///
+    /// # Errors
+    ///
+    /// Returns an error only if memory runs out.
     pub fn values_of(&self, alloc: Global, setting: Setting) -> Result<Vec<&'a [u8]>, AllocError>
         ensures { IfOk result (λ v. map (λ value. value.now) v.items
             ≡ values_of setting (asked_fields self.now).given) }
@@ -673,7 +697,7 @@ fn files_wanted(errand: Errand) -> usize
     }
 }
 
-/// Tells whether the words begin as a request does, and not as another command line.
+/// Returns whether the words start as a request does, and not as another command line.
 pub fn is_request(words: &[Vec<u8>]) -> bool
     ensures { IsTrue result ↔ BeginsRequest (word_octets words.now) }
 {
@@ -696,7 +720,7 @@ fn has_word(words: &[Vec<u8>], text: &str) -> bool
     false
 }
 
-/// Tells whether the words ask how the command is used.
+/// Returns whether the words ask for help: `--help` or `-h`.
 pub fn asks_help(words: &[Vec<u8>]) -> bool
     ensures { IsTrue result ↔ AsksHelp (word_octets words.now) }
 {
@@ -704,7 +728,11 @@ pub fn asks_help(words: &[Vec<u8>]) -> bool
     has_word(before, "--help") || has_word(before, "-h")
 }
 
-/// Reads the words behind the program's name.
+/// Reads the words after the program's name.
+///
+/// # Errors
+///
+/// Returns what is wrong with the words, and `Memory`.
 pub fn read_request<'a>(alloc: Global, words: &'a [Vec<u8>]) -> Result<Order<'a>, Misuse<'a>>
     ensures request_line { IfOk result
         (λ asked. IsRequestLine (asked_fields asked) (word_octets words.now)) }

@@ -9,7 +9,7 @@ use Rattle.rpki_text.specs.declared.command_line.arguments.Format.{Format}
 use Rattle.rpki_text.specs.declared.command_line.arguments.Format.TheVariants.{Text, Json, JsonLines}
 use Rattle.rpki_text.specs.declared.command_line.arguments.Setting.{Setting}
 use Rattle.rpki_text.specs.declared.command_line.arguments.Setting.TheVariants.{Crl, Tal, In, Depth, StepCount, At, MaxSize, Output, ShortOutput}
-use Rattle.rpki_text.specs.CommandLines.{IsFormatName, LinePart, file, list, locator, folder, depth, steps, at_moment, max_size, output, lenient, json, quiet, all, no_names, help, setting_name, IsPart}
+use Rattle.rpki_text.specs.CommandLines.{IsFormatName, LinePart, file, list, locator, folder, depth, steps, at_moment, max_size, output, lenient, json, quiet, all, no_names, trust_first, no_crl, help, setting_name, IsPart}
 use Rattle.rpki_text.specs.WordParts.{BeginsNoPart, IsOption, GivesValue, Joins}
 use Rattle.rpki_text.proofs.JoinedNames.{is_equals}
 use Rattle.rpki_text.proofs.PartsOfWords.{Sort, single, before, joining, Grammar, Shape, IsClear, alone_is, given_is}
@@ -52,6 +52,8 @@ sort_of word =
     (cond (bytes_eq word (codes "-q")) (single quiet)
     (cond (bytes_eq word (codes "--all")) (single all)
     (cond (bytes_eq word (codes "--no-names")) (single no_names)
+    (cond (bytes_eq word (codes "--trust-first")) (single trust_first)
+    (cond (bytes_eq word (codes "--no-crl")) (single no_crl)
     (cond (bytes_eq word (codes "--help")) (single help)
     (cond (bytes_eq word (codes "-h")) (single help)
     (joining_or Crl (stripped (codes "--crl=") word)
@@ -63,7 +65,7 @@ sort_of word =
     (joining_or MaxSize (stripped (codes "--max-size=") word)
     (joining_or Output (stripped (codes "--output=") word)
     (joining_or ShortOutput (stripped (codes "-o=") word)
-    (single (file word))))))))))))))))))))))))))))
+    (single (file word))))))))))))))))))))))))))))))
 
 -- an option that takes a value
 named : (setting : Setting) → sort_of (setting_name setting) ≡ before setting
@@ -133,7 +135,7 @@ not_stripped c cs (w ∷ v ∷ ws) not_option =
 file_sort : (word : List ℕ) → (IsOption word → ⊥) → sort_of word ≡ single (file word)
 unfolding sort_of joining_or
 file_sort word not_option =
-    rw (unlike word (codes "--crl") not_option (refl, lit< tt), unlike word (codes "--tal") not_option (refl, lit< tt), unlike word (codes "--in") not_option (refl, lit< tt), unlike word (codes "--depth") not_option (refl, lit< tt), unlike word (codes "--steps") not_option (refl, lit< tt), unlike word (codes "--at") not_option (refl, lit< tt), unlike word (codes "--max-size") not_option (refl, lit< tt), unlike word (codes "--output") not_option (refl, lit< tt), unlike word (codes "-o") not_option (refl, lit< tt), unlike word (codes "--lenient") not_option (refl, lit< tt), unlike word (codes "--json") not_option (refl, lit< tt), unlike word (codes "-j") not_option (refl, lit< tt), unlike word (codes "--quiet") not_option (refl, lit< tt), unlike word (codes "-q") not_option (refl, lit< tt), unlike word (codes "--all") not_option (refl, lit< tt), unlike word (codes "--no-names") not_option (refl, lit< tt), unlike word (codes "--help") not_option (refl, lit< tt), unlike word (codes "-h") not_option (refl, lit< tt), not_stripped 45 (codes "crl=") word not_option, not_stripped 45 (codes "tal=") word not_option, not_stripped 45 (codes "in=") word not_option, not_stripped 45 (codes "depth=") word not_option, not_stripped 45 (codes "steps=") word not_option, not_stripped 45 (codes "at=") word not_option, not_stripped 45 (codes "max-size=") word not_option, not_stripped 45 (codes "output=") word not_option, not_stripped 111 (codes "=") word not_option) refl
+    rw (unlike word (codes "--crl") not_option (refl, lit< tt), unlike word (codes "--tal") not_option (refl, lit< tt), unlike word (codes "--in") not_option (refl, lit< tt), unlike word (codes "--depth") not_option (refl, lit< tt), unlike word (codes "--steps") not_option (refl, lit< tt), unlike word (codes "--at") not_option (refl, lit< tt), unlike word (codes "--max-size") not_option (refl, lit< tt), unlike word (codes "--output") not_option (refl, lit< tt), unlike word (codes "-o") not_option (refl, lit< tt), unlike word (codes "--lenient") not_option (refl, lit< tt), unlike word (codes "--json") not_option (refl, lit< tt), unlike word (codes "-j") not_option (refl, lit< tt), unlike word (codes "--quiet") not_option (refl, lit< tt), unlike word (codes "-q") not_option (refl, lit< tt), unlike word (codes "--all") not_option (refl, lit< tt), unlike word (codes "--no-names") not_option (refl, lit< tt), unlike word (codes "--trust-first") not_option (refl, lit< tt), unlike word (codes "--no-crl") not_option (refl, lit< tt), unlike word (codes "--help") not_option (refl, lit< tt), unlike word (codes "-h") not_option (refl, lit< tt), not_stripped 45 (codes "crl=") word not_option, not_stripped 45 (codes "tal=") word not_option, not_stripped 45 (codes "in=") word not_option, not_stripped 45 (codes "depth=") word not_option, not_stripped 45 (codes "steps=") word not_option, not_stripped 45 (codes "at=") word not_option, not_stripped 45 (codes "max-size=") word not_option, not_stripped 45 (codes "output=") word not_option, not_stripped 111 (codes "=") word not_option) refl
 
 -- ---- a part
 
@@ -200,6 +202,8 @@ shape quiet words (inl h) = alone_is line_grammar quiet words (codes "--quiet") 
 shape quiet words (inr h) = alone_is line_grammar quiet words (codes "-q") h refl
 shape all words h = alone_is line_grammar all words (codes "--all") h refl
 shape no_names words h = alone_is line_grammar no_names words (codes "--no-names") h refl
+shape trust_first words h = alone_is line_grammar trust_first words (codes "--trust-first") h refl
+shape no_crl words h = alone_is line_grammar no_crl words (codes "--no-crl") h refl
 shape help words (inl h) = alone_is line_grammar help words (codes "--help") h refl
 shape help words (inr h) = alone_is line_grammar help words (codes "-h") h refl
 
@@ -245,5 +249,7 @@ module _ (word : List ℕ) (is_option : IsOption word) (unnamed : (setting : Set
   no_option quiet its behind rest (inr is) e = no_switch quiet (inr cc)
   no_option all its behind rest is e = no_switch all cc
   no_option no_names its behind rest is e = no_switch no_names cc
+  no_option trust_first its behind rest is e = no_switch trust_first cc
+  no_option no_crl its behind rest is e = no_switch no_crl cc
   no_option help its behind rest (inl is) e = no_switch help (inl cc)
   no_option help its behind rest (inr is) e = no_switch help (inr cc)

@@ -11,6 +11,8 @@ mod WrittenLines
 mod LongSerials
 mod OneValues
 mod Walks
+mod AnyValues
+mod TwiceThere
 mod Gathered
 mod Written
 mod Told

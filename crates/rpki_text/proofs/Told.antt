@@ -106,11 +106,11 @@ module _ (octets : List ℕ) (c : CertFields) (m : Means IsCertificate c octets)
   only_one d n = one_meant IsCertificate (one_meaning (certificate_format levels) refl certificate_lawful) d c octets n m
 
   -- so a note is told by its fields and its extensions
-  pub told : (n : Note) (is : Bool) → ((xs : List Extension) → HaveExtensions xs octets → ((is ≡ true) ↔ Breaks n c.fields xs)) → ((is ≡ true) ↔ IsNoteOf octets n)
+  pub told : (n : Note) (is : Bool) → ((xs : List Extension) → HaveExtensions xs octets → ((is ≡ true) ↔ Breaks n octets c.fields xs)) → ((is ≡ true) ↔ IsNoteOf octets n)
   told n is h =
       let x = extensions_stand in (
         (λ so. record { certificate = c; extensions = x.0; begins = m; extensions_are = x.1; breaks = (h x.0 x.1).0 so }),
-        (λ note. (h note.extensions note.extensions_are).1 (subst (λ (d : CertFields). Breaks n d.fields note.extensions) (only_one note.certificate note.begins) note.breaks)),
+        (λ note. (h note.extensions note.extensions_are).1 (subst (λ (d : CertFields). Breaks n octets d.fields note.extensions) (only_one note.certificate note.begins) note.breaks)),
       )
 
 -- without a certificate there is no note

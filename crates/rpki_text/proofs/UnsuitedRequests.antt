@@ -1,12 +1,12 @@
 -- A request that doesn't suit its task, by the reason that is told.
-use Rattle.std.proofs.Common.{◌≡◌, ◌≢◌, ℕ, inl, inr, List, [], ◌∷◌, refl, sym, ◌∙◌, subst}
+use Rattle.std.proofs.Common.{◌≡◌, ◌≢◌, ℕ, true, false, inl, inr, List, [], ◌∷◌, refl, sym, ◌∙◌, subst}
 use Rattle.std.proofs.lemmas.Bool.{false≢true}
 use Rattle.rpki_text.specs.declared.command_line.arguments.Misuse.{Misuse}
-use Rattle.rpki_text.specs.declared.command_line.arguments.Misuse.TheVariants.{Unknown, NoFile, OneFile, ListsIn, NoLocator, NoLocatorIn, BoundsIn, InputIn}
+use Rattle.rpki_text.specs.declared.command_line.arguments.Misuse.TheVariants.{Unknown, NoFile, OneFile, ListsIn, NoLocator, NoLocatorIn, BoundsIn, InputIn, NoAnchor, BothAnchors, NoLists, BothLists}
 use Rattle.rpki_text.specs.declared.command_line.arguments.Task.{Task}
 use Rattle.rpki_text.specs.declared.command_line.arguments.Task.TheVariants.{Show, Validate, Tree, Help, Version}
-use Rattle.rpki_text.specs.CommandLines.{RequestFields, AsksNoBounds, AsksSearch, Suits, SuitsFolders}
-use Rattle.rpki_text.specs.Misuses.{IsExtra, IsReason, SeeksPath}
+use Rattle.rpki_text.specs.CommandLines.{RequestFields, AsksNoBounds, AsksSearch, GivesLists, LeavesNothingOut, SaysAnchor, SaysLists, Suits, SuitsFolders}
+use Rattle.rpki_text.specs.Misuses.{IsExtra, IsLeftOutBy, IsReason, SeeksPath}
 
 -- the task wants files
 some_files : (task : Task) (r : RequestFields) → task ≢ Help → task ≢ Version → Suits task r → r.files ≢ []
@@ -29,18 +29,44 @@ asks_no_bounds : (folders : List (List ℕ)) (r : RequestFields) → folders ≡
 asks_no_bounds [] r none suits = suits
 asks_no_bounds (folder ∷ folders) r none suits = absurd cc
 
+-- an option is given by which something is left out
+left_out : (name : List ℕ) (r : RequestFields) → IsLeftOutBy name r → LeavesNothingOut r → ⊥
+left_out name r (inl given) nothing = false≢true (sym nothing.0 ∙ given.1)
+left_out name r (inr given) nothing = false≢true (sym nothing.1 ∙ given.1)
+
+-- it isn't said, or said twice, what the trust anchor is compared with
+no_anchor : (r : RequestFields) → r.locators ≡ [] → r.trust_first ≡ false → SaysAnchor r → ⊥
+no_anchor r none trusts (inl says) = says.0 none
+no_anchor r none trusts (inr says) = false≢true (sym trusts ∙ says.1)
+
+both_anchors : (r : RequestFields) → r.locators ≢ [] → r.trust_first ≡ true → SaysAnchor r → ⊥
+both_anchors r some trusts (inl says) = false≢true (sym says.1 ∙ trusts)
+both_anchors r some trusts (inr says) = some says.0
+
+-- or which CRLs are checked
+no_lists : (r : RequestFields) → (GivesLists r → ⊥) → r.no_crl ≡ false → SaysLists r → ⊥
+no_lists r none left (inl says) = none says.0
+no_lists r none left (inr says) = false≢true (sym left ∙ says.2)
+
+both_lists : (r : RequestFields) → GivesLists r → r.no_crl ≡ true → SaysLists r → ⊥
+both_lists r some left (inl says) = false≢true (sym says.1 ∙ left)
+both_lists r (inl some) left (inr says) = some says.0
+both_lists r (inr some) left (inr says) = some says.1
+
 -- an option is given that the task doesn't take
 extra_unsuited : (task : Task) (name : List ℕ) (r : RequestFields) → IsExtra task name r → Suits task r → ⊥
 extra_unsuited Show name r (inl given) suits = given.1 suits.1.0
 extra_unsuited Show name r (inr (inl given)) suits = given.1 suits.1.1
 extra_unsuited Show name r (inr (inr (inl given))) suits = given.1 suits.1.2
 extra_unsuited Show name r (inr (inr (inr (inl given)))) suits = false≢true (sym given.1 ∙ suits.1.3)
-extra_unsuited Show name r (inr (inr (inr (inr (inl given))))) suits = given.1 suits.1.4.0
-extra_unsuited Show name r (inr (inr (inr (inr (inr given))))) suits = given.1 suits.1.4.1
+extra_unsuited Show name r (inr (inr (inr (inr (inl given))))) suits = left_out name r given suits.1.4
+extra_unsuited Show name r (inr (inr (inr (inr (inr (inl given)))))) suits = given.1 suits.1.5.0
+extra_unsuited Show name r (inr (inr (inr (inr (inr (inr given)))))) suits = given.1 suits.1.5.1
 extra_unsuited Validate name r given suits = false≢true (sym suits.1 ∙ given.1)
 extra_unsuited Tree name r (inl given) suits = given.1 suits.1.0
 extra_unsuited Tree name r (inr (inl given)) suits = given.1 suits.1.1
-extra_unsuited Tree name r (inr (inr given)) suits = false≢true (sym suits.1.2 ∙ given.1)
+extra_unsuited Tree name r (inr (inr (inl given))) suits = false≢true (sym suits.1.2 ∙ given.1)
+extra_unsuited Tree name r (inr (inr (inr given))) suits = left_out name r given suits.1.3
 extra_unsuited Help name r given suits = given
 extra_unsuited Version name r given suits = given
 
@@ -50,9 +76,17 @@ reason_unsuited (Unknown name) task r extra suits = extra_unsuited task name.now
 reason_unsuited NoFile task r (no_help, no_version, none) suits = some_files task r no_help no_version suits none
 reason_unsuited OneFile task r (seeks, not_one) suits = not_one (sought task r seeks suits).0
 reason_unsuited ListsIn task r (seeks, some) suits = some (sought task r seeks suits).1
-reason_unsuited NoLocator task r (is, none) suits = (subst (λ (t : Task). Suits t r) is suits).1.3 none
+reason_unsuited NoLocator task r (is, none) suits = (subst (λ (t : Task). Suits t r) is suits).1.4 none
 reason_unsuited NoLocatorIn task r (seeks, none) suits = (sought task r seeks suits).2 none
 reason_unsuited BoundsIn task r (is, none, bounds) suits =
     bounds (asks_no_bounds r.folders r none (subst (λ (t : Task). Suits t r) is suits).2)
 reason_unsuited InputIn task r (seeks, reads) suits = (sought task r seeks suits).3 reads
+reason_unsuited NoAnchor task r (is, none, trusts) suits =
+    no_anchor r none trusts (subst (λ (t : Task). Suits t r) is suits).3
+reason_unsuited BothAnchors task r (is, some, trusts) suits =
+    both_anchors r some trusts (subst (λ (t : Task). Suits t r) is suits).3
+reason_unsuited NoLists task r (is, none, left) suits =
+    no_lists r none left (subst (λ (t : Task). Suits t r) is suits).4
+reason_unsuited BothLists task r (is, some, left) suits =
+    both_lists r some left (subst (λ (t : Task). Suits t r) is suits).4
 reason_unsuited _ task r reason suits = absurd reason

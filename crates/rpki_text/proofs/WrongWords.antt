@@ -1,17 +1,20 @@
 -- The first wrong word of a command line: how it is found, and that there are no parts then.
 use Rattle.std.specs.Prelude.{Some, codes}
+use Rattle.std.specs.Borrow.{Bor}
 use Rattle.std.specs.declared.vec.Vec.{Vec}
 use Rattle.std.proofs.Common.{◌≡◌, ℕ, ◌+◌, ◌<◌, List, [], ◌∷◌, ◌++◌, length, get_or, take, drop, refl, ap, ◌∙◌, subst, inl, inr}
+use Rattle.rpki_der.specs.Times.{Moment, IsMoment}
+use Rattle.rpki_text.specs.MomentTexts.{IsMomentText}
 use Rattle.rpki_text.specs.declared.command_line.arguments.Format.{Format}
 use Rattle.rpki_text.specs.declared.command_line.arguments.Misuse.{Misuse}
-use Rattle.rpki_text.specs.declared.command_line.arguments.Misuse.TheVariants.{Unknown, NoValue, NoMoment, NoSize, NoNumber, NoFormat}
+use Rattle.rpki_text.specs.declared.command_line.arguments.Misuse.TheVariants.{Unknown, NoValue, WrongValue}
 use Rattle.rpki_text.specs.declared.command_line.arguments.Setting.{Setting}
 use Rattle.rpki_text.specs.declared.command_line.arguments.Setting.TheVariants.{At, MaxSize}
-use Rattle.rpki_text.specs.CommandLines.{IsFormatName, IsPart, LinePart, lenient, json, quiet, all, no_names, help, AreParts, RequestFields, setting_name, with_part}
+use Rattle.rpki_text.specs.CommandLines.{IsFormatName, IsNumberText, IsPart, LinePart, lenient, json, quiet, all, no_names, trust_first, no_crl, help, AreParts, RequestFields, setting_name, with_part}
 use Rattle.rpki_text.specs.CommandLines.Steps.{IsOptionName, IsSetPart, IsSwitch}
 use Rattle.rpki_text.specs.CommandLines.Views.{word_octets}
-use Rattle.rpki_text.specs.Misuses.{BeginsWith, IsBound, IsNoNumber, IsUnknownOption, IsWrongFirst, NamesFormat}
-use Rattle.rpki_text.specs.Misuses.Steps.{TellsValue, TellsWord}
+use Rattle.rpki_text.specs.Misuses.{BeginsWith, IsUnknownOption, IsWrongFirst}
+use Rattle.rpki_text.specs.Misuses.Steps.{IsBound, NamesFormat, TellsValue, TellsWord}
 use Rattle.rpki_text.specs.WordParts.{BeginsNoPart, IsFirstWrong, IsOption, Joins}
 use Rattle.rpki_text.proofs.CommandParts.{line_grammar, line_clear, no_option}
 use Rattle.rpki_text.proofs.PartsOfWords.{none_behind, value_missing, no_value, no_joined}
@@ -23,6 +26,37 @@ use Rattle.rpki_text.proofs.WordByWord.{AreAdded, value_split}
 pub unknown_option : (word : List ℕ) → IsOption word → ((setting : Setting) → IsOptionName setting word → ⊥) → ((setting : Setting) (value : List ℕ) → Joins (setting_name setting) value word → ⊥) → ((part : LinePart) → IsSwitch part word → ⊥) → IsUnknownOption word
 unknown_option word is_option unnamed unjoined no_switch =
     (is_option, (λ part is. no_option word is_option unnamed unjoined no_switch part (word ∷ []) [] [] is refl), unnamed, unjoined)
+
+-- an option that bounds a walk, and a value that is no number
+pub no_number : (setting : Setting) (value : List ℕ) → IsBound setting → ((n : ℕ) → IsNumberText n value → ⊥) → (part : LinePart) → IsSetPart setting value part → ⊥
+no_number setting value (inl is) none part set =
+    let its = subst (λ (s : Setting). IsSetPart s value part) is set in
+    none its.0 its.2
+no_number setting value (inr is) none part set =
+    let its = subst (λ (s : Setting). IsSetPart s value part) is set in
+    none its.0 its.2
+
+-- the one of a file's size, and a value that is no number
+pub no_size : (value : List ℕ) → ((n : ℕ) → IsNumberText n value → ⊥) → (part : LinePart) → IsSetPart MaxSize value part → ⊥
+no_size value none part set = none set.0 set.2
+
+-- one that names a format, and a value that is none
+pub no_format : (setting : Setting) (value : List ℕ) → NamesFormat setting → ((f : Format) → IsFormatName f value → ⊥) → (part : LinePart) → IsSetPart setting value part → ⊥
+no_format setting value (inl is) none part set =
+    let its = subst (λ (s : Setting). IsSetPart s value part) is set in
+    none its.0 its.2
+no_format setting value (inr is) none part set =
+    let its = subst (λ (s : Setting). IsSetPart s value part) is set in
+    none its.0 its.2
+
+-- one that names a moment, and a value that is none
+pub no_moment : (value : List ℕ) → ((m : Moment) → IsMoment m → IsMomentText m value → ⊥) → (part : LinePart) → IsSetPart At value part → ⊥
+no_moment value none part set = none set.0 set.2 set.3
+
+-- a value that an option doesn't take is told
+pub value_told : (setting : Setting) (value : Bor (List ℕ)) → ((part : LinePart) → IsSetPart setting value.now part → ⊥) → TellsValue (WrongValue setting value) setting value.now
+value_told setting value none words begins =
+    (begins, λ takes. no_value line_grammar line_clear setting value.now none takes.0 (setting_name setting ∷ value.now ∷ []) [] [] takes.1 refl)
 
 -- what is told of an option and its value is told of a word that joins them
 pub word_joined : (misuse : Misuse) (setting : Setting) (value word : List ℕ) → Joins (setting_name setting) value word → TellsValue misuse setting value → TellsWord misuse word
@@ -54,6 +88,8 @@ switch_part quiet word (inl is) = inl (ap (λ (w : List ℕ). w ∷ []) is)
 switch_part quiet word (inr is) = inr (ap (λ (w : List ℕ). w ∷ []) is)
 switch_part all word is = ap (λ (w : List ℕ). w ∷ []) is
 switch_part no_names word is = ap (λ (w : List ℕ). w ∷ []) is
+switch_part trust_first word is = ap (λ (w : List ℕ). w ∷ []) is
+switch_part no_crl word is = ap (λ (w : List ℕ). w ∷ []) is
 switch_part help word (inl is) = inl (ap (λ (w : List ℕ). w ∷ []) is)
 switch_part help word (inr is) = inr (ap (λ (w : List ℕ). w ∷ []) is)
 switch_part _ word is = absurd is
@@ -61,24 +97,6 @@ switch_part _ word is = absurd is
 -- an option that there isn't begins no part
 no_unknown : (word : List ℕ) → IsUnknownOption word → BeginsNoPart IsPart (word ∷ [])
 no_unknown word unknown = no_option word unknown.0 unknown.2 unknown.3 (λ part is. unknown.1 part (switch_part part word is))
-
--- a bound that is no number is no part
-no_bound : (setting : Setting) (value : List ℕ) → IsBound setting → IsNoNumber value → (part : LinePart) → IsSetPart setting value part → ⊥
-no_bound setting value (inl is) none part set =
-    let its = subst (λ (s : Setting). IsSetPart s value part) is set in
-    none its.0 its.2
-no_bound setting value (inr is) none part set =
-    let its = subst (λ (s : Setting). IsSetPart s value part) is set in
-    none its.0 its.2
-
--- a format that is none is no part
-no_format : (setting : Setting) (value : List ℕ) → NamesFormat setting → ((f : Format) → IsFormatName f value → ⊥) → (part : LinePart) → IsSetPart setting value part → ⊥
-no_format setting value (inl is) none part set =
-    let its = subst (λ (s : Setting). IsSetPart s value part) is set in
-    none its.0 its.2
-no_format setting value (inr is) none part set =
-    let its = subst (λ (s : Setting). IsSetPart s value part) is set in
-    none its.0 its.2
 
 module _ (parts others : List LinePart) (before behind words : List (List ℕ)) (parts_are : AreParts parts before) (words_are : words ≡ before ++ behind) (are : AreParts others words) where
   -- those behind the parts begin with an option and what isn't its value
@@ -97,10 +115,8 @@ module _ (parts others : List LinePart) (before behind words : List (List ℕ)) 
       none_behind line_grammar line_clear parts others before [] rest words word.now parts_are (no_unknown word.now unknown) (words_are ∙ ap (λ (l : List (List ℕ)). before ++ l) is) are
   no_first (NoValue setting) is =
       value_missing line_grammar line_clear parts others before words setting parts_are (words_are ∙ ap (λ (l : List (List ℕ)). before ++ l) is) are
-  no_first (NoMoment text) (begins, none) = no_setting At text.now begins (λ part set. none set.0 set.2 set.3)
-  no_first (NoSize text) (begins, none) = no_setting MaxSize text.now begins (λ part set. none set.0 set.2)
-  no_first (NoNumber setting text) (bound, begins, none) = no_setting setting text.now begins (no_bound setting text.now bound none)
-  no_first (NoFormat text) (setting, names, begins, none) = no_setting setting text.now begins (no_format setting text.now names none)
+  no_first (WrongValue setting value) (begins, none) =
+      no_setting setting value.now begins (λ part set. none (part, line_clear.is_part setting value.now part (setting_name setting ∷ value.now ∷ []) set (inl refl)))
   no_first _ wrong = absurd wrong
 
 -- what is told of the first wrong word is told of no parts

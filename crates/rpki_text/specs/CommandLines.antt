@@ -52,7 +52,7 @@ pub data LinePart : Type 0 where
   at_moment : Moment → LinePart
   depth steps max_size : ℕ → LinePart
   output : Format → LinePart
-  lenient json quiet all no_names help : LinePart
+  lenient json quiet all no_names trust_first no_crl help : LinePart
 
 -- the words are this part
 abbrev pub IsPart : LinePart → List (List ℕ) → Type 0
@@ -77,6 +77,8 @@ IsPart json words = (words ≡ codes "--json" ∷ []) ⊎ (words ≡ codes "-j" 
 IsPart quiet words = (words ≡ codes "--quiet" ∷ []) ⊎ (words ≡ codes "-q" ∷ [])
 IsPart all words = words ≡ codes "--all" ∷ []
 IsPart no_names words = words ≡ codes "--no-names" ∷ []
+IsPart trust_first words = words ≡ codes "--trust-first" ∷ []
+IsPart no_crl words = words ≡ codes "--no-crl" ∷ []
 IsPart help words = (words ≡ codes "--help" ∷ []) ⊎ (words ≡ codes "-h" ∷ [])
 
 -- the words are these parts, in any order
@@ -88,9 +90,9 @@ AreParts parts words = AreInOrder IsPart parts words
 -- the task, the moment if one is given, whether names are read strictly, the format of what is
 -- printed, whether nothing is printed, whether all entries of a list are printed, how many octets a
 -- file may have, whether names of issuer and subject have to be the same, the files, those given as
--- revocation lists and as locators of trust anchors, the folders in which a path is sought, and, if
--- they are given, how many certificates a path has at most below the trust anchor, and how many are
--- verified at most
+-- CRLs and as TALs, the folders in which a path is sought, whether the first certificate is trusted
+-- without a TAL, whether revocation isn't checked, and, if they are given, how many certificates a
+-- path has at most below the trust anchor, and how many are verified at most
 pub record RequestFields : Type 0 where
   pub task : Task
   pub at : Option Moment
@@ -104,6 +106,8 @@ pub record RequestFields : Type 0 where
   pub lists : List (List ℕ)
   pub locators : List (List ℕ)
   pub folders : List (List ℕ)
+  pub trust_first : Bool
+  pub no_crl : Bool
   pub depth : Option ℕ
   pub steps : Option ℕ
 
@@ -127,6 +131,8 @@ only_task task =
       lists = [];
       locators = [];
       folders = [];
+      trust_first = false;
+      no_crl = false;
       depth = None;
       steps = None;
     }
@@ -151,6 +157,8 @@ with_part r json = record r { format = Json }
 with_part r quiet = record r { is_quiet = true }
 with_part r all = record r { all_entries = true }
 with_part r no_names = record r { names = false }
+with_part r trust_first = record r { trust_first = true }
+with_part r no_crl = record r { no_crl = true }
 with_part r help = record r { task = Help }
 
 -- with what these parts say, one after the other
@@ -161,11 +169,16 @@ with_parts r parts = fold with_part r parts
 abbrev pub AsksNoBounds : RequestFields → Type 0
 AsksNoBounds r = (r.depth ≡ None) × (r.steps ≡ None)
 
+-- nothing is left out: neither TAL nor CRLs
+abbrev pub LeavesNothingOut : RequestFields → Type 0
+LeavesNothingOut r = (r.trust_first ≡ false) × (r.no_crl ≡ false)
+
 -- nothing is said that only a path is asked about: no lists, no locators, no folders, not that
--- names are left out, and no bounds
+-- names, TAL or CRLs are left out, and no bounds
 abbrev pub AsksNoPath : RequestFields → Type 0
 AsksNoPath r =
-    (r.lists ≡ []) × (r.locators ≡ []) × (r.folders ≡ []) × (r.names ≡ true) × AsksNoBounds r
+    (r.lists ≡ []) × (r.locators ≡ []) × (r.folders ≡ []) × (r.names ≡ true) × LeavesNothingOut r
+    × AsksNoBounds r
 
 -- one of the names is that of standard input
 abbrev pub NamesInput : List (List ℕ) → Type 0
@@ -188,12 +201,29 @@ SuitsFolders (first ∷ more) r = AsksSearch r
 -- what a tree wants: locators, and no option that it doesn't take
 abbrev pub AsksTree : RequestFields → Type 0
 AsksTree r =
-    (r.lists ≡ []) × (r.folders ≡ []) × (r.all_entries ≡ false) × (r.locators ≢ [])
+    (r.lists ≡ []) × (r.folders ≡ []) × (r.all_entries ≡ false) × LeavesNothingOut r
+    × (r.locators ≢ [])
+
+-- it is said once what the trust anchor is compared with: TALs, or nothing
+abbrev pub SaysAnchor : RequestFields → Type 0
+SaysAnchor r =
+    ((r.locators ≢ []) × (r.trust_first ≡ false)) ⊎ ((r.locators ≡ []) × (r.trust_first ≡ true))
+
+-- CRLs are given, or folders that have them
+abbrev pub GivesLists : RequestFields → Type 0
+GivesLists r = (r.lists ≢ []) ⊎ (r.folders ≢ [])
+
+-- it is said once which CRLs are checked: those that are given, or none
+abbrev pub SaysLists : RequestFields → Type 0
+SaysLists r =
+    (GivesLists r × (r.no_crl ≡ false))
+    ⊎ ((r.lists ≡ []) × (r.folders ≡ []) × (r.no_crl ≡ true))
 
 -- what the task wants: files, and no option that only another task takes
 abbrev pub Suits : Task → RequestFields → Type 0
 Suits Show r = (r.files ≢ []) × AsksNoPath r
-Suits Validate r = (r.files ≢ []) × (r.all_entries ≡ false) × SuitsFolders r.folders r
+Suits Validate r =
+    (r.files ≢ []) × (r.all_entries ≡ false) × SuitsFolders r.folders r × SaysAnchor r × SaysLists r
 Suits Tree r = (r.files ≢ []) × AsksTree r
 Suits _ r = Unit {0}
 

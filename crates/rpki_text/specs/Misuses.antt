@@ -1,16 +1,12 @@
 -- What is told of words that are no command line: something that is wrong with them, of the first
 -- word that is wrong, or of what they ask (own).
 use Rattle.std.specs.Prelude.{◌≡◌, ◌≢◌, ◌⊎◌, ℕ, List, [], ◌∷◌, ◌++◌, length, None, true, false, codes}
-use Rattle.rpki_der.specs.Times.{Moment, IsMoment}
-use Rattle.rpki_text.specs.MomentTexts.{IsMomentText}
-use Rattle.rpki_text.specs.declared.command_line.arguments.Format.{Format}
 use Rattle.rpki_text.specs.declared.command_line.arguments.Misuse.{Misuse}
-use Rattle.rpki_text.specs.declared.command_line.arguments.Misuse.TheVariants.{NoTask, Unknown, NoValue, NoMoment, NoSize, NoNumber, NoFormat, NoFile, OneFile, ListsIn, NoLocator, NoLocatorIn, BoundsIn, InputIn}
+use Rattle.rpki_text.specs.declared.command_line.arguments.Misuse.TheVariants.{NoTask, UnknownTask, Unknown, NoValue, WrongValue, NoFile, OneFile, ListsIn, NoLocator, NoLocatorIn, BoundsIn, InputIn, NoAnchor, BothAnchors, NoLists, BothLists}
 use Rattle.rpki_text.specs.declared.command_line.arguments.Setting.{Setting}
-use Rattle.rpki_text.specs.declared.command_line.arguments.Setting.TheVariants.{Depth, StepCount, At, MaxSize, Output, ShortOutput}
 use Rattle.rpki_text.specs.declared.command_line.arguments.Task.{Task}
 use Rattle.rpki_text.specs.declared.command_line.arguments.Task.TheVariants.{Show, Validate, Tree, Help, Version}
-use Rattle.rpki_text.specs.CommandLines.{IsFormatName, IsNumberText, IsPart, IsTaskName, LinePart, AreParts, RequestFields, only_task, setting_name, with_files, with_parts, AsksNoBounds, ReadsInput}
+use Rattle.rpki_text.specs.CommandLines.{IsPart, IsTaskName, LinePart, AreParts, RequestFields, only_task, setting_name, with_files, with_parts, AsksNoBounds, GivesLists, ReadsInput}
 use Rattle.rpki_text.specs.WordParts.{IsFirstWrong, IsOption, GivesValue, Joins, words_before, words_behind}
 pub mod Steps
 
@@ -30,35 +26,27 @@ BeginsWith setting value words =
     (front : List (List ℕ)) × (rest : List (List ℕ)) × GivesValue (setting_name setting) value front
     × (words ≡ front ++ rest)
 
--- the option bounds a walk, by a number
-abbrev pub IsBound : Setting → Type 0
-IsBound setting = (setting ≡ Depth) ⊎ (setting ≡ StepCount)
-
--- the option names the format of what is printed, by either of its names
-abbrev pub NamesFormat : Setting → Type 0
-NamesFormat setting = (setting ≡ Output) ⊎ (setting ≡ ShortOutput)
-
--- no number has this text
-abbrev pub IsNoNumber : List ℕ → Type 0
-IsNoNumber text = (n : ℕ) → IsNumberText n text → ⊥
+-- the option and this value, as two words, are a part
+abbrev pub Takes : Setting → List ℕ → Type 0
+Takes setting value = (part : LinePart) × IsPart part (setting_name setting ∷ value ∷ [])
 
 -- the words begin with what is told: with an option that there isn't, with one whose value is
--- missing, or with one and a value that is no moment, no number or no format
+-- missing, or with one and a value that it doesn't take
 abbrev pub IsWrongFirst : Misuse → List (List ℕ) → Type 0
 IsWrongFirst (Unknown word) words =
     (rest : List (List ℕ)) × (words ≡ word.now ∷ rest) × IsUnknownOption word.now
 IsWrongFirst (NoValue setting) words = words ≡ setting_name setting ∷ []
-IsWrongFirst (NoMoment text) words =
-    BeginsWith At text.now words × ((m : Moment) → IsMoment m → IsMomentText m text.now → ⊥)
-IsWrongFirst (NoSize text) words = BeginsWith MaxSize text.now words × IsNoNumber text.now
-IsWrongFirst (NoNumber setting text) words =
-    IsBound setting × BeginsWith setting text.now words × IsNoNumber text.now
-IsWrongFirst (NoFormat text) words =
-    (setting : Setting) × NamesFormat setting × BeginsWith setting text.now words
-    × ((f : Format) → IsFormatName f text.now → ⊥)
+IsWrongFirst (WrongValue setting value) words =
+    BeginsWith setting value.now words × (Takes setting value.now → ⊥)
 IsWrongFirst _ words = ⊥
 
 -- ---- what is asked
+
+-- TAL or CRLs are left out by the option of this name
+abbrev pub IsLeftOutBy : List ℕ → RequestFields → Type 0
+IsLeftOutBy name r =
+    ((name ≡ codes "--trust-first") × (r.trust_first ≡ true))
+    ⊎ ((name ≡ codes "--no-crl") × (r.no_crl ≡ true))
 
 -- an option of this name is given, and the task doesn't take it
 abbrev pub IsExtra : Task → List ℕ → RequestFields → Type 0
@@ -67,13 +55,14 @@ IsExtra Show name r =
     ⊎ (((name ≡ codes "--tal") × (r.locators ≢ []))
     ⊎ (((name ≡ codes "--in") × (r.folders ≢ []))
     ⊎ (((name ≡ codes "--no-names") × (r.names ≡ false))
+    ⊎ (IsLeftOutBy name r
     ⊎ (((name ≡ codes "--depth") × (r.depth ≢ None))
-    ⊎ ((name ≡ codes "--steps") × (r.steps ≢ None))))))
+    ⊎ ((name ≡ codes "--steps") × (r.steps ≢ None)))))))
 IsExtra Validate name r = (name ≡ codes "--all") × (r.all_entries ≡ true)
 IsExtra Tree name r =
     ((name ≡ codes "--crl") × (r.lists ≢ []))
     ⊎ (((name ≡ codes "--in") × (r.folders ≢ []))
-    ⊎ ((name ≡ codes "--all") × (r.all_entries ≡ true)))
+    ⊎ (((name ≡ codes "--all") × (r.all_entries ≡ true)) ⊎ IsLeftOutBy name r))
 IsExtra _ name r = ⊥
 
 -- a path is to be sought in folders
@@ -90,6 +79,10 @@ IsReason NoLocator task r = (task ≡ Tree) × (r.locators ≡ [])
 IsReason NoLocatorIn task r = SeeksPath task r × (r.locators ≡ [])
 IsReason BoundsIn task r = (task ≡ Validate) × (r.folders ≡ []) × (AsksNoBounds r → ⊥)
 IsReason InputIn task r = SeeksPath task r × ReadsInput r
+IsReason NoAnchor task r = (task ≡ Validate) × (r.locators ≡ []) × (r.trust_first ≡ false)
+IsReason BothAnchors task r = (task ≡ Validate) × (r.locators ≢ []) × (r.trust_first ≡ true)
+IsReason NoLists task r = (task ≡ Validate) × (GivesLists r → ⊥) × (r.no_crl ≡ false)
+IsReason BothLists task r = (task ≡ Validate) × GivesLists r × (r.no_crl ≡ true)
 IsReason _ task r = ⊥
 
 -- the words behind the task are parts, and what they ask doesn't suit its task, as is told
@@ -104,7 +97,7 @@ pub record IsUnsuited (misuse : Misuse) (task : Task) (words : List (List ℕ)) 
 
 -- no task has this name, as is told
 abbrev pub IsUnknownTask : Misuse → List ℕ → Type 0
-IsUnknownTask (Unknown word) name =
+IsUnknownTask (UnknownTask word) name =
     (word.now ≡ name) × ((task : Task) → IsTaskName task name → ⊥)
 IsUnknownTask _ name = ⊥
 

@@ -9,7 +9,7 @@ use crate::page::Page;
 use rpki_blocks::{Addr, AsBlock, AsBlocks, AsResources, IpBlock, IpBlocks, IpResources};
 use std::fmt;
 
-/// Which of the two families of addresses a block is of. IPv4 stands in the upper 32 bits.
+/// The family of addresses of a block. An IPv4 address is in the upper 32 bits.
 #[derive(Clone, Copy, PartialEq, Eq)]
 pub enum Family {
     V4,
@@ -57,14 +57,14 @@ impl fmt::Display for Numbers {
     }
 }
 
-/// Prints a block: a prefix where it is one, and else its ends.
+/// Prints a block: a prefix if it is one, and else its two ends.
 pub fn ip_block(page: &mut Page, family: Family, block: IpBlock)
     ensures { Appends page.old (family_text family block) page.new }
 {
     page.value(&Addresses { family, block });
 }
 
-/// Prints the lower end of a block, or its upper one.
+/// Prints the lower end of a block, or the upper one.
 #[tactic(auto, unfolding(std::specs::Net::Addr::IsIpv4OfBits, std::specs::Net::Addr::IsIpv6OfBits))]
 pub fn ip_end(page: &mut Page, family: Family, at: Addr)
     ensures { Appends page.old (family_address_text family at) page.new }
@@ -160,7 +160,7 @@ impl fmt::Display for AsLines<'_> {
     }
 }
 
-/// Prints a line for each block of a set; `none` where it is empty.
+/// Prints a line for each block of a set, or `none` if the set is empty.
 pub fn ip_blocks(page: &mut Page, label: &str, family: Family, blocks: &IpBlocks)
     ensures { Appends page.old (blocks_lines (family_text family) label.now blocks.now) page.new }
 {
@@ -171,14 +171,15 @@ pub fn ip_blocks(page: &mut Page, label: &str, family: Family, blocks: &IpBlocks
     });
 }
 
-/// Prints a line for each block of AS numbers; `none` where there are none.
+/// Prints a line for each block of AS numbers, or `none` if there is no block.
 pub fn as_blocks(page: &mut Page, label: &str, blocks: &AsBlocks)
     ensures { Appends page.old (blocks_lines as_numbers_text label.now blocks.now) page.new }
 {
     page.value(&AsLines { label, blocks });
 }
 
-/// Writes what a certificate lists of a family of addresses: blocks, `inherited`, or nothing.
+/// Writes the resources of a family of addresses that a certificate lists: blocks, `inherited`, or
+/// nothing.
 pub fn write_ip_resources<W: fmt::Write>(
     f: &mut fmt::Formatter<W>,
     label: &str,
@@ -195,7 +196,7 @@ pub fn write_ip_resources<W: fmt::Write>(
     }
 }
 
-/// Writes what a certificate lists of AS numbers: blocks, `inherited`, or nothing.
+/// Writes the AS numbers that a certificate lists: blocks, `inherited`, or nothing.
 pub fn write_as_resources<W: fmt::Write>(
     f: &mut fmt::Formatter<W>,
     label: &str,

@@ -1,4 +1,4 @@
-//! A certificate for a person.
+//! The text of a certificate for a person.
 ghost use Rattle.std.specs.Prelude.{◌≡◌, ◌++◌, Some, codes, option_map};
 ghost use Rattle.std.specs.Fmt.{WritesOnOk};
 ghost use Rattle.rpki_der.specs.Texts.{serial_text};
@@ -17,7 +17,7 @@ use rpki_der::{Serial, Time};
 use rpki_parts::{Https, KeyIdentifier, PublicKey, PublicKeyFormat, Rsync, Validity};
 use std::fmt;
 
-/// Prints the serial number in hexadecimal, without zeros before it but in whole octets.
+/// Prints the serial number in hexadecimal: whole bytes, without leading zero bytes.
 pub fn serial(page: &mut Page, it: Serial)
     ensures { Appends page.old (serial_text it) page.new }
 {
@@ -31,7 +31,7 @@ pub fn key_identifier(page: &mut Page, it: &KeyIdentifier)
     page.value(&Colons(it.as_octets().as_slice()));
 }
 
-/// What inspection answers for each kind: nothing where the profile is met, else the first fault.
+/// The results of inspection for each kind: nothing if the profile is met, else the first error.
 #[derive(Clone, Copy)]
 pub struct Answers {
     pub anchor: Option<InspectionError>,
@@ -41,7 +41,7 @@ pub struct Answers {
     pub router: Option<InspectionError>,
 }
 
-/// Returns what inspection answers for each kind.
+/// Inspects a certificate as each kind.
 pub fn answers_of(cert: &Cert, strict: bool) -> Answers
     ensures { AreAnswers strict cert.now result }
 {
@@ -55,7 +55,7 @@ pub fn answers_of(cert: &Cert, strict: bool) -> Answers
 }
 
 impl Answers {
-    /// Returns the answer of a kind's profile.
+    /// Returns the result of a kind's profile.
     pub fn of(&self, kind: Kind) -> Option<InspectionError>
         ensures { result ≡ answer_for kind self.now }
     {
@@ -82,8 +82,8 @@ pub fn kind_name(kind: Kind) -> &'static str
     }
 }
 
-/// What is found of a certificate beyond its fields: what it is, what inspection answers for each
-/// kind, and what its key is.
+/// What is found of a certificate beyond its fields: its kind, the result of inspection for each
+/// kind, and the form of its key.
 #[derive(Clone, Copy)]
 pub struct Findings {
     pub kind: Kind,
@@ -367,7 +367,7 @@ impl fmt::Display for ShownCertificate<'_> {
     }
 }
 
-/// Prints a certificate at a moment, and what is found of it.
+/// Prints a certificate at a validation time, and what is found of it.
 pub fn certificate(page: &mut Page, cert: &Cert, now: Time, strict: bool)
     ensures { (found : _) × AreFindings strict cert.now found
         × Appends page.old (certificate_text cert.now.fields now found) page.new }

@@ -1,6 +1,6 @@
-//! The command line of the command for people: what its words ask, or what is wrong with them, said
-//! in a line. Only words are read here, never a file: what a command line asks is known before
-//! anything is opened.
+//! The command line of the command for people: the request that its words make, or what is wrong
+//! with them, in one line. Only words are read here and never a file, so a request is known before
+//! any file is opened.
 
 mod arguments;
 pub mod parts;

@@ -6,9 +6,9 @@ use crate::lines::write_colons;
 use rpki_parts::Dotted;
 use std::fmt;
 
-/// An object identifier by the octets of its content: its numbers with dots between them, as
-/// `1.2.840`, or its octets in hexadecimal with colons between them where one number is 2^64 or
-/// more.
+/// An object identifier, by the bytes of its content. It is printed as its numbers with dots
+/// between them, such as `1.2.840`, or as its bytes in hexadecimal with colons between them if one
+/// number is 2^64 or more.
 #[derive(Drop)]
 pub struct Identifier<'a>(pub &'a [u8]);
 

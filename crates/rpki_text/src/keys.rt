@@ -1,4 +1,4 @@
-//! What is said of a key.
+//! The text of a key.
 ghost use Rattle.std.specs.Prelude.{◌≡◌, ◌↔◌, IsTrue, Some};
 ghost use Rattle.rpki_keys.specs.KeyForms.{IsUsableKey};
 ghost use Rattle.rpki_text.specs.KeyTexts.{IsKeyAnswer, IsLocatorKey, exponent_text, form_text, asked_text, key_text, locator_key_text};
@@ -7,15 +7,15 @@ use rpki_keys::{KeyForm, form_of, is_usable};
 use rpki_parts::{PublicKey, PublicKeyFormat};
 use std::fmt;
 
-/// What a key is, and whether the RPKI uses it. It is printed as that, and where it can't be used
-/// with what is asked of it: `RSA, 2048 bits, exponent 65537`.
+/// The form of a key, and whether the RPKI uses such a key. It is printed as its form, such as
+/// `RSA, 2048 bits, exponent 65537`. If the RPKI doesn't use it, the required form is printed too.
 #[derive(Clone, Copy)]
 pub struct KeyAnswer {
     pub form: KeyForm,
     pub is_usable: bool,
 }
 
-/// Returns what the key is, and whether the RPKI uses it.
+/// Returns the form of the key, and whether the RPKI uses such a key.
 pub fn answer_of(key: &PublicKey) -> KeyAnswer
     ensures { IsKeyAnswer key.now result }
 {
@@ -35,7 +35,8 @@ fn can_verify(key: &PublicKey) -> bool
     }
 }
 
-/// Returns what the key of a locator is, and whether signatures of the RPKI are verified with it.
+/// Returns the form of a TAL's key, and whether signatures of the RPKI are verified with such a
+/// key.
 pub fn answer_of_locator(key: &PublicKey) -> KeyAnswer
     ensures { IsLocatorKey key.now result }
 {
@@ -115,8 +116,8 @@ impl fmt::Display for KeyAnswer {
     }
 }
 
-/// The key of a locator. It is printed as what it is, and where no signature is verified with it
-/// with what is asked of it.
+/// The key of a TAL. It is printed as its form. If no signature is verified with such a key, the
+/// required form is printed too.
 #[derive(Clone, Copy)]
 pub struct LocatorKey(pub KeyAnswer);
 

@@ -3,7 +3,7 @@ ghost use Rattle.std.specs.Prelude.{◌≡◌, ◌++◌, ◌∷◌, ℕ, IsTrue,
 ghost use Rattle.rpki_der.specs.Values.{AreOctets};
 ghost use Rattle.rpki_text.specs.Pages.{AreVisible, IsUnseparated, file_name_text, inner_name_text, separates};
 
-/// Says that a file's name is printed as visible characters of ASCII and spaces alone, so that it
+/// States that a file's name is printed as visible ASCII characters and spaces alone, so that it
 /// stays in its line, and that no two names are printed alike.
 pub fn file_names()
     ensures visible { (name : List ℕ) → AreOctets name → AreVisible (file_name_text name) }
@@ -11,9 +11,10 @@ pub fn file_names()
         → file_name_text one ≡ file_name_text other → one ≡ other }
 {}
 
-/// Says the same of a file's name behind which more follows in its line, and that no separator is
-/// in it: where two lines that have a separator behind a name are one, the names are one, and so
-/// is what follows. So no name adds to its line, or imitates what is printed behind another.
+/// States the same of a file's name that is followed by more in its line, and that the printed name
+/// has no separator. If two lines with a separator after a name are equal, their names are equal,
+/// and so is what follows. No name can therefore add to its line or imitate what is printed after
+/// another name.
 pub fn inner_names()
     ensures visible { (name : List ℕ) → AreOctets name → AreVisible (inner_name_text name) }
     ensures unseparated { (name : List ℕ) → AreOctets name → IsUnseparated (inner_name_text name) }

@@ -1,5 +1,5 @@
-//! Texts for a person: certificates and revocation lists as lines of labels and values, notes on
-//! what a standard forbids (`notes`), and what the words of the command line ask (`command_line`).
+//! Texts for a person: certificates and CRLs as lines of labels and values, notes on what a
+//! standard forbids (`notes`), and the requests of the command line (`command_line`).
 #![tactic(auto)]
 
 pub mod blocks;

@@ -39,7 +39,7 @@ pub fn write_line<W: fmt::Write, T: fmt::Display>(
     write!(f, "{value}\n")
 }
 
-/// Writes a further line of the label above it.
+/// Writes a further line under the label above it.
 #[tactic(auto, unfolding(crate::specs::Pages::further_line))]
 pub fn write_further_line<W: fmt::Write, T: fmt::Display>(
     f: &mut fmt::Formatter<W>,
@@ -64,7 +64,7 @@ impl fmt::Display for Label<'_> {
     }
 }
 
-/// A number and what is counted, which has one name for one and another for others.
+/// A number with the name of what is counted: one name for 1, and another for other numbers.
 #[derive(Drop)]
 pub struct Count<'a> {
     pub number: u64,
@@ -90,7 +90,7 @@ fn write_octet<W: fmt::Write>(f: &mut fmt::Formatter<W>, octet: u8) -> fmt::Resu
     write!(f, "{octet:02X}")
 }
 
-/// Writes octets in hexadecimal, with colons between them.
+/// Writes bytes in hexadecimal, with colons between them.
 pub(crate) fn write_colons<W: fmt::Write>(f: &mut fmt::Formatter<W>, octets: &[u8]) -> fmt::Result
     ensures { WritesOnOk W.write_str_gives f.old result (colons_text octets.now) f.new }
 {
@@ -105,7 +105,7 @@ pub(crate) fn write_colons<W: fmt::Write>(f: &mut fmt::Formatter<W>, octets: &[u
     Ok(())
 }
 
-/// Octets in hexadecimal, with colons between them.
+/// Bytes in hexadecimal, with colons between them.
 #[derive(Drop)]
 pub struct Colons<'a>(pub &'a [u8]);
 
@@ -137,7 +137,8 @@ fn write_characters<W: fmt::Write>(f: &mut fmt::Formatter<W>, octets: &[u8]) -> 
     Ok(())
 }
 
-/// Octets as characters: visible ones of ASCII as they stand, a backslash and all others as `\xHH`.
+/// Bytes as characters: visible ASCII characters as they are, a backslash and other bytes as
+/// `\xHH`.
 #[derive(Drop)]
 pub struct Characters<'a>(pub &'a [u8]);
 
@@ -149,8 +150,9 @@ impl fmt::Display for Characters<'_> {
     }
 }
 
-/// The name of a file, at the end of a line. Whoever made the file chose it, so it is printed as
-/// octets are, and can't end its line, move the cursor or hide a letter.
+/// The name of a file, at the end of a line. Its bytes are printed as characters, because the
+/// person who made the file chose them: a name can't end its line, move the cursor or hide a
+/// letter.
 #[derive(Drop)]
 pub struct FileName<'a>(pub &'a str);
 
@@ -189,7 +191,7 @@ fn write_inner_name<W: fmt::Write>(f: &mut fmt::Formatter<W>, octets: &[u8]) -> 
     Ok(())
 }
 
-/// The name of a file behind which more follows in its line. A colon, a comma, `>` and an opening
+/// The name of a file that is followed by more in its line. A colon, a comma, `>` and an opening
 /// parenthesis are printed as `\xHH` too, so that the name can't look like what follows.
 #[derive(Drop)]
 pub struct InnerName<'a>(pub &'a str);

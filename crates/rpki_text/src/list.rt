@@ -1,4 +1,4 @@
-//! A revocation list for a person.
+//! The text of a CRL for a person.
 ghost use Rattle.std.specs.Prelude.{◌≡◌, ◌++◌, Some, IfSome, length, take, codes};
 ghost use Rattle.std.specs.Fmt.{WritesOnOk};
 ghost use Rattle.rpki_der.specs.Texts.{serial_text, time_text};
@@ -127,7 +127,7 @@ fn write_head<W: fmt::Write>(
     write_line(f, "Next update", &period)
 }
 
-/// Writes that a signature isn't checked where an object is shown.
+/// Writes that the signature isn't checked when an object is shown.
 #[tactic(auto, unfolding(crate::specs::ListTexts::signature_line))]
 pub fn write_signature<W: fmt::Write>(f: &mut fmt::Formatter<W>) -> fmt::Result
     ensures { WritesOnOk W.write_str_gives f.old result signature_line f.new }
@@ -158,7 +158,7 @@ impl fmt::Display for ShownList<'_> {
     }
 }
 
-/// Prints a list at a moment, with all revoked certificates or the first few.
+/// Prints a CRL at a validation time, with all revoked certificates or the first few.
 pub fn list(page: &mut Page, it: &Crl, now: Time, all: bool)
     ensures { Appends page.old (list_text it.now.list.fields now all) page.new }
 {

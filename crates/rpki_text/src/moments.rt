@@ -1,4 +1,4 @@
-//! Moments as text, as seconds, and what is said of a period at a moment.
+//! Times as text and as seconds, and the text of a period at a time.
 ghost use Rattle.std.specs.Prelude.{◌≡◌, ◌↔◌, ◌<◌, ◌^◌, Some, IfSome, IfNone, IsTrue, length, pos};
 ghost use Rattle.std.specs.Fmt.{WritesOnOk};
 ghost use Rattle.rpki_der.specs.Texts.{time_text};
@@ -42,8 +42,8 @@ impl fmt::Display for Duration {
     }
 }
 
-/// A period at a moment, with the words for its end, now and afterwards. It is shown as its end,
-/// and what time is left of it or gone since: `2026-11-25T06:00:00Z (expires in 3 days)`.
+/// A period at a time, with the words for its end before and after it. It is printed as its end and
+/// the time until it or since it: `2026-11-25T06:00:00Z (expires in 3 days)`.
 #[derive(Drop)]
 pub struct Period {
     pub ends: &'static str,
@@ -83,7 +83,7 @@ impl fmt::Display for Period {
     }
 }
 
-/// Returns the moment so many seconds from 1970-01-01T00:00:00Z, which is what a clock gives.
+/// Returns the time so many seconds after 1970-01-01T00:00:00Z, which is what a clock gives.
 pub fn from_seconds(seconds: u64) -> Option<Time>
     ensures some { IfSome result (λ t. IsMoment t × (timestamp t ≡ pos seconds)) }
     ensures none { seconds < 2 ^ 63
@@ -154,7 +154,7 @@ fn from_date_and_clock(text: &[u8]) -> Option<Time>
     Time::from_digits(&digits)
 }
 
-/// Reads the moment of `YYYY-MM-DD`, `YYYY-MM-DDThh:mm:ssZ` or `YYYYMMDDhhmmss`.
+/// Reads a time in the form `YYYY-MM-DD`, `YYYY-MM-DDThh:mm:ssZ` or `YYYYMMDDhhmmss`.
 pub fn from_text(text: &[u8]) -> Option<Time>
     ensures some { IfSome result (λ t. IsMoment t × IsMomentText t text.now) }
     ensures none { IfNone result ((t : Moment) → IsMoment t → IsMomentText t text.now → ⊥) }

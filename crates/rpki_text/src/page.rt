@@ -8,7 +8,7 @@ use std::alloc::{AllocError, Global};
 use std::fmt;
 use std::marker::Model;
 
-/// A text that grows. It remembers that memory ran out, so that printing needs no exit.
+/// A text that grows. It remembers that memory ran out, so that printing needs no early return.
 #[derive(Drop)]
 pub struct Page {
     alloc: Global,
@@ -36,7 +36,7 @@ impl Page {
         }
     }
 
-    /// Returns where its memory comes from.
+    /// Returns the allocator.
     pub fn alloc(&self) -> Global {
         self.alloc
     }
@@ -48,7 +48,7 @@ impl Page {
         self.has_failed = true;
     }
 
-    /// Appends the text as it stands.
+    /// Appends the text as it is.
     pub fn text(&mut self, text: &str)
         ensures { Appends self.old text.now self.new }
     {
@@ -64,7 +64,7 @@ impl Page {
         self.text("\n");
     }
 
-    /// Appends what was formed.
+    /// Appends a text that was formatted, or remembers that memory ran out.
     pub fn formed(&mut self, made: Result<String, AllocError>)
         ensures { MatchResult made (λ text. Appends self.old (string_bytes text) self.new)
             (λ _. self.new ≡ None) }
@@ -90,7 +90,8 @@ impl Page {
         self.value(&n);
     }
 
-    /// Appends the number and what is counted, which has one name for one and another for others.
+    /// Appends the number with the name of what is counted: one name for 1, another for other
+    /// numbers.
     pub fn count(&mut self, number: u64, one: &str, others: &str)
         ensures { Appends self.old (count_text number one.now others.now) self.new }
     {
@@ -101,7 +102,8 @@ impl Page {
         });
     }
 
-    /// Appends the octets as text, where they are printable ASCII; else each other one as `\xHH`.
+    /// Appends the bytes as characters: visible ASCII as it is, a backslash and other bytes as
+    /// `\xHH`.
     pub fn characters(&mut self, octets: &[u8])
         ensures { Appends self.old (characters_text octets.now) self.new }
     {
@@ -136,7 +138,11 @@ impl Page {
         self.end();
     }
 
-    /// Returns the text, once it is done. Errs where memory ran out.
+    /// Returns the finished text.
+    ///
+    /// # Errors
+    ///
+    /// Returns an error only if memory ran out.
     pub fn into_text(self) -> Result<String, AllocError>
         ensures { MatchResult result (λ text. self ≡ Some (string_bytes text)) (λ _. self ≡ None) }
     {

@@ -1,6 +1,6 @@
-//! The verdict on a path of files, from a trust anchor down, with real signatures and, where lists
-//! are given, with revocation; those on all certificates among files in no order; and the path to
-//! one of them.
+//! The verdict on a path of files, from a trust anchor down, with real signatures, and with
+//! revocation if CRLs are given; the verdicts on all certificates among files in any order; and the
+//! path to one of them.
 #![tactic(auto)]
 
 mod locators;

@@ -1,4 +1,4 @@
-//! Files that are given as locators of the trust anchor.
+//! Files that are given as TALs of the trust anchor.
 ghost use Rattle.std.specs.Prelude.{◌≡◌, ◌↔◌, Any, Ok, Err, IfOk, IfErr, IfNone, IfSome, IsTrue};
 ghost use Rattle.rpki_verdicts.specs.GivenLocators.{HasKeyRead, HasTalRead, IsFirst, IsRead};
 
@@ -8,7 +8,7 @@ use rpki_parts::PublicKey;
 use std::alloc::{AllocError, Global};
 use std::marker::Model;
 
-/// A file that is given as a locator, and what was read of it.
+/// A file that is given as a TAL, and what was read of it.
 #[derive(Drop)]
 pub struct GivenLocator<'n> {
     name: &'n str,
@@ -28,7 +28,12 @@ impl<'n> Model for GivenLocator<'n> {
 }
 
 impl<'n> GivenLocator<'n> {
-    /// Reads a file of this name as a locator, strictly or not. Errs where memory runs out.
+    /// Reads a file of this name as a TAL, in strict mode or not (RFC 8630 2.2). A file that isn't
+    /// a TAL is kept with the reason.
+    ///
+    /// # Errors
+    ///
+    /// Returns an error only if memory runs out.
     pub fn read(
         alloc: Global,
         name: &'n str,
@@ -85,7 +90,7 @@ impl<'n> GivenLocator<'n> {
     }
 }
 
-/// Returns what was read of the first locator of this key.
+/// Returns the first TAL with this key.
 pub fn tal_of_key<'q>(locators: &'q [GivenLocator<'_>], key: &PublicKey) -> Option<&'q Tal>
     ensures found { IfSome result (λ t. HasTalRead locators.now key.now t.now) }
     ensures none { IfNone result (Any (HasKeyRead key.now) locators.now → ⊥) }
@@ -98,7 +103,7 @@ pub fn tal_of_key<'q>(locators: &'q [GivenLocator<'_>], key: &PublicKey) -> Opti
     None
 }
 
-/// Finds the first locator of this key.
+/// Returns the index of the first TAL with this key.
 pub fn place_of_key(locators: &[GivenLocator<'_>], key: &PublicKey) -> Option<usize>
     ensures { IsFirst (HasKeyRead key.now) locators.now result }
 {

@@ -38,8 +38,8 @@ use rpki_path::{
 use std::alloc::{AllocError, Global};
 use std::marker::Model;
 
-/// What is asked of a path: its files from the trust anchor down, the revocation lists, the
-/// locators, whether names have to chain, the mode and the moment.
+/// A question about a path: its files from the trust anchor down, the CRLs, the TALs, whether names
+/// are checked, the mode and the validation time.
 #[derive(Drop)]
 pub struct Question<'q, 'n> {
     pub members: &'q [Object<'n>],
@@ -65,7 +65,7 @@ impl<'q, 'n> Model for Question<'q, 'n> {
     } };
 }
 
-/// Why a path is rejected: the place of the member, the step, the fault's name and what it means.
+/// Why a path is rejected: the path index, the step, the error's name and what it means.
 #[derive(Clone, Copy)]
 pub struct Fault {
     pub index: usize,
@@ -74,8 +74,8 @@ pub struct Fault {
     pub rule: Rule,
 }
 
-/// The answer: what the last member holds (of a router: the CA above it) and the router's
-/// certificate, or the first fault.
+/// The verdict: the last certificate with the resources that it holds (above a router, the CA) and
+/// the router's certificate, or the first error.
 #[derive(Drop)]
 pub enum Verdict {
     Accepted(Judged),
@@ -141,7 +141,11 @@ pub(crate) fn with_table(alloc: Global, list: &Crl) -> Result<Crl, AllocError>
     }
 }
 
-/// Returns the lists of the files that are lists, each with a table of its serial numbers.
+/// Returns the CRLs among the files, each with a table of its serial numbers.
+///
+/// # Errors
+///
+/// Returns an error only if memory runs out.
 pub fn lists_of(alloc: Global, files: &[Object<'_>]) -> Result<Vec<Crl>, AllocError>
     ensures { IfOk result (λ all. AreListsOf (contents files.now) all.items) }
 {
@@ -225,7 +229,7 @@ fn place_of_locator(question: &Question<'_, '_>) -> Option<usize>
     }
 }
 
-/// Returns the first of the locators whose key the trust anchor's certificate has (RFC 8630 3).
+/// Returns the first TAL whose key the trust anchor's certificate has (RFC 8630 3).
 pub fn located<'q, 'n>(question: &Question<'q, 'n>) -> Option<&'q GivenLocator<'n>>
     requires { All (IsRead question.now.strict) question.now.locators }
     ensures { IsAnchorLocator question.now (option_map (λ l. l.now) result) }
@@ -289,7 +293,7 @@ fn no_locator(index: usize, fault: &TalError) -> Fault
     }
 }
 
-/// Finds the first of the files that are given as locators, but are none, and why it is none.
+/// Finds the first file that is given as a TAL and isn't one, and why.
 pub fn first_no_locator(question: &Question<'_, '_>) -> Option<Fault>
     requires { All (IsRead question.now.strict) question.now.locators }
     ensures { let files = locator_octets question.now.locators in
@@ -458,10 +462,21 @@ fn judged_by<R: RevocationSource>(
     verdict
 }
 
-/// Validates a path of files with real signatures, from the trust anchor of a locator where some
-/// are given (RFC 8630 3), with the revocation lists where some are given, and, if names are
-/// checked, with names that chain (RFC 6487 7.2) and lists that have their issuers' names (RFC 5280
-/// 6.3.3). Gives `None` where there is no file.
+/// Validates a path of files with real signatures (RFC 6487 7.2, RFC 7935 2), and returns `None` if
+/// there is no file.
+///
+/// If TALs are given, the trust anchor has to have the key of one of them (RFC 8630 3). If CRLs are
+/// given, no certificate may be revoked by its issuer's newest CRL. If names are checked, they have
+/// to chain, and CRLs have to have their issuers' names (RFC 5280 6.3.3).
+///
+/// # Errors
+///
+/// Returns an error only if memory runs out. A rejection is a verdict.
+///
+/// # Not checked
+///
+/// Whether the RPKI uses the last certificate's key, and manifests (own). Revocation, if no CRL is
+/// given.
 pub fn judge(alloc: Global, question: &Question<'_, '_>) -> Result<Option<Verdict>, AllocError>
     requires { All (IsRead question.now.strict) question.now.locators }
     ensures { let x = context IsSignedByRsa question.now.at question.now.strict in
@@ -480,9 +495,9 @@ pub fn judge(alloc: Global, question: &Question<'_, '_>) -> Result<Option<Verdic
     verdict
 }
 
-/// Says that where lists were given, each member of an accepted path but the trust anchor is left
-/// unrevoked by one of them: the key of the member above signed it, it has that member's name if
-/// names are checked, it is current, and it doesn't have the member's serial number.
+/// States that, if CRLs are given, each certificate of an accepted path but the trust anchor is
+/// left unrevoked by one of them: the key of the certificate above signed it, it has that
+/// certificate's name if names are checked, it is current, and it doesn't have the serial number.
 pub fn accepted_are_unrevoked()
     ensures { (now : Moment) (strict : Bool) (d : Demands) (files lists : List (List ℕ))
         (list : List ℕ) (j : Holding) → let x = context IsSignedByRsa now strict in
@@ -490,7 +505,7 @@ pub fn accepted_are_unrevoked()
         → AreUnrevoked d.names x (list ∷ lists) files }
 {}
 
-/// Says that files aren't both accepted and rejected.
+/// States that the same files aren't both accepted and rejected.
 pub fn one_answer()
     ensures { (now : Moment) (strict : Bool) (d : Demands) (files lists : List (List ℕ))
         (j : Holding) (f : Faulty) → let x = context IsSignedByRsa now strict in
@@ -500,7 +515,8 @@ pub fn one_answer()
     rpki_crl::laws::unambiguous();
 }
 
-/// Says that an accepted path is accepted with one certificate last, which holds the same numbers.
+/// States that an accepted path is accepted with one last certificate, which holds the same
+/// resources.
 pub fn one_acceptance()
     ensures { (now : Moment) (strict : Bool) (d : Demands) (files lists : List (List ℕ))
         (j i : Holding) → let x = context IsSignedByRsa now strict in

@@ -1,4 +1,4 @@
-//! Why a path is rejected: the step at which a fault comes, its name, and what it means.
+//! Why a path is rejected: the step of an error, its name, and what it means.
 ghost use Rattle.rpki_files.specs.FaultRules.{rule_of};
 ghost use Rattle.rpki_verdicts.specs.Reasons.{IsReason, reason};
 
@@ -8,8 +8,8 @@ use rpki_files::rules::{
 };
 use rpki_path::PathFault;
 
-/// Tells of a fault of a path's member, which has these octets, at which step it came, its name,
-/// and what it means.
+/// Returns the step of an error of a path's certificate, the error's name, and what it means. The
+/// certificate is at the start of these bytes.
 pub fn of_path(fault: &PathFault, octets: &Bytes) -> (&'static str, &'static str, Rule)
     ensures { let answer = reason result.0.now result.1.now (rule_of result.2) in
         IsReason fault.now octets.now answer }

@@ -1,4 +1,4 @@
-//! The path to one file that is sought among others, in no order.
+//! The path to one file among others, in any order.
 ghost use Rattle.std.specs.Prelude.{◌≡◌, ◌<◌, ◌↔◌, ◌++◌, ◌∷◌, [], ℕ, All, List, length, Some, map, option_map, slice_get, IfOk, IfSome, IsFalse, IsTrue, MatchOption, OnOk};
 ghost use Rattle.rpki_folder.specs.Folders.{NamesSigner};
 ghost use Rattle.rpki_keys.specs.RsaSignatures.{IsSignedByRsa};
@@ -15,16 +15,16 @@ use rpki_folder::{Ended, Line};
 use rpki_parts::KeyIdentifier;
 use std::alloc::{AllocError, Global};
 
-/// How many files are put above one to which no valid path leads, unless they end sooner.
+/// The most files that are put above a file to which no valid path leads.
 const MOST_ABOVE: usize = 32;
 
-/// The path that is sought to a file, and whether each that may be valid was looked at.
+/// The path that was found to a file, and whether each path that may be valid was judged.
 #[derive(Drop)]
 pub struct Sought<'q, 'n> {
-    /// The files, of which the last one is the one that was sought.
+    /// The files. The last one is the file that was searched for.
     pub path: Vec<&'q BareObject<'n>>,
-    /// How the walk ended among whose certificates no valid path was found; whole, where there was
-    /// no walk or a valid path was found.
+    /// How the walk ended that found no valid path. `Whole` if there was no walk, or if a valid
+    /// path was found.
     pub ended: Ended,
 }
 
@@ -334,13 +334,21 @@ fn path_by<'q, 'n>(
     }
 }
 
-/// Seeks the path to the first of the files among the others, in whatever order they are: from the
-/// trust anchor ([`judge_all`]) down to it, with real signatures and with the revocation lists among
-/// the files. Where no valid path
-/// leads to it, gives files that end in it, of which [`crate::judge`] tells what is wrong: those
-/// that name one another as signers, or it alone; and whether the walk met a bound of the question
-/// before it had looked at every path. Gives none where there is no file. Errs only where memory
-/// runs out.
+/// Searches the path from the trust anchor ([`judge_all`]) to the first of the files, with real
+/// signatures and with the CRLs among the files, which may be in any order.
+///
+/// If no valid path leads to the file, the result has files that end in it, for which
+/// [`crate::judge`] returns what is wrong: files that name one another as signers, a wrong trust
+/// anchor and the file, or the file alone. It also says whether the walk reached a limit of the
+/// question before every path was judged. The result has no files if the question has none.
+///
+/// # Errors
+///
+/// Returns an error only if memory runs out.
+///
+/// # Not checked
+///
+/// As for [`judge_all`].
 pub fn seek<'q, 'n>(
     alloc: Global,
     question: &TreeQuestion<'q, 'n>,

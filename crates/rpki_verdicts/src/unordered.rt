@@ -1,5 +1,5 @@
-//! Files in no order: the trust anchor among them, and the verdict on every certificate below it,
-//! with real signatures and with the revocation lists among them.
+//! Files in any order: the trust anchor among them, and the verdict on every certificate below it,
+//! with real signatures and with the CRLs among them.
 ghost use Rattle.std.specs.Prelude.{◌≡◌, ◌↔◌, ◌++◌, ◌∷◌, [], true, List, length, map, IfOk, IfSome, IfNone, OnOk, IsTrue};
 ghost use Rattle.rpki_path.specs.AskedLists.{by_named_lists};
 ghost use Rattle.rpki_folder.specs.Folders.{with_cert, with_list};
@@ -29,9 +29,9 @@ use std::alloc::{AllocError, Global};
 use std::cmp::Ordering;
 use std::mem;
 
-/// What is asked of files in no order: the files, the locators, whether names have to chain, whether
-/// the files are read strictly, the moment, how many certificates a path has at most below the trust
-/// anchor, and how many are verified at most.
+/// A question about files in any order: the files, the TALs, whether names are checked, the mode,
+/// the validation time, the most certificates of a path below the trust anchor, and the most
+/// certificates that are verified.
 #[derive(Drop)]
 pub struct TreeQuestion<'q, 'n> {
     pub files: &'q [BareObject<'n>],
@@ -46,25 +46,25 @@ pub struct TreeQuestion<'q, 'n> {
 /// The verdicts on the certificates among files.
 #[derive(Drop)]
 pub struct Tree<'q, 'n> {
-    /// The files that begin with certificates, in their order. A place is one among these.
+    /// The files that start with certificates, in their order. A place is an index among them.
     pub certs: Vec<&'q BareObject<'n>>,
     /// The place of the trust anchor.
     pub anchor: usize,
-    /// What is kept of the verdicts on each certificate.
+    /// The line of each certificate, with what its verdicts came to.
     pub lines: Lines,
-    /// Whether all were looked at.
+    /// Whether every certificate was judged, or which limit was reached.
     pub ended: Ended,
 }
 
-/// A file whose certificate has the key of a locator, and what is wrong with it as a trust anchor.
+/// A file whose certificate has the key of a TAL, and what is wrong with it as a trust anchor.
 #[derive(Drop)]
 pub struct WrongAnchor<'q, 'n> {
     pub file: &'q BareObject<'n>,
     pub fault: Fault,
 }
 
-/// The answer: that no certificate is a valid trust anchor of a locator, with each that has the key
-/// of one; or the verdicts.
+/// The answer: the verdicts; or that no certificate is a valid trust anchor of a TAL, with each
+/// certificate that has a TAL's key.
 #[derive(Drop)]
 pub enum TreeAnswer<'q, 'n> {
     NoAnchor(Vec<WrongAnchor<'q, 'n>>),
@@ -407,13 +407,21 @@ fn grown<'q, 'n>(
     }))
 }
 
-/// Judges every certificate among files, in whatever order they are: finds the trust anchor, and
-/// walks down from it, with real signatures and with the revocation lists among the files. The
-/// trust anchor is a certificate that has the key of one of the locators (RFC 8630 3), lists a number
-/// (RFC 8630 2.3) and is valid;
-/// of several the one that is valid longest, then the one that began last, and then the one whose
-/// signed octets are greatest. Names have to chain, if the question says so (RFC 6487 7.2); of the
-/// last key nothing is asked here. Errs only where memory runs out.
+/// Judges every certificate among files in any order: finds the trust anchor, and walks down from
+/// it, with real signatures and with the CRLs among the files.
+///
+/// The trust anchor is a certificate that has the key of one of the TALs (RFC 8630 3), lists an IP
+/// address or an AS number (RFC 8630 2.3) and is valid. If there are several, the one that is valid
+/// longest is taken, then the one whose validity starts last, then the one whose to-be-signed bytes
+/// are greatest (own). Names are checked if the question requires it (RFC 6487 7.2).
+///
+/// # Errors
+///
+/// Returns an error only if memory runs out. A rejection is a verdict.
+///
+/// # Not checked
+///
+/// Whether the RPKI uses a certificate's key, and manifests (own).
 pub fn judge_all<'q, 'n>(
     alloc: Global,
     question: &TreeQuestion<'q, 'n>,
@@ -445,7 +453,7 @@ fn accepts(line: &Line) -> bool
 }
 
 impl<'q, 'n> Tree<'q, 'n> {
-    /// Returns whether each certificate but the trust anchor is accepted, and no bound was met.
+    /// Returns whether each certificate but the trust anchor is accepted, and no limit was reached.
     pub fn is_accepted(&self) -> bool
         ensures { IsTrue result ↔ AllAccepted self.now }
     {

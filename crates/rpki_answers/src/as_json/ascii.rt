@@ -1,4 +1,4 @@
-//! Texts of JSON in ASCII.
+//! JSON texts in ASCII.
 ghost use Rattle.std.specs.Prelude.{◌≡◌, ◌++◌, Some, flat_map, IfOk, string_bytes};
 ghost use Rattle.std.specs.Fmt.{WritesOnOk};
 ghost use Rattle.rpki_answers.specs.JsonTexts.{unit_text, ascii_character, in_ascii};
@@ -58,7 +58,7 @@ impl fmt::Display for Ascii<'_> {
     }
 }
 
-/// Writes a text of JSON in ASCII, and a line end.
+/// Writes a JSON text in ASCII, and a line end.
 pub fn ended_ascii(alloc: Global, text: &str) -> Result<String, AllocError>
     ensures { IfOk result (λ made. string_bytes made ≡ in_ascii text.now ++ line_feed) }
 {

@@ -135,7 +135,7 @@ fn as_resources(alloc: Global, out: &mut Vec<Value>, listed: &AsResources) -> Re
     }
 }
 
-/// Returns what a certificate lists of each kind of resources.
+/// Returns the resources of each kind that a certificate lists.
 pub fn listed(alloc: Global, fields: &TbsCert) -> Result<Vec<Value>, AllocError>
     ensures { IfOk result (λ items. map view items.items ≡ listed_items fields.now.extensions) }
 {
@@ -158,7 +158,7 @@ pub fn listed(alloc: Global, fields: &TbsCert) -> Result<Vec<Value>, AllocError>
     Ok(items)
 }
 
-/// Returns what the last member of an accepted path holds of each kind of resources.
+/// Returns the resources of each kind that the last certificate of an accepted path holds.
 pub fn held(alloc: Global, holder: &ResourceCert) -> Result<Vec<Value>, AllocError>
     ensures { IfOk result (λ items. map view items.items ≡ held_items holder.now) }
 {

@@ -1,4 +1,4 @@
-//! What a certificate says beside the fields that readers keep, as JSON.
+//! Facts as JSON: what a certificate has beside the fields that readers keep.
 ghost use Rattle.std.specs.Prelude.{◌≡◌, IfOk};
 ghost use Rattle.serde_json.specs.Data.{string};
 ghost use Rattle.serde_json.specs.View.{view};

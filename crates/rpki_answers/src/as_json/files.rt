@@ -221,8 +221,12 @@ fn push_values(
     Ok(can_be_shown)
 }
 
-/// Writes the values of files in a format of JSON, where just one file is named or others are. The
-/// outcome is success where each begins with a certificate or a list, or is a locator.
+/// Writes the values of files in a format of JSON, as one value if exactly one file is named. The
+/// outcome is success if each file starts with a certificate or a CRL, or is a TAL.
+///
+/// # Errors
+///
+/// Returns an error only if memory runs out.
 pub fn answer_files(
     alloc: Global,
     objects: &[Object<'_>],

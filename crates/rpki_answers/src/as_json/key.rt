@@ -12,7 +12,8 @@ use rpki_text::keys::KeyAnswer;
 use serde_json::Value;
 use std::alloc::{AllocError, Global};
 
-fn algorithm_word(form: KeyForm) -> &'static str
+/// Returns the algorithm of a key of this form.
+pub fn algorithm_word(form: KeyForm) -> &'static str
     ensures { result.now ≡ algorithm_word form }
 {
     match form {
@@ -23,7 +24,8 @@ fn algorithm_word(form: KeyForm) -> &'static str
     }
 }
 
-fn form_word(form: KeyForm) -> &'static str
+/// Returns the form of a key.
+pub fn form_word(form: KeyForm) -> &'static str
     ensures { result.now ≡ form_word form }
 {
     match form {
@@ -82,7 +84,7 @@ fn put_point(out: &mut Members, key: &PublicKey) -> Result<(), AllocError>
     }
 }
 
-/// Makes the value of a key of which this was found: what it is, and whether the RPKI uses it.
+/// Makes the value of a key: its form, and whether the RPKI uses such a key.
 pub fn facts(alloc: Global, key: &PublicKey, found: &KeyAnswer) -> Result<Value, AllocError>
     ensures { IfOk result (λ made. view made ≡ key_json key.now found.now) }
 {

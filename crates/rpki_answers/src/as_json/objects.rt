@@ -1,4 +1,4 @@
-//! Objects of JSON.
+//! JSON objects.
 ghost use Rattle.std.specs.Prelude.{◌≡◌, [], ℕ, List, Some, IfOk, OnOk};
 ghost use Rattle.sha2.specs.Sha256.{sha256};
 ghost use Rattle.serde_json.specs.Data.{object, string};
@@ -50,7 +50,7 @@ impl Members {
         }
     }
 
-    /// Puts in a value.
+    /// Adds a value.
     #[tactic(auto, unfolding(crate::specs::JsonValues::put_all))]
     pub fn value(&mut self, key: &str, value: Value) -> Result<(), AllocError>
         ensures { OnOk result (Puts (member_of key.now (view value)) self.old self.new) }
@@ -58,7 +58,7 @@ impl Members {
         put(&mut self.map, self.alloc, key, value)
     }
 
-    /// Puts in a text.
+    /// Adds a text.
     pub fn text(&mut self, key: &str, text: &str) -> Result<(), AllocError>
         ensures { OnOk result (Puts (text_member key.now text.now) self.old self.new) }
     {
@@ -66,7 +66,7 @@ impl Members {
         self.value(key, value)
     }
 
-    /// Puts in a text that was printed.
+    /// Adds a text that was printed.
     pub fn printed(&mut self, key: &str, page: Page) -> Result<(), AllocError>
         ensures { (text : List ℕ) → Appends (Some []) text page
             → OnOk result (Puts (text_member key.now text) self.old self.new) }
@@ -75,7 +75,7 @@ impl Members {
         self.value(key, value)
     }
 
-    /// Puts in octets as characters.
+    /// Adds bytes as characters.
     pub fn octets(&mut self, key: &str, octets: &[u8]) -> Result<(), AllocError>
         ensures { OnOk result
             (Puts (text_member key.now (characters_text octets.now)) self.old self.new) }
@@ -85,14 +85,14 @@ impl Members {
         self.printed(key, page)
     }
 
-    /// Puts in a moment, in seconds.
+    /// Adds a time, in seconds since 1970.
     pub fn moment(&mut self, key: &str, at: Time) -> Result<(), AllocError>
         ensures { OnOk result (Puts (member_of key.now (moment_json at)) self.old self.new) }
     {
         self.value(key, Value::from(at.timestamp()))
     }
 
-    /// Puts in a serial number.
+    /// Adds a serial number.
     pub fn serial(&mut self, key: &str, it: Serial) -> Result<(), AllocError>
         ensures { OnOk result (Puts (text_member key.now (serial_text it)) self.old self.new) }
     {
@@ -101,7 +101,7 @@ impl Members {
         self.printed(key, page)
     }
 
-    /// Puts in octets in hexadecimal, with colons between them.
+    /// Adds bytes in hexadecimal, with colons between them.
     pub fn colons(&mut self, key: &str, octets: &[u8]) -> Result<(), AllocError>
         ensures { OnOk result
             (Puts (text_member key.now (colons_text octets.now)) self.old self.new) }
@@ -111,7 +111,7 @@ impl Members {
         self.printed(key, page)
     }
 
-    /// Puts in what is found where reading stops.
+    /// Adds what is found at the place where reading stops.
     pub fn flaw(&mut self, key: &str, it: Flaw) -> Result<(), AllocError>
         ensures { OnOk result (Puts (text_member key.now (flaw_text it)) self.old self.new) }
     {
@@ -120,7 +120,7 @@ impl Members {
         self.printed(key, page)
     }
 
-    /// Puts in the identifier of a key.
+    /// Adds the identifier of a key.
     pub fn identifier(&mut self, key: &str, it: &KeyIdentifier) -> Result<(), AllocError>
         ensures { OnOk result
             (Puts (text_member key.now (colons_text it.now)) self.old self.new) }
@@ -128,7 +128,7 @@ impl Members {
         self.colons(key, it.as_octets().as_slice())
     }
 
-    /// Puts in a distinguished name.
+    /// Adds a distinguished name.
     pub fn name(&mut self, key: &str, it: &Name) -> Result<(), AllocError>
         ensures { OnOk result (Puts (text_member key.now (name_text it.now)) self.old self.new) }
     {
@@ -137,7 +137,7 @@ impl Members {
         self.printed(key, page)
     }
 
-    /// Puts in the SHA-256 of octets, in base64.
+    /// Adds the SHA-256 of bytes, in base64.
     #[tactic(auto, unfolding(rpki_keys::specs::Digits::base64_of))]
     pub fn hash(&mut self, key: &str, of: &[u8]) -> Result<(), AllocError>
         ensures { OnOk result
@@ -165,7 +165,7 @@ pub fn value_of(page: Page) -> Result<Value, AllocError>
     Ok(Value::from(page.into_text()?))
 }
 
-/// Makes the object of one member.
+/// Makes an object with one member.
 pub fn object_of(alloc: Global, key: &str, value: Value) -> Result<Value, AllocError>
     ensures { IfOk result (λ made. view made ≡ object_with key.now (view value)) }
 {

@@ -1,4 +1,4 @@
-//! Values of JSON as texts.
+//! JSON values as texts.
 ghost use Rattle.std.specs.Prelude.{◌≡◌, false, map, IfOk, string_bytes};
 ghost use Rattle.std.specs.List.{AllByRecursion, flat_map};
 ghost use Rattle.serde_json.specs.View.{view};
@@ -76,7 +76,7 @@ fn array_text(alloc: Global, values: Vec<Value>) -> Result<String, AllocError>
     text
 }
 
-/// Writes the values of files in a format of JSON, where just one file is named or others are.
+/// Writes the values of files in a format of JSON, as one value if exactly one file is named.
 pub fn values_text(
     alloc: Global,
     values: Vec<Value>,

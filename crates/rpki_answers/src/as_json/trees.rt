@@ -1,4 +1,4 @@
-//! What is found of files in no order, as JSON.
+//! The findings on files in any order, as JSON.
 ghost use Rattle.std.specs.Prelude.{◌≡◌, ◌≤◌, ◌<◌, ◌+◌, ◌^◌, [], ℕ, false, List, IfOk, OnOk, map, option_map, string_bytes};
 ghost use Rattle.std.specs.List.{AllByRecursion, flat_map};
 ghost use Rattle.serde_json.specs.View.{view};
@@ -471,7 +471,7 @@ fn text_of(
     }
 }
 
-/// Writes what is found of files in no order in a format of JSON.
+/// Writes the findings on files in any order, in a format of JSON.
 pub fn tree(
     alloc: Global,
     question: &TreeQuestion<'_, '_>,

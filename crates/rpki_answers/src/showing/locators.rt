@@ -1,4 +1,4 @@
-//! A trust anchor's locator, and a file that looks like one, for a person.
+//! A TAL, and a file that looks like one, for a person.
 ghost use Rattle.std.specs.Prelude.{◌≡◌};
 ghost use Rattle.std.specs.List.{flat_map};
 ghost use Rattle.rpki_keys.specs.Locators.{uri_text};
@@ -39,7 +39,7 @@ fn print_tal(page: &mut Page, tal: &Tal)
     );
 }
 
-/// Shows a file that is this locator.
+/// Shows a file that is this TAL.
 pub fn print_locator(page: &mut Page, object: &Object<'_>, tal: &Tal)
     ensures { (key : _) × IsLocatorKey tal.now.tal.key key
         × Appends page.old (locator_file_text object.now tal.now.tal key) page.new }
@@ -49,7 +49,7 @@ pub fn print_locator(page: &mut Page, object: &Object<'_>, tal: &Tal)
     print_tal(page, tal);
 }
 
-/// Shows a file that looks like a locator and is none, for this reason.
+/// Shows a file that looks like a TAL and isn't one, for this reason.
 pub fn print_no_locator(page: &mut Page, object: &Object<'_>, error: &TalError)
     ensures { (rule : _) × (rule_of rule ≡ tal_rule error.now) × Appends page.old
         (no_locator_file_text object.now error.now rule) page.new }

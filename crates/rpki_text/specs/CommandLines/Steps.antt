@@ -5,7 +5,7 @@ use Rattle.rpki_text.specs.MomentTexts.{IsMomentText}
 use Rattle.rpki_text.specs.declared.command_line.arguments.Format.{Format}
 use Rattle.rpki_text.specs.declared.command_line.arguments.Setting.{Setting}
 use Rattle.rpki_text.specs.declared.command_line.arguments.Setting.TheVariants.{Crl, Tal, In, Depth, StepCount, At, MaxSize, Output, ShortOutput}
-use Rattle.rpki_text.specs.CommandLines.{IsFormatName, IsNumberText, LinePart, list, locator, folder, depth, steps, at_moment, max_size, output, lenient, json, quiet, all, no_names, help, RequestFields, setting_name, with_part}
+use Rattle.rpki_text.specs.CommandLines.{IsFormatName, IsNumberText, LinePart, list, locator, folder, depth, steps, at_moment, max_size, output, lenient, json, quiet, all, no_names, trust_first, no_crl, help, RequestFields, setting_name, with_part}
 
 -- ---- options that take a value
 
@@ -39,5 +39,7 @@ IsSwitch json word = (word ≡ codes "--json") ⊎ (word ≡ codes "-j")
 IsSwitch quiet word = (word ≡ codes "--quiet") ⊎ (word ≡ codes "-q")
 IsSwitch all word = word ≡ codes "--all"
 IsSwitch no_names word = word ≡ codes "--no-names"
+IsSwitch trust_first word = word ≡ codes "--trust-first"
+IsSwitch no_crl word = word ≡ codes "--no-crl"
 IsSwitch help word = (word ≡ codes "--help") ⊎ (word ≡ codes "-h")
 IsSwitch _ word = ⊥

@@ -23,6 +23,8 @@ fields_of r = record {
   lists = map (λ name. name.now) r.lists.items;
   locators = map (λ name. name.now) r.locators.items;
   folders = map (λ name. name.now) r.folders.items;
+  trust_first = r.trust_first;
+  no_crl = r.no_crl;
   depth = r.depth;
   steps = r.steps;
 }

@@ -1,14 +1,13 @@
-//! What the command line asks.
+//! The request that the command line makes.
 ghost use Rattle.std.specs.Prelude.{◌≡◌, ◌≢◌, ◌↔◌, ℕ, List, [], ◌∷◌, ◌++◌, false, map, codes, Some, IsTrue, IfSome, IfNone, MatchOption, OnOk, IfOk, IfErr};
 ghost use Rattle.std.specs.Bool.{OnTrue, OnFalse};
 ghost use Rattle.std.specs.Fmt.{WritesOnOk};
-ghost use Rattle.rpki_text.specs.Pages.{characters_text};
-ghost use Rattle.rpki_text.specs.CommandLines.{IsFormatName, IsTaskName, IsNumberText, IsPart, LinePart, RequestFields, only_task, setting_name, with_files, with_part, AsksNoPath, AsksSearch, AsksTree, NamesInput, ReadsInput, Suits, SuitsFolders, IsCommandLine};
+ghost use Rattle.rpki_text.specs.CommandLines.{IsFormatName, IsTaskName, IsNumberText, IsPart, LinePart, RequestFields, only_task, setting_name, with_files, with_part, AsksNoPath, AsksSearch, AsksTree, LeavesNothingOut, NamesInput, ReadsInput, SaysAnchor, SaysLists, Suits, SuitsFolders, IsCommandLine};
 ghost use Rattle.rpki_text.specs.CommandLines.Views.{word_octets, fields_of};
 ghost use Rattle.rpki_text.specs.WordParts.{AddsPart, AddsParts, IsFirstWrong, IsOption, Joins, words_before, words_behind};
-ghost use Rattle.rpki_text.specs.Misuses.{IsBound, IsExtra, IsMisuse, IsReason, IsWrongFirst, NamesFormat};
-ghost use Rattle.rpki_text.specs.Misuses.Steps.{TellsValue, TellsWord};
-ghost use Rattle.rpki_text.specs.MisuseTexts.{misuse_text};
+ghost use Rattle.rpki_text.specs.Misuses.{IsExtra, IsLeftOutBy, IsMisuse, IsReason, IsWrongFirst};
+ghost use Rattle.rpki_text.specs.Misuses.Steps.{IsBound, NamesFormat, TellsValue, TellsWord};
+ghost use Rattle.rpki_text.specs.MisuseTexts.{expected_value, misuse_text, value_kind, wrong_value_text};
 ghost use Rattle.rpki_text.specs.CommandLines.Steps.{AddsSet, IsSwitch, IsOptionName};
 
 use crate::command_line::parts::{around_dashes, is, is_option, place_of_equals};
@@ -16,6 +15,9 @@ use crate::{Characters, moments};
 use rpki_der::Time;
 use std::alloc::Global;
 use std::fmt;
+
+/// The words that name a command.
+const COMMANDS: &str = "show, validate, tree, prepare, complete, help or --version";
 
 /// The most octets that a file may have, where the command line doesn't say it: 64 MiB.
 const USUAL_SIZE: u64 = 67_108_864;
@@ -30,8 +32,8 @@ pub enum Task {
     Version,
 }
 
-/// How an answer is printed: as lines for a person, or as JSON, whose values stand on lines of
-/// their own items or on one line each.
+/// The format of an answer: lines for a person, or JSON, in which each value is on a line of its
+/// own or each answer is on one line.
 #[derive(Clone, Copy, PartialEq, Eq)]
 pub enum Format {
     Text,
@@ -39,7 +41,7 @@ pub enum Format {
     JsonLines,
 }
 
-/// The name of an option that takes a value, as the next word or behind `=`.
+/// The name of an option that takes a value, as the next word or after `=`.
 #[derive(Clone, Copy)]
 pub enum Setting {
     Crl,
@@ -51,11 +53,11 @@ pub enum Setting {
     MaxSize,
     /// `--output`.
     Output,
-    /// `-o`, which says the same.
+    /// `-o`, which means the same.
     ShortOutput,
 }
 
-/// What is asked. A file's name is the octets of its word.
+/// A request. A file's name is the bytes of its word.
 #[derive(Drop)]
 pub struct Request<'a> {
     pub task: Task,
@@ -70,33 +72,49 @@ pub struct Request<'a> {
     pub lists: Vec<&'a [u8]>,
     pub locators: Vec<&'a [u8]>,
     pub folders: Vec<&'a [u8]>,
+    /// Whether the first certificate is trusted without a TAL.
+    pub trust_first: bool,
+    /// Whether no CRL is checked.
+    pub no_crl: bool,
     pub depth: Option<usize>,
     pub steps: Option<usize>,
 }
 
-/// Why the command line asks nothing.
+/// Why the words of the command line aren't a request.
 #[derive(Drop)]
 pub enum Misuse<'a> {
+    /// There is no word.
     NoTask,
+    /// The first word names no command.
+    UnknownTask(&'a [u8]),
+    /// There is no such option, or the command doesn't take it.
     Unknown(&'a [u8]),
+    /// The option is the last word, without its value.
     NoValue(Setting),
-    NoMoment(&'a [u8]),
-    NoSize(&'a [u8]),
-    NoNumber(Setting, &'a [u8]),
-    NoFormat(&'a [u8]),
+    /// The option doesn't take this value.
+    WrongValue(Setting, &'a [u8]),
+    /// No file is named.
     NoFile,
-    /// Not one file alone is given where a path to one is sought.
+    /// A path to a file is to be found, and the number of files isn't one.
     OneFile,
-    /// Lists are given beside the folders in which they are sought.
+    /// `--crl` is given together with directories, in which CRLs are found.
     ListsIn,
-    /// No locator is given where a tree wants one.
+    /// `tree` is given no TAL.
     NoLocator,
-    /// No locator is given where a path is sought.
+    /// A path is to be found, and no TAL is given.
     NoLocatorIn,
-    /// How far a walk goes is said where no path is sought.
+    /// A limit of the walk is given, and no path is to be found.
     BoundsIn,
-    /// Standard input is named where files are read twice.
+    /// Standard input is named as a file of a command that reads its files twice.
     InputIn,
+    /// A path is given, and neither a TAL nor that its first certificate is trusted.
+    NoAnchor,
+    /// Both are given.
+    BothAnchors,
+    /// A path is given, and neither CRLs nor that none is checked.
+    NoLists,
+    /// Both are given.
+    BothLists,
     Memory,
 }
 
@@ -117,18 +135,46 @@ fn name_of(setting: Setting) -> &'static str
     }
 }
 
-// A word, or the value of an option, with what is said before and behind it.
-fn write_word<W: fmt::Write>(
-    f: &mut fmt::Formatter<W>,
-    before: &str,
-    word: &[u8],
-    behind: &str,
-) -> fmt::Result
-    ensures { let text = before.now ++ (characters_text word.now ++ behind.now) in
-        WritesOnOk W.write_str_gives f.old result text f.new }
+// What a value of the option is called.
+fn value_kind(setting: Setting) -> &'static str
+    ensures { result.now ≡ value_kind setting }
 {
-    let word = Characters(word);
-    write!(f, "{before}{word}{behind}")
+    match setting {
+        Setting::Crl | Setting::Tal => "a file",
+        Setting::In => "a directory",
+        Setting::Depth | Setting::StepCount | Setting::MaxSize => "a number below 2^64",
+        Setting::At => "a time",
+        Setting::Output | Setting::ShortOutput => "an output format",
+    }
+}
+
+// Which values the option takes.
+fn expected_value(setting: Setting) -> &'static str
+    ensures { result.now ≡ expected_value setting }
+{
+    match setting {
+        Setting::Crl | Setting::Tal => "FILE",
+        Setting::In => "DIRECTORY",
+        Setting::Depth | Setting::StepCount => "a number of certificates",
+        Setting::MaxSize => "a number of bytes",
+        Setting::At => "YYYY-MM-DD[THH:MM:SSZ]",
+        Setting::Output | Setting::ShortOutput => "text, json or jsonl",
+    }
+}
+
+// That a value isn't one of the option, and which it takes.
+fn write_wrong<W: fmt::Write>(
+    f: &mut fmt::Formatter<W>,
+    setting: Setting,
+    value: &[u8],
+) -> fmt::Result
+    ensures { WritesOnOk W.write_str_gives f.old result (wrong_value_text setting value.now) f.new }
+{
+    let option = name_of(setting);
+    let value = Characters(value);
+    let kind = value_kind(setting);
+    let expected = expected_value(setting);
+    write!(f, "{option} {value}: not {kind}; expected {expected}")
 }
 
 impl fmt::Display for Misuse<'_> {
@@ -136,32 +182,44 @@ impl fmt::Display for Misuse<'_> {
 
     fn fmt<W: fmt::Write>(&self, f: &mut fmt::Formatter<W>) -> fmt::Result {
         match self {
-            Misuse::NoTask => f.write_str("no command"),
+            Misuse::NoTask => {
+                let commands = COMMANDS;
+                write!(f, "no command; expected {commands}")
+            }
+            Misuse::UnknownTask(word) => {
+                let word = Characters(*word);
+                let commands = COMMANDS;
+                write!(f, "{word}: not a command; expected {commands}")
+            }
             Misuse::Unknown(word) => {
                 let word = Characters(*word);
-                write!(f, "unknown: {word}")
+                write!(f, "{word}: not an option of this command")
             }
             Misuse::NoValue(setting) => {
                 let option = name_of(*setting);
-                write!(f, "{option} wants a value")
+                let expected = expected_value(*setting);
+                write!(f, "{option}: no value; expected {expected}")
             }
-            Misuse::NoMoment(text) => write_word(f, "--at ", *text, ": no moment"),
-            Misuse::NoSize(text) => write_word(f, "--max-size ", *text, ": no number of octets"),
-            Misuse::NoNumber(setting, text) => {
-                let option = name_of(*setting);
-                let number = Characters(*text);
-                write!(f, "{option} {number}: no number")
+            Misuse::WrongValue(setting, value) => write_wrong(f, *setting, *value),
+            Misuse::NoFile => f.write_str("no file; expected FILE"),
+            Misuse::OneFile => f.write_str("--in: expected exactly one FILE"),
+            Misuse::ListsIn => {
+                f.write_str("--crl: not accepted with --in, which finds CRLs in its directories")
             }
-            Misuse::NoFormat(text) => write_word(f, "-o ", *text, ": no format"),
-            Misuse::NoFile => f.write_str("no file"),
-            Misuse::OneFile => f.write_str("--in wants one file"),
-            Misuse::ListsIn => { f.write_str("--in takes no --crl: a list is named by --in too") }
-            Misuse::NoLocator => f.write_str("tree wants --tal"),
-            Misuse::NoLocatorIn => f.write_str("--in wants --tal"),
-            Misuse::BoundsIn => f.write_str("--depth and --steps want --in"),
+            Misuse::NoLocator => f.write_str("no --tal; expected --tal FILE"),
+            Misuse::NoLocatorIn => f.write_str("--in: no --tal; expected --tal FILE"),
+            Misuse::BoundsIn => f.write_str("--depth and --steps: accepted only with --in"),
             Misuse::InputIn => {
-                f.write_str("--in reads files twice, so it wants none of standard input")
+                f.write_str("-: standard input can't be read twice; with --in, expected files")
             }
+            Misuse::NoAnchor => f.write_str(
+                "no trust anchor; expected --tal FILE, or --trust-first to trust the first file",
+            ),
+            Misuse::BothAnchors => f.write_str("--trust-first: not accepted with --tal"),
+            Misuse::NoLists => f.write_str(
+                "no CRL; expected --crl FILE or --in DIRECTORY, or --no-crl to check no revocation",
+            ),
+            Misuse::BothLists => f.write_str("--no-crl: not accepted with --crl or --in"),
             Misuse::Memory => f.write_str("out of memory"),
         }
     }
@@ -250,7 +308,7 @@ fn count_of<'a>(setting: Setting, text: &'a [u8]) -> Result<usize, Misuse<'a>>
 {
     match number_of(text) {
         Some(count) => Ok(count as usize),
-        None => Err(Misuse::NoNumber(setting, text)),
+        None => Err(Misuse::WrongValue(setting, text)),
     }
 }
 
@@ -308,6 +366,14 @@ fn switch(request: &mut Request<'_>, word: &[u8]) -> bool
         request.names = false;
         return true;
     }
+    if is(word, "--trust-first") {
+        request.trust_first = true;
+        return true;
+    }
+    if is(word, "--no-crl") {
+        request.no_crl = true;
+        return true;
+    }
     if is(word, "--help") || is(word, "-h") {
         request.task = Task::Help;
         return true;
@@ -315,19 +381,37 @@ fn switch(request: &mut Request<'_>, word: &[u8]) -> bool
     false
 }
 
-// Adds the format that a text names.
-fn add_format<'a>(request: &mut Request<'a>, text: &'a [u8]) -> Result<(), Misuse<'a>>
+// Adds the format that the value of an option names.
+fn add_format<'a>(
+    request: &mut Request<'a>,
+    setting: Setting,
+    text: &'a [u8],
+) -> Result<(), Misuse<'a>>
     ensures added { OnOk result
         (AddsSet Setting.Output text.now (fields_of request.old) (fields_of request.new)) }
-    ensures told { IfErr result
-        (λ e. (setting : Setting) → NamesFormat setting → TellsValue e setting text.now) }
+    ensures told { IfErr result (λ e. NamesFormat setting → TellsValue e setting text.now) }
 {
     match format_of(text) {
         Some(format) => {
             request.format = format;
             Ok(())
         }
-        None => Err(Misuse::NoFormat(text)),
+        None => Err(Misuse::WrongValue(setting, text)),
+    }
+}
+
+// Adds how many octets a file may have, which a text says.
+fn add_size<'a>(request: &mut Request<'a>, text: &'a [u8]) -> Result<(), Misuse<'a>>
+    ensures added { OnOk result
+        (AddsSet Setting.MaxSize text.now (fields_of request.old) (fields_of request.new)) }
+    ensures told { IfErr result (λ e. TellsValue e Setting.MaxSize text.now) }
+{
+    match number_of(text) {
+        Some(size) => {
+            request.max_size = size;
+            Ok(())
+        }
+        None => Err(Misuse::WrongValue(Setting::MaxSize, text)),
     }
 }
 
@@ -359,16 +443,10 @@ fn add_set<'a>(
                 request.at = Some(moment);
                 Ok(())
             }
-            None => Err(Misuse::NoMoment(value)),
+            None => Err(Misuse::WrongValue(setting, value)),
         },
-        Setting::MaxSize => match number_of(value) {
-            Some(size) => {
-                request.max_size = size;
-                Ok(())
-            }
-            None => Err(Misuse::NoSize(value)),
-        },
-        Setting::Output | Setting::ShortOutput => add_format(request, value),
+        Setting::MaxSize => add_size(request, value),
+        Setting::Output | Setting::ShortOutput => add_format(request, setting, value),
     }
 }
 
@@ -447,9 +525,25 @@ fn new_request<'a>(alloc: Global, task: Task) -> Request<'a>
         lists: Vec::new(alloc),
         locators: Vec::new(alloc),
         folders: Vec::new(alloc),
+        trust_first: false,
+        no_crl: false,
         depth: None,
         steps: None,
     }
+}
+
+// The option by which TAL or CRLs are left out, where one is given.
+fn left_out(request: &Request<'_>) -> Option<&'static [u8]>
+    ensures { let r = fields_of request.now in
+        MatchOption result (LeavesNothingOut r) (λ name. IsLeftOutBy name.now r) }
+{
+    if request.trust_first {
+        return Some(b"--trust-first".as_slice());
+    }
+    if request.no_crl {
+        return Some(b"--no-crl".as_slice());
+    }
+    None
 }
 
 // An option that only validating takes, where one is given.
@@ -468,6 +562,9 @@ fn only_validating(request: &Request<'_>) -> Option<&'static [u8]>
     }
     if !request.names {
         return Some(b"--no-names".as_slice());
+    }
+    if let Some(name) = left_out(request) {
+        return Some(name);
     }
     if request.depth.is_some() {
         return Some(b"--depth".as_slice());
@@ -491,6 +588,9 @@ fn misuse_of_tree(request: &Request<'_>) -> Option<Misuse<'static>>
     }
     if request.all {
         return Some(Misuse::Unknown(b"--all".as_slice()));
+    }
+    if let Some(name) = left_out(request) {
+        return Some(Misuse::Unknown(name));
     }
     if request.locators.is_empty() {
         return Some(Misuse::NoLocator);
@@ -544,15 +644,11 @@ fn misuse_of_search(request: &Request<'_>) -> Option<Misuse<'static>>
     None
 }
 
-// What doesn't suit a path: an option that it doesn't take, or what its folders don't suit.
-fn misuse_of_path(request: &Request<'_>) -> Option<Misuse<'static>>
+// What doesn't suit the folders in which a path is sought, or that there are none.
+fn misuse_of_folders(request: &Request<'_>) -> Option<Misuse<'static>>
     ensures { let r = fields_of request.now in
-        MatchOption result ((r.all_entries ≡ false) × SuitsFolders r.folders r)
-        (λ misuse. IsReason misuse Task.Validate r) }
+        MatchOption result (SuitsFolders r.folders r) (λ misuse. IsReason misuse Task.Validate r) }
 {
-    if request.all {
-        return Some(Misuse::Unknown(b"--all".as_slice()));
-    }
     if !request.folders.is_empty() {
         return misuse_of_search(request);
     }
@@ -560,6 +656,50 @@ fn misuse_of_path(request: &Request<'_>) -> Option<Misuse<'static>>
         return Some(Misuse::BoundsIn);
     }
     None
+}
+
+// That it isn't said once what the trust anchor is compared with.
+fn misuse_of_anchor(request: &Request<'_>) -> Option<Misuse<'static>>
+    ensures { let r = fields_of request.now in
+        MatchOption result (SaysAnchor r) (λ misuse. IsReason misuse Task.Validate r) }
+{
+    match (request.locators.is_empty(), request.trust_first) {
+        (true, false) => Some(Misuse::NoAnchor),
+        (false, true) => Some(Misuse::BothAnchors),
+        _ => None,
+    }
+}
+
+// That it isn't said once which CRLs are checked.
+fn misuse_of_lists(request: &Request<'_>) -> Option<Misuse<'static>>
+    ensures { let r = fields_of request.now in
+        MatchOption result (SaysLists r) (λ misuse. IsReason misuse Task.Validate r) }
+{
+    let gives_none = request.lists.is_empty() && request.folders.is_empty();
+    match (gives_none, request.no_crl) {
+        (true, false) => Some(Misuse::NoLists),
+        (false, true) => Some(Misuse::BothLists),
+        _ => None,
+    }
+}
+
+// What doesn't suit a path: an option that it doesn't take, what its folders don't suit, or that it
+// isn't said what is checked.
+fn misuse_of_path(request: &Request<'_>) -> Option<Misuse<'static>>
+    ensures { let r = fields_of request.now in MatchOption result
+        ((r.all_entries ≡ false) × SuitsFolders r.folders r × SaysAnchor r × SaysLists r)
+        (λ misuse. IsReason misuse Task.Validate r) }
+{
+    if request.all {
+        return Some(Misuse::Unknown(b"--all".as_slice()));
+    }
+    if let Some(misuse) = misuse_of_folders(request) {
+        return Some(misuse);
+    }
+    if let Some(misuse) = misuse_of_anchor(request) {
+        return Some(misuse);
+    }
+    misuse_of_lists(request)
 }
 
 // What doesn't suit the task: an option that it doesn't take, or that there is no file.
@@ -590,7 +730,11 @@ fn misuse_of(request: &Request<'_>) -> Option<Misuse<'static>>
     None
 }
 
-/// Reads the words behind the program's name.
+/// Reads the words after the program's name.
+///
+/// # Errors
+///
+/// Returns what is wrong with the first wrong word or with the words together, and `Memory`.
 pub fn read_words<'a>(alloc: Global, words: &'a [Vec<u8>]) -> Result<Request<'a>, Misuse<'a>>
     ensures command_line { IfOk result (λ r. IsCommandLine (fields_of r) (word_octets words.now)) }
     ensures nothing_else { IfOk result (λ r. (other : RequestFields)
@@ -603,7 +747,7 @@ pub fn read_words<'a>(alloc: Global, words: &'a [Vec<u8>]) -> Result<Request<'a>
         return Err(Misuse::NoTask);
     };
     let Some(task) = task_of(first.as_slice()) else {
-        return Err(Misuse::Unknown(first.as_slice()));
+        return Err(Misuse::UnknownTask(first.as_slice()));
     };
     let mut request = new_request(alloc, task);
     let (before, behind) = around_dashes(rest);

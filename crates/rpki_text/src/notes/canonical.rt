@@ -74,8 +74,11 @@ fn as_extension(alloc: Global, tbs: &TbsCert) -> Result<Bytes, AllocError>
     kept(written, answer)
 }
 
-/// Returns the canonical content of the extension with a certificate's IP resources. Errs also
-/// where the extension would have 2^32 octets or more.
+/// Returns the canonical content of the extension with a certificate's IP resources.
+///
+/// # Errors
+///
+/// Returns an error if memory runs out, or if the extension would have 2^32 bytes or more.
 pub(crate) fn addresses(alloc: Global, tbs: &TbsCert) -> Result<Piece, AllocError>
     ensures { IfOk result (λ content. content ≡ canonical_addresses tbs.now.extensions) }
 {
@@ -83,8 +86,11 @@ pub(crate) fn addresses(alloc: Global, tbs: &TbsCert) -> Result<Piece, AllocErro
     kept_content(alloc, &extension)
 }
 
-/// Returns the canonical content of the extension with a certificate's AS resources. Errs also
-/// where the extension would have 2^32 octets or more.
+/// Returns the canonical content of the extension with a certificate's AS resources.
+///
+/// # Errors
+///
+/// Returns an error if memory runs out, or if the extension would have 2^32 bytes or more.
 pub(crate) fn systems(alloc: Global, tbs: &TbsCert) -> Result<Piece, AllocError>
     ensures { IfOk result (λ content. content ≡ canonical_systems tbs.now.extensions) }
 {

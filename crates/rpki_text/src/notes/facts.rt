@@ -1,4 +1,4 @@
-//! A walk over the extensions of a certificate, for what they say beside the fields.
+//! A walk over the extensions of a certificate, for what they have beside the fields.
 ghost use Rattle.std.specs.Prelude.{◌≡◌, ◌++◌, List, map, option_map, bytes_eq, IfOk, OnOk};
 ghost use Rattle.rpki_cert.specs.Certificates.{CertFields, IsCertificate};
 ghost use Rattle.rpki_der.specs.Encoding.{Means};
@@ -24,7 +24,7 @@ const QT_CPS: &[u8] = &[0x2b, 0x06, 0x01, 0x05, 0x05, 0x07, 0x02, 0x01];
 
 const IA5_STRING: u8 = 0x16;
 
-/// Tells whether the content of an OBJECT IDENTIFIER is id-qt-cps.
+/// Returns whether the content of an OBJECT IDENTIFIER is id-qt-cps (RFC 5280 4.2.1.4).
 pub(crate) fn is_cps(kind: &Cursor<'_>) -> bool
     ensures { result ≡ bytes_eq (remaining kind.now) id_qt_cps }
 {
@@ -65,7 +65,7 @@ fn put_statement<'a>(facts: &mut Vec<Fact<'a>>, policies: &Cursor<'a>) -> Result
     }
 }
 
-/// What is looked at in an extension of a known kind.
+/// What is read of an extension of a known kind.
 #[derive(Clone, Copy)]
 pub(crate) enum Source {
     Policies,
@@ -168,10 +168,13 @@ fn facts_within<'a>(
     }
 }
 
-/// Returns what the certificate that a file begins with says beside the fields that readers keep:
-/// its extensions of unknown kinds, the statement of practices, URIs beside the one that is kept of
-/// a kind, and unknown methods of access, in the order of the extensions. Takes time linear in the
-/// octets. Errs where memory runs out.
+/// Returns what the certificate at the start of a file has beside the fields that readers keep, in
+/// the order of the extensions: extensions of unknown kinds, the practice statement, further URIs
+/// of a kind, and unknown access methods. The time is linear in the number of bytes.
+///
+/// # Errors
+///
+/// Returns an error only if memory runs out.
 pub fn facts_of<'a>(alloc: Global, object: &'a Object<'_>) -> Result<Vec<Fact<'a>>, AllocError>
     ensures { (c : CertFields) → Means IsCertificate c object.now.octets
         → IfOk result (λ facts. AreFacts object.now.octets (map fact_view facts.items)) }

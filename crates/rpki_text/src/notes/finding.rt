@@ -1,4 +1,4 @@
-//! A walk over the extensions of a certificate, as they stand.
+//! A walk over the extensions of a certificate, in their order.
 ghost use Rattle.std.specs.Prelude.{◌≡◌, ◌↔◌, List, IsTrue, true};
 ghost use Rattle.rpki_der.specs.Extensions.{Extension, IsExtension};
 ghost use Rattle.rpki_der.specs.Extensions.Views.{extension_view};
@@ -17,7 +17,7 @@ use rpki_der::{Cursor, oid};
 use rpki_ext::is_known;
 use rpki_files::extensions_in;
 
-/// The kinds of extensions that are looked at.
+/// The kinds of extensions that are searched.
 #[derive(Clone, Copy)]
 pub(crate) enum Kinds {
     Addresses,
@@ -127,8 +127,8 @@ fn is_among(elements: &Cursor<'_>, kinds: Kinds, fault: Fault, written: &[u8]) -
     false
 }
 
-/// Tells whether one of the extensions of a certificate is of these kinds and has the fault, where
-/// this content is written of it. The octets begin with the certificate.
+/// Returns whether an extension of the certificate is of these kinds and has the fault; `written`
+/// is the content that it is compared with. The bytes have to start with the certificate.
 pub(crate) fn has_one(octets: &Bytes, kinds: Kinds, fault: Fault, written: &[u8]) -> bool
     ensures { (xs : List Extension) → HaveExtensions xs octets.now
         → (IsTrue result ↔ HaveOne (sought_names kinds) (HasFault fault written.now) xs) }

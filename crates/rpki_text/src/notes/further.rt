@@ -94,7 +94,7 @@ fn issuer_names<'a>(descriptions: &Cursor<'a>) -> Option<Cursor<'a>>
     Some(description)
 }
 
-/// Adds the URIs of CRL Distribution Points that aren't kept.
+/// Adds the URIs of CRL Distribution Points that aren't kept (RFC 6487 4.8.6).
 pub(crate) fn put_lists<'a>(
     facts: &mut Vec<Fact<'a>>,
     kept: Option<&[u8]>,
@@ -110,7 +110,7 @@ pub(crate) fn put_lists<'a>(
     }
 }
 
-/// Adds the URIs of Authority Information Access that aren't kept.
+/// Adds the URIs of Authority Information Access that aren't kept (RFC 6487 4.8.7).
 pub(crate) fn put_issuers<'a>(
     facts: &mut Vec<Fact<'a>>,
     kept: Option<&[u8]>,
@@ -221,7 +221,8 @@ fn put_descriptions<'a>(
     Ok(())
 }
 
-/// Adds the URIs of Subject Information Access that aren't kept, and its unknown methods.
+/// Adds the URIs of Subject Information Access that aren't kept, and its unknown methods (RFC 6487
+/// 4.8.8).
 pub(crate) fn put_access<'a>(
     facts: &mut Vec<Fact<'a>>,
     tbs: &TbsCert,

@@ -4,12 +4,16 @@ ghost use Rattle.std.specs.Int.Digits.{number_from_digits};
 ghost use Rattle.rpki_cert.specs.Certificates.{IsCertificate};
 ghost use Rattle.rpki_der.specs.Encoding.{Means};
 ghost use Rattle.rpki_der.specs.Extensions.{Extension};
-ghost use Rattle.rpki_text.specs.Notes.{AreNotes, Breaks, HaveExtensions, IsEndEntityWithNotify, HasOtherAccess, HasOtherIssuer, HasOtherNotify, HasOtherSubject};
+ghost use Rattle.rpki_text.specs.Notes.{AreNotes, Breaks, HaveExtensions, IsEndEntityWithNotify, HasFurtherNotify, HasOtherAccess, HasOtherIssuer, HasOtherNotify, HasOtherSubject};
 
 use crate::notes::access::Method;
 use crate::notes::canonical;
+use crate::notes::characters::has_other_characters;
 use crate::notes::finding::{Fault, Kinds, has_one};
+use crate::notes::flags::states_false;
 use crate::notes::note::Note;
+use crate::notes::repeated::is_one_twice;
+use crate::notes::times::have_other_form;
 use bytes::Bytes;
 use rpki_cert::{Cert, KeyUsage, TbsCert};
 use rpki_der::Serial;
@@ -17,21 +21,26 @@ use rpki_files::Object;
 use std::alloc::{AllocError, Global};
 
 // Every note, in the order in which they are told.
-const NOTES: [Note; 14] = [
+const NOTES: [Note; 19] = [
     Note::SerialZero,
     Note::SerialLong,
     Note::IssuerForm,
+    Note::TimeForm,
     Note::SubjectForm,
+    Note::NameCharacters,
     Note::EndEntityNotify,
     Note::EndEntityMethod,
     Note::EndEntityObjects,
     Note::NotifyForm,
+    Note::NotifyScheme,
     Note::QualifierForm,
     Note::IpNotCritical,
     Note::AsNotCritical,
     Note::IpForm,
     Note::AsForm,
     Note::OctetsBehind,
+    Note::FlagForm,
+    Note::ExtensionTwice,
 ];
 
 fn is_zero(serial: Serial) -> bool
@@ -103,21 +112,40 @@ fn has_other_notify(octets: &Bytes, tbs: &TbsCert) -> bool
     }
 }
 
+// Whether rpkiNotify is there with an https URI, and also with one of another scheme.
+fn has_further_notify(octets: &Bytes, tbs: &TbsCert) -> bool
+    ensures { (xs : List Extension) → HaveExtensions xs octets.now
+        → (IsTrue result ↔ HasFurtherNotify tbs.now xs) }
+{
+    match tbs.rpki_notify() {
+        Some(_) => has_one(
+            octets,
+            Kinds::Access,
+            Fault::AtLeast(1, Method::NotifyElsewhere),
+            &[],
+        ),
+        None => false,
+    }
+}
+
 // Whether the certificate that the octets begin with, which has these fields, breaks the rule of a
 // note.
 fn is_note(alloc: Global, octets: &Bytes, tbs: &TbsCert, note: Note) -> Result<bool, AllocError>
     ensures { IfOk result (λ yes. (xs : List Extension) → HaveExtensions xs octets.now
-        → (IsTrue yes ↔ Breaks note tbs.now xs)) }
+        → (IsTrue yes ↔ Breaks note octets.now tbs.now xs)) }
 {
     Ok(match note {
         Note::SerialZero => is_zero(tbs.serial_number()),
         Note::SerialLong => is_long(tbs.serial_number()),
         Note::IssuerForm => has_other_issuer(tbs),
+        Note::TimeForm => have_other_form(octets, tbs),
         Note::SubjectForm => has_other_subject(tbs),
+        Note::NameCharacters => has_other_characters(octets),
         Note::EndEntityNotify => is_end_entity_with_notify(tbs),
         Note::EndEntityMethod => has_other_access(octets, tbs, 1, Method::Unknown),
         Note::EndEntityObjects => has_other_access(octets, tbs, 2, Method::SignedObject),
         Note::NotifyForm => has_other_notify(octets, tbs),
+        Note::NotifyScheme => has_further_notify(octets, tbs),
         Note::QualifierForm => has_one(octets, Kinds::Policies, Fault::OtherQualifiers, &[]),
         Note::IpNotCritical => has_one(octets, Kinds::Addresses, Fault::NotCritical, &[]),
         Note::AsNotCritical => has_one(octets, Kinds::Systems, Fault::NotCritical, &[]),
@@ -140,6 +168,8 @@ fn is_note(alloc: Global, octets: &Bytes, tbs: &TbsCert, note: Note) -> Result<b
             )
         }
         Note::OctetsBehind => has_one(octets, Kinds::Known, Fault::NotOneValue, &[]),
+        Note::FlagForm => states_false(octets),
+        Note::ExtensionTwice => is_one_twice(alloc, octets)?,
     })
 }
 
@@ -167,10 +197,14 @@ fn of_certificate(alloc: Global, octets: &Bytes, cert: &Cert) -> Result<Vec<Note
     Ok(notes)
 }
 
-/// Returns what is taken of the certificate that a file begins with although a standard forbids it:
-/// exactly the notes whose rules it breaks, in the order of [`Note`]. There are none where the file
-/// begins with no certificate. Takes time linear in the octets. Errs where memory runs out, which
-/// it does too where resources take 2^32 octets or more to write.
+/// Returns what is accepted of the certificate at the start of a file although a standard forbids
+/// it: exactly the notes whose rules it breaks, in the order of [`Note`]. There are none if the
+/// file doesn't start with a certificate. The time is linear in the number of bytes.
+///
+/// # Errors
+///
+/// Returns an error if memory runs out, or if an extension of resources would have 2^32 bytes or
+/// more.
 pub fn notes_of(alloc: Global, object: &Object<'_>) -> Result<Vec<Note>, AllocError>
     ensures { IfOk result (λ notes. AreNotes object.now.octets notes.items) }
 {

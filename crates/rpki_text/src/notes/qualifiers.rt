@@ -40,8 +40,8 @@ fn are_one_statement(qualifiers: &Cursor<'_>) -> bool
     }
 }
 
-/// Tells whether the policy in the content of Certificate Policies has other qualifiers than one
-/// statement of practices.
+/// Returns whether the policy in the content of Certificate Policies has qualifiers other than one
+/// practice statement (RFC 7318 2).
 pub(crate) fn has_other_qualifiers(policies: &Cursor<'_>) -> bool
     ensures { IsTrue result ↔ AreOthers (qualifiers_at (remaining policies.now)) }
 {

@@ -1,8 +1,15 @@
+use Rattle.std.proofs.Common.{◌≡◌, ◌∙◌, ap, false, subst, sym}
 use Rattle.std.proofs.lemmas.Result.{IfOk-weaker}
-use Rattle.rpki_answers.proofs.WholeVerdicts.{verdict_whole}
+use Rattle.serde_json.specs.Data.{Data}
+use Rattle.serde_json.specs.Written.{has_float}
+use Rattle.rpki_document.proofs.WholeValues.{json_whole}
+use Rattle.rpki_document.specs.Building.{nodes_of}
+use Rattle.rpki_document.specs.Documents.{document_of}
+use Rattle.rpki_answers.specs.JsonTexts.{value_text}
 use Rattle.rpki_answers.proofs.verdicts.json_text.Goals as goal
 
 pub returns : goal.returns
 returns c =
-    let is = c.in_ok-value.ensures in
-    IfOk-weaker c.value_text-text.result _ _ (λ _ written. record { value = _; value_is = is; text_is = written }) (c.value_text-text.ensures (verdict_whole _ _ _ is))
+    let made = c.in_ok-value.ensures in
+    IfOk-weaker c.value_text-text.result _ _ (λ _ written. written ∙ ap (λ (d : Data). value_text c.args.format d) made)
+    (c.value_text-text.ensures (subst (λ (d : Data). has_float d ≡ false) (sym made) (json_whole (document_of (nodes_of c.args.parts.now.items)))))

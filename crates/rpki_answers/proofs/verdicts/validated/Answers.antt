@@ -13,6 +13,7 @@ use Rattle.rpki_answers.specs.declared.outcomes.Outcome.{Outcome}
 use Rattle.rpki_answers.specs.declared.outcomes.Outcome.TheVariants.{Success, Rejection}
 use Rattle.rpki_answers.specs.declared.verdicts.Finding.{Finding}
 use Rattle.rpki_answers.specs.declared.verdicts.Finding.TheVariants.{NotALocator, NotAList, Decided}
+use Rattle.rpki_document.specs.Building.{nodes_of}
 use Rattle.rpki_files.specs.LocatorFiles.{AreLocator}
 use Rattle.rpki_verdicts.specs.GivenLocators.{locator_octets}
 use Rattle.rpki_verdicts.specs.PathFiles.{QuestionFields, demands_of}
@@ -44,3 +45,21 @@ returns-clause-outcome c =
     let q = c.args.question.now in
     let x = context IsSignedByRsa q.at q.strict in
     outcome_is x q c.of_answer.result c.is_accepted-is_accepted.result c.in_ok-finding.finding c.of_answer.ensures.success c.of_answer.ensures.rejection c.is_accepted-is_accepted.ensures c.in_ok-finding.ensures
+
+pub returns-clause-text : goal.returns-clause-text
+returns-clause-text c = λ is_text. record {
+  finding = c.in_ok-finding.finding;
+  finding_is = c.in_ok-finding.ensures;
+  nodes = nodes_of c.in_ok-parts.parts.items;
+  nodes_are = c.in_ok-parts.ensures;
+  text_is = c.in_ok-text.ensures.text is_text;
+}
+
+pub returns-clause-json : goal.returns-clause-json
+returns-clause-json c = λ is_other. record {
+  finding = c.in_ok-finding.finding;
+  finding_is = c.in_ok-finding.ensures;
+  nodes = nodes_of c.in_ok-parts.parts.items;
+  nodes_are = c.in_ok-parts.ensures;
+  text_is = c.in_ok-text.ensures.json is_other;
+}

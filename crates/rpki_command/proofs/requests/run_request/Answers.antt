@@ -1,15 +1,16 @@
 use Rattle.std.proofs.Common.{◌∙◌, sym, refl, inl, inr}
 use Rattle.std.proofs.lemmas.Bool.{true≢false}
 use Rattle.std.proofs.lemmas.Result.{IfOk-weaker}
-use Rattle.rpki_command.specs.AboutTexts.{usage_text}
+use Rattle.rpki_text.specs.CommandLines.Views.{word_octets}
+use Rattle.rpki_command.specs.AboutTexts.{help_text, topic_of}
 use Rattle.rpki_command.specs.Outputs.{only_text}
 use Rattle.rpki_command.proofs.WrittenTexts.{appends_none, makes_none}
 use Rattle.rpki_command.proofs.requests.run_request.Goals as goal
 
 pub returns-then-asks_help-clause-ended : goal.returns-then-asks_help-clause-ended
 returns-then-asks_help-clause-ended g c =
-    let wrote = rw (c.as_bytes.ensures.value, c.usage.ensures) at c.write_all-written.ensures.bytes in
-    (only_text usage_text, inl (c.asks_help.ensures.0 c.if-asks_help.true, refl, refl), wrote, appends_none (g.E.Write.contents c.args.err.now), makes_none (g.M.FileMaker.made c.args.files.now))
+    let wrote = rw (c.as_bytes.ensures.value, c.help.ensures, c.topic_of.ensures) at c.write_all-written.ensures.bytes in
+    (only_text (help_text (topic_of (word_octets c.args.words.now))), inl (c.asks_help.ensures.0 c.if-asks_help.true, refl, refl), wrote, appends_none (g.E.Write.contents c.args.err.now), makes_none (g.M.FileMaker.made c.args.files.now))
 
 pub returns-clause-ended : goal.returns-clause-ended
 returns-clause-ended g c =

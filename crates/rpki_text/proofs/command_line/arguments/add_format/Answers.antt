@@ -1,5 +1,6 @@
 use Rattle.std.proofs.Common.{refl}
 use Rattle.rpki_text.specs.CommandLines.{output}
+use Rattle.rpki_text.proofs.WrongWords.{no_format, value_told}
 use Rattle.rpki_text.proofs.command_line.arguments.add_format.Goals as goal
 
 pub returns-in-Some-clause-added : goal.returns-in-Some-clause-added
@@ -8,4 +9,5 @@ returns-in-Some-clause-added c =
     (output format, (format, refl, c.in-Some.ensures.named), refl)
 
 pub returns-in-None-clause-told : goal.returns-in-None-clause-told
-returns-in-None-clause-told c = λ setting names words begins. (setting, names, begins, c.in-None.ensures.unknown)
+returns-in-None-clause-told c = λ names.
+    value_told c.args.setting c.args.text (no_format c.args.setting c.args.text.now names c.in-None.ensures.unknown)

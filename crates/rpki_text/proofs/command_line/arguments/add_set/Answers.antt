@@ -1,9 +1,10 @@
 use Rattle.std.proofs.Common.{rules, ◌≡◌, ◌++◌, ◌∷◌, [], ℕ, List, Err, inl, inr, refl}
 use Rattle.std.proofs.lemmas.Result.{IfErr-weaker}
-use Rattle.rpki_text.specs.declared.command_line.arguments.Setting.TheVariants.{Crl, Tal, In}
-use Rattle.rpki_text.specs.CommandLines.{list, locator, folder, depth, steps, at_moment, max_size}
+use Rattle.rpki_text.specs.declared.command_line.arguments.Setting.TheVariants.{At, Crl, Tal, In}
+use Rattle.rpki_text.specs.CommandLines.{list, locator, folder, depth, steps, at_moment}
 use Rattle.rpki_text.specs.CommandLines.Views.{fields_of}
 use Rattle.rpki_text.proofs.AddedParts.{value_pushed}
+use Rattle.rpki_text.proofs.WrongWords.{no_moment, value_told}
 use Rattle.rpki_text.proofs.command_line.arguments.add_set.Goals as goal
 
 pub returns-in-Crl-clause-added : goal.returns-in-Crl-clause-added
@@ -40,14 +41,16 @@ returns-in_ok-count_of-in-StepCount-clause-added c =
     let n = c.in_ok-count_of-in-StepCount.field-0 in
     rw c.in-StepCount.is (steps n, (n, refl, c.in_ok-count_of-in-StepCount.ensures.number), refl)
 
-pub returns-in-Some-number_of-clause-added : goal.returns-in-Some-number_of-clause-added
-returns-in-Some-number_of-clause-added c =
-    let n = c.in-Some-number_of.size in
-    rw c.in-MaxSize.is (max_size n, (n, refl, c.in-Some-number_of.ensures), refl)
+pub returns-in-MaxSize-clause-added : goal.returns-in-MaxSize-clause-added
+returns-in-MaxSize-clause-added c = rw c.in-MaxSize.is c.add_size.ensures.added
+
+pub returns-in-MaxSize-clause-told : goal.returns-in-MaxSize-clause-told
+returns-in-MaxSize-clause-told c =
+    rw c.in-MaxSize.is (IfErr-weaker c.add_size.result _ _ (λ e tells not_memory. tells) c.add_size.ensures.told)
 
 pub returns-in-Output-clause-told : goal.returns-in-Output-clause-told
 returns-in-Output-clause-told c =
-    IfErr-weaker c.add_format.result _ _ (λ e tells not_memory. tells c.args.setting c.in-Output.is) c.add_format.ensures.told
+    IfErr-weaker c.add_format.result _ _ (λ e tells not_memory. tells (c.in-Output.is)) c.add_format.ensures.told
 
 pub returns-in_err-count_of-in-Depth-clause-told : goal.returns-in_err-count_of-in-Depth-clause-told
 returns-in_err-count_of-in-Depth-clause-told c =
@@ -61,8 +64,4 @@ returns-in_err-count_of-in-StepCount-clause-told c =
 
 pub returns-in-None-clause-told : goal.returns-in-None-clause-told
 returns-in-None-clause-told c =
-    rw c.in-At.is (λ not_memory words begins. (begins, c.in-None.ensures.none))
-
-pub returns-in-None-number_of-clause-told : goal.returns-in-None-number_of-clause-told
-returns-in-None-number_of-clause-told c =
-    rw c.in-MaxSize.is (λ not_memory words begins. (begins, c.in-None-number_of.ensures))
+    rw c.in-At.is (λ not_memory. value_told At c.args.value (no_moment c.args.value.now c.in-None.ensures.none))

@@ -1,5 +1,5 @@
 use Rattle.std.proofs.Common.{rules, refl}
-use Rattle.rpki_text.specs.CommandLines.{lenient, json, quiet, all, no_names, help}
+use Rattle.rpki_text.specs.CommandLines.{lenient, json, quiet, all, no_names, trust_first, no_crl, help}
 use Rattle.rpki_text.proofs.command_line.arguments.switch.Goals as goal
 
 pub returns-then-is-clause-added : goal.returns-then-is-clause-added
@@ -18,4 +18,10 @@ pub returns-then-is-7-clause-added : goal.returns-then-is-7-clause-added
 returns-then-is-7-clause-added c = (no_names, search rules, refl)
 
 pub returns-then-is-8-clause-added : goal.returns-then-is-8-clause-added
-returns-then-is-8-clause-added c = (help, search rules, refl)
+returns-then-is-8-clause-added c = (trust_first, search rules, refl)
+
+pub returns-then-is-9-clause-added : goal.returns-then-is-9-clause-added
+returns-then-is-9-clause-added c = (no_crl, search rules, refl)
+
+pub returns-then-is-10-clause-added : goal.returns-then-is-10-clause-added
+returns-then-is-10-clause-added c = (help, search rules, refl)

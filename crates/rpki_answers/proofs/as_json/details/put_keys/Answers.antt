@@ -1,9 +1,0 @@
-use Rattle.std.proofs.lemmas.Result.{IfOk-weaker}
-use Rattle.rpki_answers.proofs.PutMembers.{then_put}
-use Rattle.rpki_answers.proofs.as_json.details.put_keys.Goals as goal
-
-pub returns : goal.returns
-returns c =
-    IfOk-weaker c.put_own_key.result _ _ (λ _ last.
-    then_put _ _ _ _ _ (rw (c.authority_key_identifier.ensures, c.as_tbs.ensures) at c.in_ok-put_key.ensures) last)
-    c.put_own_key.ensures

@@ -1,0 +1,384 @@
+//! Values of the RPKI in documents: times, kinds, keys, resources.
+ghost use Rattle.std.specs.Prelude.{◌≡◌, [], ◌∷◌, codes, option_map, IfOk, IfSome, OnOk};
+ghost use Rattle.rpki_document.specs.Building.{Adds, spans_of};
+ghost use Rattle.rpki_blocks.specs.Resources.{inherit};
+ghost use Rattle.rpki_document.specs.Documents.{flag, keep, line, say, show, text};
+ghost use Rattle.rpki_document.specs.Views.{leaf_view};
+ghost use Rattle.rpki_text.specs.BlockLines.{family_address_text, family_text};
+ghost use Rattle.rpki_text.specs.KeyTexts.{key_text, point_text};
+ghost use Rattle.rpki_answers.specs.ToldValues.{addresses_node, ends_node, exponent_nodes, form_nodes, identifier_told, key_nodes, kind_told, line_at, moment_told, numbers_node, point_nodes, resource_nodes, set_nodes, single_node};
+
+use crate::as_json::key::{algorithm_word, form_word};
+use rpki_blocks::{Addr, AsBlock, AsBlocks, AsResources, IpBlock, IpBlocks, IpResources};
+use rpki_cert::Kind;
+use rpki_der::Time;
+use rpki_document::{Leaf, Part, Piece, add_further, add_inside, add_kept, add_line};
+use rpki_keys::KeyForm;
+use rpki_parts::{KeyIdentifier, PublicKey, PublicKeyFormat};
+use rpki_text::Colons;
+use rpki_text::blocks::Family;
+use rpki_text::keys::KeyAnswer;
+use std::alloc::{AllocError, Global};
+use std::fmt;
+
+/// Makes a leaf of the text of a value.
+pub fn printed<T: fmt::Display>(alloc: Global, value: &T) -> Result<Leaf<'static>, AllocError>
+    ensures { IfSome (T.output value.now) (λ said.
+        IfOk result (λ leaf. leaf_view leaf ≡ text said)) }
+{
+    let made = format!(in alloc; "{value}")?;
+    Ok(Leaf::Own(made))
+}
+
+/// Returns what a certificate is.
+pub fn kind_leaf(kind: Kind) -> Leaf<'static>
+    ensures { leaf_view result ≡ kind_told kind }
+{
+    match kind {
+        Kind::Anchor => Leaf::Words("trust anchor", "ta"),
+        Kind::Authority => Leaf::Words("CA", "ca"),
+        Kind::EndEntity => Leaf::Words("EE", "ee"),
+        Kind::Detached => Leaf::Words("detached EE", "detached_ee"),
+        Kind::Router => Leaf::Words("BGPsec router", "router"),
+    }
+}
+
+/// Makes a leaf of a time.
+pub fn moment_leaf(alloc: Global, at: Time) -> Result<Leaf<'static>, AllocError>
+    ensures { IfOk result (λ leaf. leaf_view leaf ≡ moment_told at) }
+{
+    let made = format!(in alloc; "{at}")?;
+    Ok(Leaf::Dated(made, at.timestamp()))
+}
+
+/// Makes a leaf of the identifier of a key.
+pub fn identifier_leaf(alloc: Global, it: &KeyIdentifier) -> Result<Leaf<'static>, AllocError>
+    ensures { IfOk result (λ leaf. leaf_view leaf ≡ identifier_told it.now) }
+{
+    printed(alloc, &Colons(it.as_octets().as_slice()))
+}
+
+// ---- keys
+
+fn add_exponent(
+    parts: &mut Vec<Part<'_>>,
+    alloc: Global,
+    exponent: Option<u64>,
+) -> Result<(), AllocError>
+    ensures { OnOk result (Adds (exponent_nodes exponent) parts.old.items parts.new.items) }
+{
+    match exponent {
+        Some(exponent) => add_kept(parts, alloc, "exponent", Leaf::Count(exponent)),
+        None => Ok(()),
+    }
+}
+
+// The numbers of an RSA key.
+fn add_numbers_of_key(
+    parts: &mut Vec<Part<'_>>,
+    alloc: Global,
+    bits: u64,
+    exponent: Option<u64>,
+) -> Result<(), AllocError>
+    ensures { let its = form_nodes (KeyForm.RsaKey bits exponent) in
+        OnOk result (Adds its parts.old.items parts.new.items) }
+{
+    add_kept(parts, alloc, "bits", Leaf::Count(bits))?;
+    add_exponent(parts, alloc, exponent)
+}
+
+fn add_form(parts: &mut Vec<Part<'_>>, alloc: Global, form: KeyForm) -> Result<(), AllocError>
+    ensures { OnOk result (Adds (form_nodes form) parts.old.items parts.new.items) }
+{
+    match form {
+        KeyForm::RsaKey { bits, exponent } => add_numbers_of_key(parts, alloc, bits, exponent),
+        KeyForm::EvenModulus
+        | KeyForm::NoRsaKey
+        | KeyForm::Point
+        | KeyForm::OffCurve
+        | KeyForm::CompressedPoint
+        | KeyForm::NoPoint => Ok(()),
+    }
+}
+
+// The point of a key on a curve.
+fn add_point(parts: &mut Vec<Part<'_>>, alloc: Global, key: &PublicKey) -> Result<(), AllocError>
+    ensures { OnOk result
+        (Adds (point_nodes (point_text key.now)) parts.old.items parts.new.items) }
+{
+    match key.algorithm() {
+        PublicKeyFormat::Rsa => Ok(()),
+        PublicKeyFormat::EcdsaP256 => {
+            let leaf = printed(alloc, &Colons(key.bits()))?;
+            add_kept(parts, alloc, "point", leaf)
+        }
+    }
+}
+
+// The line of a key.
+fn add_key_line<'p>(
+    parts: &mut Vec<Part<'p>>,
+    alloc: Global,
+    label: &'p str,
+    algorithm: &'p str,
+    form: &'p str,
+    found: &KeyAnswer,
+) -> Result<(), AllocError>
+    ensures { let spans = show (text (key_text found.now))
+        ∷ keep (codes "algorithm") (text algorithm.now)
+        ∷ keep (codes "form") (text form.now)
+        ∷ keep (codes "usable") (flag found.now.is_usable) ∷ [] in
+        OnOk result (Adds (line label.now spans ∷ []) parts.old.items parts.new.items) }
+{
+    let leaf = printed(alloc, found)?;
+    let pieces = vec![in alloc;
+        Piece::Show(leaf),
+        Piece::Keep("algorithm", Leaf::Text(algorithm)),
+        Piece::Keep("form", Leaf::Text(form)),
+        Piece::Keep("usable", Leaf::Flag(found.is_usable)),
+    ]?;
+    add_line(parts, label, pieces)
+}
+
+/// Adds a key, of which this was found.
+pub fn add_key<'p>(
+    parts: &mut Vec<Part<'p>>,
+    alloc: Global,
+    label: &'p str,
+    key: &PublicKey,
+    found: &KeyAnswer,
+) -> Result<(), AllocError>
+    ensures { let its = key_nodes label.now key.now found.now in
+        OnOk result (Adds its parts.old.items parts.new.items) }
+{
+    let algorithm = algorithm_word(found.form);
+    let form = form_word(found.form);
+    add_key_line(parts, alloc, label, algorithm, form, found)?;
+    add_form(parts, alloc, found.form)?;
+    add_point(parts, alloc, key)
+}
+
+// ---- resources
+
+// A line under a label, or one more under the label above.
+fn add_at<'p>(
+    parts: &mut Vec<Part<'p>>,
+    label: Option<&'p str>,
+    pieces: Vec<Piece<'p>>,
+) -> Result<(), AllocError>
+    ensures { let label = option_map (λ l. l.now) label.entry in
+        let its = line_at label (spans_of pieces.entry.items) in
+        OnOk result (Adds (its ∷ []) parts.old.items parts.new.items) }
+{
+    match label {
+        Some(label) => add_line(parts, label, pieces),
+        None => add_further(parts, pieces),
+    }
+}
+
+// A block that is one value.
+fn add_single<'p>(
+    parts: &mut Vec<Part<'p>>,
+    alloc: Global,
+    label: Option<&'p str>,
+    key: &'p str,
+    leaf: Leaf<'p>,
+) -> Result<(), AllocError>
+    ensures { let label = option_map (λ l. l.now) label.entry in
+        let its = single_node label key.now (leaf_view leaf.entry) in
+        OnOk result (Adds (its ∷ []) parts.old.items parts.new.items) }
+{
+    let mut own = Vec::new(alloc);
+    let pieces = vec![in alloc; Piece::Tell(key, leaf)]?;
+    add_at(&mut own, label, pieces)?;
+    add_inside(parts, "", own)
+}
+
+// A block by its two ends.
+fn add_ends<'p>(
+    parts: &mut Vec<Part<'p>>,
+    alloc: Global,
+    label: Option<&'p str>,
+    key: &'p str,
+    min: Leaf<'p>,
+    max: Leaf<'p>,
+) -> Result<(), AllocError>
+    ensures { let label = option_map (λ l. l.now) label.entry in
+        let its = ends_node label key.now (leaf_view min.entry) (leaf_view max.entry) in
+        OnOk result (Adds (its ∷ []) parts.old.items parts.new.items) }
+{
+    let mut ends = Vec::new(alloc);
+    let pieces = vec![in alloc;
+        Piece::Tell("min", min),
+        Piece::Say("-"),
+        Piece::Tell("max", max),
+    ]?;
+    add_at(&mut ends, label, pieces)?;
+    let mut own = Vec::new(alloc);
+    add_inside(&mut own, key, ends)?;
+    add_inside(parts, "", own)
+}
+
+fn add_as_block<'p>(
+    parts: &mut Vec<Part<'p>>,
+    alloc: Global,
+    label: Option<&'p str>,
+    it: AsBlock,
+) -> Result<(), AllocError>
+    ensures { let its = numbers_node (option_map (λ l. l.now) label.entry) it in
+        OnOk result (Adds (its ∷ []) parts.old.items parts.new.items) }
+{
+    let min = it.min().into_u32();
+    let max = it.max().into_u32();
+    if min == max {
+        return add_single(parts, alloc, label, "asid", Leaf::Count(min as u64));
+    }
+    let min = Leaf::Count(min as u64);
+    let max = Leaf::Count(max as u64);
+    add_ends(parts, alloc, label, "asrange", min, max)
+}
+
+#[tactic(auto, unfolding(std::specs::Net::Addr::IsIpv4OfBits, std::specs::Net::Addr::IsIpv6OfBits))]
+fn address_leaf(alloc: Global, family: Family, at: Addr) -> Result<Leaf<'static>, AllocError>
+    ensures { IfOk result (λ leaf. leaf_view leaf ≡ text (family_address_text family at)) }
+{
+    match family {
+        Family::V4 => printed(alloc, &at.to_v4()),
+        Family::V6 => printed(alloc, &at.to_v6()),
+    }
+}
+
+fn prefix_leaf(alloc: Global, family: Family, it: IpBlock) -> Result<Leaf<'static>, AllocError>
+    ensures { IfOk result (λ leaf. leaf_view leaf ≡ text (family_text family it)) }
+{
+    match family {
+        Family::V4 => printed(alloc, &it.display_v4()),
+        Family::V6 => printed(alloc, &it.display_v6()),
+    }
+}
+
+fn add_ip_block<'p>(
+    parts: &mut Vec<Part<'p>>,
+    alloc: Global,
+    label: Option<&'p str>,
+    family: Family,
+    it: IpBlock,
+) -> Result<(), AllocError>
+    ensures { let its = addresses_node family (option_map (λ l. l.now) label.entry) it in
+        OnOk result (Adds (its ∷ []) parts.old.items parts.new.items) }
+{
+    if it.is_prefix() {
+        let leaf = prefix_leaf(alloc, family, it)?;
+        return add_single(parts, alloc, label, "ip_prefix", leaf);
+    }
+    let min = address_leaf(alloc, family, it.min())?;
+    let max = address_leaf(alloc, family, it.max())?;
+    add_ends(parts, alloc, label, "ip_range", min, max)
+}
+
+// That a set is empty.
+fn add_none<'p>(parts: &mut Vec<Part<'p>>, alloc: Global, label: &'p str) -> Result<(), AllocError>
+    ensures { let its = line label.now (say (codes "none") ∷ []) in
+        OnOk result (Adds (its ∷ []) parts.old.items parts.new.items) }
+{
+    let pieces = vec![in alloc; Piece::Say("none")]?;
+    add_line(parts, label, pieces)
+}
+
+/// Adds a line for each block of AS numbers; `none` if there are none.
+pub fn add_numbers<'p>(
+    parts: &mut Vec<Part<'p>>,
+    alloc: Global,
+    label: &'p str,
+    blocks: &AsBlocks,
+) -> Result<(), AllocError>
+    ensures { let its = set_nodes numbers_node label.now blocks.now in
+        OnOk result (Adds its parts.old.items parts.new.items) }
+{
+    let mut blocks = blocks.iter();
+    let Some(first) = blocks.next() else {
+        return add_none(parts, alloc, label);
+    };
+    add_as_block(parts, alloc, Some(label), *first)?;
+    for block in blocks {
+        add_as_block(parts, alloc, None, *block)?;
+    }
+    Ok(())
+}
+
+/// Adds a line for each block of addresses; `none` if there are none.
+pub fn add_addresses<'p>(
+    parts: &mut Vec<Part<'p>>,
+    alloc: Global,
+    label: &'p str,
+    family: Family,
+    blocks: &IpBlocks,
+) -> Result<(), AllocError>
+    ensures { let its = set_nodes (addresses_node family) label.now blocks.now in
+        OnOk result (Adds its parts.old.items parts.new.items) }
+{
+    let mut blocks = blocks.iter();
+    let Some(first) = blocks.next() else {
+        return add_none(parts, alloc, label);
+    };
+    add_ip_block(parts, alloc, Some(label), family, *first)?;
+    for block in blocks {
+        add_ip_block(parts, alloc, None, family, *block)?;
+    }
+    Ok(())
+}
+
+// That the issuer's resources of a kind are meant.
+fn add_inherited<'p>(
+    parts: &mut Vec<Part<'p>>,
+    alloc: Global,
+    label: &'p str,
+    name: &'p str,
+) -> Result<(), AllocError>
+    ensures { let its = resource_nodes numbers_node label.now name.now inherit in
+        OnOk result (Adds its parts.old.items parts.new.items) }
+{
+    let mut own = Vec::new(alloc);
+    let pieces = vec![in alloc;
+        Piece::Say("inherited"),
+        Piece::Keep(name, Leaf::Text("inherit")),
+    ]?;
+    add_line(&mut own, label, pieces)?;
+    add_inside(parts, "", own)
+}
+
+/// Adds what a certificate lists of AS numbers.
+pub fn add_as_resources<'p>(
+    parts: &mut Vec<Part<'p>>,
+    alloc: Global,
+    label: &'p str,
+    listed: &AsResources,
+) -> Result<(), AllocError>
+    ensures { let its = resource_nodes numbers_node label.now (codes "as_inherit") listed.now in
+        OnOk result (Adds its parts.old.items parts.new.items) }
+{
+    match listed.as_blocks() {
+        Some(blocks) => add_numbers(parts, alloc, label, blocks),
+        None if listed.is_inherited() => add_inherited(parts, alloc, label, "as_inherit"),
+        None => Ok(()),
+    }
+}
+
+/// Adds what a certificate lists of a family of addresses.
+pub fn add_ip_resources<'p>(
+    parts: &mut Vec<Part<'p>>,
+    alloc: Global,
+    label: &'p str,
+    name: &'p str,
+    family: Family,
+    listed: &IpResources,
+) -> Result<(), AllocError>
+    ensures { let its = resource_nodes (addresses_node family) label.now name.now listed.now in
+        OnOk result (Adds its parts.old.items parts.new.items) }
+{
+    match listed.as_blocks() {
+        Some(blocks) => add_addresses(parts, alloc, label, family, blocks),
+        None if listed.is_inherited() => add_inherited(parts, alloc, label, name),
+        None => Ok(()),
+    }
+}

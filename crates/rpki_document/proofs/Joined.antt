@@ -1,0 +1,97 @@
+-- What is said of several pieces or parts, one behind the other.
+use Rattle.std.specs.List.{flat_map}
+use Rattle.std.specs.Prelude.{Result, Ok, Err, OnOk, is_ok, if◌then◌else◌, Vec}
+use Rattle.std.specs.declared.alloc.Global.{Global}
+use Rattle.std.proofs.Common.{Bor, rules, subst}
+use Rattle.std.proofs.lemmas.List.{map-append}
+use Rattle.serde_json.specs.View.{view}
+use Rattle.serde_json.specs.declared.value.Value.{Value}
+use Rattle.rpki_document.specs.Documents as doc
+use Rattle.std.proofs.Common.{◌≡◌, ◌∙◌, ℕ, List, [], ◌∷◌, ◌++◌, map, refl, sym, ap}
+use Rattle.serde_json.specs.Data.{Data, Members}
+use Rattle.rpki_document.specs.Documents.{Node, document_of, document_text, document_members, document_items, node_text, node_members, node_items, Pair, put_all, object_of, array_of, span_text, span_members, span_items, spans_text}
+use Rattle.rpki_document.specs.Views.{Entries, Puts, Pushes, part_view, piece_view, parts_text, parts_members, parts_items, pieces_text, pieces_members, pieces_items}
+use Rattle.rpki_document.specs.declared.parts.Part.{Part, Inside, Each, the_lemmas}
+use Rattle.rpki_document.specs.declared.parts.Piece.{Piece}
+
+-- ---- a document is gone over part by part
+
+pub text_of_parts : (ps : List Part) → document_text (document_of (map part_view ps)) ≡ parts_text ps
+text_of_parts [] = refl
+text_of_parts (p ∷ ps) = ap (λ (l : List ℕ). node_text (part_view p) ++ l) (text_of_parts ps)
+
+pub members_of_parts : (ps : List Part) → document_members (document_of (map part_view ps)) ≡ parts_members ps
+members_of_parts [] = refl
+members_of_parts (p ∷ ps) = ap (λ (l : List Pair). node_members (part_view p) ++ l) (members_of_parts ps)
+
+pub items_of_parts : (ps : List Part) → document_items (document_of (map part_view ps)) ≡ parts_items ps
+items_of_parts [] = refl
+items_of_parts (p ∷ ps) = ap (λ (l : List Data). node_items (part_view p) ++ l) (items_of_parts ps)
+
+-- ---- and a line piece by piece
+
+pub text_of_pieces : (ps : List Piece) → spans_text (map piece_view ps) ≡ pieces_text ps
+text_of_pieces [] = refl
+text_of_pieces (p ∷ ps) = ap (λ (l : List ℕ). span_text (piece_view p) ++ l) (text_of_pieces ps)
+
+pub members_of_pieces : (ps : List Piece) → flat_map span_members (map piece_view ps) ≡ pieces_members ps
+members_of_pieces [] = refl
+members_of_pieces (p ∷ ps) = ap (λ (l : List Pair). span_members (piece_view p) ++ l) (members_of_pieces ps)
+
+pub items_of_pieces : (ps : List Piece) → flat_map span_items (map piece_view ps) ≡ pieces_items ps
+items_of_pieces [] = refl
+items_of_pieces (p ∷ ps) = ap (λ (l : List Data). span_items (piece_view p) ++ l) (items_of_pieces ps)
+
+-- ---- members
+
+pub put_both : (a b : List Pair) (ms : Members) → put_all (a ++ b) ms ≡ put_all b (put_all a ms)
+put_both [] b ms = refl
+put_both (pair ∷ a) b ms = put_both a b _
+
+-- ---- parts inside
+
+pub view-Inside : (key : Bor (List ℕ)) (ps : Vec Part Global) → part_view (Inside key ps) ≡ doc.inside key.now (document_of (map part_view ps.items))
+view-Inside key ps = search (rules, the_lemmas)
+
+pub view-Each : (key : Bor (List ℕ)) (ps : Vec Part Global) → part_view (Each key ps) ≡ doc.each key.now (document_of (map part_view ps.items))
+view-Each key ps = search (rules, the_lemmas)
+
+-- the text of parts is that of the part that they are inside of
+pub written_inside : {T E : Type 0} (r : Result T E) (old new key : List ℕ) (p : Part) (ps : List Part) → part_view p ≡ doc.inside key (document_of (map part_view ps)) → OnOk r (new ≡ old ++ parts_text ps) → OnOk r (new ≡ old ++ node_text (part_view p))
+written_inside (Ok x) old new key p ps is e = e ∙ ap (λ (l : List ℕ). old ++ l) (sym (ap node_text is ∙ text_of_parts ps))
+written_inside (Err x) old new key p ps is e = tt
+
+pub written_each : {T E : Type 0} (r : Result T E) (old new key : List ℕ) (p : Part) (ps : List Part) → part_view p ≡ doc.each key (document_of (map part_view ps)) → OnOk r (new ≡ old ++ parts_text ps) → OnOk r (new ≡ old ++ node_text (part_view p))
+written_each (Ok x) old new key p ps is e = e ∙ ap (λ (l : List ℕ). old ++ l) (sym (ap node_text is ∙ text_of_parts ps))
+written_each (Err x) old new key p ps is e = tt
+
+-- the value of parts, put in under their key
+pub put_inside : {T E : Type 0} (r : Result T E) (old new : Entries) (key : List ℕ) (p : Part) (ps : List Part) (made : Value) → part_view p ≡ doc.inside key (document_of (map part_view ps)) → view made ≡ object_of (parts_members ps) → OnOk r (Puts ((key, view made) ∷ []) old new) → OnOk r (Puts (node_members (part_view p)) old new)
+put_inside (Ok x) old new key p ps made is value e =
+    let same : view made ≡ object_of (document_members (document_of (map part_view ps))) = value ∙ ap object_of (sym (members_of_parts ps)) in
+    subst (λ (n : Node). Puts (node_members n) old new) (sym is) (subst (λ (d : Data). Puts ((key, d) ∷ []) old new) same e)
+put_inside (Err x) old new key p ps made is value e = tt
+
+pub put_each : {T E : Type 0} (r : Result T E) (old new : Entries) (key : List ℕ) (p : Part) (ps : List Part) (made : Value) → part_view p ≡ doc.each key (document_of (map part_view ps)) → view made ≡ array_of (parts_items ps) → OnOk r (Puts ((key, view made) ∷ []) old new) → OnOk r (Puts (node_members (part_view p)) old new)
+put_each (Ok x) old new key p ps made is value e =
+    let same : view made ≡ array_of (document_items (document_of (map part_view ps))) = value ∙ ap array_of (sym (items_of_parts ps)) in
+    subst (λ (n : Node). Puts (node_members n) old new) (sym is) (subst (λ (d : Data). Puts ((key, d) ∷ []) old new) same e)
+put_each (Err x) old new key p ps made is value e = tt
+
+one_pushed : (old new : List Value) (made : Value) (d : Data) → new ≡ old ++ made ∷ [] → view made ≡ d → Pushes (d ∷ []) old new
+one_pushed old new made d is value = ap (map view) is ∙ map-append view old (made ∷ []) ∙ ap (λ (e : Data). map view old ++ e ∷ []) value
+
+-- the same, pushed to a list
+pub push_inside : (old new : List Value) (key : List ℕ) (p : Part) (ps : List Part) (made : Value) → part_view p ≡ doc.inside key (document_of (map part_view ps)) → view made ≡ object_of (parts_members ps) → new ≡ old ++ made ∷ [] → Pushes (node_items (part_view p)) old new
+push_inside old new key p ps made is value e =
+    subst (λ (n : Node). Pushes (node_items n) old new) (sym is) (one_pushed old new made _ e (value ∙ ap object_of (sym (members_of_parts ps))))
+
+pub push_each : (old new : List Value) (key : List ℕ) (p : Part) (ps : List Part) (made : Value) → part_view p ≡ doc.each key (document_of (map part_view ps)) → view made ≡ array_of (parts_items ps) → new ≡ old ++ made ∷ [] → Pushes (node_items (part_view p)) old new
+push_each old new key p ps made is value e =
+    subst (λ (n : Node). Pushes (node_items n) old new) (sym is) (one_pushed old new made _ e (value ∙ ap array_of (sym (items_of_parts ps))))
+
+-- ---- the end of a line
+
+pub line_ended : {T E : Type 0} (r : Result T E) (old new more whole : List ℕ) → new ≡ (if is_ok r then old ++ more else old) → old ++ more ≡ whole → OnOk r (new ≡ whole)
+line_ended (Ok x) old new more whole is same = is ∙ same
+line_ended (Err x) old new more whole is same = tt

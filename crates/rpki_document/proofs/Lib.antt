@@ -1,0 +1,5 @@
+-- Lemmas of the proofs about documents.
+mod Joined
+mod RowTexts
+pub mod WholeValues
+pub mod Built

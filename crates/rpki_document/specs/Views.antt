@@ -1,0 +1,81 @@
+-- The document that is built, and what is done to texts and to members of JSON.
+use Rattle.std.specs.List.{flat_map}
+use Rattle.std.specs.Prelude.{◌≡◌, ℕ, List, ◌++◌, map, String, string_bytes}
+use Rattle.std.specs.declared.alloc.Global.{Global}
+use Rattle.serde_json.specs.Data.{Data}
+use Rattle.serde_json.specs.View.{view, members_view}
+use Rattle.serde_json.specs.declared.value.Value.{Value}
+use Rattle.rpki_document.specs.Documents.{Told, Span, Node, Document, document_of, Pair, put_all, span_text, span_members, span_items, node_text, node_members, node_items}
+use Rattle.rpki_document.specs.Documents as doc
+use Rattle.rpki_document.specs.declared.parts.Leaf.{Leaf}
+use Rattle.rpki_document.specs.declared.parts.Leaf.TheVariants as leaf
+use Rattle.rpki_document.specs.declared.parts.Piece.{Piece}
+use Rattle.rpki_document.specs.declared.parts.Piece.TheVariants as piece
+use Rattle.rpki_document.specs.declared.parts.Part.{Part, fold-Part}
+use Rattle.rpki_document.specs.declared.parts.Part.TheOpen.{Part-F}
+
+abbrev pub leaf_view : Leaf → Told
+leaf_view (leaf.Text t) = doc.text t.now
+leaf_view (leaf.Inner t) = doc.inner t.now
+leaf_view (leaf.Characters os) = doc.characters os.now
+leaf_view (leaf.Words said word) = doc.words said.now word.now
+leaf_view (leaf.Count n) = doc.count n
+leaf_view (leaf.Octets os) = doc.octets os.now
+leaf_view (leaf.Flag is_so) = doc.flag is_so
+leaf_view (leaf.Own t) = doc.text (string_bytes t)
+leaf_view (leaf.Dated said n) = doc.dated (string_bytes said) n
+
+abbrev pub piece_view : Piece → Span
+piece_view (piece.Say said) = doc.say said.now
+piece_view (piece.Tell key told) = doc.tell key.now (leaf_view told)
+piece_view (piece.Show told) = doc.show (leaf_view told)
+piece_view (piece.Keep key told) = doc.keep key.now (leaf_view told)
+
+-- one level, with each part inside already seen
+abbrev pub part_step : Part-F Node → Node
+part_step (Part-F.Head label pieces) = doc.head label.now (map piece_view pieces.items)
+part_step (Part-F.Line label pieces) = doc.line label.now (map piece_view pieces.items)
+part_step (Part-F.Further pieces) = doc.further (map piece_view pieces.items)
+part_step (Part-F.Unsaid pieces) = doc.unsaid (map piece_view pieces.items)
+part_step (Part-F.Inside key parts) = doc.inside key.now (document_of parts.items)
+part_step (Part-F.Each key parts) = doc.each key.now (document_of parts.items)
+
+abbrev pub part_view : Part → Node
+part_view = fold-Part Node part_step
+
+abbrev pub document_view : List Part → Document
+document_view parts = document_of (map part_view parts)
+
+-- ---- what pieces and parts say, one behind the other
+
+abbrev pub pieces_text : List Piece → List ℕ
+pieces_text pieces = flat_map (λ p. span_text (piece_view p)) pieces
+
+abbrev pub pieces_members : List Piece → List Pair
+pieces_members pieces = flat_map (λ p. span_members (piece_view p)) pieces
+
+abbrev pub pieces_items : List Piece → List Data
+pieces_items pieces = flat_map (λ p. span_items (piece_view p)) pieces
+
+abbrev pub parts_text : List Part → List ℕ
+parts_text parts = flat_map (λ p. node_text (part_view p)) parts
+
+abbrev pub parts_members : List Part → List Pair
+parts_members parts = flat_map (λ p. node_members (part_view p)) parts
+
+abbrev pub parts_items : List Part → List Data
+parts_items parts = flat_map (λ p. node_items (part_view p)) parts
+
+-- ---- members and values of JSON
+
+-- the members of an object in Rust, in the order of their names
+abbrev pub Entries : Type 0
+Entries = List (String Global × Value)
+
+-- new is old with these members put in
+abbrev pub Puts : List Pair → Entries → Entries → Type 0
+Puts pairs old new = members_view new ≡ put_all pairs (members_view old)
+
+-- new is old with these values behind it
+abbrev pub Pushes : List Data → List Value → List Value → Type 0
+Pushes values old new = map view new ≡ map view old ++ values

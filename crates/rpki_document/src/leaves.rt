@@ -1,0 +1,171 @@
+//! Values as text.
+ghost use Rattle.std.specs.Prelude.{◌≡◌, Some, replicate};
+ghost use Rattle.std.specs.Fmt.{WritesOnOk};
+ghost use Rattle.rpki_document.specs.Documents.{told_text};
+ghost use Rattle.rpki_document.specs.Texts.{two_digits, colons_text, character_text, characters_text, escaped, flag_text, head_text, inner_character_text, inner_text, label_text, separates};
+ghost use Rattle.rpki_document.specs.Views.{leaf_view};
+
+use crate::parts::Leaf;
+use std::fmt;
+
+// An octet in two hexadecimal digits.
+#[tactic(auto, using(std::proofs::lemmas::Fmt::hex_byte))]
+fn write_octet<W: fmt::Write>(f: &mut fmt::Formatter<W>, octet: u8) -> fmt::Result
+    ensures { WritesOnOk W.write_str_gives f.old result (two_digits octet) f.new }
+{
+    write!(f, "{octet:02X}")
+}
+
+fn write_colons<W: fmt::Write>(f: &mut fmt::Formatter<W>, octets: &[u8]) -> fmt::Result
+    ensures { WritesOnOk W.write_str_gives f.old result (colons_text octets.now) f.new }
+{
+    let [first, more @ ..] = octets else {
+        return Ok(());
+    };
+    write_octet(f, *first)?;
+    for octet in more {
+        f.write_str(":")?;
+        write_octet(f, *octet)?;
+    }
+    Ok(())
+}
+
+fn write_escaped<W: fmt::Write>(f: &mut fmt::Formatter<W>, octet: u8) -> fmt::Result
+    ensures { WritesOnOk W.write_str_gives f.old result (escaped octet) f.new }
+{
+    f.write_str("\\x")?;
+    write_octet(f, octet)
+}
+
+fn write_character<W: fmt::Write>(f: &mut fmt::Formatter<W>, octet: u8) -> fmt::Result
+    ensures { WritesOnOk W.write_str_gives f.old result (character_text octet) f.new }
+{
+    if octet > 31 && octet < 127 && octet != b'\\' {
+        f.write_char(char::from(octet))
+    } else {
+        write_escaped(f, octet)
+    }
+}
+
+fn write_characters<W: fmt::Write>(f: &mut fmt::Formatter<W>, octets: &[u8]) -> fmt::Result
+    ensures { WritesOnOk W.write_str_gives f.old result (characters_text octets.now) f.new }
+{
+    for octet in octets {
+        write_character(f, *octet)?;
+    }
+    Ok(())
+}
+
+fn separates(octet: u8) -> bool
+    ensures { result ≡ separates octet }
+{
+    octet == b':' || octet == b',' || octet == b'>' || octet == b'('
+}
+
+fn write_inner_character<W: fmt::Write>(f: &mut fmt::Formatter<W>, octet: u8) -> fmt::Result
+    ensures { WritesOnOk W.write_str_gives f.old result (inner_character_text octet) f.new }
+{
+    let is_plain = octet > 31 && octet < 127 && octet != b'\\';
+    if is_plain && !separates(octet) {
+        f.write_char(char::from(octet))
+    } else {
+        write_escaped(f, octet)
+    }
+}
+
+fn write_inner<W: fmt::Write>(f: &mut fmt::Formatter<W>, octets: &[u8]) -> fmt::Result
+    ensures { WritesOnOk W.write_str_gives f.old result (inner_text octets.now) f.new }
+{
+    for octet in octets {
+        write_inner_character(f, *octet)?;
+    }
+    Ok(())
+}
+
+fn write_flag<W: fmt::Write>(f: &mut fmt::Formatter<W>, is_so: bool) -> fmt::Result
+    ensures { WritesOnOk W.write_str_gives f.old result (flag_text is_so) f.new }
+{
+    if is_so {
+        f.write_str("yes")
+    } else {
+        f.write_str("no")
+    }
+}
+
+impl fmt::Display for Leaf<'_> {
+    ghost output = { λ it. Some (told_text (leaf_view it)) };
+
+    fn fmt<W: fmt::Write>(&self, f: &mut fmt::Formatter<W>) -> fmt::Result {
+        match self {
+            Leaf::Text(text) => write_characters(f, text.as_bytes()),
+            Leaf::Inner(text) => write_inner(f, text.as_bytes()),
+            Leaf::Characters(octets) => write_characters(f, octets),
+            Leaf::Words(said, _) => write_characters(f, said.as_bytes()),
+            Leaf::Count(n) => write!(f, "{n}"),
+            Leaf::Octets(octets) => write_colons(f, octets),
+            Leaf::Flag(is_so) => write_flag(f, *is_so),
+            Leaf::Own(text) => write_characters(f, text.as_bytes()),
+            Leaf::Dated(said, _) => write_characters(f, said.as_bytes()),
+        }
+    }
+}
+
+/// Octets as characters, with what isn't visible escaped.
+#[derive(Drop)]
+pub struct Characters<'a>(pub &'a [u8]);
+
+impl fmt::Display for Characters<'_> {
+    ghost output = { λ it. Some (characters_text it.0.now) };
+
+    fn fmt<W: fmt::Write>(&self, f: &mut fmt::Formatter<W>) -> fmt::Result {
+        write_characters(f, self.0)
+    }
+}
+
+/// Octets, with colons between them.
+#[derive(Drop)]
+pub struct Colons<'a>(pub &'a [u8]);
+
+impl fmt::Display for Colons<'_> {
+    ghost output = { λ it. Some (colons_text it.0.now) };
+
+    fn fmt<W: fmt::Write>(&self, f: &mut fmt::Formatter<W>) -> fmt::Result {
+        write_colons(f, self.0)
+    }
+}
+
+/// A label, padded to the column of values.
+#[derive(Drop)]
+pub struct Label<'a>(pub &'a str);
+
+fn write_spaces<W: fmt::Write>(f: &mut fmt::Formatter<W>, count: usize) -> fmt::Result
+    ensures { WritesOnOk W.write_str_gives f.old result (replicate count 32) f.new }
+{
+    for _column in 0..count {
+        f.write_str(" ")?;
+    }
+    Ok(())
+}
+
+impl fmt::Display for Label<'_> {
+    ghost output = { λ label. Some (label_text label.0.now) };
+
+    fn fmt<W: fmt::Write>(&self, f: &mut fmt::Formatter<W>) -> fmt::Result {
+        f.write_str(self.0)?;
+        f.write_str(":")?;
+        write_spaces(f, 25usize.saturating_sub(self.0.len()))
+    }
+}
+
+/// A label with one space behind it.
+#[derive(Drop)]
+pub struct Heading<'a>(pub &'a str);
+
+impl fmt::Display for Heading<'_> {
+    ghost output = { λ label. Some (head_text label.0.now) };
+
+    fn fmt<W: fmt::Write>(&self, f: &mut fmt::Formatter<W>) -> fmt::Result {
+        f.write_str(self.0)?;
+        f.write_str(": ")
+    }
+}

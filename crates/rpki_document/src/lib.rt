@@ -1,0 +1,16 @@
+//! Documents: what an answer says, once, and its two renderings, as lines for a person and as JSON.
+#![tactic(auto)]
+
+mod as_json;
+mod as_text;
+mod building;
+pub mod laws;
+mod leaves;
+mod parts;
+
+pub use as_json::json_of;
+pub use as_text::text_of;
+pub use building::{
+    add_each, add_further, add_head, add_inside, add_kept, add_line, add_told, add_unsaid,
+};
+pub use parts::{Leaf, Part, Piece};
