@@ -1,8 +1,8 @@
 #!/bin/sh
 # Microseconds of calls through include/rpki.h beside the library's own calls:
-# `rpki_certificate_read` of a usual authority beside `Cert::decode`, and `rpki_path_validate_said`
-# of a path of four beside `validate_path` with a verifier that says yes; and the octets of
-# librpki.a. Wants cc, ar, and OpenSSL 3 with its headers.
+# `rpki_certificate_read` of a usual authority beside `Cert::decode`, and `rpki_path_validate` of a path
+# of four beside `validate_path`; and the octets of librpki.a. Wants cc, ar, and OpenSSL 3 with its
+# headers.
 set -eu
 . "$(dirname "$0")/making.sh"
 

@@ -62,16 +62,16 @@ extern "C" {
 /* Returns the number of the library's interface. */
 uint32_t rpki_abi_version(void);
 
-/* Holds a text of the library's own, which stays as long as the library is loaded. */
+/* Holds a text of the library's own, which is valid as long as the library is loaded. */
 struct rpki_text {
     const char *text; /* ends with a 0 */
-    size_t size;      /* counts that 0 too */
+    size_t size;      /* its length, with that 0 */
 };
 
-/* Writes the library's version into *out, as RPKI_VERSION has it of the header. Returns RPKI_OK. */
+/* Writes the library's version into *out: MAJOR.MINOR.PATCH. Returns RPKI_OK. */
 uint32_t rpki_version(struct rpki_text *out);
 
-/* Each struct that has a `size` has an initialiser, which sets the size and leaves all else 0:
+/* Each struct that has a `size` has an initialiser, which sets the size and sets the rest to 0:
  * struct rpki_question question = RPKI_QUESTION_INIT; */
 #ifdef __cplusplus
 #define RPKI_SIZE(type) sizeof(type)
@@ -87,9 +87,9 @@ uint32_t rpki_version(struct rpki_text *out);
 #define RPKI_WANTED_LIST_INIT {RPKI_SIZE(struct rpki_wanted_list), RPKI_ISSUER}
 #define RPKI_LIST_COMPLETION_INIT {RPKI_SIZE(struct rpki_list_completion), RPKI_ISSUER}
 
-/* ---- faults */
+/* ---- errors */
 
-/* Numbers the parts of a certificate or list that some faults of reading speak of. The fault's
+/* Numbers the parts of a certificate or CRL that some errors of reading are about. The error's
  * number and the part's are added. */
 enum rpki_field {
     RPKI_FIELD_BASIC_CONSTRAINTS = 0,
@@ -113,9 +113,9 @@ enum rpki_field {
 enum rpki_fault {
     RPKI_OK = 0,
     RPKI_MEMORY = 1,   /* memory ran out */
-    RPKI_BAD_CALL = 2, /* lengths or a size don't fit, or no such moment, kind, family, URI .. */
+    RPKI_BAD_CALL = 2, /* lengths or a size don't fit, or a time, a kind, a URI .. doesn't exist */
 
-    /* The octets begin with no certificate, or no list; or others stand behind a list of a
+    /* The bytes don't start with a certificate or a CRL, or other bytes follow a CRL of a
      * question. */
     RPKI_DECODE_TRUNCATED = 100,
     RPKI_DECODE_BAD_LENGTH = 101,
@@ -161,7 +161,7 @@ enum rpki_fault {
     RPKI_INSPECTION_MISSING_AS_RESOURCES = 325,
     RPKI_INSPECTION_INHERITED_AS_RESOURCES = 326,
 
-    /* The certificate isn't valid at the moment, or not issued by the member above it. */
+    /* The certificate isn't valid at the time, or not issued by the one above it. */
     RPKI_VERIFICATION_NOT_YET_VALID = 400,
     RPKI_VERIFICATION_EXPIRED = 401,
     RPKI_VERIFICATION_INHERITED_V4 = 402,
@@ -175,7 +175,7 @@ enum rpki_fault {
     RPKI_VERIFICATION_OVERCLAIM_V6 = 410,
     RPKI_VERIFICATION_OVERCLAIM_AS = 411,
 
-    /* The list of the member above doesn't show the certificate to be unrevoked. */
+    /* The CRL of the certificate above doesn't show that the certificate is unrevoked. */
     RPKI_REVOCATION_NO_CRL = 500,
     RPKI_REVOCATION_WRONG_KEY_ID = 501,
     RPKI_REVOCATION_BAD_SIGNATURE = 502,
@@ -183,43 +183,43 @@ enum rpki_fault {
     RPKI_REVOCATION_REVOKED = 504,
     RPKI_REVOCATION_WRONG_ISSUER = 505,
 
-    /* The issuer isn't the subject of the member above it; of an anchor, its own subject. */
+    /* The issuer isn't the subject of the certificate above; of an anchor, its own subject. */
     RPKI_OTHER_NAME = 600,
 
-    /* The anchor's key isn't the locator's; of a folder, that of no certificate is. */
+    /* The anchor's key isn't the TAL's; for a directory: no certificate has the TAL's key. */
     RPKI_OTHER_KEY = 601,
 
-    /* The anchor has the locator's key, and lists no IP address and no AS number. */
+    /* The anchor has the TAL's key, and lists no IP address and no AS number. */
     RPKI_NO_RESOURCES = 602,
 
-    /* The RPKI doesn't use the last certificate's key; of a folder, the line's certificate's. */
+    /* The RPKI doesn't use the last certificate's key; for a directory: the key of a line's. */
     RPKI_BAD_KEY = 603,
 
-    /* The locator's octets aren't a trust anchor locator. No certificate has these faults. */
-    RPKI_LOCATOR_NO_TEXT = 700, /* the locator isn't UTF-8, and `strict` isn't 0 */
-    RPKI_LOCATOR_BAD_URI = 701, /* among its URIs is a line that is no rsync or https URI */
-    RPKI_LOCATOR_NO_URI = 702,  /* the locator has no URI */
-    RPKI_LOCATOR_NO_KEY = 703,  /* it ends before the empty line behind its URIs */
-    RPKI_LOCATOR_BAD_KEY = 704, /* what follows that line isn't a public key in base64 */
+    /* The bytes of the TAL aren't a TAL. No certificate has these errors. */
+    RPKI_LOCATOR_NO_TEXT = 700, /* the TAL isn't UTF-8, and `strict` isn't 0 */
+    RPKI_LOCATOR_BAD_URI = 701, /* a line of its URIs is neither an rsync nor an https URI */
+    RPKI_LOCATOR_NO_URI = 702,  /* the TAL has no URI */
+    RPKI_LOCATOR_NO_KEY = 703,  /* it ends before the empty line after its URIs */
+    RPKI_LOCATOR_BAD_KEY = 704, /* the rest isn't a public key in base64 */
 
-    /* No certificate and no revocation list is prepared or completed. */
+    /* No certificate and no CRL is prepared or completed. */
     RPKI_ISSUING_NO_KEY = 800,       /* the key isn't a SubjectPublicKeyInfo */
     RPKI_ISSUING_UNUSED_KEY = 801,   /* the RPKI doesn't use the key */
     RPKI_ISSUING_BAD_URI = 802,      /* the index is of enum rpki_uri */
     RPKI_ISSUING_NO_NAME = 803,      /* the subject would have no name */
-    RPKI_ISSUING_UNWRITABLE = 804,   /* no certificate has the fields: no resources are there .. */
-    RPKI_ISSUING_TOO_LONG = 805,     /* it would have 2^32 octets or more */
-    RPKI_ISSUING_NOT_TO_SIGN = 806,  /* what was signed is no TBSCertificate, or no TBSCertList */
-    RPKI_ISSUING_OTHER_OCTETS = 807, /* what was signed isn't what is prepared of its fields */
-    RPKI_ISSUING_OTHER_LIST = 808,   /* the list before isn't one that the issuer signed */
-    RPKI_ISSUING_NUMBER = 809,       /* the list's number isn't greater than the one before */
-    RPKI_ISSUING_LONG_NUMBER = 810,  /* the list's number is 2^159 or more */
-    RPKI_ISSUING_UPDATE_ORDER = 811  /* the next update is before this one */
+    RPKI_ISSUING_UNWRITABLE = 804,   /* no certificate has the fields: there are no resources .. */
+    RPKI_ISSUING_TOO_LONG = 805,     /* it would have 2^32 bytes or more */
+    RPKI_ISSUING_NOT_TO_SIGN = 806,  /* `prepared` is no TBSCertificate, or no TBSCertList */
+    RPKI_ISSUING_OTHER_OCTETS = 807, /* `prepared` isn't what is prepared of its fields */
+    RPKI_ISSUING_OTHER_LIST = 808,   /* the previous CRL isn't one that the issuer signed */
+    RPKI_ISSUING_NUMBER = 809,       /* the CRL number isn't greater than the previous one */
+    RPKI_ISSUING_LONG_NUMBER = 810,  /* the CRL number is 2^159 or more */
+    RPKI_ISSUING_UPDATE_ORDER = 811  /* nextUpdate is before thisUpdate */
 };
 
-/* Every function with `out`, `room` and `count` writes as many elements as there is
- * room for, and in *count how many there are: with room 0 it counts. At a fault *count is 0. Texts
- * have no 0 at their end. */
+/* Every function with `out`, `room` and `count` writes as many elements as there is room for, and
+ * in *count how many there are: with room 0 it counts. After an error *count is 0. Texts have no 0
+ * at their end. */
 
 /* Writes the name of an error, as the library's enums have it: "BadSignature". Returns
  * RPKI_BAD_CALL if no error has the number. */
@@ -229,7 +229,7 @@ uint32_t rpki_fault_name(uint32_t fault, uint8_t *out, size_t room, uint64_t *co
  * the number. */
 uint32_t rpki_fault_sentence(uint32_t fault, uint8_t *out, size_t room, uint64_t *count);
 
-/* Give the number, the name and the sentence of each fault to a macro X. */
+/* Passes the number, the name and the sentence of each error to a macro X. */
 #define RPKI_EACH_FIELD(X, number, name, before, behind)            \
     X(number + 0, name, before "BasicConstraints" behind)           \
     X(number + 1, name, before "SubjectKeyIdentifier" behind)       \
@@ -330,7 +330,8 @@ uint32_t rpki_fault_sentence(uint32_t fault, uint8_t *out, size_t room, uint64_t
     X(810, "LongNumber", "the number is too long")                                \
     X(811, "UpdateOrder", "the next update is before this one")
 
-/* Returns the name of a fault, as rpki_fault_name writes it, or NULL if no fault has the number. */
+/* Returns the name of an error, as rpki_fault_name writes it, or NULL if no error has the
+ * number. */
 static inline const char *rpki_name_of_fault(uint32_t fault) {
 #define RPKI_NAME(number, name, sentence) case number: return name;
     switch (fault) { RPKI_EACH_FAULT(RPKI_NAME) }
@@ -338,7 +339,8 @@ static inline const char *rpki_name_of_fault(uint32_t fault) {
     return NULL;
 }
 
-/* Returns what a fault means, as rpki_fault_sentence writes it, or NULL if no fault has the number. */
+/* Returns what an error means, as rpki_fault_sentence writes it, or NULL if no error has the
+ * number. */
 static inline const char *rpki_sentence_of_fault(uint32_t fault) {
 #define RPKI_SENTENCE(number, name, sentence) case number: return sentence;
     switch (fault) { RPKI_EACH_FAULT(RPKI_SENTENCE) }
@@ -353,7 +355,7 @@ static inline const char *rpki_sentence_of_fault(uint32_t fault) {
 struct rpki_time {
     uint16_t year;
     uint8_t month, day, hour, minute, second;
-    uint8_t unused; /* is ignored, and 0 where it is written */
+    uint8_t unused; /* is ignored; the library writes 0 */
 };
 
 /* Numbers the kinds of certificates. A caller says as which kind a certificate is validated; as
@@ -365,7 +367,7 @@ struct rpki_time {
  * the object has no URI. */
 enum rpki_kind {
     RPKI_ANCHOR = 0,     /* a trust anchor, which signs itself */
-    RPKI_AUTHORITY = 1,  /* a CA, which signs certificates and a list */
+    RPKI_AUTHORITY = 1,  /* a CA, which signs certificates and CRLs */
     RPKI_END_ENTITY = 2, /* signs one object, and names it */
     RPKI_DETACHED = 3,   /* signs one object, and need not name it */
     RPKI_ROUTER = 4      /* a BGPsec router (RFC 8209) */
@@ -374,13 +376,14 @@ enum rpki_kind {
 /* Numbers how a certificate has its resources of one kind. */
 enum rpki_state { RPKI_MISSING = 0, RPKI_INHERITED = 1, RPKI_LISTED = 2 };
 
-/* Holds what a certificate has of a fixed size. Serial numbers have their greatest octet first. */
+/* Holds a certificate's fields of a fixed size. Serial numbers start with their most significant
+ * byte. */
 struct rpki_certificate {
     struct rpki_time not_before, not_after;
     uint8_t serial[20], subject_key[20], authority_key[20];
     uint8_t has_authority_key, is_authority; /* are 0 or 1 */
-    uint8_t key_usage;   /* is 0 of an authority, 1 of an end entity */
-    uint8_t overclaim;   /* is 0 where it is rejected, 1 where it is trimmed (RFC 8360) */
+    uint8_t key_usage;   /* is 0 of a CA, 1 of an end entity */
+    uint8_t overclaim;   /* is 0 if it is rejected, 1 if it is trimmed (RFC 8360) */
     uint8_t v4, v6, asn; /* are of enum rpki_state */
 };
 
@@ -435,14 +438,27 @@ uint32_t rpki_certificate_name(const uint8_t *octets, size_t length, uint32_t wh
                                size_t room, uint64_t *count);
 
 /* Writes the certificate's SubjectPublicKeyInfo in DER, and into *is_used 1 if the RPKI uses such a
- * key, else 0: RSA of 2048 bits with the exponent 65537 (RFC 7935 3), or for routers an uncompressed
- * point on the curve P-256 (RFC 8608 3.1). At a fault *is_used is 0. */
+ * key, else 0: RSA of 2048 bits with the exponent 65537 (RFC 7935 3), or for routers an
+ * uncompressed point on the curve P-256 (RFC 8608 3.1). After an error *is_used is 0. */
 uint32_t rpki_certificate_key(const uint8_t *octets, size_t length, uint8_t *out, size_t room,
                               uint64_t *count, uint8_t *is_used);
 
+/* Holds where three parts are in a certificate's bytes, for a caller with its own cryptography: the
+ * signature is to be one of the message with sha256WithRSAEncryption (RFC 7935 2), by the key of the
+ * certificate above; a trust anchor's by its own. */
+struct rpki_places {
+    uint64_t key_at, key_length;             /* are those of the SubjectPublicKeyInfo in DER */
+    uint64_t message_at, message_length;     /* are those of the TBSCertificate in DER */
+    uint64_t signature_at, signature_length; /* are those of the signature in its BIT STRING */
+};
+
+/* Writes where the certificate's key, its signed part and its signature are. No place goes past the
+ * certificate's bytes. */
+uint32_t rpki_certificate_places(const uint8_t *octets, size_t length, struct rpki_places *out);
+
 /* ---- revocation lists */
 
-/* Holds what a CRL has of a fixed size, and how many entries it has. */
+/* Holds a CRL's fields of a fixed size, and how many entries it has. */
 struct rpki_list {
     struct rpki_time this_update, next_update;
     uint64_t entries;
@@ -466,7 +482,7 @@ uint32_t rpki_list_entries(const uint8_t *octets, size_t length, struct rpki_ent
 uint32_t rpki_list_issuer(const uint8_t *octets, size_t length, uint8_t *out, size_t room,
                           uint64_t *count);
 
-/* Searches the CRL for `count` serial numbers, one behind the other in 20 bytes each. answers[i] is
+/* Searches the CRL for `count` serial numbers of 20 bytes each, one after the other. answers[i] is
  * 1 if the i-th is on the CRL, and otherwise 0. Returns RPKI_BAD_CALL if serials_length isn't 20
  * times `count`. */
 uint32_t rpki_list_ask(const uint8_t *octets, size_t length, const uint8_t *serials,
@@ -474,37 +490,37 @@ uint32_t rpki_list_ask(const uint8_t *octets, size_t length, const uint8_t *seri
 
 /* Holds a revoked serial number in a table. */
 struct rpki_serial {
-    uint8_t serial[20]; /* has its greatest octet first */
-    uint32_t hint;      /* says where a search begins, and decides no answer */
+    uint8_t serial[20]; /* its most significant byte is first */
+    uint32_t hint;      /* where a search starts; decides no answer */
 };
 
-/* Writes a table of the list, for a caller who asks it often: its serial numbers, ascending. It is
- * a table only if there is room for all, so if *count is more than `room`, call again with more. The
- * table is plain memory of the caller's: it may be copied, kept, and asked by threads side by side,
- * and there is nothing to free. */
+/* Writes a table of the CRL, for a caller who searches it often: its serial numbers, ascending. It
+ * is a table only if there is room for all, so if *count is more than `room`, call again with more.
+ * The table is plain memory of the caller's: it may be copied, kept, and searched by several
+ * threads, and there is nothing to free. */
 uint32_t rpki_list_table(const uint8_t *octets, size_t length, struct rpki_serial *out,
                          size_t room, uint64_t *count);
 
-/* Asks a table of `entries` serial numbers, as rpki_list_ask asks a list, in a fraction of a
- * microsecond a serial number. If the entries aren't a table that rpki_list_table wrote, each answer
- * is 0 or 1 and says nothing. Takes no memory. */
+/* Searches a table of `entries` serial numbers, as rpki_list_ask searches a CRL, in a fraction of a
+ * microsecond per serial number. If the entries aren't a table that rpki_list_table wrote, each
+ * answer is 0 or 1 and means nothing. Takes no memory. */
 uint32_t rpki_table_ask(const struct rpki_serial *table, size_t entries, const uint8_t *serials,
                         size_t serials_length, uint8_t *answers, size_t count);
 
 /* ---- where reading stops */
 
-/* Says where reading stops: what is before was read, and from there on is no value of the part that
- * has to come next. */
+/* Holds the place where reading stops: the bytes before it were read, and from there on there is no
+ * value of the part that has to come next. */
 struct rpki_stop {
-    uint32_t fault; /* is an RPKI_DECODE_ one, or RPKI_OK where the octets can be read */
-    uint64_t octet; /* is where that part has to begin; 0 where the octets can be read */
+    uint32_t fault; /* is an RPKI_DECODE_ one, or RPKI_OK if the bytes can be read */
+    uint64_t octet; /* is the offset of that part; 0 if the bytes can be read */
 };
 
 /* Numbers the texts about the part at which reading stops. */
 enum rpki_part_text {
     RPKI_PART_NAME = 0,   /* its name: "the issuer" */
-    RPKI_PART_WANTED = 1, /* what has to stand there, and by which section: "a Name (RFC 5280 ..)" */
-    RPKI_PART_FOUND = 2   /* what is wrong of what stands there: "a negative number"; or no text */
+    RPKI_PART_WANTED = 1, /* what is expected, and by which section: "a Name (RFC 5280 ..)" */
+    RPKI_PART_FOUND = 2   /* what is wrong with what is found: "a negative number"; or no text */
 };
 
 /* Reports where reading stops in bytes that begin with no certificate, if `is_list` is 0, or with
@@ -516,7 +532,7 @@ uint32_t rpki_stop_text(const uint8_t *octets, size_t length, uint32_t is_list, 
 
 /* ---- paths */
 
-/* Holds strings of bytes, one behind the other, and the length of each. */
+/* Holds strings of bytes, one after the other, and the length of each. */
 struct rpki_strings {
     const uint8_t *octets;
     size_t length;
@@ -524,13 +540,13 @@ struct rpki_strings {
     size_t count;
 };
 
-/* Holds octets that stand for themselves. */
+/* Holds one string of bytes. */
 struct rpki_octets {
     const uint8_t *octets;
     size_t length;
 };
 
-/* Returns how many octets the parts have together, or SIZE_MAX if they are as many or more. */
+/* Returns how many bytes the parts have together, or SIZE_MAX if they are as many or more. */
 static inline size_t rpki_joined_length(const struct rpki_octets *parts, size_t count) {
     size_t length = 0;
     for (size_t i = 0; i < count; i++) {
@@ -540,9 +556,9 @@ static inline size_t rpki_joined_length(const struct rpki_octets *parts, size_t 
     return length;
 }
 
-/* Joins parts that stand apart, as a question takes them: copies them one behind the other to
- * `octets`, which has room for rpki_joined_length of them, and their lengths to `lengths`, which has
- * room for `count`. What it returns points to both. */
+/* Joins separate strings, as a question expects them: copies them one after the other to `octets`,
+ * which has room for rpki_joined_length of them, and their lengths to `lengths`, which has room for
+ * `count`. The returned struct points to both. */
 static inline struct rpki_strings rpki_join(const struct rpki_octets *parts, size_t count,
                                             uint8_t *octets, size_t *lengths) {
     struct rpki_strings joined = {octets, 0, lengths, count};
@@ -593,23 +609,25 @@ enum rpki_names { RPKI_ASK_NAMES = 0, RPKI_ANY_NAMES = 1 };
 struct rpki_question {
     size_t size;                 /* is sizeof(struct rpki_question) */
     struct rpki_strings members; /* are certificates, the anchor first */
-    struct rpki_strings lists;   /* are revocation lists, with nothing behind each: else the fault is
-                                  * RPKI_DECODE_TRAILING, as where two lists stand in one string.
-                                  * Nobody reads them with RPKI_ASK_NOBODY */
-    const uint8_t *locator;      /* is a locator's file; nobody reads it with RPKI_AS_GIVEN */
+    struct rpki_strings lists;   /* are CRLs. If bytes follow a CRL in its string, such as a second
+                                  * CRL, the error is RPKI_DECODE_TRAILING. They aren't read with
+                                  * RPKI_ASK_NOBODY */
+    const uint8_t *locator;      /* is the bytes of a TAL; not read with RPKI_AS_GIVEN */
     size_t locator_length;
     struct rpki_time moment;
-    uint32_t last;       /* says what the last member is, by an enum rpki_kind: RPKI_ANCHOR where
-                          * the anchor stands alone, and RPKI_AUTHORITY also there */
-    uint32_t strict;     /* is as for rpki_certificate_inspect; where it is 0, the comments of a
-                          * locator may be any octets, and else they are UTF-8 */
+    uint32_t last;       /* is the last certificate's enum rpki_kind. For the anchor alone it is
+                          * RPKI_ANCHOR, or RPKI_AUTHORITY */
+    uint32_t strict;     /* is as for rpki_certificate_inspect; if it is 0, the comments of a TAL
+                          * may be any bytes, and else they have to be UTF-8 */
     uint32_t revocation; /* is an enum rpki_revocation */
     uint32_t anchor;     /* is an enum rpki_trust */
-    uint32_t key;        /* is an enum rpki_last_key; RPKI_BAD_KEY comes after all other faults */
-    uint32_t names;      /* is an enum rpki_names; RPKI_OTHER_NAME comes after all but RPKI_BAD_KEY */
+    uint32_t key;        /* is an enum rpki_last_key; RPKI_BAD_KEY comes after all other errors */
+    uint32_t names;      /* is an enum rpki_names; RPKI_OTHER_NAME comes after all other errors but
+                          * RPKI_BAD_KEY */
 };
 
-/* Has room for the ranges that are held. */
+/* Has room for the ranges that are held. Each kind has as many as its number says; its pointer may be
+ * NULL if that is 0. */
 struct rpki_room {
     struct rpki_ip_range *v4;
     size_t v4_room;
@@ -619,15 +637,16 @@ struct rpki_room {
     size_t asn_room;
 };
 
-/* Says what became of a path. A path that ends in a router's certificate has the ranges of the
+/* Holds the verdict on a path. A path that ends in a router's certificate has the ranges of the
  * certificate above it; rpki_certificate_as_numbers writes the router's own AS numbers. */
 struct rpki_verdict {
-    uint32_t fault; /* is what the function answers */
-    uint32_t index; /* is the place of the first wrong member; the anchor's is 0. Of a list that
-                     * can't be read it is the number of members and the list's place: behind 3
-                     * members, 5 is list 2. With RPKI_MEMORY, RPKI_BAD_CALL and an RPKI_LOCATOR_
-                     * fault it speaks of no member. A place behind UINT32_MAX is told as that */
-    uint64_t v4, v6, asn; /* count the ranges that the last member holds, where the fault is 0 */
+    uint32_t fault; /* is what the function returns */
+    uint32_t index; /* is the path index of the first wrong certificate; the anchor's is 0. For a
+                     * CRL that can't be read it is the number of certificates plus the CRL's
+                     * index: after 3 certificates, 5 is CRL 2. With RPKI_MEMORY, RPKI_BAD_CALL and
+                     * an RPKI_LOCATOR_ error it means no certificate. An index above UINT32_MAX is
+                     * written as that */
+    uint64_t v4, v6, asn; /* count the ranges that the last certificate holds, if `fault` is 0 */
 };
 
 /* Validates a path. Signatures are checked as the RPKI has them (RFC 7935).
@@ -656,61 +675,47 @@ uint32_t rpki_path_validate(const struct rpki_question *question, struct rpki_ro
  * lengths don't add up. */
 uint32_t rpki_path_names(const struct rpki_strings *members, uint64_t *place);
 
-/* Holds a signature for a caller with its own cryptography to check: is it one of the message by
- * the key, with sha256WithRSAEncryption? All are places in the bytes of the path. */
-struct rpki_signature {
-    uint64_t key_at, key_length; /* are those of a SubjectPublicKeyInfo */
-    uint64_t message_at, message_length;
-    uint64_t signature_at, signature_length;
-};
-
-/* Writes the places of the signatures, one a certificate, as many as there is room for. The trust
- * anchor is signed by its own key, each later certificate by that of the one above it. No place
- * goes past the path's bytes. These are only read as far as needed, so a string that is no
- * certificate may get places: rpki_path_validate_said rejects it, whatever is said of its
- * signature. */
-uint32_t rpki_path_signatures(const struct rpki_strings *members, struct rpki_signature *out,
-                              size_t room);
-
-/* Validates a path as rpki_path_validate does, with the caller's answers: yes[i] is 1 if the caller
- * found the i-th signature valid. Signatures beyond `answers` count as invalid. Signatures of CRLs
- * are none of these, so it returns RPKI_BAD_CALL unless the question has RPKI_ASK_NOBODY. */
-uint32_t rpki_path_validate_said(const struct rpki_question *question, const uint8_t *yes,
-                                 size_t answers, struct rpki_room *room, struct rpki_verdict *out);
-
 /* ---- folders */
 
 /* Asks which certificates of a directory are valid below the trust anchor of a TAL. The strings are
  * certificates, CRLs and other bytes, in any order. The trust anchor is the first string that
- * begins with a certificate of the TAL's key (RFC 8630 3).
+ * starts with a certificate of the TAL's key (RFC 8630 3).
  *
- * Each certificate that an accepted CA signed is validated below it as what it says that it is: a
+ * Each certificate that an accepted CA signed is validated below it as the kind that it says: a
  * router's, a CA's, or else an end entity's. The CRLs among the strings are used for revocation, as
- * for struct rpki_question. A withheld file isn't detected: whoever reads manifests leaves out what
- * they don't list. */
+ * for struct rpki_question. A withheld file isn't detected: a caller who reads manifests leaves out
+ * the files that they don't list. */
 struct rpki_folder_question {
     size_t size;                 /* is sizeof(struct rpki_folder_question) */
-    struct rpki_strings strings; /* are certificates, revocation lists and other octets */
-    const uint8_t *locator;      /* is a locator's file */
+    struct rpki_strings strings; /* are certificates, CRLs and other bytes */
+    const uint8_t *locator;      /* is the bytes of a TAL */
     size_t locator_length;
     struct rpki_time moment;
-    size_t depth;    /* is how many certificates a path has at most below the anchor; 0 is for 32 */
-    size_t steps;    /* is how many certificates are verified at most, each once for each path that
-                      * leads to it; 0 is for 64 times as many as there are */
+    size_t depth;    /* is the most certificates that a path has below the anchor; 0 means 32 */
+    size_t steps;    /* is the most certificates that are verified, each once for each path that
+                      * leads to it; 0 means 64 times as many as there are */
     uint32_t strict; /* is as for struct rpki_question */
     uint32_t key;    /* is an enum rpki_last_key, for each certificate: one that is the last of a valid
                       * path, but has another key, is rejected with RPKI_BAD_KEY */
+    uint32_t names;  /* is an enum rpki_names, for the anchor, each certificate and each CRL */
 };
 
-/* Numbers what becomes of a string. */
+/* Numbers the results for a string. */
 enum rpki_fate {
     RPKI_LINE_UNSEEN = 0,   /* a certificate that was judged nowhere: no accepted authority has the
-                             * key that it names as its issuer's, or a bound was met before */
+                             * key that it names as its issuer's and, if names are checked, the name
+                             * of its issuer; or a bound was met before */
     RPKI_LINE_ANCHOR = 1,   /* the anchor, which is valid */
-    RPKI_LINE_ACCEPTED = 2, /* the last member of a valid path */
+    RPKI_LINE_ACCEPTED = 2, /* the last certificate of a valid path */
     RPKI_LINE_REJECTED = 3, /* a certificate that is wrong below each valid path that was tried */
-    RPKI_LINE_LIST = 4,     /* a revocation list, be it asked or not */
-    RPKI_LINE_NEITHER = 5   /* octets that are neither; also a list with octets behind it */
+    RPKI_LINE_LIST = 4,     /* a CRL, whether it was used or not */
+    RPKI_LINE_NEITHER = 5   /* bytes that are neither; also a CRL that other bytes follow */
+};
+
+/* Says which of the ranges in a struct rpki_room a certificate holds. */
+struct rpki_held {
+    uint64_t v4, v6, asn;          /* count its ranges of each kind */
+    uint64_t v4_at, v6_at, asn_at; /* count those before them in the room */
 };
 
 /* Says what became of a string. A number that its comment doesn't mention is 0. */
@@ -722,42 +727,49 @@ struct rpki_line {
                       * accepted. An authority that two paths lead to has a line for one of them */
     uint32_t kind;   /* is as what it was judged, where it is accepted or rejected: an enum rpki_kind,
                       * but for RPKI_ANCHOR */
+    struct rpki_held held; /* is what it holds, where it is accepted; of a router's certificate what the
+                            * certificate above it holds */
 };
 
 /* Numbers how a walk ended. */
 enum rpki_ended {
-    RPKI_NOT_BEGUN = 0,   /* there was a fault */
-    RPKI_WHOLE = 1,       /* all was looked at to which a valid path leads */
-    RPKI_TOO_DEEP = 2,    /* all within the depth was, and more stands below */
-    RPKI_OUT_OF_STEPS = 3 /* the steps were used up before that */
+    RPKI_NOT_BEGUN = 0,   /* there was an error */
+    RPKI_WHOLE = 1,       /* every certificate was judged to which a valid path leads */
+    RPKI_TOO_DEEP = 2,    /* every such one within the depth was judged, and more are below */
+    RPKI_OUT_OF_STEPS = 3 /* the limit of steps was reached before that */
 };
 
-/* Says how the whole walk ended. */
+/* Holds how the walk ended. */
 struct rpki_walk {
-    uint32_t fault;  /* is what the function answers */
+    uint32_t fault;  /* is what the function returns */
     uint32_t ended;  /* is an enum rpki_ended */
     uint64_t anchor; /* is the anchor's place among the strings, also where the fault is its own */
+    uint64_t v4, v6, asn; /* count the ranges that all accepted certificates hold; 0 at a fault */
 };
 
 /* Validates all certificates of a directory, with signatures as for rpki_path_validate. Writes the
  * line of each string at its place, for as many as there is room for. If the walk ended RPKI_WHOLE,
  * a certificate whose line is neither RPKI_LINE_ANCHOR nor RPKI_LINE_ACCEPTED is valid by no path.
  *
- * Not checked: whether names chain. rpki_path_validate writes what an accepted certificate has.
+ * Writes the ranges that the accepted certificates hold, as many as there is room for, and into *out
+ * how many there are: if there are more, call again with more room. Each line says which are its own.
  *
- * After an error no line is written, and *out is valid. The error is RPKI_BAD_CALL if `size` is
- * another, lengths don't add up, or the time or the enum rpki_last_key doesn't exist; the TAL's;
- * RPKI_OTHER_KEY if no string has its key; or what is wrong with the trust anchor, as
- * RPKI_NO_RESOURCES. */
+ * Each accepted certificate is the last of a path of these strings that rpki_path_validate accepts
+ * with the same choices, the TAL and the CRLs among the strings.
+ *
+ * After an error no line and no range is written, and *out is valid. The error is RPKI_BAD_CALL if
+ * `size` is another, lengths don't add up, the time doesn't exist, or a number of the question is of
+ * none of its enums; the TAL's; RPKI_OTHER_KEY if no string has its key; or what is wrong with the
+ * trust anchor, as RPKI_NO_RESOURCES, or RPKI_OTHER_NAME if it has two names. */
 uint32_t rpki_folder_judge(const struct rpki_folder_question *question, struct rpki_line *lines,
-                           size_t room, struct rpki_walk *out);
+                           size_t lines_room, struct rpki_room *room, struct rpki_walk *out);
 
 /* ---- issuing */
 
 /* Holds what a certificate is to list of a family of addresses. Ranges may be in any order, and may
  * overlap; each has min <= max. There are ranges if and only if `state` is RPKI_LISTED. */
 struct rpki_addresses {
-    const struct rpki_ip_range *ranges; /* of IPv4 only the first four octets count */
+    const struct rpki_ip_range *ranges; /* of IPv4 only the first four bytes count */
     size_t count;
     uint32_t state; /* is an enum rpki_state */
 };
@@ -793,9 +805,9 @@ enum rpki_overclaim { RPKI_REFUSE = 0, RPKI_TRIM = 1 };
  * key identifiers, key usage and policy. */
 struct rpki_wanted {
     size_t size; /* is sizeof(struct rpki_wanted) */
-    /* The issuer's path, as it is judged at its moment; it ends in an RPKI_AUTHORITY (or in an
-     * RPKI_ANCHOR, which stands alone). A trust anchor has no members above it, and then only the
-     * moment and `strict` count; the other numbers have to be of their enums. */
+    /* The issuer's path, which is validated at its `moment`; it ends in an RPKI_AUTHORITY, or is an
+     * RPKI_ANCHOR alone. For a trust anchor it has no certificates, and then only `moment` and
+     * `strict` count; the other numbers have to be of their enums. */
     struct rpki_question issuer;
     const uint8_t *key; /* is the subject's SubjectPublicKeyInfo in DER */
     size_t key_length;
@@ -803,24 +815,24 @@ struct rpki_wanted {
     struct rpki_as_numbers asn;
     struct rpki_uris uris;
     struct rpki_time not_before, not_after;
-    uint8_t serial[20]; /* is above 0 and below 2^159, its greatest octet first */
+    uint8_t serial[20]; /* is above 0 and below 2^159, its most significant byte first */
     uint32_t kind;      /* is an enum rpki_kind */
     uint32_t overclaim; /* is an enum rpki_overclaim */
 };
 
-/* Says what was issued. */
+/* Holds the result of preparing or completing. */
 struct rpki_issued {
-    uint32_t fault; /* is what the function answers */
-    uint32_t index; /* is the place of what is wrong: of the issuer's path as in struct
-                     * rpki_verdict, or the number of members where it is the certificate or the
-                     * list itself */
-    uint64_t count; /* is how many octets there are, and 0 at a fault */
+    uint32_t fault; /* is what the function returns */
+    uint32_t index; /* is the index of what is wrong: for the issuer's path as in struct
+                     * rpki_verdict, or the number of its certificates if it is the certificate or
+                     * the CRL itself */
+    uint64_t count; /* is how many bytes there are, and 0 after an error */
 };
 
 /* Prepares a certificate for its signature: writes the TBSCertificate, which the issuer's key has
  * to sign (sha256WithRSAEncryption, RFC 7935 2), as many bytes as there is room for, and into *told
- * how many there are. The key may be elsewhere. No signature is spent on what would be rejected:
- * everything is checked that rpki_path_validate checks below this issuer, but the signature.
+ * how many there are. The key may be elsewhere. No signature is spent on a certificate that would
+ * be rejected: all but the signature is checked that rpki_path_validate checks below this issuer.
  *
  * *told is valid after an error, too, and *out is then as it was. The error is RPKI_BAD_CALL if
  * `size` is another, a number is of none of its enums, a range, a serial number or a time doesn't
@@ -829,13 +841,13 @@ struct rpki_issued {
 uint32_t rpki_prepare(const struct rpki_wanted *wanted, uint8_t *out, size_t room,
                       struct rpki_issued *told);
 
-/* Holds what was prepared, and its signature. */
+/* Holds a prepared certificate with its signature. */
 struct rpki_completion {
     size_t size;                 /* is sizeof(struct rpki_completion) */
-    struct rpki_question issuer; /* is as in struct rpki_wanted; the moment may be a later one */
+    struct rpki_question issuer; /* is as in struct rpki_wanted; its time may be later */
     const uint8_t *prepared;     /* is what rpki_prepare wrote */
     size_t prepared_length;
-    const uint8_t *signature; /* is what the key made of it, without the BIT STRING around it */
+    const uint8_t *signature; /* is the key's signature of it, without the BIT STRING around it */
     size_t signature_length;
     uint32_t kind; /* is an enum rpki_kind */
 };
@@ -854,15 +866,16 @@ uint32_t rpki_complete(const struct rpki_completion *completion, uint8_t *out, s
  * identifier are set as RFC 6487 5 requires. */
 struct rpki_wanted_list {
     size_t size;                 /* is sizeof(struct rpki_wanted_list) */
-    struct rpki_question issuer; /* is as in struct rpki_wanted, and has members */
-    const uint8_t *previous;     /* is the issuer's list before, which the same key signed, with
-                                  * nothing behind it; with length 0 there was none */
+    struct rpki_question issuer; /* is as in struct rpki_wanted, and has certificates */
+    const uint8_t *previous;     /* is the issuer's previous CRL, which the same key signed; no byte
+                                  * may follow it. With length 0 there is none */
     size_t previous_length;
-    const struct rpki_entry *revoked; /* are revoked now, beside all that the list before has */
+    const struct rpki_entry *revoked; /* are revoked now, beside all entries of the previous CRL */
     size_t revoked_count;
     struct rpki_time this_update, next_update;
-    uint8_t number[20]; /* is greater than the one before and below 2^159, its greatest octet first.
-                         * Zeros choose none: it is one more then, and 1 of a first list */
+    uint8_t number[20]; /* is greater than the previous one and below 2^159, its most significant
+                         * byte first. Zeros mean one more than the previous one, and 1 for a
+                         * first CRL */
 };
 
 /* Prepares the issuer's next CRL for its signature: writes the TBSCertList, which the issuer's key
@@ -877,13 +890,13 @@ struct rpki_wanted_list {
 uint32_t rpki_prepare_list(const struct rpki_wanted_list *wanted, uint8_t *out, size_t room,
                            struct rpki_issued *told);
 
-/* Holds what was prepared of a CRL, and its signature. */
+/* Holds a prepared CRL with its signature. */
 struct rpki_list_completion {
     size_t size;                 /* is sizeof(struct rpki_list_completion) */
-    struct rpki_question issuer; /* is as in struct rpki_wanted_list, or at a later moment */
+    struct rpki_question issuer; /* is as in struct rpki_wanted_list; its time may be later */
     const uint8_t *prepared;     /* is what rpki_prepare_list wrote */
     size_t prepared_length;
-    const uint8_t *signature; /* is what the key made of it, without the BIT STRING around it */
+    const uint8_t *signature; /* is the key's signature of it, without the BIT STRING around it */
     size_t signature_length;
 };
 

@@ -131,6 +131,8 @@ static void print_stop(const uint8_t *octets, size_t length) {
 static void print_lines(struct rpki_strings strings, const uint8_t *locator,
                         size_t length) {
     struct rpki_line lines[100];
+    struct rpki_ip_range v4[100];
+    struct rpki_room room = {.v4 = v4, .v4_room = 100};
     struct rpki_walk walk;
     struct rpki_folder_question question = {
         .size = sizeof question,
@@ -140,7 +142,7 @@ static void print_lines(struct rpki_strings strings, const uint8_t *locator,
         .moment = {.year = 2026, .month = 6, .day = 1},
         .strict = 1,
     };
-    if (rpki_folder_judge(&question, lines, 100, &walk) != RPKI_OK) {
+    if (rpki_folder_judge(&question, lines, 100, &room, &walk) != RPKI_OK) {
         print_sentence(walk.fault);
         return;
     }
@@ -150,6 +152,12 @@ static void print_lines(struct rpki_strings strings, const uint8_t *locator,
                : lines[i].what == RPKI_LINE_ACCEPTED ? "accepted"
                : lines[i].what == RPKI_LINE_LIST     ? "a revocation list"
                                                      : "neither");
+    for (size_t i = 0; i < strings.count && i < 100; i++) {
+        size_t at = lines[i].held.v4_at;
+        for (size_t end = at + lines[i].held.v4; at < end && at < 100; at++)
+            printf("%d holds %d.%d.%d.%d and on\n", (int)i, v4[at].min[0],
+                   v4[at].min[1], v4[at].min[2], v4[at].min[3]);
+    }
 }
 
 static size_t read_file(const char *name, uint8_t *to, size_t room) {

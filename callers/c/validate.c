@@ -4,10 +4,10 @@
  *        LAST: authority, ee, detached or router
  *
  * Names have to chain. Revocation lists are asked where some are given, and the anchor's key is
- * compared with a locator's where one is. Compiled with -DLIBCRYPTO it takes no lists, and
- * libcrypto checks the signatures that the library asks for, in place of the library's own proved
- * verifier. Ends with 0 where the path is accepted, with 1 where it is rejected, and with 2 where
- * the words or a file are not as above, or the verdict can't be written. */
+ * compared with a locator's where one is. Compiled with -DLIBCRYPTO it has libcrypto check each
+ * signature of an accepted path too. Ends with 0 where the path is accepted, with 1 where it is
+ * rejected, and with 2 where the words or a file are not as above, the verdict can't be written, or
+ * libcrypto finds a signature of an accepted path wrong. */
 #include "rpki.h"
 #include <arpa/inet.h>
 #include <ctype.h>
@@ -29,7 +29,6 @@ struct request {
     struct strings path, lists, locator;
     uint32_t last;
     struct rpki_time now;
-    uint8_t *yes; /* what libcrypto says of each signature */
 };
 
 static void fail(const char *of, const char *why) {
@@ -116,25 +115,16 @@ static struct rpki_question question_of(const struct request *it) {
 }
 
 #ifdef LIBCRYPTO
-#include <openssl/bn.h>
 #include <openssl/evp.h>
 #include <openssl/x509.h>
 
-/* Tells whether the RPKI verifies signatures with the key: RSA of 2048 bits and the exponent 65537
- * (RFC 7935 3). libcrypto would take any, and so a path that rests on a weak one. */
-static int is_used(const EVP_PKEY *key) {
-    BIGNUM *exponent = NULL;
-    int used = EVP_PKEY_base_id(key) == EVP_PKEY_RSA && EVP_PKEY_bits(key) == 2048
-        && EVP_PKEY_get_bn_param(key, "e", &exponent) == 1 && BN_is_word(exponent, 65537);
-    BN_free(exponent);
-    return used;
-}
-
-static int is_good(const uint8_t *octets, const struct rpki_signature *it) {
-    const uint8_t *key_at = octets + it->key_at;
-    EVP_PKEY *key = d2i_PUBKEY(NULL, &key_at, (long)it->key_length);
+/* Whether the key of one certificate signed the other, says libcrypto. */
+static int is_signed(const uint8_t *issuer, const struct rpki_places *by, const uint8_t *octets,
+                     const struct rpki_places *it) {
+    const uint8_t *key_at = issuer + by->key_at;
+    EVP_PKEY *key = d2i_PUBKEY(NULL, &key_at, (long)by->key_length);
     EVP_MD_CTX *context = EVP_MD_CTX_new();
-    int good = key != NULL && context != NULL && is_used(key)
+    int good = key != NULL && context != NULL
         && EVP_DigestVerifyInit(context, NULL, EVP_sha256(), NULL, key) == 1
         && EVP_DigestVerify(context, octets + it->signature_at, it->signature_length,
                             octets + it->message_at, it->message_length) == 1;
@@ -143,45 +133,36 @@ static int is_good(const uint8_t *octets, const struct rpki_signature *it) {
     return good;
 }
 
-/* Asks libcrypto about each signature, up to the first member that can't be read. */
-static uint8_t *answers(const struct strings *path) {
-    struct rpki_strings members = strings_of(path);
-    struct rpki_signature *signatures = room_for(path->count, sizeof *signatures);
-    uint8_t *yes = room_for(path->count, 1);
-    memset(yes, 0, path->count);
-    while (members.count > 0
-           && rpki_path_signatures(&members, signatures, members.count) != RPKI_OK)
-        members.length -= path->lengths[--members.count];
-    for (size_t i = 0; i < members.count; i++)
-        yes[i] = (uint8_t)is_good(path->octets, &signatures[i]);
-    free(signatures);
-    return yes;
-}
-
-static void ask(struct request *it, struct rpki_room *out, struct rpki_verdict *verdict) {
-    const struct rpki_question question = question_of(it);
-    if (it->lists.count > 0) fail("lists", "none are taken with -DLIBCRYPTO");
-    if (it->yes == NULL) it->yes = answers(&it->path);
-    rpki_path_validate_said(&question, it->yes, it->path.count, out, verdict);
+/* Has libcrypto check each signature of an accepted path: the anchor's by its own key, each later one
+ * by the key above it. */
+static void check_signatures(const struct strings *path) {
+    const uint8_t *issuer = path->octets, *octets = path->octets;
+    struct rpki_places above, here;
+    for (size_t i = 0; i < path->count; octets += path->lengths[i++]) {
+        if (rpki_certificate_places(octets, path->lengths[i], &here) != RPKI_OK)
+            fail("the path", "no certificate is accepted");
+        if (i == 0) above = here;
+        if (!is_signed(issuer, &above, octets, &here)) fail("the path", "libcrypto rejects it");
+        issuer = octets;
+        above = here;
+    }
 }
 #else
-static void ask(struct request *it, struct rpki_room *out, struct rpki_verdict *verdict) {
-    const struct rpki_question question = question_of(it);
-    rpki_path_validate(&question, out, verdict);
-}
+static void check_signatures(const struct strings *path) { (void)path; }
 #endif
 
 /* The verdict, which accepts or rejects the path. */
-static struct rpki_verdict verdict_on(struct request *it, struct rpki_room *out) {
+static struct rpki_verdict verdict_on(const struct request *it, struct rpki_room *out) {
+    const struct rpki_question question = question_of(it);
     struct rpki_verdict verdict;
-    ask(it, out, &verdict);
+    rpki_path_validate(&question, out, &verdict);
     if (verdict.fault == RPKI_MEMORY) fail("memory", "there is no more");
     if (verdict.fault == RPKI_BAD_CALL) fail("words", "no such day, or too few members");
     return verdict;
 }
 
 /* A first call counts the ranges that are held, and a second one writes them. */
-static struct rpki_verdict judge(struct request *it, struct rpki_room *out) {
+static struct rpki_verdict judge(const struct request *it, struct rpki_room *out) {
     struct rpki_verdict verdict = verdict_on(it, out);
     if (verdict.fault != RPKI_OK) return verdict;
     out->v4 = room_for(out->v4_room = verdict.v4, sizeof *out->v4);
@@ -250,15 +231,16 @@ int main(int count, char **words) {
     it.last = kind(words[first + 1]);
     for (int i = first + 2; i < count; i++) append_file(&it.path, words[i]);
     struct rpki_verdict verdict = judge(&it, &held);
-    if (verdict.fault == RPKI_OK)
+    if (verdict.fault == RPKI_OK) {
+        check_signatures(&it.path);
         print_held(&held);
-    else
+    } else {
         print_fault(&it, &verdict);
+    }
     if (fflush(stdout) != 0 || ferror(stdout)) fail("output", strerror(errno));
     let_go(&it.path);
     let_go(&it.lists);
     let_go(&it.locator);
-    free(it.yes);
     free(held.v4);
     free(held.v6);
     free(held.asn);

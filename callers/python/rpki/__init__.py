@@ -1,45 +1,45 @@
-"""Reads and judges resource certificates and revocation lists of the RPKI (RFC 6487), and issues
-certificates whose issuer's key lies elsewhere.
+"""Reads and validates resource certificates and CRLs of the RPKI (RFC 6487), and issues them with a
+key that is elsewhere.
 
-Calls; help(rpki.validate) says more of one:
+Calls; help(rpki.validate) describes one:
 
-    validate(members, last=, lists=)     what the last member of a path holds
-    judge_folder(octets, locator=)       which of many certificates and lists are valid
-    Certificate(octets)                  a certificate that is read, and not judged
-    RevocationList(octets)               a list that is read, and not judged
-    prepare(kind, issuers=, key=, ..)    what is to be signed of a certificate
-    complete(kind, prepared=, ..)        the certificate that its signature makes of it
-    prepare_list(issuers=, ..)           what is to be signed of an issuer's next revocation list
-    complete_list(prepared=, ..)         the list that its signature makes of it
+    validate(members, last=, lists=)     validates a path; returns what its last certificate holds
+    judge_folder(octets, locator=)       validates many certificates and CRLs, in any order
+    Certificate(octets)                  reads a certificate, and doesn't validate it
+    RevocationList(octets)               reads a CRL, and doesn't validate it
+    prepare(kind, issuers=, key=, ..)    returns the to-be-signed part of a certificate
+    complete(kind, prepared=, ..)        returns the certificate with its signature
+    prepare_list(issuers=, ..)           returns the to-be-signed part of an issuer's next CRL
+    complete_list(prepared=, ..)         returns the CRL with its signature
 
-Exceptions. str(fault) is such as "member 2: certificate revoked (Revoked)":
+Exceptions. An example of str(fault) is "member 2: certificate revoked (Revoked)":
 
     Fault                the base of all below: number, name, sentence, member, revocation_list
-    DecodeFault          the octets begin with no certificate, or no list: octet, field, wanted,
-                         found; or others stand behind a list
+    DecodeFault          the bytes don't start with a certificate or a CRL: octet, field, wanted,
+                         found; or other bytes follow a CRL
     InspectionFault      the certificate doesn't meet the profile of its kind
-    VerificationFault    it isn't valid at the moment, or not issued by the member above it
-    RevocationFault      the lists don't show that it isn't revoked
-    NamesFault           its issuer isn't the subject of the member above it
-    KeyFault             the RPKI doesn't use the last member's key
-    LocatorFault         the file is no locator, or the trust anchor has another key
-    IssuingFault         no certificate or list can be issued so
-    TypeError            an argument has another type: a text for bytes, 1 for a Kind ..
-    ValueError           the call itself is wrong: no members, a time without a time zone ..
+    VerificationFault    it isn't valid at the time, or not issued by the certificate above it
+    RevocationFault      the CRLs don't show that it isn't revoked
+    NamesFault           its issuer isn't the subject of the certificate above it
+    KeyFault             the RPKI doesn't use the last certificate's key
+    LocatorFault         the file is no TAL, or the trust anchor has another key
+    IssuingFault         no certificate or CRL can be issued with these values
+    TypeError            an argument has another type: a str for bytes, 1 for a Kind ..
+    ValueError           the call itself is wrong: no certificates, a time without a time zone ..
     MemoryError          memory ran out
 
 `fault.code` is a member of FaultCode, which names every number: FaultCode.REVOCATION_REVOKED.
 
-Kinds, as which a certificate is judged (help(rpki.Kind) says when):
+Kinds as which a certificate is validated (help(rpki.Kind) describes them):
 
     Kind.TRUST_ANCHOR    a trust anchor, which signs itself
     Kind.AUTHORITY       a CA
-    Kind.END_ENTITY      signs one object, and names where it is: a ROA's, a manifest's
-    Kind.DETACHED        signs one object, and need not name it
+    Kind.END_ENTITY      signs one object, and has its URI: a ROA's, a manifest's
+    Kind.DETACHED        signs one object, and needn't have its URI
     Kind.ROUTER          a BGPsec router
 
-A path of certificates is judged as a whole, and gives what its last member holds, or raises why it
-is rejected:
+A path of certificates is validated as a whole. `validate` returns what its last certificate holds,
+or raises why it is rejected:
 
     from pathlib import Path
     from rpki import Fault, Kind, validate
@@ -55,7 +55,7 @@ is rejected:
         for network in held.ipv4:
             print(network)
 
-A single certificate or list is read alone, and nothing of it is judged then:
+A single certificate or CRL is only read, and isn't validated:
 
     from rpki import Certificate, RevocationList
 
@@ -63,7 +63,7 @@ A single certificate or list is read alone, and nothing of it is judged then:
     revoked = RevocationList(Path("anchor.crl").read_bytes())
     print(cert.serial_number, cert.not_after, cert.uris.get("manifest"), cert in revoked)
 
-Files in any order are judged below the trust anchor of a locator:
+Files in any order are validated below the trust anchor of a TAL:
 
     from rpki import judge_folder
 
@@ -73,10 +73,10 @@ Files in any order are judged below the trust anchor of a locator:
     for name, line in zip(names, folder.lines):
         print(name, line.state.name, line.fault or "")
 
-Octets are DER. What is judged is proved: the library below, librpki.so, accepts a path exactly
-where it is valid by the standards' definitions. This package only moves values into it and out of
-it, and is tested. The library is looked for in the folder that the variable RPKI_LIBRARY names, or
-where the system looks for libraries. ImportError says where it isn't.
+Bytes are DER. Verdicts are proved: the library below, librpki.so, accepts a path if and only if it
+is valid by the standards' definitions. This package only moves values into it and out of it, and is
+tested. The library is searched in the directory that the variable RPKI_LIBRARY names, or where the
+system searches libraries. If it isn't found, ImportError names the places.
 """
 
 from __future__ import annotations
@@ -140,26 +140,25 @@ class Fault(Exception):
     """Why something is rejected.
 
     number: the number, of `enum rpki_fault` of rpki.h, which never gets another meaning.
-    name: the name, such as `BadSignature`. Faults of two classes may have one name, so that the
-        class or the number tells them apart: 408 is of a certificate, and 502 of a list.
+    name: the name, such as `BadSignature`. Faults of two classes may have one name; the class or
+        the number distinguishes them: 408 is a certificate's, and 502 a CRL's.
     sentence: what it means, such as `certificate revoked`.
-    member: the place of the wrong member of the path; 0 is the trust anchor. None where the fault
-        is a locator's or a list's.
-    revocation_list: the place, among the lists that were given, of one that can't be read; else
-        None.
+    member: the path index of the wrong certificate; the trust anchor's is 0. None if the fault is a
+        TAL's or a CRL's.
+    revocation_list: the index, among the given CRLs, of one that can't be read; else None.
     argument: the argument of `prepare`, `complete`, `prepare_list` or `complete_list` that is wrong,
         such as `key`, `uris['crl']` or `not_after`; else None.
-    octet: where the reading of a certificate or a list stops: what stands before this octet was
-        read, and from there on stands none of the part that has to come next. None of all faults
-        but a DecodeFault, and of one that other octets stand behind a list.
+    octet: the offset at which reading a certificate or a CRL stops: the bytes before it were read,
+        and from there on there is no value of the part that has to come next. None if the fault
+        isn't a DecodeFault, or is one of bytes after a CRL.
     field: the name of that part, such as `the serial number`; else None.
-    wanted: what has to stand there, with the section that asks it, such as
+    wanted: what is expected there, with the section that requires it, such as
         `a Name (RFC 5280 4.1.2.4)`; else None.
-    found: what is wrong of what stands there, such as `a negative number`, where that is told; else
-        None.
+    found: what is wrong with what is found there, such as `a negative number`, if that is known;
+        else None.
 
     str() of it has place, sentence and name: `member 2: certificate revoked (Revoked)`. Without a
-    place it begins with the sentence, of a list that can't be read with `list 1: `, and of a wrong
+    place it starts with the sentence; for a CRL that can't be read with `list 1: `, and for a wrong
     argument with its name: `key: no public key (NoKey)`.
     """
 
@@ -196,19 +195,19 @@ class Fault(Exception):
 
     @property
     def code(self) -> FaultCode:
-        """The number, by its name in rpki.h. A fault of reading that speaks of a part has a number
+        """The number, by its name in rpki.h. A fault of reading that is about a part has a number
         of its own for each part; this is the one without the part."""
         return FaultCode(_without_part(self.number))
 
     def __reduce__(self) -> tuple[type[Fault], tuple[object, ...]]:
-        """Makes it anew of what it was made of, in another process too."""
+        """Makes an equal fault, in another process too."""
         made = self.number, self.member, self.revocation_list, self._stop, self.argument
         return type(self), made
 
 
 class DecodeFault(Fault):
-    """The octets begin with no certificate, or with no revocation list; or others stand behind a
-    list that `validate` was given."""
+    """The bytes don't start with a certificate or a CRL, or other bytes follow a CRL that was
+    passed to `validate`."""
 
 
 class InspectionFault(Fault):
@@ -216,27 +215,27 @@ class InspectionFault(Fault):
 
 
 class VerificationFault(Fault):
-    """The certificate isn't valid at the moment, or not issued by the member above it."""
+    """The certificate isn't valid at the time, or not issued by the one above it."""
 
 
 class RevocationFault(Fault):
-    """The lists don't show that the certificate isn't revoked."""
+    """The CRLs don't show that the certificate isn't revoked (RFC 6487 7.2)."""
 
 
 class NamesFault(Fault):
-    """The issuer isn't the subject of the member above it."""
+    """The issuer isn't the subject of the certificate above it (RFC 5280 6.1.3 (a) (4))."""
 
 
 class KeyFault(Fault):
-    """The RPKI doesn't use the key of the last member (RFC 7935 3, RFC 8608 3.1)."""
+    """The RPKI doesn't use the last certificate's key (RFC 7935 3, RFC 8608 3.1)."""
 
 
 class LocatorFault(Fault):
-    """The file is no trust anchor locator, or the trust anchor has another key or lists no number."""
+    """The file is no TAL, or the trust anchor has another key or lists no resources (RFC 8630)."""
 
 
 class IssuingFault(Fault):
-    """The key, the fields or the octets are none of a certificate or list that can be issued."""
+    """No certificate or CRL can be issued with this key, these fields or these bytes."""
 
 
 def _without_part(number: int) -> int:
@@ -324,7 +323,7 @@ Network = Union[ipaddress.IPv4Network, ipaddress.IPv6Network]
 
 @dataclass(frozen=True)
 class Addresses(Generic[Address]):
-    """A set of addresses of one family. Iterating gives the fewest networks that make it up."""
+    """A set of addresses of one family. Iterates over the fewest networks that make it up."""
 
     ranges: tuple[tuple[Address, Address], ...]
     """The first and the last address of each range. They ascend, and neither overlap nor touch."""
@@ -334,8 +333,8 @@ class Addresses(Generic[Address]):
             yield from ipaddress.summarize_address_range(first, last)
 
     def __contains__(self, what: Address | Network | str) -> bool:
-        """Returns whether an address, or all of a network, is in the set. A text is that of either:
-        `"10.0.0.0/24" in held.ipv4`."""
+        """Returns whether an address, or all of a network, is in the set. A str is parsed as
+        either: `"10.0.0.0/24" in held.ipv4`."""
         network = ipaddress.ip_network(what) if isinstance(what, str) else what
         first, last = (network[0], network[-1]) if isinstance(network, _NETWORKS) else (what, what)
         at = bisect.bisect_right(self._firsts, int(first)) - 1
@@ -351,7 +350,7 @@ class Addresses(Generic[Address]):
 
     @cached_property
     def networks(self) -> tuple[Network, ...]:
-        """The fewest networks that make it up, in ascending order."""
+        """Returns the fewest networks that make it up, in ascending order."""
         return tuple(self)
 
     def __bool__(self) -> bool:
@@ -362,11 +361,12 @@ class Addresses(Generic[Address]):
 
 
 _NETWORKS = (ipaddress.IPv4Network, ipaddress.IPv6Network)
+_ADDRESSES = (ipaddress.IPv4Address, ipaddress.IPv6Address)
 
 
 @dataclass(frozen=True)
 class AsNumbers:
-    """A set of AS numbers. Iterating gives its ranges, which ascend, and neither overlap nor
+    """A set of AS numbers. Iterates over its ranges, which ascend, and neither overlap nor
     touch."""
 
     ranges: tuple[range, ...]
@@ -395,7 +395,7 @@ class AsNumbers:
 
 @dataclass(frozen=True)
 class Resources:
-    """The numbers that a path holds."""
+    """The resources that the last certificate of a valid path holds."""
 
     ipv4: Addresses[ipaddress.IPv4Address]
     ipv6: Addresses[ipaddress.IPv6Address]
@@ -404,8 +404,8 @@ class Resources:
     def allows(
         self, as_number: int | None = None, prefix: Network | str | None = None
     ) -> bool:
-        """Returns whether both are held: the AS number, and all of the prefix. One that isn't given
-        is not asked."""
+        """Returns whether both are held: the AS number, and all of the prefix. An argument that is
+        None isn't checked."""
         if prefix is not None:
             network = ipaddress.ip_network(prefix) if isinstance(prefix, str) else prefix
             if network not in (self.ipv4 if network.version == 4 else self.ipv6):
@@ -469,15 +469,15 @@ def _flag(flag: bool, name: str) -> bool:
 
 
 class Kind(enum.Enum):
-    """What a certificate is judged as. As another kind than its own it is rejected, with an
-    InspectionFault.
+    """The kind as which a certificate is validated. As another kind than its own it is rejected,
+    with an InspectionFault.
 
     TRUST_ANCHOR: a trust anchor, which signs itself.
-    AUTHORITY: a CA, which signs certificates and a revocation list.
-    END_ENTITY: the certificate of a signed object that is published, as a ROA or a manifest. It has
-        to name where that object is (`uris["signed_object"]`).
-    DETACHED: an end entity that need not name its object. All else is asked as of END_ENTITY, so
-        each of those is accepted too. Take it only where the object stands at no URI.
+    AUTHORITY: a CA, which signs certificates and CRLs.
+    END_ENTITY: the certificate of a signed object that is published, such as a ROA or a manifest.
+        It has to have the object's URI (`uris["signed_object"]`, RFC 6487 4.8.8.2).
+    DETACHED: an end entity that needn't have that URI. All else is required as for END_ENTITY, so
+        each of those is accepted too. Use it only if the object has no URI.
     ROUTER: a BGPsec router (RFC 8209).
     """
 
@@ -489,7 +489,7 @@ class Kind(enum.Enum):
 
 
 class Inherit(enum.Enum):
-    """Says that a certificate has the resources of its issuer."""
+    """The mark that a certificate inherits the resources of its issuer."""
 
     INHERIT = "inherit"
 
@@ -521,9 +521,11 @@ def _time(moment: datetime, name: str = "at") -> raw.Time:
 
 
 class Certificate:
-    """A resource certificate, read from DER. What follows it in the octets is ignored.
+    """A resource certificate, read from the start of DER bytes; the rest is ignored.
 
-    Raises DecodeFault where the octets begin with none.
+    Raises DecodeFault if the bytes don't start with a certificate.
+
+    Not checked: the profile, the signature and the validity; `validate` checks them.
     """
 
     def __init__(self, octets: Octets) -> None:
@@ -570,7 +572,7 @@ class Certificate:
 
     @property
     def is_authority(self) -> bool:
-        """Whether it says that it is a CA."""
+        """Whether Basic Constraints say that it is a CA."""
         return bool(self._read.is_authority)
 
     @property
@@ -580,7 +582,7 @@ class Certificate:
 
     @property
     def trims_resources(self) -> bool:
-        """Whether what it lists beyond its issuer is cut off (RFC 8360), and not rejected."""
+        """Whether overclaimed resources are trimmed (RFC 8360), and not rejected."""
         return bool(self._read.overclaim)
 
     @cached_property
@@ -605,21 +607,21 @@ class Certificate:
 
     @cached_property
     def ipv4(self) -> Addresses[ipaddress.IPv4Address] | Inherit | None:
-        """The IPv4 addresses that it lists; INHERIT; or None, where it has none."""
+        """The IPv4 addresses that it lists, INHERIT, or None if it has none."""
         if self._read.v4 != raw.LISTED:
             return INHERIT if self._read.v4 == raw.INHERITED else None
         return _ipv4(raw.addresses(self.octets, 4))
 
     @cached_property
     def ipv6(self) -> Addresses[ipaddress.IPv6Address] | Inherit | None:
-        """The IPv6 addresses that it lists; INHERIT; or None, where it has none."""
+        """The IPv6 addresses that it lists, INHERIT, or None if it has none."""
         if self._read.v6 != raw.LISTED:
             return INHERIT if self._read.v6 == raw.INHERITED else None
         return _ipv6(raw.addresses(self.octets, 6))
 
     @cached_property
     def as_numbers(self) -> AsNumbers | Inherit | None:
-        """The AS numbers that it lists; INHERIT; or None, where it has none."""
+        """The AS numbers that it lists, INHERIT, or None if it has none."""
         if self._read.asn != raw.LISTED:
             return INHERIT if self._read.asn == raw.INHERITED else None
         return _as_numbers(raw.as_numbers(self.octets))
@@ -647,12 +649,14 @@ class Certificate:
         return self._key[1]
 
     def inspect(self, kind: Kind, strict: bool = True) -> None:
-        """Checks that it meets the profile of a kind, and raises InspectionFault where it doesn't.
-        Leniently, names may have other strings than RFC 6487 4.4 asks."""
+        """Checks that it meets the profile of a kind (RFC 6487 4). With `strict=False` names may
+        have string types that RFC 6487 4.4 doesn't allow.
+
+        Raises InspectionFault if it doesn't meet the profile."""
         _raise(raw.inspect(self.octets, _kind(kind, "kind"), _flag(strict, "strict")))
 
     def meets(self, kind: Kind, strict: bool = True) -> bool:
-        """Tells whether it meets the profile of a kind."""
+        """Returns whether it meets the profile of a kind."""
         try:
             self.inspect(kind, strict)
         except InspectionFault:
@@ -672,10 +676,12 @@ class Entry:
 
 
 class RevocationList:
-    """A revocation list, read from DER. What follows it in the octets is ignored. It has a length;
-    iterating gives its entries; `in` tells whether a serial number, or a certificate's, is on it.
+    """A CRL, read from the start of DER bytes; the rest is ignored. It has a length and iterates
+    over its entries; `in` searches for a serial number, or a certificate's.
 
-    Raises DecodeFault where the octets begin with none.
+    Raises DecodeFault if the bytes don't start with a CRL.
+
+    Not checked: the signature, and the times; `validate` checks them.
     """
 
     def __init__(self, octets: Octets) -> None:
@@ -697,12 +703,12 @@ class RevocationList:
 
     @cached_property
     def this_update(self) -> datetime:
-        """When it was issued, in UTC."""
+        """The time at which it was issued, in UTC."""
         return _moment(self._read.this_update)
 
     @cached_property
     def next_update(self) -> datetime:
-        """Until when the next one is issued, in UTC."""
+        """The time by which the next CRL is due, in UTC."""
         return _moment(self._read.next_update)
 
     @cached_property
@@ -724,7 +730,7 @@ class RevocationList:
         return cast(int, self._read.entries)
 
     def __iter__(self) -> Iterator[Entry]:
-        """Gives the entries, in the list's order."""
+        """Iterates over the entries, in the CRL's order."""
         for it in raw.entries(self.octets):
             yield Entry(int.from_bytes(bytes(it.serial), "big"), _moment(it.date))
 
@@ -740,13 +746,13 @@ class RevocationList:
         return raw.serial_numbers(self.octets, len(self))
 
     def expired(self, certificates: Iterable[Octets | Certificate]) -> list[Entry]:
-        """Returns the entries that the issuer's next list may drop, since their certificates are
-        among these and had expired before this list was issued (RFC 5280 3.3: an entry has to stand
-        on one list that was issued behind that end).
+        """Returns the entries that the issuer's next CRL may drop, because their certificates are
+        among these and had expired before this CRL was issued (RFC 5280 3.3: an entry has to be on
+        one CRL that was issued after the certificate expired).
 
-        A certificate counts if it has the name of the list's issuer as its own issuer's, and the
-        identifier of its key. That the issuer signed it isn't checked: give only certificates that
-        it issued.
+        A certificate counts if its issuer's name and key identifier are those of the CRL's issuer.
+
+        Not checked: that the issuer signed it. Pass only certificates that it issued.
         """
         ended = set()
         for it in certificates:
@@ -758,8 +764,10 @@ class RevocationList:
         return [entry for entry in self if entry.serial_number in ended]
 
     def __contains__(self, what: int | Certificate) -> bool:
-        """Returns whether a serial number, or a certificate's, is on the list. Whose list it is
-        isn't checked. From the third question on `serial_numbers` answers."""
+        """Returns whether a serial number, or a certificate's, is on the CRL. From the third search
+        on `serial_numbers` is used.
+
+        Not checked: whose CRL it is."""
         number = _serial(what)
         self._asked += 1
         if self._asked > 2:
@@ -767,7 +775,7 @@ class RevocationList:
         return self.revoked((number,))[0]
 
     def revoked(self, serials: Iterable[int | Certificate]) -> list[bool]:
-        """Returns for each serial number, or certificate's, whether it is on the list, by one call
+        """Returns for each serial number, or certificate's, whether it is on the CRL, by one call
         of the library."""
         numbers = [_serial(it) for it in serials]
         fit = [0 <= it < 1 << 160 for it in numbers]
@@ -821,32 +829,34 @@ def validate(
     chain_names: bool = True,
     check_key: bool = True,
 ) -> Resources:
-    """Validates a path of certificates, and gives what its last member holds.
+    """Validates a path of certificates, and returns what its last certificate holds (RFC 6487 7.2).
 
-    `members` are in order, the trust anchor first; `last` is what the last one is judged as. Of a
-    router's certificate the answer is what the member above it holds. Signatures are checked (RFC
-    7935).
+    `members` are the certificates in order, the trust anchor first; `last` is the kind of the last
+    one. For a router's certificate the result is what the certificate above it holds. Signatures
+    are checked (RFC 7935).
 
-    `lists` are revocation lists, in any order: each member below the trust anchor has to be unrevoked
-    by the latest list of its issuer that has begun. Each stands alone: behind one nothing may stand,
-    since that may be another one. They have to be given; `lists=None` says that nothing of
-    revocation is checked, so that a revoked member is accepted.
+    `lists` are CRLs, in any order: no certificate below the trust anchor may be revoked by its
+    issuer's newest CRL whose thisUpdate has come. No bytes may follow a CRL, since they may be
+    another one. There is no default: with `lists=None` revocation isn't checked, and a revoked
+    certificate is accepted.
 
-    `locator` is the file of a trust anchor locator (TAL, RFC 8630), whose key the trust anchor has
-    to have. It has to be given; `locator=None` says that the trust anchor is taken as given, so that
-    anybody's is accepted.
+    `locator` is the file of a TAL (RFC 8630), whose key the trust anchor has to have. There is no
+    default: with `locator=None` any trust anchor is accepted.
 
     `at` is the validation time, by default now. It needs a time zone, as `datetime(2026, 6, 1,
-    tzinfo=timezone.utc)` has one. `strict` requires the strings of RFC 6487 4.4 of names, and UTF-8
-    of the TAL. `chain_names` requires that each issuer is the subject of the member above it (RFC
-    6487 7.2), and that a list has its issuer's name (RFC 5280 6.3.3 (b) (1)): one that has another
-    name is none, and the fault is `WrongIssuer` if there is no other. `check_key` requires that the RPKI uses the last member's key (RFC 7935 3, RFC 8608
-    3.1); the keys above it verify signatures, which only such keys do.
+    tzinfo=timezone.utc)` has one. `strict` requires the string types of RFC 6487 4.4 in names, and
+    UTF-8 in the TAL. `chain_names` requires that each issuer is the subject of the certificate
+    above it (RFC 6487 7.2), and that a CRL has its issuer's name (RFC 5280 6.3.3 (b) (1)): a CRL of
+    another name isn't used, and the fault is `WrongIssuer` if there is no other. `check_key`
+    requires that the RPKI uses the last certificate's key (RFC 7935 3, RFC 8608 3.1); the keys
+    above it verify signatures, which only such keys do.
 
-    Raises the Fault of the first wrong member, or of the locator or a list that can't be read; the
-    members' names are checked behind all of these, and the last key at the end.
-    Raises ValueError if there are too few members, if the last of several is to be a trust anchor,
-    and if `at` has no time zone; TypeError if an argument has another type.
+    Raises the Fault of the first wrong certificate, or of a TAL or a CRL that can't be read; names
+    are checked after all of these, and the last key at the end.
+    Raises ValueError if there are too few certificates, if the last of several is to be a trust
+    anchor, and if `at` has no time zone; TypeError if an argument has another type.
+
+    Not checked: manifests.
     """
     all_members = _all_octets(members, "members")
     now = _time(datetime.now(timezone.utc) if at is None else at)
@@ -859,17 +869,18 @@ def validate(
     if fault == raw.BAD_CALL:
         raise ValueError(_why_no_path(len(all_members), last))
     _raise_at(fault, index, all_members, all_lists or ())
-    return Resources(_ipv4(held[0]), _ipv6(held[1]), _as_numbers(held[2]))
+    return _resources(held)
 
 
 # ---- folders
 
 
 class State(enum.Enum):
-    """What became of a certificate or list of a folder."""
+    """The result for a certificate or CRL of a directory."""
 
     UNSEEN = 0
-    """A certificate that no accepted CA signed, or that a bound kept from being judged."""
+    """A certificate that no accepted CA of its issuer's name signed, or that a bound kept from being
+    judged."""
     ANCHOR = 1
     """The trust anchor, which is valid."""
     ACCEPTED = 2
@@ -884,7 +895,7 @@ class State(enum.Enum):
 
 @dataclass(frozen=True)
 class Line:
-    """What became of one of the octets of a folder."""
+    """The result for one string of a directory."""
 
     state: State
     step: int | None = None
@@ -895,6 +906,8 @@ class Line:
     """Why it is rejected."""
     kind: Kind | None = None
     """As what it was judged, where it is accepted or rejected: as what it says that it is."""
+    held: Resources | None = None
+    """What it holds, where it is accepted; of a router's certificate what the one above it holds."""
 
     @property
     def is_valid(self) -> bool:
@@ -904,7 +917,7 @@ class Line:
 
 @dataclass(frozen=True)
 class Folder:
-    """What became of the octets of a folder."""
+    """The results for the strings of a directory."""
 
     lines: tuple[Line, ...]
     """A line for each, in their order."""
@@ -915,10 +928,15 @@ class Folder:
     accepted may yet be valid."""
 
 
-def _line(it: raw.Line) -> Line:
+def _resources(held: raw.Held) -> Resources:
+    return Resources(_ipv4(held[0]), _ipv6(held[1]), _as_numbers(held[2]))
+
+
+def _line(it: raw.Line, room: raw.Room) -> Line:
     state = State(it.what)
     if state is State.ACCEPTED:
-        return Line(state, it.step, it.issuer, kind=Kind(it.kind))
+        held = _resources(raw.held_of(it, room))
+        return Line(state, it.step, it.issuer, kind=Kind(it.kind), held=held)
     if state is State.REJECTED:
         return Line(state, it.step, None, _fault(it.fault), Kind(it.kind))
     return Line(state)
@@ -930,27 +948,29 @@ def judge_folder(
     locator: Octets,
     at: datetime | None = None,
     strict: bool = True,
+    chain_names: bool = True,
     check_key: bool = True,
     depth: int = 32,
     steps: int | None = None,
 ) -> Folder:
-    """Judges all certificates below the trust anchor of a locator, and gives a line for each of the
-    octets.
+    """Validates all certificates of a directory below the trust anchor of a TAL, and returns a line
+    for each string of `octets`.
 
     `octets` are certificates and revocation lists in any order, and may be others. The trust anchor
     is the first of them that has the key of `locator`, the file of a locator (RFC 8630). Each
     certificate that an accepted CA signed is judged below it as what it says that it is, and has to
-    be unrevoked by the lists among the octets, as for `validate`. Whether names chain isn't asked,
-    and no folder shows that a file was withheld: whoever reads manifests leaves out what they don't
-    list.
+    be unrevoked by the lists among the octets, as for `validate`, which accepts what is accepted here.
+    No folder shows that a file was withheld: whoever reads manifests leaves out what they don't list.
 
-    `at` and `strict` are as for `validate`, and `check_key` for each certificate. A path has at most `depth` certificates below the trust
-    anchor, and at most `steps` certificates are verified, each once for each path that leads to it;
-    64 times as many as there are, where it isn't given. `is_whole` of the answer says whether that
-    was enough.
+    `at`, `strict` and `chain_names` are as for `validate`, and `check_key` for each certificate. A path
+    has at most `depth` certificates below the trust anchor, and at most `steps` certificates are
+    verified, each once for each path that leads to it; 64 times as many as there are, if it isn't
+    given. `is_whole` of the answer says whether that was enough.
 
-    Raises LocatorFault where the file is no locator or none of the octets has its key, and the
-    Fault of the trust anchor where that is wrong, with its place as the `member`.
+    Raises LocatorFault if the file is no TAL or no certificate has its key, and the Fault of a
+    trust anchor that is wrong, with its index in `octets` as the `member`.
+
+    Not checked: name chaining, and manifests. A withheld file isn't detected.
     """
     now = _time(datetime.now(timezone.utc) if at is None else at)
     for name, bound in (("depth", depth), ("steps", 1 if steps is None else steps)):
@@ -960,14 +980,15 @@ def judge_folder(
     tal = _bytes(locator, "locator")
     # of files that are read here only the joined octets stay
     strings = raw.strings_of(_all_octets(octets, "octets"))
-    any_key = not _flag(check_key, "check_key")
+    waived = not _flag(check_key, "check_key"), not _flag(chain_names, "chain_names")
     bounds = depth, steps or 0
-    asked = raw.folder_question(strings, tal, now, is_strict, bounds, any_key)
-    walk, lines = raw.judge_folder(asked)
-    is_anchors = 100 <= walk.fault < 600 or walk.fault == FaultCode.NO_RESOURCES
+    asked = raw.folder_question(strings, tal, now, is_strict, bounds, *waived)
+    walk, lines, room = raw.judge_folder(asked)
+    is_anchors = 100 <= walk.fault <= 600 or walk.fault == FaultCode.NO_RESOURCES
     place = walk.anchor if is_anchors else None
     _raise(walk.fault, place)
-    return Folder(tuple(map(_line, lines)), walk.anchor, walk.ended == raw.WHOLE)
+    told = tuple(_line(it, room) for it in lines)
+    return Folder(told, walk.anchor, walk.ended == raw.WHOLE)
 
 
 # ---- issuing
@@ -981,7 +1002,13 @@ def _ends(what: AddressRange[Address], name: str) -> tuple[int, bytes, bytes]:
         network = ipaddress.ip_network(what) if isinstance(what, str) else what
     except ValueError as error:
         raise ValueError(f"{name}: {error}") from error
-    first, last = (network[0], network[-1]) if isinstance(network, _NETWORKS) else network
+    if isinstance(network, _NETWORKS):
+        first, last = network[0], network[-1]
+    elif isinstance(network, tuple) and [isinstance(it, _ADDRESSES) for it in network] == [True, True]:
+        first, last = network
+    else:
+        given = type(network).__name__
+        raise TypeError(f"{name}: expected networks, texts or pairs of addresses, not {given}")
     if first.version != last.version or last < first:
         raise ValueError(f"{name}: expected a network, or a first address and a last one")
     return first.version, first.packed, last.packed
@@ -1003,6 +1030,10 @@ def _systems(wanted: Iterable[int | range] | Inherit | None) -> raw.AsNumbers:
     if wanted is None or isinstance(wanted, Inherit):
         return raw.as_numbers_wanted(raw.MISSING if wanted is None else raw.INHERITED, ())
     ranges = [range(it, it + 1) if isinstance(it, int) else it for it in wanted]
+    for it in ranges:
+        if not isinstance(it, range):
+            given = type(it).__name__
+            raise TypeError(f"as_numbers: expected numbers, or ranges of them, not {given}")
     if any(it.step != 1 or not it or not 0 <= it[0] <= it[-1] < 1 << 32 for it in ranges):
         raise ValueError("as_numbers: expected numbers below 2^32, or ranges of them with step 1")
     if not ranges:
@@ -1135,22 +1166,22 @@ def prepare(
     strict: bool = True,
     chain_names: bool = True,
 ) -> bytes:
-    """Prepares a certificate for its signature, and gives the octets that are to be signed by the
-    issuer's key (RSASSA-PKCS1-v1_5 with SHA-256, RFC 7935). The key may lie elsewhere: in a file of
-    OpenSSL's, or in hardware.
+    """Prepares a certificate for its signature, and returns the TBSCertificate, which the issuer's
+    key has to sign (RSASSA-PKCS1-v1_5 with SHA-256, RFC 7935). The key may be elsewhere: in a file
+    of OpenSSL's, or in hardware.
 
     `issuers` are the certificates of the issuer's path in order, the trust anchor first; for a trust
-    anchor there are none. The path is judged as `validate` does it, with `lists` and `locator` where
-    they are given. `key` is the subject's SubjectPublicKeyInfo in DER.
+    anchor there are none. The path is validated as by `validate`, with `lists` and `locator`,
+    unless they are None. `key` is the subject's SubjectPublicKeyInfo in DER.
 
     `ipv4` and `ipv6` are networks, or pairs of a first and a last address, and `as_numbers` are
-    numbers or ranges, in any order; or INHERIT; or None, for nothing of the kind. So what a
-    Certificate has can be given. `uris` has the names that `Certificate.uris` has. What RFC 6487
-    fixes isn't asked: the names, key identifiers, key usage and policy.
+    numbers or ranges, in any order; or INHERIT; or None, for no resources of the kind. The values
+    of a Certificate can be passed. `uris` has the names of `Certificate.uris`. The names, key
+    identifiers, key usage and policy are set as RFC 6487 4 requires.
 
-    All is checked that the issuer's validators will check, but for the signature. Raises the Fault of
-    what is wrong, with the place of the member of the issuer's path that has it, or else with that of
-    the certificate behind them all; and ValueError where a value is none.
+    All is checked that a validator will check below the issuer, but the signature. Raises the Fault
+    of what is wrong, with the path index in the issuer's path, or with the index after them all for
+    the certificate itself; and ValueError if a value doesn't exist.
     """
     _kind(kind, "kind")
     issuer = _Issuer.of(issuers, lists, locator, at, strict, chain_names)
@@ -1187,11 +1218,11 @@ def complete(
     strict: bool = True,
     chain_names: bool = True,
 ) -> Certificate:
-    """Completes a certificate that was prepared by its signature, and gives it, exactly where the
-    issuer's key (of a trust anchor its own) signed what was prepared. The others are as for
-    `prepare`; they are asked again, at this moment.
+    """Completes a prepared certificate with its signature, and returns the certificate if and only
+    if the issuer's key (a trust anchor's own key) signed what was prepared. The other arguments are
+    as for `prepare`; all is checked again, at this time.
 
-    Raises VerificationFault with the name BadSignature where the signature isn't good, and else the
+    Raises VerificationFault with the name BadSignature if the signature isn't valid, and else the
     Fault of what is wrong.
     """
     _kind(kind, "kind")
@@ -1240,18 +1271,19 @@ def prepare_list(
     strict: bool = True,
     chain_names: bool = True,
 ) -> bytes:
-    """Prepares the issuer's next revocation list for its signature, or its first one, and gives the
-    octets that are to be signed by the issuer's key, as `prepare` does.
+    """Prepares the issuer's next CRL, or its first one, for its signature, and returns the
+    TBSCertList, which the issuer's key has to sign, as `prepare` does.
 
-    `previous` is the issuer's list before. Its entries stay, except for those that
+    `previous` is the issuer's previous CRL. Its entries stay, except for those that
     `RevocationList(previous).expired(expired)` returns: their certificates are among `expired`, and
-    had expired before that list was issued. `revoked` are revoked now: certificates or serial
+    had expired before that CRL was issued. `revoked` are revoked now: certificates or serial
     numbers, from this update on, or an Entry with a time of its own. `number` is greater than that
-    of the list before; by default it is one more, and 1 for a first list. `this_update` is by
-    default the time `at`. The others are as for `prepare`.
+    of the previous CRL; by default it is one more, and 1 for a first CRL. `this_update` is by
+    default the time `at`. The other arguments are as for `prepare`.
 
-    Raises the Fault of what is wrong: of the issuer's path with its place, and else IssuingFault or
-    RevocationFault with the place behind the path; and ValueError where a value is none.
+    Raises the Fault of what is wrong: of the issuer's path with the path index, and else
+    IssuingFault or RevocationFault with the index after the path; and ValueError if a value doesn't
+    exist.
     """
     now = datetime.now(timezone.utc) if at is None else at
     issuer = _Issuer.of(issuers, lists, locator, now, strict, chain_names)
@@ -1292,11 +1324,11 @@ def complete_list(
     strict: bool = True,
     chain_names: bool = True,
 ) -> RevocationList:
-    """Completes a revocation list that was prepared by its signature, and gives it, exactly where
-    the issuer's key signed what was prepared. The others are as for `prepare_list`; they are asked
-    again, at this moment.
+    """Completes a prepared CRL with its signature, and returns the CRL if and only if the issuer's
+    key signed what was prepared. The other arguments are as for `prepare_list`; all is checked
+    again, at this time.
 
-    Raises RevocationFault with the name BadSignature where the signature isn't good, and else the
+    Raises RevocationFault with the name BadSignature if the signature isn't valid, and else the
     Fault of what is wrong.
     """
     issuer = _Issuer.of(issuers, lists, locator, at, strict, chain_names)

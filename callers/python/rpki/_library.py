@@ -131,8 +131,14 @@ class FolderQuestion(ctypes.Structure):
         ("locator_length", c_size_t),
         ("moment", Time),
         *((name, c_size_t) for name in ("depth", "steps")),
-        *((name, c_uint32) for name in ("strict", "key")),
+        *((name, c_uint32) for name in ("strict", "key", "names")),
     ]
+
+
+class HeldPlaces(ctypes.Structure):
+    """struct rpki_held"""
+
+    _fields_ = [(name, c_uint64) for name in ("v4", "v6", "asn", "v4_at", "v6_at", "asn_at")]
 
 
 class Line(ctypes.Structure):
@@ -142,13 +148,17 @@ class Line(ctypes.Structure):
         *((name, c_uint32) for name in ("what", "fault")),
         *((name, c_uint64) for name in ("step", "issuer")),
         ("kind", c_uint32),
+        ("held", HeldPlaces),
     ]
 
 
 class Walk(ctypes.Structure):
     """struct rpki_walk"""
 
-    _fields_ = [*((name, c_uint32) for name in ("fault", "ended")), ("anchor", c_uint64)]
+    _fields_ = [
+        *((name, c_uint32) for name in ("fault", "ended")),
+        *((name, c_uint64) for name in ("anchor", "v4", "v6", "asn")),
+    ]
 
 
 class Addresses(ctypes.Structure):
@@ -448,6 +458,7 @@ def folder_question(
     strict: bool,
     bounds: tuple[int, int],
     any_key: bool,
+    any_names: bool,
 ) -> FolderQuestion:
     """A question about a folder."""
     return FolderQuestion(
@@ -458,15 +469,33 @@ def folder_question(
         *bounds,
         strict != 0,
         any_key,
+        any_names,
     )
 
 
-def judge_folder(asked: FolderQuestion) -> tuple[Walk, list[Line]]:
-    """How the walk over a folder ended, and a line for each string; none after a fault."""
-    out, lines = Walk(), (Line * asked.strings.count)()
-    room = c_size_t(len(lines))
-    lib.rpki_folder_judge(ctypes.byref(asked), lines, room, ctypes.byref(out))
-    return out, list(lines) if out.fault == OK else []
+def judge_folder(asked: FolderQuestion) -> tuple[Walk, list[Line], Room]:
+    """How the walk over a folder ended, a line for each string, and the ranges that are held; no line
+    after a fault. A second call has room for more than some eight ranges of a kind a string."""
+    count = asked.strings.count
+    out, lines, room = Walk(), (Line * count)(), room_for(*[8 * count + 64] * 3)
+    for _ in range(2):
+        words = ctypes.byref(room), ctypes.byref(out)
+        if lib.rpki_folder_judge(ctypes.byref(asked), lines, c_size_t(count), *words) != OK:
+            return out, [], room
+        if out.v4 <= room.v4_room and out.v6 <= room.v6_room and out.asn <= room.asn_room:
+            break
+        room = room_for(out.v4, out.v6, out.asn)
+    return out, list(lines), room
+
+
+def held_of(line: Line, room: Room) -> Held:
+    """The ranges that the certificate of a line holds."""
+    it = line.held
+    return (
+        room.v4[it.v4_at : it.v4_at + it.v4],
+        room.v6[it.v6_at : it.v6_at + it.v6],
+        room.asn[it.asn_at : it.asn_at + it.asn],
+    )
 
 
 def ip_range(first: bytes, last: bytes) -> IpRange:

@@ -629,9 +629,11 @@ class Folders(unittest.TestCase):
             self.assertEqual(folder.anchor, place(anchor))
             line = dict(zip(given, folder.lines))
             self.assertEqual(line[anchor], Line(State.ANCHOR))
-            self.assertEqual(line[first], Line(State.ACCEPTED, 1, place(anchor), kind=ca))
-            self.assertEqual(line[second], Line(State.ACCEPTED, 2, place(first), kind=ca))
-            self.assertEqual(line[leaf], Line(State.ACCEPTED, 3, place(second), kind=ee))
+            path = [anchor]
+            for at, (member, kind) in enumerate([(first, ca), (second, ca), (leaf, ee)], 1):
+                above, path = place(path[-1]), [*path, member]
+                held = validate(path, last=kind, lists=self.lists, at=self.noon)
+                self.assertEqual(line[member], Line(State.ACCEPTED, at, above, kind=kind, held=held))
             self.assertEqual({line[it].state for it in self.lists}, {State.LIST})
             self.assertEqual(line[b"no file"], Line(State.NEITHER))
             wrong = line[tampered]
@@ -652,6 +654,23 @@ class Folders(unittest.TestCase):
         assert isinstance(fault, rpki.RevocationFault)
         self.assertEqual(fault.name, "Revoked")
         self.assertTrue(folder.is_whole)
+
+    def test_names(self) -> None:
+        """The names of tests/files/named, of which make.py there says."""
+        files = TOP / "tests" / "files" / "named"
+        given = [files / it for it in ("ta.cer", "ta.crl", "ca.cer", "ca_other_case.cer")]
+        asked: dict[str, Any] = {"locator": files / "ta.tal"}
+        asked["at"] = datetime(2025, 6, 1, tzinfo=timezone.utc)
+        lines = judge_folder(given, **asked).lines
+        self.assertEqual([it.is_valid for it in lines], [True, False, True, False])
+        self.assertEqual(lines[3], Line(State.UNSEEN))
+        lines = judge_folder(given, chain_names=False, **asked).lines
+        self.assertEqual([it.is_valid for it in lines], [True, False, True, True])
+        given[0] = files / "ta_of_two_names.cer"
+        self.assertTrue(judge_folder(given, chain_names=False, **asked).lines[0].is_valid)
+        with self.assertRaises(rpki.NamesFault) as caught:
+            judge_folder(given, **asked)
+        self.assertEqual((caught.exception.name, caught.exception.member), ("OtherName", 0))
 
     def test_read_octets(self) -> None:
         members = [Certificate(it) for it in self.members]
@@ -893,9 +912,18 @@ class Issuing(unittest.TestCase):
         texts = self.ca(ipv4=["10.0.0.0/15"], ipv6=["2001:db8::/125"])
         same = self.prepared(Kind.AUTHORITY, "ca", [anchor], **self.ca())
         self.assertEqual(self.prepared(Kind.AUTHORITY, "ca", [anchor], **texts), same)
-        for mistyped in ({"not_after": "2036-01-01"}, {"strict": 1}, {"chain_names": None}):
-            with self.assertRaises(TypeError):
-                self.prepared(Kind.AUTHORITY, "ca", [anchor], **self.ca(**mistyped))
+        mistyped: list[dict[str, Any]] = [
+            {"not_after": "2036-01-01"},
+            {"strict": 1},
+            {"chain_names": None},
+            {"ipv4": [10]},
+            {"ipv6": [("2001:db8::", "2001:db8::1")]},
+            {"as_numbers": ["64500"]},
+        ]
+        for changes in mistyped:
+            (argument,) = changes
+            with self.assertRaisesRegex(TypeError, f"^{argument}: "):
+                self.prepared(Kind.AUTHORITY, "ca", [anchor], **self.ca(**changes))
         for missing in ({"lists": None}, {"locator": None}):
             without: Any = rpki.prepare
             with self.assertRaises(TypeError):

@@ -3,25 +3,24 @@ use crate::{sys, FaultCode, Uri};
 use std::error::Error;
 use std::fmt;
 
-/// What a fault is about, with the names of its faults.
+/// What an error is about, with the names of its errors.
 #[derive(Clone, Copy, Debug, PartialEq, Eq, Hash)]
 #[non_exhaustive]
 pub enum FaultKind {
     /// Memory ran out. Its name is `Memory`.
     Memory,
-    /// The call itself is wrong: there are too few certificates, or a range or a serial number isn't
-    /// one. The sentence says what. Its name is `BadCall`.
+    /// The call itself is wrong: there are too few certificates, or a range or a serial number
+    /// doesn't exist. The sentence says which. Its name is `BadCall`.
     BadCall,
-    /// The octets begin with no certificate, or with no revocation list; or others stand behind a
-    /// list of a path.
+    /// The bytes don't start with a certificate or a CRL, or other bytes follow a CRL of a path.
     ///
     /// Its name is `Truncated`, `BadLength`, `BadTag`, `BadValue`, `Trailing`, `TooDeep`,
     /// `AlgorithmMismatch`, `UnexpectedCritical`, `InvalidExtension`, `Missing`, `Duplicate`,
-    /// `Critical`, `NotCritical` or `WrongResources`. Which extension is missing, or there twice,
-    /// the number and the sentence tell.
+    /// `Critical`, `NotCritical` or `WrongResources`. The number and the sentence say which
+    /// extension is missing, or there twice.
     Decode,
-    /// The certificate doesn't meet the profile of the kind as which it is judged. That is also so
-    /// where the caller names another kind than its own: an end entity's certificate as
+    /// The certificate doesn't meet the profile of the kind as which it is validated. This also
+    /// happens if the caller names another kind than its own: an end entity's certificate as
     /// `Kind::Authority` has `MissingBasicConstraints`.
     ///
     /// Its name is `AlgorithmMismatch`, `Issuer`, `Subject`, `KeyAlgorithm`,
@@ -33,49 +32,48 @@ pub enum FaultKind {
     /// `SubjectInformationPresent`, `IpResourcesPresent`, `MissingAsResources` or
     /// `InheritedAsResources`.
     Inspection,
-    /// The certificate isn't valid at the moment, or not issued by the member above it.
+    /// The certificate isn't valid at the time, or not issued by the one above it.
     ///
     /// Its name is `NotYetValid`, `Expired`, `InheritedV4`, `InheritedV6`, `InheritedAs`,
     /// `MissingKeyId`, `WrongKeyId`, `MissingIssuerUri`, `BadSignature`, `OverclaimV4`,
     /// `OverclaimV6` or `OverclaimAs`.
     Verification,
-    /// The lists don't show that the certificate isn't revoked.
+    /// The CRLs don't show that the certificate isn't revoked (RFC 6487 7.2).
     ///
     /// Its name is `NoCrl`, `WrongKeyId`, `BadSignature`, `Stale`, `Revoked` or `WrongIssuer`.
     Revocation,
-    /// The issuer isn't the subject of the member above it. Its name is `OtherName`.
+    /// The issuer isn't the subject of the certificate above it. Its name is `OtherName`.
     Names,
     /// The RPKI doesn't use the last certificate's key. Its name is `BadKey`.
     Key,
-    /// The file is no trust anchor locator, or the trust anchor has another key or lists no number.
+    /// The file is no TAL, or the trust anchor has another key or lists no resources (RFC 8630).
     ///
-    /// Its name is `OtherKey` for the key, `NoResources` for the numbers, and else `NoText`,
+    /// Its name is `OtherKey` for the key, `NoResources` for the resources, and else `NoText`,
     /// `BadUri`, `NoUri`, `NoKey` or `BadKey`.
     Locator,
-    /// The key, a URI, the fields or the octets are none of a certificate or a list that can be
-    /// issued.
+    /// No certificate or CRL can be issued with this key, this URI, these fields or these bytes.
     ///
     /// Its name is `NoKey`, `UnusedKey`, `BadUri`, `NoName`, `Unwritable`, `TooLong`, `NotToSign` or
-    /// `OtherOctets`; of a list alone it is `OtherList` where the one before isn't the issuer's,
+    /// `OtherOctets`; for a CRL alone it is `OtherList` if the previous one isn't the issuer's,
     /// `Number`, `LongNumber` or `UpdateOrder`.
     Issuing,
 }
 
-/// Where in a question a fault is.
+/// The place of an error in a question.
 #[derive(Clone, Copy, Debug, PartialEq, Eq, Hash)]
 #[non_exhaustive]
 pub enum Place {
-    /// This certificate of the path, the trust anchor at 0; or this one of the octets of a folder.
+    /// This certificate of the path, the trust anchor at 0; or this string of a directory.
     Member(usize),
-    /// This one of the lists that were given.
+    /// This CRL, by its index among the given CRLs.
     List(usize),
-    /// The certificate or the list that is to be issued.
+    /// The certificate or the CRL that is to be issued.
     Issued,
     /// This URI of the certificate that is to be issued.
     Uri(Uri),
 }
 
-/// Where the reading of octets stops.
+/// The place where reading stops.
 #[derive(Clone, PartialEq, Eq, Hash)]
 struct Stop {
     octet: usize,
@@ -95,8 +93,8 @@ impl Stop {
     }
 }
 
-/// Why something is rejected. Displayed it has place, sentence and name: `member 2: certificate
-/// revoked (Revoked)`, or `list 1: truncated value (Truncated)`; without a place it begins with the
+/// Why something is rejected. It displays place, sentence and name: `member 2: certificate revoked
+/// (Revoked)`, or `list 1: truncated value (Truncated)`; without a place it starts with the
 /// sentence.
 #[derive(Clone, PartialEq, Eq, Hash)]
 pub struct Fault {
@@ -176,17 +174,18 @@ impl Fault {
 
     // Of the trust anchor at a place of a folder, or of its locator.
     pub(crate) fn of_anchor(number: u32, anchor: usize) -> Fault {
-        let is_anchors = matches!(number, 100..=599 | sys::NO_RESOURCES);
+        let is_anchors = matches!(number, 100..=600 | sys::NO_RESOURCES);
         Fault::at(number, is_anchors.then_some(Place::Member(anchor)))
     }
 
-    /// Returns the number, of `enum rpki_fault` of rpki.h. It tells the fault from all others, and
-    /// never gets another meaning.
+    /// Returns the number, of `enum rpki_fault` of rpki.h. It is unique, and never gets another
+    /// meaning.
     pub fn number(&self) -> u32 {
         self.number
     }
 
-    /// Returns the number by its name in rpki.h, without the part that a fault of reading speaks of.
+    /// Returns the number by its name in rpki.h, without the part that an error of reading is
+    /// about.
     pub fn code(&self) -> FaultCode {
         let number = match self.number {
             120..=219 => self.number - self.number % 20,
@@ -195,15 +194,15 @@ impl Fault {
         FaultCode::of(number).unwrap_or(FaultCode::BadCall)
     }
 
-    /// Returns which certificate or list is wrong, if it is one of a path or a folder. Of a locator
-    /// that can't be read there is none.
+    /// Returns which certificate or CRL is wrong, if it is one of a path or a directory. There is
+    /// none for a TAL that can't be read.
     pub fn place(&self) -> Option<Place> {
         self.place
     }
 
-    /// Returns at which octet reading stops, of a fault of `FaultKind::Decode`: what stands before was
-    /// read, and from there on stands none of the part that has to come next. There is none where
-    /// octets stand behind a list.
+    /// Returns the offset at which reading stops, for an error of `FaultKind::Decode`: the bytes
+    /// before it were read, and from there on there is no value of the part that has to come next.
+    /// There is none if bytes follow a CRL.
     pub fn octet(&self) -> Option<usize> {
         self.stop.as_ref().map(|stop| stop.octet)
     }
@@ -213,19 +212,20 @@ impl Fault {
         self.stop.as_ref().map(|stop| stop.field.as_str())
     }
 
-    /// Returns what has to stand there, with the section that asks it, such as `a Name (RFC 5280
+    /// Returns what is expected there, with the section that requires it, such as `a Name (RFC 5280
     /// 4.1.2.4)`.
     pub fn wanted(&self) -> Option<&str> {
         self.stop.as_ref().map(|stop| stop.wanted.as_str())
     }
 
-    /// Returns what is wrong of what stands there, such as `a negative number`, where that is told.
+    /// Returns what is wrong with what is found there, such as `a negative number`, if that is
+    /// known.
     pub fn found(&self) -> Option<&str> {
         let found = self.stop.as_ref().map(|stop| stop.found.as_str());
         found.filter(|text| !text.is_empty())
     }
 
-    /// Tells what it is about.
+    /// Returns what it is about.
     pub fn kind(&self) -> FaultKind {
         match self.number {
             sys::MEMORY => FaultKind::Memory,
@@ -241,8 +241,8 @@ impl Fault {
         }
     }
 
-    /// Returns the name, such as `BadSignature`. Faults of two kinds may have one name: that one is
-    /// of a certificate where the kind is `Verification`, and of a list where it is `Revocation`.
+    /// Returns the name, such as `BadSignature`. Errors of two kinds may have one name: that one is
+    /// a certificate's if the kind is `Verification`, and a CRL's if it is `Revocation`.
     pub fn name(&self) -> String {
         text(sys::fault_name(self.number))
     }
@@ -261,7 +261,7 @@ fn text(octets: Result<Vec<u8>, u32>) -> String {
     String::from_utf8_lossy(&octets.unwrap_or_default()).into_owned()
 }
 
-/// What a `main` prints that ends with a fault, so with its name.
+/// Prints what a `main` prints that ends with an error: also its name.
 impl fmt::Debug for Fault {
     fn fmt(&self, f: &mut fmt::Formatter<'_>) -> fmt::Result {
         f.debug_struct("Fault")

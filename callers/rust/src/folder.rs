@@ -1,45 +1,48 @@
 //! Certificates and revocation lists in any order.
-use crate::{check_library, slices, sys, Fault, Kind, Moment};
+use crate::{check_library, slices, sys, Fault, Holdings, Kind, Moment};
 
-/// What became of one of the octets of a folder.
+/// The result for one string of a directory.
 #[derive(Clone, Debug, PartialEq, Eq, Hash)]
 #[non_exhaustive]
 pub enum Line {
-    /// A certificate that no accepted CA signed, or that a bound kept from being judged.
+    /// A certificate that no accepted CA of its issuer's name signed, or that a bound kept from being
+    /// judged.
     Unseen,
     /// The trust anchor, which is valid.
     Anchor,
-    /// The last member of a valid path.
+    /// The last certificate of a valid path.
     Accepted {
-        /// How many certificates of the path stand above it.
+        /// How many certificates of the path are above it.
         step: usize,
-        /// The place of its issuer among the octets.
+        /// The index of its issuer's string.
         issuer: usize,
         /// As what it was judged.
         kind: Kind,
+        /// What it holds; of a router's certificate what the one above it holds.
+        held: Holdings,
     },
     /// A certificate that is wrong below each valid path to its issuer.
     Rejected {
-        /// How many certificates of the path stand above it.
+        /// How many certificates of the path are above it.
         step: usize,
         /// Why it is rejected.
         fault: Fault,
         /// As what it was judged.
         kind: Kind,
     },
-    /// A revocation list.
+    /// A CRL.
     List,
-    /// Neither a certificate nor a revocation list; also a list with octets behind it.
+    /// Neither a certificate nor a CRL; also a CRL that other bytes follow.
     Neither,
 }
 
 impl Line {
-    /// Tells whether it is a valid certificate.
+    /// Returns whether it is a valid certificate.
     pub fn is_valid(&self) -> bool {
         matches!(self, Line::Anchor | Line::Accepted { .. })
     }
 
-    fn of(it: &sys::Line) -> Line {
+    fn of(it: &sys::Line, held: &sys::Held) -> Line {
         let step = it.step as usize;
         match it.what {
             sys::ANCHOR => Line::Anchor,
@@ -47,6 +50,7 @@ impl Line {
                 step,
                 issuer: it.issuer as usize,
                 kind: kind_of(it.kind),
+                held: Holdings::of(held.of(&it.held)),
             },
             sys::REJECTED => Line::Rejected {
                 step,
@@ -70,11 +74,11 @@ fn kind_of(number: u32) -> Kind {
     }
 }
 
-/// What became of the octets of a folder.
+/// The results for the strings of a directory.
 #[derive(Clone, Debug, PartialEq, Eq, Hash)]
 #[non_exhaustive]
 pub struct Judged {
-    /// A line for each of the octets, in their order.
+    /// A line for each string, in their order.
     pub lines: Vec<Line>,
     /// The place of the trust anchor among them.
     pub anchor: usize,
@@ -83,7 +87,7 @@ pub struct Judged {
     pub is_whole: bool,
 }
 
-/// Certificates and revocation lists in any order, and what is asked of them.
+/// Certificates and CRLs in any order, and what is checked of them.
 ///
 /// ```no_run
 /// # use gonxebhula::{Folder, Moment};
@@ -106,14 +110,15 @@ pub struct Folder<'a> {
     octets: Vec<&'a [u8]>,
     locator: &'a [u8],
     strict: bool,
+    chain_names: bool,
     check_key: bool,
     depth: usize,
     steps: usize,
 }
 
 impl<'a> Folder<'a> {
-    /// Makes a folder of these octets, as `&Vec<Vec<u8>>` has them, below the trust anchor among them
-    /// that has the key of this file of a locator (RFC 8630); where several have it, below the first.
+    /// Makes a directory of these strings, such as `&Vec<Vec<u8>>`. The trust anchor is the first
+    /// certificate among them with the key of this TAL file (RFC 8630).
     pub fn new<T>(octets: impl IntoIterator<Item = &'a T>, locator: &'a [u8]) -> Folder<'a>
     where
         T: AsRef<[u8]> + ?Sized + 'a,
@@ -122,15 +127,24 @@ impl<'a> Folder<'a> {
             octets: slices(octets),
             locator,
             strict: true,
+            chain_names: true,
             check_key: true,
             depth: 0,
             steps: 0,
         }
     }
 
-    /// Lets names have other strings than RFC 6487 4.4 asks, and a locator's comments any octets.
+    /// Accepts string types in names that RFC 6487 4.4 doesn't allow, and any bytes in a TAL's
+    /// comments.
     pub fn lenient(mut self) -> Folder<'a> {
         self.strict = false;
+        self
+    }
+
+    /// Doesn't ask that each issuer is the subject of the certificate above it (RFC 6487 7.2), and that
+    /// a list has its issuer's name (RFC 5280 6.3.3).
+    pub fn without_names(mut self) -> Folder<'a> {
+        self.chain_names = false;
         self
     }
 
@@ -140,14 +154,14 @@ impl<'a> Folder<'a> {
         self
     }
 
-    /// Asks that a path has at most so many certificates below the trust anchor; 0 asks for 32.
+    /// Limits paths to so many certificates below the trust anchor; 0 means 32.
     pub fn depth(mut self, depth: usize) -> Folder<'a> {
         self.depth = depth;
         self
     }
 
-    /// Asks that at most so many certificates are verified, each once for each path that leads to it;
-    /// 0 asks for 64 times as many as there are.
+    /// Limits how many certificates are verified, each once for each path that leads to it; 0 means
+    /// 64 times as many as there are.
     pub fn steps(mut self, steps: usize) -> Folder<'a> {
         self.steps = steps;
         self
@@ -155,8 +169,9 @@ impl<'a> Folder<'a> {
 
     /// Judges each certificate that an accepted CA signed, as what it says that it is, with signatures
     /// (RFC 7935) and by the lists among the octets. Errs with what is wrong of the locator or of the
-    /// trust anchor, or that none has the locator's key. Whether names chain isn't asked, and no folder
-    /// shows that a file was withheld: whoever reads manifests leaves out what they don't list.
+    /// trust anchor, or that none has the locator's key. [`Path::validate`](crate::Path::validate)
+    /// accepts what is accepted here. No folder shows that a file was withheld: whoever reads manifests
+    /// leaves out what they don't list.
     pub fn judge(&self, now: Moment) -> Result<Judged, Fault> {
         check_library();
         let question = sys::FolderQuestion {
@@ -167,11 +182,12 @@ impl<'a> Folder<'a> {
             steps: self.steps,
             strict: self.strict,
             any_key: !self.check_key,
+            any_names: !self.chain_names,
         };
         let of_anchor = |(number, anchor)| Fault::of_anchor(number, anchor);
-        let (walk, lines) = sys::judge_folder(&question).map_err(of_anchor)?;
+        let (walk, lines, held) = sys::judge_folder(&question).map_err(of_anchor)?;
         Ok(Judged {
-            lines: lines.iter().map(Line::of).collect(),
+            lines: lines.iter().map(|it| Line::of(it, &held)).collect(),
             anchor: walk.anchor as usize,
             is_whole: walk.ended == sys::WHOLE,
         })

@@ -1,34 +1,34 @@
-//! Certificates and revocation lists that are issued where the issuer's key lies elsewhere.
+//! Certificates and CRLs that are issued with a key that is elsewhere.
 use crate::{
     check_library, slices, sys, Anchor, AsRanges, Certificate, Entry, Fault, Ipv4Ranges,
     Ipv6Ranges, Kind, Moment, Resources, Revocation, RevocationList, Uri,
 };
 use std::collections::HashSet;
 
-/// What a certificate is to be. What RFC 6487 fixes isn't asked: the names, key identifiers, key usage
-/// and policy. [`Wanted::new`] makes it, and its fields are set then.
+/// A requested certificate. The names, key identifiers, key usage and policy are set as RFC 6487 4
+/// requires. [`Wanted::new`] makes it, and its fields are set then.
 #[derive(Clone, Debug)]
 #[non_exhaustive]
 pub struct Wanted<'a> {
-    /// What it is.
+    /// Its kind.
     pub kind: Kind,
     /// The subject's SubjectPublicKeyInfo in DER.
     pub key: &'a [u8],
-    /// The serial number, its greatest octet first: above 0 and below 2^159.
+    /// The serial number, the most significant byte first: above 0 and below 2^159.
     pub serial_number: [u8; 20],
-    /// The first moment at which it is valid.
+    /// The first second of the validity.
     pub not_before: Moment,
-    /// The last moment at which it is valid.
+    /// The last second of the validity.
     pub not_after: Moment,
-    /// IPv4 addresses. Ranges stand in any order, and may overlap.
+    /// IPv4 addresses. Ranges may be in any order, and may overlap.
     pub ipv4: Resources<Ipv4Ranges>,
     /// IPv6 addresses.
     pub ipv6: Resources<Ipv6Ranges>,
     /// AS numbers.
     pub as_numbers: Resources<AsRanges>,
-    /// The URIs that it has. Of several of one kind the last counts.
+    /// The URIs. If there are several of one kind, the last one counts.
     pub uris: &'a [(Uri, &'a str)],
-    /// Whether what it lists beyond its issuer is cut off (RFC 8360), and not rejected.
+    /// Whether overclaimed resources are trimmed (RFC 8360), and not rejected.
     pub trims_resources: bool,
 }
 
@@ -56,30 +56,30 @@ impl<'a> Wanted<'a> {
     }
 }
 
-/// What a revocation list is to be: the issuer's next one, or its first. What RFC 6487 fixes isn't
-/// asked: the issuer's name and the identifier of its key. [`WantedList::new`] makes it, and its
-/// fields are set then.
+/// A requested CRL: the issuer's next one, or its first. The issuer's name and the identifier of
+/// its key are set as RFC 6487 5 requires. [`WantedList::new`] makes it, and its fields are set
+/// then.
 #[derive(Clone, Debug)]
 #[non_exhaustive]
 pub struct WantedList<'a> {
-    /// The issuer's list before, if there was one. Its entries stay, but for those of `expired`.
+    /// The issuer's previous CRL, if there is one. Its entries stay, except for those of `expired`.
     pub previous: Option<&'a [u8]>,
     /// Certificates of the issuer's. The entries that [`RevocationList::expired`] returns for these
-    /// are dropped: their certificates had expired before the list before was issued.
+    /// are dropped: their certificates had expired before the previous CRL was issued.
     pub expired: &'a [Certificate],
-    /// What is revoked now, beside all that the list before has.
+    /// The entries to be added to those of the previous CRL.
     pub revoked: &'a [Entry],
     /// When it is issued.
     pub this_update: Moment,
     /// Until when the next one is issued.
     pub next_update: Moment,
-    /// The number, its greatest octet first: greater than the one before, and below 2^159. Where
-    /// none is chosen it is one more, and 1 of a first list.
+    /// The CRL number, the most significant byte first: greater than the previous one, and below
+    /// 2^159. The default is one more, and 1 for a first CRL.
     pub number: Option<[u8; 20]>,
 }
 
 impl<'a> WantedList<'a> {
-    /// Makes it of what every list has: a first list, which revokes nothing.
+    /// Makes a first CRL, which revokes nothing, with these times.
     pub fn new(this_update: Moment, next_update: Moment) -> WantedList<'a> {
         WantedList {
             previous: None,
@@ -141,8 +141,8 @@ fn next(mut number: [u8; 20]) -> [u8; 20] {
     number
 }
 
-/// Who issues: the CA that a path ends in, as it is judged at a moment; or nobody above a trust anchor,
-/// which signs itself.
+/// The issuer: the CA in which a path ends, as it is validated at a time; or none above a trust
+/// anchor, which signs itself.
 #[derive(Clone, Debug)]
 pub struct Issuer<'a> {
     path: Vec<&'a [u8]>,
@@ -180,14 +180,14 @@ impl<'a> Issuer<'a> {
         Issuer::new::<[u8]>([], Revocation::NotAsked, Anchor::AsGiven, now)
     }
 
-    /// Lets names have other strings than RFC 6487 4.4 asks.
+    /// Accepts string types in names that RFC 6487 4.4 doesn't allow.
     pub fn lenient(mut self) -> Issuer<'a> {
         self.strict = false;
         self
     }
 
-    /// Doesn't check that each issuer of the path is the subject of the certificate above it (RFC 6487
-    /// 7.2), and that a list has its issuer's name (RFC 5280 6.3.3).
+    /// Doesn't check that each issuer of the path is the subject of the certificate above it (RFC
+    /// 6487 7.2), and that a CRL has its issuer's name (RFC 5280 6.3.3).
     pub fn without_names(mut self) -> Issuer<'a> {
         self.chain_names = false;
         self
@@ -236,10 +236,14 @@ impl<'a> Issuer<'a> {
         Fault::of_issued(number, index, &self.path, lists)
     }
 
-    /// Prepares a certificate for its signature: returns what the issuer's key has to sign
-    /// (RSASSA-PKCS1-v1_5 with SHA-256, RFC 7935). All is checked that its validators will check, but
-    /// for the signature. Errs with the fault of a certificate of the path, or of the one that is to be
-    /// issued (`Place::Issued`, or `Place::Uri` for one of its URIs).
+    /// Prepares a certificate for its signature: returns the TBSCertificate, which the issuer's key
+    /// has to sign (RSASSA-PKCS1-v1_5 with SHA-256, RFC 7935). All is checked that a validator will
+    /// check below the issuer, but the signature.
+    ///
+    /// # Errors
+    ///
+    /// Returns the error of a certificate of the path, or of the requested one (`Place::Issued`, or
+    /// `Place::Uri` for one of its URIs).
     pub fn prepare(&self, wanted: &Wanted<'_>) -> Result<Vec<u8>, Fault> {
         check_library();
         if let Some(why) = self.why_unwanted(wanted) {
@@ -265,8 +269,12 @@ impl<'a> Issuer<'a> {
         sys::prepare(&asked).map_err(|it| self.fault(it))
     }
 
-    /// Completes what was prepared by its signature: returns the certificate, exactly where the
-    /// issuer's key (of a trust anchor its own) signed it. Errs as [`Issuer::prepare`] does.
+    /// Completes a prepared certificate with its signature: returns the certificate if and only if
+    /// the issuer's key (a trust anchor's own key) signed what was prepared.
+    ///
+    /// # Errors
+    ///
+    /// As [`Issuer::prepare`].
     pub fn complete(
         &self,
         kind: Kind,
@@ -284,10 +292,14 @@ impl<'a> Issuer<'a> {
         Certificate::read(&octets)
     }
 
-    /// Prepares the issuer's next revocation list for its signature, or its first one: returns what
-    /// the issuer's key has to sign, as [`Issuer::prepare`] does. The entries of the list before
-    /// stay, but for those that may be dropped. Those that are revoked now come in behind them, each
+    /// Prepares the issuer's next CRL, or its first one, for its signature: returns the
+    /// TBSCertList, which the issuer's key has to sign, as [`Issuer::prepare`] does. The entries of
+    /// the previous CRL stay, except for those that may be dropped. New entries follow them, each
     /// serial number once.
+    ///
+    /// # Errors
+    ///
+    /// As [`Issuer::prepare`].
     pub fn prepare_list(&self, wanted: &WantedList<'_>) -> Result<Vec<u8>, Fault> {
         check_library();
         if self.path.is_empty() {
@@ -331,8 +343,12 @@ impl<'a> Issuer<'a> {
         sys::prepare_list(&asked).map_err(|it| self.fault(it))
     }
 
-    /// Completes what was prepared of a list by its signature: returns the list, exactly where the
-    /// issuer's key signed it. Errs as [`Issuer::prepare_list`] does.
+    /// Completes a prepared CRL with its signature: returns the CRL if and only if the issuer's key
+    /// signed what was prepared.
+    ///
+    /// # Errors
+    ///
+    /// As [`Issuer::prepare_list`].
     pub fn complete_list(
         &self,
         prepared: &[u8],

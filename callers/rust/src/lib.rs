@@ -1,5 +1,5 @@
-//! Reads and judges resource certificates and revocation lists of the RPKI (RFC 6487), and issues
-//! those whose issuer's key lies elsewhere, by the proved library librpki.
+//! Reads and validates resource certificates and CRLs of the RPKI (RFC 6487), and issues them with
+//! a key that is elsewhere, by the proved library librpki.
 //!
 //! ```no_run
 //! use gonxebhula::{Anchor, FaultKind, Kind, Moment, Path, Revocation};
@@ -27,17 +27,17 @@
 //! }
 //! ```
 //!
-//! What is judged is proved: the library accepts a path exactly where it is valid by the standards'
-//! definitions. This crate only moves values into it and out of it, and is tested. All types are plain
-//! data, and so `Send` and `Sync`; the library has no state, and threads may call side by side.
+//! Verdicts are proved: the library accepts a path if and only if it is valid by the standards'
+//! definitions. This crate only moves values into it and out of it, and is tested. All types are
+//! plain data, and so `Send` and `Sync`; the library has no state, and several threads may call it.
 //!
 //! # The library
 //!
-//! When a crate is built, librpki is looked for in the folder that the variable `RPKI_LIBRARY`
-//! names; or else where `pkg-config` finds `rpki.pc`; or else where the linker looks for libraries.
-//! When the program runs, the system looks for librpki.so: where it isn't in a folder of the
-//! system's, name its folder in `LD_LIBRARY_PATH`. With the feature `static` the program has
-//! librpki.a in it, and looks for none:
+//! When a crate is built, librpki is searched in the directory that the variable `RPKI_LIBRARY`
+//! names, or else where `pkg-config` finds `rpki.pc`, or else where the linker searches libraries.
+//! When the program runs, the system searches librpki.so: if it isn't in a directory of the
+//! system's, name its directory in `LD_LIBRARY_PATH`. With the feature `static` the program
+//! contains librpki.a:
 //!
 //! ```text
 //! export RPKI_LIBRARY=$HOME/.local/lib
@@ -45,7 +45,7 @@
 //! cargo run --features gonxebhula/static
 //! ```
 //!
-//! Each call checks first that the library is of this crate's interface, and panics where it isn't.
+//! Each call checks first that the library has this crate's interface, and panics if it hasn't.
 mod code;
 mod fault;
 mod folder;
@@ -64,7 +64,7 @@ use std::net::{IpAddr, Ipv4Addr, Ipv6Addr};
 use std::ops::RangeInclusive;
 use std::sync::Once;
 
-/// Panics where the library is of another interface than this crate.
+/// Panics if the library has another interface than this crate.
 fn check_library() {
     static CHECK: Once = Once::new();
     CHECK.call_once(|| {
@@ -77,8 +77,8 @@ fn check_library() {
     });
 }
 
-/// What a certificate is judged as. As another kind than its own it is rejected, with a fault of
-/// `FaultKind::Inspection`.
+/// The kind as which a certificate is validated. As another kind than its own it is rejected, with
+/// an error of `FaultKind::Inspection`.
 #[derive(Clone, Copy, Debug, PartialEq, Eq, Hash)]
 #[non_exhaustive]
 pub enum Kind {
@@ -86,11 +86,11 @@ pub enum Kind {
     TrustAnchor = 0,
     /// A CA.
     Authority = 1,
-    /// An end entity: the certificate of a signed object that is published, as a ROA or a manifest.
-    /// It has to name where that object is (`Uri::SignedObject`).
+    /// An end entity: the certificate of a signed object that is published, such as a ROA or a
+    /// manifest. It has to have the object's URI (`Uri::SignedObject`, RFC 6487 4.8.8.2).
     EndEntity = 2,
-    /// An end entity that need not name its object. All else is asked as of `EndEntity`, so each of
-    /// those is accepted too. Take it only where the object stands at no URI.
+    /// An end entity that needn't have that URI. All else is required as for `EndEntity`, so each
+    /// of those is accepted too. Use it only if the object has no URI.
     Detached = 3,
     /// A BGPsec router (RFC 8209).
     Router = 4,
@@ -102,7 +102,7 @@ pub enum Kind {
 pub enum Uri {
     /// Where its issuer's certificate is.
     CaIssuer = 0,
-    /// Where its issuer's revocation list is.
+    /// The URI of its issuer's CRL.
     Crl = 1,
     /// Where it publishes.
     Repository = 2,
@@ -164,6 +164,14 @@ pub struct Holdings {
 }
 
 impl Holdings {
+    fn of(held: sys::Held) -> Holdings {
+        Holdings {
+            ipv4: ipv4(held.v4),
+            ipv6: ipv6(held.v6),
+            as_numbers: as_numbers(held.asn),
+        }
+    }
+
     /// Returns the IPv4 addresses as prefixes, the fewest that make them up.
     pub fn ipv4_prefixes(&self) -> Vec<(Ipv4Addr, u8)> {
         ipv4_prefixes(&self.ipv4)
@@ -282,7 +290,15 @@ pub struct Certificate {
 }
 
 impl Certificate {
-    /// Reads the certificate that the octets begin with. What follows it is ignored.
+    /// Reads the certificate at the start of the bytes, and ignores the rest.
+    ///
+    /// # Errors
+    ///
+    /// Returns an error if the bytes don't start with a certificate.
+    ///
+    /// # Not checked
+    ///
+    /// The profile, the signature and the validity: [`Path::validate`] checks them.
     pub fn read(octets: &[u8]) -> Result<Certificate, Fault> {
         check_library();
         let of_reading = |number| Fault::of_reading(number, octets, false);
@@ -293,22 +309,22 @@ impl Certificate {
         })
     }
 
-    /// Returns the octets that it was read from.
+    /// Returns the bytes that it was read from.
     pub fn as_bytes(&self) -> &[u8] {
         &self.octets
     }
 
-    /// Returns the serial number, its greatest octet first.
+    /// Returns the serial number, the most significant byte first.
     pub fn serial_number(&self) -> [u8; 20] {
         self.read.serial
     }
 
-    /// Returns the first moment at which it is valid.
+    /// Returns the first second of the validity.
     pub fn not_before(&self) -> Moment {
         Moment(self.read.not_before)
     }
 
-    /// Returns the last moment at which it is valid.
+    /// Returns the last second of the validity.
     pub fn not_after(&self) -> Moment {
         Moment(self.read.not_after)
     }
@@ -323,12 +339,12 @@ impl Certificate {
         (self.read.has_authority_key != 0).then_some(self.read.authority_key)
     }
 
-    /// Tells whether it says that it is a CA.
+    /// Returns whether Basic Constraints say that it is a CA.
     pub fn is_authority(&self) -> bool {
         self.read.is_authority != 0
     }
 
-    /// Tells whether what it lists beyond its issuer is cut off (RFC 8360), and not rejected.
+    /// Returns whether overclaimed resources are trimmed (RFC 8360), and not rejected.
     pub fn trims_resources(&self) -> bool {
         self.read.overclaim != 0
     }
@@ -394,7 +410,7 @@ impl TryFrom<&[u8]> for Certificate {
     }
 }
 
-/// Two are equal if their octets are.
+/// Compares by the bytes.
 impl PartialEq for Certificate {
     fn eq(&self, other: &Certificate) -> bool {
         self.octets == other.octets
@@ -415,7 +431,7 @@ impl AsRef<[u8]> for Certificate {
     }
 }
 
-/// A revoked certificate's serial number, its greatest octet first, and since when it is revoked.
+/// A revoked certificate's serial number, the most significant byte first, and its revocation date.
 #[derive(Clone, Copy, Debug, PartialEq, Eq, Hash)]
 pub struct Entry {
     /// The serial number.
@@ -424,7 +440,7 @@ pub struct Entry {
     pub revoked_at: Moment,
 }
 
-/// A revocation list, read from DER.
+/// A CRL, read from DER.
 ///
 /// ```no_run
 /// # use gonxebhula::{Certificate, RevocationList};
@@ -442,7 +458,15 @@ pub struct RevocationList {
 }
 
 impl RevocationList {
-    /// Reads the list that the octets begin with. What follows it is ignored.
+    /// Reads the CRL at the start of the bytes, and ignores the rest.
+    ///
+    /// # Errors
+    ///
+    /// Returns an error if the bytes don't start with a CRL.
+    ///
+    /// # Not checked
+    ///
+    /// The signature, and the times: [`Path::validate`] checks them.
     pub fn read(octets: &[u8]) -> Result<RevocationList, Fault> {
         check_library();
         let of_reading = |number| Fault::of_reading(number, octets, true);
@@ -453,12 +477,12 @@ impl RevocationList {
         })
     }
 
-    /// Returns the octets that it was read from.
+    /// Returns the bytes that it was read from.
     pub fn as_bytes(&self) -> &[u8] {
         &self.octets
     }
 
-    /// Returns the CRL number, its greatest octet first.
+    /// Returns the CRL number, the most significant byte first.
     pub fn number(&self) -> [u8; 20] {
         self.read.number
     }
@@ -483,7 +507,7 @@ impl RevocationList {
         sys::list_issuer(&self.octets).map_err(Fault::new)
     }
 
-    /// Returns the entries, in the list's order.
+    /// Returns the entries, in the CRL's order.
     pub fn entries(&self) -> Result<Vec<Entry>, Fault> {
         let entry = |it: sys::Entry| Entry {
             serial_number: it.serial,
@@ -493,13 +517,15 @@ impl RevocationList {
         Ok(entries.into_iter().map(entry).collect())
     }
 
-    /// Returns the entries that the issuer's next list may drop, since their certificates are among
-    /// these and had expired before this list was issued (RFC 5280 3.3: an entry has to stand on one
-    /// list that was issued behind that end).
+    /// Returns the entries that the issuer's next CRL may drop, because their certificates are
+    /// among these and had expired before this CRL was issued (RFC 5280 3.3: an entry has to be on
+    /// one CRL that was issued after the certificate expired).
     ///
-    /// A certificate counts if it has the name of the list's issuer as its own issuer's, and the
-    /// identifier of its key. That the issuer signed it isn't checked: give only certificates that it
-    /// issued.
+    /// A certificate counts if its issuer's name and key identifier are those of the CRL's issuer.
+    ///
+    /// # Not checked
+    ///
+    /// That the issuer signed it. Pass only certificates that it issued.
     pub fn expired<'c>(
         &self,
         certificates: impl IntoIterator<Item = &'c Certificate>,
@@ -517,15 +543,19 @@ impl RevocationList {
         Ok(entries)
     }
 
-    /// Returns whether the serial number is on the list. Whose list it is isn't checked. Each call
-    /// reads the list: [`RevocationList::contains_each`] reads it once for many serial numbers, and
+    /// Returns whether the serial number is on the CRL. Each call reads the CRL:
+    /// [`RevocationList::contains_each`] reads it once for many serial numbers, and
     /// [`RevocationList::table`] once for as many calls as you like.
+    ///
+    /// # Not checked
+    ///
+    /// Whose CRL it is.
     pub fn contains(&self, serial_number: &[u8; 20]) -> Result<bool, Fault> {
         self.contains_each(std::slice::from_ref(serial_number))
             .map(|answers| answers[0])
     }
 
-    /// Returns for each of these serial numbers whether it is on the list.
+    /// Returns for each of these serial numbers whether it is on the CRL.
     pub fn contains_each(&self, serial_numbers: &[[u8; 20]]) -> Result<Vec<bool>, Fault> {
         sys::are_revoked(&self.octets, serial_numbers).map_err(Fault::new)
     }
@@ -537,19 +567,19 @@ impl RevocationList {
     }
 }
 
-/// The serial numbers of a list, in 24 bytes each. [`RevocationList::table`] makes it.
+/// The serial numbers of a CRL, in 24 bytes each. [`RevocationList::table`] makes it.
 #[derive(Clone, Debug)]
 pub struct RevocationTable {
     rows: Vec<sys::Serial>,
 }
 
 impl RevocationTable {
-    /// Returns whether the serial number is on the list.
+    /// Returns whether the serial number is on the CRL.
     pub fn contains(&self, serial_number: &[u8; 20]) -> bool {
         sys::is_in(&self.rows, serial_number)
     }
 
-    /// Returns for each of these serial numbers whether it is on the list.
+    /// Returns for each of these serial numbers whether it is on the CRL.
     pub fn contains_each(&self, serial_numbers: &[[u8; 20]]) -> Vec<bool> {
         sys::are_in(&self.rows, serial_numbers)
     }
@@ -563,7 +593,7 @@ impl TryFrom<&[u8]> for RevocationList {
     }
 }
 
-/// Two are equal if their octets are.
+/// Compares by the bytes.
 impl PartialEq for RevocationList {
     fn eq(&self, other: &RevocationList) -> bool {
         self.octets == other.octets
@@ -584,21 +614,21 @@ impl AsRef<[u8]> for RevocationList {
     }
 }
 
-/// What is asked about revocation. It has no default, since either choice decides what is accepted.
+/// How revocation is checked. There is no default, since either choice decides what is accepted.
 #[derive(Clone, Debug, PartialEq, Eq, Hash)]
 #[non_exhaustive]
 pub enum Revocation<'a> {
     /// These revocation lists, in any order: each member below the trust anchor has to be unrevoked by
     /// the latest list of its issuer that has begun. Each stands alone: behind one nothing may stand,
-    /// since that may be another one. That a list has its issuer's name (RFC 5280 6.3.3 (b) (1)) isn't
-    /// checked; `rpki validate` checks it. `by_lists` makes it of any that are at hand.
+    /// since that may be another one. A list has to have its issuer's name (RFC 5280 6.3.3 (b) (1)),
+    /// unless names are waived. `by_lists` makes it of any that are at hand.
     ByLists(Vec<&'a [u8]>),
-    /// Nothing: a revoked member is accepted.
+    /// Not at all: a revoked certificate is accepted.
     NotAsked,
 }
 
 impl<'a> Revocation<'a> {
-    /// Asks these revocation lists, as `&[RevocationList]` or `&Vec<Vec<u8>>` has them.
+    /// Checks revocation by these CRLs, such as `&[RevocationList]` or `&Vec<Vec<u8>>`.
     pub fn by_lists<T>(lists: impl IntoIterator<Item = &'a T>) -> Revocation<'a>
     where
         T: AsRef<[u8]> + ?Sized + 'a,
@@ -614,12 +644,12 @@ impl<'a> Revocation<'a> {
     }
 }
 
-/// What is checked of the trust anchor. It has no default, since either choice decides what is
+/// What is checked of the trust anchor. There is no default, since either choice decides what is
 /// accepted.
 #[derive(Clone, Copy, Debug, PartialEq, Eq, Hash)]
 #[non_exhaustive]
 pub enum Anchor<'a> {
-    /// It has the key of this file of a trust anchor locator (TAL, RFC 8630).
+    /// It has to have the key of this TAL file (RFC 8630).
     Located(&'a [u8]),
     /// Nothing: anybody's is accepted.
     AsGiven,
@@ -634,7 +664,7 @@ impl<'a> Anchor<'a> {
     }
 }
 
-/// The octets of each, in their order.
+/// The bytes of each, in their order.
 fn slices<'a, T>(strings: impl IntoIterator<Item = &'a T>) -> Vec<&'a [u8]>
 where
     T: AsRef<[u8]> + ?Sized + 'a,
@@ -642,7 +672,7 @@ where
     strings.into_iter().map(AsRef::as_ref).collect()
 }
 
-/// A path of certificates, and what is asked of it.
+/// A path of certificates, and what is checked of it.
 ///
 /// ```no_run
 /// # use gonxebhula::{Anchor, Kind, Moment, Path, Revocation};
@@ -696,14 +726,15 @@ impl<'a> Path<'a> {
         }
     }
 
-    /// Lets names have other strings than RFC 6487 4.4 asks, and a locator's comments any octets.
+    /// Accepts string types in names that RFC 6487 4.4 doesn't allow, and any bytes in a TAL's
+    /// comments.
     pub fn lenient(mut self) -> Path<'a> {
         self.strict = false;
         self
     }
 
-    /// Doesn't ask that each issuer is the subject of the member above it (RFC 6487 7.2), and that a
-    /// list has its issuer's name (RFC 5280 6.3.3).
+    /// Doesn't check that each issuer is the subject of the certificate above it (RFC 6487 7.2),
+    /// and that a CRL has its issuer's name (RFC 5280 6.3.3).
     pub fn without_names(mut self) -> Path<'a> {
         self.chain_names = false;
         self
@@ -727,9 +758,17 @@ impl<'a> Path<'a> {
         }
     }
 
-    /// Validates the path, with signatures (RFC 7935), and returns what its last member holds; of a
-    /// router's certificate, what the certificate above it holds. Errs with the fault of the first
-    /// wrong certificate; last with that of names, and of a last key that the RPKI doesn't use.
+    /// Validates the path, with signatures (RFC 7935), and returns what its last certificate holds;
+    /// for a router's certificate, what the certificate above it holds (RFC 6487 7.2).
+    ///
+    /// # Errors
+    ///
+    /// Returns the error of the first wrong certificate. Names are checked after all of these, and
+    /// the last key at the end.
+    ///
+    /// # Not checked
+    ///
+    /// Manifests.
     pub fn validate(&self, now: Moment) -> Result<Holdings, Fault> {
         check_library();
         let question = sys::Question {
@@ -749,11 +788,6 @@ impl<'a> Path<'a> {
         if let Some(why) = self.why_no_path() {
             return Err(Fault::bad_call(why));
         }
-        let held = sys::judge(&question).map_err(of_path)?;
-        Ok(Holdings {
-            ipv4: ipv4(held.v4),
-            ipv6: ipv6(held.v6),
-            as_numbers: as_numbers(held.asn),
-        })
+        sys::judge(&question).map(Holdings::of).map_err(of_path)
     }
 }

@@ -1,4 +1,4 @@
-//! Moments of UTC.
+//! Times of UTC.
 use crate::sys;
 use std::fmt;
 use std::time::{Duration, SystemTime, UNIX_EPOCH};
@@ -50,7 +50,7 @@ impl Moment {
     }
 
     /// Returns the time so many seconds after 1970-01-01T00:00:00Z, without leap seconds; `None`
-    /// behind the year 9999.
+    /// after the year 9999.
     pub fn from_timestamp(seconds: u64) -> Option<Moment> {
         (seconds <= LAST).then(|| Moment::of_seconds(seconds))
     }
@@ -195,7 +195,7 @@ impl From<Moment> for SystemTime {
     }
 }
 
-/// Fails before 1970 and behind the year 9999. Parts of a second are cut off.
+/// Fails before 1970 and after the year 9999. Parts of a second are cut off.
 impl TryFrom<SystemTime> for Moment {
     type Error = NoMoment;
 

@@ -155,6 +155,18 @@ struct CFolderQuestion {
     steps: usize,
     strict: u32,
     key: u32,
+    names: u32,
+}
+
+#[repr(C)]
+#[derive(Clone, Copy, Default)]
+pub struct HeldPlaces {
+    pub v4: u64,
+    pub v6: u64,
+    pub asn: u64,
+    pub v4_at: u64,
+    pub v6_at: u64,
+    pub asn_at: u64,
 }
 
 #[repr(C)]
@@ -165,6 +177,7 @@ pub struct Line {
     pub step: u64,
     pub issuer: u64,
     pub kind: u32,
+    pub held: HeldPlaces,
 }
 
 #[repr(C)]
@@ -173,6 +186,9 @@ pub struct Walk {
     pub fault: u32,
     pub ended: u32,
     pub anchor: u64,
+    pub v4: u64,
+    pub v6: u64,
+    pub asn: u64,
 }
 
 #[repr(C)]
@@ -347,7 +363,8 @@ extern "C" {
     fn rpki_folder_judge(
         question: *const CFolderQuestion,
         lines: *mut Line,
-        room: usize,
+        lines_room: usize,
+        room: *mut Room,
         out: *mut Walk,
     ) -> u32;
     fn rpki_prepare(wanted: *const CWanted, out: *mut u8, room: usize, told: *mut Issued) -> u32;
@@ -627,6 +644,23 @@ impl Held {
         self.asn.resize(asn, AsRange::default());
     }
 
+    // Makes it as long as this. Tells whether there was room for all.
+    fn fit(&mut self, v4: usize, v6: usize, asn: usize) -> bool {
+        let is_whole = v4 <= self.v4.len() && v6 <= self.v6.len() && asn <= self.asn.len();
+        self.resize(v4, v6, asn);
+        is_whole
+    }
+
+    /// The ranges of a line.
+    pub fn of(&self, it: &HeldPlaces) -> Held {
+        let part = |at: u64, count: u64| at as usize..(at + count) as usize;
+        Held {
+            v4: self.v4[part(it.v4_at, it.v4)].to_vec(),
+            v6: self.v6[part(it.v6_at, it.v6)].to_vec(),
+            asn: self.asn[part(it.asn_at, it.asn)].to_vec(),
+        }
+    }
+
     fn room(&mut self) -> Room {
         Room {
             v4: self.v4.as_mut_ptr(),
@@ -651,11 +685,7 @@ pub fn judge(question: &Question<'_>) -> Result<Held, (u32, usize)> {
         // SAFETY: `asked` points into `question` and `strings`, and the room is that of `held`
         let fault = unsafe { rpki_path_validate(&asked, &mut held.room(), &mut out) };
         answered(fault, ()).map_err(|fault| (fault, out.index as usize))?;
-        let counts = (out.v4 as usize, out.v6 as usize, out.asn as usize);
-        let is_whole =
-            counts.0 <= held.v4.len() && counts.1 <= held.v6.len() && counts.2 <= held.asn.len();
-        held.resize(counts.0, counts.1, counts.2);
-        if is_whole {
+        if held.fit(out.v4 as usize, out.v6 as usize, out.asn as usize) {
             return Ok(held);
         }
     }
@@ -670,10 +700,14 @@ pub struct FolderQuestion<'a> {
     pub steps: usize,
     pub strict: bool,
     pub any_key: bool,
+    pub any_names: bool,
 }
 
-/// How the walk over a folder ended, and a line for each string; or a fault and its place.
-pub fn judge_folder(question: &FolderQuestion<'_>) -> Result<(Walk, Vec<Line>), (u32, usize)> {
+/// How the walk over a folder ended, a line for each string, and the ranges that are held; or a fault
+/// and its place. A second call has room for more than some eight ranges of a kind a string.
+pub fn judge_folder(
+    question: &FolderQuestion<'_>,
+) -> Result<(Walk, Vec<Line>, Held), (u32, usize)> {
     let strings = Strings::of(question.strings);
     let asked = CFolderQuestion {
         size: size_of::<CFolderQuestion>(),
@@ -685,13 +719,22 @@ pub fn judge_folder(question: &FolderQuestion<'_>) -> Result<(Walk, Vec<Line>), 
         steps: question.steps,
         strict: question.strict.into(),
         key: question.any_key.into(),
+        names: question.any_names.into(),
     };
     let mut lines = vec![Line::default(); question.strings.len()];
-    let mut out = Walk::default();
-    // SAFETY: each pointer is that of a value, or of a slice with the length beside it
-    let fault = unsafe { rpki_folder_judge(&asked, lines.as_mut_ptr(), lines.len(), &mut out) };
-    answered(fault, ()).map_err(|fault| (fault, out.anchor as usize))?;
-    Ok((out, lines))
+    let mut held = Held::default();
+    let usual = 8 * lines.len() + 64;
+    held.resize(usual, usual, usual);
+    loop {
+        let mut out = Walk::default();
+        let (put, room) = (lines.as_mut_ptr(), lines.len());
+        // SAFETY: each pointer is that of a value, or of a slice with the length beside it
+        let fault = unsafe { rpki_folder_judge(&asked, put, room, &mut held.room(), &mut out) };
+        answered(fault, ()).map_err(|fault| (fault, out.anchor as usize))?;
+        if held.fit(out.v4 as usize, out.v6 as usize, out.asn as usize) {
+            return Ok((out, lines, held));
+        }
+    }
 }
 
 fn octets_of(octets: &[u8]) -> COctets {

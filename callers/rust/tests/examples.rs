@@ -263,7 +263,16 @@ fn folders_are_judged() {
     ];
     let it = judged(&names, |folder| folder);
     assert!(it.is_whole && it.anchor == 2);
-    let accepted = |step, issuer, kind| Line::Accepted { step, issuer, kind };
+    let accepted = |step, issuer, kind, path: &[&str]| {
+        let members: Vec<_> = path.iter().map(|name| octets(name)).collect();
+        let path = Path::new(&members, kind, Revocation::NotAsked, Anchor::AsGiven);
+        Line::Accepted {
+            step,
+            issuer,
+            kind,
+            held: path.validate(at(NOON)).unwrap(),
+        }
+    };
     let ca = Kind::Authority;
     let fault = match it.lines[4].clone() {
         Line::Rejected {
@@ -277,9 +286,10 @@ fn folders_are_judged() {
         (fault.name().as_str(), fault.place()),
         ("BadSignature", None)
     );
+    let path = ["anchor.cer", "first.cer", "second.cer", "object.cer"];
     let lines = [
         Line::List,
-        accepted(2, 7, ca),
+        accepted(2, 7, ca, &path[..3]),
         Line::Anchor,
         Line::List,
         Line::Rejected {
@@ -287,9 +297,9 @@ fn folders_are_judged() {
             fault,
             kind: ca,
         },
-        accepted(3, 1, Kind::EndEntity),
+        accepted(3, 1, Kind::EndEntity, &path),
         Line::Neither,
-        accepted(1, 2, ca),
+        accepted(1, 2, ca, &path[..2]),
         Line::List,
     ];
     assert_eq!(it.lines, lines);
@@ -300,6 +310,33 @@ fn folders_are_judged() {
     assert!(!short.is_whole && valid(&short) == 2);
     let without = judged(&["anchor.cer", "first.cer"], |folder| folder.lenient());
     assert!(without.is_whole && !without.lines[1].is_valid());
+}
+
+/// The names of tests/files/named, of which make.py there says.
+#[test]
+fn names_of_folders_are_asked() {
+    let folder = concat!(env!("CARGO_MANIFEST_DIR"), "/../../tests/files/named");
+    let read = |name: &str| std::fs::read(format!("{folder}/{name}")).unwrap();
+    let june = at([2025, 6, 1, 0, 0, 0]);
+    let locator = read("ta.tal");
+    let mut files = ["ta.cer", "ta.crl", "ca.cer", "ca_other_case.cer"].map(read);
+    let valid = |it: Judged| it.lines.iter().map(Line::is_valid).collect::<Vec<_>>();
+    let asked = Folder::new(&files, &locator).judge(june).unwrap();
+    assert_eq!(asked.lines[3], Line::Unseen);
+    assert_eq!(valid(asked), [true, false, true, false]);
+    let waived = Folder::new(&files, &locator).without_names();
+    assert_eq!(
+        valid(waived.judge(june).unwrap()),
+        [true, false, true, true]
+    );
+    files[0] = read("ta_of_two_names.cer");
+    let waived = Folder::new(&files, &locator).without_names();
+    assert!(waived.judge(june).unwrap().lines[0].is_valid());
+    let fault = Folder::new(&files, &locator).judge(june).unwrap_err();
+    assert_eq!(
+        (fault.name().as_str(), fault.place()),
+        ("OtherName", Some(Place::Member(0)))
+    );
 }
 
 #[test]

@@ -16,13 +16,13 @@ use Rattle.rpki_der.proofs.Lists.{heads}
 use Rattle.rpki_der.proofs.Places.{cut}
 use Rattle.rpki_der.proofs.Values.{one_enc}
 use Rattle.rpki_parts.specs.Algorithms.{Algorithm, IsSignatureAlgorithm, algorithm_format}
-use Rattle.rpki_parts.specs.Keys.{IsPublicKey, KeyFields, key_algorithm_format, public_key_format, whole_bits_format}
+use Rattle.rpki_parts.specs.Keys.{IsPublicKey, KeyFields, public_key_format, whole_bits_format}
 use Rattle.rpki_parts.specs.Names.{name_format, rdn_sequence_format}
 use Rattle.rpki_parts.specs.Validities.{validity_format}
 use Rattle.rpki_parts.proofs.PartFormats.{whole_bits_are}
 use Rattle.rpki_parts.proofs.SignedFormats.{SignedParts, signed_parts}
 use Rattle.rpki_cert.specs.Certificates.{CertFields, IsCertificate, TbsFields, certificate_content_format, tbs_content_format, tbs_format, version_format}
-use Rattle.rpki_c.specs.CertificateSpans.{AreSignedSpans, AreTagged, BitsStoodAt, GoesBehind, HasBits, HasTag, IsAtFields, IsAtKey, IsInside, IsKeyBits, IsKeySpan, IsSpan, StandsNoBits, StandsNone, StoodAt}
+use Rattle.rpki_c.specs.CertificateSpans.{AreSignedSpans, AreTagged, BitsStoodAt, GoesBehind, HasBits, HasTag, IsAtFields, IsAtKey, IsInside, IsKeySpan, IsSpan, StandsNoBits, StandsNone, StoodAt}
 use Rattle.rpki_folder.specs.Folders.{BeginsNoCertificate}
 
 -- ---- answers, and cursors that go on
@@ -269,29 +269,18 @@ module _ (octets : List ℕ) (at : Place) (fields : IsAtFields octets at) where
         (k.behind, record { text = k.info; encoded = k.info_is; parts = behind k.before (k.info ++ k.behind) k.before_are k.parts });
   }
 
--- a key is a SEQUENCE of an algorithm and its bits
-record KeyParts (k : KeyFields) (info : List ℕ) : Type 0 where
-  content : List ℕ
-  info_is : IsEnc SEQUENCE content info
-  has : HasBits k.bits content
-
-key_parts : (k : KeyFields) (info : List ℕ) → IsPublicKey k info → KeyParts k info
-unfolding public_key_format key_algorithm_format
-key_parts k info (content, (a, b, a_is, b_is, parts), is) = record { content = content; info_is = is; has = (a, b, (a_is.0, a_is.2), b_is, parts) }
+-- a key is a SEQUENCE
+key_tagged : (k : KeyFields) (info : List ℕ) → IsPublicKey k info → HasTag SEQUENCE info
+unfolding public_key_format
+key_tagged k info (content, parts, is) = (content, is)
 
 module _ (octets : List ℕ) (at : Place) (is : IsAtKey octets at) where
-  parts_at : (c : CertFields) (means : Means IsCertificate c octets) → KeyParts c.fields.key (is.key c means).1.text
-  parts_at c means = key_parts c.fields.key (is.key c means).1.text (is.key c means).1.encoded
-
   tagged_at : (c : CertFields) (means : Means IsCertificate c octets) → HasTag SEQUENCE (is.key c means).1.text
-  tagged_at c means = let k = parts_at c means in (k.content, k.info_is)
+  tagged_at c means = key_tagged c.fields.key (is.key c means).1.text (is.key c means).1.encoded
 
   -- it isn't there
   pub no_key : StandsNone (HasTag SEQUENCE) at → BeginsNoCertificate octets
   no_key none = λ c means. let k = is.key c means in none k.1.text k.0 (tagged_at c means) k.1.parts
-
-  pub no_info : ((inner after : List ℕ) → Begins (IsEnc SEQUENCE) (remaining at) inner after → ⊥) → BeginsNoCertificate octets
-  no_info none = no_key (no_value SEQUENCE at none)
 
   -- its span
   pub key_stood : (r : Result (ℕ × ℕ) DecodeError) → IfOk r (IsSpan at.source) → IfOk r (StoodAt (HasTag SEQUENCE) at) → IfOk r (IsKeySpan octets)
@@ -303,28 +292,6 @@ module _ (octets : List ℕ) (at : Place) (is : IsAtKey octets at) where
         subst (λ (info : List ℕ). IsPublicKey c.fields.key info) (sym there) k.1.encoded;
   }
   key_stood (Err e) is_span stood = tt
-
-  module _ (info after : Place) (read : Begins (IsEnc SEQUENCE) (remaining at) (remaining info) (remaining after)) where
-    -- its bits stand in it
-    bits_in : (c : CertFields) → Means IsCertificate c octets → HasBits c.fields.key.bits (remaining info)
-    bits_in c means =
-        let k = is.key c means in
-        let p = parts_at c means in
-        let same = same_value SEQUENCE p.content k.1.text k.0 (remaining at) (remaining info) (remaining after) p.info_is k.1.parts read in
-        subst (λ (content : List ℕ). HasBits c.fields.key.bits content) (sym same.0) p.has
-
-    pub no_bits : StandsNoBits info → BeginsNoCertificate octets
-    no_bits none = λ c means. none c.fields.key.bits (bits_in c means)
-
-    -- their span
-    pub bits_stood : (r : Result (ℕ × ℕ) DecodeError) → IsWithin info at → IfOk r (IsSpan info.source) → IfOk r (BitsStoodAt info) → IfOk r (IsKeyBits octets)
-    bits_stood (Ok span) within is_span stood =
-        let source : info.source ≡ octets = within.source ∙ is.source in
-        record {
-          is_span = subst (λ (s : List ℕ). IsSpan s span) source is_span;
-          bits = λ c means. subst (λ (s : List ℕ). slice_range s span.0 span.1 ≡ c.fields.key.bits) source (stood c.fields.key.bits (bits_in c means));
-        }
-    bits_stood (Err e) within is_span stood = tt
 
 -- ---- bits behind an algorithm
 

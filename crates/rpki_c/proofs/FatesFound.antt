@@ -1,6 +1,6 @@
 -- From the lines that a walk kept to what becomes of the strings.
 use Rattle.std.specs.List.{AllByRecursion, AllZip}
-use Rattle.std.specs.Prelude.{Bool, false, Any, Result, Ok, Err, IsOk, IfOk, IfErr, if◌then◌else◌}
+use Rattle.std.specs.Prelude.{Bool, true, Any, Option, None, Some, Result, Ok, Err, IsOk, IfOk, IfErr, IsTrue, if◌then◌else◌}
 use Rattle.std.proofs.Common.{◌≡◌, ◌+◌, ◌<◌, ℕ, List, [], ◌∷◌, ◌++◌, length, get_or, map, refl, sym, ap, subst, ◌∙◌, inl, inr, arith}
 use Rattle.std.proofs.lemmas.Bool.{cases_lt, cases_eq, eq-eqb, ne_eqb}
 use Rattle.std.proofs.lemmas.List.{append-nil, length-map, map-append, get_or_past}
@@ -13,10 +13,14 @@ use Rattle.rpki_cert.specs.Verification.{Context, ResourceFields}
 use Rattle.rpki_cert.specs.declared.inspect.Kind.{Kind}
 use Rattle.rpki_cert.specs.declared.inspect.Kind.TheVariants.{Anchor, Authority, EndEntity, Detached, Router}
 use Rattle.rpki_path.specs.Asking.{RevocationChecks}
-use Rattle.rpki_path.specs.AskedLists.{by_lists}
+use Rattle.rpki_crl.specs.Lists.{CrlState}
+use Rattle.rpki_path.specs.AskedLists.{by_named_lists}
+use Rattle.rpki_path.specs.Judging.{IsRouterIfAny}
 use Rattle.rpki_keys.specs.Locators.{NamedTal, TalFields}
 use Rattle.rpki_path.specs.LocatedPaths.{BeginsWithKey, BeginsWithOtherKey}
-use Rattle.rpki_path.specs.Paths.{Candidate, candidate, Member, IsMember, Finds, IsFault, trust_anchor_demand}
+use Rattle.rpki_path.specs.NameChains.{BeginChained, IsSelfNamed}
+use Rattle.rpki_path.specs.Paths.{Path, IsPathOf, Candidate, candidate, Member, member, longer, IsMember, Finds, IsFault, trust_anchor_demand}
+use Rattle.rpki_path.proofs.LongerPaths.{zip_more}
 use Rattle.rpki_path.specs.declared.judging.Judged.{Judged}
 use Rattle.rpki_path.specs.declared.located.LocatedError.TheVariants.{OtherKey, NoResources, Path as path}
 use Rattle.rpki_path.specs.declared.path_fault.PathError.{PathError}
@@ -24,7 +28,7 @@ use Rattle.rpki_path.specs.declared.path_fault.PathFault.{PathFault}
 use Rattle.rpki_folder.specs.Folders.{octets_at, cas_at, NamesSigner}
 use Rattle.rpki_folder.specs.KeptLines.{step, IsRejectedWithin, IsLine}
 use Rattle.rpki_cert.specs.SaidKinds.{BeginsWithKind}
-use Rattle.rpki_folder.specs.Walks.{Root, at_anchor, members_at, LeadsTo, IsAcceptedAs, IsReached, IsRightOf, IsRight, Told, IsTold, told, Covers, AreAdmitted, StandsAt, IsLookedAt, IsWhyNone}
+use Rattle.rpki_folder.specs.Walks.{Root, at_anchor, members_at, LeadsTo, IsAcceptedAs, IsReached, IsRightOf, IsRight, IsLetIn, Told, IsTold, told, Covers, AreAdmitted, StandsAt, IsLookedAt, IsWhyNone}
 use Rattle.rpki_folder.specs.declared.bounds.Ended.{Ended}
 use Rattle.rpki_folder.specs.declared.bounds.Ended.TheVariants.{TooDeep, OutOfSteps}
 use Rattle.rpki_folder.specs.declared.folder.Added.{Added}
@@ -35,9 +39,9 @@ use Rattle.rpki_folder.specs.declared.walk_error.WalkError.{WalkError}
 use Rattle.rpki_folder.specs.declared.walk_error.WalkError.TheVariants.{Anchor as at_fault, OtherName, Memory}
 use Rattle.rpki_folder.proofs.AnchorSteps.{anchor_is}
 use Rattle.rpki_folder.proofs.Descent.{no_certificate}
-use Rattle.rpki_folder.proofs.KeptLineSteps.{told_so}
 use Rattle.rpki_folder.proofs.Renamed.{all_looked_there}
-use Rattle.rpki_c.specs.FolderFates.{Fate, anchor, IsFirstWithKey, IsFate, IsValidFate, AreVerified, StandsBelow, AreFates, AreJudged}
+use Rattle.rpki_folder.proofs.WalkedNames.{walked_chain}
+use Rattle.rpki_c.specs.FolderFates.{Fate, anchor, AreListsAmong, IsFirstWithKey, IsFate, IsJudgedAt, IsValidFate, AreVerified, StandsBelow, AreFates, AreJudged}
 use Rattle.rpki_c.specs.FolderFates.Steps.{IsAddedAs, IsSorted, origin_of, kept_fate, added_fate, fate_at, IsWalked, refusal_of}
 use Rattle.rpki_c.specs.FolderQuestions.{asked_or, usual_steps}
 use Rattle.rpki_c.specs.FolderTelling.{AreLinesOf, AnswersBelow}
@@ -80,6 +84,11 @@ all_weaker : {X : Type 0} (P Q : X → Type 0) → ((x : X) → P x → Q x) →
 all_weaker P Q f [] h = tt
 all_weaker P Q f (x ∷ xs) h = (f x h.0, all_weaker P Q f xs h.1)
 
+all_both : {X : Type 0} (P Q : X → Type 0) (xs : List X) → AllByRecursion P xs → AllByRecursion Q xs
+    → AllByRecursion (λ x. P x × Q x) xs
+all_both P Q [] h k = tt
+all_both P Q (x ∷ xs) h k = ((h.0, k.0), all_both P Q xs h.1 k.1)
+
 all_admitted : (above places : List ℕ) → AreAdmitted (λ l q. Unit {0}) above places
 all_admitted above [] = tt
 all_admitted above (q ∷ places) = (tt, all_admitted (above ++ q ∷ []) places)
@@ -105,6 +114,25 @@ module _ (x : Context) (asked : RevocationChecks) (t : NamedTal) (top_octets : L
   accepted_begins certs places Router octets j says h =
       leads_begins certs places [] j.holder (subst (λ (l : List Candidate). LeadsTo x asked root l j.holder) (sym (append-nil (cas_at certs places))) h.0)
 
+  -- the path to a certificate that is accepted
+  router_path : (cas : List Candidate) (octets : List ℕ) (holder : ResourceFields) (router : Option CertFields)
+      → LeadsTo x asked root cas holder → IsRouterIfAny x asked holder (Some octets) router
+      → (p : Path) × IsPathOf top_octets (cas ++ candidate Router octets ∷ []) p
+  router_path cas octets holder None leads is = absurd is
+  router_path cas octets holder (Some c) leads is =
+      let end : IsMember (member Router c) (candidate Router octets) = record { kind_is = refl; begins = is.0 } in
+      let ms = leads.path.below in
+      let all = zip_more IsMember ms cas (member Router c) (candidate Router octets) leads.path_of.members end in
+      (longer leads.path (member Router c), record { anchor_begins = leads.path_of.anchor_begins; members = all })
+
+  path_to : (cas : List Candidate) (kind : Kind) (octets : List ℕ) (j : Judged) → BeginsWithKind kind octets
+      → IsAcceptedAs x asked root cas kind octets j → (p : Path) × IsPathOf top_octets (cas ++ candidate kind octets ∷ []) p
+  path_to cas Anchor octets j says h = absurd says.2
+  path_to cas Authority octets j says h = (h.0.path, h.0.path_of)
+  path_to cas EndEntity octets j says h = (h.0.path, h.0.path_of)
+  path_to cas Detached octets j says h = (h.0.path, h.0.path_of)
+  path_to cas Router octets j says h = router_path cas octets j.holder j.router h.0 h.1
+
   -- what is reached at one place is reached at another, below the same CAs
   reached_there : (certs others : List (List ℕ)) (above places : List ℕ) (p q : ℕ) → cas_at others places ≡ cas_at certs above → octets_at others q ≡ octets_at certs p → IsReached x asked root certs above p → IsReached x asked root others places q
   reached_there certs others above places p q cas octets h = (
@@ -117,7 +145,7 @@ module _ (x : Context) (asked : RevocationChecks) (t : NamedTal) (top_octets : L
 
   -- ---- from the folder to the strings
 
-  module _ (s : Sorted) (sorted : IsSorted s) (top depth steps : ℕ) (kept : List Line) (count : length kept ≡ length s.folder.certs) (ended : Ended) (w : IsWalked x asked false root s.folder.certs depth steps kept ended) (law : IsUnambiguous IsCertificate) where
+  module _ (names : Bool) (s : Sorted) (sorted : IsSorted s) (top depth steps : ℕ) (kept : List Line) (count : length kept ≡ length s.folder.certs) (ended : Ended) (w : IsWalked x asked names root s.folder.certs depth steps kept ended) (law : IsUnambiguous IsCertificate) where
     abbrev strings : List (List ℕ)
     strings = s.strings.now
 
@@ -137,17 +165,63 @@ module _ (x : Context) (asked : RevocationChecks) (t : NamedTal) (top_octets : L
     origin_cas : (above : List ℕ) → cas_at strings (map (origin_of s) above) ≡ cas_at certs above
     origin_cas above = same_cas certs strings (origin_of s) above (all_of (λ q. octets_at strings (origin_of s q) ≡ octets_at certs q) origin_same above)
 
-    right_ok : (l : List ℕ) (q : ℕ) (verdict : Result Judged PathFault) → IsRightOf x asked root (members_at root certs l) (octets_at certs q) verdict → IsOk verdict → IsReached x asked root certs l q
-    right_ok l q (Ok j) is ok = (is.0, j, is.1, is.2)
-    right_ok l q (Err e) is ok = absurd cc
+    abbrev looked_at : List ℕ → ℕ → Type 0
+    looked_at = IsLookedAt names (λ l p. Unit {0}) w.holder.cert certs
 
-    -- a certificate that was told as accepted is reached
-    told_reached : (above : List ℕ) (p i : ℕ) → origin_of s p ≡ i → IsTold w.tells above p → IsReached x asked root strings (map (origin_of s) above) i
-    told_reached above p i at h =
-        let u = of_told (IsRight x asked root certs) (λ t. (t.above ≡ above) × (t.place ≡ p) × IsOk t.verdict) w.tells w.right h in
-        let reached = right_ok u.0.above u.0.place u.0.verdict u.1 u.2.2 in
-        reached_there certs strings above (map (origin_of s) above) p i (origin_cas above) (ap (λ (n : ℕ). octets_at strings n) (sym at) ∙ origin_same p)
-        (subst (λ (l : List ℕ). IsReached x asked root certs l p) u.2.0 (subst (λ (n : ℕ). IsReached x asked root certs u.0.above n) u.2.1 reached))
+    -- a path of which each certificate was looked at chains, if names are asked
+    walked_names : (above : List ℕ) (p : ℕ) (kind : Kind) (way : Path)
+        → IsPathOf top_octets (cas_at certs above ++ candidate kind (octets_at certs p) ∷ []) way
+        → AreAdmitted looked_at [] (above ++ p ∷ []) → IsTrue names
+        → BeginChained top_octets (cas_at certs above ++ candidate kind (octets_at certs p) ∷ [])
+    walked_names above p kind way way_of by asks =
+        let is = anchor_is x asked t top_octets w.holder w.holds law way.anchor way_of.anchor_begins in
+        let here : AreAdmitted (IsLookedAt true (λ l p. Unit {0}) way.anchor certs) [] (above ++ p ∷ []) =
+        subst (λ (b : Bool). AreAdmitted (IsLookedAt b (λ l p. Unit {0}) way.anchor certs) [] (above ++ p ∷ [])) asks
+        (subst (λ (c : CertFields). AreAdmitted (IsLookedAt names (λ l p. Unit {0}) c certs) [] (above ++ p ∷ [])) is by) in
+        record {
+          path = way;
+          path_of = way_of;
+          chain = walked_chain (λ l p. Unit {0}) top_octets certs above p kind way way_of
+              (subst (λ (c : CertFields). IsSelfNamed c) is (w.named asks)) here;
+        }
+
+    -- a certificate that was told as accepted is judged so
+    module _ (above : List ℕ) (p i : ℕ) (at : origin_of s p ≡ i) where
+      octets_here : octets_at certs p ≡ octets_at strings i
+      octets_here = sym (ap (λ (n : ℕ). octets_at strings n) (sym at) ∙ origin_same p)
+
+      judged_there : (j : Judged) → IsRightOf x asked root (cas_at certs above) (octets_at certs p) (Ok j)
+          → AreAdmitted looked_at [] (above ++ p ∷ [])
+          → IsJudgedAt x asked names root strings (map (origin_of s) above) i j
+      judged_there j right by =
+          let kind = right.0 in
+          let way = path_to (cas_at certs above) kind (octets_at certs p) j right.1 right.2 in
+          let cas = sym (origin_cas above) in
+          record {
+            kind = kind;
+            says = subst (λ (o : List ℕ). BeginsWithKind kind o) octets_here right.1;
+            accepted_is = subst (λ (l : List Candidate). IsAcceptedAs x asked root l kind (octets_at strings i) j) cas
+                (subst (λ (o : List ℕ). IsAcceptedAs x asked root (cas_at certs above) kind o j) octets_here right.2);
+            chained = λ asks.
+                subst (λ (l : List Candidate). BeginChained top_octets (l ++ candidate kind (octets_at strings i) ∷ [])) cas
+                (subst (λ (o : List ℕ). BeginChained top_octets (cas_at certs above ++ candidate kind o ∷ [])) octets_here
+                (walked_names above p kind way.0 way.1 by asks));
+          }
+
+      told_judged : (j : Judged) → Any (λ t. (t.above ≡ above) × (t.place ≡ p) × (t.verdict ≡ Ok j)) w.tells
+          → IsJudgedAt x asked names root strings (map (origin_of s) above) i j
+      told_judged j h =
+          let u = of_told (λ (t : Told). IsRight x asked root certs t × IsLetIn looked_at [] t)
+          (λ t. (t.above ≡ above) × (t.place ≡ p) × (t.verdict ≡ Ok j)) w.tells
+          (all_both (IsRight x asked root certs) (IsLetIn looked_at []) w.tells w.right w.let_in) h in
+          let right : IsRightOf x asked root (cas_at certs above) (octets_at certs p) (Ok j) =
+          subst (λ (v : Result Judged PathFault). IsRightOf x asked root (cas_at certs above) (octets_at certs p) v) u.2.2
+          (subst (λ (q : ℕ). IsRightOf x asked root (cas_at certs above) (octets_at certs q) u.0.verdict) u.2.1
+          (subst (λ (l : List ℕ). IsRightOf x asked root (cas_at certs l) (octets_at certs u.0.place) u.0.verdict) u.2.0 u.1.0)) in
+          let by : AreAdmitted looked_at [] (above ++ p ∷ []) =
+          subst (λ (q : ℕ). AreAdmitted looked_at [] (above ++ q ∷ [])) u.2.1
+          (subst (λ (l : List ℕ). AreAdmitted looked_at [] (l ++ u.0.place ∷ [])) (sym u.1.1.1 ∙ u.2.0) u.1.1.2) in
+          judged_there j right by
 
     -- a certificate that was told as rejected is rejected
     told_rejected : (p i n : ℕ) (fault : PathFault) → origin_of s p ≡ i → Any (λ t. (t.place ≡ p) × (step t ≡ n) × (t.verdict ≡ Err fault)) w.tells
@@ -199,12 +273,12 @@ module _ (x : Context) (asked : RevocationChecks) (t : NamedTal) (top_octets : L
         )
 
     -- what is kept of a certificate is right
-    kept_right : (p i : ℕ) → origin_of s p ≡ i → BeginsCertificate (octets_at strings i) → (l : Line) → IsLine w.tells p l → IsFate x asked root strings top i (kept_fate (origin_of s) l)
+    kept_right : (p i : ℕ) → origin_of s p ≡ i → BeginsCertificate (octets_at strings i) → (l : Line) → IsLine w.tells p l → IsFate x asked names root strings top i (kept_fate (origin_of s) l)
     kept_right p i at begins Unseen h = begins
-    kept_right p i at begins (Accepted found) h = told_reached found.above.items p i at (told_so w.tells p found h)
+    kept_right p i at begins (Accepted found) h = told_judged found.above.items p i at found.judged h
     kept_right p i at begins (Rejected n fault) h = told_rejected p i n fault at h.0
 
-    added_right : (i : ℕ) → i < length strings → (a : Added) → get_or s.added.items i Neither ≡ a → IsAddedAs (octets_at strings i) a → IsFate x asked root strings top i (added_fate (origin_of s) kept a)
+    added_right : (i : ℕ) → i < length strings → (a : Added) → get_or s.added.items i Neither ≡ a → IsAddedAs (octets_at strings i) a → IsFate x asked names root strings top i (added_fate (origin_of s) kept a)
     added_right i low (Certificate p) is says =
         let at = sorted.placed i p Neither low is in
         kept_right p i (at.1 (length s.added.items)) says (get_or kept p Unseen) (w.lines_are p Unseen (subst (λ (n : ℕ). p < n) (sym count) at.0))
@@ -260,13 +334,13 @@ module _ (x : Context) (asked : RevocationChecks) (t : NamedTal) (top_octets : L
     stood q c stands = stood_added q (get_or s.added.items q Neither) refl c stands
 
     abbrev looked : CertFields → List (List ℕ) → List ℕ → List ℕ → Type 0
-    looked c all above places = AreAdmitted (IsLookedAt false (λ l p. Unit {0}) c all) above places
+    looked c all above places = AreAdmitted (IsLookedAt names (λ l p. Unit {0}) c all) above places
 
     looked_in : (c : CertFields) (above : List ℕ) (i : ℕ) → Means IsCertificate c top_octets → looked c strings [] (above ++ i ∷ []) → looked w.holder.cert certs [] (map moved above ++ moved i ∷ [])
     looked_in c above i begins h =
         let is = anchor_is x asked t top_octets w.holder w.holds law c begins in
         subst (λ (d : CertFields). looked d certs [] (map moved above ++ moved i ∷ [])) (sym is)
-        (subst (λ (l : List ℕ). looked c certs [] l) (map-append moved above (i ∷ [])) (all_looked_there moved strings certs stood false c [] (above ++ i ∷ []) h))
+        (subst (λ (l : List ℕ). looked c certs [] l) (map-append moved above (i ∷ [])) (all_looked_there moved strings certs stood names c [] (above ++ i ∷ []) h))
 
     valid_added : (i : ℕ) (a : Added) → i < length strings → get_or s.added.items i Neither ≡ a → IsAddedAs (octets_at strings i) a → BeginsCertificate (octets_at strings i) → (above : List ℕ) → IsTold w.tells above (place_in a) → IsValidFate (added_fate (origin_of s) kept a)
     valid_added i (Certificate p) low is says begins above told =
@@ -291,12 +365,12 @@ module _ (x : Context) (asked : RevocationChecks) (t : NamedTal) (top_octets : L
     beside_top : (i : ℕ) → (i ≡ top → ⊥) → fate_at s kept top i ≡ added_fate (origin_of s) kept (get_or s.added.items i Neither)
     beside_top i apart = ap (λ (b : Bool). if b then anchor else added_fate (origin_of s) kept (get_or s.added.items i Neither)) (ne_eqb i top apart)
 
-    pub fates_found : AreFates x asked root strings top depth steps ended (fate_at s kept top)
+    pub fates_found : AreFates x asked names root strings top depth steps ended (fate_at s kept top)
     fates_found = record {
       anchor_is = at_top top refl;
       right = λ i low. elim (cases_eq i top) [
-        | inl is ↦ subst (λ (f : Fate). IsFate x asked root strings top i f) (sym (at_top i is)) is
-        | inr apart ↦ subst (λ (f : Fate). IsFate x asked root strings top i f) (sym (beside_top i apart)) (added_right i low (get_or s.added.items i Neither) refl (sorted.begins i Neither low))
+        | inl is ↦ subst (λ (f : Fate). IsFate x asked names root strings top i f) (sym (at_top i is)) is
+        | inr apart ↦ subst (λ (f : Fate). IsFate x asked names root strings top i f) (sym (beside_top i apart)) (added_right i low (get_or s.added.items i Neither) refl (sorted.begins i Neither low))
       ];
       complete = λ c above i low starts covers by h. elim (cases_eq i top) [
         | inl is ↦ subst (λ (f : Fate). IsValidFate f) (sym (at_top i is)) tt
@@ -307,10 +381,10 @@ module _ (x : Context) (asked : RevocationChecks) (t : NamedTal) (top_octets : L
     }
 
 -- what becomes of sorted strings, where the lists among them are asked
-pub judged_found : (x : Context) (t : NamedTal) (s : Sorted) (sorted : IsSorted s) (top depth steps : ℕ) (kept : List Line) (count : length kept ≡ length s.folder.certs) (ended : Ended) → IsUnambiguous IsCertificate
-    → IsFirstWithKey t.tal s.strings.now top → IsWalked x (by_lists x s.folder.lists) false (at_anchor t (octets_at s.strings.now top)) s.folder.certs depth (asked_or steps (usual_steps (length s.folder.certs))) kept ended
-    → AreJudged x t s.strings.now top depth steps ended (fate_at s kept top)
-judged_found x t s sorted top depth steps kept count ended law first w = record {
+pub judged_found : (x : Context) (names : Bool) (t : NamedTal) (s : Sorted) (sorted : IsSorted s) (top depth steps : ℕ) (kept : List Line) (count : length kept ≡ length s.folder.certs) (ended : Ended) → IsUnambiguous IsCertificate
+    → IsFirstWithKey t.tal s.strings.now top → IsWalked x (by_named_lists names x s.folder.lists) names (at_anchor t (octets_at s.strings.now top)) s.folder.certs depth (asked_or steps (usual_steps (length s.folder.certs))) kept ended
+    → AreJudged x names t s.strings.now top depth steps ended (fate_at s kept top)
+judged_found x names t s sorted top depth steps kept count ended law first w = record {
   top_is = first;
   lists = s.folder.lists;
   lists_are = sorted.lists_are;
@@ -318,7 +392,7 @@ judged_found x t s sorted top depth steps kept count ended law first w = record 
   holds = w.holds;
   certs = s.folder.certs;
   certs_are = sorted.certs_are;
-  fates = fates_found x (by_lists x s.folder.lists) t (octets_at s.strings.now top) s sorted top depth (asked_or steps (usual_steps (length s.folder.certs))) kept count ended w law;
+  fates = fates_found x (by_named_lists names x s.folder.lists) t (octets_at s.strings.now top) names s sorted top depth (asked_or steps (usual_steps (length s.folder.certs))) kept count ended w law;
 }
 
 -- ---- a wrong trust anchor
@@ -337,44 +411,51 @@ alone x asked octets e h = elim h [
 ]
 
 -- why a walk didn't begin
-refused_right : (x : Context) (asked : RevocationChecks) (t : NamedTal) (all : List (List ℕ)) (top : ℕ) (f : FolderTerms) → IsUnambiguous IsCertificate → IsFirstWithKey t.tal all top
-    → (e : WalkError) → IsWhyNone x asked false t (octets_at all top) e → AnswersBelow x f t all (Err (refusal_of top e))
-refused_right x asked t all top f law first Memory h = tt
-refused_right x asked t all top f law first OtherName h = absurd (cc h.0)
-refused_right x asked t all top f law first (at_fault OtherKey) h = absurd (not_both t.tal (octets_at all top) law first.has_key h.1)
-refused_right x asked t all top f law first (at_fault NoResources) h = (first, h.1.1)
-refused_right x asked t all top f law first (at_fault (path e)) h = (first, h.0, alone x asked (octets_at all top) e h.1.0)
+module _ (x : Context) (t : NamedTal) (all : List (List ℕ)) (top : ℕ) (f : FolderTerms) (lists : List CrlState) where
+  abbrev pub given : RevocationChecks
+  given = by_named_lists f.asks_names x lists
 
--- where names aren't asked, none is wrong
-pub unnamed : (x : Context) (asked : RevocationChecks) (t : NamedTal) (octets : List ℕ) (e : WalkError) → IsWhyNone x asked false t octets e → e ≡ OtherName → ⊥
-unnamed x asked t octets e why is = let h : IsWhyNone x asked false t octets OtherName = subst (λ (f : WalkError). IsWhyNone x asked false t octets f) is why in absurd (cc h.0)
+  refused_right : AreListsAmong all lists → IsUnambiguous IsCertificate → IsFirstWithKey t.tal all top
+      → (e : WalkError) → IsWhyNone x given f.asks_names t (octets_at all top) e
+      → AnswersBelow x f t all (Err (refusal_of top e))
+  refused_right among law first Memory h = tt
+  refused_right among law first OtherName h = (first, (lists, among, h))
+  refused_right among law first (at_fault OtherKey) h =
+      absurd (not_both t.tal (octets_at all top) law first.has_key h.1)
+  refused_right among law first (at_fault NoResources) h = (first, h.1.1)
+  refused_right among law first (at_fault (path e)) h =
+      (first, h.0, alone x given (octets_at all top) e h.1.0)
 
 -- ---- answers
 
 module _ (x : Context) (t : NamedTal) (s : Sorted) (top : ℕ) (f : FolderTerms) (first : IsFirstWithKey t.tal s.strings.now top) (octets : List ℕ) (there : octets ≡ octets_at s.strings.now top) where
   -- the answer of a walk that ended
   pub walk_answered : IsUnambiguous IsCertificate → (sorted : IsSorted s) (kept : List Line) (count : length kept ≡ length s.folder.certs) (ended : Ended) (within : ℕ) → within ≡ f.depth → (most : ℕ) → most ≡ asked_or f.steps (usual_steps (length s.folder.certs))
-      → IsWalked x (by_lists x s.folder.lists) false (at_anchor t octets) s.folder.certs within most kept ended
-      → (r : Result Walked Refusal) → IfOk r (λ it. AreLinesOf f.asks_key top s.strings.now (fate_at s kept top) (length s.strings.now) it.lines.items) → IfOk r (λ it. it.ended ≡ ended) → IfOk r (λ it. it.anchor ≡ top)
+      → IsWalked x (by_named_lists f.asks_names x s.folder.lists) f.asks_names (at_anchor t octets) s.folder.certs within most kept ended
+      → (r : Result Walked Refusal) → IfOk r (λ it. AreLinesOf f.asks_key top s.strings.now (fate_at s kept top) (length s.strings.now) it.told) → IfOk r (λ it. it.ended ≡ ended) → IfOk r (λ it. it.anchor ≡ top)
       → IfErr r (λ e. e ≡ refusal.Memory) → AnswersBelow x f t s.strings.now r
   walk_answered law sorted kept count ended within same most as_many w (Ok it) lines ended_is anchor_is memory =
       let fate = λ (i : ℕ). fate_at s kept top i in
       let limit = asked_or f.steps (usual_steps (length s.folder.certs)) in
-      let walked : IsWalked x (by_lists x s.folder.lists) false (at_anchor t (octets_at s.strings.now top)) s.folder.certs f.depth limit kept ended =
-      subst (λ (o : List ℕ). IsWalked x (by_lists x s.folder.lists) false (at_anchor t o) s.folder.certs f.depth limit kept ended) there
-      (subst (λ (n : ℕ). IsWalked x (by_lists x s.folder.lists) false (at_anchor t octets) s.folder.certs f.depth n kept ended) as_many
-      (subst (λ (n : ℕ). IsWalked x (by_lists x s.folder.lists) false (at_anchor t octets) s.folder.certs n most kept ended) same w)) in
+      let walked : IsWalked x (by_named_lists f.asks_names x s.folder.lists) f.asks_names (at_anchor t (octets_at s.strings.now top)) s.folder.certs f.depth limit kept ended =
+      subst (λ (o : List ℕ). IsWalked x (by_named_lists f.asks_names x s.folder.lists) f.asks_names (at_anchor t o) s.folder.certs f.depth limit kept ended) there
+      (subst (λ (n : ℕ). IsWalked x (by_named_lists f.asks_names x s.folder.lists) f.asks_names (at_anchor t octets) s.folder.certs f.depth n kept ended) as_many
+      (subst (λ (n : ℕ). IsWalked x (by_named_lists f.asks_names x s.folder.lists) f.asks_names (at_anchor t octets) s.folder.certs n most kept ended) same w)) in
       record {
         fate = fate;
-        judged = subst (λ (n : ℕ). AreJudged x t s.strings.now n f.depth f.steps it.ended fate) (sym anchor_is)
-            (subst (λ (e : Ended). AreJudged x t s.strings.now top f.depth f.steps e fate) (sym ended_is) (judged_found x t s sorted top f.depth f.steps kept count ended law first walked));
-        lines_are = subst (λ (n : ℕ). AreLinesOf f.asks_key n s.strings.now fate (length s.strings.now) it.lines.items) (sym anchor_is) lines;
+        judged = subst (λ (n : ℕ). AreJudged x f.asks_names t s.strings.now n f.depth f.steps it.ended fate) (sym anchor_is)
+            (subst (λ (e : Ended). AreJudged x f.asks_names t s.strings.now top f.depth f.steps e fate) (sym ended_is) (judged_found x f.asks_names t s sorted top f.depth f.steps kept count ended law first walked));
+        lines_are = subst (λ (n : ℕ). AreLinesOf f.asks_key n s.strings.now fate (length s.strings.now) it.told) (sym anchor_is) lines;
       }
   walk_answered law sorted kept count ended within same most as_many w (Err e) lines ended_is anchor_is memory =
       subst (λ (r : Refusal). AnswersBelow x f t s.strings.now (Err r)) (sym memory) tt
 
   -- the answer where there was none
-  pub fault_answered : (asked : RevocationChecks) → IsUnambiguous IsCertificate → (e : WalkError) → IsWhyNone x asked false t octets e → (r : Refusal) → r ≡ refusal_of top e → AnswersBelow x f t s.strings.now (Err r)
-  fault_answered asked law e why r is =
+  pub fault_answered : IsUnambiguous IsCertificate → IsSorted s → (e : WalkError)
+      → IsWhyNone x (by_named_lists f.asks_names x s.folder.lists) f.asks_names t octets e
+      → (r : Refusal) → r ≡ refusal_of top e → AnswersBelow x f t s.strings.now (Err r)
+  fault_answered law sorted e why r is =
+      let lists = s.folder.lists in
       subst (λ (q : Refusal). AnswersBelow x f t s.strings.now (Err q)) (sym is)
-      (refused_right x asked t s.strings.now top f law first e (subst (λ (o : List ℕ). IsWhyNone x asked false t o e) there why))
+      (refused_right x t s.strings.now top f lists sorted.lists_are law first e
+      (subst (λ (o : List ℕ). IsWhyNone x (by_named_lists f.asks_names x lists) f.asks_names t o e) there why))

@@ -14,3 +14,6 @@ no_folder_moment q h t terms = h (subst IsMoment terms.now_is terms.now_exists)
 
 pub no_folder_key : (q : RpkiFolderQuestion) → 1 < q.key → HasNoFolderTerms q
 no_folder_key q h t terms = omega (arith, h, terms.key_is, choice_small t.asks_key)
+
+pub no_folder_names : (q : RpkiFolderQuestion) → 1 < q.names → HasNoFolderTerms q
+no_folder_names q h t terms = omega (arith, h, terms.names_is, choice_small t.asks_names)

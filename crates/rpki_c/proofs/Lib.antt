@@ -7,15 +7,15 @@ mod EntriesPut
 mod FatesFound
 mod FaultTables
 mod FolderTermsGiven
+mod HeldLines
 mod Issuers
 mod KeysAsked
 mod ListTermsGiven
 mod ListsRead
 mod OneMore
+mod PlacesTold
 mod QuestionTerms
-mod SaidBefore
 mod Sentences
-mod SignaturesTold
 mod SortedMore
 mod TwentyOctets
 mod Unread

@@ -1,17 +1,15 @@
 -- One string more, sorted into a folder.
-use Rattle.std.specs.Prelude.{◌⊎◌, ◌↔◌, Bool, true, false, not, IsTrue}
+use Rattle.std.specs.Prelude.{◌⊎◌, ◌↔◌, Bool, false, IsTrue}
 use Rattle.std.proofs.Common.{◌≡◌, ◌+◌, ◌<◌, ◌≤◌, ℕ, List, [], ◌∷◌, ◌++◌, length, get_or, refl, sym, ap, subst, ◌∙◌, inl, inr, arith}
 use Rattle.std.proofs.Math.ListN.{get_or-append}
 use Rattle.std.proofs.Math.Nat.{eq-or-lt_of_le}
 use Rattle.std.proofs.Math.Seq.{get_or-append_seam}
-use Rattle.std.proofs.lemmas.Bool.{false≢true}
 use Rattle.std.proofs.lemmas.List.{length-append}
 use Rattle.rpki_der.specs.Values.{IsUnambiguous}
 use Rattle.rpki_der.proofs.Formats.{one_meant}
 use Rattle.rpki_ext.specs.Kinds.{Means}
 use Rattle.rpki_cert.specs.Certificates.{CertFields, IsCertificate}
 use Rattle.rpki_crl.specs.Lists.{CrlState}
-use Rattle.rpki_keys.specs.KeyForms.{IsUsableKey}
 use Rattle.rpki_keys.specs.Locators.{TalFields}
 use Rattle.rpki_path.specs.LocatedPaths.{BeginsWithKey}
 use Rattle.rpki_folder.specs.Folders.{FolderFields, with_cert, with_list, octets_at, BeginsNoCertificate}
@@ -20,7 +18,6 @@ use Rattle.rpki_folder.specs.declared.folder.Added.TheVariants.{Certificate, Lis
 use Rattle.rpki_c.specs.Verdicts.{AreNoList}
 use Rattle.rpki_c.specs.FolderFates.{IsTakenFor, IsNoList, AreListsAmong, AreCertificatesAmong}
 use Rattle.rpki_c.specs.FolderFates.Steps.{IsAddedAs, AreSorted, IsSorted}
-use Rattle.rpki_c.specs.FolderTelling.{HasWrongKey}
 use Rattle.rpki_c.specs.declared.sorting.Sorted.{Sorted}
 
 -- ---- lists
@@ -239,11 +236,3 @@ pub filed_at : (s : Sorted) → IsSorted s → (place at : ℕ) → place < leng
 filed_at s sorted place at inside is =
     let placed = sorted.placed place at Neither inside is in
     (placed.0, sym (sorted.came_from at 0 placed.0) ∙ ap (λ (n : ℕ). octets_at s.strings.now n) (placed.1 0))
-
--- where keys are asked, whether the certificate with which octets begin has a wrong one
-pub tells_wrong_key : (asks : Bool) (octets : List ℕ) (c : CertFields) (used : Bool) → asks ≡ true → IsUnambiguous IsCertificate → Means IsCertificate c octets → (IsTrue used ↔ IsUsableKey c.fields.key) → (IsTrue (not used) ↔ HasWrongKey asks octets)
-tells_wrong_key asks octets c true asked law means h = (
-  (λ no. absurd (false≢true no)),
-  (λ w. absurd (w.1.2 (subst (λ (d : CertFields). IsUsableKey d.fields.key) (one_meant IsCertificate law c w.1.0 octets means w.1.1) (h.0 refl)))),
-)
-tells_wrong_key asks octets c false asked law means h = ((λ yes. (asked, (c, means, λ usable. false≢true (h.1 usable)))), (λ w. refl))

@@ -75,12 +75,6 @@ pub record IsKeySpan (octets : List ℕ) (span : ℕ × ℕ) : Type 0 where
   pub key : (c : CertFields) → Means IsCertificate c octets
       → IsPublicKey c.fields.key (slice_range octets span.0 span.1)
 
--- the span of its bits
-pub record IsKeyBits (octets : List ℕ) (span : ℕ × ℕ) : Type 0 where
-  pub is_span : IsSpan octets span
-  pub bits : (c : CertFields) → Means IsCertificate c octets
-      → slice_range octets span.0 span.1 ≡ c.fields.key.bits
-
 -- the spans of what is signed of the certificate with which the octets begin, and of its signature
 pub record AreSignedSpans (octets : List ℕ) (message signature : ℕ × ℕ) : Type 0 where
   pub first_is_span : IsSpan octets message

@@ -14,10 +14,12 @@ use Rattle.rpki_parts.specs.Keys.{IsPublicKey}
 use Rattle.rpki_crl.specs.Lists.{ListFields}
 use Rattle.rpki_crl.specs.RevokedEntries.{Entry, IsRevoked, Revoked}
 use Rattle.rpki_c.specs.TimeParts.{moment_of_parts}
+use Rattle.rpki_c.specs.Writing.{IsPartAt}
 use Rattle.rpki_c.specs.declared.certificates.RpkiCertificate.{RpkiCertificate}
 use Rattle.rpki_c.specs.declared.lists.RpkiEntry.{RpkiEntry}
 use Rattle.rpki_c.specs.declared.lists.RpkiList.{RpkiList}
 use Rattle.rpki_c.specs.declared.moments.RpkiTime.{RpkiTime}
+use Rattle.rpki_c.specs.declared.places.RpkiPlaces.{RpkiPlaces}
 
 -- 1 where it is so, and else 0
 abbrev pub IsFlag : Type 0 → ℕ → Type 0
@@ -62,6 +64,18 @@ pub record TellsKey (octets info : List ℕ) (used : Type 0) : Type 0 where
   pub begins : Means IsCertificate cert octets
   pub key_is : IsPublicKey cert.fields.key info
   pub used_is : used ↔ IsUsableKey cert.fields.key
+
+-- at the places are the SubjectPublicKeyInfo of the certificate with which the octets begin, its
+-- TBSCertificate, which is signed, and its signature
+pub record TellsPlaces (octets : List ℕ) (it : RpkiPlaces) : Type 0 where
+  pub cert : CertFields
+  pub begins : Means IsCertificate cert octets
+  pub info : List ℕ
+  pub key_is : IsPublicKey cert.fields.key info
+  pub key : IsPartAt octets it.key_at it.key_length info
+  pub message : IsPartAt octets it.message_at it.message_length cert.signed_data.message
+  pub signature : IsPartAt octets it.signature_at it.signature_length
+      cert.signed_data.signature.value
 
 -- the keys and the serial number are those of the fields
 pub record TellsKeys (f : TbsFields) (it : RpkiCertificate) : Type 0 where

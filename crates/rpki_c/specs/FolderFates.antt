@@ -1,18 +1,23 @@
 -- What becomes of strings, which are certificates and revocation lists in any order, below the
 -- trust anchor among them that has a locator's key (own).
 use Rattle.std.specs.List.{AllByRecursion}
-use Rattle.std.specs.Prelude.{◌≡◌, ◌⊎◌, ◌+◌, ◌<◌, ℕ, false, List, [], ◌∷◌, ◌++◌, length, Err}
+use Rattle.std.specs.Prelude.{◌≡◌, ◌⊎◌, ◌+◌, ◌<◌, ℕ, Bool, List, [], ◌∷◌, ◌++◌, length, Err, IsTrue}
 use Rattle.rpki_ext.specs.Kinds.{Means}
 use Rattle.rpki_cert.specs.Certificates.{CertFields, IsCertificate}
+use Rattle.rpki_cert.specs.SaidKinds.{BeginsWithKind}
 use Rattle.rpki_cert.specs.Verification.{Context, ResourceFields}
+use Rattle.rpki_cert.specs.declared.inspect.Kind.{Kind}
 use Rattle.rpki_crl.specs.Lists.{CrlState, IsCertificateList}
 use Rattle.rpki_path.specs.Asking.{RevocationChecks}
-use Rattle.rpki_path.specs.AskedLists.{by_lists}
+use Rattle.rpki_path.specs.AskedLists.{by_named_lists}
 use Rattle.rpki_keys.specs.Locators.{NamedTal, TalFields}
 use Rattle.rpki_path.specs.LocatedPaths.{BeginsWithKey}
+use Rattle.rpki_path.specs.NameChains.{BeginChained}
+use Rattle.rpki_path.specs.Paths.{candidate}
+use Rattle.rpki_path.specs.declared.judging.Judged.{Judged}
 use Rattle.rpki_path.specs.declared.path_fault.PathFault.{PathFault}
 use Rattle.rpki_folder.specs.Folders.{octets_at, BeginsNoCertificate}
-use Rattle.rpki_folder.specs.Walks.{Root, at_anchor, members_at, LeadsTo, IsReached, Told, IsRight, IsRightOf, Covers, AreAdmitted, IsLookedAt, HasBelow}
+use Rattle.rpki_folder.specs.Walks.{Root, at_anchor, members_at, LeadsTo, IsAcceptedAs, IsReached, Told, IsRight, IsRightOf, Covers, AreAdmitted, IsLookedAt, HasBelow}
 use Rattle.rpki_folder.specs.declared.bounds.Ended.{Ended}
 use Rattle.rpki_folder.specs.declared.bounds.Ended.TheVariants.{TooDeep, OutOfSteps}
 use Rattle.rpki_c.specs.FolderQuestions.{asked_or, usual_steps}
@@ -58,32 +63,45 @@ NoneHasKey t strings = (i : ℕ) → i < length strings → BeginsWithKey t (oct
 
 -- ---- fates
 
+-- a valid path leads, by the CAs at these places, to the certificate at the place, which is judged so
+-- as what it says that it is; and its names chain, if they are asked (RFC 6487 7.2, RFC 5280 6.1.3 (a)
+-- (4))
+pub record IsJudgedAt (x : Context) (asked : RevocationChecks) (names : Bool) (root : Root)
+    (strings : List (List ℕ)) (above : List ℕ) (place : ℕ) (j : Judged) : Type 0 where
+  pub kind : Kind
+  pub says : BeginsWithKind kind (octets_at strings place)
+  pub accepted_is : IsAcceptedAs x asked root (members_at root strings above) kind
+      (octets_at strings place) j
+  pub chained : IsTrue names → BeginChained root.anchor
+      (members_at root strings above ++ candidate kind (octets_at strings place) ∷ [])
+
 -- what becomes of a string: it is the trust anchor, a list, neither a list nor a certificate, or a
 -- certificate which no CA of a valid path signed; or one that is accepted, below the CAs at these
--- places; or one that is rejected, at this step below the trust anchor
+-- places, and judged so; or one that is rejected, at this step below the trust anchor
 pub data Fate : Type 0 where
   anchor list neither unseen : Fate
-  accepted : List ℕ → Fate
+  accepted : List ℕ → Judged → Fate
   rejected : ℕ → PathFault → Fate
 
 -- it is what becomes of the string at the place
-abbrev pub IsFate : Context → RevocationChecks → Root → List (List ℕ) → ℕ → ℕ → Fate → Type 0
-IsFate x asked root strings top place anchor = place ≡ top
-IsFate x asked root strings top place list =
+abbrev pub IsFate : Context → RevocationChecks → Bool → Root → List (List ℕ) → ℕ → ℕ → Fate → Type 0
+IsFate x asked names root strings top place anchor = place ≡ top
+IsFate x asked names root strings top place list =
     (l : CrlState) × IsTakenFor (octets_at strings place) l
-IsFate x asked root strings top place neither =
+IsFate x asked names root strings top place neither =
     BeginsNoCertificate (octets_at strings place) × AreNoList (octets_at strings place)
-IsFate x asked root strings top place unseen =
+IsFate x asked names root strings top place unseen =
     (c : CertFields) × Means IsCertificate c (octets_at strings place)
-IsFate x asked root strings top place (accepted above) = IsReached x asked root strings above place
-IsFate x asked root strings top place (rejected step fault) =
+IsFate x asked names root strings top place (accepted above j) =
+    IsJudgedAt x asked names root strings above place j
+IsFate x asked names root strings top place (rejected step fault) =
     (above : List ℕ) × (step ≡ length above + 1)
     × IsRightOf x asked root (members_at root strings above) (octets_at strings place) (Err fault)
 
 -- the string is a valid certificate
 abbrev pub IsValidFate : Fate → Type 0
 IsValidFate anchor = Unit {0}
-IsValidFate (accepted above) = Unit {0}
+IsValidFate (accepted above j) = Unit {0}
 IsValidFate _ = ⊥
 
 -- so many verdicts on strings are right, each on the certificate at a place below CAs at places
@@ -100,29 +118,30 @@ StandsBelow x asked root strings n =
 -- What becomes of the strings below the trust anchor at a place: each fate is right, and each
 -- certificate is accepted to which a path leads that was looked at, on which no issuer stands twice.
 -- A bound is said to have been met only where it was.
-pub record AreFates (x : Context) (asked : RevocationChecks) (root : Root)
+pub record AreFates (x : Context) (asked : RevocationChecks) (names : Bool) (root : Root)
     (strings : List (List ℕ)) (top depth steps : ℕ) (ended : Ended) (fate : ℕ → Fate) : Type 0 where
   pub anchor_is : fate top ≡ anchor
   pub right : (place : ℕ) → place < length strings
-      → IsFate x asked root strings top place (fate place)
+      → IsFate x asked names root strings top place (fate place)
   pub complete : (c : CertFields) (above : List ℕ) (place : ℕ) → place < length strings
       → Means IsCertificate c root.anchor → Covers ended depth (length above + 1)
-      → AreAdmitted (IsLookedAt false (λ l p. Unit {0}) c strings) [] (above ++ place ∷ [])
+      → AreAdmitted (IsLookedAt names (λ l p. Unit {0}) c strings) [] (above ++ place ∷ [])
       → IsReached x asked root strings above place → IsValidFate (fate place)
   pub too_deep : ended ≡ TooDeep → StandsBelow x asked root strings depth
   pub used_up : ended ≡ OutOfSteps → AreVerified x asked root strings steps
 
 -- what becomes of the strings at a moment, by a walk that ended so: the first that has the
--- locator's key is a valid trust anchor, and the lists among them are asked for revocation; the
--- steps are those that are asked for, or else the usual ones for so many certificates
-pub record AreJudged (x : Context) (t : NamedTal) (strings : List (List ℕ))
+-- locator's key is a valid trust anchor, and the lists among them are asked for revocation, which have
+-- to have their issuers' names if names are asked (RFC 5280 6.3.3 (b) (1)); the steps are those that
+-- are asked for, or else the usual ones for so many certificates
+pub record AreJudged (x : Context) (names : Bool) (t : NamedTal) (strings : List (List ℕ))
     (top depth steps : ℕ) (ended : Ended) (fate : ℕ → Fate) : Type 0 where
   pub top_is : IsFirstWithKey t.tal strings top
   pub lists : List CrlState
   pub lists_are : AreListsAmong strings lists
   pub holder : ResourceFields
-  pub holds : LeadsTo x (by_lists x lists) (at_anchor t (octets_at strings top)) [] holder
+  pub holds : LeadsTo x (by_named_lists names x lists) (at_anchor t (octets_at strings top)) [] holder
   pub certs : List (List ℕ)
   pub certs_are : AreCertificatesAmong strings certs
-  pub fates : AreFates x (by_lists x lists) (at_anchor t (octets_at strings top)) strings top depth
-      (asked_or steps (usual_steps (length certs))) ended fate
+  pub fates : AreFates x (by_named_lists names x lists) names (at_anchor t (octets_at strings top))
+      strings top depth (asked_or steps (usual_steps (length certs))) ended fate

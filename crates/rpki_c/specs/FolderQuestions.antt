@@ -8,7 +8,7 @@ use Rattle.rpki_c.specs.declared.folder_question.FolderTerms.{FolderTerms}
 
 -- how many octets a question about a folder has in the caller's memory
 abbrev pub folder_question_size : ℕ
-folder_question_size = 88
+folder_question_size = 96
 
 -- what is asked for, or what is usual, where 0 is
 abbrev pub asked_or : ℕ → ℕ → ℕ
@@ -31,6 +31,7 @@ pub record HasFolderTerms (q : RpkiFolderQuestion) (t : FolderTerms) : Type 0 wh
   pub depth_is : t.depth ≡ asked_or q.depth usual_depth
   pub steps_is : t.steps ≡ q.steps
   pub key_is : q.key ≡ choice_number t.asks_key
+  pub names_is : q.names ≡ choice_number t.asks_names
 
 -- there is no such moment or choice, or it is a question of another size
 abbrev pub HasNoFolderTerms : RpkiFolderQuestion → Type 0

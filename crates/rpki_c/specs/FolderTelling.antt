@@ -1,30 +1,37 @@
 -- What is answered to a question about a folder, and what a caller is told of it (own).
-use Rattle.std.specs.Prelude.{◌≡◌, ◌≢◌, ◌⊎◌, ◌+◌, ◌<◌, ℕ, Bool, List, [], ◌∷◌, length, slice_index_or, IsTrue, Result, Ok, Err}
+use Rattle.std.specs.Prelude.{◌≡◌, ◌≢◌, ◌⊎◌, ◌+◌, ◌<◌, ℕ, Bool, List, [], ◌∷◌, length, slice_index_or, Result, Ok, Err}
 use Rattle.rpki_parts.specs.Signatures.{Verifies}
-use Rattle.rpki_ext.specs.Kinds.{Means}
-use Rattle.rpki_cert.specs.Certificates.{CertFields, IsCertificate}
 use Rattle.rpki_cert.specs.SaidKinds.{BeginsWithKind}
 use Rattle.rpki_cert.specs.Verification.{Context, context}
 use Rattle.rpki_cert.specs.declared.inspect.Kind.{Kind}
-use Rattle.rpki_keys.specs.KeyForms.{IsUsableKey}
 use Rattle.rpki_keys.specs.LocatorFaults.{RejectsTal}
 use Rattle.rpki_keys.specs.Locators.{NamedTal, IsLocator}
+use Rattle.rpki_crl.specs.Lists.{CrlState}
+use Rattle.rpki_path.specs.AskedLists.{by_named_lists}
 use Rattle.rpki_path.specs.LocatedPaths.{BeginsWithNoNumber}
 use Rattle.rpki_path.specs.Paths.{Finds, trust_anchor_demand}
+use Rattle.rpki_path.specs.declared.judging.Judged.{Judged}
 use Rattle.rpki_path.specs.declared.path_fault.PathFault.TheVariants.{Memory}
 use Rattle.rpki_folder.specs.Folders.{octets_at}
+use Rattle.rpki_folder.specs.Walks.{HasOtherName}
 use Rattle.rpki_folder.specs.declared.bounds.Ended.{Ended}
 use Rattle.rpki_folder.specs.declared.bounds.Ended.TheVariants.{Whole, TooDeep, OutOfSteps}
 use Rattle.rpki_c.specs.FaultNumbers.{path_number, refusal_number}
-use Rattle.rpki_c.specs.FolderFates.{Fate, anchor, list, neither, unseen, accepted, rejected, IsFirstWithKey, NoneHasKey, AreJudged}
+use Rattle.rpki_c.specs.FolderFates.{Fate, anchor, list, neither, unseen, accepted, rejected, AreListsAmong, IsFirstWithKey, NoneHasKey, AreJudged}
 use Rattle.rpki_c.specs.FolderQuestions.{HasFolderTerms, HasNoFolderTerms}
+use Rattle.rpki_c.specs.HeldRanges.{AreHeldAt, nothing_held}
 use Rattle.rpki_c.specs.Questions.{kind_number}
-use Rattle.rpki_c.specs.Verdicts.{AreStringsOf, DontAddUp, Refused, IsUncalled}
+use Rattle.rpki_c.specs.Telling.{HoldsTheSame}
+use Rattle.rpki_c.specs.Verdicts.{AreStringsOf, DontAddUp, HasKeyAsked, Refused, IsUncalled}
 use Rattle.rpki_c.specs.Writing.{written_over}
 use Rattle.rpki_c.specs.declared.folder_lines.RpkiLine.{RpkiLine}
+use Rattle.rpki_c.specs.declared.folder_lines.ToldLines.{ToldLines}
 use Rattle.rpki_c.specs.declared.folder_question.FolderTerms.{FolderTerms}
 use Rattle.rpki_c.specs.declared.folder_question.RpkiFolderQuestion.{RpkiFolderQuestion}
 use Rattle.rpki_c.specs.declared.folders.RpkiWalk.{RpkiWalk}
+use Rattle.rpki_c.specs.declared.paths.RpkiRoom.{RpkiRoom}
+use Rattle.rpki_c.specs.declared.ranges.Ranges.{Ranges}
+use Rattle.rpki_c.specs.declared.ranges.RpkiHeld.{RpkiHeld}
 use Rattle.rpki_c.specs.declared.refusal.Refusal.{Refusal}
 use Rattle.rpki_c.specs.declared.refusal.Refusal.TheVariants as refusal
 use Rattle.rpki_c.specs.declared.walking.Walked.{Walked}
@@ -38,54 +45,57 @@ issuer_of top (place ∷ places) = issuer_of place places
 
 -- the line of which no more is told than what it is
 abbrev pub plain_line : ℕ → RpkiLine
-plain_line what = record { what = what; fault = 0; step = 0; issuer = 0; kind = 0 }
+plain_line what =
+    record { what = what; fault = 0; step = 0; issuer = 0; kind = 0; held = nothing_held }
 
 -- the line of a certificate that is judged as one of the kind of this number, and accepted below the
--- CAs at these places, below the trust anchor at a place
-abbrev pub accepted_line : (kind top : ℕ) → List ℕ → RpkiLine
-accepted_line kind top above =
-    record { what = 2; fault = 0; step = length above + 1; issuer = issuer_of top above; kind = kind }
+-- CAs at these places, below the trust anchor at a place; what it holds is at these places
+abbrev pub accepted_line : (kind top : ℕ) → List ℕ → RpkiHeld → RpkiLine
+accepted_line kind top above held = record {
+  what = 2;
+  fault = 0;
+  step = length above + 1;
+  issuer = issuer_of top above;
+  kind = kind;
+  held = held;
+}
 
--- the same of one that is rejected at a step, by a fault of this number
+-- the line of one that is rejected at a step, by a fault of this number
 abbrev pub rejected_line : (kind step fault : ℕ) → RpkiLine
 rejected_line kind step fault =
-    record { what = 3; fault = fault; step = step; issuer = 0; kind = kind }
+    record { what = 3; fault = fault; step = step; issuer = 0; kind = kind; held = nothing_held }
 
 -- it is the number of the kind as which the certificate is judged with which the octets begin: the one
 -- that it says that it is
 abbrev pub IsKindSaid : List ℕ → ℕ → Type 0
 IsKindSaid octets n = (kind : Kind) × (n ≡ kind_number kind) × BeginsWithKind kind octets
 
--- keys are asked, and the octets begin with a certificate whose key isn't one that the RPKI uses (RFC
--- 7935 3, RFC 8608 3.1)
-abbrev pub HasWrongKey : Bool → List ℕ → Type 0
-HasWrongKey asks_key octets =
-    IsTrue asks_key × ((c : CertFields) × Means IsCertificate c octets × (IsUsableKey c.fields.key → ⊥))
+-- the line of a certificate that is accepted, and judged so; what it holds is among these ranges. One
+-- whose key is asked, and isn't one that the RPKI uses, is told as rejected
+abbrev pub IsAcceptedLine : Bool → (kind top : ℕ) → List ℕ → Judged → Ranges → RpkiLine → Type 0
+IsAcceptedLine asks_key kind top above j ranges line =
+    ((HasKeyAsked asks_key j → ⊥) × (line ≡ rejected_line kind (length above + 1) 603))
+    ⊎ (HasKeyAsked asks_key j × AreHeldAt j.holder ranges line.held
+    × (line ≡ accepted_line kind top above line.held))
 
--- the line of a certificate that is accepted, unless its key is wrong
-abbrev pub IsAcceptedLine : Bool → (kind top : ℕ) → List ℕ → List ℕ → RpkiLine → Type 0
-IsAcceptedLine asks_key kind top octets above line =
-    (HasWrongKey asks_key octets × (line ≡ rejected_line kind (length above + 1) 603))
-    ⊎ ((HasWrongKey asks_key octets → ⊥) × (line ≡ accepted_line kind top above))
-
--- the line of a string that has this fate: a certificate to which a valid path leads, but whose key is
--- wrong, is told as rejected
-abbrev pub IsLineOf : Bool → ℕ → List ℕ → Fate → RpkiLine → Type 0
-IsLineOf asks_key top octets unseen line = line ≡ plain_line 0
-IsLineOf asks_key top octets anchor line = line ≡ plain_line 1
-IsLineOf asks_key top octets (accepted above) line =
-    (kind : ℕ) × IsKindSaid octets kind × IsAcceptedLine asks_key kind top octets above line
-IsLineOf asks_key top octets (rejected step fault) line =
+-- the line of a string that has this fate
+abbrev pub IsLineOf : Bool → ℕ → List ℕ → Fate → Ranges → RpkiLine → Type 0
+IsLineOf asks_key top octets unseen ranges line = line ≡ plain_line 0
+IsLineOf asks_key top octets anchor ranges line = line ≡ plain_line 1
+IsLineOf asks_key top octets (accepted above j) ranges line =
+    (kind : ℕ) × IsKindSaid octets kind × IsAcceptedLine asks_key kind top above j ranges line
+IsLineOf asks_key top octets (rejected step fault) ranges line =
     (kind : ℕ) × IsKindSaid octets kind × (line ≡ rejected_line kind step (path_number fault))
-IsLineOf asks_key top octets list line = line ≡ plain_line 4
-IsLineOf asks_key top octets neither line = line ≡ plain_line 5
+IsLineOf asks_key top octets list ranges line = line ≡ plain_line 4
+IsLineOf asks_key top octets neither ranges line = line ≡ plain_line 5
 
--- these are the lines of so many strings, which have these fates
+-- these are the lines of so many strings, which have these fates, with what is held
 pub record AreLinesOf (asks_key : Bool) (top : ℕ) (strings : List (List ℕ)) (fate : ℕ → Fate)
-    (count : ℕ) (lines : List RpkiLine) : Type 0 where
-  pub count_is : length lines ≡ count
+    (count : ℕ) (it : ToldLines) : Type 0 where
+  pub count_is : length it.lines.items ≡ count
   pub line_is : (place : ℕ) (d : RpkiLine) → place < count
-      → IsLineOf asks_key top (octets_at strings place) (fate place) (slice_index_or lines place d)
+      → IsLineOf asks_key top (octets_at strings place) (fate place) it.ranges
+      (slice_index_or it.lines.items place d)
 
 -- ---- answers
 
@@ -93,14 +103,20 @@ pub record AreLinesOf (asks_key : Bool) (top : ℕ) (strings : List (List ℕ)) 
 pub record IsWalkOf (x : Context) (f : FolderTerms) (t : NamedTal) (strings : List (List ℕ))
     (w : Walked) : Type 0 where
   pub fate : ℕ → Fate
-  pub judged : AreJudged x t strings w.anchor f.depth f.steps w.ended fate
-  pub lines_are : AreLinesOf f.asks_key w.anchor strings fate (length strings) w.lines.items
+  pub judged : AreJudged x f.asks_names t strings w.anchor f.depth f.steps w.ended fate
+  pub lines_are : AreLinesOf f.asks_key w.anchor strings fate (length strings) w.told
 
 -- the file is no locator
 abbrev pub IsNoLocator : Bool → List ℕ → Refusal → Type 0
 IsNoLocator strict file (refusal.Locator e) = RejectsTal strict e file
 IsNoLocator strict file refusal.Memory = Unit {0}
 IsNoLocator strict file _ = ⊥
+
+-- names are asked, and the string at the place is a valid trust anchor of two names
+abbrev pub IsTwoNamed : Context → Bool → NamedTal → List (List ℕ) → ℕ → Type 0
+IsTwoNamed x names t strings place =
+    (lists : List CrlState) × AreListsAmong strings lists
+    × HasOtherName x (by_named_lists names x lists) names t (octets_at strings place)
 
 -- the answer of the strings below this locator: what became of them; or none has its key, or what
 -- is wrong of the first that has it
@@ -110,6 +126,8 @@ AnswersBelow x f t strings (Ok w) = IsWalkOf x f t strings w
 AnswersBelow x f t strings (Err refusal.OtherKey) = NoneHasKey t.tal strings
 AnswersBelow x f t strings (Err (refusal.NoResources place)) =
     IsFirstWithKey t.tal strings place × BeginsWithNoNumber (octets_at strings place)
+AnswersBelow x f t strings (Err (refusal.OtherName place)) =
+    IsFirstWithKey t.tal strings place × IsTwoNamed x f.asks_names t strings place
 AnswersBelow x f t strings (Err (refusal.Member e)) =
     IsFirstWithKey t.tal strings e.index × (e.fault ≢ Memory)
     × Finds x (trust_anchor_demand x) (octets_at strings e.index) e.fault
@@ -148,24 +166,45 @@ ended_number OutOfSteps = 3
 -- the place of the trust anchor that is wrong; 0 where another thing is
 abbrev pub anchor_place : Refusal → ℕ
 anchor_place (refusal.NoResources place) = place
+anchor_place (refusal.OtherName place) = place
 anchor_place (refusal.Member e) = e.index
 anchor_place _ = 0
 
 -- what is told of an answer as a whole: how the walk ended and where the trust anchor is, or why
 -- there was none
 abbrev pub walk_of : Result Walked Refusal → RpkiWalk
-walk_of (Ok w) = record { fault = 0; ended = ended_number w.ended; anchor = w.anchor }
-walk_of (Err r) = record { fault = refusal_number r; ended = 0; anchor = anchor_place r }
+walk_of (Ok w) = record {
+  fault = 0;
+  ended = ended_number w.ended;
+  anchor = w.anchor;
+  v4 = length w.told.ranges.v4.items;
+  v6 = length w.told.ranges.v6.items;
+  asn = length w.told.ranges.asn.items;
+}
+walk_of (Err r) =
+    record { fault = refusal_number r; ended = 0; anchor = anchor_place r; v4 = 0; v6 = 0; asn = 0 }
 
 -- the lines of the answer stand in the caller's memory, as many as there is room for
 abbrev pub ArePut : Result Walked Refusal → List RpkiLine → List RpkiLine → Type 0
-ArePut (Ok w) old new = new ≡ written_over w.lines.items old
+ArePut (Ok w) old new = new ≡ written_over w.told.lines.items old
 ArePut (Err r) old new = new ≡ old
+
+-- these ranges stand in the room, as many of each kind as there is room for
+pub record ArePutIn (ranges : Ranges) (old new : RpkiRoom) : Type 0 where
+  pub v4 : new.v4.now ≡ written_over ranges.v4.items old.v4.now
+  pub v6 : new.v6.now ≡ written_over ranges.v6.items old.v6.now
+  pub asn : new.asn.now ≡ written_over ranges.asn.items old.asn.now
+
+-- the room has the ranges of the answer
+abbrev pub HoldsWalk : Result Walked Refusal → RpkiRoom → RpkiRoom → Type 0
+HoldsWalk (Ok w) old new = ArePutIn w.told.ranges old new
+HoldsWalk (Err r) old new = HoldsTheSame old new
 
 -- what is told of the question's strings, by this relation of signatures
 pub record IsToldWalk (verifies : Verifies) (q : RpkiFolderQuestion) (old new : List RpkiLine)
-    (out : RpkiWalk) : Type 0 where
+    (old_room new_room : RpkiRoom) (out : RpkiWalk) : Type 0 where
   pub answer : Result Walked Refusal
   pub answers : AnswersFolder verifies q answer
   pub told : out ≡ walk_of answer
   pub put : ArePut answer old new
+  pub held : HoldsWalk answer old_room new_room

@@ -1,4 +1,3 @@
-pub mod Answered
 pub mod CertificateSpans
 pub mod Choices
 pub mod Contents
@@ -7,11 +6,11 @@ pub mod FaultTexts
 pub mod FolderFates
 pub mod FolderQuestions
 pub mod FolderTelling
+pub mod HeldRanges
 pub mod IssuedTelling
 pub mod ListAnswers
 pub mod ListTables
 pub mod Questions
-pub mod SignaturePlaces
 pub mod StopTelling
 pub mod Strings
 pub mod Telling

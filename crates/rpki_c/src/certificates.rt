@@ -28,7 +28,7 @@ use rpki_keys::is_usable;
 use rpki_parts::{Https, Rsync};
 use std::alloc::Global;
 
-/// What a certificate holds that has a fixed size.
+/// The fields of a certificate that have a fixed size.
 #[repr(C)]
 #[derive(Clone, Copy)]
 pub struct RpkiCertificate {
@@ -39,9 +39,9 @@ pub struct RpkiCertificate {
     pub authority_key: [u8; 20],
     pub has_authority_key: u8,
     pub is_authority: u8,
-    /// 0: of a CA, 1: of an end entity.
+    /// 0: a CA's, 1: an end entity's.
     pub key_usage: u8,
-    /// 0: refused, 1: trimmed (RFC 8360).
+    /// 0: overclaiming is rejected, 1: it is trimmed (RFC 8360).
     pub overclaim: u8,
     /// 0: missing, 1: inherited, 2: listed.
     pub v4: u8,
@@ -130,7 +130,15 @@ fn decoded(alloc: Global, octets: &[u8]) -> Result<Cert, u32>
     }
 }
 
-/// Reads the certificate that the octets begin with. Answers 0, or the number of a fault.
+/// Reads the certificate at the start of the bytes.
+///
+/// # Errors
+///
+/// Returns the number of an error, or 0.
+///
+/// # Not checked
+///
+/// The profile, the signature and the validity.
 #[unsafe(no_mangle)]
 pub extern "C" fn rpki_certificate_read(
     alloc: Global,
@@ -189,9 +197,12 @@ fn key_of(alloc: Global, octets: &[u8]) -> Result<(Bytes, bool), u32>
     }
 }
 
-/// Writes the certificate's SubjectPublicKeyInfo in DER: as many octets as there is room for, and in
-/// `count` how many there are; and in `is_used` 1 where the RPKI uses such a key, and else 0.
-/// Answers 0, or the number of a fault.
+/// Writes the certificate's SubjectPublicKeyInfo in DER: as many bytes as fit, and in `count` how
+/// many there are. Writes 1 in `is_used` if the RPKI uses such a key (RFC 7935 3), and else 0.
+///
+/// # Errors
+///
+/// Returns the number of an error, or 0.
 #[unsafe(no_mangle)]
 pub extern "C" fn rpki_certificate_key(
     alloc: Global,
@@ -220,7 +231,7 @@ pub extern "C" fn rpki_certificate_key(
     }
 }
 
-/// Returns the kind that the header numbers so.
+/// Returns the kind with this number of the header.
 pub(crate) fn kind_of(number: u32) -> Option<Kind>
     ensures none { IsNone result ↔ 4 < number }
     ensures kind { IfSome result (λ kind. number ≡ kind_number kind) }
@@ -249,9 +260,17 @@ fn inspect(cert: &Cert, kind: Kind, strict: bool) -> Result<(), InspectionError>
     }
 }
 
-/// Inspects the certificate that the octets begin with as one of a kind: 0 a trust anchor, 1 an
-/// authority, 2 an end entity, 3 a detached one, 4 a router. Answers 0 where it meets the profile;
-/// else the number of its first fault, or 2 where no kind has the number.
+/// Inspects the certificate at the start of the bytes as one of a kind (RFC 6487 4): 0 a trust
+/// anchor, 1 a CA, 2 an end entity, 3 a detached end entity, 4 a router.
+///
+/// # Errors
+///
+/// Returns the number of the first error, 2 if no kind has the number, or 0 if the certificate
+/// meets the profile.
+///
+/// # Not checked
+///
+/// The signature and the validity.
 #[unsafe(no_mangle)]
 pub extern "C" fn rpki_certificate_inspect(
     alloc: Global,
@@ -326,9 +345,12 @@ fn put_family(tbs: &TbsCert, family: Family, out: &mut [RpkiIpRange]) -> u64
     }
 }
 
-/// Writes the ranges of addresses that the certificate lists, of IPv4 where `family` is 4, of IPv6
-/// where it is 6: as many as there is room for, and in `count` how many there are. Answers 0, or
-/// the number of a fault: 2 where `family` is another number.
+/// Writes the ranges of addresses that the certificate lists, of IPv4 if `family` is 4, of IPv6 if
+/// it is 6: as many as fit, and in `count` how many there are.
+///
+/// # Errors
+///
+/// Returns the number of an error, 2 if `family` is another number, or 0.
 #[unsafe(no_mangle)]
 pub extern "C" fn rpki_certificate_addresses(
     alloc: Global,
@@ -361,8 +383,12 @@ pub extern "C" fn rpki_certificate_addresses(
     }
 }
 
-/// Writes the ranges of AS numbers that the certificate lists: as many as there is room for, and in
-/// `count` how many there are. Answers 0, or the number of a fault.
+/// Writes the ranges of AS numbers that the certificate lists: as many as fit, and in `count` how
+/// many there are.
+///
+/// # Errors
+///
+/// Returns the number of an error, or 0.
 #[unsafe(no_mangle)]
 pub extern "C" fn rpki_certificate_as_numbers(
     alloc: Global,
@@ -405,7 +431,7 @@ impl CertUri {
     ghost use Rattle.std.specs.Prelude.{◌≡◌};
     ghost use Rattle.rpki_c.specs.Choices.{uri_number};
 
-    /// Returns the number that the header gives it.
+    /// Returns the number of the URI in the header.
     pub(crate) fn number(self) -> u32
         ensures { result ≡ uri_number self }
     {
@@ -480,10 +506,13 @@ fn put_uri(tbs: &TbsCert, which: CertUri, out: &mut [u8]) -> u64
     }
 }
 
-/// Writes one URI: 0 of the issuer's certificate, 1 of the revocation list, 2 of the repository, 3
-/// of the manifest, 4 of the signed object, 5 of the notification file. Writes as many octets as
-/// there is room for, and in `count` how many there are; 0 where the certificate has none such.
-/// Answers 0, or the number of a fault: 2 where `which` is another number.
+/// Writes one URI: 0 of the issuer's certificate, 1 of the CRL, 2 of the repository, 3 of the
+/// manifest, 4 of the signed object, 5 of the notification file. Writes as many bytes as fit, and
+/// in `count` how many there are; 0 if the certificate doesn't have the URI.
+///
+/// # Errors
+///
+/// Returns the number of an error, 2 if `which` is another number, or 0.
 #[unsafe(no_mangle)]
 pub extern "C" fn rpki_certificate_uri(
     alloc: Global,
@@ -543,9 +572,12 @@ fn name_of(tbs: &TbsCert, which: CertName) -> &[u8]
     }
 }
 
-/// Writes a name as DER: of the issuer where `which` is 0, of the subject where it is 1. Writes as
-/// many octets as there is room for, and in `count` how many there are. Answers 0, or the number of
-/// a fault: 2 where `which` is another number.
+/// Writes a name in DER: the issuer's if `which` is 0, the subject's if it is 1. Writes as many
+/// bytes as fit, and in `count` how many there are.
+///
+/// # Errors
+///
+/// Returns the number of an error, 2 if `which` is another number, or 0.
 #[unsafe(no_mangle)]
 pub extern "C" fn rpki_certificate_name(
     alloc: Global,

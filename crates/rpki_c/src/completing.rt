@@ -1,4 +1,4 @@
-//! Certificates that are completed by their signatures.
+//! The completion of certificates with their signatures.
 ghost use Rattle.std.specs.Prelude.{◌≡◌, option_map, IfErr, IfOk, IsNone, IfSome};
 ghost use Rattle.rpki_c.specs.WantedAnswers.{AnswersCompletedBelow, AnswersCompletion, AnswersCompletionTerms, AnswersNamed, AnswersSigned};
 ghost use Rattle.rpki_issuing.specs.Issuers.{IsNamed};
@@ -18,30 +18,30 @@ use rpki_keys::is_usable;
 use rpki_path::revocation::NobodyAsked;
 use std::alloc::Global;
 
-/// What was prepared and signed.
+/// A prepared certificate with its signature.
 #[repr(C)]
 #[derive(Clone, Copy)]
 pub struct RpkiCompletion<'c> {
-    /// How many octets this struct has, as the caller knows it.
+    /// The size of this struct in bytes, as the caller knows it.
     pub size: usize,
-    /// The path of the issuer, the moment, and whether names are read strictly.
+    /// The issuer's path, the time, and whether names may only have the profile's string types.
     pub issuer: RpkiQuestion<'c>,
-    /// What was prepared.
+    /// The prepared TBSCertificate.
     pub prepared: &'c [u8],
-    /// The octets of its signature.
+    /// The bytes of its signature.
     pub signature: &'c [u8],
-    /// What it is: 0 a trust anchor, 1 a CA, 2 an end entity, 3 a detached one, 4 a router.
+    /// The kind: 0 a trust anchor, 1 a CA, 2 an end entity, 3 a detached end entity, 4 a router.
     pub kind: u32,
 }
 
-/// How many octets a completion has.
+/// The size of a completion in bytes.
 pub(crate) const COMPLETION_SIZE: usize = size_of::<RpkiCompletion<'_>>();
 
-/// How a certificate is completed.
+/// The terms under which a certificate is completed.
 #[derive(Clone, Copy)]
 pub(crate) struct CompletionTerms {
     pub(crate) kind: Kind,
-    /// How the issuer's path is judged, and when.
+    /// The terms under which the issuer's path is validated, and the time.
     pub(crate) asked: Terms,
 }
 
@@ -153,7 +153,7 @@ fn completed(
     octets
 }
 
-/// Completes what was prepared by its signature: returns the octets of the certificate.
+/// Completes a prepared certificate with its signature, and returns the certificate's bytes.
 pub(crate) fn complete(alloc: Global, completion: &RpkiCompletion<'_>) -> Result<Bytes, Unissued>
     ensures { AnswersCompletion completion.now result }
 {

@@ -1,10 +1,10 @@
-//! Octets, and ranges of addresses and AS numbers, in the caller's memory.
+//! Bytes, and ranges of addresses and AS numbers, in the caller's memory.
 ghost use Rattle.std.specs.Prelude.{◌≡◌, ◌++◌, length, map, take, drop};
 ghost use Rattle.rpki_c.specs.Writing.{written_over, ip_struct, as_struct};
 
 use rpki_blocks::{AsBlock, AsBlocks, IpBlock, IpBlocks};
 
-/// A range of addresses, each in 16 octets; an IPv4 address stands in the first four.
+/// A range of addresses of 16 bytes each. An IPv4 address is in the first four bytes.
 #[repr(C)]
 #[derive(Clone, Copy)]
 pub struct RpkiIpRange {
@@ -20,7 +20,8 @@ pub struct RpkiAsRange {
     pub max: u32,
 }
 
-fn ip_range(block: IpBlock) -> RpkiIpRange
+/// The range, as the caller's memory has it.
+pub(crate) fn ip_range(block: IpBlock) -> RpkiIpRange
     ensures { result ≡ ip_struct block }
 {
     RpkiIpRange {
@@ -29,7 +30,8 @@ fn ip_range(block: IpBlock) -> RpkiIpRange
     }
 }
 
-fn as_range(block: AsBlock) -> RpkiAsRange
+/// The range of AS numbers, as the caller's memory has it.
+pub(crate) fn as_range(block: AsBlock) -> RpkiAsRange
     ensures { result ≡ as_struct block }
 {
     RpkiAsRange {
@@ -38,7 +40,7 @@ fn as_range(block: AsBlock) -> RpkiAsRange
     }
 }
 
-/// Writes as many ranges as there is room for, and tells how many there are.
+/// Writes as many ranges as fit, and returns how many there are.
 pub(crate) fn put_addresses(blocks: &IpBlocks, out: &mut [RpkiIpRange]) -> u64
     ensures count { result ≡ length blocks.now }
     ensures written { out.new ≡ written_over (map ip_struct blocks.now) out.old }
@@ -50,7 +52,7 @@ pub(crate) fn put_addresses(blocks: &IpBlocks, out: &mut [RpkiIpRange]) -> u64
     blocks.len() as u64
 }
 
-/// Writes as many ranges of AS numbers as there is room for, and tells how many there are.
+/// Writes as many ranges of AS numbers as fit, and returns how many there are.
 pub(crate) fn put_as_numbers(blocks: &AsBlocks, out: &mut [RpkiAsRange]) -> u64
     ensures count { result ≡ length blocks.now }
     ensures written { out.new ≡ written_over (map as_struct blocks.now) out.old }
@@ -60,6 +62,16 @@ pub(crate) fn put_as_numbers(blocks: &AsBlocks, out: &mut [RpkiAsRange]) -> u64
         out[at] = as_range(blocks[at]);
     }
     blocks.len() as u64
+}
+
+/// Writes as many items as there is room for, and tells how many there are.
+pub(crate) fn put_items<T: Copy>(from: &[T], out: &mut [T]) -> u64
+    ensures count { result ≡ length from.now }
+    ensures written { out.new ≡ written_over from.now out.old }
+{
+    let fit = from.len().min(out.len());
+    out[..fit].copy_from_slice(&from[..fit]);
+    from.len() as u64
 }
 
 /// Writes as many octets as there is room for, and tells how many there are.
@@ -72,7 +84,7 @@ pub(crate) fn put_octets(from: &[u8], out: &mut [u8]) -> u64
     from.len() as u64
 }
 
-/// Writes octets from this place on, as many as there is room for.
+/// Writes as many bytes as fit from this index on.
 pub(crate) fn put_behind(from: &[u8], at: usize, out: &mut [u8])
     ensures { out.new ≡ take at out.old ++ written_over from.now (drop at out.old) }
 {

@@ -1,4 +1,4 @@
-//! The numbers of faults as callers know them: those of the table of faults.
+//! The numbers of errors as callers know them: those of the table of errors.
 ghost use Rattle.std.specs.Prelude.{◌≡◌, ◌≢◌, ◌↔◌, ◌<◌, ◌≤◌};
 ghost use Rattle.rpki_der.specs.ErrorNames.{decode_error_name};
 ghost use Rattle.rpki_der.specs.declared.error.DecodeError.{DecodeError as decodings};
@@ -27,19 +27,19 @@ use rpki_issuing::{IssuingError, ListError, NextListError};
 use rpki_keys::tal::TalError;
 use rpki_path::PathFault;
 
-/// No fault.
+/// No error.
 pub(crate) const NONE: u32 = 0;
 /// Out of memory.
 pub(crate) const MEMORY: u32 = 1;
 /// The caller's lengths or numbers don't fit.
 pub(crate) const BAD_CALL: u32 = 2;
-/// The issuer of a path's member isn't the subject of the one above it.
+/// The issuer of a path's certificate isn't the subject of the one above it.
 pub(crate) const OTHER_NAME: u32 = 600;
-/// The trust anchor's key isn't the locator's.
+/// The trust anchor's key isn't the TAL's.
 pub(crate) const OTHER_KEY: u32 = 601;
-/// The trust anchor lists no number.
+/// The trust anchor lists no IP address and no AS number.
 pub(crate) const NO_RESOURCES: u32 = 602;
-/// The RPKI doesn't use the last member's key.
+/// The RPKI doesn't use the last certificate's key.
 pub(crate) const BAD_KEY: u32 = 603;
 // No key is given.
 const NO_KEY: u32 = 800;
@@ -75,7 +75,7 @@ fn part_added(error: &DecodeError) -> u32
     }
 }
 
-/// The number of a fault of reading.
+/// Returns the number of an error of reading.
 pub(crate) fn of_decoding(error: &DecodeError) -> u32
     ensures number { result ≡ decode_number error.now }
     ensures memory { result ≡ MEMORY ↔ error.now ≡ decoding.Memory }
@@ -86,7 +86,7 @@ pub(crate) fn of_decoding(error: &DecodeError) -> u32
     faults::of_reading(error).number + part_added(error)
 }
 
-/// The number of a fault of inspection.
+/// Returns the number of an error of inspection.
 pub(crate) fn of_inspection(error: InspectionError) -> u32
     ensures number { result ≡ inspection_number error }
     ensures great { 300 ≤ result }
@@ -115,7 +115,7 @@ fn of_revocation(error: &RevocationError) -> u32
     faults::of_revocation(error).number
 }
 
-/// The number of a fault of a path's member.
+/// Returns the number of an error of a path's certificate.
 pub(crate) fn of_path(fault: &PathFault) -> u32
     ensures number { result ≡ path_number fault.now }
     ensures fault { result ≢ NONE }
@@ -131,7 +131,7 @@ pub(crate) fn of_path(fault: &PathFault) -> u32
     }
 }
 
-/// The number of why a path isn't accepted.
+/// Returns the number of the reason why a path isn't accepted.
 pub(crate) fn of_refusal(refusal: &Refusal) -> u32
     ensures number { result ≡ refusal_number refusal.now }
     ensures fault { result ≢ NONE }
@@ -200,7 +200,7 @@ fn of_wanted(error: &WantedError) -> u32
     }
 }
 
-/// The number of why no certificate and no list is prepared or completed.
+/// Returns the number of the reason why no certificate and no CRL is prepared or completed.
 pub(crate) fn of_unissued(why: &Unissued) -> u32
     ensures number { result ≡ unissued_number why.now }
     ensures fault { result ≢ NONE }
@@ -220,8 +220,8 @@ pub(crate) fn of_unissued(why: &Unissued) -> u32
     }
 }
 
-/// Says that by the number of a fault its name is told, so that faults of other names have other
-/// numbers.
+/// States that the number of an error decides its name, so that errors with different names have
+/// different numbers.
 pub(crate) fn numbers_tell_names()
     ensures decoding { (e : decodings) → name_told (decode_number e) ≡ Some (decode_error_name e) }
     ensures inspection { (e : inspections)

@@ -1,4 +1,4 @@
-//! What a caller asks of a folder, by octets, lengths and numbers.
+//! A caller's question about a directory, as bytes, lengths and numbers.
 ghost use Rattle.std.specs.Prelude.{◌≡◌, IsNone, IfSome};
 ghost use Rattle.rpki_c.specs.FolderQuestions.{asked_or as asked_else, HasFolderTerms, HasNoFolderTerms};
 
@@ -8,45 +8,49 @@ use crate::strings::RpkiStrings;
 use rpki_der::Time;
 use rpki_folder::Bounds;
 
-/// A question about a folder.
+/// A question about a directory.
 #[repr(C)]
 #[derive(Clone, Copy)]
 pub struct RpkiFolderQuestion<'c> {
-    /// How many octets this struct has, as the caller knows it.
+    /// The size of this struct in bytes, as the caller knows it.
     pub size: usize,
-    /// Certificates and revocation lists, in any order.
+    /// Certificates and CRLs, in any order.
     pub strings: RpkiStrings<'c>,
-    /// A trust anchor locator's file.
+    /// The bytes of a TAL.
     pub locator: &'c [u8],
     pub moment: RpkiTime,
-    /// How many certificates a path has at most below the trust anchor; 0 for the usual depth.
+    /// The most certificates that a path may have below the trust anchor; 0 for the default.
     pub depth: usize,
-    /// How many certificates are verified at most; 0 for the usual steps.
+    /// The most certificates that are verified; 0 for the default.
     pub steps: usize,
     pub strict: u32,
     /// Whether the RPKI has to use a certificate's key: 0 it has to, 1 it needn't.
     pub key: u32,
+    /// Whether names are checked, those of certificates and of lists: 0 they are, 1 they aren't.
+    pub names: u32,
 }
 
-/// How many octets a question about a folder has.
+/// The size of a question about a directory in bytes.
 pub(crate) const FOLDER_QUESTION_SIZE: usize = size_of::<RpkiFolderQuestion<'_>>();
 
 const USUAL_DEPTH: usize = 32;
 
 const USUAL_STEPS: usize = 64;
 
-/// How a folder is judged.
+/// The terms under which a directory is validated.
 #[derive(Clone, Copy)]
 pub(crate) struct FolderTerms {
-    /// Whether names are read strictly.
+    /// Whether names may only have the profile's string types.
     pub(crate) strict: bool,
     pub(crate) now: Time,
-    /// How many certificates a path has at most below the trust anchor.
+    /// The most certificates that a path may have below the trust anchor.
     pub(crate) depth: usize,
-    /// How many certificates are verified at most; 0 for the usual steps.
+    /// The most certificates that are verified; 0 for the default.
     pub(crate) steps: usize,
     /// Whether a certificate has to have a key that the RPKI uses.
     pub(crate) asks_key: bool,
+    /// Whether names have to chain, and lists to have their issuers' names.
+    pub(crate) asks_names: bool,
 }
 
 // What is asked for, or what is usual, where 0 is.
@@ -60,7 +64,7 @@ impl FolderTerms {
     ghost use Rattle.std.specs.Prelude.{◌≡◌};
     ghost use Rattle.rpki_c.specs.FolderQuestions.{asked_or, usual_steps};
 
-    /// Returns how far the walk over so many certificates goes.
+    /// Returns the limits of the walk over so many certificates.
     pub(crate) fn bounds(self, count: usize) -> Bounds
         ensures depth { result.depth ≡ self.depth }
         ensures steps { result.steps ≡ asked_or self.steps (usual_steps count) }
@@ -74,7 +78,7 @@ impl FolderTerms {
 
 /// Tells how the folder of a question is judged. Gives `None` where there is no such moment or
 /// choice, and where the caller knows another struct.
-#[tactic(auto, using(crate::proofs::FolderTermsGiven::no_folder_size, crate::proofs::FolderTermsGiven::no_folder_moment, crate::proofs::FolderTermsGiven::no_folder_key))]
+#[tactic(auto, using(crate::proofs::FolderTermsGiven::no_folder_size, crate::proofs::FolderTermsGiven::no_folder_moment, crate::proofs::FolderTermsGiven::no_folder_key, crate::proofs::FolderTermsGiven::no_folder_names))]
 pub(crate) fn folder_terms_of(question: &RpkiFolderQuestion<'_>) -> Option<FolderTerms>
     ensures terms { IfSome result (HasFolderTerms question.now) }
     ensures none { IsNone result → HasNoFolderTerms question.now }
@@ -88,5 +92,6 @@ pub(crate) fn folder_terms_of(question: &RpkiFolderQuestion<'_>) -> Option<Folde
         depth: asked_or(question.depth, USUAL_DEPTH),
         steps: question.steps,
         asks_key: is_asked(question.key)?,
+        asks_names: is_asked(question.names)?,
     })
 }

@@ -1,4 +1,4 @@
-//! Who issues: the CA that a path ends in, or nobody above a trust anchor.
+//! The issuer: the CA in which a path ends, or none above a trust anchor.
 ghost use Rattle.std.specs.Prelude.{◌≡◌, ◌↔◌, Err, IfErr, IfOk, IsTrue};
 ghost use Rattle.rpki_cert.specs.declared.inspect.Kind.TheVariants.{Anchor};
 ghost use Rattle.rpki_c.specs.Verdicts.{AnswersQuestion};
@@ -34,7 +34,7 @@ fn held(alloc: Global, question: &RpkiQuestion<'_>) -> Result<ResourceCert, Refu
     Ok(holder)
 }
 
-/// Returns the CA that the path of a question ends in, and what it holds.
+/// Returns the CA in which the path of a question ends, with the resources that it holds.
 pub(crate) fn authority_of(
     alloc: Global,
     question: &RpkiQuestion<'_>,
@@ -51,8 +51,8 @@ pub(crate) fn authority_of(
     }
 }
 
-/// Returns the CA that the path of a question ends in, and what it holds; `None` for a trust
-/// anchor, above which there is no path.
+/// Returns the CA in which the path of a question ends, with the resources that it holds; `None`
+/// for a trust anchor, above which there is no path.
 pub(crate) fn issuer_of(
     alloc: Global,
     kind: Kind,

@@ -1,4 +1,4 @@
-//! Issuing for C, where the key is elsewhere.
+//! Issuing for C with a key that is elsewhere.
 ghost use Rattle.std.specs.Prelude.{◌≡◌};
 ghost use Rattle.rpki_c.specs.IssuedTelling.{AreOctetsPut, IsToldCompleted, IsToldListCompleted, IsToldListPrepared, IsToldPrepared, issued_of};
 
@@ -14,15 +14,15 @@ use crate::wanted_list::RpkiWantedList;
 use bytes::Bytes;
 use std::alloc::Global;
 
-/// What became of a certificate or a revocation list that was to be prepared or completed.
+/// The result of preparing or completing a certificate or a CRL.
 #[repr(C)]
 #[derive(Clone, Copy)]
 pub struct RpkiIssued {
-    /// 0 where there are octets; else the number of the fault.
+    /// 0 if there are bytes; else the number of the error.
     pub fault: u32,
-    /// The place of what is wrong.
+    /// The path index of the certificate that is wrong.
     pub index: u32,
-    /// How many octets there are.
+    /// How many bytes there are.
     pub count: u64,
 }
 
@@ -53,8 +53,11 @@ fn put(answer: Result<Bytes, Unissued>, members: usize, out: &mut [u8]) -> RpkiI
     }
 }
 
-/// Prepares a certificate for its signature: writes what is to be signed, as many octets as there
-/// is room for. Answers what is told as its fault.
+/// Prepares a certificate for its signature: writes the TBSCertificate, as many bytes as fit.
+///
+/// # Errors
+///
+/// Returns the number of the error in `told`, or 0.
 #[unsafe(no_mangle)]
 pub extern "C" fn rpki_prepare(
     alloc: Global,
@@ -70,8 +73,12 @@ pub extern "C" fn rpki_prepare(
     told.fault
 }
 
-/// Completes what was prepared by its signature: writes the certificate, as many octets as there is
-/// room for. Answers what is told as its fault.
+/// Completes a prepared certificate with its signature: writes the certificate, as many bytes as
+/// fit.
+///
+/// # Errors
+///
+/// Returns the number of the error in `told`, or 0.
 #[unsafe(no_mangle)]
 pub extern "C" fn rpki_complete(
     alloc: Global,
@@ -87,8 +94,12 @@ pub extern "C" fn rpki_complete(
     told.fault
 }
 
-/// Prepares the issuer's next revocation list for its signature, or its first one: writes what is
-/// to be signed, as many octets as there is room for. Answers what is told as its fault.
+/// Prepares the issuer's next CRL, or its first one, for its signature: writes the TBSCertList, as
+/// many bytes as fit.
+///
+/// # Errors
+///
+/// Returns the number of the error in `told`, or 0.
 #[unsafe(no_mangle)]
 pub extern "C" fn rpki_prepare_list(
     alloc: Global,
@@ -104,8 +115,11 @@ pub extern "C" fn rpki_prepare_list(
     told.fault
 }
 
-/// Completes what was prepared of a list by its signature: writes the list, as many octets as there
-/// is room for. Answers what is told as its fault.
+/// Completes a prepared CRL with its signature: writes the CRL, as many bytes as fit.
+///
+/// # Errors
+///
+/// Returns the number of the error in `told`, or 0.
 #[unsafe(no_mangle)]
 pub extern "C" fn rpki_complete_list(
     alloc: Global,

@@ -1,13 +1,10 @@
 //! The answer to a question about a path.
-ghost use Rattle.std.specs.List.{All};
-ghost use Rattle.std.specs.Prelude.{◌≡◌, IfOk, IfErr, IsTrue, MatchOption, Err};
+ghost use Rattle.std.specs.Prelude.{◌≡◌, ◌↔◌, IfOk, IfErr, IsTrue, MatchOption, Err};
 ghost use Rattle.rpki_cert.specs.Verification.{context};
 ghost use Rattle.rpki_path.specs.Judging.{Judges};
 ghost use Rattle.rpki_path.specs.AskedLists.{by_named_lists};
 ghost use Rattle.rpki_path.specs.NameChains.{BeginPath, IsUnchained, strings_below};
 ghost use Rattle.rpki_keys.specs.RsaSignatures.{IsSignedByRsa};
-ghost use Rattle.rpki_files.specs.Contents.{BeginsWithCertificate};
-ghost use Rattle.rpki_c.specs.Answered.{AnswersSaid, AnswersSaidMembers, AnswersSaidQuestion};
 ghost use Rattle.rpki_c.specs.declared.refusal.Refusal.TheVariants.{UnusedKey};
 ghost use Rattle.rpki_c.specs.Verdicts.{AreStringsOf, DontAddUp, IsUncalled, AnswersListed, AnswersWith, AnswersTrusted, AreChainedIf, IsOtherName, AnswersNamed, AnswersKeyed, AnswersPath, HasKeyAsked, AnswersStrings, AnswersMembers, AnswersQuestion};
 
@@ -15,15 +12,17 @@ use crate::lists::lists_of;
 use crate::locators::ask_locator;
 use crate::question::{RpkiQuestion, Terms, terms_of};
 use crate::refusal::Refusal;
-use crate::signatures::answers;
 use crate::strings::{RpkiStrings, cut};
 use bytes::Bytes;
 use rpki_crl::Crl;
 use rpki_keys::{RsaVerifier, is_usable};
-use rpki_parts::Verifier;
 use rpki_path::revocation::{GivenLists, NobodyAsked};
 use rpki_path::{GivenPath, Judged, Member, PathError, first_unchained, judge};
 use std::alloc::{AllocError, Global};
+
+// Below at most so many CAs no list gets a table: a certificate asks its issuer's lists alone, and to
+// make a table takes as long as many searches.
+const FEW: usize = 16;
 
 /// Cuts the caller's octets into the strings of these lengths.
 pub(crate) fn strings_of(alloc: Global, strings: &RpkiStrings<'_>) -> Result<Vec<Bytes>, Refusal>
@@ -37,70 +36,66 @@ pub(crate) fn strings_of(alloc: Global, strings: &RpkiStrings<'_>) -> Result<Vec
 }
 
 // The verdict on the path, where these lists are asked.
-fn judge_lists<V: Verifier>(
+fn judge_lists(
     alloc: Global,
     path: &GivenPath<'_, '_>,
     lists: &[Crl],
     terms: Terms,
-    verifier: &V,
 ) -> Result<Judged, PathError>
-    ensures { let x = context (V.verifies verifier.now) terms.now terms.strict in
+    ensures { let x = context IsSignedByRsa terms.now terms.strict in
         Judges x (by_named_lists terms.asks_names x lists.now) path.now result }
 {
     let asked = GivenLists::with_names(lists, terms.asks_names);
-    judge(alloc, path, &asked, terms.strict, terms.now, verifier)
+    judge(alloc, path, &asked, terms.strict, terms.now, &RsaVerifier)
 }
 
 // The answer of the path, where the lists that these octets are are asked.
-fn judge_listed<V: Verifier>(
+fn judge_listed(
     alloc: Global,
     path: &GivenPath<'_, '_>,
     octets: &[Bytes],
     terms: Terms,
-    verifier: &V,
 ) -> Result<Judged, Refusal>
-    ensures { let x = context (V.verifies verifier.now) terms.now terms.strict in
+    ensures { let x = context IsSignedByRsa terms.now terms.strict in
         AnswersListed x terms.asks_names path.now octets.now result }
 {
-    let lists = lists_of(alloc, octets)?;
-    let answer = judge_lists(alloc, path, &lists, terms, verifier);
+    let lists = lists_of(alloc, octets, path.cas.len() > FEW)?;
+    let answer = judge_lists(alloc, path, &lists, terms);
     drop(lists);
     Ok(answer?)
 }
 
 // The answer of the path, where the caller's lists are asked.
-fn judge_with<V: Verifier>(
+fn judge_with(
     alloc: Global,
     path: &GivenPath<'_, '_>,
     lists: &RpkiStrings<'_>,
     terms: Terms,
-    verifier: &V,
 ) -> Result<Judged, Refusal>
-    ensures { let x = context (V.verifies verifier.now) terms.now terms.strict in
+    ensures { let x = context IsSignedByRsa terms.now terms.strict in
         AnswersWith x terms.asks_names path.now lists.now result }
 {
     let octets = strings_of(alloc, lists)?;
-    let answer = judge_listed(alloc, path, &octets, terms, verifier);
+    let answer = judge_listed(alloc, path, &octets, terms);
     drop(octets);
     answer
 }
 
 // The answer of the path, whose trust anchor is trusted.
-fn judge_trusted<V: Verifier>(
+fn judge_trusted(
     alloc: Global,
     path: &GivenPath<'_, '_>,
     question: &RpkiQuestion<'_>,
     terms: Terms,
-    verifier: &V,
 ) -> Result<Judged, Refusal>
-    ensures { let x = context (V.verifies verifier.now) terms.now terms.strict in
+    ensures { let x = context IsSignedByRsa terms.now terms.strict in
         AnswersTrusted x question.now terms path.now result }
 {
     if terms.asks_lists {
-        return judge_with(alloc, path, &question.lists, terms, verifier);
+        return judge_with(alloc, path, &question.lists, terms);
     }
     let (strict, now) = (terms.strict, terms.now);
-    Ok(judge(alloc, path, &NobodyAsked, strict, now, verifier)?)
+    Ok(judge(alloc, path, &NobodyAsked, strict, now, &RsaVerifier)?)
 }
 
 // The place of the first member whose names don't chain, if names are asked. All strings begin with
@@ -154,21 +149,27 @@ fn named(
 }
 
 // The answer of the path, whose trust anchor is trusted, and whose names are asked.
-fn judge_named<V: Verifier>(
+fn judge_named(
     alloc: Global,
     path: &GivenPath<'_, '_>,
     question: &RpkiQuestion<'_>,
     terms: Terms,
-    verifier: &V,
 ) -> Result<Judged, Refusal>
-    ensures { let x = context (V.verifies verifier.now) terms.now terms.strict in
+    ensures { let x = context IsSignedByRsa terms.now terms.strict in
         AnswersNamed x question.now terms path.now result }
 {
     let asks_names = terms.asks_names;
-    match judge_trusted(alloc, path, question, terms, verifier) {
+    match judge_trusted(alloc, path, question, terms) {
         Ok(judged) => named(alloc, path, judged, asks_names),
         Err(refusal) => Err(refusal),
     }
+}
+
+/// Tells whether the last key is one that the RPKI uses, if it is asked.
+pub(crate) fn has_key_asked(judged: &Judged, asks_key: bool) -> bool
+    ensures { IsTrue result ↔ HasKeyAsked asks_key judged.now }
+{
+    !asks_key || is_usable(judged.last_key())
 }
 
 // What was judged, of which the last key is asked.
@@ -176,7 +177,7 @@ fn keyed(judged: Judged, asks_key: bool) -> Result<Judged, Refusal>
     ensures asked { IfOk result (λ it. (it ≡ judged) × HasKeyAsked asks_key judged) }
     ensures unused { IfErr result (λ e. (e ≡ UnusedKey) × (HasKeyAsked asks_key judged → ⊥)) }
 {
-    if !asks_key || is_usable(judged.last_key()) {
+    if has_key_asked(&judged, asks_key) {
         return Ok(judged);
     }
     drop(judged);
@@ -185,70 +186,66 @@ fn keyed(judged: Judged, asks_key: bool) -> Result<Judged, Refusal>
 
 // The answer of the path, whose trust anchor is trusted, and of which the last key is asked.
 #[tactic(auto, using(crate::proofs::KeysAsked::keyed_answer))]
-fn judge_keyed<V: Verifier>(
+fn judge_keyed(
     alloc: Global,
     path: &GivenPath<'_, '_>,
     question: &RpkiQuestion<'_>,
     terms: Terms,
-    verifier: &V,
 ) -> Result<Judged, Refusal>
-    ensures { let x = context (V.verifies verifier.now) terms.now terms.strict in
+    ensures { let x = context IsSignedByRsa terms.now terms.strict in
         AnswersKeyed x question.now terms path.now result }
 {
     let asks_key = terms.asks_key;
-    match judge_named(alloc, path, question, terms, verifier) {
+    match judge_named(alloc, path, question, terms) {
         Ok(judged) => keyed(judged, asks_key),
         Err(refusal) => Err(refusal),
     }
 }
 
 // The answer of the path.
-fn judge_path<V: Verifier>(
+fn judge_path(
     alloc: Global,
     path: &GivenPath<'_, '_>,
     question: &RpkiQuestion<'_>,
     terms: Terms,
-    verifier: &V,
 ) -> Result<Judged, Refusal>
-    ensures { let x = context (V.verifies verifier.now) terms.now terms.strict in
+    ensures { let x = context IsSignedByRsa terms.now terms.strict in
         AnswersPath x question.now terms path.now result }
 {
     if terms.asks_locator {
         ask_locator(alloc, path.anchor, question.locator, terms.strict)?;
     }
-    judge_keyed(alloc, path, question, terms, verifier)
+    judge_keyed(alloc, path, question, terms)
 }
 
 // The answer to the question, whose members are these.
-fn judge_members<V: Verifier>(
+fn judge_members(
     alloc: Global,
     members: &[Member<'_>],
     question: &RpkiQuestion<'_>,
     terms: Terms,
-    verifier: &V,
 ) -> Result<Judged, Refusal>
-    ensures { let x = context (V.verifies verifier.now) terms.now terms.strict in
+    ensures { let x = context IsSignedByRsa terms.now terms.strict in
         AnswersStrings x question.now terms members.now result }
 {
     match GivenPath::of(members, terms.last) {
-        Some(path) => judge_path(alloc, &path, question, terms, verifier),
+        Some(path) => judge_path(alloc, &path, question, terms),
         None => Err(Refusal::BadCall),
     }
 }
 
 // The answer to the question, the octets of whose members are these.
-fn judge_strings<V: Verifier>(
+fn judge_strings(
     alloc: Global,
     strings: &[Bytes],
     question: &RpkiQuestion<'_>,
     terms: Terms,
-    verifier: &V,
 ) -> Result<Judged, Refusal>
-    ensures { let x = context (V.verifies verifier.now) terms.now terms.strict in
+    ensures { let x = context IsSignedByRsa terms.now terms.strict in
         AnswersStrings x question.now terms strings.now result }
 {
     let members = Member::of_each(alloc, strings)?;
-    let answer = judge_members(alloc, &members, question, terms, verifier);
+    let answer = judge_members(alloc, &members, question, terms);
     drop(members);
     answer
 }
@@ -258,90 +255,18 @@ fn judge_terms(alloc: Global, question: &RpkiQuestion<'_>, terms: Terms) -> Resu
     ensures { AnswersMembers IsSignedByRsa question.now terms result }
 {
     let strings = strings_of(alloc, &question.members)?;
-    let answer = judge_strings(alloc, &strings, question, terms, &RsaVerifier);
+    let answer = judge_strings(alloc, &strings, question, terms);
     drop(strings);
     answer
 }
 
-/// Answers a question about a path, with signatures as the RPKI has them (RSASSA-PKCS1-v1_5 with
-/// SHA-256).
+/// Answers a question about a path, with the RPKI's signatures (RSASSA-PKCS1-v1_5 with SHA-256, RFC
+/// 7935 2).
 pub(crate) fn judge_question(alloc: Global, question: &RpkiQuestion<'_>) -> Result<Judged, Refusal>
     ensures { AnswersQuestion IsSignedByRsa question.now result }
 {
     match terms_of(question) {
         Some(terms) => judge_terms(alloc, question, terms),
-        None => Err(Refusal::BadCall),
-    }
-}
-
-// The answer of these strings, by the signatures that the caller said yes to. Where each string is
-// supposed to begin with a certificate, none is read for what was asked of it.
-fn judge_supposed(
-    alloc: Global,
-    strings: &[Bytes],
-    question: &RpkiQuestion<'_>,
-    terms: &Terms,
-    yes: &[u8],
-    supposed: bool,
-) -> Result<Judged, Refusal>
-    ensures said { (IsTrue supposed → All BeginsWithCertificate strings.now)
-        → AnswersSaid question.now terms.entry.now strings.now yes.now result }
-    ensures begin { IfOk result (λ _. All BeginsWithCertificate strings.now) }
-{
-    let verifier = answers(alloc, strings, yes, supposed)?;
-    let answer = judge_strings(alloc, strings, question, *terms, &verifier);
-    drop(verifier);
-    answer
-}
-
-// The answer of these strings, by the signatures that the caller said yes to. What is accepted
-// where nothing was read begins with certificates; all else is judged again.
-fn judge_said(
-    alloc: Global,
-    strings: &[Bytes],
-    question: &RpkiQuestion<'_>,
-    terms: Terms,
-    yes: &[u8],
-) -> Result<Judged, Refusal>
-    ensures { AnswersSaid question.now terms strings.now yes.now result }
-{
-    match judge_supposed(alloc, strings, question, &terms, yes, true).ok() {
-        Some(judged) => Ok(judged),
-        None => judge_supposed(alloc, strings, question, &terms, yes, false),
-    }
-}
-
-// The answer to the question, which has these terms, by the signatures that the caller said yes to.
-fn judge_said_terms(
-    alloc: Global,
-    question: &RpkiQuestion<'_>,
-    terms: Terms,
-    yes: &[u8],
-) -> Result<Judged, Refusal>
-    ensures { AnswersSaidMembers question.now terms yes.now result }
-{
-    let strings = strings_of(alloc, &question.members)?;
-    let answer = judge_said(alloc, &strings, question, terms, yes);
-    drop(strings);
-    answer
-}
-
-/// Answers a question about a path that asks no lists, with signatures that the caller has checked:
-/// of each member, whether an octet 1 says that its signature is good.
-pub(crate) fn judge_question_said(
-    alloc: Global,
-    question: &RpkiQuestion<'_>,
-    yes: &[u8],
-) -> Result<Judged, Refusal>
-    ensures { AnswersSaidQuestion question.now yes.now result }
-{
-    match terms_of(question) {
-        Some(terms) => {
-            if terms.asks_lists {
-                return Err(Refusal::BadCall);
-            }
-            judge_said_terms(alloc, question, terms, yes)
-        }
         None => Err(Refusal::BadCall),
     }
 }

@@ -1,11 +1,10 @@
-//! Certificates, revocation lists and paths for C: functions on octets, which write into memory of
-//! the caller's and keep nothing. What an export promises of its answer stands at the function
-//! below it; `include/rpki.h` tells the caller's part.
+//! Certificates, CRLs and paths for C: functions on bytes, which write into the caller's memory and
+//! keep nothing. What an export promises is the contract of the function below it; `include/rpki.h`
+//! describes the caller's part.
 #![tactic(auto)]
 
 ghost use Rattle.std.specs.Prelude.{◌≡◌};
 
-mod answers;
 mod certificates;
 mod completing;
 mod copying;
@@ -23,10 +22,11 @@ mod locators;
 mod moments;
 mod names;
 mod paths;
+mod places;
 mod preparing;
 mod question;
+mod ranges;
 mod refusal;
-mod signatures;
 mod sorting;
 mod spans;
 mod stops;
@@ -40,7 +40,7 @@ mod walking;
 mod wanted;
 mod wanted_list;
 
-/// Tells the number of this interface. It grows with each change that a caller has to follow.
+/// Returns the number of this interface. It grows with each change that a caller has to follow.
 #[unsafe(no_mangle)]
 pub extern "C" fn rpki_abi_version() -> u32
     ensures { result ≡ 4 }

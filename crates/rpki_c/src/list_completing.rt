@@ -1,4 +1,4 @@
-//! Revocation lists that are completed by their signatures.
+//! The completion of CRLs with their signatures.
 ghost use Rattle.std.specs.Prelude.{◌↔◌, IfSome, IsNone, IsTrue};
 ghost use Rattle.rpki_c.specs.ListAnswers.{AnswersListCompletedBelow, AnswersListCompletion, AnswersListCompletionTerms, AnswersListNamed, AnswersListSigned, IsListNamed};
 ghost use Rattle.rpki_c.specs.WantedLists.{HasListCompletionTerms, HasNoListCompletionTerms};
@@ -14,21 +14,21 @@ use rpki_der::Cursor;
 use rpki_issuing::wanted::complete_list_octets;
 use std::alloc::Global;
 
-/// What was prepared of a list, and signed.
+/// A prepared CRL with its signature.
 #[repr(C)]
 #[derive(Clone, Copy)]
 pub struct RpkiListCompletion<'c> {
-    /// How many octets this struct has, as the caller knows it.
+    /// The size of this struct in bytes, as the caller knows it.
     pub size: usize,
-    /// The path of the issuer, the moment, and whether names are read strictly.
+    /// The issuer's path, the time, and whether names may only have the profile's string types.
     pub issuer: RpkiQuestion<'c>,
-    /// What was prepared.
+    /// The prepared TBSCertList.
     pub prepared: &'c [u8],
-    /// The octets of its signature.
+    /// The bytes of its signature.
     pub signature: &'c [u8],
 }
 
-/// How many octets a completion of a list has.
+/// The size of a completion of a CRL in bytes.
 pub(crate) const LIST_COMPLETION_SIZE: usize = size_of::<RpkiListCompletion<'_>>();
 
 // The data of a list: all but its signature.
@@ -130,7 +130,7 @@ fn completed(
     octets
 }
 
-/// Completes what was prepared of a list by its signature: returns the octets of the list.
+/// Completes a prepared CRL with its signature, and returns the CRL's bytes.
 pub(crate) fn complete_list(
     alloc: Global,
     completion: &RpkiListCompletion<'_>,

@@ -1,4 +1,4 @@
-//! What is to be signed of a revocation list that a caller wants.
+//! The to-be-signed part of a CRL that a caller requests.
 ghost use Rattle.std.specs.Prelude.{◌≡◌, ◌⊎◌, option_map, IfErr, IfOk};
 ghost use Rattle.rpki_crl.specs.Lists.{IsCertificateList};
 ghost use Rattle.rpki_c.specs.ListAnswers.{AnswersBehind, AnswersListBelow, AnswersListFields, AnswersListTerms, AnswersWantedList, IsNoPrevious, IsOwn, IsPreviousOf};
@@ -144,7 +144,7 @@ fn prepared(alloc: Global, list: &RpkiWantedList<'_>, terms: ListTerms) -> Resul
     octets
 }
 
-/// Prepares the list that is wanted: returns the octets that are to be signed.
+/// Prepares the requested CRL, and returns the TBSCertList's bytes.
 pub(crate) fn prepare_list(alloc: Global, list: &RpkiWantedList<'_>) -> Result<Bytes, Unissued>
     ensures { AnswersWantedList list.now result }
 {

@@ -1,4 +1,4 @@
-//! Revocation lists for C.
+//! CRLs for C.
 ghost use Rattle.std.specs.Int.Digits.{number_from_digits};
 ghost use Rattle.std.specs.Prelude.{◌≡◌, ◌≢◌, ◌≤◌, ◌+◌, ◌*◌, ◌^◌, ◌↔◌, ◌++◌, ◌∷◌, [], length, IsTrue, IsNone, OnOk, IfOk, IfErr, IfSome};
 ghost use Rattle.std.specs.List.{AllZip};
@@ -20,7 +20,7 @@ use rpki_crl::{Crl, CrlEntry, laws};
 use rpki_der::{Cursor, DecodeError, Serial};
 use std::alloc::{AllocError, Global};
 
-/// What a list holds that has a fixed size.
+/// The fields of a CRL that have a fixed size.
 #[repr(C)]
 #[derive(Clone, Copy)]
 pub struct RpkiList {
@@ -69,7 +69,7 @@ fn put_list(list: &Crl, out: &mut RpkiList)
     out.entries = entries(list);
 }
 
-/// The list that the octets begin with, or the number of a fault.
+/// The CRL at the start of the bytes, or the number of an error.
 #[tactic(auto, using(crate::proofs::Unread::unless_memory))]
 pub(crate) fn decoded(alloc: Global, octets: &[u8]) -> Result<Crl, u32>
     ensures read { IfOk result (λ l. Means IsCertificateList l.list octets.now) }
@@ -86,7 +86,15 @@ pub(crate) fn decoded(alloc: Global, octets: &[u8]) -> Result<Crl, u32>
     }
 }
 
-/// Reads the list that the octets begin with. Answers 0, or the number of a fault.
+/// Reads the CRL at the start of the bytes.
+///
+/// # Errors
+///
+/// Returns the number of an error, or 0.
+///
+/// # Not checked
+///
+/// The signature, and the times.
 #[unsafe(no_mangle)]
 pub extern "C" fn rpki_list_read(alloc: Global, octets: &[u8], out: &mut RpkiList) -> u32
     ensures read { result ≡ NONE → (l : CrlFields) × Means IsCertificateList l octets.now
@@ -126,8 +134,11 @@ fn put_entries(list: &Crl, out: &mut [RpkiEntry])
     }
 }
 
-/// Writes the entries of the list: as many as there is room for, and in `count` how many there are.
-/// Answers 0, or the number of a fault.
+/// Writes the entries of the CRL: as many as fit, and in `count` how many there are.
+///
+/// # Errors
+///
+/// Returns the number of an error, or 0.
 #[unsafe(no_mangle)]
 pub extern "C" fn rpki_list_entries(
     alloc: Global,
@@ -154,8 +165,11 @@ pub extern "C" fn rpki_list_entries(
     }
 }
 
-/// Writes the issuer's name as DER: as many octets as there is room for, and in `count` how many
-/// there are. Answers 0, or the number of a fault.
+/// Writes the issuer's name in DER: as many bytes as fit, and in `count` how many there are.
+///
+/// # Errors
+///
+/// Returns the number of an error, or 0.
 #[unsafe(no_mangle)]
 pub extern "C" fn rpki_list_issuer(
     alloc: Global,
@@ -180,7 +194,7 @@ pub extern "C" fn rpki_list_issuer(
     }
 }
 
-/// The number of 20 octets, of which the first is the greatest.
+/// The number of 20 bytes, the most significant one first.
 pub(crate) fn number_of(octets: &[u8; 20]) -> Serial
     ensures { result ≡ number_from_digits 256 octets.now }
 {
@@ -190,7 +204,7 @@ pub(crate) fn number_of(octets: &[u8; 20]) -> Serial
     }
 }
 
-/// The serial number at this place.
+/// The serial number at this index.
 pub(crate) fn serial_at(serials: &[u8], at: usize) -> Serial
     requires { 20 * at + 20 ≤ length serials.now }
     ensures { result ≡ serial_in serials.now at }
@@ -200,7 +214,7 @@ pub(crate) fn serial_at(serials: &[u8], at: usize) -> Serial
     number_of(&octets)
 }
 
-/// Whether there are 20 octets for each answer.
+/// Whether there are 20 bytes for each answer.
 pub(crate) fn add_up(serials: &[u8], answers: &[u8]) -> bool
     ensures { IsTrue result ↔ (length serials.now ≡ 20 * length answers.now) }
 {
@@ -243,10 +257,17 @@ fn list_for(alloc: Global, octets: &[u8], count: usize) -> Result<Crl, u32>
     }
 }
 
-/// Asks the list for serial numbers, which stand one behind the other in 20 octets each, and writes
-/// 1 where one is on the list and else 0. Where there are several a sorted table is made first, so
-/// that each further one costs little. Answers 0, or the number of a fault: 2 where there aren't 20
-/// octets for each answer.
+/// Searches the CRL for serial numbers of 20 bytes each, one after the other, and writes 1 if a
+/// serial number is on the CRL and else 0. If there are several, a sorted table is made first, so
+/// that each further search is fast.
+///
+/// # Errors
+///
+/// Returns the number of an error, 2 if there aren't 20 bytes for each answer, or 0.
+///
+/// # Not checked
+///
+/// Whether the CRL is the certificate's issuer's, is signed, or is current.
 #[unsafe(no_mangle)]
 pub extern "C" fn rpki_list_ask(
     alloc: Global,
@@ -273,8 +294,7 @@ pub extern "C" fn rpki_list_ask(
     }
 }
 
-/// Reads the list that the octets are. Octets behind a list are an error, since they may be another
-/// one.
+/// Reads the CRL that the bytes are. Bytes after it are an error, because they may be another CRL.
 pub(crate) fn whole_list(alloc: Global, octets: &Bytes) -> Result<Crl, DecodeError>
     ensures { MeansOrMemoryBy (λ l. l.list) IsCertificateList result octets.now }
 {
@@ -289,11 +309,14 @@ pub(crate) fn whole_list(alloc: Global, octets: &Bytes) -> Result<Crl, DecodeErr
     Ok(list)
 }
 
-/// Reads the list that the octets are, and puts its serial numbers into a table.
-pub(crate) fn list_of(alloc: Global, octets: &Bytes) -> Result<Crl, DecodeError>
+/// Reads the list that the octets are, and puts its serial numbers into a table if it is asked often.
+pub(crate) fn list_of(alloc: Global, octets: &Bytes, often: bool) -> Result<Crl, DecodeError>
     ensures { MeansOrMemoryBy (λ l. l.list) IsCertificateList result octets.now }
 {
     let mut list = whole_list(alloc, octets)?;
+    if !often {
+        return Ok(list);
+    }
     match list.cache_serials(alloc) {
         Ok(()) => Ok(list),
         Err(error) => {
@@ -310,14 +333,14 @@ fn append(lists: &mut Vec<Crl>, list: Crl) -> Result<(), AllocError>
     Ok(())
 }
 
-/// Reads a list of each of these octets, with its serial numbers in a table.
-pub(crate) fn lists_of(alloc: Global, strings: &[Bytes]) -> Result<Vec<Crl>, Refusal>
+/// Reads a list of each of these octets, with its serial numbers in a table if each is asked often.
+pub(crate) fn lists_of(alloc: Global, strings: &[Bytes], often: bool) -> Result<Vec<Crl>, Refusal>
     ensures lists { IfOk result (λ it. AllZip IsGiven strings.now it.items) }
     ensures unread { IfErr result (IsUnreadList strings.now) }
 {
     let mut lists = Vec::new(alloc);
     for octets in strings {
-        match list_of(alloc, octets) {
+        match list_of(alloc, octets, often) {
             Ok(list) => append(&mut lists, list)?,
             Err(error) => {
                 let place = lists.len();

@@ -1,4 +1,4 @@
-//! Whether a trust anchor can be a locator's.
+//! Whether a trust anchor can be a TAL's.
 ghost use Rattle.std.specs.Prelude.{◌≡◌, ℕ, Bool, List, OnOk, IfErr};
 ghost use Rattle.rpki_keys.specs.Locators.{IsLocator};
 ghost use Rattle.rpki_path.specs.LocatedPaths.{BeginsWithNumbers, IsLocatorOf};
@@ -25,9 +25,12 @@ fn compared(alloc: Global, anchor: &Member<'_>, tal: &Tal) -> Result<(), Refusal
     }
 }
 
-/// Asks whether the trust anchor has the key of the locator that a file is (RFC 8630 3), and lists a
-/// number (RFC 8630 2.3). Errs where it doesn't, and where the file is no locator or the anchor no
-/// certificate.
+/// Checks that the trust anchor has the key of the TAL (RFC 8630 3), and lists an IP address or an
+/// AS number (RFC 8630 2.3).
+///
+/// # Errors
+///
+/// Returns why it doesn't, or that the bytes aren't a TAL or the anchor isn't a certificate.
 pub(crate) fn ask_locator(
     alloc: Global,
     anchor: &Member<'_>,

@@ -1,11 +1,11 @@
-//! Moments for C.
+//! Times for C.
 ghost use Rattle.std.specs.Prelude.{◌≡◌, ◌↔◌, IsSome, IfSome};
 ghost use Rattle.rpki_der.specs.Times.{IsMoment};
 ghost use Rattle.rpki_c.specs.TimeParts.{moment_of_parts};
 
 use rpki_der::Time;
 
-/// A second of UTC, by the parts of its date and time.
+/// A second of UTC, as the parts of its date and time.
 #[repr(C)]
 #[derive(Clone, Copy)]
 pub struct RpkiTime {
@@ -15,11 +15,11 @@ pub struct RpkiTime {
     pub hour: u8,
     pub minute: u8,
     pub second: u8,
-    /// Nothing; 0 where it is written.
+    /// Unused; 0 if the library writes it.
     pub unused: u8,
 }
 
-/// The moment with these parts, where the calendar has the day and a clock the time.
+/// The time with these parts, if the calendar has the day and a clock has the time.
 pub(crate) fn moment_of(it: &RpkiTime) -> Option<Time>
     ensures exists { IsSome result ↔ IsMoment (moment_of_parts it.now) }
     ensures value { IfSome result (λ time. time ≡ moment_of_parts it.now) }
@@ -34,7 +34,7 @@ pub(crate) fn moment_of(it: &RpkiTime) -> Option<Time>
     )
 }
 
-/// The parts of a moment.
+/// The parts of a time.
 pub(crate) fn parts_of(time: Time) -> RpkiTime
     ensures parts { time ≡ moment_of_parts result }
     ensures unused { result.unused ≡ 0 }

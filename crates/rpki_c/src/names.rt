@@ -1,4 +1,4 @@
-//! The names of paths for C.
+//! Name chaining of paths for C.
 ghost use Rattle.std.specs.Prelude.{◌≡◌, ◌≢◌, ◌↔◌, ◌⊎◌, IsNone, IsSome, IfSome, IfOk, IfErr};
 ghost use Rattle.rpki_c.specs.Telling.{AreToldNames, FindsNames, IsToldNames, names_fault, names_place};
 
@@ -54,11 +54,18 @@ fn told_of(alloc: Global, strings: &[Bytes]) -> (u32, u64)
     }
 }
 
-/// Asks whether the names of a path chain: whether the trust anchor's issuer is its own subject,
-/// and that of each later member the subject of the one above it. The members stand one behind the
-/// other and have these lengths, the trust anchor first. Nothing else is asked of them. Answers 0,
-/// or the number of a fault: 600 where names don't chain. Writes the place of the first member of
-/// which that is so.
+/// Checks that the names of a path chain (RFC 6487 7.2, RFC 5280 6.1.3 (a) (4)): the trust anchor's
+/// issuer has to be its own subject, and each later certificate's issuer the subject of the one
+/// above it. The certificates follow one another and have these lengths, the trust anchor first.
+///
+/// # Errors
+///
+/// Returns the number of an error, or 0: 600 if names don't chain. Writes the path index of the
+/// first certificate at which that is so.
+///
+/// # Not checked
+///
+/// Everything else.
 #[unsafe(no_mangle)]
 pub extern "C" fn rpki_path_names(alloc: Global, members: &RpkiStrings<'_>, place: &mut u64) -> u32
     ensures { IsToldNames members.now result place.new }

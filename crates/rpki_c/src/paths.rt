@@ -1,20 +1,19 @@
 //! Paths for C.
 ghost use Rattle.std.specs.Prelude.{◌≡◌};
 ghost use Rattle.rpki_keys.specs.RsaSignatures.{IsSignedByRsa};
-ghost use Rattle.rpki_c.specs.Answered.{AnswersSaidQuestion};
 ghost use Rattle.rpki_c.specs.Verdicts.{AnswersQuestion};
 ghost use Rattle.rpki_c.specs.Telling.{acceptance, rejection, HoldsAnswer, HoldsRanges, IsSameRoom, verdict_of, IsToldVerdict};
 
 use crate::copying::{RpkiAsRange, RpkiIpRange, put_addresses, put_as_numbers};
 use crate::faults::{NONE, of_refusal};
-use crate::judging::{judge_question, judge_question_said};
+use crate::judging::judge_question;
 use crate::question::RpkiQuestion;
 use crate::refusal::Refusal;
 use rpki_cert::ResourceCert;
 use rpki_path::Judged;
 use std::alloc::Global;
 
-/// Room for the ranges that the last member of a path holds.
+/// Room for the ranges that the last certificate of a path holds.
 #[repr(C)]
 #[derive(Drop)]
 pub struct RpkiRoom<'c> {
@@ -23,16 +22,16 @@ pub struct RpkiRoom<'c> {
     pub asn: &'c mut [RpkiAsRange],
 }
 
-/// What became of a path.
+/// The verdict on a path.
 #[repr(C)]
 #[derive(Clone, Copy)]
 pub struct RpkiVerdict {
-    /// 0 where it is accepted; else the number of the fault.
+    /// 0 if the path is accepted; else the number of the error.
     pub fault: u32,
-    /// The place of the first wrong member; the trust anchor's is 0.
+    /// The path index of the first wrong certificate; the trust anchor's is 0.
     pub index: u32,
-    /// How many ranges the last member (of a router: the one above it) holds of IPv4, IPv6 and AS
-    /// numbers.
+    /// How many ranges of IPv4, IPv6 and AS numbers the last certificate holds (for a router: the
+    /// one above it).
     pub v4: u64,
     pub v6: u64,
     pub asn: u64,
@@ -94,21 +93,6 @@ fn validate(alloc: Global, question: &RpkiQuestion<'_>, room: &mut RpkiRoom<'_>)
     verdict(answer, question.members.lengths.len(), room)
 }
 
-// The verdict on the question's path, by the signatures that the caller said yes to.
-fn validate_said(
-    alloc: Global,
-    question: &RpkiQuestion<'_>,
-    yes: &[u8],
-    room: &mut RpkiRoom<'_>,
-) -> RpkiVerdict
-    ensures verdict { let answers = AnswersSaidQuestion question.now yes.now in
-        IsToldVerdict answers question.now room.old room.new result }
-    ensures room { IsSameRoom room.old room.new }
-{
-    let answer = judge_question_said(alloc, question, yes);
-    verdict(answer, question.members.lengths.len(), room)
-}
-
 /// Answers a question about a path, with real signatures (RSASSA-PKCS1-v1_5 with SHA-256). Writes
 /// the ranges that the last member holds (of a router: the one above it), as many as there is room
 /// for. Answers the verdict's fault.
@@ -125,25 +109,5 @@ pub extern "C" fn rpki_path_validate(
     ensures room { IsSameRoom room.old room.new }
 {
     *out = validate(alloc, question, room);
-    out.fault
-}
-
-/// Answers a question about a path that asks no lists as `rpki_path_validate` does, with signatures
-/// that the caller has checked: `yes` has an octet for each of `rpki_path_signatures`, 1 where it
-/// is good. Answers the verdict's fault.
-#[unsafe(no_mangle)]
-pub extern "C" fn rpki_path_validate_said(
-    alloc: Global,
-    question: &RpkiQuestion<'_>,
-    yes: &[u8],
-    room: &mut RpkiRoom<'_>,
-    out: &mut RpkiVerdict,
-) -> u32
-    ensures verdict { let answers = AnswersSaidQuestion question.now yes.now in
-        IsToldVerdict answers question.now room.old room.new out.new }
-    ensures answered { result ≡ out.new.fault }
-    ensures room { IsSameRoom room.old room.new }
-{
-    *out = validate_said(alloc, question, yes, room);
     out.fault
 }

@@ -1,4 +1,4 @@
-//! What is to be signed of a certificate that a caller wants.
+//! The to-be-signed part of a certificate that a caller requests.
 ghost use Rattle.std.specs.Prelude.{◌≡◌, option_map};
 ghost use Rattle.rpki_c.specs.WantedAnswers.{AnswersBelow, AnswersFields, AnswersTerms, AnswersWanted, unfit_of};
 
@@ -87,7 +87,7 @@ fn prepared(alloc: Global, w: &RpkiWanted<'_>, terms: WantedTerms) -> Result<Byt
     octets
 }
 
-/// Prepares the certificate that is wanted: returns the octets that are to be signed.
+/// Prepares the requested certificate, and returns the TBSCertificate's bytes.
 pub(crate) fn prepare(alloc: Global, w: &RpkiWanted<'_>) -> Result<Bytes, Unissued>
     ensures { AnswersWanted w.now result }
 {

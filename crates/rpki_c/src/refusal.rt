@@ -11,22 +11,22 @@ use std::alloc::AllocError;
 pub(crate) enum Refusal {
     /// The caller's lengths or numbers don't fit.
     BadCall,
-    /// Memory ran out before a member was judged.
+    /// Memory ran out before a certificate was validated.
     Memory,
-    /// The locator's octets are none.
+    /// The bytes aren't a TAL.
     Locator(TalError),
-    /// The trust anchor's key isn't the locator's.
+    /// The trust anchor's key isn't the TAL's.
     OtherKey,
-    /// The trust anchor, which stands at this place, lists no number.
+    /// The trust anchor, at this index, lists no IP address and no AS number.
     NoResources(usize),
-    /// The octets of the list at this place are none.
+    /// The string at this index isn't a CRL.
     List(usize, DecodeError),
-    /// A member is wrong.
+    /// A certificate of the path is wrong.
     Member(PathError),
-    /// The members are a valid path, but the issuer of the one at this place isn't the subject of the
-    /// one above it; of the trust anchor, its own.
+    /// The certificates are a valid path, but the issuer of the one at this path index isn't the
+    /// subject of the one above it; for the trust anchor, its own.
     OtherName(usize),
-    /// The members are a valid path, but the RPKI doesn't use the last one's key.
+    /// The certificates are a valid path, but the RPKI doesn't use the last one's key.
     UnusedKey,
 }
 
@@ -34,7 +34,8 @@ impl Refusal {
     ghost use Rattle.std.specs.Prelude.{◌≡◌};
     ghost use Rattle.rpki_c.specs.Telling.{refusal_place, told_place};
 
-    /// Returns the place of what is wrong, of a question of so many members, as a verdict tells it.
+    /// Returns the index of what is wrong, for a question of so many certificates, as a verdict has
+    /// it.
     pub(crate) fn index(&self, members: usize) -> u32
         ensures { result ≡ told_place (refusal_place members self.now) }
     {

@@ -1,4 +1,4 @@
-//! Strings, sorted into certificates and revocation lists.
+//! Strings, sorted into certificates and CRLs.
 ghost use Rattle.std.specs.Prelude.{◌≡◌, ◌≢◌, ◌↔◌, ◌<◌, ◌++◌, ◌∷◌, [], ℕ, List, length, IsTrue, IsNone, IfOk, IfSome, OnOk};
 ghost use Rattle.rpki_der.specs.declared.error.DecodeError.TheVariants.{Memory};
 ghost use Rattle.rpki_ext.specs.Kinds.{Means};
@@ -41,7 +41,7 @@ fn other_front(alloc: Global, octets: &Bytes) -> Result<Front, AllocError>
     requires { BeginsNoCertificate octets.now }
     ensures { IfOk result (BeginsAs octets.now) }
 {
-    match list_of(alloc, octets) {
+    match list_of(alloc, octets, true) {
         Ok(list) => Ok(Front::List(list)),
         Err(fault) => {
             rejects(fault)?;
@@ -64,14 +64,14 @@ fn front_of(alloc: Global, octets: &Bytes) -> Result<Front, AllocError>
     }
 }
 
-/// Strings, with the folder of the certificates with which they begin and the lists that they are.
+/// Strings, with the folder of the certificates at their starts and of the CRLs that they are.
 #[derive(Drop)]
 pub(crate) struct Sorted<'s> {
     pub(crate) strings: &'s [Bytes],
     pub(crate) folder: Folder,
     /// What each string was added as.
     pub(crate) added: Vec<Added>,
-    /// At the place of each certificate of the folder, the place of its string.
+    /// At the place of each certificate of the folder, the index of its string.
     pub(crate) origins: Vec<usize>,
 }
 
@@ -153,8 +153,8 @@ impl<'s> Sorted<'s> {
         Ok(())
     }
 
-    /// Sorts strings: each is taken for the certificate with which it begins, else for the list
-    /// that it is.
+    /// Sorts strings: a string counts as the certificate at its start, and else as the CRL that it
+    /// is.
     pub(crate) fn of(alloc: Global, strings: &'s [Bytes]) -> Result<Sorted<'s>, AllocError>
         ensures sorted { IfOk result IsSorted }
         ensures strings { IfOk result (λ it. it.strings.now ≡ strings.now) }
@@ -189,7 +189,7 @@ impl<'s> Sorted<'s> {
         }
     }
 
-    /// Returns the place of the first string that begins with a certificate of the locator's key.
+    /// Returns the index of the first string that starts with a certificate of the TAL's key.
     pub(crate) fn anchor(&self, alloc: Global, tal: &Tal) -> Result<Option<usize>, AllocError>
         requires { IsSorted self.now }
         ensures some { IfOk result (λ found.

@@ -1,10 +1,10 @@
-//! Where the parts of a certificate stand in its octets that are wanted to verify a signature.
+//! The spans of a certificate's parts by which a signature is verified.
 ghost use Rattle.std.specs.Prelude.{◌≡◌, ◌≢◌, ◌≤◌, length, IfErr, IfOk, OnOk};
 ghost use Rattle.rpki_der.specs.Place.{MovesOn};
 ghost use Rattle.rpki_der.specs.Tags.{SEQUENCE};
 ghost use Rattle.rpki_der.specs.declared.error.DecodeError.TheVariants.{Memory};
 ghost use Rattle.rpki_folder.specs.Folders.{BeginsNoCertificate};
-ghost use Rattle.rpki_c.specs.CertificateSpans.{AreSignedSpans, AreTagged, BitsStoodAt, GoesBehind, HasTag, IsAtFields, IsAtKey, IsInside, IsKeyBits, IsKeySpan, IsSpan, StandsNone, StandsNoBits, StoodAt};
+ghost use Rattle.rpki_c.specs.CertificateSpans.{AreSignedSpans, AreTagged, BitsStoodAt, GoesBehind, HasTag, IsAtFields, IsAtKey, IsInside, IsKeySpan, IsSpan, StandsNone, StandsNoBits, StoodAt};
 
 use bytes::Bytes;
 use rpki_der::{Cursor, DecodeError, tag};
@@ -108,17 +108,6 @@ pub(crate) fn key_span(octets: &Bytes) -> Result<(usize, usize), DecodeError>
 {
     let mut rest = at_key(octets)?;
     sequence_span(&mut rest)
-}
-
-/// The span of the bits of the key of a certificate.
-pub(crate) fn key_bits(octets: &Bytes) -> Result<(usize, usize), DecodeError>
-    ensures bits { IfOk result (IsKeyBits octets.now) }
-    ensures none { IfErr result (λ _. BeginsNoCertificate octets.now) }
-    ensures fault { IfErr result (λ e. e ≢ Memory) }
-{
-    let mut rest = at_key(octets)?;
-    let mut info = rest.take_sequence()?;
-    bits_span(&mut info)
 }
 
 /// The spans of what is signed of a certificate, and of its signature.

@@ -1,4 +1,4 @@
-//! Where the reading of octets stops, for C.
+//! The place where reading stops, for C.
 ghost use Rattle.std.specs.Prelude.{◌≡◌, ◌≢◌, ◌<◌, ◌↔◌, ◌==◌, not, false, true, Bool, ℕ, List, IsNone, IsErr, IfOk, IfSome};
 ghost use Rattle.rpki_files.specs.Misreads.{BeginsAsRead, IsMisread};
 ghost use Rattle.rpki_c.specs.StopTelling.{TellsStop, found_text, place_text, text_number};
@@ -11,17 +11,17 @@ use bytes::Bytes;
 use rpki_files::{Flaw, Misread, Place, decode_cert, decode_crl};
 use std::alloc::{AllocError, Global};
 
-/// Where the reading of octets stops.
+/// The place where reading stops.
 #[repr(C)]
 #[derive(Clone, Copy)]
 pub struct RpkiStop {
-    /// 0 where they are read; else the number of the fault.
+    /// 0 if the bytes are read; else the number of the error.
     pub fault: u32,
-    /// The octet at which reading stops.
+    /// The offset at which reading stops.
     pub octet: u64,
 }
 
-/// A text of the part at which reading stops.
+/// A text about the part at which reading stops.
 #[derive(Clone, Copy)]
 enum PartText {
     Name,
@@ -162,11 +162,14 @@ fn told(
     put_stop(alloc, why, which, stop, out)
 }
 
-/// Tells where the reading of octets stops that begin with no certificate, or, where `is_list`
-/// isn't 0, with no list: the fault and the octet, and a text of the part there, 0 its name, 1 what
-/// is wanted, 2 what is found. Writes as many octets as there is room for, and in `count` how many
-/// there are; 0 where they begin with one. Answers 0, or the number of a fault: 2 where `which` is
-/// another number.
+/// Finds where reading stops of bytes that start with no certificate, or, if `is_list` isn't 0,
+/// with no CRL: the error and the offset, and a text about the part there: 0 its name, 1 what is
+/// expected, 2 what is found. Writes as many bytes of the text as fit, and in `count` how many
+/// there are; 0 if the bytes can be read.
+///
+/// # Errors
+///
+/// Returns the number of an error, 2 if `which` is another number, or 0.
 #[unsafe(no_mangle)]
 pub extern "C" fn rpki_stop_text(
     alloc: Global,

@@ -1,11 +1,11 @@
-//! Strings of octets that stand one behind the other.
+//! Strings of bytes, one after the other.
 ghost use Rattle.std.specs.Prelude.{◌≡◌, ◌↔◌, length, sum, IsSome, IfOk, IfSome};
 ghost use Rattle.rpki_c.specs.Strings.{AreCut};
 
 use bytes::Bytes;
 use std::alloc::{AllocError, Global};
 
-/// Octets that stand one behind the other, and the length of each string.
+/// Bytes of strings, one after the other, and the length of each string.
 #[repr(C)]
 #[derive(Clone, Copy)]
 pub struct RpkiStrings<'c> {
@@ -13,8 +13,8 @@ pub struct RpkiStrings<'c> {
     pub lengths: &'c [usize],
 }
 
-/// Cuts octets into the strings that stand there one behind the other and have these lengths. Gives
-/// `None` where the octets end before them or go on behind them.
+/// Cuts bytes into the strings of these lengths, one after the other. Returns `None` if the bytes
+/// are fewer or more than the lengths' sum.
 pub(crate) fn cut(
     alloc: Global,
     octets: &[u8],

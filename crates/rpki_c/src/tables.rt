@@ -1,4 +1,4 @@
-//! Revoked serial numbers in a table in the caller's memory, which is made once and asked often.
+//! A table of revoked serial numbers in the caller's memory, which is made once and searched often.
 ghost use Rattle.std.specs.Int.Digits.{number_from_digits};
 ghost use Rattle.std.specs.List.Sorted.{IsPermutation};
 ghost use Rattle.std.specs.Ordering.{MatchOrdering};
@@ -24,8 +24,8 @@ use std::cmp::Ordering;
 #[derive(Clone, Copy)]
 pub struct RpkiSerial {
     pub serial: [u8; 20],
-    /// Where a search begins: of the entry at a place, the place of the first serial number of the
-    /// part of that number.
+    /// The place where a search starts: for the entry at an index, the index of the first serial
+    /// number of the part with that number.
     pub hint: u32,
 }
 
@@ -33,9 +33,9 @@ pub struct RpkiSerial {
 // where a search begins.
 #[derive(Clone, Copy)]
 struct Parts {
-    /// The least number without its last 32 bits.
+    /// The least serial number without its last 32 bits.
     base: u128,
-    /// Whether distances from it are told without their last 32 bits.
+    /// Whether distances from it are kept without their last 32 bits.
     is_wide: bool,
     shift: u32,
     count: u64,
@@ -168,9 +168,16 @@ fn read_table(alloc: Global, octets: &[u8]) -> Result<Vec<RpkiSerial>, u32>
     }
 }
 
-/// Writes a table of the list that the octets begin with, to be asked by `rpki_table_ask`: as many
-/// entries as there is room for, and in `count` how many there are. Answers 0, or the number of a
-/// fault.
+/// Writes a table of the CRL at the start of the bytes, for `rpki_table_ask`: as many entries as
+/// fit, and in `count` how many there are.
+///
+/// # Errors
+///
+/// Returns the number of an error, or 0.
+///
+/// # Not checked
+///
+/// The signature, and the times.
 #[unsafe(no_mangle)]
 pub extern "C" fn rpki_list_table(
     alloc: Global,
@@ -315,9 +322,13 @@ fn put_answers(table: &[RpkiSerial], serials: &[u8], answers: &mut [u8])
     }
 }
 
-/// Asks a table that `rpki_list_table` has written for serial numbers, which stand one behind the
-/// other in 20 octets each, and writes 1 where one is on its list and else 0. Of other entries than
-/// a table's the answers say nothing. Answers 0, or 2 where there aren't 20 octets for each answer.
+/// Searches a table that `rpki_list_table` has written for serial numbers of 20 bytes each, one
+/// after the other, and writes 1 if a serial number is on the table's CRL and else 0. The answers
+/// mean nothing for entries that aren't such a table's.
+///
+/// # Errors
+///
+/// Returns 2 if there aren't 20 bytes for each answer, or 0.
 #[unsafe(no_mangle)]
 pub extern "C" fn rpki_table_ask(table: &[RpkiSerial], serials: &[u8], answers: &mut [u8]) -> u32
     ensures bad_call { (result ≡ BAD_CALL) ↔ (length serials.now ≢ 20 * length answers.old) }

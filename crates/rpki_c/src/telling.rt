@@ -1,4 +1,4 @@
-//! What callers are told of a fault's number: the fault's name and its sentence.
+//! The texts of an error's number: its name and its sentence.
 ghost use Rattle.std.specs.Prelude.{◌≡◌, ◌≢◌, ◌<◌, ◌^◌, length, option_map};
 ghost use Rattle.rpki_files.specs.FaultTable.{fault_fields};
 ghost use Rattle.rpki_c.specs.FaultTexts.{TellsText, first_number as first, has_part as parted, name_told, part_name as name_of_part, sentence_told, told_of, told_fields};
@@ -46,9 +46,12 @@ fn fault_told(number: u32) -> Option<(&'static Fault, &'static str)>
     Some((fault, part))
 }
 
-/// Tells the name of the fault with this number, as the library's enums have it: writes as many
-/// octets as there is room for, and in `count` how many there are. Answers 0, or 2 where no fault
-/// has the number.
+/// Writes the name of the error with this number, as in the library's enums: as many bytes as fit,
+/// and in `count` how many there are.
+///
+/// # Errors
+///
+/// Returns 2 if no error has the number, or 0.
 #[unsafe(no_mangle)]
 pub extern "C" fn rpki_fault_name(number: u32, out: &mut [u8], count: &mut u64) -> u32
     ensures name { TellsText (name_told number) result out.old out.new count.new }
@@ -77,9 +80,12 @@ fn put_sentence(fault: &Fault, part: &str, out: &mut [u8]) -> u64
     (before + part.len() + behind) as u64
 }
 
-/// Tells what the fault with this number means, as the library prints it: writes as many octets as
-/// there is room for, and in `count` how many there are. Answers 0, or 2 where no fault has the
-/// number.
+/// Writes the sentence of the error with this number, as the library prints it: as many bytes as
+/// fit, and in `count` how many there are.
+///
+/// # Errors
+///
+/// Returns 2 if no error has the number, or 0.
 #[unsafe(no_mangle)]
 pub extern "C" fn rpki_fault_sentence(number: u32, out: &mut [u8], count: &mut u64) -> u32
     ensures sentence { TellsText (sentence_told number) result out.old out.new count.new }

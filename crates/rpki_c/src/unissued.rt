@@ -1,4 +1,4 @@
-//! Why no certificate and no revocation list is prepared or completed.
+//! Why no certificate and no CRL is prepared or completed.
 ghost use Rattle.rpki_c.specs.declared.unissued.Unissued.TheVariants as unissued;
 
 use crate::certificates::CertUri;
@@ -6,28 +6,28 @@ use crate::refusal::Refusal;
 use rpki_issuing::wanted::WantedError;
 use std::alloc::AllocError;
 
-/// Why no certificate and no revocation list is prepared or completed.
+/// Why no certificate and no CRL is prepared or completed.
 #[derive(Drop)]
 pub(crate) enum Unissued {
     /// The caller's lengths or numbers don't fit.
     BadCall,
     /// Memory ran out.
     Memory,
-    /// The path of the issuer isn't accepted.
+    /// The issuer's path isn't accepted.
     Issuer(Refusal),
-    /// The octets of the key are no SubjectPublicKeyInfo.
+    /// The bytes of the key aren't a SubjectPublicKeyInfo.
     NoKey,
     /// The RPKI doesn't use the key.
     UnusedKey,
-    /// The octets of this URI are none.
+    /// The bytes of this URI aren't a URI of its kind.
     BadUri(CertUri),
     /// The subject would have no name.
     NoName,
-    /// The octets of the list before are none of the issuer.
+    /// The bytes of the previous CRL aren't a CRL of the issuer.
     OtherList,
-    /// The octets that were signed are no TBSCertificate, or no TBSCertList.
+    /// The signed bytes are neither a TBSCertificate nor a TBSCertList.
     NotToSign,
-    /// The name of its issuer isn't that of who issues.
+    /// The issuer's name in it isn't that of the issuer.
     OtherName,
     /// It isn't ready to be signed, or isn't signed.
     Unfit(WantedError),
@@ -38,7 +38,7 @@ impl Unissued {
     ghost use Rattle.rpki_c.specs.IssuedTelling.{unissued_place};
     ghost use Rattle.rpki_c.specs.Telling.{told_place};
 
-    /// Returns the place of what is wrong, below so many members, as it is told.
+    /// Returns the path index of what is wrong, below so many certificates.
     pub(crate) fn index(&self, members: usize) -> u32
         ensures { result ≡ told_place (unissued_place members self.now) }
     {

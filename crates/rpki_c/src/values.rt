@@ -1,4 +1,4 @@
-//! The values of a certificate that a caller wants.
+//! The values of a certificate that a caller requests.
 ghost use Rattle.std.specs.Int.{w128, from_be_bytes};
 ghost use Rattle.std.specs.Prelude.{◌≡◌, ◌≢◌, ◌⊎◌, ◌<◌, ◌≤◌, [], length, map, Ok, Err, IfErr, IfOk, IsFalse, IsTrue, MatchOption};
 ghost use Rattle.rpki_blocks.specs.Sets.{Block as Span, between};
@@ -365,7 +365,7 @@ fn key_of(alloc: Global, w: &RpkiWanted<'_>) -> Result<PublicKey, Unissued>
     Err(Unissued::UnusedKey)
 }
 
-/// Returns what is wanted of a certificate, and the subject's key.
+/// Returns the values of the requested certificate, and the subject's key.
 pub(crate) fn values_of(
     alloc: Global,
     w: &RpkiWanted<'_>,

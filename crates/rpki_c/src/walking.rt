@@ -1,17 +1,16 @@
-//! The walk over a folder's strings, below the trust anchor among them.
-ghost use Rattle.std.specs.Prelude.{◌≡◌, ◌≢◌, ◌<◌, [], length, Err, IfOk, IfErr};
+//! The walk over a directory's strings, below the trust anchor among them.
+ghost use Rattle.std.specs.Prelude.{◌≡◌, ◌<◌, [], length, Err, IfOk, IfErr};
 ghost use Rattle.rpki_cert.specs.Verification.{context};
 ghost use Rattle.rpki_path.specs.AskedLists.{by_named_lists};
 ghost use Rattle.rpki_keys.specs.RsaSignatures.{IsSignedByRsa};
 ghost use Rattle.rpki_folder.specs.KeptLines.{AreLines};
 ghost use Rattle.rpki_folder.specs.Walks.{at_anchor, IsWhyNone};
-ghost use Rattle.rpki_folder.specs.declared.walk_error.WalkError.TheVariants.{OtherName};
 ghost use Rattle.rpki_c.specs.FolderFates.{IsFirstWithKey};
 ghost use Rattle.rpki_c.specs.FolderFates.Steps.{IsSorted, IsWalked, fate_at, refusal_of};
 ghost use Rattle.rpki_c.specs.FolderTelling.{AreLinesOf, AnswersBelow, AnswersLocated, AnswersGiven, AnswersFolder};
 ghost use Rattle.rpki_c.specs.declared.refusal.Refusal.TheVariants.{Memory};
 
-use crate::folder_lines::RpkiLine;
+use crate::folder_lines::ToldLines;
 use crate::folder_question::{FolderTerms, RpkiFolderQuestion, folder_terms_of};
 use crate::judging::strings_of;
 use crate::refusal::Refusal;
@@ -24,24 +23,23 @@ use rpki_keys::tal::Tal;
 use rpki_path::{LocatedError, Member, PathError};
 use std::alloc::Global;
 
-/// What became of a folder's strings.
+/// The results for a directory's strings.
 #[derive(Drop)]
 pub(crate) struct Walked {
-    /// Of each string.
-    pub(crate) lines: Vec<RpkiLine>,
+    /// The line of each string.
+    pub(crate) told: ToldLines,
     pub(crate) ended: Ended,
-    /// The place of the trust anchor.
+    /// The index of the trust anchor.
     pub(crate) anchor: usize,
 }
 
-// Why there was no walk below the trust anchor at a place. Names aren't checked.
+// Why there was no walk below the trust anchor at a place.
 fn refused(error: WalkError, place: usize) -> Refusal
-    requires { error ≢ OtherName }
     ensures { result ≡ refusal_of place error }
 {
     match error {
         WalkError::Memory => Refusal::Memory,
-        WalkError::OtherName => unreachable!(),
+        WalkError::OtherName => Refusal::OtherName(place),
         WalkError::Anchor(LocatedError::OtherKey) => Refusal::OtherKey,
         WalkError::Anchor(LocatedError::NoResources) => Refusal::NoResources(place),
         WalkError::Anchor(LocatedError::Path(error)) => {
@@ -93,14 +91,14 @@ fn with_lines(
     requires kept { length kept.now ≡ length sorted.now.folder.certs }
     ensures lines { let strings = sorted.now.strings.now in
         let fate = fate_at sorted.now kept.now anchor in
-        IfOk result (λ it. AreLinesOf asks_key anchor strings fate (length strings) it.lines.items) }
+        IfOk result (λ it. AreLinesOf asks_key anchor strings fate (length strings) it.told) }
     ensures ended { IfOk result (λ it. it.ended ≡ ended) }
     ensures anchor { IfOk result (λ it. it.anchor ≡ anchor) }
     ensures memory { IfErr result (λ r. r ≡ Memory) }
 {
-    let lines = sorted.lines(alloc, kept.as_slice(), anchor, asks_key)?;
+    let told = sorted.lines(alloc, kept.as_slice(), anchor, asks_key)?;
     Ok(Walked {
-        lines,
+        told,
         ended,
         anchor,
     })
@@ -122,13 +120,14 @@ fn walk_from(
     laws::unambiguous();
     let count = sorted.folder.certs().len();
     let (strict, at, asks_key) = (terms.strict, terms.now, terms.asks_key);
+    let names = terms.asks_names;
     let bounds = terms.bounds(count);
     let walk = Walk {
         alloc,
         folder: &sorted.folder,
         admission: &AllAdmitted,
         bounds,
-        names: false,
+        names,
         strict,
         at,
         verifier: &RsaVerifier,
@@ -212,8 +211,8 @@ fn walk_given(
     answer
 }
 
-/// Answers a question about a folder, with signatures as the RPKI has them (RSASSA-PKCS1-v1_5 with
-/// SHA-256).
+/// Answers a question about a directory, with the RPKI's signatures (RSASSA-PKCS1-v1_5 with
+/// SHA-256, RFC 7935 2).
 pub(crate) fn judge_folder(
     alloc: Global,
     question: &RpkiFolderQuestion<'_>,

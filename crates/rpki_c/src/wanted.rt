@@ -1,4 +1,4 @@
-//! What a caller wants of a certificate, by octets, lengths and numbers.
+//! A certificate that a caller requests, as bytes, lengths and numbers.
 ghost use Rattle.std.specs.Prelude.{◌≡◌, ◌<◌, ◌↔◌, IsNone, IfSome};
 ghost use Rattle.rpki_c.specs.WantedQuestions.{trim_number, HasWantedTerms, HasNoWantedTerms};
 
@@ -9,27 +9,27 @@ use crate::question::{RpkiQuestion, Terms, terms_of};
 use rpki_cert::Kind;
 use rpki_der::Time;
 
-/// What is listed of a family of addresses.
+/// The addresses of a family that the certificate is to list.
 #[repr(C)]
 #[derive(Clone, Copy)]
 pub struct RpkiAddresses<'c> {
-    /// In any order; they may overlap.
+    /// The ranges, in any order; they may overlap.
     pub ranges: &'c [RpkiIpRange],
-    /// 0: nothing, 1: what the issuer has, 2: these ranges.
+    /// 0: nothing, 1: inherited from the issuer, 2: these ranges.
     pub state: u32,
 }
 
-/// What is listed of the AS numbers.
+/// The AS numbers that the certificate is to list.
 #[repr(C)]
 #[derive(Clone, Copy)]
 pub struct RpkiAsNumbers<'c> {
-    /// In any order; they may overlap.
+    /// The ranges, in any order; they may overlap.
     pub ranges: &'c [RpkiAsRange],
-    /// 0: nothing, 1: what the issuer has, 2: these ranges.
+    /// 0: nothing, 1: inherited from the issuer, 2: these ranges.
     pub state: u32,
 }
 
-/// The URIs. One without octets is left out.
+/// The URIs. An empty one is left out.
 #[repr(C)]
 #[derive(Clone, Copy)]
 pub struct RpkiUris<'c> {
@@ -41,15 +41,15 @@ pub struct RpkiUris<'c> {
     pub notify: &'c [u8],
 }
 
-/// A certificate that is wanted.
+/// A requested certificate.
 #[repr(C)]
 #[derive(Clone, Copy)]
 pub struct RpkiWanted<'c> {
-    /// How many octets this struct has, as the caller knows it.
+    /// The size of this struct in bytes, as the caller knows it.
     pub size: usize,
-    /// The path of the issuer, the moment, and whether names are read strictly.
+    /// The issuer's path, the time, and whether names may only have the profile's string types.
     pub issuer: RpkiQuestion<'c>,
-    /// The SubjectPublicKeyInfo.
+    /// The SubjectPublicKeyInfo, in DER.
     pub key: &'c [u8],
     pub v4: RpkiAddresses<'c>,
     pub v6: RpkiAddresses<'c>,
@@ -58,22 +58,22 @@ pub struct RpkiWanted<'c> {
     pub not_before: RpkiTime,
     pub not_after: RpkiTime,
     pub serial: [u8; 20],
-    /// What it is: 0 a trust anchor, 1 a CA, 2 an end entity, 3 a detached one, 4 a router.
+    /// The kind: 0 a trust anchor, 1 a CA, 2 an end entity, 3 a detached end entity, 4 a router.
     pub kind: u32,
-    /// 0: refused, 1: trimmed (RFC 8360).
+    /// 0: overclaiming is rejected, 1: it is trimmed (RFC 8360).
     pub overclaim: u32,
 }
 
-/// How many octets a certificate that is wanted has.
+/// The size of a requested certificate in bytes.
 pub(crate) const WANTED_SIZE: usize = size_of::<RpkiWanted<'_>>();
 
-/// How a certificate is prepared.
+/// The terms under which a certificate is prepared.
 #[derive(Clone, Copy)]
 pub(crate) struct WantedTerms {
     pub(crate) kind: Kind,
-    /// Whether resources that the issuer doesn't hold are trimmed.
+    /// Whether resources that the issuer doesn't hold are trimmed (RFC 8360).
     pub(crate) trims: bool,
-    /// How the issuer's path is judged, and when.
+    /// The terms under which the issuer's path is validated, and the time.
     pub(crate) asked: Terms,
     pub(crate) not_before: Time,
     pub(crate) not_after: Time,
@@ -91,8 +91,8 @@ fn is_trimmed(number: u32) -> Option<bool>
     }
 }
 
-/// Tells how a certificate is prepared. Gives `None` where no kind, policy or moment has its
-/// numbers, where the path of the issuer has no terms, and where the caller knows another struct.
+/// Returns the terms under which a certificate is prepared, or `None` if a kind, a policy or a time
+/// doesn't exist, if the issuer's path has no terms, or if the caller knows another struct.
 #[tactic(auto, using(crate::proofs::WantedTermsGiven::no_wanted_size, crate::proofs::WantedTermsGiven::no_wanted_kind, crate::proofs::WantedTermsGiven::no_wanted_policy, crate::proofs::WantedTermsGiven::no_wanted_path, crate::proofs::WantedTermsGiven::no_wanted_begin, crate::proofs::WantedTermsGiven::no_wanted_end))]
 pub(crate) fn wanted_terms_of(wanted: &RpkiWanted<'_>) -> Option<WantedTerms>
     ensures terms { IfSome result (HasWantedTerms wanted.now) }

@@ -1,4 +1,4 @@
-//! What a caller wants of a revocation list, by octets, lengths and numbers.
+//! A CRL that a caller requests, as bytes, lengths and numbers.
 ghost use Rattle.std.specs.Prelude.{◌≡◌, [], map, IfErr, IfOk, IfSome, IsFalse, IsNone, IsTrue, MatchOption};
 ghost use Rattle.rpki_crl.specs.RevokedEntries.Views.{entry_of};
 ghost use Rattle.rpki_c.specs.ListAnswers.{GivesNoList};
@@ -13,38 +13,38 @@ use rpki_der::{Serial, Time};
 use rpki_issuing::wanted::WantedList;
 use std::alloc::{AllocError, Global};
 
-/// A revocation list that is wanted.
+/// A requested CRL.
 #[repr(C)]
 #[derive(Clone, Copy)]
 pub struct RpkiWantedList<'c> {
-    /// How many octets this struct has, as the caller knows it.
+    /// The size of this struct in bytes, as the caller knows it.
     pub size: usize,
-    /// The path of the issuer, the moment, and whether names are read strictly.
+    /// The issuer's path, the time, and whether names may only have the profile's string types.
     pub issuer: RpkiQuestion<'c>,
-    /// The issuer's list before. Without octets there was none.
+    /// The issuer's previous CRL; empty if there is none.
     pub previous: &'c [u8],
-    /// What is revoked now, beside what the list before revokes.
+    /// The entries to be added to those of the previous CRL.
     pub revoked: &'c [RpkiEntry],
     pub this_update: RpkiTime,
     pub next_update: RpkiTime,
-    /// Zeros: one more than that of the list before, and 1 for a first list.
+    /// The CRL number. Zeros mean one more than the previous CRL's, and 1 for a first CRL.
     pub number: [u8; 20],
 }
 
-/// How many octets a list that is wanted has.
+/// The size of a requested CRL in bytes.
 pub(crate) const WANTED_LIST_SIZE: usize = size_of::<RpkiWantedList<'_>>();
 
-/// How a list is prepared.
+/// The terms under which a CRL is prepared.
 #[derive(Clone, Copy)]
 pub(crate) struct ListTerms {
-    /// How the issuer's path is judged, and when.
+    /// The terms under which the issuer's path is validated, and the time.
     pub(crate) asked: Terms,
     pub(crate) this_update: Time,
     pub(crate) next_update: Time,
 }
 
-/// Tells how a list is prepared. Gives `None` where no moment has its numbers, where the path of
-/// the issuer has no terms, and where the caller knows another struct.
+/// Returns the terms under which a CRL is prepared, or `None` if a time doesn't exist, if the
+/// issuer's path has no terms, or if the caller knows another struct.
 #[tactic(auto, using(crate::proofs::ListTermsGiven::no_list_size, crate::proofs::ListTermsGiven::no_list_path, crate::proofs::ListTermsGiven::no_this_update, crate::proofs::ListTermsGiven::no_next_update))]
 pub(crate) fn list_terms_of(list: &RpkiWantedList<'_>) -> Option<ListTerms>
     ensures terms { IfSome result (HasListTerms list.now) }
@@ -117,7 +117,7 @@ fn entries_given(alloc: Global, revoked: &[RpkiEntry]) -> Result<Option<Vec<CrlE
     }
 }
 
-/// Returns what is wanted of the list.
+/// Returns the values of the requested CRL.
 pub(crate) fn list_given(
     alloc: Global,
     list: &RpkiWantedList<'_>,

@@ -1,15 +1,16 @@
 -- What the steps give by which strings are judged.
-use Rattle.std.specs.Prelude.{◌≡◌, ◌==◌, ◌<◌, ℕ, Bool, List, [], length, map, slice_index_or, if◌then◌else◌}
+use Rattle.std.specs.Prelude.{◌≡◌, ◌==◌, ◌<◌, ℕ, Bool, List, [], length, map, slice_index_or, if◌then◌else◌, IsTrue}
 use Rattle.std.specs.List.{AllByRecursion}
 use Rattle.rpki_ext.specs.Kinds.{Means}
 use Rattle.rpki_cert.specs.Certificates.{CertFields, IsCertificate}
 use Rattle.rpki_cert.specs.Verification.{Context, ResourceFields}
 use Rattle.rpki_crl.specs.Lists.{CrlState}
 use Rattle.rpki_path.specs.Asking.{RevocationChecks}
+use Rattle.rpki_path.specs.NameChains.{IsSelfNamed}
 use Rattle.rpki_path.specs.declared.located.LocatedError.TheVariants.{OtherKey, NoResources, Path as path}
 use Rattle.rpki_folder.specs.Folders.{FolderFields, octets_at, BeginsNoCertificate}
 use Rattle.rpki_folder.specs.KeptLines.{AreLines}
-use Rattle.rpki_folder.specs.Walks.{Root, LeadsTo, Told, IsRight, AreUsedUp, IsTooDeep, IsComplete, IsLookedAt}
+use Rattle.rpki_folder.specs.Walks.{Root, LeadsTo, Told, IsRight, IsLetIn, AreUsedUp, IsTooDeep, IsComplete, IsLookedAt}
 use Rattle.rpki_folder.specs.declared.bounds.Ended.{Ended}
 use Rattle.rpki_folder.specs.declared.folder.Added.{Added}
 use Rattle.rpki_folder.specs.declared.folder.Added.TheVariants.{Certificate, List as list_added, Neither}
@@ -69,7 +70,7 @@ origin_of s place = slice_index_or s.origins.items place (length s.added.items)
 -- of a certificate, by the strings of the CAs above it
 abbrev pub kept_fate : (ℕ → ℕ) → Line → Fate
 kept_fate origin Unseen = unseen
-kept_fate origin (Accepted found) = accepted (map origin found.above.items)
+kept_fate origin (Accepted found) = accepted (map origin found.above.items) found.judged
 kept_fate origin (Rejected step fault) = rejected step fault
 
 -- of what was added
@@ -87,20 +88,22 @@ pub record IsWalked (x : Context) (asked : RevocationChecks) (names : Bool) (roo
     (certs : List (List ℕ)) (depth steps : ℕ) (kept : List Line) (ended : Ended) : Type 0 where
   pub holder : ResourceFields
   pub holds : LeadsTo x asked root [] holder
+  pub named : IsTrue names → IsSelfNamed holder.cert
   pub tells : List Told
   pub lines_are : AreLines tells kept
   pub right : AllByRecursion (IsRight x asked root certs) tells
+  pub let_in : AllByRecursion
+      (IsLetIn (IsLookedAt names (λ above place. Unit {0}) holder.cert certs) []) tells
   pub used_up : AreUsedUp steps tells ended
   pub too_deep : IsTooDeep x asked (IsLookedAt names (λ above place. Unit {0}) holder.cert certs) root
       certs [] depth ended
   pub complete : IsComplete x asked (IsLookedAt names (λ above place. Unit {0}) holder.cert certs) root
       certs [] depth tells ended
 
--- why there was no walk below the trust anchor at a place. Names aren't asked: it is never refused for
--- one
+-- why there was no walk below the trust anchor at a place
 abbrev pub refusal_of : ℕ → WalkError → Refusal
 refusal_of place Memory = refusal.Memory
-refusal_of place OtherName = refusal.Memory
+refusal_of place OtherName = refusal.OtherName place
 refusal_of place (Anchor OtherKey) = refusal.OtherKey
 refusal_of place (Anchor NoResources) = refusal.NoResources place
 refusal_of place (Anchor (path e)) = refusal.Member (record { index = place; fault = e.fault })

@@ -10,8 +10,8 @@ use Rattle.rpki_c.specs.FolderTelling.{IsLineOf}
 use Rattle.rpki_c.proofs.SortedMore.{filed_at}
 use Rattle.rpki_c.proofs.sorting.Sorted.line_at.Goals as goal
 
-pub returns-in-Certificate : goal.returns-in-Certificate
-returns-in-Certificate c =
+pub returns-in-Certificate-clause-line : goal.returns-in-Certificate-clause-line
+returns-in-Certificate-clause-line c =
     let s = c.args.self.now in
     let kept = c.args.kept.now in
     let at = c.in-Certificate.at in
@@ -22,5 +22,6 @@ returns-in-Certificate c =
     let low : at < length kept = subst (λ (n : ℕ). at < n) (sym c.requires.kept) filed.0 in
     let line : c.index-kept-at.result ≡ get_or kept at Unseen = get_or_read kept at c.index-kept-at.result low c.index-kept-at.is Unseen in
     let fate : kept_fate (origin_of s) c.index-kept-at.result ≡ fate_at s kept c.args.anchor place = search rules in
-    subst (λ (f : Fate). IfOk c.line.result (IsLineOf c.args.asks_key c.args.anchor (octets_at s.strings.now place) f)) fate
-    (subst (λ (o : List ℕ). IfOk c.line.result (IsLineOf c.args.asks_key c.args.anchor o (kept_fate (origin_of s) c.index-kept-at.result))) filed.1 c.line.ensures)
+    let ranges = c.line.new.ranges in
+    subst (λ (f : Fate). IfOk c.line.result (IsLineOf c.args.asks_key c.args.anchor (octets_at s.strings.now place) f ranges)) fate
+    (subst (λ (o : List ℕ). IfOk c.line.result (IsLineOf c.args.asks_key c.args.anchor o (kept_fate (origin_of s) c.index-kept-at.result) ranges)) filed.1 c.line.ensures.line)

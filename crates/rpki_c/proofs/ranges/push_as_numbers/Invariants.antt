@@ -1,0 +1,6 @@
+use Rattle.std.proofs.Common.{◌≡◌, ◌++◌, map, take}
+use Rattle.rpki_c.specs.Writing.{as_struct}
+use Rattle.rpki_c.proofs.ranges.push_as_numbers.Given as goal
+
+abbrev pub invariant-loop-block : goal.invariant-loop-block
+invariant-loop-block l = l.all.items ≡ l.initial.all.items ++ map as_struct (take l.block-index l.blocks)
