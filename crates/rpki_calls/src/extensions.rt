@@ -12,19 +12,27 @@ fn bare() -> Extensions {
     Extensions::bare(id, KeyUsage::Ee, Overclaim::Trim)
 }
 
-// What stands behind the octet that stood there begins as the extensions do, which holds after an
-// error too, where nothing more stands there; on success it is all of them.
+// Whether what is behind the first octet is all of the extensions, or, after an error, their
+// beginning.
+fn begins_so(answer: &str, out: &[u8], elements: &[u8]) -> bool {
+    let Some((head, tail)) = out.split_first() else {
+        return false;
+    };
+    let is_fit = if answer == "ok" {
+        tail == elements
+    } else {
+        elements.starts_with(tail)
+    };
+    *head == 0xaa && is_fit
+}
+
 fn all_written(alloc: Global) -> Option<Told> {
     let mut out = vector(alloc)?;
     let extensions = bare();
     let answer = ended(alloc, extensions.encode_row(alloc, &mut out));
     drop(extensions);
     let elements = samples::octets(alloc, WRITTEN)?;
-    let (head, tail) = out.split_first()?;
-    let stands = *head == 0xaa
-        && elements.starts_with(tail)
-        && (answer != "ok" || tail == elements.as_slice());
-    Some(Told::standing(answer, stands))
+    Some(Told::standing(answer, begins_so(answer, &out, &elements)))
 }
 
 // The identifier of the subject's key, Key Usage and Certificate Policies, in the order in which

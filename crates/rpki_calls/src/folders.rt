@@ -166,26 +166,38 @@ fn add_list(alloc: Global, folder: &mut Folder, list: Crl) -> Outcome {
     Some((name_of(&answer), stands))
 }
 
-// What the call of this path adds to the folder.
-fn adding(alloc: Global, path: &str, folder: &mut Folder) -> Outcome {
+// The octets that the call of this path adds.
+fn octets_of(alloc: Global, path: &str) -> Option<Bytes> {
     match path {
-        "rpki_folder::Folder::add" => {
-            let octets = end_entity(alloc, 9, b"abc")?;
-            add(alloc, folder, octets, Added::Certificate(0))
-        }
+        "rpki_folder::Folder::add" => end_entity(alloc, 9, b"abc"),
+        "rpki_folder::Folder::add/list" => list_octets(alloc),
+        "rpki_folder::Folder::add/neither" => shared(alloc, "3000"),
+        _ => end_entity(alloc, 13, b"abc"),
+    }
+}
+
+fn add_octets(alloc: Global, path: &str, folder: &mut Folder, octets: Bytes) -> Outcome {
+    match path {
+        "rpki_folder::Folder::add" => add(alloc, folder, octets, Added::Certificate(0)),
         "rpki_folder::Folder::add/beside" => {
-            let octets = end_entity(alloc, 13, b"abc")?;
             add_beside(alloc, folder, octets, Added::Certificate(4))
         }
-        "rpki_folder::Folder::add/list" => {
-            add_beside(alloc, folder, list_octets(alloc)?, Added::List)
+        "rpki_folder::Folder::add/list" => add_beside(alloc, folder, octets, Added::List),
+        "rpki_folder::Folder::add/neither" => add_beside(alloc, folder, octets, Added::Neither),
+        "rpki_folder::Folder::add_cert" => add_read(alloc, folder, octets),
+        _ => {
+            drop(octets);
+            None
         }
-        "rpki_folder::Folder::add/neither" => {
-            add_beside(alloc, folder, shared(alloc, "3000")?, Added::Neither)
-        }
-        "rpki_folder::Folder::add_cert" => add_read(alloc, folder, end_entity(alloc, 13, b"abc")?),
-        "rpki_folder::Folder::add_list" => add_list(alloc, folder, list_by(alloc, b"abc")?),
-        _ => None,
+    }
+}
+
+// What the call of this path adds to the folder.
+fn adding(alloc: Global, path: &str, folder: &mut Folder) -> Outcome {
+    if path == "rpki_folder::Folder::add_list" {
+        add_list(alloc, folder, list_by(alloc, b"abc")?)
+    } else {
+        add_octets(alloc, path, folder, octets_of(alloc, path)?)
     }
 }
 
@@ -248,14 +260,13 @@ fn locator(alloc: Global) -> Option<Tal> {
 
 // An authority, an end entity below it, one below the anchor, and one there that its list revokes.
 fn fill(alloc: Global, folder: &mut Folder) -> Option<()> {
-    let octets = [
-        samples::signed(alloc, authority(alloc)?)?,
-        end_entity(alloc, 9, b"a")?,
-        end_entity(alloc, 9, b"abc")?,
-        end_entity(alloc, 5, b"abc")?,
-    ];
-    for one in octets {
-        folder.add(one).ok()?;
+    folder.add(samples::signed(alloc, authority(alloc)?)?).ok()?;
+    for (serial, bits) in [
+        (9, b"a".as_slice()),
+        (9, b"abc".as_slice()),
+        (5, b"abc".as_slice()),
+    ] {
+        folder.add(end_entity(alloc, serial, bits)?).ok()?;
     }
     folder.add_list(list_by(alloc, b"abc")?).ok()?;
     folder.add_list(list_by(alloc, b"a")?).ok()
@@ -334,6 +345,7 @@ fn found(alloc: Global, walk: &Down<'_>, tal: &Tal, anchor: &Member<'_>) -> Opti
 }
 
 fn down(alloc: Global, path: &str, folder: &Folder, tal: &Tal) -> Option<Told> {
+    let at = new_year()?;
     let octets = shared(alloc, ANCHOR)?;
     let anchor = Member::of(&octets);
     let walk = Walk {
@@ -343,7 +355,7 @@ fn down(alloc: Global, path: &str, folder: &Folder, tal: &Tal) -> Option<Told> {
         bounds: Bounds { depth: 3, steps: 9 },
         names: false,
         strict: true,
-        at: new_year()?,
+        at,
         verifier: &StandIn,
     };
     match path {

@@ -63,19 +63,6 @@ pub fn anchor(alloc: Global, digits: &str, now: Time) -> Option<ResourceCert> {
     samples::valid_anchor(alloc, shared(alloc, digits)?, now)
 }
 
-/// Makes a call below the anchor of these digits, which is accepted at this moment.
-macro_rules! below_anchor {
-    ($alloc:expr, $digits:expr, $moment:expr, $call:ident) => {{
-        let now = $moment?;
-        let issuer = crate::inputs::anchor($alloc, $digits, now)?;
-        let told = $call($alloc, &issuer, now);
-        drop(issuer);
-        told
-    }};
-}
-
-pub(crate) use below_anchor;
-
 /// The list.
 pub fn list(alloc: Global) -> Option<Crl> {
     Crl::decode_shared(alloc, shared(alloc, LIST)?).ok()

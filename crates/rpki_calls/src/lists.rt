@@ -35,14 +35,15 @@ fn data_read(alloc: Global) -> Option<Told> {
         Ok(data) => data.revoked_certs().contains(Serial::from(42u64)),
         Err(_) => true,
     };
-    let told = read(alloc, answer, &cursor)?;
+    let told = read(alloc, answer, &cursor);
+    drop(octets);
+    let told = told?;
     Some(Told::standing(told.answer, told.stands && has))
 }
 
 fn data_written(alloc: Global) -> Option<Told> {
-    let octets = data(alloc)?;
     let mut out = Vec::from_slice(alloc, b"\xaa").ok()?;
-    let list = list(alloc)?;
+    let (list, octets) = list(alloc).zip(data(alloc))?;
     begin(alloc);
     let answer = list.as_cert_list().encode_ref(alloc, &mut out);
     drop(list);

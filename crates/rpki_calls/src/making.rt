@@ -91,25 +91,26 @@ fn issued_below(alloc: Global, issuer: &ResourceCert, key: &PublicKey, now: Time
 // Under the anchor with AS1 to AS10, by either call.
 fn issued_under(alloc: Global, is_below: bool) -> Option<Told> {
     let now = new_year()?;
-    let key = rsa(b"abc");
     let issuer = anchor(alloc, NUMBERS, now)?;
+    let key = rsa(b"abc");
     let told = if is_below {
         issued_below(alloc, &issuer, &key, now)
     } else {
         issued(alloc, &issuer, &key, now)
     };
+    drop(key);
     drop(issuer);
     told
 }
 
 // A trust anchor's certificate that was made, and is read from its own octets.
 fn read_again(alloc: Global) -> Option<Told> {
-    let key = rsa(b"abc");
     let mut tbs = samples::anchor(alloc)?;
     tbs.set_v4_resources_inherit();
-    let Ok(made) = tbs.into_cert(alloc, &StandIn, &key) else {
-        return None;
-    };
+    let key = rsa(b"abc");
+    let made = tbs.into_cert(alloc, &StandIn, &key);
+    drop(key);
+    let made = made.ok()?;
     let told = called!(alloc, round_trip::read_again(alloc, &made));
     drop(made);
     told

@@ -1,7 +1,7 @@
 //! Whole paths, and the line program.
 
 use crate::asking::{Told, begin, called, end};
-use crate::inputs::{ANCHOR, FIRST, NUMBERS, SECOND, below_anchor, locator, new_year};
+use crate::inputs::{ANCHOR, FIRST, NUMBERS, SECOND, anchor, locator, new_year};
 use bytes::Bytes;
 use rpki_blocks::Asn;
 use rpki_cert::{Kind, ResourceCert};
@@ -99,19 +99,17 @@ fn judged_as(alloc: Global, strings: &[Bytes], last: Kind, now: Time) -> Option<
 
 fn path_judged(alloc: Global) -> Option<Told> {
     let now = new_year()?;
-    let strings = [
-        shared(alloc, NUMBERS)?,
-        shared(alloc, FIRST)?,
-        shared(alloc, SECOND)?,
-    ];
-    judged_as(alloc, &strings, Kind::Authority, now)
+    let authorities = shared(alloc, FIRST).zip(shared(alloc, SECOND));
+    let (anchor, (first, second)) = shared(alloc, NUMBERS).zip(authorities)?;
+    judged_as(alloc, &[anchor, first, second], Kind::Authority, now)
 }
 
 // The path of an anchor and a router below it.
 fn router_judged(alloc: Global) -> Option<Told> {
     let now = new_year()?;
-    let strings = [shared(alloc, ANCHOR)?, signed(alloc, router(alloc)?)?];
-    judged_as(alloc, &strings, Kind::Router, now)
+    let router = signed(alloc, router(alloc)?);
+    let (anchor, router) = shared(alloc, ANCHOR).zip(router)?;
+    judged_as(alloc, &[anchor, router], Kind::Router, now)
 }
 
 // ---- step by step
@@ -129,9 +127,8 @@ fn steps<'a>(alloc: Global, now: Time) -> Steps<'a> {
 }
 
 fn anchor_step(alloc: Global) -> Option<Told> {
-    let octets = shared(alloc, NUMBERS)?;
-    let tal = locator(alloc)?;
     let steps = steps(alloc, new_year()?);
+    let (octets, tal) = shared(alloc, NUMBERS).zip(locator(alloc))?;
     called!(
         alloc,
         steps.trust_anchor(&Member::of(&octets), tal),
@@ -159,17 +156,41 @@ fn router_step(alloc: Global, issuer: &ResourceCert, now: Time) -> Option<Told> 
     )
 }
 
-/// The calls of `rpki_path` and `rpki_lines`.
-pub fn told(alloc: Global, path: &str) -> Option<Told> {
+fn below(alloc: Global, path: &str, issuer: &ResourceCert, now: Time) -> Option<Told> {
     match path {
-        "rpki_path::Validator::trust_anchor" => anchor_step(alloc),
-        "rpki_path::Validator::member" => below_anchor!(alloc, NUMBERS, new_year(), member_step),
-        "rpki_path::Validator::router" => below_anchor!(alloc, ANCHOR, new_year(), router_step),
-        "rpki_path::validate_router" => below_anchor!(alloc, ANCHOR, new_year(), router_validated),
+        "rpki_path::Validator::member" => member_step(alloc, issuer, now),
+        "rpki_path::Validator::router" => router_step(alloc, issuer, now),
+        "rpki_path::validate_router" => router_validated(alloc, issuer, now),
+        _ => None,
+    }
+}
+
+// Below the anchor of these digits.
+fn below_anchor(alloc: Global, path: &str, digits: &str) -> Option<Told> {
+    let now = new_year()?;
+    let issuer = anchor(alloc, digits, now)?;
+    let told = below(alloc, path, &issuer, now);
+    drop(issuer);
+    told
+}
+
+fn of_paths(alloc: Global, path: &str) -> Option<Told> {
+    match path {
         "rpki_path::judge" => path_judged(alloc),
         "rpki_path::judge/router" => router_judged(alloc),
         "rpki_lines::program" => path_program(alloc),
         "rpki_lines::program/revoked" => list_program(alloc),
         _ => None,
+    }
+}
+
+/// The calls of `rpki_path` and `rpki_lines`.
+pub fn told(alloc: Global, path: &str) -> Option<Told> {
+    match path {
+        "rpki_path::Validator::trust_anchor" => anchor_step(alloc),
+        "rpki_path::Validator::member" => below_anchor(alloc, path, NUMBERS),
+        "rpki_path::Validator::router" => below_anchor(alloc, path, ANCHOR),
+        "rpki_path::validate_router" => below_anchor(alloc, path, ANCHOR),
+        _ => of_paths(alloc, path),
     }
 }

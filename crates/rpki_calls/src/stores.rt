@@ -1,6 +1,7 @@
 //! Entries, lists that are made, tables of serials, and lists under their URIs.
 
 use crate::asking::{Told, begin, called, end, ended, read, vector, written_digits};
+use bytes::Bytes;
 use rpki_crl::{
     Crl, CrlEntry, CrlStore, InvalidExtension, RevokedCertificates, TbsCertList, round_trip,
 };
@@ -47,10 +48,11 @@ fn sequence_read(alloc: Global) -> Option<Told> {
 }
 
 fn sequence_written(alloc: Global) -> Option<Told> {
-    let entries = revoked(alloc)?;
-    let mut out = vector(alloc)?;
+    let (entries, mut out) = revoked(alloc).zip(vector(alloc))?;
     let answer = entries.encode_ref(alloc, &mut out);
-    written_digits(alloc, answer, &out, ONE_ENTRY)
+    let told = written_digits(alloc, answer, &out, ONE_ENTRY);
+    drop(entries);
+    told
 }
 
 fn sequence_copied(alloc: Global) -> Option<Told> {
@@ -61,13 +63,15 @@ fn sequence_copied(alloc: Global) -> Option<Told> {
 }
 
 fn extension_copied(alloc: Global) -> Option<Told> {
-    let oid = Oid::new(shared(alloc, "551d63")?).ok()?;
+    let oid = Oid::new(Bytes::from_static(b"\x55\x1d\x63")).ok()?;
     let extension = InvalidExtension::new(oid);
-    called!(
+    let told = called!(
         alloc,
         extension.try_clone(alloc),
         copy => copy.oid().as_bytes() == b"\x55\x1d\x63".as_slice()
-    )
+    );
+    drop(extension);
+    told
 }
 
 // Entries of the serials 1 to 8.
@@ -89,8 +93,8 @@ fn data_of(alloc: Global, bits: &'static [u8]) -> Option<TbsCertList<Vec<CrlEntr
     let identifier = rsa(bits).key_identifier();
     let number = Serial::from(12u64);
     let algorithm = RpkiSignatureAlgorithm::default();
-    let issuer = rsa(bits).to_subject_name(alloc).ok()?;
-    let entries = eight(alloc)?;
+    let issuer = rsa(bits).to_subject_name(alloc).ok();
+    let (issuer, entries) = issuer.zip(eight(alloc))?;
     Some(TbsCertList::new(algorithm, issuer, since, until, entries, identifier, number))
 }
 
@@ -108,17 +112,18 @@ fn collected(alloc: Global) -> Option<Told> {
 }
 
 fn made(alloc: Global) -> Option<Told> {
-    let key = rsa(b"abc");
     let data = data(alloc)?;
+    let key = rsa(b"abc");
     called!(alloc, data.into_crl(alloc, &StandIn, &key), list => is_list(list, false))
 }
 
 /// A list that was made, and is read from its own octets.
 pub fn read_again(alloc: Global) -> Option<Told> {
+    let data = data(alloc)?;
     let key = rsa(b"abc");
-    let Ok(made) = data(alloc)?.into_crl(alloc, &StandIn, &key) else {
-        return None;
-    };
+    let made = data.into_crl(alloc, &StandIn, &key);
+    drop(key);
+    let made = made.ok()?;
     let told = called!(alloc, round_trip::read_again(alloc, &made), again => is_list(again, false));
     drop(made);
     told
@@ -126,8 +131,11 @@ pub fn read_again(alloc: Global) -> Option<Told> {
 
 /// The list of the key that the bits are, with the number 12: it revokes the numbers 1 to 8.
 pub fn list_by(alloc: Global, bits: &'static [u8]) -> Option<Crl> {
+    let data = data_of(alloc, bits)?;
     let key = rsa(bits);
-    data_of(alloc, bits)?.into_crl(alloc, &StandIn, &key).ok()
+    let made = data.into_crl(alloc, &StandIn, &key);
+    drop(key);
+    made.ok()
 }
 
 fn list(alloc: Global) -> Option<Crl> {
@@ -155,8 +163,7 @@ const UNDER: &str = "rsync://example.com/m/x.crl";
 
 // The answer to a push, and whether the pair that was handed back is the one that was pushed.
 fn pushed(alloc: Global, store: &mut CrlStore) -> Option<(&'static str, bool)> {
-    let under = uri(alloc, UNDER)?;
-    let list = list(alloc)?;
+    let (under, list) = uri(alloc, UNDER).zip(list(alloc))?;
     begin(alloc);
     match store.push(under, list) {
         Ok(()) => {
@@ -220,10 +227,9 @@ fn store_copied(alloc: Global) -> Option<Told> {
 }
 
 fn copied_with_list(alloc: Global, store: &mut CrlStore) -> Option<Told> {
+    let (under, list) = uri(alloc, UNDER).zip(list(alloc))?;
+    store.push(under, list).ok()?;
     let under = uri(alloc, UNDER)?;
-    if store.push(uri(alloc, UNDER)?, list(alloc)?).is_err() {
-        return None;
-    }
     called!(alloc, store.try_clone(alloc), copy => has_list(copy, &under))
 }
 
@@ -234,6 +240,12 @@ fn of_entries(alloc: Global, path: &str) -> Option<Told> {
         "rpki_crl::RevokedCertificates::take_from" => sequence_read(alloc),
         "rpki_crl::RevokedCertificates::encode_ref" => sequence_written(alloc),
         "rpki_crl::RevokedCertificates::try_clone" => sequence_copied(alloc),
+        _ => None,
+    }
+}
+
+fn of_lists(alloc: Global, path: &str) -> Option<Told> {
+    match path {
         "rpki_crl::InvalidExtension::try_clone" => extension_copied(alloc),
         "rpki_crl::TbsCertList::to_revoked" => collected(alloc),
         "rpki_crl::TbsCertList::into_crl" => made(alloc),
@@ -253,5 +265,7 @@ fn of_stores(alloc: Global, path: &str) -> Option<Told> {
 
 /// The calls of entries, of lists that are made, and of stores.
 pub fn told(alloc: Global, path: &str) -> Option<Told> {
-    of_entries(alloc, path).or(of_stores(alloc, path))
+    of_entries(alloc, path)
+        .or(of_lists(alloc, path))
+        .or(of_stores(alloc, path))
 }

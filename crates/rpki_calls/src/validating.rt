@@ -2,8 +2,7 @@
 
 use crate::asking::{Told, called};
 use crate::inputs::{
-    ANCHOR, FIRST, NUMBERS, OTHER, SIGNING, anchor, below_anchor, certificate, december, locator,
-    new_year,
+    ANCHOR, FIRST, NUMBERS, OTHER, SIGNING, anchor, certificate, december, locator, new_year,
 };
 use rpki_blocks::Asn;
 use rpki_cert::ResourceCert;
@@ -17,8 +16,7 @@ fn holds(holder: &ResourceCert, number: Asn) -> bool {
 
 fn anchor_verified(alloc: Global) -> Option<Told> {
     let now = new_year()?;
-    let tal = locator(alloc)?;
-    let cert = certificate(alloc, ANCHOR)?;
+    let (tal, cert) = locator(alloc).zip(certificate(alloc, ANCHOR))?;
     called!(
         alloc,
         cert.verify_ta_at(alloc, tal, true, now, &StandIn),
@@ -44,6 +42,22 @@ fn signing_verified(alloc: Global, issuer: &ResourceCert, now: Time) -> Option<T
     )
 }
 
+fn authority_below(alloc: Global) -> Option<Told> {
+    let now = new_year()?;
+    let issuer = anchor(alloc, NUMBERS, now)?;
+    let told = authority_verified(alloc, &issuer, now);
+    drop(issuer);
+    told
+}
+
+fn signing_below(alloc: Global) -> Option<Told> {
+    let now = december()?;
+    let issuer = anchor(alloc, OTHER, now)?;
+    let told = signing_verified(alloc, &issuer, now);
+    drop(issuer);
+    told
+}
+
 fn copied(alloc: Global) -> Option<Told> {
     let now = new_year()?;
     let cert = anchor(alloc, ANCHOR, now)?;
@@ -56,18 +70,8 @@ fn copied(alloc: Global) -> Option<Told> {
 pub fn told(alloc: Global, path: &str) -> Option<Told> {
     match path {
         "rpki_cert::Cert::verify_ta_at" => anchor_verified(alloc),
-        "rpki_cert::Cert::verify_ca_at" => below_anchor!(
-            alloc,
-            NUMBERS,
-            new_year(),
-            authority_verified
-        ),
-        "rpki_cert::Cert::verify_ee_at" => below_anchor!(
-            alloc,
-            OTHER,
-            december(),
-            signing_verified
-        ),
+        "rpki_cert::Cert::verify_ca_at" => authority_below(alloc),
+        "rpki_cert::Cert::verify_ee_at" => signing_below(alloc),
         "rpki_cert::ResourceCert::try_clone" => copied(alloc),
         _ => None,
     }

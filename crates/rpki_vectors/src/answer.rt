@@ -199,10 +199,11 @@ impl Answer {
         }
     }
 
-    /// Appends `refused` and why.
-    pub fn refused(&mut self, error: &DecodeError) {
+    /// Appends `refused` and why. It takes the error, so that its callers needn't drop it.
+    pub fn refused(&mut self, error: DecodeError) {
         self.text("refused ");
-        self.fault(error);
+        self.fault(&error);
+        drop(error);
     }
 
     /// Appends `refused` and the name of a fault.

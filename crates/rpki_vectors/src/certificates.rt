@@ -145,10 +145,11 @@ fn signature(out: &mut Answer, signed: &SignedData, whole: &[u8]) {
 /// Appends what is captured; `same` where it is what was written.
 pub fn captured(out: &mut Answer, found: Result<Bytes, EncodeError>, octets: &[u8]) {
     out.field("captured");
-    match found {
+    match &found {
         Ok(captured) => or_same(out, octets, captured.as_slice()),
         Err(error) => out.name(error.name()),
     }
+    drop(found);
 }
 
 /// Appends the certificate as it is written, and its parts by their places in it.
@@ -218,6 +219,7 @@ fn taken_inside(out: &mut Answer, first: &Answer, found: Result<Cursor<'_>, Deco
         Ok(content) => inside(out, first, content),
         Err(error) => {
             out.field("content").fault(&error);
+            drop(error);
         }
     }
 }

@@ -1,6 +1,6 @@
 //! Values of DER that a cursor reads.
 use crate::answer::Answer;
-use crate::show::{Show, Twin, read, read_or_return};
+use crate::show::{Show, Twin, read, readable};
 use crate::words::Words;
 use rpki_der::{Cursor, DecodeError, Oid, Piece};
 use std::alloc::{AllocError, Global};
@@ -11,7 +11,9 @@ fn content(out: &mut Answer, it: &Cursor<'_>) {
 }
 
 fn inside(out: &mut Answer, found: Result<Cursor<'_>, DecodeError>) {
-    let it = read_or_return!(out, found);
+    let Some(it) = readable(out, found) else {
+        return;
+    };
     content(out, &it);
 }
 
@@ -22,15 +24,12 @@ fn optional(out: &mut Answer, found: Result<Option<Cursor<'_>>, DecodeError>) {
             out.text("ok");
             content(out, &it);
         }
-        Err(error) => out.refused(&error),
+        Err(error) => out.refused(error),
     }
 }
 
 fn nothing(out: &mut Answer, found: Result<(), DecodeError>) {
-    match found {
-        Ok(()) => out.text("ok"),
-        Err(error) => out.refused(&error),
-    }
+    let _read = readable(out, found);
 }
 
 impl Show for Piece {
@@ -60,52 +59,73 @@ impl Twin for Oid {
 }
 
 fn identifier(out: &mut Answer, found: Result<&[u8], DecodeError>) {
-    let octets = read_or_return!(out, found);
+    let Some(octets) = readable(out, found) else {
+        return;
+    };
     out.field("oid").octets(octets);
 }
 
 fn bits(out: &mut Answer, found: Result<(u8, Cursor<'_>), DecodeError>) {
-    let (unused, it) = read_or_return!(out, found);
+    let Some((unused, it)) = readable(out, found) else {
+        return;
+    };
     out.field("unused").count(usize::from(unused));
     content(out, &it);
 }
 
 fn number(out: &mut Answer, found: Result<u32, DecodeError>) {
-    let n = read_or_return!(out, found);
+    let Some(n) = readable(out, found) else {
+        return;
+    };
     out.field("number").number(n);
 }
 
 fn flag(out: &mut Answer, found: Result<bool, DecodeError>) {
-    let holds = read_or_return!(out, found);
+    let Some(holds) = readable(out, found) else {
+        return;
+    };
     out.field("value").yes(holds);
 }
 
-// Each of the next two says whether the call is one of its own.
-fn tagged(words: &Words<'_>, out: &mut Answer) -> bool {
+fn tagged(words: &Words<'_>, out: &mut Answer) {
     let octets = words.bytes(out, 2);
     let mut cursor = Cursor::new(&octets);
     if words.is(0, "value") {
         inside(out, cursor.take_value(words.octet(1)));
-    } else if words.is(0, "optional-value") {
-        optional(out, cursor.take_opt_value(words.octet(1)));
     } else {
-        return false;
+        optional(out, cursor.take_opt_value(words.octet(1)));
     }
     out.left(&cursor);
-    true
+    drop(octets);
 }
 
-fn asked(words: &Words<'_>, cursor: &mut Cursor<'_>, out: &mut Answer) -> bool {
+// Each of the next four says whether the call is one of its own. A match over many words is slow to
+// prove, so there are several.
+fn of_content(words: &Words<'_>, cursor: &mut Cursor<'_>, out: &mut Answer) -> bool {
     match words.at(0) {
         "sequence" => inside(out, cursor.take_sequence()),
         "optional-sequence" => optional(out, cursor.take_opt_sequence()),
         "octets" => inside(out, cursor.take_octets()),
         "bits" => bits(out, cursor.take_bits()),
         "unsigned" => inside(out, cursor.take_unsigned()),
+        _ => return false,
+    }
+    true
+}
+
+fn of_value(words: &Words<'_>, cursor: &mut Cursor<'_>, out: &mut Answer) -> bool {
+    match words.at(0) {
         "oid" => identifier(out, cursor.take_oid()),
         "u32" => number(out, cursor.take_u32()),
         "null" => nothing(out, cursor.take_null()),
         "boolean" => flag(out, cursor.take_bool_or_false()),
+        _ => return false,
+    }
+    true
+}
+
+fn of_whole(words: &Words<'_>, cursor: &mut Cursor<'_>, out: &mut Answer) -> bool {
+    match words.at(0) {
         "skip" => nothing(out, cursor.skip_one()),
         "skip-all" => nothing(out, cursor.skip_all()),
         "capture" => {
@@ -125,6 +145,10 @@ fn asked(words: &Words<'_>, cursor: &mut Cursor<'_>, out: &mut Answer) -> bool {
     true
 }
 
+fn asked(words: &Words<'_>, cursor: &mut Cursor<'_>, out: &mut Answer) -> bool {
+    of_content(words, cursor, out) || of_value(words, cursor, out) || of_whole(words, cursor, out)
+}
+
 fn untagged(words: &Words<'_>, out: &mut Answer) -> bool {
     let octets = words.bytes(out, 1);
     let mut cursor = Cursor::new(&octets);
@@ -132,16 +156,20 @@ fn untagged(words: &Words<'_>, out: &mut Answer) -> bool {
     if known {
         out.left(&cursor);
     }
+    drop(octets);
     known
 }
 
 /// Answers one call of a cursor over the octets, and where the cursor then stands. Returns whether
 /// the question is one of these.
 pub fn value(words: &Words<'_>, out: &mut Answer) -> bool {
-    if words.is(0, "identifier") {
-        let content = words.bytes(out, 1);
-        read(out, Oid::new(content));
-        return true;
+    match words.at(0) {
+        "identifier" => {
+            let content = words.bytes(out, 1);
+            read(out, Oid::new(content));
+        }
+        "value" | "optional-value" => tagged(words, out),
+        _ => return untagged(words, out),
     }
-    tagged(words, out) || untagged(words, out)
+    true
 }

@@ -2,7 +2,7 @@
 use crate::answer::Answer;
 use crate::parts::key_identifier;
 use crate::sets::mode;
-use crate::show::{Show, Twin, read, read_or_return};
+use crate::show::{Show, Twin, read, readable};
 use crate::uris::{https, rsync};
 use crate::words::Words;
 use crate::writing::put_behind;
@@ -21,7 +21,9 @@ use rpki_parts::{KeyIdentifier, Rsync};
 use std::alloc::{AllocError, Global};
 
 fn whole(out: &mut Answer, found: Result<(&[u8], bool, Cursor<'_>), DecodeError>) {
-    let (id, critical, content) = read_or_return!(out, found);
+    let Some((id, critical, content)) = readable(out, found) else {
+        return;
+    };
     out.field("oid").octets(id);
     out.field("critical").yes(critical);
     out.field("content").octets(content.rest());
@@ -29,20 +31,26 @@ fn whole(out: &mut Answer, found: Result<(&[u8], bool, Cursor<'_>), DecodeError>
 }
 
 fn basic_constraints(out: &mut Answer, found: Result<bool, DecodeError>) {
-    let ca = read_or_return!(out, found);
+    let Some(ca) = readable(out, found) else {
+        return;
+    };
     out.field("basic-ca").yes(ca);
     put_behind!(out, "written", octets => encode_basic_constraints(out.alloc(), &mut octets, ca));
 }
 
 fn subject_key_identifier(out: &mut Answer, found: Result<KeyIdentifier, DecodeError>) {
-    let it = read_or_return!(out, found);
+    let Some(it) = readable(out, found) else {
+        return;
+    };
     key_identifier(out.field("subject-key-identifier"), Some(it));
     put_behind!(out, "written", octets =>
         encode_subject_key_identifier(out.alloc(), &mut octets, it));
 }
 
 fn authority_key_identifier(out: &mut Answer, found: Result<KeyIdentifier, DecodeError>) {
-    let it = read_or_return!(out, found);
+    let Some(it) = readable(out, found) else {
+        return;
+    };
     key_identifier(out.field("authority-key-identifier"), Some(it));
     put_behind!(out, "written", octets =>
         encode_authority_key_identifier(out.alloc(), &mut octets, it));
@@ -57,7 +65,9 @@ pub fn usage(it: KeyUsage) -> &'static str {
 }
 
 fn key_usage(out: &mut Answer, found: Result<KeyUsage, DecodeError>) {
-    let it = read_or_return!(out, found);
+    let Some(it) = readable(out, found) else {
+        return;
+    };
     out.field("key-usage").text(usage(it));
     put_behind!(out, "written", octets => encode_key_usage(out.alloc(), &mut octets, it));
     put_behind!(out, "written-bits", octets => it.encode(out.alloc(), &mut octets));
@@ -88,17 +98,23 @@ impl Twin for ExtendedKeyUsage {
 }
 
 fn crl_distribution_points(out: &mut Answer, found: Result<Rsync, DecodeError>) {
-    let it = read_or_return!(out, found);
+    let Some(it) = readable(out, found) else {
+        return;
+    };
     rsync(out.field("crl-uri"), Some(&it));
     put_behind!(out, "written", octets =>
         encode_crl_distribution_points(out.alloc(), &mut octets, &it));
+    drop(it);
 }
 
 fn authority_information_access(out: &mut Answer, found: Result<Rsync, DecodeError>) {
-    let it = read_or_return!(out, found);
+    let Some(it) = readable(out, found) else {
+        return;
+    };
     rsync(out.field("ca-issuer"), Some(&it));
     put_behind!(out, "written", octets =>
         encode_authority_information_access(out.alloc(), &mut octets, &it));
+    drop(it);
 }
 
 fn sia_fields(out: &mut Answer, it: &Sia) {
@@ -120,13 +136,18 @@ fn sia_written(out: &mut Answer, it: &Sia) {
 }
 
 fn subject_information_access(out: &mut Answer, found: Result<Sia, DecodeError>) {
-    let it = read_or_return!(out, found);
+    let Some(it) = readable(out, found) else {
+        return;
+    };
     sia_fields(out, &it);
     sia_written(out, &it);
+    drop(it);
 }
 
 fn certificate_policies(out: &mut Answer, found: Result<Overclaim, DecodeError>) {
-    let it = read_or_return!(out, found);
+    let Some(it) = readable(out, found) else {
+        return;
+    };
     out.field("overclaim").text(mode(it));
     put_behind!(out, "written", octets =>
         encode_certificate_policies(out.alloc(), &mut octets, it));
@@ -137,17 +158,20 @@ fn usage_by_type(out: &mut Answer, cursor: &mut Cursor<'_>) {
     out.field("by-type");
     let found = ExtendedKeyUsage::take_from(out.alloc(), cursor);
     out.yes(found.is_ok());
+    drop(found);
 }
 
 fn sia_by_type(out: &mut Answer, cursor: &mut Cursor<'_>) {
     out.field("by-type");
     let found = Sia::take_from(out.alloc(), cursor);
     out.yes(found.is_ok());
+    drop(found);
 }
 
-// Says whether the kind is one of these.
-fn of_kind(words: &Words<'_>, cursor: &mut Cursor<'_>, out: &mut Answer) -> bool {
+// Each of these says whether the kind is one of its own.
+fn of_plain_kind(words: &Words<'_>, cursor: &mut Cursor<'_>, out: &mut Answer) -> bool {
     match words.at(1) {
+        "basic-constraints" => basic_constraints(out, take_basic_constraints(cursor)),
         "subject-key-identifier" => subject_key_identifier(
             out,
             take_subject_key_identifier(cursor),
@@ -157,28 +181,37 @@ fn of_kind(words: &Words<'_>, cursor: &mut Cursor<'_>, out: &mut Answer) -> bool
             take_authority_key_identifier(cursor),
         ),
         "key-usage" => key_usage(out, take_key_usage(cursor)),
-        "extended-key-usage" => {
-            let mut again = cursor.fork();
-            let found = take_extended_key_usage(out.alloc(), cursor);
-            read(out, found);
-            usage_by_type(out, &mut again);
-        }
+        "certificate-policies" => certificate_policies(out, take_certificate_policies(cursor)),
+        _ => return false,
+    }
+    true
+}
+
+fn extended_key_usage(cursor: &mut Cursor<'_>, out: &mut Answer) {
+    let mut again = cursor.fork();
+    let found = take_extended_key_usage(out.alloc(), cursor);
+    read(out, found);
+    usage_by_type(out, &mut again);
+}
+
+fn subject_information(cursor: &mut Cursor<'_>, out: &mut Answer) {
+    let mut again = cursor.fork();
+    let found = take_subject_information_access(out.alloc(), cursor);
+    subject_information_access(out, found);
+    sia_by_type(out, &mut again);
+}
+
+fn of_kept_kind(words: &Words<'_>, cursor: &mut Cursor<'_>, out: &mut Answer) -> bool {
+    let alloc = out.alloc();
+    match words.at(1) {
+        "extended-key-usage" => extended_key_usage(cursor, out),
         "crl-distribution-points" => {
-            let found = take_crl_distribution_points(out.alloc(), cursor);
-            crl_distribution_points(out, found);
+            crl_distribution_points(out, take_crl_distribution_points(alloc, cursor));
         }
         "authority-information-access" => {
-            let found = take_authority_information_access(out.alloc(), cursor);
-            authority_information_access(out, found);
+            authority_information_access(out, take_authority_information_access(alloc, cursor));
         }
-        "subject-information-access" => {
-            let mut again = cursor.fork();
-            let found = take_subject_information_access(out.alloc(), cursor);
-            subject_information_access(out, found);
-            sia_by_type(out, &mut again);
-        }
-        "basic-constraints" => basic_constraints(out, take_basic_constraints(cursor)),
-        "certificate-policies" => certificate_policies(out, take_certificate_policies(cursor)),
+        "subject-information-access" => subject_information(cursor, out),
         _ => return false,
     }
     true
@@ -187,10 +220,11 @@ fn of_kind(words: &Words<'_>, cursor: &mut Cursor<'_>, out: &mut Answer) -> bool
 fn content(words: &Words<'_>, out: &mut Answer) -> bool {
     let octets = words.asked(out, 2);
     let mut cursor = Cursor::new(&octets);
-    let known = of_kind(words, &mut cursor, out);
+    let known = of_plain_kind(words, &mut cursor, out) || of_kept_kind(words, &mut cursor, out);
     if known {
         out.left(&cursor);
     }
+    drop(octets);
     known
 }
 
@@ -201,5 +235,6 @@ pub fn extension(words: &Words<'_>, out: &mut Answer) {
         let mut cursor = Cursor::new(&octets);
         whole(out, take_extension(&mut cursor));
         out.left(&cursor);
+        drop(octets);
     }
 }

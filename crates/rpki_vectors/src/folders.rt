@@ -1,13 +1,14 @@
 //! The walk down through a folder from the trust anchor of a locator.
 use crate::answer::Answer;
+use crate::located::refused;
 use crate::locators::locator_of;
-use crate::paths::{named, refused};
+use crate::paths::named;
 use crate::words::{Words, moment};
 use bytes::Bytes;
 use rpki_folder::{AllAdmitted, Bounds, Ended, Folder, Line, Lines, Walk, WalkError};
 use rpki_keys::tal::Tal;
 use rpki_parts::{StandIn, Verifier};
-use rpki_path::{LocatedError, Member};
+use rpki_path::Member;
 use std::alloc::AllocError;
 
 // Adds the octets of the words from a place on.
@@ -32,16 +33,18 @@ fn shown(out: &mut Answer, ended: &str, lines: &Lines) {
     }
 }
 
+fn ended(out: &mut Answer, how: Ended, lines: &Lines) {
+    match how {
+        Ended::Whole => shown(out, "whole", lines),
+        Ended::TooDeep => shown(out, "deep", lines),
+        Ended::OutOfSteps => out.text("out"),
+    }
+}
+
 fn told(out: &mut Answer, answer: Result<Ended, WalkError>, lines: &Lines) {
     match answer {
-        Ok(Ended::Whole) => shown(out, "whole", lines),
-        Ok(Ended::TooDeep) => shown(out, "deep", lines),
-        Ok(Ended::OutOfSteps) => out.text("out"),
-        Err(WalkError::Anchor(LocatedError::Path(error))) => refused(out, &error),
-        Err(WalkError::Anchor(LocatedError::OtherKey)) => out.text("refused locator OtherKey"),
-        Err(WalkError::Anchor(LocatedError::NoResources)) => {
-            out.text("refused locator NoResources")
-        }
+        Ok(how) => ended(out, how, lines),
+        Err(WalkError::Anchor(error)) => refused(out, error),
         Err(WalkError::OtherName) => out.text("refused names OtherName"),
         Err(WalkError::Memory) => out.fail(),
     }

@@ -86,6 +86,6 @@ pub fn inspect(words: &Words<'_>, out: &mut Answer) {
             }
             drop(cert);
         }
-        Err(error) => out.refused(&error),
+        Err(error) => out.refused(error),
     }
 }

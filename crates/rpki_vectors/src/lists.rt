@@ -175,7 +175,7 @@ fn found(out: &mut Answer, crl: &Crl, words: &Words<'_>, octets: &Bytes) {
 }
 
 // Why it is none, what that speaks of, and which octets remain.
-fn refused(out: &mut Answer, error: &DecodeError, octets: &Bytes) {
+fn refused(out: &mut Answer, error: DecodeError, octets: &Bytes) {
     out.refused(error);
     let mut cursor = Cursor::new(octets);
     let again = Crl::take_from(out.alloc(), &mut cursor);
@@ -194,18 +194,19 @@ pub fn list(words: &Words<'_>, out: &mut Answer) {
             found(out, &crl, words, &octets);
             drop(crl);
         }
-        Err(error) => refused(out, &error, &octets),
+        Err(error) => refused(out, error, &octets),
     }
+    drop(octets);
 }
 
 fn fault(front: &[u8], out: &Answer) -> &'static str {
-    match Crl::decode(out.alloc(), front) {
-        Ok(list) => {
-            drop(list);
-            "ok"
-        }
+    let found = Crl::decode(out.alloc(), front);
+    let name = match &found {
+        Ok(_) => "ok",
         Err(error) => error.name(),
-    }
+    };
+    drop(found);
+    name
 }
 
 /// Appends what each front of a list answers, but the whole: lengths that answer alike stand
@@ -251,7 +252,7 @@ pub fn stale(words: &Words<'_>, out: &mut Answer) {
             stale_at(words, out, &crl);
             drop(crl);
         }
-        Err(error) => out.refused(&error),
+        Err(error) => out.refused(error),
     }
 }
 

@@ -1,8 +1,9 @@
 //! Whole paths from the trust anchor of a locator down.
 use crate::answer::Answer;
 use crate::locators::locator_of;
-use crate::paths::{authorities, leaf, named, validated};
+use crate::paths::{self, authorities, leaf, named};
 use crate::revocation::store_of;
+use crate::validating::held;
 use crate::words::{Words, moment};
 use bytes::Bytes;
 use rpki_cert::ResourceCert;
@@ -43,21 +44,31 @@ fn fits(out: &mut Answer, tal: &Tal, anchor: &Bytes) {
     }
 }
 
+/// Appends why there is no path below a locator.
+pub fn refused(out: &mut Answer, error: LocatedError) {
+    match error {
+        LocatedError::Path(error) => paths::refused(out, error),
+        LocatedError::OtherKey => out.text("refused locator OtherKey"),
+        LocatedError::NoResources => out.text("refused locator NoResources"),
+    }
+}
+
 fn told(out: &mut Answer, answer: Result<ResourceCert, LocatedError>) {
     match answer {
-        Ok(last) => validated(out, Ok(last)),
-        Err(LocatedError::Path(error)) => validated(out, Err(error)),
-        Err(LocatedError::OtherKey) => out.text("refused locator OtherKey"),
-        Err(LocatedError::NoResources) => out.text("refused locator NoResources"),
+        Ok(last) => {
+            held(out, &last);
+            drop(last);
+        }
+        Err(error) => refused(out, error),
     }
 }
 
 fn below(words: &Words<'_>, out: &mut Answer, tal: &Tal, anchor: &Bytes, now: Time) -> Option<()> {
     let alloc = out.alloc();
+    let store = store_of(out, words.at(3), false)?;
     let cas = authorities(out, words, 6);
     let leaf = leaf(out, words);
     let strict = words.is(2, "strict");
-    let store = store_of(out, words.at(3), false)?;
     let answer = validate_located(
         alloc, tal, &store, anchor, &cas, leaf, strict, now, &StandIn,
     );

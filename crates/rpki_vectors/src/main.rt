@@ -160,8 +160,9 @@ fn shared(words: &Words<'_>, out: &mut Answer) {
     }
 }
 
-// Says whether the question is one of these.
-fn of_several(words: &Words<'_>, out: &mut Answer) -> bool {
+// Each of these says whether the question is one of its own. A match over many words is slow to
+// prove, so there are several.
+fn of_certificates(words: &Words<'_>, out: &mut Answer) -> bool {
     match words.at(0) {
         "certificate" => certificates::certificate(words, out),
         "data" => certificates::data(words, out),
@@ -169,38 +170,73 @@ fn of_several(words: &Words<'_>, out: &mut Answer) -> bool {
         "inspect" => judging::inspect(words, out),
         "verify" => validating::verify(words, out),
         "validate" => validating::validate(words, out),
-        "extension" => extensions::extension(words, out),
-        "compare" => parts::compare(words, out),
-        "sets" => sets::sets(words, out),
-        "write" => writing::write(words, out),
-        "list" => lists::list(words, out),
-        "shared" => shared(words, out),
-        "cut" => lists::cut(words, out),
-        "stale" => lists::stale(words, out),
-        "store" => lists::store(words, out),
         "rearrange" => rearranging::rearrange(words, out),
-        "path" => paths::path(words, out),
-        "names" => paths::names(words, out),
-        "revocation" => revocation::revocation(words, out),
-        "real-path" => signatures::real_path(words, out),
-        "real-revocation" => signatures::real_revocation(words, out),
-        "rsa" => signatures::rsa(words, out),
-        "rsa-key" => signatures::rsa_key(words, out),
-        "key-form" => keys::key_form(words, out),
-        "located" => located::located(words, out),
-        "folder" => folders::folder(words, out),
-        "real-folder" => signatures::real_folder(words, out),
-        "locator" => locators::locator(words, out),
-        "base64" => locators::base64(words, out),
-        "run" => runs::answer(words, out),
-        "run-unnamed" => runs::answer_unnamed(words, out),
         _ => return false,
     }
     true
 }
 
+fn of_lists(words: &Words<'_>, out: &mut Answer) -> bool {
+    match words.at(0) {
+        "list" => lists::list(words, out),
+        "shared" => shared(words, out),
+        "cut" => lists::cut(words, out),
+        "stale" => lists::stale(words, out),
+        "store" => lists::store(words, out),
+        _ => return false,
+    }
+    true
+}
+
+fn of_paths(words: &Words<'_>, out: &mut Answer) -> bool {
+    match words.at(0) {
+        "path" => paths::path(words, out),
+        "names" => paths::names(words, out),
+        "revocation" => revocation::revocation(words, out),
+        "located" => located::located(words, out),
+        "folder" => folders::folder(words, out),
+        _ => return false,
+    }
+    true
+}
+
+fn of_signatures(words: &Words<'_>, out: &mut Answer) -> bool {
+    match words.at(0) {
+        "real-path" => signatures::real_path(words, out),
+        "real-revocation" => signatures::real_revocation(words, out),
+        "real-folder" => signatures::real_folder(words, out),
+        "rsa" => signatures::rsa(words, out),
+        "rsa-key" => signatures::rsa_key(words, out),
+        "key-form" => keys::key_form(words, out),
+        _ => return false,
+    }
+    true
+}
+
+fn of_others(words: &Words<'_>, out: &mut Answer) -> bool {
+    match words.at(0) {
+        "extension" => extensions::extension(words, out),
+        "compare" => parts::compare(words, out),
+        "sets" => sets::sets(words, out),
+        "write" => writing::write(words, out),
+        "locator" => locators::locator(words, out),
+        "base64" => locators::base64(words, out),
+        _ => return false,
+    }
+    true
+}
+
+fn of_several(words: &Words<'_>, out: &mut Answer) -> bool {
+    of_certificates(words, out)
+        || of_lists(words, out)
+        || of_paths(words, out)
+        || of_signatures(words, out)
+        || of_others(words, out)
+}
+
 fn answered(words: &Words<'_>, out: &mut Answer) {
-    let known = of_several(words, out)
+    let known = runs::run_of(words, out)
+        || of_several(words, out)
         || parts::part(words, out)
         || uris::uri(words, out)
         || sets::resources(words, out)

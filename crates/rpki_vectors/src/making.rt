@@ -2,6 +2,7 @@
 use crate::answer::Answer;
 use crate::certificates::{fields, written};
 use crate::sets::{blocks, named_mode, push_all, resources_of};
+use crate::show::both;
 use crate::words::{Words, bytes, moment, octets, shared_characters};
 use rpki_blocks::{Addr, Asn};
 use rpki_cert::{Cert, ExtendedKeyUsage, KeyUsage, Overclaim, TbsCert};
@@ -93,16 +94,13 @@ fn new_cert(
 }
 
 fn names(words: &Words<'_>, out: &mut Answer) -> Result<(Option<Name>, Name), DecodeError> {
-    let subject = subject(words, out)?;
-    let issuer = name(words, out, "issuer")?;
-    Ok((subject, issuer))
+    both(subject(words, out), name(words, out, "issuer"))
 }
 
 fn begun(words: &Words<'_>, out: &mut Answer) -> Result<TbsCert, DecodeError> {
     let serial = serial(words, out)?;
     let validity = validity(words)?;
-    let names = names(words, out)?;
-    let key = key(words, out, "key")?;
+    let (names, key) = both(names(words, out), key(words, out, "key"))?;
     new_cert(words, out.alloc(), serial, validity, names, key)
 }
 
@@ -114,16 +112,23 @@ fn done(out: &mut Answer, answer: Result<(), AllocError>) {
 
 // Sets the key to another and back.
 fn key_again(alloc: Global, data: &mut TbsCert, other: &PublicKey) -> Result<(), AllocError> {
-    let key = data.subject_public_key_info().try_clone(alloc)?;
-    data.set_subject_public_key(other.try_clone(alloc)?);
+    let key = data.subject_public_key_info().try_clone(alloc);
+    let (key, other) = both(key, other.try_clone(alloc))?;
+    data.set_subject_public_key(other);
     data.set_subject_public_key(key);
     Ok(())
 }
 
+fn names_copied(alloc: Global, data: &TbsCert) -> Result<(Name, Name), AllocError> {
+    both(
+        data.issuer().try_clone(alloc),
+        data.subject().try_clone(alloc),
+    )
+}
+
 // Sets the issuer to the subject and back.
 fn issuer_again(alloc: Global, data: &mut TbsCert) -> Result<(), AllocError> {
-    let issuer = data.issuer().try_clone(alloc)?;
-    let subject = data.subject().try_clone(alloc)?;
+    let (issuer, subject) = names_copied(alloc, data)?;
     data.set_issuer(subject);
     data.set_issuer(issuer);
     Ok(())
@@ -131,8 +136,7 @@ fn issuer_again(alloc: Global, data: &mut TbsCert) -> Result<(), AllocError> {
 
 // Sets the subject to the issuer and back.
 fn subject_again(alloc: Global, data: &mut TbsCert) -> Result<(), AllocError> {
-    let issuer = data.issuer().try_clone(alloc)?;
-    let subject = data.subject().try_clone(alloc)?;
+    let (issuer, subject) = names_copied(alloc, data)?;
     data.set_subject(issuer);
     data.set_subject(subject);
     Ok(())
@@ -321,7 +325,7 @@ fn signed(words: &Words<'_>, out: &mut Answer, data: TbsCert, signer: &PublicKey
 fn signed_by(words: &Words<'_>, out: &mut Answer, signer: &PublicKey) {
     match begun(words, out) {
         Ok(data) => signed(words, out, data, signer),
-        Err(error) => out.refused(&error),
+        Err(error) => out.refused(error),
     }
 }
 
@@ -329,6 +333,6 @@ fn signed_by(words: &Words<'_>, out: &mut Answer, signer: &PublicKey) {
 pub fn make(words: &Words<'_>, out: &mut Answer) {
     match key(words, out, "signer") {
         Ok(signer) => signed_by(words, out, &signer),
-        Err(error) => out.refused(&error),
+        Err(error) => out.refused(error),
     }
 }

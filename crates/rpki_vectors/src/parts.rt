@@ -124,10 +124,11 @@ impl Twin for Name {
 }
 
 fn subject_name(out: &mut Answer, found: Result<Name, EncodeError>) {
-    match found {
+    match &found {
         Ok(name) => out.octets(name.as_bytes()),
         Err(error) => out.name(error.name()),
     }
+    drop(found);
 }
 
 impl Show for PublicKey {
@@ -165,8 +166,14 @@ impl Twin for SignedData {
 fn verified(out: &mut Answer, it: &SignedData, key: Result<PublicKey, DecodeError>) {
     out.field("verifies");
     match key {
-        Ok(public) => out.yes(it.verify_signature(&public, &StandIn).is_ok()),
-        Err(error) => out.fault(&error),
+        Ok(public) => {
+            out.yes(it.verify_signature(&public, &StandIn).is_ok());
+            drop(public);
+        }
+        Err(error) => {
+            out.fault(&error);
+            drop(error);
+        }
     }
 }
 
@@ -177,36 +184,39 @@ fn signed(words: &Words<'_>, out: &mut Answer, it: &SignedData) {
         let mut cursor = Cursor::new(&octets);
         let found = PublicKey::take_from(out.alloc(), &mut cursor);
         verified(out, it, found);
+        drop(octets);
     }
 }
 
 fn signed_read(words: &Words<'_>, out: &mut Answer, found: Result<SignedData, DecodeError>) {
     match found {
-        Ok(it) => signed(words, out, &it),
-        Err(error) => out.refused(&error),
+        Ok(it) => {
+            signed(words, out, &it);
+            drop(it);
+        }
+        Err(error) => out.refused(error),
     }
 }
 
-// Says whether the part is one of these.
-fn of_part(words: &Words<'_>, cursor: &mut Cursor<'_>, out: &mut Answer) -> bool {
+// Each of these says whether the part is one of its own.
+fn of_plain_part(words: &Words<'_>, cursor: &mut Cursor<'_>, out: &mut Answer) -> bool {
     match words.at(0) {
         "serial" => read_plain(out, Serial::take_from(cursor)),
         "time" => read_plain(out, Time::take_from(cursor)),
         "validity" => read_plain(out, Validity::take_from(cursor)),
         "algorithm" => read_plain(out, RpkiSignatureAlgorithm::x509_take_from(cursor)),
         "key-identifier" => read_plain(out, KeyIdentifier::take_from(cursor)),
-        "name" => {
-            let found = Name::take_from(out.alloc(), cursor);
-            read(out, found);
-        }
-        "key" => {
-            let found = PublicKey::take_from(out.alloc(), cursor);
-            read(out, found);
-        }
-        "signed" => {
-            let found = SignedData::from_constructed(out.alloc(), cursor);
-            signed_read(words, out, found);
-        }
+        _ => return false,
+    }
+    true
+}
+
+fn of_kept_part(words: &Words<'_>, cursor: &mut Cursor<'_>, out: &mut Answer) -> bool {
+    let alloc = out.alloc();
+    match words.at(0) {
+        "name" => read(out, Name::take_from(alloc, cursor)),
+        "key" => read(out, PublicKey::take_from(alloc, cursor)),
+        "signed" => signed_read(words, out, SignedData::from_constructed(alloc, cursor)),
         _ => return false,
     }
     true
@@ -215,10 +225,11 @@ fn of_part(words: &Words<'_>, cursor: &mut Cursor<'_>, out: &mut Answer) -> bool
 fn taken(words: &Words<'_>, out: &mut Answer) -> bool {
     let octets = words.asked(out, 1);
     let mut cursor = Cursor::new(&octets);
-    let known = of_part(words, &mut cursor, out);
+    let known = of_plain_part(words, &mut cursor, out) || of_kept_part(words, &mut cursor, out);
     if known {
         out.left(&cursor);
     }
+    drop(octets);
     known
 }
 

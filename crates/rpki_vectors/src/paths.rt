@@ -41,7 +41,7 @@ pub fn leaf(out: &mut Answer, words: &Words<'_>) -> Option<Leaf> {
 }
 
 /// Appends the member that was refused, and why.
-pub fn refused(out: &mut Answer, error: &PathError) {
+pub fn refused(out: &mut Answer, error: PathError) {
     out.text("refused ");
     out.count(error.index);
     match &error.fault {
@@ -60,6 +60,7 @@ pub fn refused(out: &mut Answer, error: &PathError) {
         }
         PathFault::Memory => out.fail(),
     }
+    drop(error);
 }
 
 /// Appends what was answered of a path.
@@ -69,7 +70,7 @@ pub fn validated(out: &mut Answer, answer: Result<ResourceCert, PathError>) {
             held(out, &cert);
             drop(cert);
         }
-        Err(error) => refused(out, &error),
+        Err(error) => refused(out, error),
     }
 }
 
@@ -80,10 +81,10 @@ fn answered<V: Verifier>(
     now: Time,
     verifier: &V,
 ) -> Option<()> {
+    let tal = tal(out)?;
     let anchor = named(out, words.at(3), "ta")?;
     let cas = authorities(out, words, 4);
     let leaf = leaf(out, words);
-    let tal = tal(out)?;
     let strict = mode == "strict";
     let answer = validate_path(out.alloc(), &anchor, &cas, leaf, tal, strict, now, verifier);
     validated(out, answer);
@@ -147,7 +148,7 @@ fn names_told(out: &mut Answer, answer: Result<Option<usize>, PathError>) {
             out.text("unchained ");
             out.count(place);
         }
-        Err(error) => refused(out, &error),
+        Err(error) => refused(out, error),
     }
 }
 

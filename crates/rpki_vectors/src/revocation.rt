@@ -66,11 +66,11 @@ fn asked<V: Verifier>(
     verifier: &V,
 ) -> Option<()> {
     let alloc = out.alloc();
+    let tal = tal(out)?;
+    let store = store_of(out, words.at(3), is_cached)?;
     let cas = authorities(out, words, 5);
     let leaf = leaf(out, words);
-    let tal = tal(out)?;
     let strict = words.is(2, "strict");
-    let store = store_of(out, words.at(3), is_cached)?;
     let answer = validate_path_with(
         alloc, &store, anchor, &cas, leaf, tal, strict, now, verifier,
     );

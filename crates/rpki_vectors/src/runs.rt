@@ -72,13 +72,14 @@ fn answered(words: &Words<'_>, out: &mut Answer, is_named: bool) {
     show(out, ended, &printed, is_named);
 }
 
-/// Answers a run of the line program. The input is the rest of the line, with a bar for each end of
-/// a line, and so is what is printed.
-pub fn answer(words: &Words<'_>, out: &mut Answer) {
-    answered(words, out, true);
-}
-
-/// Answers a run of the line program, with a star for the name of a decoder's fault.
-pub fn answer_unnamed(words: &Words<'_>, out: &mut Answer) {
-    answered(words, out, false);
+/// Answers a run of the line program: the input is the rest of the line, with a bar for each end of
+/// a line, and so is what is printed, with a star for the name of a decoder's fault where that isn't
+/// compared. Returns whether the question is of a run.
+pub fn run_of(words: &Words<'_>, out: &mut Answer) -> bool {
+    let is_named = words.is(0, "run");
+    let is_run = is_named || words.is(0, "run-unnamed");
+    if is_run {
+        answered(words, out, is_named);
+    }
+    is_run
 }

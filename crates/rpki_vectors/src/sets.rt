@@ -1,6 +1,6 @@
 //! Sets of addresses and of AS numbers.
 use crate::answer::Answer;
-use crate::show::{read_or_return, stays};
+use crate::show::{readable, stays};
 use crate::words::{Words, decimal, hexadecimal};
 use crate::writing::put_behind;
 use rpki_blocks::{
@@ -172,10 +172,11 @@ fn built<B: Kind>(alloc: Global, word: &str) -> Result<Chain<B>, AllocError> {
 }
 
 fn shown<B: Kind>(out: &mut Answer, found: Result<Chain<B>, AllocError>) {
-    match found {
-        Ok(blocks) => set(out, &blocks),
+    match &found {
+        Ok(blocks) => set(out, blocks),
         Err(_) => out.fail(),
     }
+    drop(found);
 }
 
 fn contains<B: Kind>(out: &mut Answer, blocks: &Chain<B>, points: &str) {
@@ -190,10 +191,11 @@ fn contains<B: Kind>(out: &mut Answer, blocks: &Chain<B>, points: &str) {
 }
 
 fn given<B: Kind>(out: &mut Answer, found: Result<Chain<B>, IssueError>) {
-    match found {
-        Ok(blocks) => set(out, &blocks),
+    match &found {
+        Ok(blocks) => set(out, blocks),
         Err(error) => out.name(error.name()),
     }
+    drop(found);
 }
 
 fn issued<B: Kind>(out: &mut Answer, one: &Chain<B>, resources: &Resources<B>, mode: Overclaim) {
@@ -270,6 +272,7 @@ fn beside<B: Kind>(out: &mut Answer, one: &Chain<B>, found: Result<Chain<B>, Inh
         Ok(other) => {
             set(out, &other);
             compared(out, one, &other);
+            drop(other);
         }
         Err(error) => out.name(error.name()),
     }
@@ -282,6 +285,7 @@ fn pair<B: Kind>(words: &Words<'_>, out: &mut Answer) {
     listed_under(words, out, &one, &resources);
     let found = Chain::from_resources(out.alloc(), resources);
     beside(out, &one, found);
+    drop(one);
 }
 
 /// Answers about two sets of a kind.
@@ -377,17 +381,22 @@ fn families(
     out: &mut Answer,
     found: Result<(Option<IpResources>, Option<IpResources>), DecodeError>,
 ) {
-    let (v4, v6) = read_or_return!(out, found);
+    let Some((v4, v6)) = readable(out, found) else {
+        return;
+    };
     family(out.field("v4-resources"), v4.as_ref());
     family(out.field("v6-resources"), v6.as_ref());
     families_or_missing(out, v4, v6);
 }
 
 fn numbers(out: &mut Answer, found: Result<AsResources, DecodeError>) {
-    let it = read_or_return!(out, found);
+    let Some(it) = readable(out, found) else {
+        return;
+    };
     listed(out.field("as-resources"), &it);
     put_behind!(out, "written", octets =>
         it.encode_extension(out.alloc(), &mut octets, Overclaim::Trim));
+    drop(it);
 }
 
 fn read_addresses(words: &Words<'_>, out: &mut Answer) {

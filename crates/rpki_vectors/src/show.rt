@@ -3,23 +3,32 @@ use crate::answer::Answer;
 use rpki_der::{Cursor, DecodeError};
 use std::alloc::{AllocError, Global};
 
-/// Appends `ok`, and is what was read; where nothing was, appends why, and returns.
-macro_rules! read_or_return {
-    ($out:expr, $answer:expr) => {
-        match $answer {
-            Ok(value) => {
-                $out.text("ok");
-                value
-            }
-            Err(error) => {
-                $out.refused(&error);
-                return;
-            }
+/// Appends `ok`, and returns what was read; where nothing was, appends why.
+pub fn readable<T>(out: &mut Answer, answer: Result<T, DecodeError>) -> Option<T> {
+    match answer {
+        Ok(value) => {
+            out.text("ok");
+            Some(value)
         }
-    };
+        Err(error) => {
+            out.refused(error);
+            None
+        }
+    }
 }
 
-pub(crate) use read_or_return;
+/// Returns both values, or the first error. So a function asks for two values that own something, and
+/// leaves at one place.
+pub fn both<A: Drop, B: Drop, E: Drop>(
+    one: Result<A, E>,
+    other: Result<B, E>,
+) -> Result<(A, B), E> {
+    match (one, other) {
+        (Ok(a), Ok(b)) => Ok((a, b)),
+        (Err(error), _) => Err(error),
+        (_, Err(error)) => Err(error),
+    }
+}
 
 /// A value of which an answer shows what its getters give.
 pub trait Show {
@@ -91,7 +100,7 @@ pub fn stays<T>(
 pub fn read<T: Twin>(out: &mut Answer, answer: Result<T, DecodeError>) {
     match answer {
         Ok(value) => found(out, &value),
-        Err(error) => out.refused(&error),
+        Err(error) => out.refused(error),
     }
 }
 
@@ -100,7 +109,7 @@ pub fn read_optional<T: Twin>(out: &mut Answer, answer: Result<Option<T>, Decode
     match answer {
         Ok(Some(value)) => found(out, &value),
         Ok(None) => out.text("none"),
-        Err(error) => out.refused(&error),
+        Err(error) => out.refused(error),
     }
 }
 
@@ -111,7 +120,7 @@ pub fn read_plain<T: Show + Copy>(out: &mut Answer, answer: Result<T, DecodeErro
             out.text("ok");
             value.show(out);
         }
-        Err(error) => out.refused(&error),
+        Err(error) => out.refused(error),
     }
 }
 

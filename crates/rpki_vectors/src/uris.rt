@@ -27,6 +27,7 @@ fn parent(out: &mut Answer, uri: &Rsync, found: Result<Option<Rsync>, AllocError
         Ok(Some(parent)) => {
             out.characters(parent.as_bytes());
             out.field("parent-is").yes(uri.parent_is(&parent));
+            drop(parent);
         }
         Ok(None) => out.text("none"),
         Err(_) => out.fail(),
@@ -135,6 +136,7 @@ fn parent_found(out: &mut Answer, found: Result<Option<Rsync>, AllocError>) {
         Ok(Some(parent)) => {
             out.text("ok");
             out.field("uri").characters(parent.as_bytes());
+            drop(parent);
         }
         Ok(None) => out.text("none"),
         Err(_) => out.fail(),
@@ -146,6 +148,7 @@ fn parent_of(out: &mut Answer, answer: Result<Rsync, BadUri>) {
         Ok(uri) => {
             let found = uri.parent(out.alloc());
             parent_found(out, found);
+            drop(uri);
         }
         Err(_) => out.text("refused BadUri"),
     }

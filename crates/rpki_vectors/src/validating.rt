@@ -23,18 +23,18 @@ fn stated(words: &Words<'_>) -> Option<Terms> {
     moment(words.at(3)).map(|now| Terms { strict, now })
 }
 
-fn refused(out: &mut Answer, error: &ValidationError) {
-    out.text("refused ");
-    match error {
+fn refused(out: &mut Answer, error: ValidationError) {
+    match &error {
         ValidationError::Inspection(fault) => {
-            out.text("inspect ");
+            out.text("refused inspect ");
             out.name(fault.name());
         }
         ValidationError::Verification(fault) => {
-            out.text("verify ");
+            out.text("refused verify ");
             out.name(fault.name());
         }
     }
+    drop(error);
 }
 
 /// Appends the sets of a certificate that was verified.
@@ -51,14 +51,14 @@ fn verdict(out: &mut Answer, answer: Result<ResourceCert, ValidationError>) {
             held(out, &cert);
             drop(cert);
         }
-        Err(error) => refused(out, &error),
+        Err(error) => refused(out, error),
     }
 }
 
 fn verdict_of_router(out: &mut Answer, answer: Result<(), ValidationError>) {
     match answer {
         Ok(()) => out.text("ok"),
-        Err(error) => refused(out, &error),
+        Err(error) => refused(out, error),
     }
 }
 
@@ -130,7 +130,7 @@ fn asked<T: Member>(
 ) {
     match found {
         Ok(cert) => verified(out, cert.verify(words.is(1, "ta"), terms)),
-        Err(error) => out.refused(&error),
+        Err(error) => out.refused(error),
     }
 }
 
@@ -143,7 +143,7 @@ fn judged<T: Member>(
 ) {
     match found {
         Ok(cert) => cert.judge(out, kind, issuer, terms),
-        Err(error) => out.refused(&error),
+        Err(error) => out.refused(error),
     }
 }
 
@@ -202,8 +202,8 @@ fn anchor(
     words: &Words<'_>,
     terms: &Terms,
 ) -> Option<Result<ResourceCert, ValidationError>> {
-    let cert = decoded(out, words, 4).ok()?;
     let tal = tal(out)?;
+    let cert = decoded(out, words, 4).ok()?;
     Some(cert.validate_ta_at(out.alloc(), tal, terms.strict, terms.now, &StandIn))
 }
 

@@ -77,37 +77,38 @@ fn name_length(text: &str) -> usize {
 fn named(
     rt: &(impl Files + AllocGlobal),
     folder: &str,
+    out: &mut Answer,
     name: &str,
-) -> Result<Option<Vec<u8>>, AllocError> {
+) -> Option<Vec<u8>> {
     if name.is_empty() {
-        return Ok(None);
+        return None;
     }
-    let path = format!(in rt.alloc(); "{folder}/{name}.der")?;
-    Ok(fs::read(rt, path.as_str()).ok())
+    match format!(in rt.alloc(); "{folder}/{name}.der") {
+        Ok(path) => fs::read(rt, path.as_str()).ok(),
+        Err(_) => {
+            out.fail();
+            None
+        }
+    }
 }
 
 // What stands behind an `@`, with the octets of the name that it begins with.
-fn put_named(
-    rt: &(impl Files + AllocGlobal),
-    folder: &str,
-    out: &mut Answer,
-    text: &str,
-) -> Result<(), AllocError> {
+fn put_named(rt: &(impl Files + AllocGlobal), folder: &str, out: &mut Answer, text: &str) {
     let length = name_length(text);
     let (Some(name), Some(rest)) = (text.get(..length), text.get(length..)) else {
-        return Ok(());
+        return;
     };
-    match named(rt, folder, name)? {
+    match named(rt, folder, out, name) {
         Some(octets) => {
             out.octets(&octets);
             out.text(rest);
+            drop(octets);
         }
         None => {
             out.text("@");
             out.text(text);
         }
     }
-    Ok(())
 }
 
 /// Returns the folder that a file lies in.
@@ -130,11 +131,12 @@ pub fn with_octets(
         Some((before, rest)) => {
             out.text(before);
             for text in rest.split('@') {
-                put_named(rt, folder, &mut out, text)?;
+                put_named(rt, folder, &mut out, text);
             }
         }
     }
     if out.has_failed() {
+        drop(out);
         Err(AllocError)
     } else {
         Ok(out)
