@@ -21,7 +21,7 @@ CRATES = ROOT / "crates"
 FACADE = CRATES / "rpki" / "src"
 PAGES = ROOT / "docs" / "api"
 # Crates that the facade doesn't re-export, and of which nothing else shows the contracts.
-LIBRARIES_BESIDE = ["rpki_files", "rpki_text", "rpki_verdicts", "rpki_answers", "rpki_requests"]
+LIBRARIES_BESIDE = ["rpki_document", "rpki_files", "rpki_text", "rpki_verdicts", "rpki_answers", "rpki_requests"]
 PROGRAMS = ["rpki_command", "rpki_c"]
 # Modules of the facade's crates that only the command and the library for C call.
 MODULES_BESIDE = {"rpki_issuing": ["values", "wanted"]}
@@ -208,7 +208,7 @@ def definition(crate, module, name):
     if handed:
         return definition(*handed.groups(), name)
     wanted = re.compile(DEFINES.pattern + r"pub " + DEFINES.pattern + re.escape(name) + r"\b")
-    inside = re.compile(r"  (?:\w+ )*" + re.escape(name) + r" (?:\w+ )*:")
+    inside = re.compile(r"  (?:  )?(?:\w+ )*" + re.escape(name) + r" (?:\w+ )*:")
     for line_is in (wanted, inside):
         for number, line in enumerate(text.split("\n"), 1):
             if line_is.match(line):
