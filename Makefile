@@ -5,7 +5,7 @@
 #   make library           proves and builds the library alone
 #   make check             runs every check (tests/all)
 #   make install           installs both; proves and builds nothing
-#   make install-program   installs the command, its page and its completions
+#   make install-program   installs the command, its pages and its completions
 #   make install-lib       installs the libraries, the header, its pages and rpki.pc
 #   make uninstall         removes what these have installed
 #   make dist              makes the files for users without the kit, in dist/ (packaging/dist)
@@ -41,6 +41,8 @@ built = ./rpki built
 # what `./rpki prove` and `./rpki library` build
 tool = crates/rpki_command/out/rpki_command
 library = callers/out
+# the command's manual pages, each for the section that its name ends in
+pages = $(notdir $(wildcard docs/rpki*.[0-9]))
 # the number of the library's interface, which stands in its name
 abi = sed -n 's/^.define RPKI_ABI //p' include/rpki.h
 # its calls, each with a page of its own
@@ -64,9 +66,10 @@ install:
 
 install-program:
 	@$(built) program
-	$(INSTALL) -d "$(DESTDIR)$(BINDIR)" "$(DESTDIR)$(MANDIR)/man1"
+	$(INSTALL) -d "$(DESTDIR)$(BINDIR)" "$(DESTDIR)$(MANDIR)/man1" "$(DESTDIR)$(MANDIR)/man5"
 	$(INSTALL) -m 755 $(tool) "$(DESTDIR)$(BINDIR)/rpki"
-	$(INSTALL) -m 644 docs/rpki.1 "$(DESTDIR)$(MANDIR)/man1/rpki.1"
+	for page in $(pages); do \
+	    $(INSTALL) -m 644 "docs/$$page" "$(DESTDIR)$(MANDIR)/man$${page##*.}/$$page" || exit; done
 	$(INSTALL) -d "$(DESTDIR)$(BASHDIR)" "$(DESTDIR)$(ZSHDIR)" "$(DESTDIR)$(FISHDIR)"
 	$(INSTALL) -m 644 completions/rpki.bash "$(DESTDIR)$(BASHDIR)/rpki"
 	$(INSTALL) -m 644 completions/_rpki "$(DESTDIR)$(ZSHDIR)/_rpki"
@@ -93,7 +96,8 @@ install-lib:
 
 # a library of another interface has another name, and stays
 uninstall:
-	rm -f "$(DESTDIR)$(BINDIR)/rpki" "$(DESTDIR)$(MANDIR)/man1/rpki.1"
+	rm -f "$(DESTDIR)$(BINDIR)/rpki"
+	for page in $(pages); do rm -f "$(DESTDIR)$(MANDIR)/man$${page##*.}/$$page" || exit; done
 	rm -f "$(DESTDIR)$(BASHDIR)/rpki" "$(DESTDIR)$(ZSHDIR)/_rpki" "$(DESTDIR)$(FISHDIR)/rpki.fish"
 	rm -f "$(DESTDIR)$(INCLUDEDIR)/rpki.h" "$(DESTDIR)$(PKGCONFIGDIR)/rpki.pc"
 	rm -f "$(DESTDIR)$(LIBDIR)/librpki.a" "$(DESTDIR)$(LIBDIR)/librpki.so" \

@@ -1,11 +1,11 @@
 #!/usr/bin/env python3
-"""Makes docs/rpki.1.md, the command's page for a browser, from its manual page docs/rpki.1.
+"""Makes docs/rpki.1.md and its like, the command's pages for a browser, from its manual pages docs/rpki.1 ..
 
-    docs/make_man.py            writes the page
-    docs/make_man.py --check    writes nothing, and exits with 1 where the page isn't up to date
+    docs/make_man.py            writes the pages
+    docs/make_man.py --check    writes nothing, and exits with 1 if a page isn't up to date
 
-It knows the macros of mdoc(7) that the manual page uses, and stops at another one. Plain Python 3,
-standard library alone.
+It knows the macros of mdoc(7) that the manual pages use, and tables of two or more columns (tbl(1)), and
+stops at another macro. Plain Python 3, standard library alone.
 """
 import re
 import shlex
@@ -14,11 +14,13 @@ import textwrap
 from pathlib import Path
 
 ROOT = Path(__file__).resolve().parent.parent
-MANUAL = ROOT / "docs" / "rpki.1"
-PAGE = ROOT / "docs" / "rpki.1.md"
+MANUALS = sorted((ROOT / "docs").glob("rpki*.[1-9]"))
+NAMES = {it.name for it in MANUALS}
 COLUMNS = 100
 ESCAPES = {r"\-": "-", r"\e": "\\", r"\&": "", r"\(dq": '"'}
 CLOSING = set(".,;:?!)]")
+# A font that is neither that of the text around it nor its end.
+FONT = re.compile(r"\\f[BI](.*?)\\fR")
 # Macros whose words are code, and what others have around theirs.
 CODE = {"Ql", "Sq", "Cm", "Fl", "Ar", "Va", "Pa", "Nm"}
 AROUND = {"Op": "[]", "Pq": "()", "Dq": '""'}
@@ -45,11 +47,17 @@ def code(words, is_bare):
     return text if is_bare else f"`{text}`".replace(" ", "\0")
 
 
+def linked(text):
+    """The text, in which the names of the other manual pages are links."""
+    return re.sub(r"(?<![\w-])(rpki[a-z-]*)\((\d)\)", lambda it: f"[{it.group(0)}]({it.group(1)}.{it.group(2)}.md)"
+                  if f"{it.group(1)}.{it.group(2)}" in NAMES else it.group(0), text)
+
+
 def styled(macro, words, is_bare):
     """The words of a macro: as code, or bare where all stands in a code block."""
     words = [plain(word) for word in words]
     if macro == "Xr":
-        return f"{words[0]}({words[1]})"
+        return linked(f"{words[0]}({words[1]})")
     if macro == "Fl":
         words = ["-" + word for word in words]
     if macro == "Ar":
@@ -106,8 +114,9 @@ def split(line):
 class Reader:
     """Reads the lines of the manual page into blocks of Markdown, each a list of lines."""
 
-    def __init__(self, lines):
-        self.lines = [it for it in lines if not it.startswith('.\\"')]
+    def __init__(self, name, lines):
+        self.name = name
+        self.lines = [it for it in lines if it[:3] not in ('.\\"', '\'\\"')]
         self.at = 0
 
     def blocks(self, end=()):
@@ -143,13 +152,16 @@ class Reader:
             elif macro == "Bl":
                 close()
                 found.append(self.items())
+            elif macro == "TS":
+                close()
+                found.append(self.table())
             elif macro in ("Bd", "Dl"):
                 close()
                 found.append(self.display() if macro == "Bd" else ["    " + plain(rest)])
             elif macro in KNOWN:
                 words.append(inline(split(line[1:])))
             else:
-                sys.exit(f"docs/make_man.py: {MANUAL.name} has the unknown macro {macro}")
+                sys.exit(f"docs/make_man.py: {self.name} has the unknown macro {macro}")
         close()
         return found
 
@@ -176,6 +188,23 @@ class Reader:
         self.at += 1
         return found
 
+    def table(self):
+        """A table: a line with the form of its columns, then a line for each row, of which a cell may go
+        over several."""
+        self.at += 1
+        rows = []
+        while self.lines[self.at] != ".TE":
+            cells = self.lines[self.at].split("\t")
+            self.at += 1
+            if cells[-1] == "T{":
+                end = self.lines.index("T}", self.at)
+                cells[-1] = " ".join(self.lines[self.at:end])
+                self.at = end + 1
+            rows.append([linked(plain(FONT.sub("`\\1`" if rows else "\\1", it))).replace("|", "\\|") for it in cells])
+        self.at += 1
+        rows.insert(1, ["---"] * len(rows[0]))
+        return ["| " + " | ".join(it) + " |" for it in rows]
+
     def items(self):
         """A list: a line for each item, its tag before its text."""
         found = []
@@ -194,19 +223,25 @@ class Reader:
         return (("\n\n" if "\n\n" in "".join(found) else "\n").join(found)).split("\n")
 
 
-def page():
-    blocks = Reader(MANUAL.read_text().splitlines()).blocks()
-    made = "Made from the manual page [rpki.1](rpki.1) by `docs/make_man.py`."
-    text = "\n\n".join("\n".join(it) for it in [["# rpki(1)"], [made], *blocks]) + "\n"
+def page(manual):
+    """The page of a manual page, in Markdown."""
+    blocks = Reader(manual.name, manual.read_text().splitlines()).blocks()
+    made = f"Made from the manual page [{manual.name}]({manual.name}) by `docs/make_man.py`."
+    title = f"# {manual.stem}({manual.suffix[1:]})"
+    text = "\n\n".join("\n".join(it) for it in [[title], [made], *blocks]) + "\n"
     return text.replace("\0", " ").replace("\2", "'")
 
 
 def main():
-    text = page()
-    if "--check" not in sys.argv[1:]:
-        PAGE.write_text(text)
-    elif PAGE.read_text() != text:
-        sys.exit(f"{PAGE.name} isn't up to date: docs/make_man.py writes it")
+    wrong = []
+    for manual in MANUALS:
+        place, text = manual.with_name(manual.name + ".md"), page(manual)
+        if "--check" not in sys.argv[1:]:
+            place.write_text(text)
+        elif not place.exists() or place.read_text() != text:
+            wrong.append(place.name)
+    if wrong:
+        sys.exit(f"{', '.join(wrong)}: not up to date: docs/make_man.py writes it")
 
 
 if __name__ == "__main__":

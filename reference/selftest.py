@@ -13,13 +13,16 @@ import sys
 from dataclasses import replace
 from pathlib import Path
 
+import documents
 import folders
+import notes
 import places
 import random_folders
 import random_paths as sound
 import reference as ref
 import vectors
 import rsa
+import sorts
 import strangers
 import walks
 import worked
@@ -1118,6 +1121,55 @@ def shuffled(rng, octets):
 
 SAMPLE = [*range(0, 60), 0x0A000000 << 96, (0x0A000000 << 96) - 1,
           0x0B000000 << 96, (0x0B000000 << 96) - 1]
+
+
+# ---- answers
+
+TESTS = Path(__file__).resolve().parent.parent / 'tests'
+
+
+@checks
+def notes_of_files():
+    """Those that tests/notes wants."""
+    for line in (TESTS / 'notes').read_text().splitlines():
+        if not line.startswith('#'):
+            name, wanted = (it.strip() for it in line.split('|'))
+            cert = ref.decode_cert((TESTS / 'files' / f'{name}.cer').read_bytes())
+            yield f'notes of {name}', ' '.join(notes.notes_of(cert)) or '-', wanted
+
+
+@checks
+def sorts_of_files():
+    number, sequence, octets = ref.enc(0x02, b'\1'), ref.enc(0x30), ref.enc(0x04, b'')
+    kind = ref.enc(0x30, number, sequence, octets)
+    for label, file, wanted in (
+            ('nothing', b'', 'Empty'), ('RFC 5958 2', kind, 'PrivateKey'),
+            ('RFC 5915 3', ref.enc(0x30, number, octets), 'CurvePrivateKey'),
+            ('RFC 5280 4.1', ref.enc(0x30, sequence, ref.enc(0x03, b'\0')), 'PublicKey'),
+            ('RFC 8630 2.2', b'# a comment\n\nrsync://h/m/x\n', 'Locator'),
+            ('RFC 2986 4.2', ref.enc(0x30, ref.enc(0x30, number, sequence, sequence, ref.enc(0xA0))), 'Request'),
+            ('RFC 5280 4.1, no version', ref.enc(0x30, ref.enc(0x30, number, *[sequence] * 5)), 'Version1'),
+            ('cut', kind[:-1], None), ('text', b'rsynk://h/m/x\n', None)):
+        yield f'sort of a file, {label}', sorts.sort_of(file), wanted
+
+
+@checks
+def lines_and_their_data():
+    answer = documents.Answer()
+    answer.head('accepted', documents.text(None, 'a: b\n'))
+    answer.line('Blocks', documents.count(('blocks', 0, 'min'), 1), '-', documents.count(('blocks', 0, 'max'), 2))
+    answer.further(documents.count(('blocks', 1), 7))
+    answer.line('Name', documents.inner(('name',), 'a: \u03bb\\'), ', more')
+    answer.array(('none',))
+    answer.line('At', documents.time(('at',), (1970, 1, 2, 0, 0, 1)))
+    yield 'an answer as text', answer.text(), (
+        'accepted: a: b\\x0A\nBlocks:                   1-2\n                          7\n'
+        'Name:                     a\\x3A \\xCE\\xBB\\x5C, more\nAt:                       1970-01-02T00:00:01Z\n')
+    yield 'an answer as JSON', answer.json_line(), (
+        '{"at":86401,"blocks":[{"max":2,"min":1},7],"name":"a: \\u03BB\\\\","none":[]}\n')
+    for moment, seconds in (((1969, 12, 31, 23, 59, 59), -1), ((0, 1, 1, 0, 0, 0), -62167219200),
+                            ((9999, 12, 31, 23, 59, 59), 253402300799)):
+        yield f'seconds of {moment}', documents.seconds(moment), seconds
 
 
 def main():

@@ -107,7 +107,7 @@ class Certificates(unittest.TestCase):
         self.assertEqual(str(INHERIT), "inherit")
 
     def test_shown(self) -> None:
-        """As `rpki show -j` has the members of these (docs/rpki.1.md)."""
+        """As `rpki show -j` has the members of these (docs/rpki-json.5.md)."""
         shown = certificate(octets("second.cer"))
         inherits = ({"as_inherit": "inherit"}, {"ip4_inherit": "inherit"}, {"ip6_inherit": "inherit"})
         self.assertEqual(shown["subordinate_resources"], list(inherits))

@@ -1,0 +1,67 @@
+"""The sentences of faults, sorts of files and notes, and the sections that they name, out of the tables
+in the definitions: what a person reads of them is written there once."""
+
+import functools
+import re
+from pathlib import Path
+from typing import NamedTuple
+
+CRATES = Path(__file__).resolve().parent.parent / 'crates'
+STRING = r'"([^"]*)"'
+STEPS = {'reading': 'reading', 'profile': 'inspection', 'verification': 'verification',
+         'revocation': 'revocation', 'names': 'path', 'locator': 'path', 'tal': 'locator'}
+
+
+class Rule(NamedTuple):
+    says: str
+    section: str
+
+
+class Sort(NamedTuple):
+    name: str
+    advice: str
+
+
+def table(place):
+    return (CRATES / place).read_text()
+
+
+@functools.cache
+def faults():
+    """The rule of each fault, by its table and its name."""
+    found = {}
+    for kind, entries in re.findall(r'^(\w+)_faults =\n(.*?)\[\]$', table('rpki_files/specs/FaultTable.antt'),
+                                    re.M | re.S):
+        for name, tail in re.findall(r'fault \d+ ' + STRING + r'((?:\s+"[^"]*")+)', entries):
+            *_, says, section = re.findall(STRING, tail)
+            found[kind, name] = Rule(says, section)
+    return found
+
+
+@functools.cache
+def parts():
+    """The section of each part of a certificate."""
+    entries = table('rpki_files/specs/FaultTable.antt').split('part_table =')[1].split('[]')[0]
+    return dict(re.findall(r'part ' + STRING + ' ' + STRING, entries))
+
+
+@functools.cache
+def sorts():
+    found = re.findall(r'^description sort\.(\w+) =\n\s+described ' + r'\s+'.join([STRING] * 4),
+                       table('rpki_files/specs/SortTexts.antt'), re.M)
+    return {name: Sort(called, advice) for name, called, _, _, advice in found}
+
+
+@functools.cache
+def notes():
+    """The rule of each note."""
+    lines = table('rpki_text/specs/NoteTexts.antt')
+
+    def each(kind):
+        return dict(re.findall(rf'^note_{kind} note\.(\w+) =\s+codes ' + STRING, lines, re.M))
+    says, sections = each('text'), each('section')
+    return {name: Rule(says[name], sections[name]) for name in says}
+
+
+def fault(step, name):
+    return faults()[STEPS[step], name]
