@@ -708,8 +708,12 @@ class Folders(unittest.TestCase):
             self.assertEqual(sum(it.is_valid for it in folder.lines), valid)
             self.assertEqual(folder.is_whole, valid == 4)
         for none in ("depth", "steps"):
-            with self.assertRaises(ValueError):
-                self.judge(given, **{none: 0})
+            for number in (0, -1, 1 << 64):
+                with self.assertRaisesRegex(ValueError, f"^{none}: "):
+                    self.judge(given, **{none: number})
+            for other in ("1", 1.0, True):
+                with self.assertRaisesRegex(TypeError, f"^{none}: expected a number, not "):
+                    self.judge(given, **cast("dict[str, Any]", {none: other}))
 
     def test_anchors(self) -> None:
         given = [*self.members, *self.lists]
@@ -919,6 +923,11 @@ class Issuing(unittest.TestCase):
             {"ipv4": [10]},
             {"ipv6": [("2001:db8::", "2001:db8::1")]},
             {"as_numbers": ["64500"]},
+            {"as_numbers": [True]},
+            {"trims_resources": "no"},
+            {"trims_resources": 2},
+            {"serial_number": "5"},
+            {"serial_number": True},
         ]
         for changes in mistyped:
             (argument,) = changes
