@@ -793,7 +793,7 @@ class RevocationList:
 
 def _serial(what: int | Certificate) -> int:
     number = what.serial_number if isinstance(what, Certificate) else what
-    if not isinstance(number, int):
+    if not isinstance(number, int) or isinstance(number, bool):
         raise TypeError(f"expected a serial number or a Certificate, not {type(what).__name__}")
     return number
 
@@ -805,15 +805,24 @@ def _octets(what: Octets | Certificate | RevocationList, name: str) -> bytes:
     return what.octets if isinstance(what, (Certificate, RevocationList)) else _bytes(what, name)
 
 
-_SINGLE = (bytes, bytearray, memoryview, str, os.PathLike, io.IOBase)
+# what has elements, and isn't a list of them
+_SINGLE = (bytes, bytearray, memoryview, str, os.PathLike, io.IOBase, *_NETWORKS)
+
+Element = TypeVar("Element")
+
+
+def _each(many: Iterable[Element], name: str) -> Iterable[Element]:
+    """An argument that has elements. Raises TypeError for everything else, and for what may be an
+    element itself."""
+    if isinstance(many, (*_SINGLE, Certificate, RevocationList)) or not isinstance(many, Iterable):
+        remedy = "" if many is None else "; [..] makes one of it"
+        raise TypeError(f"{name}: expected a list, not {type(many).__name__}{remedy}")
+    return many
 
 
 def _all_octets(many: Sequence[Octets | Certificate | RevocationList], name: str) -> list[bytes]:
-    """The octets of each of an argument, which isn't one of them itself."""
-    if isinstance(many, (*_SINGLE, Certificate, RevocationList)):
-        given = type(many).__name__
-        raise TypeError(f"{name}: expected a list, not {given}; [..] makes one of it")
-    return [_octets(it, f"{name}[{at}]") for at, it in enumerate(many)]
+    """The octets of each of an argument."""
+    return [_octets(it, f"{name}[{at}]") for at, it in enumerate(_each(many, name))]
 
 
 def _why_no_path(count: int, last: Kind) -> str:
@@ -1028,7 +1037,7 @@ def _addresses(
     if wanted is None or isinstance(wanted, Inherit):
         return raw.addresses_wanted(raw.MISSING if wanted is None else raw.INHERITED, ())
     name = f"ipv{version}"
-    ends = [_ends(it, name) for it in wanted]
+    ends = [_ends(it, name) for it in _each(wanted, name)]
     if not ends or any(it[0] != version for it in ends):
         raise ValueError(f"{name}: expected addresses of IPv{version}, or None for no addresses")
     return raw.addresses_wanted(raw.LISTED, [raw.ip_range(*it[1:]) for it in ends])
@@ -1038,7 +1047,7 @@ def _systems(wanted: Iterable[int | range] | Inherit | None) -> raw.AsNumbers:
     if wanted is None or isinstance(wanted, Inherit):
         return raw.as_numbers_wanted(raw.MISSING if wanted is None else raw.INHERITED, ())
     ranges = []
-    for it in wanted:
+    for it in _each(wanted, "as_numbers"):
         if isinstance(it, int) and not isinstance(it, bool):
             it = range(it, it + 1)
         if not isinstance(it, range):
@@ -1158,6 +1167,12 @@ _NO_CERTIFICATE = (
 )
 
 
+def _uri(uri: str, name: str) -> bytes:
+    if not isinstance(uri, str):
+        raise TypeError(f"uris[{name!r}]: expected a str, not {type(uri).__name__}")
+    return uri.encode()
+
+
 def prepare(
     kind: Kind,
     *,
@@ -1197,7 +1212,7 @@ def prepare(
     _kind(kind, "kind")
     issuer = _Issuer.of(issuers, lists, locator, at, strict, chain_names)
     named = dict(uris or {})
-    texts = [named.pop(name, "").encode() for name in raw.URIS]
+    texts = [_uri(named.pop(name, ""), name) for name in raw.URIS]
     if named:
         raise ValueError(f"uris: expected the names {', '.join(raw.URIS)}, not {min(named)!r}")
     if not 1 <= _number(serial_number, "serial_number") < 1 << 159:
@@ -1311,12 +1326,12 @@ def prepare_list(
         issuer.raise_fault(told, _NO_LIST)
         return octets
 
-    entries = [_revoked(it, since) for it in revoked]
+    entries = [_revoked(it, since) for it in _each(revoked, "revoked")]
     octets = prepared(before, entries, number or 0)
     if not before:
         return octets
     its = RevocationList(before)
-    dropped = set(its.expired(expired))
+    dropped = set(its.expired(_each(expired, "expired")))
     if not dropped:
         return octets
     # the list before was checked above: this one is made as a first list, of what stays of it

@@ -924,6 +924,10 @@ class Issuing(unittest.TestCase):
             {"ipv6": [("2001:db8::", "2001:db8::1")]},
             {"as_numbers": ["64500"]},
             {"as_numbers": [True]},
+            {"as_numbers": 64500},
+            {"ipv4": "10.0.0.0/15"},
+            {"ipv4": ipaddress.IPv4Network("10.0.0.0/15")},
+            {"ipv6": 6},
             {"trims_resources": "no"},
             {"trims_resources": 2},
             {"serial_number": "5"},
@@ -933,6 +937,9 @@ class Issuing(unittest.TestCase):
             (argument,) = changes
             with self.assertRaisesRegex(TypeError, f"^{argument}: "):
                 self.prepared(Kind.AUTHORITY, "ca", [anchor], **self.ca(**changes))
+        with self.assertRaisesRegex(TypeError, "^uris\\['crl'\\]: expected a str, not bytes"):
+            uris = {**self.places, **self.above, "crl": b"rsync://"}
+            self.prepared(Kind.AUTHORITY, "ca", [anchor], **self.ca(uris=uris))
         for missing in ({"lists": None}, {"locator": None}):
             without: Any = rpki.prepare
             with self.assertRaises(TypeError):
