@@ -461,6 +461,13 @@ def _kind(kind: Kind, name: str) -> int:
     return kind.value
 
 
+def _number(number: int, name: str) -> int:
+    """A number. Raises TypeError for everything else: for "1", 1.0 and True too."""
+    if not isinstance(number, int) or isinstance(number, bool):
+        raise TypeError(f"{name}: expected a number, not {type(number).__name__}")
+    return number
+
+
 def _flag(flag: bool, name: str) -> bool:
     """True or False. Raises TypeError for everything else: for "no" too."""
     if not isinstance(flag, bool):
@@ -786,7 +793,7 @@ class RevocationList:
 
 def _serial(what: int | Certificate) -> int:
     number = what.serial_number if isinstance(what, Certificate) else what
-    if not isinstance(number, int):
+    if not isinstance(number, int) or isinstance(number, bool):
         raise TypeError(f"expected a serial number or a Certificate, not {type(what).__name__}")
     return number
 
@@ -798,15 +805,24 @@ def _octets(what: Octets | Certificate | RevocationList, name: str) -> bytes:
     return what.octets if isinstance(what, (Certificate, RevocationList)) else _bytes(what, name)
 
 
-_SINGLE = (bytes, bytearray, memoryview, str, os.PathLike, io.IOBase)
+# what has elements, and isn't a list of them
+_SINGLE = (bytes, bytearray, memoryview, str, os.PathLike, io.IOBase, *_NETWORKS)
+
+Element = TypeVar("Element")
+
+
+def _each(many: Iterable[Element], name: str) -> Iterable[Element]:
+    """An argument that has elements. Raises TypeError for everything else, and for what may be an
+    element itself."""
+    if isinstance(many, (*_SINGLE, Certificate, RevocationList)) or not isinstance(many, Iterable):
+        remedy = "" if many is None else "; [..] makes one of it"
+        raise TypeError(f"{name}: expected a list, not {type(many).__name__}{remedy}")
+    return many
 
 
 def _all_octets(many: Sequence[Octets | Certificate | RevocationList], name: str) -> list[bytes]:
-    """The octets of each of an argument, which isn't one of them itself."""
-    if isinstance(many, (*_SINGLE, Certificate, RevocationList)):
-        given = type(many).__name__
-        raise TypeError(f"{name}: expected a list, not {given}; [..] makes one of it")
-    return [_octets(it, f"{name}[{at}]") for at, it in enumerate(many)]
+    """The octets of each of an argument."""
+    return [_octets(it, f"{name}[{at}]") for at, it in enumerate(_each(many, name))]
 
 
 def _why_no_path(count: int, last: Kind) -> str:
@@ -956,25 +972,26 @@ def judge_folder(
     """Validates all certificates of a directory below the trust anchor of a TAL, and returns a line
     for each string of `octets`.
 
-    `octets` are certificates and revocation lists in any order, and may be others. The trust anchor
-    is the first of them that has the key of `locator`, the file of a locator (RFC 8630). Each
-    certificate that an accepted CA signed is judged below it as what it says that it is, and has to
-    be unrevoked by the lists among the octets, as for `validate`, which accepts what is accepted here.
-    No folder shows that a file was withheld: whoever reads manifests leaves out what they don't list.
+    `octets` are certificates and CRLs in any order, and may be others. The trust anchor is the first
+    certificate that has the key of `locator`, the file of a TAL (RFC 8630). Each certificate that an
+    accepted CA signed is validated below it as the kind that it says. It may not be revoked by the
+    CRLs among the octets, as for `validate`, which accepts what is accepted here.
 
-    `at`, `strict` and `chain_names` are as for `validate`, and `check_key` for each certificate. A path
-    has at most `depth` certificates below the trust anchor, and at most `steps` certificates are
-    verified, each once for each path that leads to it; 64 times as many as there are, if it isn't
-    given. `is_whole` of the answer says whether that was enough.
+    `at`, `strict` and `chain_names` are as for `validate`, and so is `check_key`, for each
+    certificate. A path has at most `depth` certificates below the trust anchor, and at most `steps`
+    certificates are verified, each once for each path that leads to it; the default is 64 times as
+    many as there are. `is_whole` of the answer says whether that was enough.
 
     Raises LocatorFault if the file is no TAL or no certificate has its key, and the Fault of a
-    trust anchor that is wrong, with its index in `octets` as the `member`.
+    trust anchor that is wrong, with its index in `octets` as the `member`; ValueError if `depth` or
+    `steps` is out of range; TypeError if an argument has another type.
 
-    Not checked: name chaining, and manifests. A withheld file isn't detected.
+    Not checked: manifests. A withheld file isn't detected: a caller who reads manifests leaves out the
+    files that they don't list.
     """
     now = _time(datetime.now(timezone.utc) if at is None else at)
     for name, bound in (("depth", depth), ("steps", 1 if steps is None else steps)):
-        if not 1 <= bound < 1 << 64:
+        if not 1 <= _number(bound, name) < 1 << 64:
             raise ValueError(f"{name}: expected a number from 1 to 2^64 - 1, not {bound}")
     is_strict = _flag(strict, "strict")
     tal = _bytes(locator, "locator")
@@ -1020,7 +1037,7 @@ def _addresses(
     if wanted is None or isinstance(wanted, Inherit):
         return raw.addresses_wanted(raw.MISSING if wanted is None else raw.INHERITED, ())
     name = f"ipv{version}"
-    ends = [_ends(it, name) for it in wanted]
+    ends = [_ends(it, name) for it in _each(wanted, name)]
     if not ends or any(it[0] != version for it in ends):
         raise ValueError(f"{name}: expected addresses of IPv{version}, or None for no addresses")
     return raw.addresses_wanted(raw.LISTED, [raw.ip_range(*it[1:]) for it in ends])
@@ -1029,11 +1046,14 @@ def _addresses(
 def _systems(wanted: Iterable[int | range] | Inherit | None) -> raw.AsNumbers:
     if wanted is None or isinstance(wanted, Inherit):
         return raw.as_numbers_wanted(raw.MISSING if wanted is None else raw.INHERITED, ())
-    ranges = [range(it, it + 1) if isinstance(it, int) else it for it in wanted]
-    for it in ranges:
+    ranges = []
+    for it in _each(wanted, "as_numbers"):
+        if isinstance(it, int) and not isinstance(it, bool):
+            it = range(it, it + 1)
         if not isinstance(it, range):
             given = type(it).__name__
             raise TypeError(f"as_numbers: expected numbers, or ranges of them, not {given}")
+        ranges.append(it)
     if any(it.step != 1 or not it or not 0 <= it[0] <= it[-1] < 1 << 32 for it in ranges):
         raise ValueError("as_numbers: expected numbers below 2^32, or ranges of them with step 1")
     if not ranges:
@@ -1147,6 +1167,12 @@ _NO_CERTIFICATE = (
 )
 
 
+def _uri(uri: str, name: str) -> bytes:
+    if not isinstance(uri, str):
+        raise TypeError(f"uris[{name!r}]: expected a str, not {type(uri).__name__}")
+    return uri.encode()
+
+
 def prepare(
     kind: Kind,
     *,
@@ -1186,10 +1212,10 @@ def prepare(
     _kind(kind, "kind")
     issuer = _Issuer.of(issuers, lists, locator, at, strict, chain_names)
     named = dict(uris or {})
-    texts = [named.pop(name, "").encode() for name in raw.URIS]
+    texts = [_uri(named.pop(name, ""), name) for name in raw.URIS]
     if named:
         raise ValueError(f"uris: expected the names {', '.join(raw.URIS)}, not {min(named)!r}")
-    if not 1 <= serial_number < 1 << 159:
+    if not 1 <= _number(serial_number, "serial_number") < 1 << 159:
         raise ValueError("serial_number: expected a number from 1 to 2^159 - 1")
     asked = raw.wanted(
         issuer.question(_kind_above(kind)),
@@ -1199,7 +1225,7 @@ def prepare(
         texts,
         (_time(not_before, "not_before"), _time(not_after, "not_after")),
         serial_number.to_bytes(20, "big"),
-        trims_resources,
+        _flag(trims_resources, "trims_resources"),
     )
     told, octets = raw.prepare(asked)
     issuer.raise_fault(told, _NO_CERTIFICATE)
@@ -1251,7 +1277,7 @@ def _revoked(what: int | Certificate | Entry, since: datetime) -> tuple[raw.Time
 
 
 def _list_number(number: int, name: str) -> bytes:
-    if not 0 <= number < 1 << 160:
+    if not 0 <= _number(number, name) < 1 << 160:
         raise ValueError(f"{name}: expected a number from 0 to 2^160 - 1")
     return number.to_bytes(20, "big")
 
@@ -1288,7 +1314,7 @@ def prepare_list(
     now = datetime.now(timezone.utc) if at is None else at
     issuer = _Issuer.of(issuers, lists, locator, now, strict, chain_names)
     since = now if this_update is None else this_update
-    if number is not None and number < 1:
+    if number is not None and _number(number, "number") < 1:
         raise ValueError("number: expected a number from 1 to 2^159 - 1")
     updates = _time(since, "this_update"), _time(next_update, "next_update")
     before = b"" if previous is None else _octets(previous, "previous")
@@ -1300,12 +1326,12 @@ def prepare_list(
         issuer.raise_fault(told, _NO_LIST)
         return octets
 
-    entries = [_revoked(it, since) for it in revoked]
+    entries = [_revoked(it, since) for it in _each(revoked, "revoked")]
     octets = prepared(before, entries, number or 0)
     if not before:
         return octets
     its = RevocationList(before)
-    dropped = set(its.expired(expired))
+    dropped = set(its.expired(_each(expired, "expired")))
     if not dropped:
         return octets
     # the list before was checked above: this one is made as a first list, of what stays of it

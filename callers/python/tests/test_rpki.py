@@ -708,8 +708,12 @@ class Folders(unittest.TestCase):
             self.assertEqual(sum(it.is_valid for it in folder.lines), valid)
             self.assertEqual(folder.is_whole, valid == 4)
         for none in ("depth", "steps"):
-            with self.assertRaises(ValueError):
-                self.judge(given, **{none: 0})
+            for number in (0, -1, 1 << 64):
+                with self.assertRaisesRegex(ValueError, f"^{none}: "):
+                    self.judge(given, **{none: number})
+            for other in ("1", 1.0, True):
+                with self.assertRaisesRegex(TypeError, f"^{none}: expected a number, not "):
+                    self.judge(given, **cast("dict[str, Any]", {none: other}))
 
     def test_anchors(self) -> None:
         given = [*self.members, *self.lists]
@@ -919,11 +923,23 @@ class Issuing(unittest.TestCase):
             {"ipv4": [10]},
             {"ipv6": [("2001:db8::", "2001:db8::1")]},
             {"as_numbers": ["64500"]},
+            {"as_numbers": [True]},
+            {"as_numbers": 64500},
+            {"ipv4": "10.0.0.0/15"},
+            {"ipv4": ipaddress.IPv4Network("10.0.0.0/15")},
+            {"ipv6": 6},
+            {"trims_resources": "no"},
+            {"trims_resources": 2},
+            {"serial_number": "5"},
+            {"serial_number": True},
         ]
         for changes in mistyped:
             (argument,) = changes
             with self.assertRaisesRegex(TypeError, f"^{argument}: "):
                 self.prepared(Kind.AUTHORITY, "ca", [anchor], **self.ca(**changes))
+        with self.assertRaisesRegex(TypeError, "^uris\\['crl'\\]: expected a str, not bytes"):
+            uris = {**self.places, **self.above, "crl": b"rsync://"}
+            self.prepared(Kind.AUTHORITY, "ca", [anchor], **self.ca(uris=uris))
         for missing in ({"lists": None}, {"locator": None}):
             without: Any = rpki.prepare
             with self.assertRaises(TypeError):
