@@ -16,6 +16,7 @@ use Rattle.rpki_ext.specs.Kinds.{Means}
 use Rattle.rpki_cert.specs.Certificates.{CertFields, IsCertificate}
 use Rattle.rpki_folder.specs.Folders.{octets_at, NamesSigner, ArePlacesOf}
 use Rattle.rpki_folder.specs.KeyTables.{with_place}
+use Rattle.rpki_folder.proofs.OnceLists.{once_push}
 
 some_one : {X : Type 0} (x y : X) → Some x ≡ Some y → x ≡ y
 some_one x y e = cc e
@@ -55,6 +56,7 @@ module _ (certs : List (List ℕ)) (octets : List ℕ) where
         | inl is ↦ absurd (never (subst (λ (o : List ℕ). NamesSigner key o) new_at (subst (λ (p : ℕ). NamesSigner key (octets_at more p)) is names)))
         | inr low ↦ old_all place low names
       ];
+      once = old.once;
     }
 
     -- the key that signs it
@@ -72,6 +74,7 @@ module _ (certs : List (List ℕ)) (octets : List ℕ) where
         | inl is ↦ subst (λ (p : ℕ). Contains (places ++ length certs ∷ []) p) (sym is) (Contains-push places (length certs))
         | inr low ↦ Contains-append_left places (length certs ∷ []) place (old_all place low names)
       ];
+      once = once_push places (length certs) old.once (λ among. let low = old.inside (length certs) among in absurd (omega (arith, low)));
     }
 
   module _ (law : IsUnambiguous IsCertificate) (c : CertFields) (begins : Means IsCertificate c octets) (table : List ℕ → List ℕ) (old : (key : List ℕ) → ArePlacesOf certs key (table key)) where

@@ -38,12 +38,18 @@ pub record NamesSigner (key octets : List ℕ) : Type 0 where
   pub begins : Means IsCertificate cert octets
   pub names : cert.fields.extensions.authority_key_identifier ≡ Some key
 
--- these are the places of the certificates that name the key as the one that signs them
+-- no element stands twice in the list
+abbrev pub IsOnce : {X : Type 0} → List X → Type 0
+IsOnce {X} [] = Unit {0}
+IsOnce {X} (x ∷ xs) = (Contains xs x → ⊥) × IsOnce xs
+
+-- these are the places of the certificates that name the key as the one that signs them, each once
 pub record ArePlacesOf (certs : List (List ℕ)) (key places : List ℕ) : Type 0 where
   pub inside : (place : ℕ) → Contains places place → place < length certs
   pub only : (place : ℕ) → Contains places place → NamesSigner key (octets_at certs place)
   pub all : (place : ℕ) → place < length certs → NamesSigner key (octets_at certs place)
       → Contains places place
+  pub once : IsOnce places
 
 -- the octets begin with no certificate
 abbrev pub BeginsNoCertificate : List ℕ → Type 0

@@ -7,8 +7,9 @@ ghost use Rattle.rpki_folder.specs.Walks.{worse};
 pub struct Bounds {
     /// The most certificates that a path may have below the certificate at which the walk starts.
     pub depth: usize,
-    /// The most certificates that are verified; a certificate counts once for each path that leads
-    /// to it.
+    /// The steps of the walk. A verdict on a child of a CA takes one, once for each path that leads
+    /// to the child. They are divided evenly among the CAs below each CA; what is left over below
+    /// one CA goes to no other.
     pub steps: usize,
 }
 
@@ -20,7 +21,8 @@ pub enum Ended {
     /// Every certificate within the depth was judged. Below a CA at the greatest depth more may be
     /// valid.
     TooDeep,
-    /// The limit of steps was reached before every certificate was judged.
+    /// The share of a CA is less than its children, so none of these was judged. Below every other
+    /// CA the walk went on.
     OutOfSteps,
 }
 

@@ -1,5 +1,6 @@
 //! The walk down from a trust anchor.
-ghost use Rattle.std.specs.Prelude.{◌≡◌, ◌≢◌, ◌↔◌, ◌+◌, ◌++◌, ◌∷◌, [], ◌<◌, ℕ, List, length, Contains, Result, Ok, Err, IfOk, IfErr, OnOk, OnErr, IsTrue, IsFalse};
+ghost use Rattle.std.specs.Prelude.{◌≡◌, ◌≢◌, ◌↔◌, ◌+◌, ◌++◌, ◌∷◌, [], ◌<◌, ◌≤◌, ℕ, List, length, Contains, Result, Ok, Err, IfOk, IfErr, OnOk, OnErr, IsTrue, IsFalse};
+ghost use Rattle.std.specs.List.{AllByRecursion};
 ghost use Rattle.std.proofs.Common.{rc_value};
 ghost use Rattle.rpki_ext.specs.Kinds.{Means};
 ghost use Rattle.rpki_cert.specs.Certificates.{CertFields, IsCertificate};
@@ -8,7 +9,7 @@ ghost use Rattle.rpki_path.specs.LocatedPaths.{IsLocatedFault};
 ghost use Rattle.rpki_path.specs.declared.judging.Judged.{Judged};
 ghost use Rattle.rpki_path.specs.declared.path_fault.PathFault.{PathFault as Fault};
 ghost use Rattle.rpki_path.specs.declared.path_fault.PathFault.TheVariants.{Memory};
-ghost use Rattle.rpki_cert.specs.Verification.{context};
+ghost use Rattle.rpki_cert.specs.Verification.{context, IsSignedBy};
 ghost use Rattle.rpki_path.specs.Asking.{nobody};
 ghost use Rattle.rpki_path.specs.AskedLists.{by_named_lists};
 ghost use Rattle.rpki_path.specs.NameChains.{IsSelfNamed};
@@ -16,10 +17,11 @@ ghost use Rattle.rpki_path.specs.Paths.{Finds};
 ghost use Rattle.rpki_path.specs.Paths.Steps.{kind_of, IsIssuedBy, demand_under};
 ghost use Rattle.rpki_path.specs.Repeats.{AreOneEntity};
 ghost use Rattle.rpki_path.specs.Routers.{IsRouterUnder, router_demand};
-ghost use Rattle.rpki_folder.specs.Folders.{octets_at, ArePlacesOf};
+ghost use Rattle.rpki_folder.specs.Folders.{octets_at, ArePlacesOf, IsOnce, NamesSigner};
 ghost use Rattle.rpki_folder.specs.IssuerLists.{AreIssuers};
-ghost use Rattle.rpki_folder.specs.Walks.{Root, at_anchor, members_at, LeadsTo, IsValidAnchor, Told, told, StandsAt, IsLastOf, IsNamedUnder, IsRepeated, EndsNoCircle, IsLookedAt, TellsBelow, TellsFrom, IsWhyNone};
-ghost use Rattle.rpki_folder.specs.Walks.Steps.{IsAnswer, IsOutcome, Hands, IsAtTop};
+ghost use Rattle.rpki_folder.specs.Walks.{Root, at_anchor, members_at, LeadsTo, IsValidAnchor, Told, told, StandsAt, IsLastOf, IsNamedUnder, IsRepeated, EndsNoCircle, IsLookedAt, IsChildOf, TellsBelow, TellsFrom, IsWhyNone};
+ghost use Rattle.rpki_folder.specs.Walks.Steps.{IsAnswer, IsOutcome, Hands, IsAtTop, AreChildrenAmong, AreJudged, IsToldOf, WalksBelowEach};
+ghost use Rattle.rpki_folder.specs.declared.walk.Ca.{Ca};
 
 use crate::admission::Admission;
 use crate::bounds::{Bounds, Ended};
@@ -63,11 +65,31 @@ pub struct Walk<'w, A, V> {
     pub verifier: &'w V,
 }
 
-// Where a walk is: the places of the CAs above, from the top down, and the steps that are left.
+// Where a walk is: the places of the CAs above, from the top down.
 #[derive(Drop)]
 struct Trail {
     above: Vec<usize>,
-    steps: usize,
+}
+
+// A CA that was accepted, and its place.
+#[derive(Drop)]
+struct Ca {
+    place: usize,
+    holder: ResourceCert,
+}
+
+// Whether the issuer's key signed the certificate, with one algorithm inside and outside of what is
+// signed. The signature is verified last, as that takes longest.
+fn is_issued<V: Verifier>(issuer: &Cert, cert: &Cert, strict: bool, verifier: &V) -> bool
+    ensures { let signed = IsSignedBy (V.verifies verifier.now) issuer.now.fields.key
+        cert.now.signed_data in
+        let one = cert.now.fields.algorithm ≡ cert.now.signed_data.signature.algorithm in
+        IsTrue result ↔ (signed × one) }
+{
+    if cert.as_tbs().signature() != *cert.signed_data().signature().algorithm() {
+        return false;
+    }
+    cert.verify_signature(issuer, strict, verifier).is_ok()
 }
 
 // An answer on the trust anchor, as one on the path.
@@ -445,30 +467,135 @@ impl<'w, A: Admission, V: Verifier> Walk<'w, A, V> {
         }
     }
 
-    // The walk below an issuer with these CRLs, to the certificates at these places, for this
-    // depth. It started below the certificate at the top.
-    #[cycle(descend)]
-    fn each_below<W: Visitor>(
+    // Whether the certificate at a place, which names the issuer's key, is a child of the issuer.
+    fn is_child(&self, issuer: &ResourceCert, place: usize) -> Result<bool, AllocError>
+        requires place { place < length self.now.folder.now.certs }
+        requires names { let key = issuer.now.cert.fields.extensions.subject_key_identifier in
+            NamesSigner key (octets_at self.now.folder.now.certs place) }
+        ensures { let w = self.now in
+            let verifies = V.verifies w.verifier.now in
+            IfOk result (λ is. IsTrue is
+            ↔ IsChildOf verifies issuer.now.cert w.folder.now.certs place) }
+    {
+        laws::unambiguous();
+        let cert = self.folder.certs()[place].cert(self.alloc)?;
+        let is_signed = is_issued(issuer.as_cert(), &cert, self.strict, self.verifier);
+        drop(cert);
+        Ok(is_signed)
+    }
+
+    // The places of the issuer's children that are looked at, among those that name its key; or one
+    // more than this share, if there are so many, so that no further signature is verified. What is
+    // wrong with the others that are looked at is told: they take no step.
+    fn children<W: Visitor>(
         &self,
-        top: &ResourceCert,
         issuer: &ResourceCert,
         lists: &IssuerLists<'_>,
+        above: &[usize],
         places: &[usize],
-        trail: &mut Trail,
-        depth: usize,
+        share: usize,
         visitor: &mut W,
-    ) -> Result<Ended, AllocError>
+    ) -> Result<Vec<usize>, AllocError>
         requires kept { let w = self.now in
             let x = context (V.verifies w.verifier.now) w.at w.strict in
             AreIssuers w.names x w.folder.now.lists issuer.now.cert.fields lists.now }
         requires places { let key = issuer.now.cert.fields.extensions.subject_key_identifier in
             ArePlacesOf self.now.folder.now.certs key places.now }
+        ensures told { let w = self.now in
+            let x = context (V.verifies w.verifier.now) w.at w.strict in
+            let asked = by_named_lists w.names x w.folder.now.lists in
+            let certs = w.folder.now.certs in
+            let admits = A.admits w.admission.now above.now in
+            let lets_in = λ (p : ℕ). admits p × IsNamedUnder w.names issuer.now.cert certs p in
+            let others = λ (p : ℕ). lets_in p
+            × (IsChildOf (V.verifies w.verifier.now) issuer.now.cert certs p → ⊥) in
+            (v : W) (ts : List Told) → W.became v ts visitor.old
+            → (more : List Told) × W.became v (ts ++ more) visitor.new
+            × AllByRecursion (IsToldOf x asked issuer.now certs above.now others) more }
+        ensures children { let w = self.now in
+            let certs = w.folder.now.certs in
+            let admits = A.admits w.admission.now above.now in
+            let lets_in = λ (p : ℕ). admits p × IsNamedUnder w.names issuer.now.cert certs p in
+            let verifies = V.verifies w.verifier.now in
+            IfOk result (λ children. AreChildrenAmong verifies lets_in issuer.now.cert certs share
+            places.now children.items) }
+    {
+        laws::unambiguous();
+        let mut children = Vec::new(self.alloc);
+        for &place in places {
+            let is_looked_at = self.is_looked_at(issuer, above, place)?;
+            if !is_looked_at {
+                continue;
+            }
+            let is_child = self.is_child(issuer, place)?;
+            if is_child {
+                children.push(place)?;
+                if children.len() > share {
+                    return Ok(children);
+                }
+                continue;
+            }
+            drop(self.look_at(issuer, lists, above, place, visitor)?);
+        }
+        Ok(children)
+    }
+
+    // Judges the issuer's children at these places, tells the verdicts, and returns the CAs that are
+    // accepted.
+    fn judge_children<W: Visitor>(
+        &self,
+        issuer: &ResourceCert,
+        lists: &IssuerLists<'_>,
+        above: &[usize],
+        children: &[usize],
+        visitor: &mut W,
+    ) -> Result<Vec<Ca>, AllocError>
+        requires inside { (place : ℕ) → Contains children.now place
+            → place < length self.now.folder.now.certs }
+        requires once { IsOnce children.now }
+        requires kept { let w = self.now in
+            let x = context (V.verifies w.verifier.now) w.at w.strict in
+            AreIssuers w.names x w.folder.now.lists issuer.now.cert.fields lists.now }
+        ensures { let w = self.now in
+            let x = context (V.verifies w.verifier.now) w.at w.strict in
+            let asked = by_named_lists w.names x w.folder.now.lists in
+            let certs = w.folder.now.certs in
+            let among = λ (p : ℕ). Contains children.now p in
+            (v : W) (ts : List Told) → W.became v ts visitor.old
+            → (more : List Told) × W.became v (ts ++ more) visitor.new
+            × (length more ≤ length children.now)
+            × AllByRecursion (IsToldOf x asked issuer.now certs above.now among) more
+            × IfOk result (λ cas.
+            AreJudged x asked issuer.now certs above.now children.now cas.items more) }
+    {
+        laws::unambiguous();
+        let mut cas = Vec::new(self.alloc);
+        for &place in children {
+            let next = self.look_at(issuer, lists, above, place, visitor)?;
+            let Some(holder) = next else {
+                continue;
+            };
+            cas.push(Ca { place, holder })?;
+        }
+        Ok(cas)
+    }
+
+    // The walk below each of these CAs, which stand below those on the trail, for this depth and
+    // share. It began below the certificate at the top.
+    #[cycle(descend)]
+    fn each_below<W: Visitor>(
+        &self,
+        top: &ResourceCert,
+        cas: &[Ca],
+        trail: &mut Trail,
+        share: usize,
+        depth: usize,
+        visitor: &mut W,
+    ) -> Result<Ended, AllocError>
         requires inside { (place : ℕ) → Contains trail.old.above.items place
             → place < length self.now.folder.now.certs }
-        requires last { let certs = self.now.folder.now.certs in
-            IsLastOf top.now.cert certs trail.old.above.items issuer.now.cert }
-        requires no_circle { let w = self.now in
-            EndsNoCircle w.names top.now.cert w.folder.now.certs trail.old.above.items }
+        requires stand { (ca : Ca) → Contains cas.now ca
+            → StandsAt self.now.folder.now.certs ca.place ca.holder.cert }
         ensures tells { let w = self.now in
             let x = context (V.verifies w.verifier.now) w.at w.strict in
             let asked = by_named_lists w.names x w.folder.now.lists in
@@ -476,47 +603,31 @@ impl<'w, A: Admission, V: Verifier> Walk<'w, A, V> {
             let admits = IsLookedAt w.names (A.admits w.admission.now) top.now.cert certs in
             (v : W) (ts : List Told) → W.became v ts visitor.old
             → (more : List Told) × W.became v (ts ++ more) visitor.new
-            × (length more + trail.new.steps ≡ trail.old.steps)
-            × TellsBelow x asked admits issuer.now certs trail.old.above.items depth
-            trail.old.steps result more }
+            × WalksBelowEach x asked admits certs trail.old.above.items depth share cas.now result
+            more }
         ensures trail { OnOk result (trail.new.above.items ≡ trail.old.above.items) }
     {
         laws::unambiguous();
         let mut ended = Ended::Whole;
-        for &place in places {
-            let is_looked_at = self.is_looked_at(issuer, &trail.above, place)?;
-            if !is_looked_at {
-                continue;
-            }
-            if depth == 0 {
-                return Ok(Ended::TooDeep);
-            }
-            if trail.steps == 0 {
-                return Ok(Ended::OutOfSteps);
-            }
-            let next = self.look_at(issuer, lists, &trail.above, place, visitor)?;
-            trail.steps -= 1;
-            let Some(ca) = next else {
-                continue;
-            };
-            trail.above.push(place)?;
-            let below = self.descend(top, &ca, trail, depth - 1, visitor);
-            drop(ca);
+        for ca in cas {
+            trail.above.push(ca.place)?;
+            let below = self.descend(top, &ca.holder, trail, share, depth, visitor);
             trail.above.pop();
             ended = ended.and(below?);
         }
         Ok(ended)
     }
 
-    // The walk below an issuer, for this depth, which started below the certificate at the top. It
-    // doesn't go on below an entity that is above already. If no certificate is below the issuer,
-    // its CRLs aren't verified.
+    // The walk below an issuer, for this depth and share, which started below the certificate at
+    // the top. It doesn't go on below an entity that is above already. If no certificate is below
+    // the issuer, its CRLs aren't verified.
     #[cycle(descend)]
     fn descend<W: Visitor>(
         &self,
         top: &ResourceCert,
         issuer: &ResourceCert,
         trail: &mut Trail,
+        share: usize,
         depth: usize,
         visitor: &mut W,
     ) -> Result<Ended, AllocError>
@@ -531,9 +642,8 @@ impl<'w, A: Admission, V: Verifier> Walk<'w, A, V> {
             let admits = IsLookedAt w.names (A.admits w.admission.now) top.now.cert certs in
             (v : W) (ts : List Told) → W.became v ts visitor.old
             → (more : List Told) × W.became v (ts ++ more) visitor.new
-            × (length more + trail.new.steps ≡ trail.old.steps)
-            × TellsBelow x asked admits issuer.now certs trail.old.above.items depth
-            trail.old.steps result more }
+            × TellsBelow x asked admits issuer.now certs trail.old.above.items depth share result
+            more }
         ensures trail { OnOk result (trail.new.above.items ≡ trail.old.above.items) }
     {
         laws::unambiguous();
@@ -547,9 +657,22 @@ impl<'w, A: Admission, V: Verifier> Walk<'w, A, V> {
             return Ok(Ended::Whole);
         }
         let lists = self.lists_of(issuer)?;
-        let ended = self.each_below(top, issuer, &lists, places, trail, depth, visitor);
-        drop(lists);
-        ended
+        let children = self.children(issuer, &lists, &trail.above, places, share, visitor)?;
+        if children.is_empty() {
+            return Ok(Ended::Whole);
+        }
+        if depth == 0 {
+            return Ok(Ended::TooDeep);
+        }
+        if children.len() > share {
+            return Ok(Ended::OutOfSteps);
+        }
+        let cas = self.judge_children(issuer, &lists, &trail.above, &children, visitor)?;
+        if cas.is_empty() {
+            return Ok(Ended::Whole);
+        }
+        let next = (share - children.len()) / cas.len();
+        self.each_below(top, &cas, trail, next, depth - 1, visitor)
     }
 
     /// Walks below an issuer that was validated before, and calls the visitor with each verdict.
@@ -590,9 +713,16 @@ impl<'w, A: Admission, V: Verifier> Walk<'w, A, V> {
     {
         let mut trail = Trail {
             above: Vec::new(self.alloc),
-            steps: self.bounds.steps,
         };
-        let ended = self.descend(issuer, issuer, &mut trail, self.bounds.depth, visitor);
+        let bounds = self.bounds;
+        let ended = self.descend(
+            issuer,
+            issuer,
+            &mut trail,
+            bounds.steps,
+            bounds.depth,
+            visitor,
+        );
         drop(trail);
         ended
     }
