@@ -1,7 +1,7 @@
 -- What a walk tells below an issuer, wherever it ends there.
 use Rattle.std.specs.List.{AllByRecursion}
-use Rattle.std.specs.Prelude.{Bool, Contains, IsErr, Result, Ok, Err}
-use Rattle.std.proofs.Common.{◌≡◌, ◌+◌, ◌-◌, ◌*◌, ◌/◌, ◌<◌, ◌≤◌, ℕ, List, [], ◌∷◌, ◌++◌, length, refl, sym, subst, ap, ◌∙◌, arith}
+use Rattle.std.specs.Prelude.{Bool, Contains, IsErr, Result, Ok}
+use Rattle.std.proofs.Common.{◌≡◌, ◌+◌, ◌-◌, ◌/◌, ◌<◌, ◌≤◌, ℕ, List, [], ◌++◌, length, sym, subst, ap, arith}
 use Rattle.std.proofs.lemmas.List.{append-nil}
 use Rattle.rpki_der.specs.Values.{IsUnambiguous}
 use Rattle.rpki_parts.specs.Signatures.{Verifies}
@@ -16,7 +16,6 @@ use Rattle.rpki_folder.specs.Walks.{Root, members_at, LeadsTo, Told, StandsAt, I
 use Rattle.rpki_folder.specs.Walks.Steps.{AreChildrenAmong, AreJudged, IsToldOf, WalksBelowEach}
 use Rattle.rpki_folder.proofs.Descent.{IsSound, sound_more, sound_append, sound_told, sound_others, ca_stands}
 use Rattle.rpki_folder.proofs.LookedAt.{looked_at, let_in}
-use Rattle.rpki_folder.proofs.PickedLists.{in_none}
 use Rattle.rpki_folder.proofs.Shares.{each_none, each_leads, ended_err, ended_childless, ended_deep, ended_short, ended_each}
 
 -- it is let in below an issuer, and has its name, if names are asked

@@ -1,8 +1,8 @@
 -- What is told below an issuer, put together of what is told of its children, and below each of the CAs
 -- among these, whose shares are even.
 use Rattle.std.specs.List.{AllByRecursion}
-use Rattle.std.specs.Prelude.{Option, None, Some, IsSome, IsOk, IsErr, Contains, IfOk, Result, Ok, Err}
-use Rattle.std.proofs.Common.{◌≡◌, ◌⊎◌, ◌+◌, ◌-◌, ◌*◌, ◌/◌, ◌<◌, ◌≤◌, ℕ, zero, suc, List, [], ◌∷◌, ◌++◌, length, map, take, refl, sym, subst, ap, ◌∙◌, inl, inr, append_assoc, arith}
+use Rattle.std.specs.Prelude.{Option, None, Some, IsSome, IsErr, Contains, Result, Ok}
+use Rattle.std.proofs.Common.{◌≡◌, ◌+◌, ◌-◌, ◌*◌, ◌/◌, ◌<◌, ◌≤◌, ℕ, zero, suc, List, [], ◌∷◌, ◌++◌, length, take, refl, sym, subst, ap, ◌∙◌, inl, inr, append_assoc, arith}
 use Rattle.std.proofs.Math.Nat.{mul-div-le, mul-le-mul_right, suc-mul, zero-mul}
 use Rattle.std.proofs.lemmas.List.{append-nil, length-append, length-map}
 use Rattle.std.proofs.lemmas.List.Elements.{Contains-push_cases}
@@ -10,20 +10,18 @@ use Rattle.rpki_der.specs.Values.{IsUnambiguous}
 use Rattle.rpki_cert.specs.Certificates.{CertFields, IsCertificate}
 use Rattle.rpki_cert.specs.Verification.{Context, ResourceFields}
 use Rattle.rpki_path.specs.Asking.{RevocationChecks}
-use Rattle.rpki_path.specs.declared.judging.Judged.{Judged}
-use Rattle.rpki_path.specs.declared.path_fault.PathFault.{PathFault}
 use Rattle.rpki_path.specs.Paths.{Candidate, candidate}
 use Rattle.rpki_cert.specs.declared.inspect.Kind.TheVariants.{Authority}
 use Rattle.rpki_folder.specs.declared.bounds.Ended.{Ended}
 use Rattle.rpki_folder.specs.declared.bounds.Ended.TheVariants.{Whole, TooDeep, OutOfSteps}
 use Rattle.rpki_folder.specs.declared.walk.Ca.{Ca}
-use Rattle.rpki_folder.specs.Folders.{octets_at, ArePlacesOf, IsOnce}
-use Rattle.rpki_folder.specs.Walks.{Root, members_at, LeadsTo, IsReached, Told, told, IsRight, IsTold, worse, Covers, AreAdmitted, IsLetIn, IsChildOf, AreChildren, IsAcceptedCa, AreAcceptedCas, IsHandedDown, HasShare, HasEnough, IsShort, TakesStep, AreFew, HasBelow, IsTooDeep, IsComplete, IsCompleteInShares, Tells, TellsBelow}
-use Rattle.rpki_folder.specs.Walks.Steps.{IsOutcome, IsToldOf, AreChildrenAmong, places_of, AreJudged, down_to, TellsBelowEach, WalksBelowEach}
-use Rattle.rpki_folder.proofs.Descent.{told_more, told_behind, told_here, all_append, all_weaker, if_err, if_ok, ok_if, covers_first, covers_second, covers_below, worse_out, worse_deep, there, child_names, most_append, most_more, most_all, IsSound, sound_append, sound_more, sound_told, sound_others, let_in_above, ca_leads}
+use Rattle.rpki_folder.specs.Folders.{octets_at, ArePlacesOf}
+use Rattle.rpki_folder.specs.Walks.{Root, members_at, LeadsTo, IsReached, Told, IsRight, IsTold, worse, Covers, AreAdmitted, IsLetIn, IsChildOf, AreChildren, IsAcceptedCa, AreAcceptedCas, IsHandedDown, HasShare, HasEnough, IsShort, TakesStep, AreFew, HasBelow, IsTooDeep, IsComplete, IsCompleteInShares, Tells, TellsBelow}
+use Rattle.rpki_folder.specs.Walks.Steps.{AreChildrenAmong, places_of, AreJudged, down_to, TellsBelowEach, WalksBelowEach}
+use Rattle.rpki_folder.proofs.Descent.{told_more, told_behind, told_here, all_append, all_weaker, if_err, if_ok, ok_if, covers_first, covers_second, covers_below, worse_out, worse_deep, there, child_names, most_append, most_more, most_all, IsSound, sound_append, sound_more, let_in_above, ca_leads}
 use Rattle.rpki_folder.proofs.OnceLists.{once_length, once_shorter}
-use Rattle.rpki_folder.proofs.PathsDown.{members_next, members_more, one_holder, is_child}
-use Rattle.rpki_folder.proofs.Outcomes.{head_of, outcome_ok, outcome_goes_on, reached_passes, reached_child}
+use Rattle.rpki_folder.proofs.PathsDown.{members_next, one_holder, is_child}
+use Rattle.rpki_folder.proofs.Outcomes.{outcome_ok, outcome_goes_on, reached_passes, reached_child}
 use Rattle.rpki_folder.proofs.PickedLists.{in_none, in_front, further, first_or_further}
 
 -- a CA that stands at one of the places of some

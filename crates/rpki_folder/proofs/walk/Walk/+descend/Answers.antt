@@ -1,16 +1,15 @@
-use Rattle.std.specs.Prelude.{Option, None, Some, Result, Ok, Err, Bool, true, false, ◌==◌, Contains, IfOk}
+use Rattle.std.specs.Prelude.{Result, Ok, Bool, true, false, ◌==◌, Contains}
 use Rattle.std.specs.List.{AllByRecursion}
 use Rattle.std.specs.Global.{Vec}
 use Rattle.std.specs.declared.alloc.AllocError.{AllocError}
-use Rattle.std.proofs.Common.{rules, ◌≡◌, ◌+◌, ◌-◌, ◌/◌, ◌<◌, ◌≤◌, ℕ, List, [], ◌∷◌, ◌++◌, length, take, get_or, refl, sym, ap, subst, ◌∙◌, append_assoc, arith}
+use Rattle.std.proofs.Common.{rules, ◌≡◌, ◌+◌, ◌-◌, ◌/◌, ◌<◌, ◌≤◌, ℕ, List, [], ◌∷◌, ◌++◌, length, take, refl, sym, ap, subst, ◌∙◌, append_assoc, arith}
 use Rattle.std.proofs.lemmas.Bool.{eqb-true}
 use Rattle.std.proofs.lemmas.List.{append-nil, take_more, take_all}
 use Rattle.std.proofs.lemmas.List.Elements.{Contains-get_or}
 use Rattle.rpki_cert.specs.Certificates.{TbsFields, CertFields}
-use Rattle.rpki_cert.specs.Verification.{context, ResourceFields}
+use Rattle.rpki_cert.specs.Verification.{context}
 use Rattle.rpki_path.specs.AskedLists.{by_named_lists}
 use Rattle.rpki_folder.specs.declared.bounds.Ended.{Ended}
-use Rattle.rpki_folder.specs.declared.bounds.Ended.TheVariants.{Whole, TooDeep, OutOfSteps}
 use Rattle.rpki_folder.specs.declared.walk.Ca.{Ca}
 use Rattle.rpki_folder.specs.Folders.{ArePlacesOf, IsOnce}
 use Rattle.rpki_folder.specs.Walks.{Told, TellsBelow, StandsAt, IsLastOf, EndsNoCircle, IsLookedAt}

@@ -1,6 +1,6 @@
 use Rattle.std.specs.Prelude.{Ok}
 use Rattle.std.specs.declared.alloc.AllocError.{AllocError}
-use Rattle.std.proofs.Common.{◌≡◌, ◌+◌, ◌*◌, List, ℕ, ◌++◌, take}
+use Rattle.std.proofs.Common.{◌≡◌, ◌+◌, ◌*◌, List, ◌++◌, take}
 use Rattle.rpki_cert.specs.Verification.{context}
 use Rattle.rpki_path.specs.AskedLists.{by_named_lists}
 use Rattle.rpki_folder.specs.Walks.{Told, IsLookedAt}

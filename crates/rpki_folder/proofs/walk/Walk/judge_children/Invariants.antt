@@ -1,6 +1,6 @@
 use Rattle.std.specs.List.{AllByRecursion}
 use Rattle.std.specs.Prelude.{Contains}
-use Rattle.std.proofs.Common.{◌≡◌, ℕ, List, ◌++◌, length, take}
+use Rattle.std.proofs.Common.{◌≡◌, List, ◌++◌, length, take}
 use Rattle.rpki_cert.specs.Verification.{context}
 use Rattle.rpki_path.specs.AskedLists.{by_named_lists}
 use Rattle.rpki_folder.specs.Walks.{Told}
