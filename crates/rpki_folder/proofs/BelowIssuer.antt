@@ -50,7 +50,7 @@ module _ (x : Context) (asked : RevocationChecks) (names : Bool) (admits : List 
   pub at_err : {E : Type 0} (r : Result Ended E) → IsErr r → TellsBelow {E = E} x asked Looks issuer certs above depth share r ts
   at_err {E} r err = λ root a. ended_err x asked Looks root certs above depth share law issuer a {E = E} ts r err (others_few root a)
 
-  module _ (places : List ℕ) (are : ArePlacesOf certs issuer.cert.fields.extensions.subject_key_identifier places) (children : List ℕ) (c : AreChildrenAmong x.verifies Here issuer.cert certs share places children) where
+  module _ (places : List ℕ) (are : ArePlacesOf certs issuer.cert.fields.extensions.subject_key_identifier places) (children : List ℕ) (c : AreChildrenAmong x.verifies Here issuer.cert certs places children) where
     -- where there are no children
     pub at_none : {E : Type 0} → children ≡ [] → TellsBelow {E = E} x asked Looks issuer certs above depth share (Ok Whole) ts
     at_none {E} is = λ root a. ended_childless x asked Looks root certs above depth share law issuer a Here there_in in_there places are children c {E = E} ts is (others_few root a)

@@ -1,6 +1,6 @@
 -- The children of an issuer, one place after the other, and what is told of them.
 use Rattle.std.specs.Prelude.{None, Some, Contains, Result}
-use Rattle.std.proofs.Common.{◌≡◌, ◌+◌, ◌<◌, ℕ, List, [], ◌∷◌, ◌++◌, length, take, get_or, sym, subst, inl, inr, arith}
+use Rattle.std.proofs.Common.{◌≡◌, ◌⊎◌, ◌+◌, ◌<◌, ℕ, List, [], ◌∷◌, ◌++◌, length, take, get_or, sym, subst, inl, inr, arith}
 use Rattle.std.proofs.lemmas.List.{take_more, map-append, length-append}
 use Rattle.std.proofs.lemmas.List.Elements.{Contains-push_cases, Contains-append_left, Contains-push}
 use Rattle.rpki_parts.specs.Signatures.{Verifies}
@@ -19,15 +19,15 @@ use Rattle.rpki_folder.proofs.Shares.{ca_at, take_within}
 
 -- ---- which of the places are children
 
-module _ (verifies : Verifies) (lets_in : ℕ → Type 0) (issuer : CertFields) (certs : List (List ℕ)) (most : ℕ) where
+module _ (verifies : Verifies) (lets_in : ℕ → Type 0) (issuer : CertFields) (certs : List (List ℕ)) where
   abbrev Among : List ℕ → List ℕ → Type 0
-  Among places children = AreChildrenAmong verifies lets_in issuer certs most places children
+  Among places children = AreChildrenAmong verifies lets_in issuer certs places children
 
   pub none_among : Among [] []
   none_among = record {
     from = λ p at. at;
     only = λ p at. absurd (in_none p at);
-    all = λ few p at let_in child. at;
+    all = λ p at let_in child. at;
     once = tt;
   }
 
@@ -36,8 +36,8 @@ module _ (verifies : Verifies) (lets_in : ℕ → Type 0) (issuer : CertFields) 
   other_pushed places children place a never = record {
     from = λ p at. Contains-append_left places (place ∷ []) p (a.from p at);
     only = a.only;
-    all = λ few p at let_in child. elim (Contains-push_cases places place p at) [
-      | inl before ↦ a.all few p before let_in child
+    all = λ p at let_in child. elim (Contains-push_cases places place p at) [
+      | inl before ↦ a.all p before let_in child
       | inr is ↦ absurd (never (subst lets_in (sym is) let_in) (subst (λ (q : ℕ). IsChildOf verifies issuer certs q) (sym is) child))
     ];
     once = a.once;
@@ -54,8 +54,8 @@ module _ (verifies : Verifies) (lets_in : ℕ → Type 0) (issuer : CertFields) 
       | inl before ↦ a.only p before
       | inr is ↦ subst (λ (q : ℕ). lets_in q × IsChildOf verifies issuer certs q) is (let_in, child)
     ];
-    all = λ few p at in_there one. elim (Contains-push_cases places place p at) [
-      | inl before ↦ Contains-append_left children (place ∷ []) p (a.all (omega (arith, few, length-append children (place ∷ []))) p before in_there one)
+    all = λ p at in_there one. elim (Contains-push_cases places place p at) [
+      | inl before ↦ Contains-append_left children (place ∷ []) p (a.all p before in_there one)
       | inr is ↦ subst (λ (q : ℕ). Contains (children ++ place ∷ []) q) is (Contains-push children place)
     ];
     once = once_push children place a.once (λ at. never (a.from place at));
@@ -68,19 +68,13 @@ module _ (verifies : Verifies) (lets_in : ℕ → Type 0) (issuer : CertFields) 
     pub other_among : (lets_in here → IsChildOf verifies issuer certs here → ⊥) → Among (take (i + 1) all) children
     other_among never = subst (λ (l : List ℕ). Among l children) (sym (take_more all i 0 low)) (other_pushed (take i all) children here a never)
 
-    -- and more than those aren't wanted
-    pub enough_among : IsOnce all → lets_in here → IsChildOf verifies issuer certs here → most < length (children ++ here ∷ []) → Among all (children ++ here ∷ [])
-    enough_among once let_in child many =
-        let c = child_pushed (take i all) children here a (once_apart all i 0 once low) let_in child in
-        record {
-          from = λ p at. take_within all (i + 1) p (subst (λ (l : List ℕ). Contains l p) (sym (take_more all i 0 low)) (c.from p at));
-          only = c.only;
-          all = λ few. absurd (omega (arith, few, many));
-          once = c.once;
-        }
-
     pub child_among : IsOnce all → lets_in here → IsChildOf verifies issuer certs here → Among (take (i + 1) all) (children ++ here ∷ [])
     child_among once let_in child = subst (λ (l : List ℕ). Among l (children ++ here ∷ [])) (sym (take_more all i 0 low)) (child_pushed (take i all) children here a (once_apart all i 0 once low) let_in child)
+
+    -- as it was tested
+    pub added_among : (new : List ℕ) → IsOnce all → ((new ≡ children ++ here ∷ []) × lets_in here × IsChildOf verifies issuer certs here) ⊎ ((new ≡ children) × (lets_in here → IsChildOf verifies issuer certs here → ⊥)) → Among (take (i + 1) all) new
+    added_among new once (inl (is, let_in, child)) = subst (λ (l : List ℕ). Among (take (i + 1) all) l) (sym is) (child_among once let_in child)
+    added_among new once (inr (is, never)) = subst (λ (l : List ℕ). Among (take (i + 1) all) l) (sym is) (other_among never)
 
 -- ---- what is told of the children
 

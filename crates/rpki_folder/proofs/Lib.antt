@@ -4,6 +4,8 @@ pub mod Outcomes
 pub mod Descent
 pub mod Shares
 pub mod ChildSteps
+pub mod KeptIssuers
+pub mod ClaimSteps
 pub mod BelowIssuer
 pub mod LookedAt
 pub mod AnchorSteps

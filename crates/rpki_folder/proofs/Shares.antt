@@ -238,27 +238,27 @@ module _ (x : Context) (asked : RevocationChecks) (admits : List ℕ → ℕ →
 
   module _ (lets_in : ℕ → Type 0) (there_in : (place : ℕ) → lets_in place → admits above place) (in_there : (place : ℕ) → admits above place → lets_in place)
       (places : List ℕ) (are : ArePlacesOf certs issuer.cert.fields.extensions.subject_key_identifier places)
-      (children : List ℕ) (c : AreChildrenAmong x.verifies lets_in issuer.cert certs share places children) where
-    child_in : length children ≤ share → (place : ℕ) → admits above place → IsChildOf x.verifies issuer.cert certs place → Contains children place
-    child_in enough place admitted child =
+      (children : List ℕ) (c : AreChildrenAmong x.verifies lets_in issuer.cert certs places children) where
+    child_in : (place : ℕ) → admits above place → IsChildOf x.verifies issuer.cert certs place → Contains children place
+    child_in place admitted child =
         let names = child_names x.verifies issuer.cert certs place child in
-        c.all enough place (are.all place (there certs child.cert place child.stands) names) (in_there place admitted) child
+        c.all place (are.all place (there certs child.cert place child.stands) names) (in_there place admitted) child
 
     child_only : (place : ℕ) → Contains children place → admits above place × IsChildOf x.verifies issuer.cert certs place
     child_only place at = let h = c.only place at in (there_in place h.0, h.1)
 
-    are_children : length children ≤ share → AreChildren x asked admits root certs above children
-    are_children enough = record {
+    are_children : AreChildren x asked admits root certs above children
+    are_children = record {
       issuer = issuer;
       leads = a;
       only = child_only;
-      all = child_in enough;
+      all = child_in;
       once = c.once;
     }
 
     -- where there are none
     pub ended_childless : {E : Type 0} (ts : List Told) → children ≡ [] → Sound share ts → Told_so {E = E} (Ok Whole) ts
-    ended_childless ts is h = ended_none ts (λ place admitted child. in_none place (subst (λ (l : List ℕ). Contains l place) is (child_in (omega (arith, ap length is)) place admitted child))) h
+    ended_childless ts is h = ended_none ts (λ place admitted child. in_none place (subst (λ (l : List ℕ). Contains l place) is (child_in place admitted child))) h
 
     first_of : (l : List ℕ) → 0 < length l → (place : ℕ) × Contains l place
     first_of [] some = absurd (omega (arith, some))
@@ -318,11 +318,8 @@ module _ (x : Context) (asked : RevocationChecks) (admits : List ℕ → ℕ →
         between = [];
         last = share;
         has = refl;
-        issuer = issuer;
-        leads = subst (λ (l : List ℕ). LeadsTo x asked root (members_at root certs l) issuer) (sym (append-nil above)) a;
         children = children;
-        only = subst (λ (l : List ℕ). (place : ℕ) → Contains children place → admits l place × IsChildOf x.verifies issuer.cert certs place) (sym (append-nil above)) child_only;
-        once = c.once;
+        are_children = subst (λ (l : List ℕ). AreChildren x asked admits root certs l children) (sym (append-nil above)) are_children;
         short = short;
       };
       too_deep = λ is. absurd (cc is);
@@ -358,7 +355,7 @@ module _ (x : Context) (asked : RevocationChecks) (admits : List ℕ → ℕ →
             subst (λ (p : ℕ). admits above p × IsAcceptedCa x asked root certs above p) ca.2 (ca_admitted ca.0 ca.1, (ca.0.holder, each_leads ca.0 ca.1));
         all = λ place admitted accepted.
             let leads = subst (λ (l : List Candidate). LeadsTo x asked root l accepted.0) (members_next root certs above place) accepted.1 in
-            goes_through place (child_in enough place admitted (ca_child place accepted)) [] accepted.0 leads;
+            goes_through place (child_in place admitted (ca_child place accepted)) [] accepted.0 leads;
         once = j.once;
       }
 
@@ -370,7 +367,7 @@ module _ (x : Context) (asked : RevocationChecks) (admits : List ℕ → ℕ →
         handed some =
             let count : length (places_of cas) ≡ length cas = length-map cas (λ (ca : Ca). ca.place) in
             let each : next ≡ (share - length children) / length (places_of cas) = next_is some ∙ ap (λ (n : ℕ). (share - length children) / n) (sym count) in
-            let all = are_children enough in
+            let all = are_children in
             let accepted = are_cas in
             record {
               children = children;
@@ -411,7 +408,7 @@ module _ (x : Context) (asked : RevocationChecks) (admits : List ℕ → ℕ →
           child_told : (place : ℕ) → admits above place → IsReached x asked root certs (above ++ []) place → IsTold all (above ++ []) place
           child_told place admitted reached =
               let here : IsReached x asked root certs above place = subst (λ (l : List ℕ). IsReached x asked root certs l place) (append-nil above) reached in
-              let v = j.all place (child_in enough place admitted (reached_child x asked root law certs above place issuer a [] place refl reached)) in
+              let v = j.all place (child_in place admitted (reached_child x asked root law certs above place issuer a [] place refl reached)) in
               let ok = outcome_ok x asked root law (members_at root certs above) issuer a (octets_at certs place) v.0 v.1 v.2 here.0 here.2 here.1 here.3 in
               subst (λ (l : List ℕ). IsTold all l place) (sym (append-nil above))
               (told_behind ts (us ++ vs) above place (told_more us vs above place (told_here us above place v.0 v.3 ok)))
@@ -420,7 +417,7 @@ module _ (x : Context) (asked : RevocationChecks) (admits : List ℕ → ℕ →
           ca_of : (p : ℕ) (rest : List ℕ) (place : ℕ) → admits above p → IsReached x asked root certs (above ++ p ∷ rest) place → Contains (places_of cas) p
           ca_of p rest place admitted reached =
               let passes = reached_passes x asked root law certs above p rest place reached in
-              goes_through p (child_in enough p admitted (reached_child x asked root law certs above p issuer a (p ∷ rest) place refl reached)) passes.after passes.holder passes.leads
+              goes_through p (child_in p admitted (reached_child x asked root law certs above p issuer a (p ∷ rest) place refl reached)) passes.after passes.holder passes.leads
 
           told_each : (p : ℕ) (rest : List ℕ) (place : ℕ) → IsTold vs ((above ++ p ∷ []) ++ rest) place → IsTold all (above ++ p ∷ rest) place
           told_each p rest place h =
@@ -462,11 +459,8 @@ module _ (x : Context) (asked : RevocationChecks) (admits : List ℕ → ℕ →
                 between = ca.place ∷ s.between;
                 last = s.last;
                 has = (next, handed some, s.has);
-                issuer = s.issuer;
-                leads = subst (λ (l : List ℕ). LeadsTo x asked root (members_at root certs l) s.issuer) (grouped ca.place s.between) s.leads;
                 children = s.children;
-                only = subst (λ (l : List ℕ). (place : ℕ) → Contains s.children place → admits l place × IsChildOf x.verifies s.issuer.cert certs place) (grouped ca.place s.between) s.only;
-                once = s.once;
+                are_children = subst (λ (l : List ℕ). AreChildren x asked admits root certs l s.children) (grouped ca.place s.between) s.are_children;
                 short = s.short;
               }
 

@@ -55,15 +55,16 @@ pub record ArePlacesOf (certs : List (List ℕ)) (key places : List ℕ) : Type 
 abbrev pub BeginsNoCertificate : List ℕ → Type 0
 BeginsNoCertificate octets = (c : CertFields) → Means IsCertificate c octets → ⊥
 
--- what was added of the octets, and at which place: the certificate with which they begin, or else
--- the list
+-- what was added of the octets, and at which place: the certificate with which they begin, whatever
+-- is behind it; or else the list that they are, with nothing behind it (own: what is behind may be a
+-- list that revokes)
 abbrev pub IsAdded : List ℕ → FolderFields → FolderFields → Added → Type 0
 IsAdded octets old new (Certificate place) =
     (new ≡ with_cert old octets) × (place ≡ length old.certs)
     × ((c : CertFields) × Means IsCertificate c octets)
 IsAdded octets old new list =
-    ((l : CrlState) × Means IsCertificateList l.list octets × (new ≡ with_list old l))
+    ((l : CrlState) × IsCertificateList l.list octets × (new ≡ with_list old l))
     × BeginsNoCertificate octets
 IsAdded octets old new Neither =
     (new ≡ old) × BeginsNoCertificate octets
-    × ((l : CrlFields) → Means IsCertificateList l octets → ⊥)
+    × ((l : CrlFields) → IsCertificateList l octets → ⊥)

@@ -266,12 +266,8 @@ pub record IsShort (x : Context) (asked : RevocationChecks) (admits : List ℕ �
   pub between : List ℕ
   pub last : ℕ
   pub has : HasShare x asked admits root certs above share between last
-  pub issuer : ResourceFields
-  pub leads : LeadsTo x asked root (members_at root certs (above ++ between)) issuer
   pub children : List ℕ
-  pub only : (place : ℕ) → Contains children place
-      → admits (above ++ between) place × IsChildOf x.verifies issuer.cert certs place
-  pub once : IsOnce children
+  pub are_children : AreChildren x asked admits root certs (above ++ between) children
   pub short : last < length children
 
 -- ---- what a walk tells

@@ -2,6 +2,10 @@
 ghost use Rattle.std.specs.Prelude.{◌≡◌};
 ghost use Rattle.rpki_folder.specs.Walks.{worse};
 
+/// The steps of a walk below one trust anchor, if the user doesn't say how many. They depend on
+/// nothing in the folder: so no file changes how far a walk goes below other CAs.
+pub const USUAL_STEPS: usize = 10_000_000;
+
 /// The limits of a walk.
 #[derive(Clone, Copy)]
 pub struct Bounds {

@@ -1,5 +1,5 @@
 //! The walk down from a trust anchor.
-ghost use Rattle.std.specs.Prelude.{◌≡◌, ◌≢◌, ◌↔◌, ◌+◌, ◌++◌, ◌∷◌, [], ◌<◌, ◌≤◌, ℕ, List, length, Contains, Result, Ok, Err, IfOk, IfErr, OnOk, OnErr, IsTrue, IsFalse};
+ghost use Rattle.std.specs.Prelude.{◌≡◌, ◌≢◌, ◌↔◌, ◌+◌, ◌++◌, ◌∷◌, [], ◌<◌, ◌≤◌, ℕ, List, length, Contains, slice_index_or, Result, Ok, Err, IfOk, IfErr, OnOk, OnErr, IsTrue, IsFalse};
 ghost use Rattle.std.specs.List.{AllByRecursion};
 ghost use Rattle.std.proofs.Common.{rc_value};
 ghost use Rattle.rpki_ext.specs.Kinds.{Means};
@@ -18,9 +18,11 @@ ghost use Rattle.rpki_path.specs.Paths.Steps.{kind_of, IsIssuedBy, demand_under}
 ghost use Rattle.rpki_path.specs.Repeats.{AreOneEntity};
 ghost use Rattle.rpki_path.specs.Routers.{IsRouterUnder, router_demand};
 ghost use Rattle.rpki_folder.specs.Folders.{octets_at, ArePlacesOf, IsOnce, NamesSigner};
-ghost use Rattle.rpki_folder.specs.IssuerLists.{AreIssuers};
+ghost use Rattle.rpki_folder.specs.IssuerLists.{AreIssuers, ArePicked};
 ghost use Rattle.rpki_folder.specs.Walks.{Root, at_anchor, members_at, LeadsTo, IsValidAnchor, Told, told, StandsAt, IsLastOf, IsNamedUnder, IsRepeated, EndsNoCircle, IsLookedAt, IsChildOf, TellsBelow, TellsFrom, IsWhyNone};
-ghost use Rattle.rpki_folder.specs.Walks.Steps.{IsAnswer, IsOutcome, Hands, IsAtTop, AreChildrenAmong, AreJudged, IsToldOf, WalksBelowEach};
+ghost use Rattle.rpki_folder.specs.Walks.Steps.{IsAnswer, IsOutcome, Hands, IsAtTop, AreJudged, ClaimIs, IsChildAdded, IsClaim, IsOther, IsToldOf, WalksBelowEach};
+ghost use Rattle.rpki_folder.specs.IssuerTables.{AreAllChildren, AreKept, IsKeptOf};
+ghost use Rattle.rpki_folder.specs.declared.issuers.Issuer.{Issuer as Kept};
 ghost use Rattle.rpki_folder.specs.declared.walk.Ca.{Ca};
 
 use crate::admission::Admission;
@@ -28,6 +30,8 @@ use crate::bounds::{Bounds, Ended};
 use crate::entity::are_one_entity;
 use crate::folder::Folder;
 use crate::issuer_lists::IssuerLists;
+use crate::issuers::{Issuer, Issuers};
+use crate::known::Known;
 use crate::visitor::{Accepted, Visitor};
 use crate::walk_error::WalkError;
 use rpki_cert::{Cert, Kind, ResourceCert, laws};
@@ -71,6 +75,17 @@ struct Trail {
     above: Vec<usize>,
 }
 
+// What a certificate that names an issuer's key is to the issuer.
+#[derive(Drop)]
+enum Claim {
+    // Names are checked, and its issuer isn't the issuer's subject.
+    OtherName,
+    // It is a child of the issuer.
+    Child,
+    // It isn't, and this is whether the issuer's key signed it.
+    Other(bool),
+}
+
 // A CA that was accepted, and its place.
 #[derive(Drop)]
 struct Ca {
@@ -78,18 +93,27 @@ struct Ca {
     holder: ResourceCert,
 }
 
-// Whether the issuer's key signed the certificate, with one algorithm inside and outside of what is
-// signed. The signature is verified last, as that takes longest.
-fn is_issued<V: Verifier>(issuer: &Cert, cert: &Cert, strict: bool, verifier: &V) -> bool
-    ensures { let signed = IsSignedBy (V.verifies verifier.now) issuer.now.fields.key
-        cert.now.signed_data in
-        let one = cert.now.fields.algorithm ≡ cert.now.signed_data.signature.algorithm in
-        IsTrue result ↔ (signed × one) }
+// What a certificate that names the issuer's key is to the issuer.
+fn claim_of<V: Verifier>(
+    issuer: &ResourceCert,
+    cert: &Cert,
+    names: bool,
+    strict: bool,
+    verifier: &V,
+) -> Claim
+    ensures { ClaimIs names (V.verifies verifier.now) issuer.now.cert cert.now result }
 {
-    if cert.as_tbs().signature() != *cert.signed_data().signature().algorithm() {
-        return false;
+    if names && !names_chain(issuer, cert) {
+        return Claim::OtherName;
     }
-    cert.verify_signature(issuer, strict, verifier).is_ok()
+    let is_signed = cert
+        .verify_signature(issuer.as_cert(), strict, verifier)
+        .is_ok();
+    let is_one = cert.as_tbs().signature() == *cert.signed_data().signature().algorithm();
+    if is_signed && is_one {
+        return Claim::Child;
+    }
+    Claim::Other(is_signed)
 }
 
 // An answer on the trust anchor, as one on the path.
@@ -364,7 +388,7 @@ impl<'w, A: Admission, V: Verifier> Walk<'w, A, V> {
     }
 
     // The CRLs of the folder that are searched below an issuer.
-    fn lists_of(&self, issuer: &ResourceCert) -> Result<IssuerLists<'_>, AllocError>
+    fn lists_of(&self, issuer: &ResourceCert) -> Result<IssuerLists<'w>, AllocError>
         ensures { let w = self.now in
             let x = context (V.verifies w.verifier.now) w.at w.strict in
             IfOk result (AreIssuers w.names x w.folder.now.lists issuer.now.cert.fields) }
@@ -373,32 +397,6 @@ impl<'w, A: Admission, V: Verifier> Walk<'w, A, V> {
         let places = self.folder.lists_of(&key);
         let (alloc, lists, now) = (self.alloc, self.folder.lists(), self.at);
         IssuerLists::new(alloc, lists, places, issuer, self.names, now, self.verifier)
-    }
-
-    // Whether the certificate at a place is judged below the issuer: it is admitted there, and its
-    // issuer is the issuer's subject, if names are checked.
-    fn is_looked_at(
-        &self,
-        issuer: &ResourceCert,
-        above: &[usize],
-        place: usize,
-    ) -> Result<bool, AllocError>
-        requires { place < length self.now.folder.now.certs }
-        ensures { let w = self.now in
-            let named = IsNamedUnder w.names issuer.now.cert w.folder.now.certs place in
-            IfOk result (λ is. IsTrue is ↔ (A.admits w.admission.now above.now place × named)) }
-    {
-        laws::unambiguous();
-        if !self.admission.is_admitted(above, place) {
-            return Ok(false);
-        }
-        if !self.names {
-            return Ok(true);
-        }
-        let cert = self.folder.certs()[place].cert(self.alloc)?;
-        let is_named = names_chain(issuer, &cert);
-        drop(cert);
-        Ok(is_named)
     }
 
     // Whether the certificate at a place is of the same entity as this one.
@@ -467,33 +465,153 @@ impl<'w, A: Admission, V: Verifier> Walk<'w, A, V> {
         }
     }
 
-    // Whether the certificate at a place, which names the issuer's key, is a child of the issuer.
-    fn is_child(&self, issuer: &ResourceCert, place: usize) -> Result<bool, AllocError>
+    // What the certificate at a place, which names the issuer's key, is to the issuer.
+    fn claim(&self, issuer: &ResourceCert, place: usize) -> Result<Claim, AllocError>
         requires place { place < length self.now.folder.now.certs }
         requires names { let key = issuer.now.cert.fields.extensions.subject_key_identifier in
             NamesSigner key (octets_at self.now.folder.now.certs place) }
         ensures { let w = self.now in
-            let verifies = V.verifies w.verifier.now in
-            IfOk result (λ is. IsTrue is
-            ↔ IsChildOf verifies issuer.now.cert w.folder.now.certs place) }
+            IfOk result (IsClaim w.names (V.verifies w.verifier.now) issuer.now.cert
+            w.folder.now.certs place) }
     {
         laws::unambiguous();
         let cert = self.folder.certs()[place].cert(self.alloc)?;
-        let is_signed = is_issued(issuer.as_cert(), &cert, self.strict, self.verifier);
+        let claim = claim_of(issuer, &cert, self.names, self.strict, self.verifier);
         drop(cert);
-        Ok(is_signed)
+        Ok(claim)
     }
 
-    // The places of the issuer's children that are looked at, among those that name its key; or one
-    // more than this share, if there are so many, so that no further signature is verified. What is
-    // wrong with the others that are looked at is told: they take no step.
+    // Judges the certificate at a place below an issuer, as `look_at` does, if it is known whether
+    // the issuer's key signed it: its signature isn't verified again.
+    fn judge<W: Visitor>(
+        &self,
+        issuer: &ResourceCert,
+        lists: &IssuerLists<'_>,
+        above: &[usize],
+        place: usize,
+        is_signed: bool,
+        visitor: &mut W,
+    ) -> Result<Option<ResourceCert>, AllocError>
+        requires place { place < length self.now.folder.now.certs }
+        requires kept { let w = self.now in
+            let x = context (V.verifies w.verifier.now) w.at w.strict in
+            AreIssuers w.names x w.folder.now.lists issuer.now.cert.fields lists.now }
+        requires signed { let w = self.now in
+            (c : CertFields) → StandsAt w.folder.now.certs place c → IsTrue is_signed
+            ↔ IsSignedBy (V.verifies w.verifier.now) issuer.now.cert.fields.key c.signed_data }
+        ensures ok { let w = self.now in
+            let x = context (V.verifies w.verifier.now) w.at w.strict in
+            let asked = by_named_lists w.names x w.folder.now.lists in
+            let octets = octets_at w.folder.now.certs place in
+            (v : W) (ts : List Told) → W.became v ts visitor.old → IfOk result (λ next.
+            (verdict : Result Judged Fault)
+            × W.became v (ts ++ told above.now place verdict ∷ []) visitor.new
+            × IsOutcome x asked issuer.now octets verdict next) }
+        ensures err { (v : W) (ts : List Told) → W.became v ts visitor.old
+            → OnErr result (W.became v ts visitor.new) }
+    {
+        let cert = self.folder.certs()[place].cert(self.alloc)?;
+        let key = issuer.as_cert().as_tbs().subject_public_key_info();
+        let known = Known::new(self.verifier, key, cert.signed_data(), is_signed);
+        let walk = Walk {
+            alloc: self.alloc,
+            folder: self.folder,
+            admission: self.admission,
+            bounds: self.bounds,
+            names: self.names,
+            strict: self.strict,
+            at: self.at,
+            verifier: &known,
+        };
+        let next = walk.look_at(issuer, lists, above, place, visitor);
+        drop(cert);
+        next
+    }
+
+    // Tells what is wrong with the certificate at a place, if it is admitted: it names the issuer's
+    // key, but is no child of the issuer.
+    fn tell_other<W: Visitor>(
+        &self,
+        issuer: &ResourceCert,
+        lists: &IssuerLists<'_>,
+        above: &[usize],
+        place: usize,
+        is_signed: bool,
+        visitor: &mut W,
+    ) -> Result<(), AllocError>
+        requires place { place < length self.now.folder.now.certs }
+        requires kept { let w = self.now in
+            let x = context (V.verifies w.verifier.now) w.at w.strict in
+            AreIssuers w.names x w.folder.now.lists issuer.now.cert.fields lists.now }
+        requires signed { let w = self.now in
+            (c : CertFields) → StandsAt w.folder.now.certs place c → IsTrue is_signed
+            ↔ IsSignedBy (V.verifies w.verifier.now) issuer.now.cert.fields.key c.signed_data }
+        ensures { let w = self.now in
+            let x = context (V.verifies w.verifier.now) w.at w.strict in
+            let asked = by_named_lists w.names x w.folder.now.lists in
+            let here = λ (p : ℕ). (p ≡ place) × A.admits w.admission.now above.now p in
+            (v : W) (ts : List Told) → W.became v ts visitor.old
+            → (more : List Told) × W.became v (ts ++ more) visitor.new
+            × AllByRecursion (IsToldOf x asked issuer.now w.folder.now.certs above.now here) more }
+    {
+        if !self.admission.is_admitted(above, place) {
+            return Ok(());
+        }
+        drop(self.judge(issuer, lists, above, place, is_signed, visitor)?);
+        Ok(())
+    }
+
+    // Adds the place of a certificate that names the issuer's key to those of the issuer's children,
+    // if it is a child. If it has the issuer's name and isn't, what is wrong with it is told.
+    fn add_child<W: Visitor>(
+        &self,
+        issuer: &ResourceCert,
+        lists: &IssuerLists<'_>,
+        above: &[usize],
+        place: usize,
+        children: &mut Vec<usize>,
+        visitor: &mut W,
+    ) -> Result<(), AllocError>
+        requires place { place < length self.now.folder.now.certs }
+        requires names { let key = issuer.now.cert.fields.extensions.subject_key_identifier in
+            NamesSigner key (octets_at self.now.folder.now.certs place) }
+        requires kept { let w = self.now in
+            let x = context (V.verifies w.verifier.now) w.at w.strict in
+            AreIssuers w.names x w.folder.now.lists issuer.now.cert.fields lists.now }
+        ensures told { let w = self.now in
+            let x = context (V.verifies w.verifier.now) w.at w.strict in
+            let asked = by_named_lists w.names x w.folder.now.lists in
+            let certs = w.folder.now.certs in
+            let others = IsOther x.verifies w.names (A.admits w.admission.now) issuer.now.cert certs
+            above.now in
+            (v : W) (ts : List Told) → W.became v ts visitor.old
+            → (more : List Told) × W.became v (ts ++ more) visitor.new
+            × AllByRecursion (IsToldOf x asked issuer.now certs above.now others) more }
+        ensures children { let w = self.now in OnOk result (IsChildAdded w.names
+            (V.verifies w.verifier.now) issuer.now.cert w.folder.now.certs place children.old.items
+            children.new.items) }
+    {
+        laws::unambiguous();
+        match self.claim(issuer, place)? {
+            Claim::OtherName => Ok(()),
+            Claim::Child => {
+                children.push(place)?;
+                Ok(())
+            }
+            Claim::Other(is_signed) => {
+                self.tell_other(issuer, lists, above, place, is_signed, visitor)
+            }
+        }
+    }
+
+    // The places of the issuer's children among those that name its key. What is wrong with the
+    // others is told: they take no step.
     fn children<W: Visitor>(
         &self,
         issuer: &ResourceCert,
         lists: &IssuerLists<'_>,
         above: &[usize],
         places: &[usize],
-        share: usize,
         visitor: &mut W,
     ) -> Result<Vec<usize>, AllocError>
         requires kept { let w = self.now in
@@ -505,39 +623,82 @@ impl<'w, A: Admission, V: Verifier> Walk<'w, A, V> {
             let x = context (V.verifies w.verifier.now) w.at w.strict in
             let asked = by_named_lists w.names x w.folder.now.lists in
             let certs = w.folder.now.certs in
-            let admits = A.admits w.admission.now above.now in
-            let lets_in = λ (p : ℕ). admits p × IsNamedUnder w.names issuer.now.cert certs p in
-            let others = λ (p : ℕ). lets_in p
-            × (IsChildOf (V.verifies w.verifier.now) issuer.now.cert certs p → ⊥) in
+            let others = IsOther x.verifies w.names (A.admits w.admission.now) issuer.now.cert certs
+            above.now in
             (v : W) (ts : List Told) → W.became v ts visitor.old
             → (more : List Told) × W.became v (ts ++ more) visitor.new
             × AllByRecursion (IsToldOf x asked issuer.now certs above.now others) more }
         ensures children { let w = self.now in
-            let certs = w.folder.now.certs in
-            let admits = A.admits w.admission.now above.now in
-            let lets_in = λ (p : ℕ). admits p × IsNamedUnder w.names issuer.now.cert certs p in
-            let verifies = V.verifies w.verifier.now in
-            IfOk result (λ children. AreChildrenAmong verifies lets_in issuer.now.cert certs share
-            places.now children.items) }
+            IfOk result (λ children. AreAllChildren w.names (V.verifies w.verifier.now)
+            issuer.now.cert w.folder.now.certs children.items) }
     {
         laws::unambiguous();
         let mut children = Vec::new(self.alloc);
         for &place in places {
-            let is_looked_at = self.is_looked_at(issuer, above, place)?;
-            if !is_looked_at {
-                continue;
-            }
-            let is_child = self.is_child(issuer, place)?;
-            if is_child {
-                children.push(place)?;
-                if children.len() > share {
-                    return Ok(children);
-                }
-                continue;
-            }
-            drop(self.look_at(issuer, lists, above, place, visitor)?);
+            self.add_child(issuer, lists, above, place, &mut children, visitor)?;
         }
         Ok(children)
+    }
+
+    // The index of an issuer in the table. If the table doesn't have it yet, its children and its
+    // CRLs are found first.
+    fn enter<W: Visitor>(
+        &self,
+        issuer: &ResourceCert,
+        above: &[usize],
+        places: &[usize],
+        issuers: &mut Issuers<'w>,
+        visitor: &mut W,
+    ) -> Result<usize, AllocError>
+        requires places { let key = issuer.now.cert.fields.extensions.subject_key_identifier in
+            ArePlacesOf self.now.folder.now.certs key places.now }
+        requires kept { let w = self.now in
+            let x = context (V.verifies w.verifier.now) w.at w.strict in
+            AreKept w.names x w.folder.now issuers.old }
+        ensures told { let w = self.now in
+            let x = context (V.verifies w.verifier.now) w.at w.strict in
+            let asked = by_named_lists w.names x w.folder.now.lists in
+            let certs = w.folder.now.certs in
+            let others = IsOther x.verifies w.names (A.admits w.admission.now) issuer.now.cert certs
+            above.now in
+            (v : W) (ts : List Told) → W.became v ts visitor.old
+            → (more : List Told) × W.became v (ts ++ more) visitor.new
+            × AllByRecursion (IsToldOf x asked issuer.now certs above.now others) more }
+        ensures kept { let w = self.now in
+            let x = context (V.verifies w.verifier.now) w.at w.strict in
+            OnOk result (AreKept w.names x w.folder.now issuers.new) }
+        ensures found { let w = self.now in
+            let x = context (V.verifies w.verifier.now) w.at w.strict in
+            IfOk result (λ at. (at < length issuers.new.kept.items) × ((d : Kept)
+            → IsKeptOf w.names x w.folder.now issuer.now.cert
+            (slice_index_or issuers.new.kept.items at d))) }
+    {
+        if let Some(at) = issuers.find(issuer.as_cert(), self.names) {
+            return Ok(at);
+        }
+        let lists = self.lists_of(issuer)?;
+        let children = self.children(issuer, &lists, above, places, visitor)?;
+        let cert = issuer.as_cert().try_clone(self.alloc)?;
+        issuers.add(Issuer {
+            cert,
+            children,
+            lists,
+        })
+    }
+
+    // Those of these places that are admitted below the CAs at the places above.
+    fn admitted(&self, above: &[usize], places: &[usize]) -> Result<Vec<usize>, AllocError>
+        ensures { let w = self.now in IfOk result (λ those.
+            ArePicked (A.admits w.admission.now above.now) places.now those.items) }
+    {
+        let mut those = Vec::new(self.alloc);
+        for &place in places {
+            if !self.admission.is_admitted(above, place) {
+                continue;
+            }
+            those.push(place)?;
+        }
+        Ok(those)
     }
 
     // Judges the issuer's children at these places, tells the verdicts, and returns the CAs that are
@@ -553,6 +714,8 @@ impl<'w, A: Admission, V: Verifier> Walk<'w, A, V> {
         requires inside { (place : ℕ) → Contains children.now place
             → place < length self.now.folder.now.certs }
         requires once { IsOnce children.now }
+        requires children { let w = self.now in (place : ℕ) → Contains children.now place
+            → IsChildOf (V.verifies w.verifier.now) issuer.now.cert w.folder.now.certs place }
         requires kept { let w = self.now in
             let x = context (V.verifies w.verifier.now) w.at w.strict in
             AreIssuers w.names x w.folder.now.lists issuer.now.cert.fields lists.now }
@@ -571,7 +734,7 @@ impl<'w, A: Admission, V: Verifier> Walk<'w, A, V> {
         laws::unambiguous();
         let mut cas = Vec::new(self.alloc);
         for &place in children {
-            let next = self.look_at(issuer, lists, above, place, visitor)?;
+            let next = self.judge(issuer, lists, above, place, true, visitor)?;
             let Some(holder) = next else {
                 continue;
             };
@@ -588,12 +751,16 @@ impl<'w, A: Admission, V: Verifier> Walk<'w, A, V> {
         top: &ResourceCert,
         cas: &[Ca],
         trail: &mut Trail,
+        issuers: &mut Issuers<'w>,
         share: usize,
         depth: usize,
         visitor: &mut W,
     ) -> Result<Ended, AllocError>
         requires inside { (place : ℕ) → Contains trail.old.above.items place
             → place < length self.now.folder.now.certs }
+        requires kept { let w = self.now in
+            let x = context (V.verifies w.verifier.now) w.at w.strict in
+            AreKept w.names x w.folder.now issuers.old }
         requires stand { (ca : Ca) → Contains cas.now ca
             → StandsAt self.now.folder.now.certs ca.place ca.holder.cert }
         ensures tells { let w = self.now in
@@ -606,12 +773,15 @@ impl<'w, A: Admission, V: Verifier> Walk<'w, A, V> {
             × WalksBelowEach x asked admits certs trail.old.above.items depth share cas.now result
             more }
         ensures trail { OnOk result (trail.new.above.items ≡ trail.old.above.items) }
+        ensures kept { let w = self.now in
+            let x = context (V.verifies w.verifier.now) w.at w.strict in
+            OnOk result (AreKept w.names x w.folder.now issuers.new) }
     {
         laws::unambiguous();
         let mut ended = Ended::Whole;
         for ca in cas {
             trail.above.push(ca.place)?;
-            let below = self.descend(top, &ca.holder, trail, share, depth, visitor);
+            let below = self.descend(top, &ca.holder, trail, issuers, share, depth, visitor);
             trail.above.pop();
             ended = ended.and(below?);
         }
@@ -627,12 +797,16 @@ impl<'w, A: Admission, V: Verifier> Walk<'w, A, V> {
         top: &ResourceCert,
         issuer: &ResourceCert,
         trail: &mut Trail,
+        issuers: &mut Issuers<'w>,
         share: usize,
         depth: usize,
         visitor: &mut W,
     ) -> Result<Ended, AllocError>
         requires inside { (place : ℕ) → Contains trail.old.above.items place
             → place < length self.now.folder.now.certs }
+        requires kept { let w = self.now in
+            let x = context (V.verifies w.verifier.now) w.at w.strict in
+            AreKept w.names x w.folder.now issuers.old }
         requires last { let certs = self.now.folder.now.certs in
             IsLastOf top.now.cert certs trail.old.above.items issuer.now.cert }
         ensures tells { let w = self.now in
@@ -645,6 +819,9 @@ impl<'w, A: Admission, V: Verifier> Walk<'w, A, V> {
             × TellsBelow x asked admits issuer.now certs trail.old.above.items depth share result
             more }
         ensures trail { OnOk result (trail.new.above.items ≡ trail.old.above.items) }
+        ensures kept { let w = self.now in
+            let x = context (V.verifies w.verifier.now) w.at w.strict in
+            OnOk result (AreKept w.names x w.folder.now issuers.new) }
     {
         laws::unambiguous();
         let key = issuer.as_cert().as_tbs().subject_key_identifier();
@@ -656,8 +833,9 @@ impl<'w, A: Admission, V: Verifier> Walk<'w, A, V> {
         if is_in_circle {
             return Ok(Ended::Whole);
         }
-        let lists = self.lists_of(issuer)?;
-        let children = self.children(issuer, &lists, &trail.above, places, share, visitor)?;
+        let at = self.enter(issuer, &trail.above, places, issuers, visitor)?;
+        let kept = &issuers.kept[at];
+        let children = self.admitted(&trail.above, &kept.children)?;
         if children.is_empty() {
             return Ok(Ended::Whole);
         }
@@ -667,12 +845,12 @@ impl<'w, A: Admission, V: Verifier> Walk<'w, A, V> {
         if children.len() > share {
             return Ok(Ended::OutOfSteps);
         }
-        let cas = self.judge_children(issuer, &lists, &trail.above, &children, visitor)?;
+        let cas = self.judge_children(issuer, &kept.lists, &trail.above, &children, visitor)?;
         if cas.is_empty() {
             return Ok(Ended::Whole);
         }
         let next = (share - children.len()) / cas.len();
-        self.each_below(top, &cas, trail, next, depth - 1, visitor)
+        self.each_below(top, &cas, trail, issuers, next, depth - 1, visitor)
     }
 
     /// Walks below an issuer that was validated before, and calls the visitor with each verdict.
@@ -714,16 +892,19 @@ impl<'w, A: Admission, V: Verifier> Walk<'w, A, V> {
         let mut trail = Trail {
             above: Vec::new(self.alloc),
         };
+        let mut issuers = Issuers::new(self.alloc);
         let bounds = self.bounds;
         let ended = self.descend(
             issuer,
             issuer,
             &mut trail,
+            &mut issuers,
             bounds.steps,
             bounds.depth,
             visitor,
         );
         drop(trail);
+        drop(issuers);
         ended
     }
 

@@ -1,9 +1,9 @@
 -- What one step of a walk gives.
-use Rattle.std.specs.Prelude.{◌≡◌, ◌≢◌, ◌*◌, ◌≤◌, ◌++◌, ◌∷◌, [], ℕ, List, length, map, Contains, Option, None, Some, Result, Ok, Err, IsErr, IfOk}
+use Rattle.std.specs.Prelude.{◌≡◌, ◌≢◌, ◌↔◌, ◌⊎◌, ◌*◌, Bool, IsTrue, ◌≤◌, ◌++◌, ◌∷◌, [], ℕ, List, length, map, Contains, Option, None, Some, Result, Ok, Err, IsErr, IfOk}
 use Rattle.std.specs.List.{AllByRecursion}
 use Rattle.rpki_parts.specs.Signatures.{Verifies}
 use Rattle.rpki_cert.specs.Certificates.{CertFields}
-use Rattle.rpki_cert.specs.Verification.{Context, ResourceFields}
+use Rattle.rpki_cert.specs.Verification.{Context, ResourceFields, IsSignedBy}
 use Rattle.rpki_cert.specs.declared.inspect.Kind.{Kind}
 use Rattle.rpki_cert.specs.declared.inspect.Kind.TheVariants.{Authority, Router}
 use Rattle.rpki_path.specs.Asking.{RevocationChecks}
@@ -15,12 +15,15 @@ use Rattle.rpki_path.specs.declared.located.LocatedError.TheVariants.{OtherKey, 
 use Rattle.rpki_path.specs.Paths.{Finds}
 use Rattle.rpki_path.specs.Paths.Steps.{IsIssuedBy}
 use Rattle.rpki_path.specs.Judging.{IsRouterIfAny}
+use Rattle.rpki_path.specs.NameChains.{IsNamedBelow}
 use Rattle.rpki_cert.specs.SaidKinds.{BeginsWithKind}
 use Rattle.rpki_folder.specs.declared.bounds.Ended.{Ended}
 use Rattle.rpki_folder.specs.declared.bounds.Ended.TheVariants.{TooDeep, OutOfSteps}
 use Rattle.rpki_folder.specs.declared.walk.Ca.{Ca}
+use Rattle.rpki_folder.specs.declared.walk.Claim.{Claim}
+use Rattle.rpki_folder.specs.declared.walk.Claim.TheVariants.{OtherName, Child, Other}
 use Rattle.rpki_folder.specs.Folders.{octets_at, IsOnce}
-use Rattle.rpki_folder.specs.Walks.{Root, members_at, LeadsTo, Told, told, demand_as, IsChildOf, IsRight, IsLetIn, AreFew, IsShort, IsTooDeep, IsComplete, IsCompleteInShares}
+use Rattle.rpki_folder.specs.Walks.{Root, members_at, LeadsTo, Told, told, demand_as, StandsAt, IsNamedUnder, IsChildOf, IsRight, IsLetIn, AreFew, IsShort, IsTooDeep, IsComplete, IsCompleteInShares}
 
 -- what is answered of octets that are judged as this kind below the issuer
 abbrev pub IsAnswer : Context → RevocationChecks → ResourceFields → List ℕ → Kind
@@ -60,14 +63,46 @@ pub record IsOutcome (x : Context) (asked : RevocationChecks) (issuer : Resource
 
 -- ---- the children of an issuer
 
--- of the certificates at these places, these are the children of the issuer that are let in, each once;
--- or some of them, if they are more than this number
+-- what a certificate that names the issuer's key is to the issuer
+abbrev pub ClaimIs : Bool → Verifies → CertFields → CertFields → Claim → Type 0
+ClaimIs names verifies issuer c OtherName = IsTrue names × (IsNamedBelow issuer c → ⊥)
+ClaimIs names verifies issuer c Child =
+    (IsTrue names → IsNamedBelow issuer c) × IsSignedBy verifies issuer.fields.key c.signed_data
+    × (c.fields.algorithm ≡ c.signed_data.signature.algorithm)
+ClaimIs names verifies issuer c (Other signed) =
+    (IsTrue names → IsNamedBelow issuer c)
+    × (IsTrue signed ↔ IsSignedBy verifies issuer.fields.key c.signed_data)
+    × (IsSignedBy verifies issuer.fields.key c.signed_data
+    → c.fields.algorithm ≡ c.signed_data.signature.algorithm → ⊥)
+
+-- the same, of the certificate at the place
+abbrev pub IsClaim : Bool → Verifies → CertFields → List (List ℕ) → ℕ → Claim → Type 0
+IsClaim names verifies issuer certs place claim =
+    (c : CertFields) × StandsAt certs place c × ClaimIs names verifies issuer c claim
+
+-- the certificate at the place is let in below the issuer, and has its name, if names are asked; but
+-- it is no child of the issuer
+abbrev pub IsOther : Verifies → Bool → (List ℕ → ℕ → Type 0) → CertFields → List (List ℕ) → List ℕ
+    → ℕ → Type 0
+IsOther verifies names admits issuer certs above place =
+    (admits above place × IsNamedUnder names issuer certs place)
+    × (IsChildOf verifies issuer certs place → ⊥)
+
+-- the place was added to these, if the certificate there is a child of the issuer, and has its name if
+-- names are asked
+abbrev pub IsChildAdded : Bool → Verifies → CertFields → List (List ℕ) → ℕ → List ℕ → List ℕ → Type 0
+IsChildAdded names verifies issuer certs place old new =
+    ((new ≡ old ++ place ∷ []) × IsNamedUnder names issuer certs place
+    × IsChildOf verifies issuer certs place)
+    ⊎ ((new ≡ old) × (IsNamedUnder names issuer certs place → IsChildOf verifies issuer certs place → ⊥))
+
+-- of the certificates at these places, these are the children of the issuer that are let in, each once
 pub record AreChildrenAmong (verifies : Verifies) (lets_in : ℕ → Type 0) (issuer : CertFields)
-    (certs : List (List ℕ)) (most : ℕ) (places children : List ℕ) : Type 0 where
+    (certs : List (List ℕ)) (places children : List ℕ) : Type 0 where
   pub from : (place : ℕ) → Contains children place → Contains places place
   pub only : (place : ℕ) → Contains children place
       → lets_in place × IsChildOf verifies issuer certs place
-  pub all : length children ≤ most → (place : ℕ) → Contains places place → lets_in place
+  pub all : (place : ℕ) → Contains places place → lets_in place
       → IsChildOf verifies issuer certs place → Contains children place
   pub once : IsOnce children
 

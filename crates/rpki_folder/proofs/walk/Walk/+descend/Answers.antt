@@ -12,13 +12,16 @@ use Rattle.rpki_path.specs.AskedLists.{by_named_lists}
 use Rattle.rpki_folder.specs.declared.bounds.Ended.{Ended}
 use Rattle.rpki_folder.specs.declared.walk.Ca.{Ca}
 use Rattle.rpki_folder.specs.Folders.{ArePlacesOf, IsOnce}
-use Rattle.rpki_folder.specs.Walks.{Told, TellsBelow, StandsAt, IsLastOf, EndsNoCircle, IsLookedAt}
-use Rattle.rpki_folder.specs.Walks.Steps.{AreChildrenAmong, AreJudged, IsToldOf, WalksBelowEach}
+use Rattle.rpki_folder.specs.IssuerTables.{IsKeptOf}
+use Rattle.rpki_folder.specs.Walks.{Told, TellsBelow, StandsAt, IsLastOf, EndsNoCircle, IsLookedAt, IsChildOf}
+use Rattle.rpki_folder.specs.declared.issuers.Issuer.{Issuer}
+use Rattle.rpki_folder.specs.Walks.Steps.{AreJudged, IsToldOf, WalksBelowEach}
+use Rattle.rpki_folder.proofs.KeptIssuers.{kept_at, kids_here}
 use Rattle.rpki_folder.proofs.Descent.{there as low_of, child_names, no_sound, ca_stands, if_ok}
 use Rattle.rpki_folder.proofs.Shares.{take_within, take_shorter, each_none, each_stops, each_fails, each_walked, ended_err, ended_none}
 use Rattle.rpki_folder.proofs.PickedLists.{in_none as none_in}
 use Rattle.rpki_folder.proofs.LookedAt.{last_pushed, inside_pushed}
-use Rattle.rpki_folder.proofs.BelowIssuer.{LetsIn, Others, at_err, at_none, at_depth, at_short, judged_err, at_last, at_each}
+use Rattle.rpki_folder.proofs.BelowIssuer.{Others, at_err, at_none, at_depth, at_short, judged_err, at_last, at_each}
 use Rattle.rpki_folder.proofs.StepAnswers.{popped}
 use Rattle.rpki_folder.proofs.walk.Walk.+descend.Goals as goal
 
@@ -32,6 +35,7 @@ each_below-loop-ca-init g t c =
     let certs = w.folder.now.certs in
     let admits = IsLookedAt w.names (g.A.Admission.admits w.admission.now) c.args.top.now.cert certs in (
       refl {A = List ℕ},
+      c.requires.kept,
       (λ v ts heard. (
         [],
         subst (λ (l : List Told). g.W.Visitor.became v l c.args.visitor.now) (sym (append-nil ts)) heard,
@@ -53,7 +57,8 @@ each_below-descend-below-requires g t c =
     let low : ca.place < length certs = low_of certs ca.holder.cert ca.place stands in
     let inside = subst (λ (l : List ℕ). (p : ℕ) → Contains l p → p < length certs) (sym deeper) (inside_pushed top certs above ca.place c.requires.inside low) in
     let last = subst (λ (l : List ℕ). IsLastOf top certs l ca.holder.cert) (sym deeper) (last_pushed top certs above ca.place ca.holder.cert stands) in
-    search (rules, inside, last)
+    let kept = c.loop-ca.invariant.1 in
+    search (rules, inside, last, kept)
 
 pub each_below-returns-in_err-push-clause-tells : goal.each_below-returns-in_err-push-clause-tells
 each_below-returns-in_err-push-clause-tells g t c = λ v ts heard.
@@ -64,7 +69,7 @@ each_below-returns-in_err-push-clause-tells g t c = λ v ts heard.
     let admits = IsLookedAt w.names (g.A.Admission.admits w.admission.now) c.args.top.now.cert certs in
     let cas = c.args.cas.now in
     let index = c.loop-ca.ca-index in
-    let i = c.loop-ca.invariant.1 v ts heard in (
+    let i = c.loop-ca.invariant.2 v ts heard in (
       i.0,
       i.1,
       (λ root leads. each_stops x asked admits root certs c.args.trail.now.above.items c.args.depth c.args.share (take index cas) cas i.0 (Ok c.loop-ca.ended) c.from_residual.result (take_within cas index) (let low = take_shorter cas index c.loop-ca-test.true in omega (arith, low))
@@ -82,7 +87,7 @@ each_below-returns-in_err-below-clause-tells g t c = λ v ts heard.
     let cas = c.args.cas.now in
     let index = c.loop-ca.ca-index in
     let ca = c.ca-item.result in
-    let i = c.loop-ca.invariant.1 v ts heard in
+    let i = c.loop-ca.invariant.2 v ts heard in
     let b = c.descend-below.ensures.tells v (ts ++ i.0) i.1 in
     let deeper = c.in_ok-push.ensures.items ∙ ap (λ (l : List ℕ). l ++ ca.place ∷ []) c.loop-ca.invariant.0 in
     let below : TellsBelow x asked admits ca.holder certs (above ++ ca.place ∷ []) c.args.depth c.args.share c.descend-below.result b.0 = subst (λ (l : List ℕ). TellsBelow x asked admits ca.holder certs l c.args.depth c.args.share c.descend-below.result b.0) deeper b.2 in
@@ -101,6 +106,7 @@ each_below-loop-ca-preserved g t c =
     let ca = c.ca-item.result in
     let deeper = c.in_ok-push.ensures.items ∙ ap (λ (l : List ℕ). l ++ ca.place ∷ []) c.loop-ca.invariant.0 in (
       c.pop.ensures.rest ∙ popped c.descend-below.new.trail.above above ca.place (c.in_ok-below.ensures.trail ∙ deeper),
+      c.in_ok-below.ensures.kept,
       (λ v ts heard.
           let w = c.args.self.now in
           let x = context (g.V.Verifier.verifies w.verifier.now) w.at w.strict in
@@ -108,7 +114,7 @@ each_below-loop-ca-preserved g t c =
           let certs = w.folder.now.certs in
           let admits = IsLookedAt w.names (g.A.Admission.admits w.admission.now) c.args.top.now.cert certs in
           let end = c.in_ok-below.field-0 in
-          let i = c.loop-ca.invariant.1 v ts heard in
+          let i = c.loop-ca.invariant.2 v ts heard in
           let b = c.descend-below.ensures.tells v (ts ++ i.0) i.1 in
           let below : TellsBelow x asked admits ca.holder certs (above ++ ca.place ∷ []) c.args.depth c.args.share c.descend-below.result b.0 = subst (λ (l : List ℕ). TellsBelow x asked admits ca.holder certs l c.args.depth c.args.share c.descend-below.result b.0) deeper b.2 in
           let ended : TellsBelow x asked admits ca.holder certs (above ++ ca.place ∷ []) c.args.depth c.args.share (Ok end) b.0 = subst (λ (r : Result Ended AllocError). TellsBelow x asked admits ca.holder certs (above ++ ca.place ∷ []) c.args.depth c.args.share r b.0) c.in_ok-below.was below in
@@ -128,7 +134,7 @@ each_below-returns-clause-tells g t c = λ v ts heard.
     let asked = by_named_lists w.names x w.folder.now.lists in
     let certs = w.folder.now.certs in
     let admits = IsLookedAt w.names (g.A.Admission.admits w.admission.now) c.args.top.now.cert certs in
-    let i = c.loop-ca.invariant.1 v ts heard in (
+    let i = c.loop-ca.invariant.2 v ts heard in (
       i.0,
       i.1,
       subst (λ (l : List Ca). WalksBelowEach {E = AllocError} x asked admits certs c.args.trail.now.above.items c.args.depth c.args.share l (Ok c.loop-ca.ended) i.0) (take_all c.loop-ca.ca-index c.args.cas.now c.loop-ca-test.false) i.2,
@@ -212,26 +218,29 @@ descend-returns-then-is_in_circle-clause-tells g t c = λ v ts heard.
           (no_sound x asked admits root certs above c.args.share)),
     )
 
-pub descend-returns-in_err-lists-clause-tells : goal.descend-returns-in_err-lists-clause-tells
-descend-returns-in_err-lists-clause-tells g t c = λ v ts heard.
+pub descend-enter-requires : goal.descend-enter-requires
+descend-enter-requires g t c =
+    let certs = c.args.self.now.folder.now.certs in
+    let own = c.args.issuer.now.cert.fields.extensions.subject_key_identifier in
+    let key = c.subject_key_identifier-key.ensures ∙ ap (λ (f : TbsFields). f.extensions.subject_key_identifier) c.as_tbs.ensures ∙ ap (λ (d : CertFields). d.fields.extensions.subject_key_identifier) c.as_cert.ensures in
+    record { kept = c.requires.kept; places = there certs c.subject_key_identifier-key.result own c.signed_by-places.result.now key c.signed_by-places.ensures }
+
+pub descend-returns-in_err-at-clause-tells : goal.descend-returns-in_err-at-clause-tells
+descend-returns-in_err-at-clause-tells g t c = λ v ts heard.
     let w = c.args.self.now in
     let x = context (g.V.Verifier.verifies w.verifier.now) w.at w.strict in
     let asked = by_named_lists w.names x w.folder.now.lists in
     let certs = w.folder.now.certs in
-    let admits = IsLookedAt w.names (g.A.Admission.admits w.admission.now) c.args.top.now.cert certs in
-    let above = c.args.trail.now.above.items in (
-      [],
-      subst (λ (l : List Told). g.W.Visitor.became v l c.args.visitor.now) (sym (append-nil ts)) heard,
-      (λ root leads. ended_err x asked admits root certs above c.args.depth c.args.share c.unambiguous.ensures.certificate c.args.issuer.now leads [] c.from_residual-in_err-lists.result c.from_residual-in_err-lists.ensures.0
-          (no_sound x asked admits root certs above c.args.share)),
-    )
-
-pub descend-children-requires : goal.descend-children-requires
-descend-children-requires g t c =
-    let certs = c.args.self.now.folder.now.certs in
-    let own = c.args.issuer.now.cert.fields.extensions.subject_key_identifier in
-    let key = c.subject_key_identifier-key.ensures ∙ ap (λ (f : TbsFields). f.extensions.subject_key_identifier) c.as_tbs.ensures ∙ ap (λ (d : CertFields). d.fields.extensions.subject_key_identifier) c.as_cert.ensures in
-    record { kept = c.in_ok-lists.ensures; places = there certs c.subject_key_identifier-key.result own c.signed_by-places.result.now key c.signed_by-places.ensures }
+    let admits = g.A.Admission.admits w.admission.now in
+    let top = c.args.top.now.cert in
+    let issuer = c.args.issuer.now in
+    let above = c.args.trail.now.above.items in
+    let law = c.unambiguous.ensures.certificate in
+    let none : EndsNoCircle w.names top certs above = subst (λ (l : List ℕ). EndsNoCircle w.names top certs l) c.deref.ensures.value (c.in_ok-is_in_circle.ensures.none c.if-is_in_circle.false) in
+    let o = c.enter.ensures.told v ts heard in
+    let others : AllByRecursion (IsToldOf x asked issuer certs above (Others x.verifies w.names admits issuer.cert certs above)) o.0 =
+    subst (λ (l : List ℕ). AllByRecursion (IsToldOf x asked issuer certs l (Others x.verifies w.names admits issuer.cert certs l)) o.0) c.deref-2.ensures.value o.2 in
+    (o.0, o.1, at_err x asked w.names admits top certs above c.args.depth c.args.share law issuer c.requires.last none o.0 others {E = AllocError} c.from_residual-in_err-at.result c.from_residual-in_err-at.ensures.0)
 
 pub descend-returns-in_err-children-clause-tells : goal.descend-returns-in_err-children-clause-tells
 descend-returns-in_err-children-clause-tells g t c = λ v ts heard.
@@ -245,7 +254,7 @@ descend-returns-in_err-children-clause-tells g t c = λ v ts heard.
     let above = c.args.trail.now.above.items in
     let law = c.unambiguous.ensures.certificate in
     let none : EndsNoCircle w.names top certs above = subst (λ (l : List ℕ). EndsNoCircle w.names top certs l) c.deref.ensures.value (c.in_ok-is_in_circle.ensures.none c.if-is_in_circle.false) in
-    let o = c.children.ensures.told v ts heard in
+    let o = c.enter.ensures.told v ts heard in
     let others : AllByRecursion (IsToldOf x asked issuer certs above (Others x.verifies w.names admits issuer.cert certs above)) o.0 =
     subst (λ (l : List ℕ). AllByRecursion (IsToldOf x asked issuer certs l (Others x.verifies w.names admits issuer.cert certs l)) o.0) c.deref-2.ensures.value o.2 in
     (o.0, o.1, at_err x asked w.names admits top certs above c.args.depth c.args.share law issuer c.requires.last none o.0 others {E = AllocError} c.from_residual-in_err-children.result c.from_residual-in_err-children.ensures.0)
@@ -262,7 +271,7 @@ descend-returns-then-is_empty-2-clause-tells g t c = λ v ts heard.
     let above = c.args.trail.now.above.items in
     let law = c.unambiguous.ensures.certificate in
     let none : EndsNoCircle w.names top certs above = subst (λ (l : List ℕ). EndsNoCircle w.names top certs l) c.deref.ensures.value (c.in_ok-is_in_circle.ensures.none c.if-is_in_circle.false) in
-    let o = c.children.ensures.told v ts heard in
+    let o = c.enter.ensures.told v ts heard in
     let others : AllByRecursion (IsToldOf x asked issuer certs above (Others x.verifies w.names admits issuer.cert certs above)) o.0 =
     subst (λ (l : List ℕ). AllByRecursion (IsToldOf x asked issuer certs l (Others x.verifies w.names admits issuer.cert certs l)) o.0) c.deref-2.ensures.value o.2 in
     let places = c.signed_by-places.result.now in
@@ -270,8 +279,7 @@ descend-returns-then-is_empty-2-clause-tells g t c = λ v ts heard.
     let key = c.subject_key_identifier-key.ensures ∙ ap (λ (f : TbsFields). f.extensions.subject_key_identifier) c.as_tbs.ensures ∙ ap (λ (d : CertFields). d.fields.extensions.subject_key_identifier) c.as_cert.ensures in
     let are = there certs c.subject_key_identifier-key.result own places key c.signed_by-places.ensures in
     let children = c.in_ok-children.children.items in
-    let kids : AreChildrenAmong x.verifies (LetsIn w.names admits issuer.cert certs above) issuer.cert certs c.args.share places children =
-    subst (λ (l : List ℕ). AreChildrenAmong x.verifies (LetsIn w.names admits issuer.cert certs l) issuer.cert certs c.args.share places children) c.deref-2.ensures.value c.in_ok-children.ensures.children in
+    let kids = kids_here x w.names admits issuer.cert w.folder.now above c.index-kept.result.now c.deref-3.result.now c.deref-4.result.now children c.deref-3.ensures.value c.deref-4.ensures.value (kept_at (λ (k : Issuer). IsKeptOf w.names x w.folder.now issuer.cert k) c.enter.new.issuers.kept.items c.in_ok-at.at c.index-kept.result.now c.index-kept.ensures c.in_ok-at.ensures.found.1) c.in_ok-children.ensures places are in
     (o.0, o.1, at_none x asked w.names admits top certs above c.args.depth c.args.share law issuer c.requires.last none o.0 others places are children kids {E = AllocError} (none_of children c.in_ok-children.children.len c.is_empty-2.result (omega (arith, c.in_ok-children.children.ok.0)) c.is_empty-2.ensures c.if-is_empty-2.true))
 
 pub descend-returns-then-depth-eq0-clause-tells : goal.descend-returns-then-depth-eq0-clause-tells
@@ -286,7 +294,7 @@ descend-returns-then-depth-eq0-clause-tells g t c = λ v ts heard.
     let above = c.args.trail.now.above.items in
     let law = c.unambiguous.ensures.certificate in
     let none : EndsNoCircle w.names top certs above = subst (λ (l : List ℕ). EndsNoCircle w.names top certs l) c.deref.ensures.value (c.in_ok-is_in_circle.ensures.none c.if-is_in_circle.false) in
-    let o = c.children.ensures.told v ts heard in
+    let o = c.enter.ensures.told v ts heard in
     let others : AllByRecursion (IsToldOf x asked issuer certs above (Others x.verifies w.names admits issuer.cert certs above)) o.0 =
     subst (λ (l : List ℕ). AllByRecursion (IsToldOf x asked issuer certs l (Others x.verifies w.names admits issuer.cert certs l)) o.0) c.deref-2.ensures.value o.2 in
     let places = c.signed_by-places.result.now in
@@ -294,8 +302,7 @@ descend-returns-then-depth-eq0-clause-tells g t c = λ v ts heard.
     let key = c.subject_key_identifier-key.ensures ∙ ap (λ (f : TbsFields). f.extensions.subject_key_identifier) c.as_tbs.ensures ∙ ap (λ (d : CertFields). d.fields.extensions.subject_key_identifier) c.as_cert.ensures in
     let are = there certs c.subject_key_identifier-key.result own places key c.signed_by-places.ensures in
     let children = c.in_ok-children.children.items in
-    let kids : AreChildrenAmong x.verifies (LetsIn w.names admits issuer.cert certs above) issuer.cert certs c.args.share places children =
-    subst (λ (l : List ℕ). AreChildrenAmong x.verifies (LetsIn w.names admits issuer.cert certs l) issuer.cert certs c.args.share places children) c.deref-2.ensures.value c.in_ok-children.ensures.children in
+    let kids = kids_here x w.names admits issuer.cert w.folder.now above c.index-kept.result.now c.deref-3.result.now c.deref-4.result.now children c.deref-3.ensures.value c.deref-4.ensures.value (kept_at (λ (k : Issuer). IsKeptOf w.names x w.folder.now issuer.cert k) c.enter.new.issuers.kept.items c.in_ok-at.at c.index-kept.result.now c.index-kept.ensures c.in_ok-at.ensures.found.1) c.in_ok-children.ensures places are in
     (o.0, o.1, at_depth x asked w.names admits top certs above c.args.depth c.args.share law issuer c.requires.last none o.0 others places are children kids {E = AllocError} c.if-depth-eq0.true (some_of children c.in_ok-children.children.len c.is_empty-2.result (omega (arith, c.in_ok-children.children.ok.0)) c.is_empty-2.ensures c.if-is_empty-2.false))
 
 pub descend-returns-then-len-share-clause-tells : goal.descend-returns-then-len-share-clause-tells
@@ -310,7 +317,7 @@ descend-returns-then-len-share-clause-tells g t c = λ v ts heard.
     let above = c.args.trail.now.above.items in
     let law = c.unambiguous.ensures.certificate in
     let none : EndsNoCircle w.names top certs above = subst (λ (l : List ℕ). EndsNoCircle w.names top certs l) c.deref.ensures.value (c.in_ok-is_in_circle.ensures.none c.if-is_in_circle.false) in
-    let o = c.children.ensures.told v ts heard in
+    let o = c.enter.ensures.told v ts heard in
     let others : AllByRecursion (IsToldOf x asked issuer certs above (Others x.verifies w.names admits issuer.cert certs above)) o.0 =
     subst (λ (l : List ℕ). AllByRecursion (IsToldOf x asked issuer certs l (Others x.verifies w.names admits issuer.cert certs l)) o.0) c.deref-2.ensures.value o.2 in
     let places = c.signed_by-places.result.now in
@@ -318,8 +325,7 @@ descend-returns-then-len-share-clause-tells g t c = λ v ts heard.
     let key = c.subject_key_identifier-key.ensures ∙ ap (λ (f : TbsFields). f.extensions.subject_key_identifier) c.as_tbs.ensures ∙ ap (λ (d : CertFields). d.fields.extensions.subject_key_identifier) c.as_cert.ensures in
     let are = there certs c.subject_key_identifier-key.result own places key c.signed_by-places.ensures in
     let children = c.in_ok-children.children.items in
-    let kids : AreChildrenAmong x.verifies (LetsIn w.names admits issuer.cert certs above) issuer.cert certs c.args.share places children =
-    subst (λ (l : List ℕ). AreChildrenAmong x.verifies (LetsIn w.names admits issuer.cert certs l) issuer.cert certs c.args.share places children) c.deref-2.ensures.value c.in_ok-children.ensures.children in
+    let kids = kids_here x w.names admits issuer.cert w.folder.now above c.index-kept.result.now c.deref-3.result.now c.deref-4.result.now children c.deref-3.ensures.value c.deref-4.ensures.value (kept_at (λ (k : Issuer). IsKeptOf w.names x w.folder.now issuer.cert k) c.enter.new.issuers.kept.items c.in_ok-at.at c.index-kept.result.now c.index-kept.ensures c.in_ok-at.ensures.found.1) c.in_ok-children.ensures places are in
     let short : c.args.share < length children = omega (arith, c.if-len-share.true, c.len.ensures, c.in_ok-children.children.ok.0) in
     (o.0, o.1, at_short x asked w.names admits top certs above c.args.depth c.args.share law issuer c.requires.last none o.0 others places are children kids {E = AllocError} short)
 
@@ -327,13 +333,23 @@ pub descend-judge_children-requires : goal.descend-judge_children-requires
 descend-judge_children-requires g t c =
     let w = c.args.self.now in
     let certs = w.folder.now.certs in
-    let kids = c.in_ok-children.ensures.children in
+    let x = context (g.V.Verifier.verifies w.verifier.now) w.at w.strict in
+    let admits = g.A.Admission.admits w.admission.now in
+    let issuer = c.args.issuer.now in
+    let above = c.args.trail.now.above.items in
+    let own = issuer.cert.fields.extensions.subject_key_identifier in
+    let key = c.subject_key_identifier-key.ensures ∙ ap (λ (f : TbsFields). f.extensions.subject_key_identifier) c.as_tbs.ensures ∙ ap (λ (d : CertFields). d.fields.extensions.subject_key_identifier) c.as_cert.ensures in
+    let places = c.signed_by-places.result.now in
+    let are = there certs c.subject_key_identifier-key.result own places key c.signed_by-places.ensures in
     let children = c.in_ok-children.children.items in
+    let kept = kept_at (λ (k : Issuer). IsKeptOf w.names x w.folder.now issuer.cert k) c.enter.new.issuers.kept.items c.in_ok-at.at c.index-kept.result.now c.index-kept.ensures c.in_ok-at.ensures.found.1 in
+    let kids = kids_here x w.names admits issuer.cert w.folder.now above c.index-kept.result.now c.deref-3.result.now c.deref-4.result.now children c.deref-3.ensures.value c.deref-4.ensures.value kept c.in_ok-children.ensures places are in
     record {
-      inside = subst (λ (l : List ℕ). (p : ℕ) → Contains l p → p < length certs) (sym c.deref-4.ensures.value)
+      inside = subst (λ (l : List ℕ). (p : ℕ) → Contains l p → p < length certs) (sym c.deref-6.ensures.value)
           (λ p at. let child = (kids.only p at).1 in low_of certs child.cert p child.stands);
-      once = subst (λ (l : List ℕ). IsOnce l) (sym c.deref-4.ensures.value) kids.once;
-      kept = c.in_ok-lists.ensures;
+      once = subst (λ (l : List ℕ). IsOnce l) (sym c.deref-6.ensures.value) kids.once;
+      children = subst (λ (l : List ℕ). (p : ℕ) → Contains l p → IsChildOf x.verifies issuer.cert certs p) (sym c.deref-6.ensures.value) (λ p at. (kids.only p at).1);
+      kept = kept.lists;
     }
 
 pub descend-returns-in_err-cas-clause-tells : goal.descend-returns-in_err-cas-clause-tells
@@ -348,7 +364,7 @@ descend-returns-in_err-cas-clause-tells g t c = λ v ts heard.
     let above = c.args.trail.now.above.items in
     let law = c.unambiguous.ensures.certificate in
     let none : EndsNoCircle w.names top certs above = subst (λ (l : List ℕ). EndsNoCircle w.names top certs l) c.deref.ensures.value (c.in_ok-is_in_circle.ensures.none c.if-is_in_circle.false) in
-    let o = c.children.ensures.told v ts heard in
+    let o = c.enter.ensures.told v ts heard in
     let others : AllByRecursion (IsToldOf x asked issuer certs above (Others x.verifies w.names admits issuer.cert certs above)) o.0 =
     subst (λ (l : List ℕ). AllByRecursion (IsToldOf x asked issuer certs l (Others x.verifies w.names admits issuer.cert certs l)) o.0) c.deref-2.ensures.value o.2 in
     let places = c.signed_by-places.result.now in
@@ -356,13 +372,12 @@ descend-returns-in_err-cas-clause-tells g t c = λ v ts heard.
     let key = c.subject_key_identifier-key.ensures ∙ ap (λ (f : TbsFields). f.extensions.subject_key_identifier) c.as_tbs.ensures ∙ ap (λ (d : CertFields). d.fields.extensions.subject_key_identifier) c.as_cert.ensures in
     let are = there certs c.subject_key_identifier-key.result own places key c.signed_by-places.ensures in
     let children = c.in_ok-children.children.items in
-    let kids : AreChildrenAmong x.verifies (LetsIn w.names admits issuer.cert certs above) issuer.cert certs c.args.share places children =
-    subst (λ (l : List ℕ). AreChildrenAmong x.verifies (LetsIn w.names admits issuer.cert certs l) issuer.cert certs c.args.share places children) c.deref-2.ensures.value c.in_ok-children.ensures.children in
+    let kids = kids_here x w.names admits issuer.cert w.folder.now above c.index-kept.result.now c.deref-3.result.now c.deref-4.result.now children c.deref-3.ensures.value c.deref-4.ensures.value (kept_at (λ (k : Issuer). IsKeptOf w.names x w.folder.now issuer.cert k) c.enter.new.issuers.kept.items c.in_ok-at.at c.index-kept.result.now c.index-kept.ensures c.in_ok-at.ensures.found.1) c.in_ok-children.ensures places are in
     let us = c.judge_children.ensures v (ts ++ o.0) o.1 in
     let told : AllByRecursion (IsToldOf x asked issuer certs above (λ p. Contains children p)) us.0 =
-    subst (λ (k : List ℕ). AllByRecursion (IsToldOf x asked issuer certs above (λ p. Contains k p)) us.0) c.deref-4.ensures.value
-    (subst (λ (l : List ℕ). AllByRecursion (IsToldOf x asked issuer certs l (λ p. Contains c.deref-4.result.now p)) us.0) c.deref-3.ensures.value us.3) in
-    let few : length us.0 ≤ length children = subst (λ (k : List ℕ). length us.0 ≤ length k) c.deref-4.ensures.value us.2 in
+    subst (λ (k : List ℕ). AllByRecursion (IsToldOf x asked issuer certs above (λ p. Contains k p)) us.0) c.deref-6.ensures.value
+    (subst (λ (l : List ℕ). AllByRecursion (IsToldOf x asked issuer certs l (λ p. Contains c.deref-6.result.now p)) us.0) c.deref-5.ensures.value us.3) in
+    let few : length us.0 ≤ length children = subst (λ (k : List ℕ). length us.0 ≤ length k) c.deref-6.ensures.value us.2 in
     let enough : length children ≤ c.args.share = omega (arith, c.if-len-share.false, c.len.ensures, c.in_ok-children.children.ok.0) in (
       o.0 ++ us.0,
       subst (λ (l : List Told). g.W.Visitor.became v l c.judge_children.new.visitor) (append_assoc ts o.0 us.0) us.1,
@@ -381,7 +396,7 @@ descend-returns-then-is_empty-3-clause-tells g t c = λ v ts heard.
     let above = c.args.trail.now.above.items in
     let law = c.unambiguous.ensures.certificate in
     let none : EndsNoCircle w.names top certs above = subst (λ (l : List ℕ). EndsNoCircle w.names top certs l) c.deref.ensures.value (c.in_ok-is_in_circle.ensures.none c.if-is_in_circle.false) in
-    let o = c.children.ensures.told v ts heard in
+    let o = c.enter.ensures.told v ts heard in
     let others : AllByRecursion (IsToldOf x asked issuer certs above (Others x.verifies w.names admits issuer.cert certs above)) o.0 =
     subst (λ (l : List ℕ). AllByRecursion (IsToldOf x asked issuer certs l (Others x.verifies w.names admits issuer.cert certs l)) o.0) c.deref-2.ensures.value o.2 in
     let places = c.signed_by-places.result.now in
@@ -389,19 +404,18 @@ descend-returns-then-is_empty-3-clause-tells g t c = λ v ts heard.
     let key = c.subject_key_identifier-key.ensures ∙ ap (λ (f : TbsFields). f.extensions.subject_key_identifier) c.as_tbs.ensures ∙ ap (λ (d : CertFields). d.fields.extensions.subject_key_identifier) c.as_cert.ensures in
     let are = there certs c.subject_key_identifier-key.result own places key c.signed_by-places.ensures in
     let children = c.in_ok-children.children.items in
-    let kids : AreChildrenAmong x.verifies (LetsIn w.names admits issuer.cert certs above) issuer.cert certs c.args.share places children =
-    subst (λ (l : List ℕ). AreChildrenAmong x.verifies (LetsIn w.names admits issuer.cert certs l) issuer.cert certs c.args.share places children) c.deref-2.ensures.value c.in_ok-children.ensures.children in
+    let kids = kids_here x w.names admits issuer.cert w.folder.now above c.index-kept.result.now c.deref-3.result.now c.deref-4.result.now children c.deref-3.ensures.value c.deref-4.ensures.value (kept_at (λ (k : Issuer). IsKeptOf w.names x w.folder.now issuer.cert k) c.enter.new.issuers.kept.items c.in_ok-at.at c.index-kept.result.now c.index-kept.ensures c.in_ok-at.ensures.found.1) c.in_ok-children.ensures places are in
     let us = c.judge_children.ensures v (ts ++ o.0) o.1 in
     let told : AllByRecursion (IsToldOf x asked issuer certs above (λ p. Contains children p)) us.0 =
-    subst (λ (k : List ℕ). AllByRecursion (IsToldOf x asked issuer certs above (λ p. Contains k p)) us.0) c.deref-4.ensures.value
-    (subst (λ (l : List ℕ). AllByRecursion (IsToldOf x asked issuer certs l (λ p. Contains c.deref-4.result.now p)) us.0) c.deref-3.ensures.value us.3) in
-    let few : length us.0 ≤ length children = subst (λ (k : List ℕ). length us.0 ≤ length k) c.deref-4.ensures.value us.2 in
+    subst (λ (k : List ℕ). AllByRecursion (IsToldOf x asked issuer certs above (λ p. Contains k p)) us.0) c.deref-6.ensures.value
+    (subst (λ (l : List ℕ). AllByRecursion (IsToldOf x asked issuer certs l (λ p. Contains c.deref-6.result.now p)) us.0) c.deref-5.ensures.value us.3) in
+    let few : length us.0 ≤ length children = subst (λ (k : List ℕ). length us.0 ≤ length k) c.deref-6.ensures.value us.2 in
     let enough : length children ≤ c.args.share = omega (arith, c.if-len-share.false, c.len.ensures, c.in_ok-children.children.ok.0) in
     let cas = c.in_ok-cas.cas.items in
     let low : 0 < c.args.depth = omega (arith, c.if-depth-eq0.false) in
     let j : AreJudged x asked issuer certs above children cas us.0 =
-    subst (λ (k : List ℕ). AreJudged x asked issuer certs above k cas us.0) c.deref-4.ensures.value
-    (subst (λ (l : List ℕ). AreJudged x asked issuer certs l c.deref-4.result.now cas us.0) c.deref-3.ensures.value (if_ok (λ (k : Vec Ca). AreJudged x asked issuer certs c.deref-3.result.now c.deref-4.result.now k.items us.0) c.judge_children.result c.in_ok-cas.cas c.in_ok-cas.was us.4)) in (
+    subst (λ (k : List ℕ). AreJudged x asked issuer certs above k cas us.0) c.deref-6.ensures.value
+    (subst (λ (l : List ℕ). AreJudged x asked issuer certs l c.deref-6.result.now cas us.0) c.deref-5.ensures.value (if_ok (λ (k : Vec Ca). AreJudged x asked issuer certs c.deref-5.result.now c.deref-6.result.now k.items us.0) c.judge_children.result c.in_ok-cas.cas c.in_ok-cas.was us.4)) in (
       o.0 ++ us.0,
       subst (λ (l : List Told). g.W.Visitor.became v l c.judge_children.new.visitor) (append_assoc ts o.0 us.0) us.1,
       at_last x asked w.names admits top certs above c.args.depth c.args.share law issuer c.requires.last none o.0 others places are children kids enough us.0 few told cas j low {E = AllocError} (none_of cas c.in_ok-cas.cas.len c.is_empty-3.result (omega (arith, c.in_ok-cas.cas.ok.0)) c.is_empty-3.ensures c.if-is_empty-3.true),
@@ -409,7 +423,7 @@ descend-returns-then-is_empty-3-clause-tells g t c = λ v ts heard.
 
 pub descend-each_below-requires : goal.descend-each_below-requires
 descend-each_below-requires g t c =
-    let v = c.children.new.visitor in
+    let v = c.enter.new.visitor in
     let w = c.args.self.now in
     let x = context (g.V.Verifier.verifies w.verifier.now) w.at w.strict in
     let asked = by_named_lists w.names x w.folder.now.lists in
@@ -417,11 +431,12 @@ descend-each_below-requires g t c =
     let issuer = c.args.issuer.now in
     let us = c.judge_children.ensures v [] (g.met.W.Visitor.begins v) in
     let cas = c.in_ok-cas.cas.items in
-    let j = if_ok (λ (k : Vec Ca). AreJudged x asked issuer certs c.deref-3.result.now c.deref-4.result.now k.items us.0) c.judge_children.result c.in_ok-cas.cas c.in_ok-cas.was us.4 in
+    let j = if_ok (λ (k : Vec Ca). AreJudged x asked issuer certs c.deref-5.result.now c.deref-6.result.now k.items us.0) c.judge_children.result c.in_ok-cas.cas c.in_ok-cas.was us.4 in
     let stand : (ca : Ca) → Contains cas ca → StandsAt certs ca.place ca.holder.cert = λ ca at. let o = (j.only ca at).1 in ca_stands x asked issuer certs ca.place o.0 ca.holder o.1 in
     let inside = c.requires.inside in
-    let stands = subst (λ (l : List Ca). (ca : Ca) → Contains l ca → StandsAt certs ca.place ca.holder.cert) (sym c.deref-5.ensures.value) stand in
-    search (rules, inside, stands)
+    let stands = subst (λ (l : List Ca). (ca : Ca) → Contains l ca → StandsAt certs ca.place ca.holder.cert) (sym c.deref-7.ensures.value) stand in
+    let kept = c.in_ok-at.ensures.kept in
+    search (rules, inside, stands, kept)
 
 pub descend-returns-clause-tells : goal.descend-returns-clause-tells
 descend-returns-clause-tells g t c = λ v ts heard.
@@ -435,7 +450,7 @@ descend-returns-clause-tells g t c = λ v ts heard.
     let above = c.args.trail.now.above.items in
     let law = c.unambiguous.ensures.certificate in
     let none : EndsNoCircle w.names top certs above = subst (λ (l : List ℕ). EndsNoCircle w.names top certs l) c.deref.ensures.value (c.in_ok-is_in_circle.ensures.none c.if-is_in_circle.false) in
-    let o = c.children.ensures.told v ts heard in
+    let o = c.enter.ensures.told v ts heard in
     let others : AllByRecursion (IsToldOf x asked issuer certs above (Others x.verifies w.names admits issuer.cert certs above)) o.0 =
     subst (λ (l : List ℕ). AllByRecursion (IsToldOf x asked issuer certs l (Others x.verifies w.names admits issuer.cert certs l)) o.0) c.deref-2.ensures.value o.2 in
     let places = c.signed_by-places.result.now in
@@ -443,24 +458,23 @@ descend-returns-clause-tells g t c = λ v ts heard.
     let key = c.subject_key_identifier-key.ensures ∙ ap (λ (f : TbsFields). f.extensions.subject_key_identifier) c.as_tbs.ensures ∙ ap (λ (d : CertFields). d.fields.extensions.subject_key_identifier) c.as_cert.ensures in
     let are = there certs c.subject_key_identifier-key.result own places key c.signed_by-places.ensures in
     let children = c.in_ok-children.children.items in
-    let kids : AreChildrenAmong x.verifies (LetsIn w.names admits issuer.cert certs above) issuer.cert certs c.args.share places children =
-    subst (λ (l : List ℕ). AreChildrenAmong x.verifies (LetsIn w.names admits issuer.cert certs l) issuer.cert certs c.args.share places children) c.deref-2.ensures.value c.in_ok-children.ensures.children in
+    let kids = kids_here x w.names admits issuer.cert w.folder.now above c.index-kept.result.now c.deref-3.result.now c.deref-4.result.now children c.deref-3.ensures.value c.deref-4.ensures.value (kept_at (λ (k : Issuer). IsKeptOf w.names x w.folder.now issuer.cert k) c.enter.new.issuers.kept.items c.in_ok-at.at c.index-kept.result.now c.index-kept.ensures c.in_ok-at.ensures.found.1) c.in_ok-children.ensures places are in
     let us = c.judge_children.ensures v (ts ++ o.0) o.1 in
     let told : AllByRecursion (IsToldOf x asked issuer certs above (λ p. Contains children p)) us.0 =
-    subst (λ (k : List ℕ). AllByRecursion (IsToldOf x asked issuer certs above (λ p. Contains k p)) us.0) c.deref-4.ensures.value
-    (subst (λ (l : List ℕ). AllByRecursion (IsToldOf x asked issuer certs l (λ p. Contains c.deref-4.result.now p)) us.0) c.deref-3.ensures.value us.3) in
-    let few : length us.0 ≤ length children = subst (λ (k : List ℕ). length us.0 ≤ length k) c.deref-4.ensures.value us.2 in
+    subst (λ (k : List ℕ). AllByRecursion (IsToldOf x asked issuer certs above (λ p. Contains k p)) us.0) c.deref-6.ensures.value
+    (subst (λ (l : List ℕ). AllByRecursion (IsToldOf x asked issuer certs l (λ p. Contains c.deref-6.result.now p)) us.0) c.deref-5.ensures.value us.3) in
+    let few : length us.0 ≤ length children = subst (λ (k : List ℕ). length us.0 ≤ length k) c.deref-6.ensures.value us.2 in
     let enough : length children ≤ c.args.share = omega (arith, c.if-len-share.false, c.len.ensures, c.in_ok-children.children.ok.0) in
     let cas = c.in_ok-cas.cas.items in
     let low : 0 < c.args.depth = omega (arith, c.if-depth-eq0.false) in
     let j : AreJudged x asked issuer certs above children cas us.0 =
-    subst (λ (k : List ℕ). AreJudged x asked issuer certs above k cas us.0) c.deref-4.ensures.value
-    (subst (λ (l : List ℕ). AreJudged x asked issuer certs l c.deref-4.result.now cas us.0) c.deref-3.ensures.value (if_ok (λ (k : Vec Ca). AreJudged x asked issuer certs c.deref-3.result.now c.deref-4.result.now k.items us.0) c.judge_children.result c.in_ok-cas.cas c.in_ok-cas.was us.4)) in
+    subst (λ (k : List ℕ). AreJudged x asked issuer certs above k cas us.0) c.deref-6.ensures.value
+    (subst (λ (l : List ℕ). AreJudged x asked issuer certs l c.deref-6.result.now cas us.0) c.deref-5.ensures.value (if_ok (λ (k : Vec Ca). AreJudged x asked issuer certs c.deref-5.result.now c.deref-6.result.now k.items us.0) c.judge_children.result c.in_ok-cas.cas c.in_ok-cas.was us.4)) in
     let next = (c.args.share - c.len-2.result) / c.len-3.result in
     let one : c.len-2.result ≡ length children = omega (arith, c.len-2.ensures, c.in_ok-children.children.ok.0) in
     let other : c.len-3.result ≡ length cas = omega (arith, c.len-3.ensures, c.in_ok-cas.cas.ok.0) in
     let b = c.each_below.ensures.tells v ((ts ++ o.0) ++ us.0) us.1 in
-    let walks = subst (λ (l : List Ca). WalksBelowEach {E = AllocError} x asked (IsLookedAt w.names admits top certs) certs above (c.args.depth - 1) next l c.each_below.result b.0) c.deref-5.ensures.value b.2 in (
+    let walks = subst (λ (l : List Ca). WalksBelowEach {E = AllocError} x asked (IsLookedAt w.names admits top certs) certs above (c.args.depth - 1) next l c.each_below.result b.0) c.deref-7.ensures.value b.2 in (
       o.0 ++ (us.0 ++ b.0),
       subst (λ (l : List Told). g.W.Visitor.became v l c.each_below.new.visitor) (ap (λ (l : List Told). l ++ b.0) (append_assoc ts o.0 us.0) ∙ append_assoc ts (o.0 ++ us.0) b.0 ∙ ap (λ (l : List Told). ts ++ l) (append_assoc o.0 us.0 b.0)) b.1,
       at_each x asked w.names admits top certs above c.args.depth c.args.share law issuer c.requires.last none o.0 others places are children kids enough us.0 few told cas j low {E = AllocError} next (λ some. ap (λ (n : ℕ). (c.args.share - n) / c.len-3.result) one ∙ ap (λ (n : ℕ). (c.args.share - length children) / n) other) c.each_below.result b.0 walks,
