@@ -16,7 +16,7 @@ use Rattle.rpki_folder.specs.declared.bounds.Ended.{Ended}
 use Rattle.rpki_folder.specs.declared.bounds.Ended.TheVariants.{Whole, TooDeep, OutOfSteps}
 use Rattle.rpki_folder.specs.declared.walk.Ca.{Ca}
 use Rattle.rpki_folder.specs.Folders.{octets_at, ArePlacesOf}
-use Rattle.rpki_folder.specs.Walks.{Root, members_at, LeadsTo, IsReached, Told, IsRight, IsTold, worse, Covers, AreAdmitted, IsLetIn, IsChildOf, AreChildren, IsAcceptedCa, AreAcceptedCas, IsHandedDown, HasShare, HasEnough, IsShort, TakesStep, AreFew, HasBelow, IsTooDeep, IsComplete, IsCompleteInShares, Tells, TellsBelow}
+use Rattle.rpki_folder.specs.Walks.{Root, members_at, LeadsTo, IsReached, Told, IsRight, IsTold, worse, Covers, AreAdmitted, IsLetIn, IsChildOf, AreChildren, IsAcceptedCa, AreAcceptedCas, IsHandedDown, HasShare, HasEnough, IsShort, TakesStep, AreFew, HasBelow, IsTooDeep, IsComplete, IsCompleteInShares, IsEnough, Tells, TellsBelow}
 use Rattle.rpki_folder.specs.Walks.Steps.{AreChildrenAmong, places_of, AreJudged, down_to, TellsBelowEach, WalksBelowEach}
 use Rattle.rpki_folder.proofs.Descent.{told_more, told_behind, told_here, all_append, all_weaker, if_err, if_ok, ok_if, covers_first, covers_second, covers_below, worse_out, worse_deep, there, child_names, most_append, most_more, most_all, IsSound, sound_append, sound_more, let_in_above, ca_leads}
 use Rattle.rpki_folder.proofs.OnceLists.{once_length, once_shorter}
@@ -100,6 +100,7 @@ module _ (x : Context) (asked : RevocationChecks) (admits : List ℕ → ℕ →
     too_deep = λ is. absurd (cc is);
     complete = λ ca at. absurd (in_none ca at);
     in_shares = λ ca at. absurd (in_none ca at);
+    enough = λ ca at. absurd (in_none ca at);
   }
 
   front : (cas : List Ca) (one ca : Ca) → Contains cas ca → Contains (cas ++ one ∷ []) ca
@@ -131,6 +132,7 @@ module _ (x : Context) (asked : RevocationChecks) (admits : List ℕ → ℕ →
     too_deep = if_err (λ ended. ended ≡ TooDeep → (ca : Ca) × Contains cas ca × IsTooDeep x asked admits root certs (down_to above ca) depth ended) q err;
     complete = if_err (λ ended. (ca : Ca) → Contains cas ca → IsComplete x asked admits root certs (down_to above ca) depth ts ended) q err;
     in_shares = if_err (λ ended. (ca : Ca) → Contains cas ca → IsCompleteInShares x asked admits root certs (down_to above ca) depth share ts) q err;
+    enough = if_err (λ ended. (ca : Ca) → Contains cas ca → IsEnough x asked admits root certs (down_to above ca) depth share ended) q err;
   }
 
   few_more : (cas : List Ca) (one : Ca) (ts us : List Told) → AreFew x asked root certs (length cas * share) ts → AreFew x asked root certs share us → AreFew x asked root certs (length (cas ++ one ∷ []) * share) (ts ++ us)
@@ -169,6 +171,12 @@ module _ (x : Context) (asked : RevocationChecks) (admits : List ℕ → ℕ →
             let here : IsCompleteInShares x asked admits root certs (down_to above ca) depth share us = subst (λ (c : Ca). IsCompleteInShares x asked admits root certs (down_to above c) depth share us) is t.in_shares in
             told_behind ts us (down_to above ca ++ between) place (here between place enough admitted reached)
       ];
+      enough = λ ca at between place covers admitted reached. elim (Contains-push_cases cas one ca at) [
+        | inl before ↦ h.enough ca before between place (covers_first ended end depth (length between + 1) covers) admitted reached
+        | inr is ↦
+            let here : IsEnough x asked admits root certs (down_to above ca) depth share end = subst (λ (c : Ca). IsEnough x asked admits root certs (down_to above c) depth share end) is t.enough in
+            here between place (covers_second ended end depth (length between + 1) covers) admitted reached
+      ];
     }
 
   -- below some of the CAs and one more, below which memory ran out
@@ -186,6 +194,7 @@ module _ (x : Context) (asked : RevocationChecks) (admits : List ℕ → ℕ →
         too_deep = if_err (λ ended. ended ≡ TooDeep → (ca : Ca) × Contains (take index cas ++ one ∷ []) ca × IsTooDeep x asked admits root certs (down_to above ca) depth ended) e err;
         complete = if_err (λ ended. (ca : Ca) → Contains (take index cas ++ one ∷ []) ca → IsComplete x asked admits root certs (down_to above ca) depth (ts ++ us) ended) e err;
         in_shares = if_err (λ ended. (ca : Ca) → Contains (take index cas ++ one ∷ []) ca → IsCompleteInShares x asked admits root certs (down_to above ca) depth share (ts ++ us)) e err;
+        enough = if_err (λ ended. (ca : Ca) → Contains (take index cas ++ one ∷ []) ca → IsEnough x asked admits root certs (down_to above ca) depth share ended) e err;
       })
       err
 
@@ -218,6 +227,7 @@ module _ (x : Context) (asked : RevocationChecks) (admits : List ℕ → ℕ →
     too_deep = if_err (IsTooDeep x asked admits root certs above depth) r err;
     complete = if_err (IsComplete x asked admits root certs above depth ts) r err;
     in_shares = if_err (λ ended. IsCompleteInShares x asked admits root certs above depth share ts) r err;
+    enough = if_err (IsEnough x asked admits root certs above depth share) r err;
   }
 
   reached_none : ((place : ℕ) → admits above place → IsChildOf x.verifies issuer.cert certs place → ⊥) → (between : List ℕ) (place : ℕ) → AreAdmitted admits above (between ++ place ∷ []) → IsReached x asked root certs (above ++ between) place → ⊥
@@ -234,6 +244,7 @@ module _ (x : Context) (asked : RevocationChecks) (admits : List ℕ → ℕ →
     too_deep = λ is. absurd (cc is);
     complete = λ between place covers admitted reached. absurd (reached_none none between place admitted reached);
     in_shares = λ between place enough admitted reached. absurd (reached_none none between place admitted reached);
+    enough = λ between place covers admitted reached. absurd (reached_none none between place admitted reached);
   }
 
   module _ (lets_in : ℕ → Type 0) (there_in : (place : ℕ) → lets_in place → admits above place) (in_there : (place : ℕ) → admits above place → lets_in place)
@@ -287,6 +298,7 @@ module _ (x : Context) (asked : RevocationChecks) (admits : List ℕ → ℕ →
           );
           complete = λ between place covers admitted reached. absurd (omega (arith, covers, deep));
           in_shares = λ between place enough admitted reached. let within = enough.within in absurd (omega (arith, within, deep));
+          enough = λ between place covers admitted reached. absurd (omega (arith, covers, deep));
         }
 
     -- no more than all
@@ -325,6 +337,7 @@ module _ (x : Context) (asked : RevocationChecks) (admits : List ℕ → ℕ →
       too_deep = λ is. absurd (cc is);
       complete = λ between place covers admitted reached. absurd covers;
       in_shares = λ between place enough admitted reached. let low = few_enough between enough in absurd (omega (arith, low, short));
+      enough = λ between place covers admitted reached. absurd covers;
     }
 
     -- ---- where the children were judged
@@ -452,6 +465,33 @@ module _ (x : Context) (asked : RevocationChecks) (admits : List ℕ → ℕ →
               } in
               told_each p rest place (here rest place below admitted.1 (subst (λ (l : List ℕ). IsReached x asked root certs l place) (sym (grouped p rest)) reached))
 
+          enough_at : (ended : Ended) → ((ca : Ca) → Contains cas ca → IsEnough x asked admits root certs (down_to above ca) (depth - 1) next ended)
+              → (between : List ℕ) (place : ℕ) → Covers ended depth (length between + 1) → AreAdmitted admits above (between ++ place ∷ []) → IsReached x asked root certs (above ++ between) place → HasEnough x asked admits root certs above share depth between
+          enough_at ended h [] place covers admitted reached = record {
+            within = low;
+            last = share;
+            has = refl;
+            children = children;
+            are_children = subst (λ (l : List ℕ). AreChildren x asked admits root certs l children) (sym (append-nil above)) (are_children enough);
+            enough = enough;
+          }
+          enough_at ended h (p ∷ rest) place covers admitted reached =
+              let at = ca_of p rest place admitted.0 reached in
+              let ca = ca_at cas p at in
+              let here : IsEnough x asked admits root certs (above ++ p ∷ []) (depth - 1) next ended = subst (λ (q : ℕ). IsEnough x asked admits root certs (above ++ q ∷ []) (depth - 1) next ended) ca.2 (h ca.0 ca.1) in
+              let one : suc (length rest) + 1 ≡ length rest + 1 + 1 = omega arith in
+              let deeper : Covers ended depth (length rest + 1 + 1) = subst (λ (n : ℕ). Covers ended depth n) one covers in
+              let e = here rest place (covers_below ended depth (length rest + 1) deeper) admitted.1 (subst (λ (l : List ℕ). IsReached x asked root certs l place) (sym (grouped p rest)) reached) in
+              let within = e.within in
+              record {
+                within = omega (arith, within);
+                last = e.last;
+                has = (next, handed (some_place p at), e.has);
+                children = e.children;
+                are_children = subst (λ (l : List ℕ). AreChildren x asked admits root certs l e.children) (grouped p rest) e.are_children;
+                enough = e.enough;
+              }
+
           short_at : (ca : Ca) → Contains cas ca → IsShort x asked admits root certs (down_to above ca) next → IsShort x asked admits root certs above share
           short_at ca at s =
               let some : 0 < length cas = let low = at.1 in omega (arith, low) in
@@ -502,4 +542,6 @@ module _ (x : Context) (asked : RevocationChecks) (admits : List ℕ → ℕ →
                 (λ ended is. complete_at ended (if_ok (λ (e : Ended). (ca : Ca) → Contains cas ca → IsComplete x asked admits root certs (down_to above ca) (depth - 1) vs e) r ended is e.complete));
             in_shares = ok_if (λ (ended : Ended). IsCompleteInShares x asked admits root certs above depth share all) r
                 (λ ended is. shares_at (if_ok (λ (e : Ended). (ca : Ca) → Contains cas ca → IsCompleteInShares x asked admits root certs (down_to above ca) (depth - 1) next vs) r ended is e.in_shares));
+            enough = ok_if (IsEnough x asked admits root certs above depth share) r
+                (λ ended is. enough_at ended (if_ok (λ (e : Ended). (ca : Ca) → Contains cas ca → IsEnough x asked admits root certs (down_to above ca) (depth - 1) next e) r ended is e.enough));
           }

@@ -290,6 +290,16 @@ IsCompleteInShares x asked admits root certs above depth share ts =
     → AreAdmitted admits above (between ++ place ∷ [])
     → IsReached x asked root certs (above ++ between) place → IsTold ts (above ++ between) place
 
+-- what a walk that ended so has looked at, to which an admitted path leads, is below CAs that have
+-- enough
+abbrev pub IsEnough : Context → RevocationChecks → (List ℕ → ℕ → Type 0) → Root → List (List ℕ)
+    → List ℕ → ℕ → ℕ → Ended → Type 0
+IsEnough x asked admits root certs above depth share ended =
+    (between : List ℕ) (place : ℕ) → Covers ended depth (length between + 1)
+    → AreAdmitted admits above (between ++ place ∷ [])
+    → IsReached x asked root certs (above ++ between) place
+    → HasEnough x asked admits root certs above share depth between
+
 -- the verdict is on a certificate that is let in below those places, by CAs each of which is
 abbrev pub IsLetIn : (List ℕ → ℕ → Type 0) → List ℕ → Told → Type 0
 IsLetIn admits above t =
@@ -328,8 +338,8 @@ IsTooDeep x asked admits root certs above depth ended =
 
 -- What a walk tells below the CAs at these places, which have this share: each verdict is right and on
 -- a certificate that is let in, no more of them take a step than the share, and each path was looked
--- at whose CAs have enough. Where the walk ended, it looked at each path that its end says. It says
--- that a bound was met only where it was.
+-- at whose CAs have enough. Where the walk ended, it looked at each path that its end says, and the CAs
+-- of each have enough. It says that a bound was met only where it was.
 pub record Tells {E : Type 0} (x : Context) (asked : RevocationChecks)
     (admits : List ℕ → ℕ → Type 0) (root : Root) (certs : List (List ℕ)) (above : List ℕ)
     (depth share : ℕ) (result : Result Ended E) (ts : List Told) : Type 0 where
@@ -342,6 +352,7 @@ pub record Tells {E : Type 0} (x : Context) (asked : RevocationChecks)
   pub complete : IfOk result (IsComplete x asked admits root certs above depth ts)
   pub in_shares : IfOk result (λ ended.
       IsCompleteInShares x asked admits root certs above depth share ts)
+  pub enough : IfOk result (IsEnough x asked admits root certs above depth share)
 
 -- the same, wherever the issuer stands at the end of a valid path
 abbrev pub TellsBelow : {E : Type 0} → Context → RevocationChecks → (List ℕ → ℕ → Type 0)

@@ -56,7 +56,7 @@ returns c =
     λ top begins.
     let is = anchor_is x asked anchor.tal.now anchor.file.now.octets anchor.issuer taken.0 c.unambiguous.ensures.certificate top begins in
     subst (λ (d : CertFields). Tells {E = WalkError} x asked (IsLookedAt q.names every d folder.certs) root folder.certs [] q.depth q.steps (Ok c.in_ok-ended.ended) walk.0) is
-    (record { right = t.right; let_in = t.let_in; few = t.few; short = t.short; too_deep = t.too_deep; complete = t.complete; in_shares = t.in_shares }) in
+    (record { right = t.right; let_in = t.let_in; few = t.few; short = t.short; too_deep = t.too_deep; complete = t.complete; in_shares = t.in_shares; enough = t.enough }) in
     record {
       certs_are = c.requires.certs_are;
       lists = folder.lists;
