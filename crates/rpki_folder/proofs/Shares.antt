@@ -472,7 +472,7 @@ module _ (x : Context) (asked : RevocationChecks) (admits : List ℕ → ℕ →
             last = share;
             has = refl;
             children = children;
-            are_children = subst (λ (l : List ℕ). AreChildren x asked admits root certs l children) (sym (append-nil above)) (are_children enough);
+            are_children = subst (λ (l : List ℕ). AreChildren x asked admits root certs l children) (sym (append-nil above)) are_children;
             enough = enough;
           }
           enough_at ended h (p ∷ rest) place covers admitted reached =
