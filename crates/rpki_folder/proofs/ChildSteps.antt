@@ -1,7 +1,7 @@
 -- The children of an issuer, one place after the other, and what is told of them.
 use Rattle.std.specs.Prelude.{None, Some, Contains, Result}
-use Rattle.std.proofs.Common.{◌≡◌, ◌⊎◌, ◌+◌, ◌<◌, ℕ, List, [], ◌∷◌, ◌++◌, length, take, get_or, sym, subst, inl, inr, arith}
-use Rattle.std.proofs.lemmas.List.{take_more, map-append, length-append}
+use Rattle.std.proofs.Common.{◌≡◌, ◌⊎◌, ◌+◌, ◌<◌, ℕ, List, [], ◌∷◌, ◌++◌, length, take, get_or, sym, subst, inl, inr}
+use Rattle.std.proofs.lemmas.List.{take_more, map-append}
 use Rattle.std.proofs.lemmas.List.Elements.{Contains-push_cases, Contains-append_left, Contains-push}
 use Rattle.rpki_parts.specs.Signatures.{Verifies}
 use Rattle.rpki_cert.specs.Certificates.{CertFields}
@@ -15,7 +15,7 @@ use Rattle.rpki_folder.specs.Walks.{Told, told, IsChildOf}
 use Rattle.rpki_folder.specs.Walks.Steps.{IsOutcome, AreChildrenAmong, places_of, HasVerdict, AreJudged}
 use Rattle.rpki_folder.proofs.OnceLists.{once_push, once_apart}
 use Rattle.rpki_folder.proofs.PickedLists.{in_none}
-use Rattle.rpki_folder.proofs.Shares.{ca_at, take_within}
+use Rattle.rpki_folder.proofs.Shares.{ca_at}
 
 -- ---- which of the places are children
 

@@ -1,7 +1,7 @@
 -- What a certificate that names an issuer's key is to the issuer.
 use Rattle.std.specs.List.{AllByRecursion}
-use Rattle.std.specs.Prelude.{Bool, Contains, IsTrue, Some}
-use Rattle.std.proofs.Common.{◌≡◌, ◌↔◌, ◌<◌, ℕ, List, [], ◌∷◌, length, ap, refl, subst, ◌∙◌}
+use Rattle.std.specs.Prelude.{Bool, IsTrue}
+use Rattle.std.proofs.Common.{◌≡◌, ◌↔◌, ℕ, List, [], ◌∷◌, ap, subst, ◌∙◌}
 use Rattle.rpki_der.specs.Values.{IsUnambiguous}
 use Rattle.rpki_der.proofs.Formats.{one_meant}
 use Rattle.rpki_parts.specs.Signatures.{Verifies}
@@ -12,8 +12,7 @@ use Rattle.rpki_path.specs.NameChains.{IsNamedBelow}
 use Rattle.rpki_folder.specs.Folders.{octets_at, NamesSigner, ArePlacesOf}
 use Rattle.rpki_folder.specs.IssuerTables.{AreAllChildren}
 use Rattle.rpki_folder.specs.Walks.{Told, StandsAt, IsChildOf, IsNamedUnder}
-use Rattle.rpki_folder.specs.Walks.Steps.{ClaimIs, IsClaim, IsOther, IsToldOf, AreChildrenAmong}
-use Rattle.rpki_folder.specs.declared.walk.Claim.{Claim}
+use Rattle.rpki_folder.specs.Walks.Steps.{IsClaim, IsOther, IsToldOf, AreChildrenAmong}
 use Rattle.rpki_folder.specs.declared.walk.Claim.TheVariants.{OtherName, Child, Other}
 use Rattle.rpki_folder.proofs.Descent.{there as low_of, child_names}
 

@@ -23,7 +23,7 @@ use Rattle.rpki_folder.specs.Walks.Steps.{AreChildrenAmong}
 use Rattle.rpki_folder.specs.declared.issuers.Issuer.{Issuer}
 use Rattle.rpki_folder.specs.declared.issuers.Issuers.{Issuers}
 use Rattle.rpki_folder.proofs.Descent.{child_names}
-use Rattle.rpki_folder.proofs.PickedLists.{in_none, one_of_all, one_of_picked}
+use Rattle.rpki_folder.proofs.PickedLists.{one_of_all, one_of_picked}
 
 -- ---- lists
 

@@ -1,5 +1,5 @@
 -- What one step of a walk gives.
-use Rattle.std.specs.Prelude.{◌≡◌, ◌≢◌, ◌↔◌, ◌⊎◌, ◌*◌, Bool, IsTrue, ◌≤◌, ◌++◌, ◌∷◌, [], ℕ, List, length, map, Contains, Option, None, Some, Result, Ok, Err, IsErr, IfOk}
+use Rattle.std.specs.Prelude.{◌≡◌, ◌≢◌, ◌↔◌, ◌⊎◌, ◌*◌, Bool, IsTrue, ◌++◌, ◌∷◌, [], ℕ, List, length, map, Contains, Option, None, Some, Result, Ok, Err, IsErr, IfOk}
 use Rattle.std.specs.List.{AllByRecursion}
 use Rattle.rpki_parts.specs.Signatures.{Verifies}
 use Rattle.rpki_cert.specs.Certificates.{CertFields}

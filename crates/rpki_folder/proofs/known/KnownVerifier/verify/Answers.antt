@@ -1,5 +1,5 @@
 use Rattle.std.specs.Prelude.{IsTrue}
-use Rattle.std.proofs.Common.{◌≡◌, ◌↔◌, ℕ, List, subst}
+use Rattle.std.proofs.Common.{◌↔◌, ℕ, List, subst}
 use Rattle.rpki_parts.specs.Algorithms.{Algorithm}
 use Rattle.rpki_parts.specs.Keys.{KeyFields}
 use Rattle.rpki_folder.proofs.known.KnownVerifier.verify.Goals as goal

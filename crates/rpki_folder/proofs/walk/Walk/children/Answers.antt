@@ -1,10 +1,9 @@
-use Rattle.std.specs.Prelude.{Contains}
-use Rattle.std.proofs.Common.{◌+◌, ◌<◌, ℕ, List, [], ◌∷◌, ◌++◌, length, take, get_or, refl, sym, ap, subst, append_assoc, arith}
+use Rattle.std.proofs.Common.{ℕ, List, [], ◌++◌, get_or, sym, subst, append_assoc}
 use Rattle.std.proofs.lemmas.List.{append-nil, take_all}
 use Rattle.std.proofs.lemmas.List.Elements.{Contains-get_or}
 use Rattle.rpki_cert.specs.Verification.{context}
 use Rattle.rpki_path.specs.AskedLists.{by_named_lists}
-use Rattle.rpki_folder.specs.Walks.{Told, IsNamedUnder, IsChildOf}
+use Rattle.rpki_folder.specs.Walks.{Told, IsNamedUnder}
 use Rattle.rpki_folder.specs.Walks.Steps.{AreChildrenAmong, IsOther, IsToldOf}
 use Rattle.rpki_folder.proofs.Descent.{all_append}
 use Rattle.rpki_folder.proofs.ChildSteps.{none_among, added_among}

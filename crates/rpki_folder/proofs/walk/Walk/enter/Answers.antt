@@ -1,15 +1,14 @@
-use Rattle.std.specs.Prelude.{Result, Ok, Err, IfOk, OnOk}
-use Rattle.std.proofs.Common.{◌≡◌, ◌<◌, ℕ, List, [], ◌∷◌, ◌++◌, length, get_or, refl, sym, ap, subst, ◌∙◌}
+use Rattle.std.specs.Prelude.{Result, Ok, Err, OnOk}
+use Rattle.std.proofs.Common.{◌≡◌, List, [], get_or, sym, subst, ◌∙◌}
 use Rattle.std.proofs.lemmas.List.{append-nil}
 use Rattle.std.proofs.lemmas.List.Elements.{Contains-get_or}
 use Rattle.rpki_cert.specs.Certificates.{CertFields}
 use Rattle.rpki_cert.specs.Verification.{context}
 use Rattle.rpki_path.specs.Repeats.{AreAlike}
-use Rattle.rpki_folder.specs.IssuerTables.{IsKeptOf, AreKept}
+use Rattle.rpki_folder.specs.IssuerTables.{IsKeptOf}
 use Rattle.rpki_folder.specs.Walks.{Told}
 use Rattle.rpki_folder.specs.declared.issuers.Issuer.{Issuer}
-use Rattle.rpki_folder.specs.declared.issuers.Issuers.{Issuers}
-use Rattle.rpki_folder.proofs.KeptIssuers.{kept_alike, kept_more, found_last}
+use Rattle.rpki_folder.proofs.KeptIssuers.{kept_alike, kept_more}
 use Rattle.rpki_folder.proofs.walk.Walk.enter.Goals as goal
 
 pub children-requires : goal.children-requires
