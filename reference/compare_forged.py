@@ -40,7 +40,7 @@ from random_folders import END, START
 from signers import Signer
 
 AT = ['--at', '2026-06-01']
-MOST_SECONDS = 600
+MOST_SECONDS = 3600
 FILES = 40                                              # in a run
 WORDS = [b'accepted: ', b'rejected: ', b'trust anchor', b'below ', b' > ', b': ', b', ', b' (', b')', b'\n', b'\r\n',
          b'\n                          ', b'Certificate:              ', b'Note:', b'\x1b[2K', b'\\x0A', b'\\', b'"',
