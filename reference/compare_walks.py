@@ -53,7 +53,7 @@ from signers import Signer
 KEYS = 7
 DEPTH, MOST = 6, 400
 MANY_STEPS = 100000
-MOST_SECONDS = 3600                                     # also on a machine with other work
+MOST_SECONDS = 3600     # also on a machine with other work
 AT = '%04d-%02d-%02dT%02d:%02d:%02dZ' % random_folders.NOW
 STEPS = {'profile', 'verification', 'revocation'}
 
