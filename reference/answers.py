@@ -521,12 +521,11 @@ def folder(words, verifier=ref.stand_in):
     except ref.PathError as e:
         return refused_of(e)
     found = folders.Folder(strings, verifier)
-    verdicts, steps, is_bounded = found.looked_at(anchor, strict, now, depth)
-    if steps > most:
-        return 'out'
-    return ' '.join(['deep' if is_bounded else 'whole',
-                     *(NO[verdicts[place]] if place in verdicts else '-'
-                       for place, _ in found.certs)])
+    verdicts, ended = found.looked_at(anchor, strict, now, depth, most)
+    if ended == 'out':
+        return ended
+    return ' '.join([ended, *(NO[verdicts[place]] if place in verdicts else '-'
+                              for place, _ in found.certs)])
 
 
 WORDS = {

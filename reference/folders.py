@@ -137,35 +137,52 @@ class Folder:
             row = following
         return heights, is_bounded
 
-    def looked_at(self, anchor, strict, now, depth):
-        """What a walk of this depth looks at: the places of the certificates that stand below the
-        end of a valid path of fewer than so many, each with whether it is accepted below one; how
-        many pairs there are of such a path and a certificate below it; and whether a CA stands at
-        the depth with some below it. No path goes on below a key that stands above.
+    def is_child(self, cert, issuer):
+        """Whether the issuer's key signed the certificate, with one algorithm inside and outside."""
+        tbs, signed = cert.tbs, cert.signed
+        return tbs.signature == signed.algorithm and self.verifier(
+            issuer.cert.tbs.key, signed.algorithm, signed.data, signed.signature)
 
-        Paths with the same end, the same resources there and the same keys are counted together.
+    def looked_at(self, anchor, strict, now, depth, steps):
+        """What a walk of this depth with so many steps looks at: the places of the certificates that
+        stand below the end of a valid path, each with whether it is accepted below one; and how the
+        walk ends: 'out' if a CA has more children than its share of the steps, else 'deep' if a CA at
+        the depth has some, else 'whole'. No path goes on below a key that stands above.
+
+        What names a CA's key and isn't its child is rejected. The children take a step each, and what is
+        left of the share is divided among those that are accepted as CAs. Paths with the same end, the
+        same resources there, the same keys and the same share are walked once.
         """
-        verdicts, steps = {}, 0
-        row = {None: (anchor, frozenset([anchor.cert.tbs.key]), 1)}
-        for _ in range(depth):
+        verdicts, met = {}, set()
+        row = {None: (anchor, frozenset([anchor.cert.tbs.key]), steps)}
+        for height in range(depth + 1):
             following = {}
-            for issuer, keys, count in row.values():
+            for issuer, keys, share in row.values():
+                children, cas = [], []
                 for place, cert in self.below(issuer):
-                    steps += count
+                    if self.is_child(cert, issuer):
+                        children.append((place, cert))
+                    else:
+                        verdicts.setdefault(place, False)
+                if children and (height == depth or len(children) > share):
+                    met.add('deep' if height == depth else 'out')
+                    continue
+                for place, cert in children:
                     verdicts.setdefault(place, False)
                     try:
                         kind, result = self.judged(cert, issuer, strict, now)
                     except Refusal:
                         continue
                     verdicts[place] = True
-                    if kind != CA or cert.tbs.key in keys:
-                        continue
-                    keys_below = keys | {cert.tbs.key}
-                    state = place, result.v4, result.v6, result.asn, keys_below
-                    before = following.get(state, (None, None, 0))[2]
-                    following[state] = result, keys_below, before + count
+                    if kind == CA:
+                        cas.append((place, result))
+                for place, result in cas:
+                    key, next_share = result.cert.tbs.key, (share - len(children)) // len(cas)
+                    if key not in keys:
+                        state = place, result.v4, result.v6, result.asn, keys | {key}, next_share
+                        following[state] = result, keys | {key}, next_share
             row = following
-        return verdicts, steps, any(self.below(issuer) for issuer, _, _ in row.values())
+        return verdicts, next((it for it in ('out', 'deep') if it in met), 'whole')
 
 
 def accepted(strings, key, strict, now, verifier=stand_in, depth=32):

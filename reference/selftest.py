@@ -883,23 +883,30 @@ def folders_of_files():
     yield 'too deep', accepted(anchor, first, second, circle, *lists, depth=2), [(0, [1, 2])]
     yield 'leaves', accepted(anchor, leaf, router, *lists), [(0, [1, 2])]
 
-    def looked_at(*strings, depth):
+    def looked_at(*strings, depth, steps=300):
         folder = folders.Folder(strings)
         (_, root), = folder.anchors(worked.K1, True, worked.NOW)
-        verdicts, steps, is_bounded = folder.looked_at(root, True, worked.NOW, depth)
-        return sorted(verdicts.items()), steps, is_bounded
+        verdicts, ended = folder.looked_at(root, True, worked.NOW, depth, steps)
+        return sorted(verdicts.items()), ended
 
     yield ('whole, looked at', looked_at(anchor, first, second, leaf, *lists, depth=2),
-           ([(1, True), (2, True), (3, True)], 3, False))
-    yield ('nothing, looked at', looked_at(anchor, first, *lists, depth=0), ([], 0, True))
+           ([(1, True), (2, True), (3, True)], 'whole'))
+    yield ('nothing, looked at', looked_at(anchor, first, *lists, depth=0), ([], 'deep'))
     yield ('without lists, looked at', looked_at(anchor, first, second, depth=8),
-           ([(1, False)], 1, False))
+           ([(1, False)], 'whole'))
     # the renewal and the first have the key of one that is below both
     yield ('beside, looked at', looked_at(anchor, renewed, first, second, *lists, depth=8),
-           ([(1, True), (2, True), (3, True)], 4, False))
+           ([(1, True), (2, True), (3, True)], 'whole'))
     # nothing is looked at below the circle: its key stands above
     yield ('a circle, looked at', looked_at(anchor, first, second, circle, *lists, depth=4),
-           ([(1, True), (2, True), (3, True)], 3, False))
+           ([(1, True), (2, True), (3, True)], 'whole'))
+    # one step for each, and half of what is left for each of two
+    for steps, wanted in ((0, ([], 'out')), (1, ([(1, True)], 'out')), (2, ([(1, True), (2, True)], 'whole'))):
+        yield f'{steps} steps', looked_at(anchor, first, second, *lists, depth=8, steps=steps), wanted
+    for steps, wanted in ((1, ([], 'out')), (3, ([(1, True), (2, True)], 'out')),
+                          (4, ([(1, True), (2, True), (3, True)], 'whole'))):
+        yield (f'{steps} steps beside',
+               looked_at(anchor, renewed, first, second, *lists, depth=8, steps=steps), wanted)
 
 
 FOLDERS = 60                    # random ones into which a stranger writes

@@ -157,8 +157,8 @@ class Walks(folders.Folder):
     def walk(self, anchor, depth, steps):
         """The walk of this depth with so many steps: what it tells, by the keys of paths (what is wrong,
         or nothing, and the path), and below which paths it met a bound. A CA below which more stand than
-        its share isn't walked; what is left of the share is divided among the CAs below it, and
-        nothing is handed on."""
+        its share isn't walked; what is left of the share is divided among the CAs accepted below it, also
+        those that stand above it already, and nothing is handed on."""
         told, met, kept = {}, set(), {}
 
         def below(path, share):
@@ -172,16 +172,19 @@ class Walks(folders.Folder):
             if len(path.certs) > depth or len(some) > share:
                 met.add(path.key())
                 return
-            goes = []
+            goes, cas = [], 0
             above = {self.entity(it) for it in path.certs}
             for place, cert in some:
                 kind, result, faults = self.faults(place, cert, issuer)
                 key = (*path.key(), cert.signed.data)
                 told[key] = faults, result
-                if result is not None and kind == CA and self.entity(cert) not in above:
+                if result is None or kind != CA:
+                    continue
+                cas += 1
+                if self.entity(cert) not in above:
                     goes.append(Path((*path.places, place), result, path))
             for following in goes:
-                below(following, (share - len(some)) // len(goes))
+                below(following, (share - len(some)) // cas)
         below(anchor, steps)
         return told, met
 
