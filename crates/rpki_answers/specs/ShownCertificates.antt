@@ -41,8 +41,12 @@ type_word EndEntity = codes "ee_cert"
 type_word Detached = codes "ee_cert"
 type_word Router = codes "router_key"
 
+-- what it is, in our words and in rpki-client's
+abbrev pub typed_line : Told → List ℕ → Node
+typed_line kind word = line (codes "Kind") (tell (codes "kind") kind ∷ keep (codes "type") (text word) ∷ [])
+
 abbrev pub kind_line : Kind → Node
-kind_line kind = line (codes "Kind") (tell (codes "kind") (kind_told kind) ∷ keep (codes "type") (text (type_word kind)) ∷ [])
+kind_line kind = typed_line (kind_told kind) (type_word kind)
 
 -- its version and its algorithm, which are those of every certificate (RFC 6487 4.1, RFC 7935 2), its
 -- number, and its names
@@ -171,13 +175,16 @@ abbrev pub fact_node : Fact → Node
 fact_node f = inside [] (document_of (
     told_line (fact_label f.kind) (fact_word f.kind) (fact_told f.kind f.octets.now) ∷ []))
 
--- a note: its sentence, and the section that the certificate breaks
-abbrev pub note_line : Note → Node
-note_line note = inside [] (document_of (
+-- a note: its word, its sentence, and the section that the certificate breaks
+abbrev pub noted_line : List ℕ → List ℕ → List ℕ → Node
+noted_line name says section = inside [] (document_of (
     line (codes "Note") (
-    keep (codes "note") (text (note_name note)) ∷ tell (codes "why") (text (note_text note))
-    ∷ say (codes " (") ∷ tell (codes "standard") (text (note_section note)) ∷ say (codes ")") ∷ [])
+    keep (codes "note") (text name) ∷ tell (codes "why") (text says)
+    ∷ say (codes " (") ∷ tell (codes "standard") (text section) ∷ say (codes ")") ∷ [])
     ∷ []))
+
+abbrev pub note_line : Note → Node
+note_line note = noted_line (note_name note) (note_text note) (note_section note)
 
 abbrev pub remark_nodes : List Fact → List Note → List Node
 remark_nodes facts notes =

@@ -149,11 +149,15 @@ abbrev pub found_nodes : Option Flaw → List Node
 found_nodes None = []
 found_nodes (Some flaw) = told_line (codes "Found") (codes "found") (text (flaw_text flaw)) ∷ []
 
--- where reading stops, what is expected there, and what is found
+-- where reading stops: in this field, which begins at this octet
+abbrev pub where_line : List ℕ → ℕ → Node
+where_line field octet = line (codes "Where") (
+    tell (codes "field") (text field) ∷ say (codes ", at byte ") ∷ tell (codes "byte") (count octet) ∷ [])
+
+-- the same, what is expected there, and what is found
 abbrev pub place_nodes : Place → List Node
 place_nodes place =
-    line (codes "Where") (
-    tell (codes "field") (text place.field.now) ∷ say (codes ", at byte ") ∷ tell (codes "byte") (count place.octet) ∷ [])
+    where_line place.field.now place.octet
     ∷ told_line (codes "Expected") (codes "expected") (text place.wanted.now)
     ∷ found_nodes place.found
 

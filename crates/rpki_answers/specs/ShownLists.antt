@@ -3,7 +3,7 @@ use Rattle.std.specs.Prelude.{ℕ, ◌||◌, nat_le, Bool, true, false, List, []
 use Rattle.rpki_crl.specs.Lists.{ListFields}
 use Rattle.rpki_crl.specs.RevokedEntries.{Entry, Revoked}
 use Rattle.rpki_der.specs.Times.{Moment}
-use Rattle.rpki_document.specs.Documents.{words, count, printed, say, tell, show, Node, line, further, inside, each, document_of, told_line}
+use Rattle.rpki_document.specs.Documents.{Told, words, count, printed, say, tell, show, Node, line, further, inside, each, document_of, told_line}
 use Rattle.rpki_parts.specs.NameTexts.{name_text}
 use Rattle.rpki_answers.specs.ToldValues.{identifier_told, moment_told, serial_told, signature_line, until_line}
 
@@ -12,10 +12,12 @@ abbrev pub few : ℕ
 few = 5
 
 -- a revoked certificate: its serial number, and since when it is revoked
+abbrev pub revocation_node : Told → Told → Node
+revocation_node serial date = inside [] (document_of (
+    further (tell (codes "serial") serial ∷ say (codes "  ") ∷ tell (codes "date") date ∷ []) ∷ []))
+
 abbrev pub entry_node : Entry → Node
-entry_node e = inside [] (document_of (
-    further (tell (codes "serial") (serial_told e.serial) ∷ say (codes "  ") ∷ tell (codes "date") (moment_told e.date) ∷ [])
-    ∷ []))
+entry_node e = revocation_node (serial_told e.serial) (moment_told e.date)
 
 -- all of them, or the first few and two dots
 abbrev pub entry_nodes : Bool → List Entry → List Node

@@ -361,7 +361,11 @@ fn add_description(parts: &mut Vec<Part<'_>>, alloc: Global, sort: Sort) -> Resu
 }
 
 /// Adds what a file of this sort is, and what to do, if it is of one.
-pub fn add_sort(parts: &mut Vec<Part<'_>>, alloc: Global, sort: Option<Sort>) -> Result<(), AllocError>
+pub fn add_sort(
+    parts: &mut Vec<Part<'_>>,
+    alloc: Global,
+    sort: Option<Sort>,
+) -> Result<(), AllocError>
     ensures { OnOk result (Adds (sort_nodes sort) parts.old.items parts.new.items) }
 {
     match sort {

@@ -23,7 +23,8 @@ use serde_json::Value;
 use std::alloc::{AllocError, Global};
 use subjects::subject_of;
 
-/// How files are shown: at a time, as strictly as is asked, and whether with all that can be shown.
+/// The options of `show`: a validation time, whether names and comments are read strictly, and whether
+/// all is shown.
 #[derive(Clone, Copy)]
 pub struct Options {
     pub at: Time,
@@ -38,11 +39,7 @@ struct FileText {
     shows: bool,
 }
 
-fn file_text(
-    alloc: Global,
-    object: &Object<'_>,
-    options: &Options,
-) -> Result<FileText, AllocError>
+fn file_text(alloc: Global, object: &Object<'_>, options: &Options) -> Result<FileText, AllocError>
     ensures shows { IfOk result (λ it.
         IsTrue it.shows ↔ CanBeShown options.now.strict object.now.octets) }
     ensures text { IfOk result (λ it. IsFileText options.now object.now (string_bytes it.text)) }

@@ -13,7 +13,8 @@ ghost use Rattle.rpki_answers.specs.VerdictTexts.{SaysOfEach, file_name_at};
 
 use crate::details::{Details, add_details, details_of};
 use crate::told::{
-    add_addresses, add_key, add_listed, add_numbers, identifier_leaf, kind_leaf, moment_leaf, printed,
+    add_addresses, add_key, add_listed, add_numbers, identifier_leaf, kind_leaf, moment_leaf,
+    printed,
 };
 use crate::verdicts::Finding;
 use rpki_cert::{Cert, Kind, ResourceCert, kind_of};

@@ -4,10 +4,10 @@ ghost use Rattle.rpki_document.specs.Building.{Adds, AddsSome};
 ghost use Rattle.rpki_document.specs.Views.{leaf_view};
 ghost use Rattle.rpki_cert.specs.Certificates.{IsCertificate};
 ghost use Rattle.rpki_der.specs.Encoding.{Means};
-ghost use Rattle.rpki_answers.specs.ShownCertificates.{IsShownCertificate, all_profiles, certificate_nodes, each_profile, fact_label, fact_node, fact_told, fact_word, field_nodes, kind_line, note_line, overclaim_told, own_key_nodes, own_resource_nodes, place_nodes, profile_line, profile_nodes, remark_nodes, type_word, usage_told, validity_nodes};
+ghost use Rattle.rpki_answers.specs.ShownCertificates.{IsShownCertificate, all_profiles, certificate_nodes, each_profile, fact_label, fact_node, fact_told, fact_word, field_nodes, kind_line, note_line, noted_line, overclaim_told, own_key_nodes, own_resource_nodes, place_nodes, profile_line, profile_nodes, remark_nodes, type_word, typed_line, usage_told, validity_nodes};
 
-use crate::showing::Options;
 use crate::details::{add_https, add_identifier, add_uri};
+use crate::showing::Options;
 use crate::told::{
     add_key, add_listed, add_signature, add_until, identifier_leaf, kind_leaf, moment_leaf,
     name_leaf, printed,
@@ -36,29 +36,43 @@ fn type_word(kind: Kind) -> &'static str
     }
 }
 
-fn add_kind(parts: &mut Vec<Part<'_>>, alloc: Global, kind: Kind) -> Result<(), AllocError>
-    ensures { OnOk result (Adds (kind_line kind ∷ []) parts.old.items parts.new.items) }
+fn add_typed<'p>(
+    parts: &mut Vec<Part<'p>>,
+    alloc: Global,
+    kind: Leaf<'p>,
+    word: &'p str,
+) -> Result<(), AllocError>
+    ensures { let its = typed_line (leaf_view kind.entry) word.now in
+        OnOk result (Adds (its ∷ []) parts.old.items parts.new.items) }
 {
     let pieces = vec![in alloc;
-        Piece::Tell("kind", kind_leaf(kind)),
-        Piece::Keep("type", Leaf::Text(type_word(kind))),
+        Piece::Tell("kind", kind),
+        Piece::Keep("type", Leaf::Text(word)),
     ]?;
     add_line(parts, "Kind", pieces)
 }
 
+fn add_kind(parts: &mut Vec<Part<'_>>, alloc: Global, kind: Kind) -> Result<(), AllocError>
+    ensures { OnOk result (Adds (kind_line kind ∷ []) parts.old.items parts.new.items) }
+{
+    add_typed(parts, alloc, kind_leaf(kind), type_word(kind))
+}
+
 // The version, the number, the algorithm and the names.
-fn add_fields(
-    parts: &mut Vec<Part<'_>>,
-    alloc: Global,
-    fields: &TbsCert,
-) -> Result<(), AllocError>
+fn add_fields(parts: &mut Vec<Part<'_>>, alloc: Global, fields: &TbsCert) -> Result<(), AllocError>
     ensures { OnOk result (Adds (field_nodes fields.now) parts.old.items parts.new.items) }
 {
     add_told(parts, alloc, "Version", "version", Leaf::Count(3))?;
     let serial = printed(alloc, &fields.serial_number())?;
     add_told(parts, alloc, "Serial number", "cert_serial", serial)?;
     let algorithm = Leaf::Text("sha256WithRSAEncryption");
-    add_told(parts, alloc, "Signature algorithm", "signature_algorithm", algorithm)?;
+    add_told(
+        parts,
+        alloc,
+        "Signature algorithm",
+        "signature_algorithm",
+        algorithm,
+    )?;
     let issuer = name_leaf(alloc, fields.issuer())?;
     add_told(parts, alloc, "Issuer", "cert_issuer", issuer)?;
     let subject = name_leaf(alloc, fields.subject())?;
@@ -126,12 +140,42 @@ fn add_places<'p>(
     ensures { OnOk result
         (Adds (place_nodes fields.now.extensions) parts.old.items parts.new.items) }
 {
-    add_uri(parts, alloc, "Authority info access", "aia", fields.ca_issuer())?;
-    add_uri(parts, alloc, "CRL distribution point", "crl", fields.crl_uri())?;
-    add_uri(parts, alloc, "Repository", "carepository", fields.ca_repository())?;
+    add_uri(
+        parts,
+        alloc,
+        "Authority info access",
+        "aia",
+        fields.ca_issuer(),
+    )?;
+    add_uri(
+        parts,
+        alloc,
+        "CRL distribution point",
+        "crl",
+        fields.crl_uri(),
+    )?;
+    add_uri(
+        parts,
+        alloc,
+        "Repository",
+        "carepository",
+        fields.ca_repository(),
+    )?;
     add_uri(parts, alloc, "Manifest", "manifest", fields.rpki_manifest())?;
-    add_uri(parts, alloc, "Signed object", "signed_object", fields.signed_object())?;
-    add_https(parts, alloc, "Notify URL", "notify_url", fields.rpki_notify())
+    add_uri(
+        parts,
+        alloc,
+        "Signed object",
+        "signed_object",
+        fields.signed_object(),
+    )?;
+    add_https(
+        parts,
+        alloc,
+        "Notify URL",
+        "notify_url",
+        fields.rpki_notify(),
+    )
 }
 
 fn overclaim_leaf(overclaim: Overclaim) -> Leaf<'static>
@@ -152,7 +196,13 @@ fn add_resources(
         (Adds (own_resource_nodes fields.now.extensions) parts.old.items parts.new.items) }
 {
     let overclaim = overclaim_leaf(fields.overclaim());
-    add_told(parts, alloc, "Overclaimed resources", "overclaim", overclaim)?;
+    add_told(
+        parts,
+        alloc,
+        "Overclaimed resources",
+        "overclaim",
+        overclaim,
+    )?;
     let mut listed = Vec::new(alloc);
     add_listed(
         &mut listed,
@@ -211,7 +261,13 @@ fn add_each_profile(
     add_profile(parts, alloc, "Trust anchor profile", "ta", answers.anchor)?;
     add_profile(parts, alloc, "CA profile", "ca", answers.authority)?;
     add_profile(parts, alloc, "EE profile", "ee", answers.end_entity)?;
-    add_profile(parts, alloc, "Detached EE profile", "detached_ee", answers.detached)?;
+    add_profile(
+        parts,
+        alloc,
+        "Detached EE profile",
+        "detached_ee",
+        answers.detached,
+    )?;
     add_profile(parts, alloc, "Router profile", "router", answers.router)
 }
 
@@ -312,16 +368,18 @@ fn fact_leaf(alloc: Global, fact: Fact<'_>) -> Result<Leaf<'_>, AllocError>
     }
 }
 
-fn add_fact<'p>(
-    parts: &mut Vec<Part<'p>>,
-    alloc: Global,
-    fact: Fact<'p>,
-) -> Result<(), AllocError>
+fn add_fact<'p>(parts: &mut Vec<Part<'p>>, alloc: Global, fact: Fact<'p>) -> Result<(), AllocError>
     ensures { OnOk result (Adds (fact_node fact.entry ∷ []) parts.old.items parts.new.items) }
 {
     let leaf = fact_leaf(alloc, fact)?;
     let mut own = Vec::new(alloc);
-    add_told(&mut own, alloc, fact_label(fact.kind), fact_word(fact.kind), leaf)?;
+    add_told(
+        &mut own,
+        alloc,
+        fact_label(fact.kind),
+        fact_word(fact.kind),
+        leaf,
+    )?;
     add_inside(parts, "", own)
 }
 
@@ -338,19 +396,32 @@ fn add_facts<'p>(
     Ok(())
 }
 
-fn add_note(parts: &mut Vec<Part<'_>>, alloc: Global, note: Note) -> Result<(), AllocError>
-    ensures { OnOk result (Adds (note_line note ∷ []) parts.old.items parts.new.items) }
+fn add_noted<'p>(
+    parts: &mut Vec<Part<'p>>,
+    alloc: Global,
+    name: &'p str,
+    says: &'p str,
+    section: &'p str,
+) -> Result<(), AllocError>
+    ensures { let its = noted_line name.now says.now section.now in
+        OnOk result (Adds (its ∷ []) parts.old.items parts.new.items) }
 {
     let mut own = Vec::new(alloc);
     let pieces = vec![in alloc;
-        Piece::Keep("note", Leaf::Text(note.name())),
-        Piece::Tell("why", Leaf::Text(note.says())),
+        Piece::Keep("note", Leaf::Text(name)),
+        Piece::Tell("why", Leaf::Text(says)),
         Piece::Say(" ("),
-        Piece::Tell("standard", Leaf::Text(note.section())),
+        Piece::Tell("standard", Leaf::Text(section)),
         Piece::Say(")"),
     ]?;
     add_line(&mut own, "Note", pieces)?;
     add_inside(parts, "", own)
+}
+
+fn add_note(parts: &mut Vec<Part<'_>>, alloc: Global, note: Note) -> Result<(), AllocError>
+    ensures { OnOk result (Adds (note_line note ∷ []) parts.old.items parts.new.items) }
+{
+    add_noted(parts, alloc, note.name(), note.says(), note.section())
 }
 
 fn add_notes(parts: &mut Vec<Part<'_>>, alloc: Global, notes: &[Note]) -> Result<(), AllocError>

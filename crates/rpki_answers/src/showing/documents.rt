@@ -1,17 +1,15 @@
 //! The document of a file.
-ghost use Rattle.std.specs.Prelude.{◌≡◌, ◌++◌, [], ◌∷◌, IfOk, OnOk, map};
+ghost use Rattle.std.specs.Prelude.{◌≡◌, ◌++◌, [], ◌∷◌, IfOk, OnOk, map, string_bytes};
 ghost use Rattle.hex.specs.Hex.{encode_lower};
 ghost use Rattle.sha2.specs.Sha256.{sha256};
 ghost use Rattle.rpki_document.specs.Building.{Adds, AddsSome, nodes_of};
-ghost use Rattle.rpki_document.specs.Documents.{text};
-ghost use Rattle.rpki_document.specs.Views.{leaf_view};
 ghost use Rattle.rpki_keys.specs.Digits.{base64_of};
 ghost use Rattle.rpki_keys.specs.Locators.{uri_text};
 ghost use Rattle.rpki_cert.specs.Certificates.{IsCertificate};
 ghost use Rattle.rpki_files.specs.Contents.{BeginsBefore};
 ghost use Rattle.rpki_files.specs.FaultRules.{rule_of, tal_rule};
 ghost use Rattle.rpki_text.specs.KeyTexts.{IsLocatorKey};
-ghost use Rattle.rpki_answers.specs.ShownFiles.{IsFileDocument, IsSaid, IsShownBefore, IsSubject, behind_nodes, fault_nodes, file_nodes, found_nodes, hash_line, left_line, no_tal_nodes, place_nodes, rule_nodes, shows_stop, stop_nodes, tal_key_nodes, tal_nodes, unread_nodes, uri_line, whole_list_nodes};
+ghost use Rattle.rpki_answers.specs.ShownFiles.{IsFileDocument, IsSaid, IsShownBefore, IsSubject, behind_nodes, fault_nodes, file_nodes, found_nodes, hash_line, left_line, no_tal_nodes, place_nodes, rule_nodes, shows_stop, stop_nodes, tal_key_nodes, tal_nodes, unread_nodes, uri_line, where_line, whole_list_nodes};
 
 use crate::details::add_sort;
 use crate::showing::Options;
@@ -22,9 +20,7 @@ use crate::told::{add_key, identifier_leaf, printed};
 use base64::engine::general_purpose::STANDARD;
 use rpki_cert::Cert;
 use rpki_crl::Crl;
-use rpki_document::{
-    Leaf, Part, Piece, add_each, add_inside, add_kept, add_line, add_told,
-};
+use rpki_document::{Leaf, Part, Piece, add_each, add_inside, add_kept, add_line, add_told};
 use rpki_files::rules::{Rule, of_tal};
 use rpki_files::{Flaw, Object, Place, Sort};
 use rpki_keys::tal::{Tal, TalError, TalUri};
@@ -33,24 +29,20 @@ use sha2::{Digest, Sha256};
 use std::alloc::{AllocError, Global};
 
 // The SHA-256 hash of octets, in hexadecimal.
-fn hash_digits(alloc: Global, octets: &[u8]) -> Result<Leaf<'static>, AllocError>
-    ensures { let its = text (encode_lower (sha256 octets.now)) in
-        IfOk result (λ leaf. leaf_view leaf ≡ its) }
+fn hash_digits(alloc: Global, octets: &[u8]) -> Result<String, AllocError>
+    ensures { IfOk result (λ made. string_bytes made ≡ encode_lower (sha256 octets.now)) }
 {
     let digest = Sha256::digest(octets);
-    let made = hex::encode(alloc, digest.as_slice())?;
-    Ok(Leaf::Own(made))
+    hex::encode(alloc, digest.as_slice())
 }
 
 // And in base64.
 #[tactic(auto, unfolding(rpki_keys::specs::Digits::base64_of))]
-fn hash_base64(alloc: Global, octets: &[u8]) -> Result<Leaf<'static>, AllocError>
-    ensures { let its = text (base64_of (sha256 octets.now)) in
-        IfOk result (λ leaf. leaf_view leaf ≡ its) }
+fn hash_base64(alloc: Global, octets: &[u8]) -> Result<String, AllocError>
+    ensures { IfOk result (λ made. string_bytes made ≡ base64_of (sha256 octets.now)) }
 {
     let digest = Sha256::digest(octets);
-    let made = STANDARD.encode(alloc, digest.as_slice())?;
-    Ok(Leaf::Own(made))
+    STANDARD.encode(alloc, digest.as_slice())
 }
 
 fn add_hash(parts: &mut Vec<Part<'_>>, alloc: Global, octets: &[u8]) -> Result<(), AllocError>
@@ -59,8 +51,8 @@ fn add_hash(parts: &mut Vec<Part<'_>>, alloc: Global, octets: &[u8]) -> Result<(
     let digits = hash_digits(alloc, octets)?;
     let base64 = hash_base64(alloc, octets)?;
     let pieces = vec![in alloc;
-        Piece::Show(digits),
-        Piece::Keep("hash_id", base64),
+        Piece::Show(Leaf::Own(digits)),
+        Piece::Keep("hash_id", Leaf::Own(base64)),
     ]?;
     add_line(parts, "SHA-256", pieces)
 }
@@ -101,11 +93,7 @@ fn add_behind(parts: &mut Vec<Part<'_>>, alloc: Global, left: usize) -> Result<(
 
 // ---- TALs
 
-fn add_uri<'p>(
-    parts: &mut Vec<Part<'p>>,
-    alloc: Global,
-    uri: &'p TalUri,
-) -> Result<(), AllocError>
+fn add_uri<'p>(parts: &mut Vec<Part<'p>>, alloc: Global, uri: &'p TalUri) -> Result<(), AllocError>
     ensures { let its = uri_line (uri_text uri.now) in
         OnOk result (Adds (its ∷ []) parts.old.items parts.new.items) }
 {
@@ -171,15 +159,17 @@ fn add_rule(parts: &mut Vec<Part<'_>>, alloc: Global, rule: Rule) -> Result<(), 
     ensures { OnOk result (Adds (rule_nodes rule) parts.old.items parts.new.items) }
 {
     add_told(parts, alloc, "Why", "why", Leaf::Text(rule.says))?;
-    add_told(parts, alloc, "Standard", "standard", Leaf::Text(rule.section))
+    add_told(
+        parts,
+        alloc,
+        "Standard",
+        "standard",
+        Leaf::Text(rule.section),
+    )
 }
 
 // A file that looks like a TAL.
-fn add_no_tal(
-    parts: &mut Vec<Part<'_>>,
-    alloc: Global,
-    error: &TalError,
-) -> Result<(), AllocError>
+fn add_no_tal(parts: &mut Vec<Part<'_>>, alloc: Global, error: &TalError) -> Result<(), AllocError>
     ensures { OnOk result ((rule : _) × (rule_of rule ≡ tal_rule error.now)
         × Adds (no_tal_nodes error.now rule) parts.old.items parts.new.items) }
 {
@@ -205,17 +195,36 @@ fn add_found(
     }
 }
 
-// Where reading stops, and what is expected there.
+// Where reading stops.
+fn add_where<'p>(
+    parts: &mut Vec<Part<'p>>,
+    alloc: Global,
+    field: &'p str,
+    octet: usize,
+) -> Result<(), AllocError>
+    ensures { let its = where_line field.now octet in
+        OnOk result (Adds (its ∷ []) parts.old.items parts.new.items) }
+{
+    let pieces = vec![in alloc;
+        Piece::Tell("field", Leaf::Text(field)),
+        Piece::Say(", at byte "),
+        Piece::Tell("byte", Leaf::Count(octet as u64)),
+    ]?;
+    add_line(parts, "Where", pieces)
+}
+
+// And what is expected there.
 fn add_place(parts: &mut Vec<Part<'_>>, alloc: Global, place: Place) -> Result<(), AllocError>
     ensures { OnOk result (Adds (place_nodes place) parts.old.items parts.new.items) }
 {
-    let pieces = vec![in alloc;
-        Piece::Tell("field", Leaf::Text(place.field)),
-        Piece::Say(", at byte "),
-        Piece::Tell("byte", Leaf::Count(place.octet as u64)),
-    ]?;
-    add_line(parts, "Where", pieces)?;
-    add_told(parts, alloc, "Expected", "expected", Leaf::Text(place.wanted))?;
+    add_where(parts, alloc, place.field, place.octet)?;
+    add_told(
+        parts,
+        alloc,
+        "Expected",
+        "expected",
+        Leaf::Text(place.wanted),
+    )?;
     add_found(parts, alloc, place.found)
 }
 

@@ -1,14 +1,13 @@
 //! The document of a CRL.
 ghost use Rattle.std.specs.Prelude.{◌≡◌, [], ◌∷◌, false, IfSome, OnOk, length, map, take};
 ghost use Rattle.rpki_document.specs.Building.{Adds};
-ghost use Rattle.rpki_answers.specs.ShownLists.{entry_node, entry_nodes, list_head, list_nodes, revoked_nodes, update_nodes};
+ghost use Rattle.rpki_document.specs.Views.{leaf_view};
+ghost use Rattle.rpki_answers.specs.ShownLists.{entry_node, entry_nodes, list_head, list_nodes, revocation_node, revoked_nodes, update_nodes};
 
 use crate::told::{add_signature, add_until, identifier_leaf, moment_leaf, name_leaf, printed};
 use rpki_crl::{RevokedCertificates, TbsCertList};
 use rpki_der::{Serial, Time};
-use rpki_document::{
-    Leaf, Part, Piece, add_each, add_further, add_inside, add_line, add_told,
-};
+use rpki_document::{Leaf, Part, Piece, add_each, add_further, add_inside, add_line, add_told};
 use rpki_text::moments::Period;
 use std::alloc::{AllocError, Global};
 
@@ -26,6 +25,25 @@ fn count_of(revoked: &RevokedCertificates) -> Option<u64>
     Some(count)
 }
 
+fn add_revocation<'p>(
+    parts: &mut Vec<Part<'p>>,
+    alloc: Global,
+    serial: Leaf<'p>,
+    date: Leaf<'p>,
+) -> Result<(), AllocError>
+    ensures { let its = revocation_node (leaf_view serial.entry) (leaf_view date.entry) in
+        OnOk result (Adds (its ∷ []) parts.old.items parts.new.items) }
+{
+    let pieces = vec![in alloc;
+        Piece::Tell("serial", serial),
+        Piece::Say("  "),
+        Piece::Tell("date", date),
+    ]?;
+    let mut own = Vec::new(alloc);
+    add_further(&mut own, pieces)?;
+    add_inside(parts, "", own)
+}
+
 fn add_entry(
     parts: &mut Vec<Part<'_>>,
     alloc: Global,
@@ -37,14 +55,7 @@ fn add_entry(
 {
     let serial = printed(alloc, &serial)?;
     let date = moment_leaf(alloc, date)?;
-    let pieces = vec![in alloc;
-        Piece::Tell("serial", serial),
-        Piece::Say("  "),
-        Piece::Tell("date", date),
-    ]?;
-    let mut own = Vec::new(alloc);
-    add_further(&mut own, pieces)?;
-    add_inside(parts, "", own)
+    add_revocation(parts, alloc, serial, date)
 }
 
 // So many of the first revoked certificates.
