@@ -168,7 +168,7 @@ def told_of(program, files):
     said = [json.loads(line) for line in done.stdout.splitlines()]
     if done.returncode > 1 or [it['file'] for it in said] != names:
         raise SystemExit(f'{program}: status {done.returncode}, {done.stderr.decode()}')
-    return [(places.Place(it['field'], it['octet']), it.get('found')) if 'fault' in it else None
+    return [(places.Place(it['field'], it['byte']), it.get('found')) if 'fault' in it else None
             for it in said]
 
 

@@ -7,7 +7,7 @@ mod PushedItems
 mod PushedValues
 mod PutMembers
 mod ShownFiles
-mod ShownValues
+mod GrownLists
 mod SingleOutcomes
 mod WholeFiles
 mod WholeTrees

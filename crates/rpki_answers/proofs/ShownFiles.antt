@@ -1,23 +1,27 @@
 -- What is said of files that are shown.
-use Rattle.std.specs.Option.{option_map}
 use Rattle.std.specs.Prelude.{All, IsFalse, IsTrue, slice_get, Option, Some, None}
-use Rattle.std.proofs.Common.{◌≡◌, ◌↔◌, ◌&&◌, ◌++◌, ◌∷◌, ◌⊎◌, ℕ, Bool, true, false, List, inl, inr, ⊎_elim, refl, sym, subst, ◌∙◌}
+use Rattle.std.proofs.Common.{◌≡◌, ◌↔◌, ◌&&◌, ◌∷◌, ℕ, Bool, true, false, List, inl, inr, ⊎_elim, refl, sym, subst, ◌∙◌}
 use Rattle.std.proofs.lemmas.Bool.{and_from, and_parts, false≢true}
 use Rattle.std.proofs.lemmas.List.Elements.{All-cons, All-head, All-tail}
 use Rattle.rpki_files.specs.Contents.{CanBeShown}
 use Rattle.rpki_files.specs.FileSorts.{IsToldSort}
 use Rattle.rpki_files.specs.Files.{FileFields}
 use Rattle.rpki_files.specs.declared.sorts.Sort.{Sort}
-use Rattle.rpki_text.specs.Pages.{AppendsSome}
+use Rattle.std.specs.List.{AllByRecursion}
+use Rattle.serde_json.specs.Data.{Data}
+use Rattle.rpki_document.specs.Documents.{document_of}
+use Rattle.rpki_document.proofs.WholeValues.{json_whole}
 use Rattle.rpki_answers.specs.Outcomes.{IsOutcomeOfShow}
+use Rattle.rpki_answers.specs.ShownFiles.{IsFileItem, IsSubject, can_be_shown}
+use Rattle.rpki_answers.specs.VerdictTexts.{SaysOfEach}
+use Rattle.rpki_answers.specs.declared.showing.Options.{Options}
+use Rattle.rpki_answers.specs.declared.showing.subjects.Subject.{Subject}
+use Rattle.rpki_answers.specs.declared.showing.subjects.Subject.TheVariants as subject
+use Rattle.rpki_answers.proofs.WholeValues.{IsWhole}
+use Rattle.rpki_answers.proofs.WholeVerdicts.{AllWhole, each_whole, items_whole}
 use Rattle.rpki_answers.specs.RejectionDetails.{IsSortAt}
 use Rattle.rpki_answers.specs.declared.outcomes.Outcome.{Outcome}
 use Rattle.rpki_answers.specs.declared.outcomes.Outcome.TheVariants.{Success, Rejection}
-
--- a text of which something else holds too
-pub some_weaker : (P Q : List ℕ → Type 0) (old new : Option (List ℕ)) → ((text : List ℕ) → P text → Q text) → AppendsSome P old new → AppendsSome Q old new
-some_weaker P Q old new f p =
-    ⊎_elim (λ (some : (text : List ℕ) × P text × (new ≡ option_map (λ so_far. so_far ++ text) old)). inl (some.0, f some.0 some.1, some.2)) (λ (is : new ≡ None). inr is) p
 
 -- of an item before others
 pub flag_of_first : {X : Type 0} (P : X → Type 0) (x : X) (xs : List X) (has others : Bool) → (IsTrue has ↔ P x) → (IsTrue others ↔ All P xs) → IsTrue (others && has) ↔ All P (x ∷ xs)
@@ -38,3 +42,23 @@ sort_there files place file None here told = λ other there.
     let is : Some file ≡ Some other = sym here ∙ there in
     let same : file ≡ other = cc in
     subst (λ (f : FileFields). IsToldSort f.octets None) same told
+
+-- what is shown is what can be
+pub subject_shown : (strict : Bool) (octets : List ℕ) (s : Subject) → IsSubject strict octets s → IsTrue (can_be_shown s) ↔ CanBeShown strict octets
+subject_shown strict octets (subject.Certificate cert left) is = ((λ yes. inl (inl (cert.now, (is.0, is.1)))), (λ shown. refl))
+subject_shown strict octets (subject.List list left) is = ((λ yes. inl (inr (list.now.list, (is.0, is.1)))), (λ shown. refl))
+subject_shown strict octets (subject.Locator tal) is = ((λ yes. inr (tal.tal, is.1)), (λ shown. refl))
+subject_shown strict octets (subject.NotALocator error) is =
+    ((λ no. absurd (false≢true no)), (λ shown. absurd (⊎_elim is.0.0 is.1.2 shown)))
+subject_shown strict octets (subject.Unread rejection) is =
+    ((λ no. absurd (false≢true no)), (λ shown. absurd (⊎_elim is.0.0 is.0.1 shown)))
+
+-- the values of files have no floats
+item_whole : (options : Options) (file : FileFields) (items : List Data) → IsFileItem options file items → AllWhole items
+unfolding AllWhole
+item_whole options file items is =
+    let whole : IsWhole is.0 = subst IsWhole (sym is.1.2) (json_whole (document_of is.1.0)) in
+    subst (λ (l : List Data). AllByRecursion IsWhole l) (sym is.2) (whole, tt)
+
+pub files_whole : (options : Options) (files : List FileFields) (values : List Data) → SaysOfEach (IsFileItem options) files values → AllByRecursion IsWhole values
+files_whole options files values are = items_whole values (each_whole (IsFileItem options) (item_whole options) files values are)

@@ -8,9 +8,8 @@ use Rattle.rpki_files.specs.Files.{FileFields}
 use Rattle.rpki_verdicts.specs.GivenLocators.{LocatorFields}
 use Rattle.rpki_verdicts.specs.PathFiles.{QuestionFields}
 use Rattle.rpki_verdicts.specs.Trees.{TreeFields}
-use Rattle.rpki_answers.specs.JsonAnswers.{IsJsonOfFiles, is_single}
 use Rattle.rpki_answers.specs.JsonTrees.{IsTreeJson}
-use Rattle.rpki_answers.specs.ShownTexts.{IsTextOfFiles}
+use Rattle.rpki_answers.specs.ShownFiles.{IsJsonOfFiles, IsTextOfFiles, is_single}
 use Rattle.rpki_answers.specs.TreeTexts.{IsAcceptingFinding, IsTreeFinding, IsTreeText}
 use Rattle.rpki_answers.specs.Verdicts.{IsJsonOfPath, IsTextOfPath}
 use Rattle.rpki_text.specs.declared.command_line.arguments.Format.{Format}
@@ -84,7 +83,7 @@ IsTextBy _ outcome r now files lists locators text = ⊥
 abbrev pub IsJsonBy : Task → Outcome → RequestFields → Moment → List FileFields → List FileFields
     → List LocatorFields → List ℕ → Type 0
 IsJsonBy Show outcome r now files lists locators text =
-    IsJsonOfFiles r.format (is_single r.files) r.strict files text
+    IsJsonOfFiles r.format (is_single r.files) (options_of r now) files text
 IsJsonBy Validate Unread r now files lists locators text = text ≡ []
 IsJsonBy Validate outcome r now files lists locators text =
     IsJsonOfPath r.format (context IsSignedByRsa now r.strict) (question_of r now files lists locators) text

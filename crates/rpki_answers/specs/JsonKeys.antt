@@ -2,28 +2,12 @@
 use Rattle.std.specs.Prelude.{ℕ, List, [], ◌∷◌, ◌++◌, codes, Option, Some, None}
 use Rattle.serde_json.specs.Data.{Data, boolean}
 use Rattle.rpki_keys.specs.declared.form.KeyForm.{KeyForm}
-use Rattle.rpki_keys.specs.declared.form.KeyForm.TheVariants.{RsaKey, EvenModulus, NoRsaKey, Point, OffCurve, CompressedPoint, NoPoint}
+use Rattle.rpki_keys.specs.declared.form.KeyForm.TheVariants.{RsaKey}
 use Rattle.rpki_parts.specs.Keys.{KeyFields}
 use Rattle.rpki_text.specs.KeyTexts.{point_text}
+use Rattle.rpki_answers.specs.ToldValues.{algorithm_word, form_word}
 use Rattle.rpki_answers.specs.JsonValues.{Pair, count_json, member_of, text_member, text_member_if_any, object_of, flattened}
 use Rattle.rpki_text.specs.declared.keys.KeyAnswer.{KeyAnswer}
-
--- the algorithm of a key of this form
-abbrev pub algorithm_word : KeyForm → List ℕ
-algorithm_word (RsaKey count exponent) = codes "RSA"
-algorithm_word EvenModulus = codes "RSA"
-algorithm_word NoRsaKey = codes "RSA"
-algorithm_word _ = codes "ECDSA P-256"
-
--- the form of a key
-abbrev pub form_word : KeyForm → List ℕ
-form_word (RsaKey count exponent) = codes "RSAPublicKey"
-form_word EvenModulus = codes "even modulus"
-form_word NoRsaKey = codes "no RSAPublicKey"
-form_word Point = codes "uncompressed point"
-form_word OffCurve = codes "point off the curve"
-form_word CompressedPoint = codes "compressed point"
-form_word NoPoint = codes "no point"
 
 -- the exponent of an RSA key, where it is below 2^64
 abbrev pub exponent_member : Option ℕ → List Pair

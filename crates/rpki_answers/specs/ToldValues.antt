@@ -8,16 +8,18 @@ use Rattle.rpki_cert.specs.declared.inspect.Kind.TheVariants.{Anchor, Authority,
 use Rattle.rpki_der.specs.Texts.{serial_text, time_text}
 use Rattle.rpki_der.specs.Times.{Moment}
 use Rattle.rpki_der.specs.Timestamps.{timestamp}
-use Rattle.rpki_document.specs.Documents.{Told, text, words, count, flag, dated, Span, say, tell, show, keep, Node, line, further, inside, document_of, kept}
+use Rattle.rpki_document.specs.Documents.{Told, text, words, count, flag, dated, Span, say, tell, show, keep, Node, line, further, inside, document_of, kept, told_line}
+use Rattle.rpki_ext.specs.CertificateExtensions.{ExtensionFields}
 use Rattle.rpki_keys.specs.declared.form.KeyForm.{KeyForm}
-use Rattle.rpki_keys.specs.declared.form.KeyForm.TheVariants.{RsaKey}
+use Rattle.rpki_keys.specs.declared.form.KeyForm.TheVariants.{RsaKey, EvenModulus, NoRsaKey, Point, OffCurve, CompressedPoint, NoPoint}
 use Rattle.rpki_parts.specs.Keys.{KeyFields}
 use Rattle.rpki_text.specs.BlockLines.{family_address_text, family_text}
-use Rattle.rpki_text.specs.KeyTexts.{key_text, point_text}
+use Rattle.rpki_text.specs.KeyTexts.{point_text}
 use Rattle.rpki_text.specs.Pages.{colons_text}
+use Rattle.rpki_text.specs.Periods.{state_text}
 use Rattle.rpki_text.specs.declared.blocks.Family.{Family}
+use Rattle.rpki_text.specs.declared.blocks.Family.TheVariants.{V4, V6}
 use Rattle.rpki_text.specs.declared.keys.KeyAnswer.{KeyAnswer}
-use Rattle.rpki_answers.specs.JsonKeys.{algorithm_word, form_word}
 
 -- what a certificate is (RFC 6487 4, RFC 8209 3)
 abbrev pub kind_told : Kind → Told
@@ -39,7 +41,35 @@ moment_told m = dated (time_text m) (timestamp m)
 abbrev pub identifier_told : List ℕ → Told
 identifier_told octets = text (colons_text octets)
 
+-- the end of a period, and its state at a time in parentheses
+abbrev pub until_line : List ℕ → List ℕ → List ℕ → List ℕ → Moment → Moment → Moment → Node
+until_line label key ends ended from until now = line label (
+    tell key (moment_told until) ∷ say (codes " (") ∷ show (text (state_text ends ended from until now))
+    ∷ say (codes ")") ∷ [])
+
+-- that the signature of an object isn't checked where it is shown
+abbrev pub signature_line : Node
+signature_line = told_line (codes "Signature") (codes "signature") (
+    words (codes "not checked (rpki validate checks those of a path)") (codes "not checked"))
+
 -- ---- keys
+
+-- the algorithm of a key of this form
+abbrev pub algorithm_word : KeyForm → List ℕ
+algorithm_word (RsaKey count exponent) = codes "RSA"
+algorithm_word EvenModulus = codes "RSA"
+algorithm_word NoRsaKey = codes "RSA"
+algorithm_word _ = codes "ECDSA P-256"
+
+-- the form of a key
+abbrev pub form_word : KeyForm → List ℕ
+form_word (RsaKey count exponent) = codes "RSAPublicKey"
+form_word EvenModulus = codes "even modulus"
+form_word NoRsaKey = codes "no RSAPublicKey"
+form_word Point = codes "uncompressed point"
+form_word OffCurve = codes "point off the curve"
+form_word CompressedPoint = codes "compressed point"
+form_word NoPoint = codes "no point"
 
 -- the exponent of an RSA key, if it is below 2^64
 abbrev pub exponent_nodes : Option ℕ → List Node
@@ -51,18 +81,23 @@ abbrev pub form_nodes : KeyForm → List Node
 form_nodes (RsaKey bits exponent) = kept (codes "bits") (count bits) ∷ exponent_nodes exponent
 form_nodes _ = []
 
--- the point of a key on a curve
-abbrev pub point_nodes : Option (List ℕ) → List Node
-point_nodes None = []
-point_nodes (Some point) = kept (codes "point") (text point) ∷ []
+-- the point of a key on a curve, under a label or in no line
+abbrev pub point_node : Option (List ℕ) → Told → Node
+point_node None point = kept (codes "point") point
+point_node (Some label) point = told_line label (codes "point") point
 
--- a key of which this was found
-abbrev pub key_nodes : List ℕ → KeyFields → KeyAnswer → List Node
-key_nodes label key found =
+-- if it is one
+abbrev pub point_nodes : Option (List ℕ) → Option (List ℕ) → List Node
+point_nodes label None = []
+point_nodes label (Some point) = point_node label (text point) ∷ []
+
+-- a key of which this was found, and what is said of it
+abbrev pub key_nodes : List ℕ → Told → Option (List ℕ) → KeyFields → KeyAnswer → List Node
+key_nodes label said point_label key found =
     line label (
-    show (text (key_text found)) ∷ keep (codes "algorithm") (text (algorithm_word found.form))
+    show said ∷ keep (codes "algorithm") (text (algorithm_word found.form))
     ∷ keep (codes "form") (text (form_word found.form)) ∷ keep (codes "usable") (flag found.is_usable) ∷ [])
-    ∷ (form_nodes found.form ++ point_nodes (point_text key))
+    ∷ (form_nodes found.form ++ point_nodes point_label (point_text key))
 
 -- ---- resources
 
@@ -106,3 +141,10 @@ resource_nodes node label name missing = []
 resource_nodes node label name inherit = inside [] (document_of (
     line label (say (codes "inherited") ∷ keep name (text (codes "inherit")) ∷ []) ∷ [])) ∷ []
 resource_nodes node label name (blocks bs) = set_nodes node label bs
+
+-- what a certificate lists, under these labels
+abbrev pub listed_nodes : List ℕ → List ℕ → List ℕ → ExtensionFields → List Node
+listed_nodes numbers ipv4 ipv6 x =
+    resource_nodes numbers_node numbers (codes "as_inherit") x.as_resources
+    ++ (resource_nodes (addresses_node V4) ipv4 (codes "ip4_inherit") x.v4_resources
+    ++ resource_nodes (addresses_node V6) ipv6 (codes "ip6_inherit") x.v6_resources)

@@ -14,7 +14,7 @@ use Rattle.rpki_files.specs.Contents.{BeginsWithCertificate, IsList, StandBehind
 use Rattle.rpki_verdicts.specs.Reasons.{ReasonFields, IsReason}
 use Rattle.rpki_files.specs.Files.{FileFields}
 use Rattle.rpki_files.specs.LocatorFiles.{AreLocator}
-use Rattle.rpki_text.specs.Pages.{inner_name_text, line_feed, line as label_line}
+use Rattle.rpki_text.specs.Pages.{count_text, inner_name_text, line_feed, line as label_line}
 use Rattle.rpki_verdicts.specs.GivenLocators.{locator_octets}
 use Rattle.rpki_verdicts.specs.PathAnswers.{IsNoLocator, reason_of}
 use Rattle.rpki_verdicts.specs.Trees.{TreeFields, IsAccepting, IsTreeAnswer, accepted_count, certs_of}
@@ -22,7 +22,6 @@ use Rattle.rpki_verdicts.specs.declared.unordered.Tree.{Tree}
 use Rattle.rpki_verdicts.specs.declared.unordered.TreeAnswer.{TreeAnswer}
 use Rattle.rpki_verdicts.specs.declared.unordered.TreeAnswer.TheVariants.{NoAnchor, Walked}
 use Rattle.rpki_verdicts.specs.declared.unordered.WrongAnchor.{WrongAnchor}
-use Rattle.rpki_answers.specs.ShownTexts.{left_text}
 use Rattle.rpki_answers.specs.VerdictTexts.{behind_list_text, locators_text, moment_line, no_locator_text}
 use Rattle.rpki_answers.specs.declared.trees.TreeFinding.{TreeFinding}
 use Rattle.rpki_answers.specs.declared.trees.TreeFinding.TheVariants.{NotALocator, Answered}
@@ -65,6 +64,10 @@ SaysOfCertificate tree place file said =
     MatchBool (place == tree.anchor) (said ≡ codes "trust anchor") (SaysOfLine tree file (slice_get tree.lines place) said)
 
 -- ---- files
+
+-- that so many octets aren't read
+abbrev pub left_text : ℕ → List ℕ
+left_text left = count_text left (codes " octet") (codes " octets") ++ codes " not read"
 
 -- that so many octets stand behind a certificate, where some do
 abbrev pub behind_text : ℕ → List ℕ

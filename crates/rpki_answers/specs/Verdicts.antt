@@ -15,7 +15,7 @@ use Rattle.rpki_keys.specs.Locators.{NamedTal}
 use Rattle.rpki_keys.specs.declared.tal.tal_error.TalError.{TalError}
 use Rattle.rpki_parts.specs.Keys.{key_identifier}
 use Rattle.rpki_path.specs.declared.judging.Judged.{Judged}
-use Rattle.rpki_text.specs.KeyTexts.{IsKeyAnswer}
+use Rattle.rpki_text.specs.KeyTexts.{IsKeyAnswer, key_text}
 use Rattle.rpki_text.specs.Notes.{AreNotes}
 use Rattle.rpki_text.specs.NoteTexts.{note_name, note_section, note_text}
 use Rattle.rpki_text.specs.declared.blocks.Family.TheVariants.{V4, V6}
@@ -28,7 +28,7 @@ use Rattle.rpki_verdicts.specs.declared.path.Fault.{Fault}
 use Rattle.rpki_verdicts.specs.declared.path.Verdict.TheVariants.{Accepted, Rejected}
 use Rattle.rpki_answers.specs.JsonTexts.{value_text}
 use Rattle.rpki_answers.specs.RejectionDetails.{AreDetails, details_nodes}
-use Rattle.rpki_answers.specs.ToldValues.{addresses_node, identifier_told, key_nodes, kind_told, moment_told, numbers_node, resource_nodes, serial_told, set_nodes}
+use Rattle.rpki_answers.specs.ToldValues.{addresses_node, identifier_told, key_nodes, kind_told, listed_nodes, moment_told, numbers_node, serial_told, set_nodes}
 use Rattle.rpki_answers.specs.VerdictTexts.{IsFinding, Leaves, SaysOfEach, file_name_at}
 use Rattle.rpki_answers.specs.declared.details.Details.{Details}
 use Rattle.rpki_answers.specs.declared.verdicts.Finding.{Finding}
@@ -172,18 +172,13 @@ holder_nodes numbers ipv4 ipv6 holder =
     set_nodes numbers_node numbers holder.as_numbers
     ++ (set_nodes (addresses_node V4) ipv4 holder.v4 ++ set_nodes (addresses_node V6) ipv6 holder.v6)
 
--- the resources that a router's certificate lists
-abbrev pub router_resources : CertFields → List Node
-router_resources c =
-    resource_nodes numbers_node (codes "Router AS numbers") (codes "as_inherit") c.fields.extensions.as_resources
-    ++ (resource_nodes (addresses_node V4) (codes "Router IPv4") (codes "ip4_inherit") c.fields.extensions.v4_resources
-    ++ resource_nodes (addresses_node V6) (codes "Router IPv6") (codes "ip6_inherit") c.fields.extensions.v6_resources)
-
--- these, and its key, of which this was found (RFC 8209 3.1)
+-- the resources that a router's certificate lists, and its key, of which this was found (RFC 8209
+-- 3.1)
 abbrev pub router_nodes : CertFields → KeyAnswer → List Node
 router_nodes c key =
-    each (codes "subordinate_resources") (document_of (router_resources c))
-    ∷ inside (codes "key") (document_of (key_nodes (codes "Router key") c.fields.key key))
+    each (codes "subordinate_resources") (document_of (
+    listed_nodes (codes "Router AS numbers") (codes "Router IPv4") (codes "Router IPv6") c.fields.extensions))
+    ∷ inside (codes "key") (document_of (key_nodes (codes "Router key") (text (key_text key)) None c.fields.key key))
     ∷ told_line (codes "Router key identifier") (codes "ski") (identifier_told c.fields.extensions.subject_key_identifier)
     ∷ []
 

@@ -8,7 +8,7 @@ use rpki_cert::Cert;
 use rpki_der::Time;
 use rpki_document::{Leaf, Part, Piece, add_line, add_told};
 use rpki_files::{Object, Sort, describe};
-use rpki_parts::{KeyIdentifier, Rsync};
+use rpki_parts::{Https, KeyIdentifier, Rsync};
 use rpki_verdicts::{Fault, Question};
 use std::alloc::{AllocError, Global};
 
@@ -127,7 +127,8 @@ pub fn details_of<'q>(question: &Question<'q, '_>, fault: &Fault) -> Details<'q>
 
 // ---- in a document
 
-fn add_identifier<'p>(
+/// Adds the identifier of a key, if it is there.
+pub fn add_identifier<'p>(
     parts: &mut Vec<Part<'p>>,
     alloc: Global,
     label: &'p str,
@@ -166,12 +167,30 @@ fn add_own_key<'p>(
     }
 }
 
-fn add_uri<'p>(
+/// Adds where something is, if that is said.
+pub fn add_uri<'p>(
     parts: &mut Vec<Part<'p>>,
     alloc: Global,
     label: &'p str,
     key: &'p str,
     uri: Option<&'p Rsync>,
+) -> Result<(), AllocError>
+    ensures { let its = uri_nodes label.now key.now (option_map (λ it. it.now) uri.entry) in
+        OnOk result (Adds its parts.old.items parts.new.items) }
+{
+    match uri {
+        Some(uri) => add_told(parts, alloc, label, key, Leaf::Characters(uri.as_bytes())),
+        None => Ok(()),
+    }
+}
+
+/// Adds where something is, if that is said.
+pub fn add_https<'p>(
+    parts: &mut Vec<Part<'p>>,
+    alloc: Global,
+    label: &'p str,
+    key: &'p str,
+    uri: Option<&'p Https>,
 ) -> Result<(), AllocError>
     ensures { let its = uri_nodes label.now key.now (option_map (λ it. it.now) uri.entry) in
         OnOk result (Adds its parts.old.items parts.new.items) }
@@ -341,8 +360,12 @@ fn add_description(parts: &mut Vec<Part<'_>>, alloc: Global, sort: Sort) -> Resu
     add_told(parts, alloc, "To do", "advice", Leaf::Text(told.advice))
 }
 
-// Adds the lines of a sort, if there is one.
-fn add_sort(parts: &mut Vec<Part<'_>>, alloc: Global, sort: Option<Sort>) -> Result<(), AllocError>
+/// Adds what a file of this sort is, and what to do, if it is of one.
+pub fn add_sort(
+    parts: &mut Vec<Part<'_>>,
+    alloc: Global,
+    sort: Option<Sort>,
+) -> Result<(), AllocError>
     ensures { OnOk result (Adds (sort_nodes sort) parts.old.items parts.new.items) }
 {
     match sort {

@@ -4,8 +4,6 @@
 
 mod as_json;
 mod details;
-mod facts;
-mod notes;
 mod outcome_laws;
 mod outcomes;
 mod showing;
@@ -16,7 +14,6 @@ mod verdict_document;
 mod verdict_lines;
 mod verdicts;
 
-pub use as_json::answer_files;
 pub use outcome_laws::one_outcome;
 pub use outcomes::{Answer, Outcome, status_of};
 pub use showing::{Options, shown};

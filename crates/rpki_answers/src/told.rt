@@ -2,22 +2,23 @@
 ghost use Rattle.std.specs.Prelude.{◌≡◌, [], ◌∷◌, codes, option_map, IfOk, IfSome, OnOk};
 ghost use Rattle.rpki_document.specs.Building.{Adds, spans_of};
 ghost use Rattle.rpki_blocks.specs.Resources.{inherit};
-ghost use Rattle.rpki_document.specs.Documents.{flag, keep, line, say, show, text};
+ghost use Rattle.rpki_document.specs.Documents.{flag, keep, line, printed, say, show, text};
 ghost use Rattle.rpki_document.specs.Views.{leaf_view};
 ghost use Rattle.rpki_text.specs.BlockLines.{family_address_text, family_text};
-ghost use Rattle.rpki_text.specs.KeyTexts.{key_text, point_text};
-ghost use Rattle.rpki_answers.specs.ToldValues.{addresses_node, ends_node, exponent_nodes, form_nodes, identifier_told, key_nodes, kind_told, line_at, moment_told, numbers_node, point_nodes, resource_nodes, set_nodes, single_node};
+ghost use Rattle.rpki_parts.specs.NameTexts.{name_text};
+ghost use Rattle.rpki_text.specs.KeyTexts.{point_text};
+ghost use Rattle.rpki_answers.specs.ToldValues.{addresses_node, algorithm_word, ends_node, exponent_nodes, form_nodes, form_word, identifier_told, key_nodes, kind_told, line_at, listed_nodes, moment_told, numbers_node, point_node, point_nodes, resource_nodes, set_nodes, signature_line, single_node, until_line};
 
-use crate::as_json::key::{algorithm_word, form_word};
 use rpki_blocks::{Addr, AsBlock, AsBlocks, AsResources, IpBlock, IpBlocks, IpResources};
-use rpki_cert::Kind;
+use rpki_cert::{Kind, TbsCert};
 use rpki_der::Time;
-use rpki_document::{Leaf, Part, Piece, add_further, add_inside, add_kept, add_line};
+use rpki_document::{Leaf, Part, Piece, add_further, add_inside, add_kept, add_line, add_told};
 use rpki_keys::KeyForm;
-use rpki_parts::{KeyIdentifier, PublicKey, PublicKeyFormat};
+use rpki_parts::{KeyIdentifier, Name, PublicKey, PublicKeyFormat};
 use rpki_text::Colons;
 use rpki_text::blocks::Family;
 use rpki_text::keys::KeyAnswer;
+use rpki_text::moments::Period;
 use std::alloc::{AllocError, Global};
 use std::fmt;
 
@@ -58,7 +59,81 @@ pub fn identifier_leaf(alloc: Global, it: &KeyIdentifier) -> Result<Leaf<'static
     printed(alloc, &Colons(it.as_octets().as_slice()))
 }
 
+/// Makes a leaf of a distinguished name.
+pub fn name_leaf(alloc: Global, it: &Name) -> Result<Leaf<'static>, AllocError>
+    ensures { IfOk result (λ leaf. leaf_view leaf ≡ printed (name_text it.now)) }
+{
+    let made = format!(in alloc; "{it}")?;
+    Ok(Leaf::Printed(made))
+}
+
+/// Adds the end of a period, and its state.
+pub fn add_until<'p>(
+    parts: &mut Vec<Part<'p>>,
+    alloc: Global,
+    label: &'p str,
+    key: &'p str,
+    period: &Period,
+) -> Result<(), AllocError>
+    ensures { let p = period.now in
+        let its = until_line label.now key.now p.ends.now p.ended.now p.from p.until p.at in
+        OnOk result (Adds (its ∷ []) parts.old.items parts.new.items) }
+{
+    let until = moment_leaf(alloc, period.until)?;
+    let state = printed(alloc, period)?;
+    let pieces = vec![in alloc;
+        Piece::Tell(key, until),
+        Piece::Say(" ("),
+        Piece::Show(state),
+        Piece::Say(")"),
+    ]?;
+    add_line(parts, label, pieces)
+}
+
+/// Adds that the signature of an object isn't checked.
+pub fn add_signature(parts: &mut Vec<Part<'_>>, alloc: Global) -> Result<(), AllocError>
+    ensures { OnOk result (Adds (signature_line ∷ []) parts.old.items parts.new.items) }
+{
+    add_told(
+        parts,
+        alloc,
+        "Signature",
+        "signature",
+        Leaf::Words(
+            "not checked (rpki validate checks those of a path)",
+            "not checked",
+        ),
+    )
+}
+
 // ---- keys
+
+/// Returns the algorithm of a key of this form.
+pub fn algorithm_word(form: KeyForm) -> &'static str
+    ensures { result.now ≡ algorithm_word form }
+{
+    match form {
+        KeyForm::RsaKey { .. } | KeyForm::EvenModulus | KeyForm::NoRsaKey => "RSA",
+        KeyForm::Point | KeyForm::OffCurve | KeyForm::CompressedPoint | KeyForm::NoPoint => {
+            "ECDSA P-256"
+        }
+    }
+}
+
+/// Returns the form of a key.
+pub fn form_word(form: KeyForm) -> &'static str
+    ensures { result.now ≡ form_word form }
+{
+    match form {
+        KeyForm::RsaKey { .. } => "RSAPublicKey",
+        KeyForm::EvenModulus => "even modulus",
+        KeyForm::NoRsaKey => "no RSAPublicKey",
+        KeyForm::Point => "uncompressed point",
+        KeyForm::OffCurve => "point off the curve",
+        KeyForm::CompressedPoint => "compressed point",
+        KeyForm::NoPoint => "no point",
+    }
+}
 
 fn add_exponent(
     parts: &mut Vec<Part<'_>>,
@@ -101,16 +176,38 @@ fn add_form(parts: &mut Vec<Part<'_>>, alloc: Global, form: KeyForm) -> Result<(
     }
 }
 
-// The point of a key on a curve.
-fn add_point(parts: &mut Vec<Part<'_>>, alloc: Global, key: &PublicKey) -> Result<(), AllocError>
-    ensures { OnOk result
-        (Adds (point_nodes (point_text key.now)) parts.old.items parts.new.items) }
+// The point of a key on a curve, under a label or in no line.
+fn add_point_at<'p>(
+    parts: &mut Vec<Part<'p>>,
+    alloc: Global,
+    label: Option<&'p str>,
+    leaf: Leaf<'p>,
+) -> Result<(), AllocError>
+    ensures { let its = point_node (option_map (λ l. l.now) label.entry) (leaf_view leaf.entry) in
+        OnOk result (Adds (its ∷ []) parts.old.items parts.new.items) }
+{
+    match label {
+        Some(label) => add_told(parts, alloc, label, "point", leaf),
+        None => add_kept(parts, alloc, "point", leaf),
+    }
+}
+
+// If it is one.
+fn add_point<'p>(
+    parts: &mut Vec<Part<'p>>,
+    alloc: Global,
+    label: Option<&'p str>,
+    key: &PublicKey,
+) -> Result<(), AllocError>
+    ensures { let label = option_map (λ l. l.now) label.entry in
+        let its = point_nodes label (point_text key.now) in
+        OnOk result (Adds its parts.old.items parts.new.items) }
 {
     match key.algorithm() {
         PublicKeyFormat::Rsa => Ok(()),
         PublicKeyFormat::EcdsaP256 => {
             let leaf = printed(alloc, &Colons(key.bits()))?;
-            add_kept(parts, alloc, "point", leaf)
+            add_point_at(parts, alloc, label, leaf)
         }
     }
 }
@@ -122,40 +219,43 @@ fn add_key_line<'p>(
     label: &'p str,
     algorithm: &'p str,
     form: &'p str,
-    found: &KeyAnswer,
+    said: Leaf<'p>,
+    is_usable: bool,
 ) -> Result<(), AllocError>
-    ensures { let spans = show (text (key_text found.now))
+    ensures { let spans = show (leaf_view said.entry)
         ∷ keep (codes "algorithm") (text algorithm.now)
         ∷ keep (codes "form") (text form.now)
-        ∷ keep (codes "usable") (flag found.now.is_usable) ∷ [] in
+        ∷ keep (codes "usable") (flag is_usable) ∷ [] in
         OnOk result (Adds (line label.now spans ∷ []) parts.old.items parts.new.items) }
 {
-    let leaf = printed(alloc, found)?;
     let pieces = vec![in alloc;
-        Piece::Show(leaf),
+        Piece::Show(said),
         Piece::Keep("algorithm", Leaf::Text(algorithm)),
         Piece::Keep("form", Leaf::Text(form)),
-        Piece::Keep("usable", Leaf::Flag(found.is_usable)),
+        Piece::Keep("usable", Leaf::Flag(is_usable)),
     ]?;
     add_line(parts, label, pieces)
 }
 
-/// Adds a key, of which this was found.
+/// Adds a key, of which this was found and is said; its point is in a line only under a label.
 pub fn add_key<'p>(
     parts: &mut Vec<Part<'p>>,
     alloc: Global,
     label: &'p str,
+    said: Leaf<'p>,
+    point_label: Option<&'p str>,
     key: &PublicKey,
     found: &KeyAnswer,
 ) -> Result<(), AllocError>
-    ensures { let its = key_nodes label.now key.now found.now in
+    ensures { let point = option_map (λ l. l.now) point_label.entry in
+        let its = key_nodes label.now (leaf_view said.entry) point key.now found.now in
         OnOk result (Adds its parts.old.items parts.new.items) }
 {
     let algorithm = algorithm_word(found.form);
     let form = form_word(found.form);
-    add_key_line(parts, alloc, label, algorithm, form, found)?;
+    add_key_line(parts, alloc, label, algorithm, form, said, found.is_usable)?;
     add_form(parts, alloc, found.form)?;
-    add_point(parts, alloc, key)
+    add_point(parts, alloc, point_label, key)
 }
 
 // ---- resources
@@ -347,8 +447,8 @@ fn add_inherited<'p>(
     add_inside(parts, "", own)
 }
 
-/// Adds what a certificate lists of AS numbers.
-pub fn add_as_resources<'p>(
+// What a certificate lists of AS numbers.
+fn add_as_resources<'p>(
     parts: &mut Vec<Part<'p>>,
     alloc: Global,
     label: &'p str,
@@ -364,8 +464,8 @@ pub fn add_as_resources<'p>(
     }
 }
 
-/// Adds what a certificate lists of a family of addresses.
-pub fn add_ip_resources<'p>(
+// What it lists of a family of addresses.
+fn add_ip_resources<'p>(
     parts: &mut Vec<Part<'p>>,
     alloc: Global,
     label: &'p str,
@@ -381,4 +481,24 @@ pub fn add_ip_resources<'p>(
         None if listed.is_inherited() => add_inherited(parts, alloc, label, name),
         None => Ok(()),
     }
+}
+
+/// Adds what a certificate lists, under these labels.
+pub fn add_listed<'p>(
+    parts: &mut Vec<Part<'p>>,
+    alloc: Global,
+    numbers: &'p str,
+    ipv4: &'p str,
+    ipv6: &'p str,
+    fields: &TbsCert,
+) -> Result<(), AllocError>
+    ensures { let x = fields.now.extensions in
+        let its = listed_nodes numbers.now ipv4.now ipv6.now x in
+        OnOk result (Adds its parts.old.items parts.new.items) }
+{
+    add_as_resources(parts, alloc, numbers, fields.as_resources())?;
+    let v4 = fields.v4_resources();
+    add_ip_resources(parts, alloc, ipv4, "ip4_inherit", Family::V4, v4)?;
+    let v6 = fields.v6_resources();
+    add_ip_resources(parts, alloc, ipv6, "ip6_inherit", Family::V6, v6)
 }

@@ -8,11 +8,9 @@ ghost use Rattle.std.specs.Fmt.{decimal};
 ghost use Rattle.rpki_verdicts.specs.PathAnswers.{reason_of};
 ghost use Rattle.rpki_verdicts.specs.Trees.{asked_of};
 ghost use Rattle.rpki_verdicts.specs.declared.unordered.TreeAnswer.TheVariants.{Walked};
-ghost use Rattle.rpki_answers.specs.ShownTexts.{left_text};
-ghost use Rattle.rpki_answers.specs.TreeTexts.{AreFileLines, IsAnswerText, IsFileLine, IsTreeText, SaysOfBegun, SaysOfCertificate, SaysOfFile, SaysOfFront, SaysOfLine, accepted_text, behind_text, end_text, ended_text, further_text, name_text_at, neither_text, no_anchor_text, rejection_text, since_text, unasked_text, unseen_text, wrong_anchor_line};
+ghost use Rattle.rpki_answers.specs.TreeTexts.{AreFileLines, IsAnswerText, IsFileLine, IsTreeText, SaysOfBegun, SaysOfCertificate, SaysOfFile, SaysOfFront, SaysOfLine, accepted_text, behind_text, end_text, ended_text, further_text, left_text, name_text_at, neither_text, no_anchor_text, rejection_text, since_text, unasked_text, unseen_text, wrong_anchor_line};
 ghost use Rattle.rpki_answers.specs.VerdictTexts.{locators_text, moment_line, no_locator_text};
 
-use crate::showing::left_over;
 use crate::trees::TreeFinding;
 use crate::verdict_lines::{
     print_behind_list, print_moment, print_no_locator, print_other_locators,
@@ -116,6 +114,14 @@ fn print_certificate(page: &mut Page, tree: &Tree<'_, '_>, place: usize, file: &
         return;
     }
     print_line(page, tree, file, tree.lines.as_slice().get(place));
+}
+
+// That so many octets aren't read.
+fn left_over(page: &mut Page, left: usize)
+    ensures { Appends page.old (left_text left) page.new }
+{
+    page.count(left as u64, " octet", " octets");
+    page.text(" not read");
 }
 
 // That so many octets stand behind a certificate.

@@ -8,13 +8,13 @@ ghost use Rattle.rpki_document.specs.Views.{leaf_view};
 ghost use Rattle.rpki_parts.specs.Keys.{key_identifier};
 ghost use Rattle.rpki_text.specs.KeyTexts.{IsKeyAnswer};
 ghost use Rattle.rpki_verdicts.specs.GivenLocators.{IsRead};
-ghost use Rattle.rpki_answers.specs.Verdicts.{AreAcceptance, AreCertificates, AreFiles, AreHeld, AreNoted, AreRejection, IsCertificateNode, IsClosing, IsLeft, IsNotAList, IsOpening, IsTal, IsVerdict, accepted_head, are_some, asked_nodes, behind_certificate, behind_list, certificate_node, checked_nodes, fault_spans, faulty_file, holder_nodes, last_name, left_node, left_nodes, not_a_locator, not_locators, note_node, noted_node, noted_nodes, other_node, place_spans, read_tal, reason_spans, rejected_head, rejected_nodes, revocation_told, router_nodes, router_resources, step_line, tal_line, time_node, unchecked, unchecked_anchor, unchecked_names, unchecked_nodes, unjudged_nodes, uris_word};
+ghost use Rattle.rpki_answers.specs.Verdicts.{AreAcceptance, AreCertificates, AreFiles, AreHeld, AreNoted, AreRejection, IsCertificateNode, IsClosing, IsLeft, IsNotAList, IsOpening, IsTal, IsVerdict, accepted_head, are_some, asked_nodes, behind_certificate, behind_list, certificate_node, checked_nodes, fault_spans, faulty_file, holder_nodes, last_name, left_node, left_nodes, not_a_locator, not_locators, note_node, noted_node, noted_nodes, other_node, place_spans, read_tal, reason_spans, rejected_head, rejected_nodes, revocation_told, router_nodes, step_line, tal_line, time_node, unchecked, unchecked_anchor, unchecked_names, unchecked_nodes, unjudged_nodes, uris_word};
 ghost use Rattle.rpki_answers.specs.VerdictTexts.{SaysOfEach, file_name_at};
 
 use crate::details::{Details, add_details, details_of};
 use crate::told::{
-    add_addresses, add_as_resources, add_ip_resources, add_key, add_numbers, identifier_leaf,
-    kind_leaf, moment_leaf, printed,
+    add_addresses, add_key, add_listed, add_numbers, identifier_leaf, kind_leaf, moment_leaf,
+    printed,
 };
 use crate::verdicts::Finding;
 use rpki_cert::{Cert, Kind, ResourceCert, kind_of};
@@ -490,50 +490,28 @@ fn add_holder<'p>(
     add_addresses(parts, alloc, ipv6, Family::V6, holder.v6_resources())
 }
 
-// What a router's certificate lists.
-fn add_router_resources(
-    parts: &mut Vec<Part<'_>>,
-    alloc: Global,
-    cert: &Cert,
-) -> Result<(), AllocError>
-    ensures { OnOk result (Adds (router_resources cert.now) parts.old.items parts.new.items) }
-{
-    add_as_resources(
-        parts,
-        alloc,
-        "Router AS numbers",
-        cert.as_tbs().as_resources(),
-    )?;
-    add_ip_resources(
-        parts,
-        alloc,
-        "Router IPv4",
-        "ip4_inherit",
-        Family::V4,
-        cert.as_tbs().v4_resources(),
-    )?;
-    add_ip_resources(
-        parts,
-        alloc,
-        "Router IPv6",
-        "ip6_inherit",
-        Family::V6,
-        cert.as_tbs().v6_resources(),
-    )
-}
-
 fn add_router(parts: &mut Vec<Part<'_>>, alloc: Global, cert: &Cert) -> Result<(), AllocError>
     ensures { OnOk result ((key : _) × IsKeyAnswer cert.now.fields.key key
         × Adds (router_nodes cert.now key) parts.old.items parts.new.items) }
 {
     let mut listed = Vec::new(alloc);
-    add_router_resources(&mut listed, alloc, cert)?;
+    let fields = cert.as_tbs();
+    add_listed(
+        &mut listed,
+        alloc,
+        "Router AS numbers",
+        "Router IPv4",
+        "Router IPv6",
+        fields,
+    )?;
     add_each(parts, "subordinate_resources", listed)?;
-    let key = cert.as_tbs().subject_public_key_info();
+    let key = fields.subject_public_key_info();
+    let found = answer_of(key);
+    let said = printed(alloc, &found)?;
     let mut told = Vec::new(alloc);
-    add_key(&mut told, alloc, "Router key", key, &answer_of(key))?;
+    add_key(&mut told, alloc, "Router key", said, None, key, &found)?;
     add_inside(parts, "key", told)?;
-    let leaf = identifier_leaf(alloc, &cert.as_tbs().subject_key_identifier())?;
+    let leaf = identifier_leaf(alloc, &fields.subject_key_identifier())?;
     add_told(parts, alloc, "Router key identifier", "ski", leaf)
 }
 

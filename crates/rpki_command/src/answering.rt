@@ -5,17 +5,16 @@ ghost use Rattle.rpki_keys.specs.RsaSignatures.{IsSignedByRsa};
 ghost use Rattle.rpki_cert.specs.Verification.{context};
 ghost use Rattle.rpki_answers.specs.AnswerTexts.{IsJsonBy, IsTextBy, IsTreeJsonBy, IsTreeTextBy, options_of, question_of, tree_question_of};
 ghost use Rattle.rpki_text.specs.CommandLines.Views.{fields_of};
-ghost use Rattle.rpki_answers.specs.JsonAnswers.{IsJsonOfFiles, is_single};
 ghost use Rattle.rpki_answers.specs.Outcomes.{IsOutcomeOfTree, AreAllRead, EndsBy, IsOutcomeOfShow, IsOutcomeOfValidate};
 ghost use Rattle.rpki_command.specs.NamedFiles.{AreGiven, AreNamed};
-ghost use Rattle.rpki_answers.specs.ShownTexts.{IsTextOfFiles};
+ghost use Rattle.rpki_answers.specs.ShownFiles.{IsJsonOfFiles, IsTextOfFiles, is_single};
 ghost use Rattle.rpki_answers.specs.Verdicts.{IsJsonOfPath, IsTextOfPath};
 ghost use Rattle.rpki_files.specs.Files.{FileFields, contents, file_names};
 ghost use Rattle.rpki_verdicts.specs.GivenLocators.{IsRead, LocatorFields, locator_files};
 ghost use Rattle.rpki_verdicts.specs.PathFiles.{demands_of};
 ghost use Rattle.rpki_verdicts.specs.Trees.{asked_of};
 
-use rpki_answers::{Answer, Options, Outcome, answer_files, shown, treed, validated};
+use rpki_answers::{Answer, Options, Outcome, shown, treed, validated};
 use rpki_der::Time;
 use rpki_files::{BareObject, Object};
 use rpki_text::command_line::{Format, Request, Task};
@@ -63,19 +62,16 @@ fn shown_as(
         request.now.format ≡ Format.Text
         → IfOk result (λ answer. IsTextOfFiles options files.now (string_bytes answer.text)) }
     ensures json { let r = fields_of request.now in request.now.format ≢ Format.Text
-        → IfOk result (λ answer. IsJsonOfFiles r.format (is_single r.files) r.strict
+        → IfOk result (λ answer. IsJsonOfFiles r.format (is_single r.files) (options_of r now)
         files.now (string_bytes answer.text)) }
 {
-    if request.format == Format::Text {
-        let options = Options {
-            at: now,
-            strict: request.strict,
-            all: request.all,
-        };
-        return shown(alloc, files, &options);
-    }
+    let options = Options {
+        at: now,
+        strict: request.strict,
+        all: request.all,
+    };
     let is_single = is_single(&request.files);
-    answer_files(alloc, files, request.strict, request.format, is_single)
+    shown(alloc, files, &options, request.format, is_single)
 }
 
 // Shows the files that could be read. The outcome is theirs, where all could be.
@@ -93,7 +89,7 @@ fn show(
         request.now.format ≡ Format.Text
         → IfOk result (λ answer. IsTextOfFiles options files.now (string_bytes answer.text)) }
     ensures json { let r = fields_of request.now in request.now.format ≢ Format.Text
-        → IfOk result (λ answer. IsJsonOfFiles r.format (is_single r.files) r.strict
+        → IfOk result (λ answer. IsJsonOfFiles r.format (is_single r.files) (options_of r now)
         files.now (string_bytes answer.text)) }
 {
     let answer = shown_as(alloc, request, now, files)?;

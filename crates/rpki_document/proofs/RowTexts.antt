@@ -8,8 +8,8 @@ use Rattle.std.proofs.lemmas.Bool.Decides.{nat_tests}
 use Rattle.std.proofs.lemmas.Fmt.{decimal_by_steps}
 use Rattle.std.proofs.lemmas.List.{append-nil, append_cancel_left}
 use Rattle.std.proofs.lemmas.Grind.{flat_map-append}
-use Rattle.rpki_document.specs.Documents.{Told, text, inner, characters, words, count, octets, flag, dated, Span, say, tell, show, keep, Node, head, line, further, unsaid, inside, each, Document, nothing, part, told_text, span_text, spans_text, node_text, document_text}
-use Rattle.rpki_document.specs.Texts.{AreVisible, IsUnseparated, is_visible, stands, separates, escaped, digit, two_digits, colons_text, character_text, characters_text, inner_character_text, inner_text, flag_text, pad, further_margin, line_feed}
+use Rattle.rpki_document.specs.Documents.{Told, text, inner, printed, characters, words, count, octets, flag, dated, Span, say, tell, show, keep, Node, head, line, further, unsaid, inside, each, Document, nothing, part, told_text, span_text, spans_text, node_text, document_text}
+use Rattle.rpki_document.specs.Texts.{AreVisible, IsUnseparated, is_visible, stands, separates, escaped, digit, two_digits, colons_text, character_text, characters_text, inner_character_text, inner_text, printed_character_text, printed_text, flag_text, pad, further_margin, line_feed}
 use Rattle.rpki_document.specs.Lines.{Row, labelled, under, row_text, node_rows, document_rows, AreOctets, BeginsPlain, IsTold, IsSpan, IsNode, IsMade, IsRow}
 
 -- ---- visible texts
@@ -53,6 +53,12 @@ inner_visible (o ∷ os) are =
     (visible_by (stands o && not (separates o)) o (inner_visible_one o) are.0)
     (inner_visible os are.1)
 
+printed_visible : (os : List ℕ) → AreOctets os → AreVisible (printed_text os)
+printed_visible [] are = tt
+printed_visible (o ∷ os) are =
+    both_visible (printed_character_text o) (printed_text os) (visible_by (is_visible o) o (λ e. e) are.0)
+    (printed_visible os are.1)
+
 further_visible : (os : List ℕ) → AreOctets os → AreVisible (flat_map (λ more. 58 ∷ two_digits more) os)
 further_visible [] are = tt
 further_visible (o ∷ os) are =
@@ -77,6 +83,7 @@ flag_visible false = (refl, (refl, tt))
 told_visible : (told : Told) → IsTold told → AreVisible (told_text told)
 told_visible (text t) is = characters_visible t is
 told_visible (inner t) is = inner_visible t is
+told_visible (printed t) is = printed_visible t is
 told_visible (characters os) is = characters_visible os is
 told_visible (words said word) is = characters_visible said is
 told_visible (count n) is = decimal_visible n is

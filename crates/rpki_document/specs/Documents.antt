@@ -5,16 +5,17 @@ use Rattle.std.specs.Prelude.{ℕ, ℤ, Bool, List, [], ◌∷◌, ◌++◌}
 use Rattle.serde_json.specs.Data.{Data, boolean, number, unsigned, string, array, object, Members, no_members, put}
 use Rattle.serde_json.specs.Find.{of_integer}
 use Rattle.serde_json.specs.View.{items_of}
-use Rattle.rpki_document.specs.Texts.{characters_text, inner_text, colons_text, flag_text, label_text, head_text, further_margin, line_feed}
+use Rattle.rpki_document.specs.Texts.{characters_text, inner_text, printed_text, colons_text, flag_text, label_text, head_text, further_margin, line_feed}
 
 -- ---- values
 
--- a text that anyone may have chosen; such a text behind which more follows in its line; octets as
--- characters, in both forms; a word for a person and one for a program; a count; octets; whether
--- something is so; a number that is words for a person, as a time is
+-- a text that anyone may have chosen; such a text behind which more follows in its line; a text that
+-- has escapes of its own; octets as characters, in both forms; a word for a person and one for a
+-- program; a count; octets; whether something is so; a number that is words for a person, as a time is
 pub data Told : Type 0 where
   text : List ℕ → Told
   inner : List ℕ → Told
+  printed : List ℕ → Told
   characters : List ℕ → Told
   words : List ℕ → List ℕ → Told
   count : ℕ → Told
@@ -26,6 +27,7 @@ pub data Told : Type 0 where
 abbrev pub told_text : Told → List ℕ
 told_text (text t) = characters_text t
 told_text (inner t) = inner_text t
+told_text (printed t) = printed_text t
 told_text (characters os) = characters_text os
 told_text (words said word) = characters_text said
 told_text (count n) = decimal n
@@ -36,6 +38,7 @@ told_text (dated said n) = characters_text said
 abbrev pub told_json : Told → Data
 told_json (text t) = string t
 told_json (inner t) = string t
+told_json (printed t) = string t
 told_json (characters os) = string (characters_text os)
 told_json (words said word) = string word
 told_json (count n) = number (unsigned n)

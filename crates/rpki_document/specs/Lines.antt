@@ -1,7 +1,7 @@
 -- The lines of a document's text, and what keeps them apart.
 use Rattle.std.specs.List.{AllByRecursion}
 use Rattle.std.specs.Prelude.{ℕ, ◌<◌, ◌^◌, ◌≢◌, List, [], ◌∷◌, ◌++◌}
-use Rattle.rpki_document.specs.Documents.{Told, text, inner, characters, words, count, octets, flag, dated, Span, say, tell, show, keep, Node, head, line, further, unsaid, inside, each, Document, nothing, part, spans_text}
+use Rattle.rpki_document.specs.Documents.{Told, text, inner, printed, characters, words, count, octets, flag, dated, Span, say, tell, show, keep, Node, head, line, further, unsaid, inside, each, Document, nothing, part, spans_text}
 use Rattle.rpki_document.specs.Texts.{AreVisible, pad, further_margin, line_feed}
 
 -- a line: its label and what stands behind its colon, or what it says under the label above
@@ -43,6 +43,7 @@ IsLabel label = BeginsPlain label × AllByRecursion (λ o. o ≢ 58) label
 abbrev pub IsTold : Told → Type 0
 IsTold (text t) = AreOctets t
 IsTold (inner t) = AreOctets t
+IsTold (printed t) = AreOctets t
 IsTold (characters os) = AreOctets os
 IsTold (words said word) = AreOctets said
 IsTold (count n) = n < 2 ^ 64

@@ -37,6 +37,14 @@ character_text octet = if stands octet then octet ∷ [] else escaped octet
 abbrev pub characters_text : List ℕ → List ℕ
 characters_text octets = flat_map character_text octets
 
+-- an octet of a text that has escapes of its own: its backslashes stand too
+abbrev pub printed_character_text : ℕ → List ℕ
+printed_character_text octet = if is_visible octet then octet ∷ [] else escaped octet
+
+-- octets as such characters
+abbrev pub printed_text : List ℕ → List ℕ
+printed_text octets = flat_map printed_character_text octets
+
 -- what sets the parts of a line apart: a colon, a comma, `>`, an opening parenthesis
 abbrev pub separates : ℕ → Bool
 separates octet = octet == 58 || octet == 44 || octet == 62 || octet == 40

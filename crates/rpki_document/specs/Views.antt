@@ -23,6 +23,7 @@ leaf_view (leaf.Count n) = doc.count n
 leaf_view (leaf.Octets os) = doc.octets os.now
 leaf_view (leaf.Flag is_so) = doc.flag is_so
 leaf_view (leaf.Own t) = doc.text (string_bytes t)
+leaf_view (leaf.Printed t) = doc.printed (string_bytes t)
 leaf_view (leaf.Dated said n) = doc.dated (string_bytes said) n
 
 abbrev pub piece_view : Piece → Span

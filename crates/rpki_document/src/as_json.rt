@@ -84,6 +84,7 @@ fn leaf_value(alloc: Global, leaf: &Leaf<'_>) -> Result<Value, AllocError>
         Leaf::Octets(octets) => octets_value(alloc, *octets),
         Leaf::Flag(is_so) => Ok(Value::from(*is_so)),
         Leaf::Own(text) => Value::try_from_str(alloc, text.as_str()),
+        Leaf::Printed(text) => Value::try_from_str(alloc, text.as_str()),
         Leaf::Dated(_, n) => Ok(Value::from(*n)),
     }
 }

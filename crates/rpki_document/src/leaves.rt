@@ -2,7 +2,7 @@
 ghost use Rattle.std.specs.Prelude.{◌≡◌, Some, replicate};
 ghost use Rattle.std.specs.Fmt.{WritesOnOk};
 ghost use Rattle.rpki_document.specs.Documents.{told_text};
-ghost use Rattle.rpki_document.specs.Texts.{two_digits, colons_text, character_text, characters_text, escaped, flag_text, head_text, inner_character_text, inner_text, label_text, separates};
+ghost use Rattle.rpki_document.specs.Texts.{two_digits, colons_text, character_text, characters_text, escaped, flag_text, head_text, inner_character_text, inner_text, label_text, printed_character_text, printed_text, separates};
 ghost use Rattle.rpki_document.specs.Views.{leaf_view};
 
 use crate::parts::Leaf;
@@ -82,6 +82,25 @@ fn write_inner<W: fmt::Write>(f: &mut fmt::Formatter<W>, octets: &[u8]) -> fmt::
     Ok(())
 }
 
+fn write_printed_character<W: fmt::Write>(f: &mut fmt::Formatter<W>, octet: u8) -> fmt::Result
+    ensures { WritesOnOk W.write_str_gives f.old result (printed_character_text octet) f.new }
+{
+    if octet > 31 && octet < 127 {
+        f.write_char(char::from(octet))
+    } else {
+        write_escaped(f, octet)
+    }
+}
+
+fn write_printed<W: fmt::Write>(f: &mut fmt::Formatter<W>, octets: &[u8]) -> fmt::Result
+    ensures { WritesOnOk W.write_str_gives f.old result (printed_text octets.now) f.new }
+{
+    for octet in octets {
+        write_printed_character(f, *octet)?;
+    }
+    Ok(())
+}
+
 fn write_flag<W: fmt::Write>(f: &mut fmt::Formatter<W>, is_so: bool) -> fmt::Result
     ensures { WritesOnOk W.write_str_gives f.old result (flag_text is_so) f.new }
 {
@@ -105,6 +124,7 @@ impl fmt::Display for Leaf<'_> {
             Leaf::Octets(octets) => write_colons(f, octets),
             Leaf::Flag(is_so) => write_flag(f, *is_so),
             Leaf::Own(text) => write_characters(f, text.as_bytes()),
+            Leaf::Printed(text) => write_printed(f, text.as_bytes()),
             Leaf::Dated(said, _) => write_characters(f, said.as_bytes()),
         }
     }

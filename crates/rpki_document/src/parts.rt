@@ -20,6 +20,9 @@ pub enum Leaf<'a> {
     Flag(bool),
     /// A text that was made for the document, the same in both forms.
     Own(String),
+    /// Such a text that has escapes of its own, as a distinguished name has: in a line its backslashes
+    /// are printed as they are.
+    Printed(String),
     /// A number, and the words for a person, such as a time and its seconds.
     Dated(String, i64),
 }

@@ -6,7 +6,6 @@ mod CountedValues
 mod DigitPlaces
 mod KindAnswers
 pub mod OneMoment
-mod WrittenLines
 -- ---- notes and facts
 mod LongSerials
 mod OneValues

@@ -6,7 +6,6 @@ pub mod Pages
 pub mod IdentifierTexts
 pub mod Periods
 pub mod BlockLines
-pub mod ListTexts
 pub mod KeyTexts
 pub mod CertificateTexts
 -- ---- notes and facts

@@ -2,7 +2,7 @@
 use Rattle.std.specs.Fmt.{decimal}
 use Rattle.std.specs.List.{AllByRecursion, flat_map}
 use Rattle.std.specs.Option.{option_map}
-use Rattle.std.specs.Prelude.{◌≡◌, ℕ, ◌-◌, ◌==◌, ◌&&◌, ◌||◌, Bool, not, IsTrue, if◌then◌else◌, List, [], ◌∷◌, ◌++◌, length, replicate, codes, Option, Some, None, ◌⊎◌}
+use Rattle.std.specs.Prelude.{◌≡◌, ℕ, ◌-◌, ◌==◌, ◌&&◌, ◌||◌, Bool, not, IsTrue, if◌then◌else◌, List, [], ◌∷◌, ◌++◌, length, replicate, codes, Option, None, ◌⊎◌}
 use Rattle.rpki_parts.specs.NameTexts.{is_visible}
 use Rattle.rpki_der.specs.Texts.{hexadecimal}
 
@@ -30,15 +30,6 @@ label_text label = label ++ codes ":" ++ replicate (25 - length label) 32
 -- a line: a label and its value
 unfoldable pub line : List ℕ → List ℕ → List ℕ
 line label value = label_text label ++ value ++ line_feed
-
--- a further line of the label above it
-unfoldable pub further_line : List ℕ → List ℕ
-further_line value = replicate 26 32 ++ value ++ line_feed
-
--- a line, where there is a value
-abbrev pub line_if_any : List ℕ → Option (List ℕ) → List ℕ
-line_if_any label None = []
-line_if_any label (Some value) = line label value
 
 -- ---- values
 

@@ -28,8 +28,3 @@ state_text ends ended from until now =
     if is_before until now then ended ++ (codes " " ++ (duration_text (seconds_between now until) ++ codes " ago"))
     else (if is_before now from then codes "not valid before " ++ time_text from
     else ends ++ (codes " in " ++ duration_text (seconds_between until now)))
-
--- the end of a period, and its state in parentheses
-unfoldable pub end_text : List ℕ → List ℕ → Moment → Moment → Moment → List ℕ
-end_text ends ended from until now =
-    time_text until ++ (codes " (" ++ (state_text ends ended from until now ++ codes ")"))

@@ -1,5 +1,5 @@
-//! Texts for a person: certificates and CRLs as lines of labels and values, notes on what a
-//! standard forbids (`notes`), and the requests of the command line (`command_line`).
+//! Texts for a person, what is found of certificates and keys, notes on what a standard forbids
+//! (`notes`), and the requests of the command line (`command_line`).
 #![tactic(auto)]
 
 pub mod blocks;
@@ -9,12 +9,10 @@ mod identifiers;
 pub mod keys;
 pub mod laws;
 mod lines;
-pub mod list;
 pub mod moments;
-pub mod names;
 pub mod notes;
 mod page;
 
 pub use identifiers::Identifier;
-pub use lines::{Characters, Colons, FileName, InnerName, write_line};
+pub use lines::{Characters, Colons, FileName, InnerName};
 pub use page::Page;

@@ -1,8 +1,8 @@
 //! Lines: labels, and values from column 26 on.
-ghost use Rattle.std.specs.Prelude.{◌≡◌, [], ◌∷◌, Some, IfSome, replicate};
+ghost use Rattle.std.specs.Prelude.{◌≡◌, [], ◌∷◌, Some, replicate};
 ghost use Rattle.std.specs.Fmt.{WritesOnOk};
 ghost use Rattle.rpki_der.specs.Texts.{hexadecimal};
-ghost use Rattle.rpki_text.specs.Pages.{character_text, characters_text, colons_text, count_text, file_name_text, further_line, inner_character_text, inner_name_text, label_text, line, separates};
+ghost use Rattle.rpki_text.specs.Pages.{character_text, characters_text, colons_text, count_text, file_name_text, inner_character_text, inner_name_text, label_text, separates};
 
 use std::fmt;
 
@@ -23,33 +23,6 @@ fn write_label<W: fmt::Write>(f: &mut fmt::Formatter<W>, label: &str) -> fmt::Re
     f.write_str(label)?;
     f.write_str(":")?;
     write_spaces(f, 25usize.saturating_sub(label.len()))
-}
-
-/// Writes a line: a label and the text of a value.
-#[tactic(auto, unfolding(crate::specs::Pages::line))]
-pub fn write_line<W: fmt::Write, T: fmt::Display>(
-    f: &mut fmt::Formatter<W>,
-    label: &str,
-    value: &T,
-) -> fmt::Result
-    ensures { IfSome (T.output value.now) (λ text.
-        WritesOnOk W.write_str_gives f.old result (line label.now text) f.new) }
-{
-    write_label(f, label)?;
-    write!(f, "{value}\n")
-}
-
-/// Writes a further line under the label above it.
-#[tactic(auto, unfolding(crate::specs::Pages::further_line))]
-pub fn write_further_line<W: fmt::Write, T: fmt::Display>(
-    f: &mut fmt::Formatter<W>,
-    value: &T,
-) -> fmt::Result
-    ensures { IfSome (T.output value.now) (λ text.
-        WritesOnOk W.write_str_gives f.old result (further_line text) f.new) }
-{
-    write_spaces(f, 26)?;
-    write!(f, "{value}\n")
 }
 
 /// A label, padded to the column of values.

@@ -1,11 +1,10 @@
 //! Times as text and as seconds, and the text of a period at a time.
 ghost use Rattle.std.specs.Prelude.{◌≡◌, ◌↔◌, ◌<◌, ◌^◌, Some, IfSome, IfNone, IsTrue, length, pos};
-ghost use Rattle.std.specs.Fmt.{WritesOnOk};
 ghost use Rattle.rpki_der.specs.Texts.{time_text};
 ghost use Rattle.rpki_der.specs.Times.{Moment, IsMoment};
 ghost use Rattle.rpki_der.specs.Timestamps.{timestamp};
 ghost use Rattle.rpki_text.specs.MomentTexts.{date_digits, all_digits, IsDateText, HasMarks, IsMomentText};
-ghost use Rattle.rpki_text.specs.Periods.{seconds_between, duration_text, state_text, end_text};
+ghost use Rattle.rpki_text.specs.Periods.{seconds_between, duration_text, state_text};
 
 use rpki_der::Time;
 use std::fmt;
@@ -42,8 +41,8 @@ impl fmt::Display for Duration {
     }
 }
 
-/// A period at a time, with the words for its end before and after it. It is printed as its end and
-/// the time until it or since it: `2026-11-25T06:00:00Z (expires in 3 days)`.
+/// A period at a time, with the words for its end before and after it. It is printed as the time
+/// until its end or since it: `expires in 3 days`.
 #[derive(Drop)]
 pub struct Period {
     pub ends: &'static str,
@@ -53,33 +52,22 @@ pub struct Period {
     pub at: Time,
 }
 
-fn write_state<W: fmt::Write>(f: &mut fmt::Formatter<W>, it: &Period) -> fmt::Result
-    ensures { WritesOnOk W.write_str_gives f.old result
-        (state_text it.now.ends.now it.now.ended.now it.now.from it.now.until it.now.at) f.new }
-{
-    if it.until < it.at {
-        let ended = it.ended;
-        let since = Duration(seconds_between(it.at, it.until));
-        return write!(f, "{ended} {since} ago");
-    }
-    if it.at < it.from {
-        let from = it.from;
-        return write!(f, "not valid before {from}");
-    }
-    let ends = it.ends;
-    let left = Duration(seconds_between(it.until, it.at));
-    write!(f, "{ends} in {left}")
-}
-
 impl fmt::Display for Period {
-    ghost output = { λ p. Some (end_text p.ends.now p.ended.now p.from p.until p.at) };
+    ghost output = { λ p. Some (state_text p.ends.now p.ended.now p.from p.until p.at) };
 
-    #[tactic(auto, unfolding(crate::specs::Periods::end_text))]
     fn fmt<W: fmt::Write>(&self, f: &mut fmt::Formatter<W>) -> fmt::Result {
-        let until = self.until;
-        write!(f, "{until} (")?;
-        write_state(f, self)?;
-        f.write_str(")")
+        if self.until < self.at {
+            let ended = self.ended;
+            let since = Duration(seconds_between(self.at, self.until));
+            return write!(f, "{ended} {since} ago");
+        }
+        if self.at < self.from {
+            let from = self.from;
+            return write!(f, "not valid before {from}");
+        }
+        let ends = self.ends;
+        let left = Duration(seconds_between(self.until, self.at));
+        write!(f, "{ends} in {left}")
     }
 }
 

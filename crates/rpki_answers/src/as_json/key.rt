@@ -1,43 +1,17 @@
 //! Keys as JSON.
 ghost use Rattle.std.specs.Prelude.{◌≡◌, codes, IfOk, OnOk};
 ghost use Rattle.serde_json.specs.View.{view};
-ghost use Rattle.rpki_answers.specs.JsonKeys.{algorithm_word, exponent_member, form_members, form_word, key_json};
+ghost use Rattle.rpki_answers.specs.JsonKeys.{exponent_member, form_members, key_json};
 ghost use Rattle.rpki_answers.specs.JsonValues.{Puts, text_member_if_any};
 ghost use Rattle.rpki_text.specs.KeyTexts.{point_text};
 
 use crate::as_json::objects::Members;
+use crate::told::{algorithm_word, form_word};
 use rpki_keys::KeyForm;
 use rpki_parts::{PublicKey, PublicKeyFormat};
 use rpki_text::keys::KeyAnswer;
 use serde_json::Value;
 use std::alloc::{AllocError, Global};
-
-/// Returns the algorithm of a key of this form.
-pub fn algorithm_word(form: KeyForm) -> &'static str
-    ensures { result.now ≡ algorithm_word form }
-{
-    match form {
-        KeyForm::RsaKey { .. } | KeyForm::EvenModulus | KeyForm::NoRsaKey => "RSA",
-        KeyForm::Point | KeyForm::OffCurve | KeyForm::CompressedPoint | KeyForm::NoPoint => {
-            "ECDSA P-256"
-        }
-    }
-}
-
-/// Returns the form of a key.
-pub fn form_word(form: KeyForm) -> &'static str
-    ensures { result.now ≡ form_word form }
-{
-    match form {
-        KeyForm::RsaKey { .. } => "RSAPublicKey",
-        KeyForm::EvenModulus => "even modulus",
-        KeyForm::NoRsaKey => "no RSAPublicKey",
-        KeyForm::Point => "uncompressed point",
-        KeyForm::OffCurve => "point off the curve",
-        KeyForm::CompressedPoint => "compressed point",
-        KeyForm::NoPoint => "no point",
-    }
-}
 
 #[tactic(auto, unfolding(crate::specs::JsonValues::put_all))]
 fn put_exponent(out: &mut Members, exponent: Option<u64>) -> Result<(), AllocError>

@@ -14,7 +14,7 @@ use base64::engine::general_purpose::STANDARD;
 use rpki_der::{Serial, Time};
 use rpki_files::Flaw;
 use rpki_parts::{KeyIdentifier, Name};
-use rpki_text::{Colons, Page, certificate, names};
+use rpki_text::{Colons, Page};
 use serde_json::{Map, Value, put};
 use sha2::{Digest, Sha256};
 use std::alloc::{AllocError, Global};
@@ -75,30 +75,11 @@ impl Members {
         self.value(key, value)
     }
 
-    /// Adds bytes as characters.
-    pub fn octets(&mut self, key: &str, octets: &[u8]) -> Result<(), AllocError>
-        ensures { OnOk result
-            (Puts (text_member key.now (characters_text octets.now)) self.old self.new) }
-    {
-        let mut page = Page::new(self.alloc);
-        page.characters(octets);
-        self.printed(key, page)
-    }
-
     /// Adds a time, in seconds since 1970.
     pub fn moment(&mut self, key: &str, at: Time) -> Result<(), AllocError>
         ensures { OnOk result (Puts (member_of key.now (moment_json at)) self.old self.new) }
     {
         self.value(key, Value::from(at.timestamp()))
-    }
-
-    /// Adds a serial number.
-    pub fn serial(&mut self, key: &str, it: Serial) -> Result<(), AllocError>
-        ensures { OnOk result (Puts (text_member key.now (serial_text it)) self.old self.new) }
-    {
-        let mut page = Page::new(self.alloc);
-        certificate::serial(&mut page, it);
-        self.printed(key, page)
     }
 
     /// Adds bytes in hexadecimal, with colons between them.
@@ -111,41 +92,12 @@ impl Members {
         self.printed(key, page)
     }
 
-    /// Adds what is found at the place where reading stops.
-    pub fn flaw(&mut self, key: &str, it: Flaw) -> Result<(), AllocError>
-        ensures { OnOk result (Puts (text_member key.now (flaw_text it)) self.old self.new) }
-    {
-        let mut page = Page::new(self.alloc);
-        page.value(&it);
-        self.printed(key, page)
-    }
-
     /// Adds the identifier of a key.
     pub fn identifier(&mut self, key: &str, it: &KeyIdentifier) -> Result<(), AllocError>
         ensures { OnOk result
             (Puts (text_member key.now (colons_text it.now)) self.old self.new) }
     {
         self.colons(key, it.as_octets().as_slice())
-    }
-
-    /// Adds a distinguished name.
-    pub fn name(&mut self, key: &str, it: &Name) -> Result<(), AllocError>
-        ensures { OnOk result (Puts (text_member key.now (name_text it.now)) self.old self.new) }
-    {
-        let mut page = Page::new(self.alloc);
-        names::name(&mut page, it);
-        self.printed(key, page)
-    }
-
-    /// Adds the SHA-256 of bytes, in base64.
-    #[tactic(auto, unfolding(rpki_keys::specs::Digits::base64_of))]
-    pub fn hash(&mut self, key: &str, of: &[u8]) -> Result<(), AllocError>
-        ensures { OnOk result
-            (Puts (text_member key.now (base64_of (sha256 of.now))) self.old self.new) }
-    {
-        let digest = Sha256::digest(of);
-        let text = STANDARD.encode(self.alloc, digest.as_slice())?;
-        self.value(key, Value::from(text))
     }
 
     /// Makes the value of the object.

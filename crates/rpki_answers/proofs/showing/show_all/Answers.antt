@@ -1,11 +1,9 @@
 use Rattle.std.specs.Prelude.{All, IsTrue}
-use Rattle.std.proofs.Common.{rules, ◌≡◌, ◌↔◌, ◌&&◌, ◌∷◌, List, refl, sym, subst}
+use Rattle.std.proofs.Common.{rules, ◌≡◌, ◌↔◌, ◌&&◌, ◌∷◌, ◌++◌, List, string_bytes, refl, sym, subst}
 use Rattle.rpki_files.specs.Contents.{CanBeShown}
 use Rattle.rpki_files.specs.Files.{FileFields, contents}
-use Rattle.rpki_text.specs.Pages.{AppendsSome}
-use Rattle.rpki_answers.specs.ShownTexts.{IsFileText, IsFurtherText, IsTextOfFiles}
-use Rattle.rpki_answers.specs.VerdictTexts.{SaysOfEach}
-use Rattle.rpki_answers.proofs.AppendedTexts.{both_appended}
+use Rattle.rpki_answers.specs.ShownFiles.{Grows, IsTextOfFiles}
+use Rattle.rpki_answers.proofs.GrownLists.{then_grown}
 use Rattle.rpki_answers.proofs.ShownFiles.{flag_of_first}
 use Rattle.rpki_answers.proofs.showing.show_all.Goals as goal
 
@@ -25,8 +23,7 @@ returns-clause-text c =
     let first = c.in-Some.first.now in
     let more = c.in-Some.more.now in
     let parts : c.args.objects.now ≡ first ∷ more = search rules in
-    let old = c.args.page.now in
-    let mid = c.show.new.page in
-    let new = c.show_more.new.page in
-    subst (λ (files : List FileFields). AppendsSome (IsTextOfFiles o files) old new) (sym parts)
-    (both_appended (IsFileText o first) (SaysOfEach (IsFurtherText o) more) (IsTextOfFiles o (first ∷ more)) old mid new (λ a b its others. (a, b, its, others, refl)) (c.in_ok-is_first.ensures.text) (c.in_ok-are_more.ensures.text))
+    let one = c.in_ok-is_first.ensures.text in
+    let others = c.in_ok-are_more.ensures.text in
+    subst (λ (files : List FileFields). Grows (IsTextOfFiles o files) (string_bytes c.args.out.now) (string_bytes c.show_more.new.out)) (sym parts)
+    (one.0 ++ others.0, (one.0, others.0, one.1, others.1, refl), then_grown _ _ _ one.0 others.0 one.2 others.2)

@@ -1,10 +1,18 @@
+use Rattle.std.proofs.Common.{[], string_bytes, refl, rules}
 use Rattle.rpki_files.specs.Contents.{CanBeShown}
 use Rattle.rpki_files.specs.Files.{contents}
-use Rattle.rpki_answers.specs.ShownTexts.{IsFurtherText}
-use Rattle.rpki_answers.proofs.AppendedTexts.{each_more, each_said}
+use Rattle.rpki_answers.specs.ShownFiles.{IsFurtherText}
+use Rattle.rpki_answers.specs.VerdictTexts.{SaysOfEach}
 use Rattle.rpki_answers.proofs.FlaggedItems.{flag_of_more, flag_of_all}
+use Rattle.rpki_answers.proofs.GrownLists.{none_grown, grown_more, grown_all}
 use Rattle.rpki_verdicts.proofs.MappedItems.{mapped_low, mapped_high, mapped_there}
 use Rattle.rpki_answers.proofs.showing.show_more.Goals as goal
+
+pub loop-object-init : goal.loop-object-init
+loop-object-init c = record {
+  shows = search rules;
+  text = none_grown (SaysOfEach (IsFurtherText c.args.options.now) []) (string_bytes c.args.out.now) refl;
+}
 
 pub loop-object-preserved : goal.loop-object-preserved
 loop-object-preserved c =
@@ -14,11 +22,9 @@ loop-object-preserved c =
     let low = c.loop-object-test.true in
     let file = c.object-item.result in
     let here = c.in_ok-shows.ensures in
-    let Shows = CanBeShown c.args.options.now.strict in
     record {
-      shows = flag_of_more Shows (contents objects) i file.octets (mapped_low (λ file. file.octets) objects i low) (mapped_there (λ file. file.octets) objects i file low c.object-item.is) l.can_be_shown c.in_ok-shows.shows l.invariant.shows here.shows;
-      text =
-          each_more (IsFurtherText c.args.options.now) objects i file c.args.page.now l.page c.show_further.new.page low c.object-item.is l.invariant.text here.text;
+      shows = flag_of_more (CanBeShown c.args.options.now.strict) (contents objects) i file.octets (mapped_low (λ file. file.octets) objects i low) (mapped_there (λ file. file.octets) objects i file low c.object-item.is) l.can_be_shown c.in_ok-shows.shows l.invariant.shows here.shows;
+      text = grown_more (IsFurtherText c.args.options.now) objects i file (string_bytes c.args.out.now) (string_bytes l.out) (string_bytes c.show_further.new.out) low c.object-item.is l.invariant.text here.text;
     }
 
 pub returns-clause-shows : goal.returns-clause-shows
@@ -30,4 +36,4 @@ returns-clause-shows c =
 pub returns-clause-text : goal.returns-clause-text
 returns-clause-text c =
     let l = c.loop-object in
-    each_said (IsFurtherText c.args.options.now) c.args.objects.now l.object-index c.args.page.now l.page c.loop-object-test.false l.invariant.text
+    grown_all (IsFurtherText c.args.options.now) c.args.objects.now l.object-index (string_bytes c.args.out.now) (string_bytes l.out) c.loop-object-test.false l.invariant.text

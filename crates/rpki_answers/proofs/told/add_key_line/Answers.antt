@@ -1,4 +1,4 @@
 use Rattle.rpki_answers.proofs.told.add_key_line.Goals as goal
 
 pub returns : goal.returns
-returns c = rw (c.in_ok-pieces.ensures.items, c.in_ok-leaf.ensures) at c.add_line.ensures
+returns c = rw c.in_ok-pieces.ensures.items at c.add_line.ensures

@@ -9,7 +9,7 @@ use Rattle.rpki_answers.proofs.verdict_document.add_router.Goals as goal
 
 pub returns : goal.returns
 returns c =
-    let key = c.answer_of.result in
+    let key = c.answer_of-found.result in
     let is : IsKeyAnswer c.args.cert.now.fields.key key = search rules in
     let said : OnOk c.add_told.result
     (Adds (router_nodes c.args.cert.now key) c.args.parts.now.items c.add_told.new.parts.items) =
@@ -17,15 +17,15 @@ returns c =
     (rw (
       c.in_ok-leaf.ensures,
       c.subject_key_identifier.ensures,
-      c.as_tbs-2.ensures,
       c.in_ok-add_inside.ensures,
       c.in_ok-add_key.ensures,
       c.new-told.ensures.items,
+      c.in_ok-said.ensures,
       c.subject_public_key_info-key.ensures,
-      c.as_tbs.ensures,
       c.in_ok-add_each.ensures,
-      c.in_ok-add_router_resources.ensures,
+      c.in_ok-add_listed.ensures,
       c.new-listed.ensures.items,
+      c.as_tbs-fields.ensures,
     )
     (simp append_assoc)) in
     IfOk-weaker c.add_told.result _ _ (λ _ added. (key, is, added)) said

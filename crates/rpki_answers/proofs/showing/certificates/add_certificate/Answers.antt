@@ -1,0 +1,29 @@
+use Rattle.std.proofs.Common.{[], ◌∷◌, ◌++◌, append_assoc, refl}
+use Rattle.rpki_document.proofs.Built.{ended_some, ended_with}
+use Rattle.rpki_answers.specs.ShownCertificates.{IsShownCertificate, certificate_nodes, remark_nodes}
+use Rattle.rpki_answers.specs.ToldValues.{signature_line}
+use Rattle.rpki_answers.proofs.showing.certificates.add_certificate.Goals as goal
+
+pub returns : goal.returns
+returns c =
+    let last = c.add_signature.result in
+    let o = c.args.options.now in
+    let cert = c.args.cert.now in
+    let found = c.findings_of-found.result in
+    let facts = c.in_ok-facts.facts.items in
+    let notes = c.in_ok-notes.notes.items in
+    ended_some last (IsShownCertificate o c.args.object.now.octets cert)
+    (certificate_nodes cert.fields o.at o.all found ++ (remark_nodes facts notes ++ signature_line ∷ []))
+    c.args.parts.now.items c.add_signature.new.parts.items
+    (record {
+      found = found;
+      found_is = c.findings_of-found.ensures;
+      facts = facts;
+      facts_are = c.in_ok-facts.ensures cert c.requires;
+      notes = notes;
+      notes_are = c.in_ok-notes.ensures;
+      nodes_are = refl;
+    })
+    (ended_with last _ _ _ c.add_signature.ensures
+    (rw (c.in_ok-add_remarks.ensures, c.deref.ensures.value, c.deref-2.ensures.value, c.in_ok-add_found.ensures, c.as_tbs.ensures)
+    (simp append_assoc)))

@@ -1,0 +1,17 @@
+use Rattle.std.proofs.Common.{◌++◌, refl}
+use Rattle.std.proofs.lemmas.Result.{IfOk-weaker}
+use Rattle.rpki_document.proofs.Built.{then_added}
+use Rattle.rpki_answers.specs.ShownFiles.{behind_nodes}
+use Rattle.rpki_answers.proofs.showing.documents.add_whole_certificate.Goals as goal
+
+pub add_certificate-requires : goal.add_certificate-requires
+add_certificate-requires c = (c.requires.0, c.requires.1)
+
+pub returns : goal.returns
+returns c =
+    let its = c.in_ok-add_certificate.ensures in
+    IfOk-weaker c.add_behind.result _ _ (λ _ last. (
+      its.0 ++ behind_nodes c.args.left,
+      (its.0, its.1, refl),
+      then_added _ _ _ _ _ its.2 last,
+    )) c.add_behind.ensures
