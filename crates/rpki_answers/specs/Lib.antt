@@ -1,7 +1,8 @@
 -- The definitions that the contracts of answers cite.
 pub mod Outcomes
 pub mod VerdictTexts
-pub mod TreeTexts
+pub mod TreeRows
+pub mod TreeDocuments
 pub mod NoteLines
 pub mod FactTexts
 pub mod ShownTexts
@@ -15,6 +16,5 @@ pub mod JsonVerdicts
 pub mod ToldValues
 pub mod RejectionDetails
 pub mod Verdicts
-pub mod JsonTrees
 pub mod JsonAnswers
 pub mod AnswerTexts

@@ -14,8 +14,6 @@ pub(crate) mod key;
 mod notes;
 mod objects;
 mod texts;
-mod trees;
-mod verdicts;
 
 use crate::showing::{Rejection, Remarks};
 use facts::facts_value;
@@ -35,7 +33,6 @@ use rpki_text::keys::{KeyAnswer, answer_of_locator};
 use serde_json::Value;
 use std::alloc::{AllocError, Global};
 pub use texts::value_text;
-pub use trees::tree;
 
 /// A file that is shown: its name, its bytes in DER, and how many bytes follow its object.
 #[derive(Clone, Copy)]
