@@ -11,4 +11,5 @@ mod SingleOutcomes
 mod WholeFiles
 mod WholeValues
 mod TreeRowsInOrder
+mod TreeRowLaws
 mod AddedNodes

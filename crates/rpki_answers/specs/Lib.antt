@@ -3,6 +3,7 @@ pub mod Outcomes
 pub mod VerdictTexts
 pub mod TreeRows
 pub mod TreeDocuments
+pub mod TreeLaws
 pub mod NoteLines
 pub mod FactTexts
 pub mod ShownTexts

@@ -239,9 +239,13 @@ tals_node trees = each (codes "tals") (document_of (map tal_node trees.parts.ite
 
 -- ---- counts
 
+-- two words are the same
+abbrev pub is_word : Word → Word → Bool
+is_word w v = bytes_eq (word_key v) (word_key w)
+
 -- how many rows have a word
 abbrev pub has_word : Word → Row → Bool
-has_word w row = bytes_eq (word_key (word_of row.said)) (word_key w)
+has_word w row = is_word w (word_of row.said)
 
 abbrev pub count_of : Word → List Row → ℕ
 count_of w rows = count_by (has_word w) rows
