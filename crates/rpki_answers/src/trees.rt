@@ -83,7 +83,8 @@ fn is_accepting(finding: &TreeFinding<'_, '_>, strict_exit: bool) -> bool
 {
     match finding {
         TreeFinding::Answered(trees) => {
-            trees.are_accepted() && !(strict_exit && trees.are_damaged())
+            let is_damaged = strict_exit && trees.are_damaged();
+            trees.are_accepted() && !is_damaged
         }
         TreeFinding::NotALocator(_) => false,
     }
@@ -287,9 +288,8 @@ fn printed_trees(
         (asked_of question.now) trees.now (string_bytes text)) }
 {
     let issuers = issuers_of(alloc, trees)?;
-    let rows = rows_of(alloc, trees, &issuers, question.files);
-    drop(issuers);
-    printed_rows(alloc, question, trees, &rows?, options)
+    let rows = rows_of(alloc, trees, &issuers, question.files)?;
+    printed_rows(alloc, question, trees, &rows, options)
 }
 
 // What is found.
