@@ -1,12 +1,16 @@
 -- Why there is no verdict on a certificate among files: how the certificate stands whose key it names
 -- as its signer's (own).
 use Rattle.std.specs.Prelude.{◌≡◌, ◌<◌, ◌≤◌, ◌||◌, ℕ, Bool, true, false, if◌then◌else◌, List, length, map, is_some, slice_get, Option, None, Some}
+use Rattle.std.specs.BTreeMap.{get}
+use Rattle.std.specs.Cmp.Lexicographic.{slice_cmp}
+use Rattle.std.specs.Ordering.{nat_cmp}
 use Rattle.rpki_files.specs.Files.{FileFields}
 use Rattle.rpki_folder.specs.Folders.{NamesSigner}
 use Rattle.rpki_folder.specs.declared.bounds.Ended.{Ended}
 use Rattle.rpki_folder.specs.declared.bounds.Ended.TheVariants.{Whole}
 use Rattle.rpki_verdicts.specs.Searches.{HasKeyNamed}
 use Rattle.rpki_verdicts.specs.TreeParts.{files_of, is_told, worst_end, wrong_at}
+use Rattle.rpki_verdicts.specs.declared.issuers.Issuers.{Issuers}
 use Rattle.rpki_verdicts.specs.declared.issuers.Unseen.{Unseen}
 use Rattle.rpki_verdicts.specs.declared.issuers.Unseen.TheVariants.{NoIssuer, NotBelow, NotLookedAt, BelowRejected, BelowUnseen}
 use Rattle.rpki_verdicts.specs.declared.parts.Trees.{Trees}
@@ -41,10 +45,14 @@ abbrev pub StandsBetter : Trees → Option ℕ → ℕ → Type 0
 StandsBetter trees None place = Unit {0}
 StandsBetter trees (Some before) place = standing trees place < standing trees before
 
+-- the place that is kept for a key
+abbrev pub issuer_in : Issuers → List ℕ → Option ℕ
+issuer_in issuers key = get (slice_cmp nat_cmp) issuers.places key
+
 -- each key has its issuer among all certificates, where there is one
-abbrev pub AreIssuers : Trees → (List ℕ → Option ℕ) → Type 0
+abbrev pub AreIssuers : Trees → Issuers → Type 0
 AreIssuers trees issuers =
-    (key : List ℕ) → IsIssuerAmong trees (length (files_of trees)) key (issuers key)
+    (key : List ℕ) → IsIssuerAmong trees (length (files_of trees)) key (issuer_in issuers key)
 
 -- the issuer of a file: that of the key which it names as its signer's
 abbrev pub IsIssuerOf : Trees → FileFields → Option ℕ → Type 0

@@ -5,7 +5,7 @@ ghost use Rattle.std.specs.Cmp.Lexicographic.{slice_cmp};
 ghost use Rattle.std.specs.Ordering.{nat_cmp};
 ghost use Rattle.rpki_verdicts.specs.Searches.{HasKeyNamed};
 ghost use Rattle.rpki_verdicts.specs.TreeParts.{files_of};
-ghost use Rattle.rpki_verdicts.specs.UnseenCertificates.{AreIssuers, IsIssuerAmong, IsUnseen, StandsBetter, is_rejected_at, is_whole, standing, why_unseen};
+ghost use Rattle.rpki_verdicts.specs.UnseenCertificates.{AreIssuers, IsIssuerAmong, IsUnseen, StandsBetter, is_rejected_at, is_whole, issuer_in, standing, why_unseen};
 
 use crate::parts::{Trees, is_told};
 use crate::search::signer_of;
@@ -15,24 +15,12 @@ use rpki_folder::Ended;
 use rpki_parts::KeyIdentifier;
 use std::alloc::{AllocError, Global};
 use std::collections::BTreeMap;
-use std::marker::Model;
 
 /// For each key of certificates, the place of one that has it: an accepted one if there is one, or
 /// else a rejected one.
 #[derive(Drop)]
 pub struct Issuers {
     places: BTreeMap<[u8; 20], usize>,
-}
-
-impl Model for Issuers {
-    ghost use Rattle.std.specs.Prelude.{ℕ, List, Option};
-    ghost use Rattle.std.specs.BTreeMap.{get};
-    ghost use Rattle.std.specs.Cmp.Lexicographic.{slice_cmp};
-    ghost use Rattle.std.specs.Ordering.{nat_cmp};
-
-    ghost Value = { List ℕ → Option ℕ };
-
-    ghost view = { λ i. λ (key : List ℕ). get (slice_cmp nat_cmp) i.places key };
 }
 
 /// Why there is no verdict on a certificate. A place is that of its issuer: of the certificate whose
@@ -114,7 +102,7 @@ pub fn issuers_of(alloc: Global, trees: &Trees<'_, '_>) -> Result<Issuers, Alloc
 impl Issuers {
     // The place of the key's issuer.
     fn get(&self, key: &KeyIdentifier) -> Option<usize>
-        ensures { result ≡ self.now key.now }
+        ensures { result ≡ issuer_in self.now key.now }
     {
         match self.places.get(key.as_octets()) {
             Some(place) => Some(*place),

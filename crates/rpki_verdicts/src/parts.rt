@@ -244,6 +244,21 @@ fn either<'t, 'q, 'n>(
     }
 }
 
+// What is wrong with the certificate at a place as the trust anchor of a locator, where none is valid.
+fn wrong_among<'t, 'q, 'n>(
+    parts: &'t [TreePart<'q, 'n>],
+    place: usize,
+) -> Option<&'t WrongAnchor<'q, 'n>>
+    ensures { option_copied result ≡ wrong_at parts.now place }
+{
+    for part in parts {
+        if let Some(wrong) = part.wrong_at(place) {
+            return Some(wrong);
+        }
+    }
+    None
+}
+
 /// Returns whether a part tells so much of the certificate at a place, the least number most.
 pub(crate) fn is_told(parts: &[TreePart<'_, '_>], place: usize, most: u8) -> bool
     ensures { result ≡ is_told parts.now most place }
@@ -257,12 +272,7 @@ impl<'q, 'n> Trees<'q, 'n> {
     pub fn wrong_at(&self, place: usize) -> Option<&WrongAnchor<'q, 'n>>
         ensures { option_copied result ≡ wrong_at self.now.parts.items place }
     {
-        for part in &self.parts {
-            if let Some(wrong) = part.wrong_at(place) {
-                return Some(wrong);
-            }
-        }
-        None
+        wrong_among(&self.parts, place)
     }
     /// Returns the part whose verdict on the certificate at a place is reported: the first in which
     /// it is the trust anchor, else is accepted, else is rejected, else wasn't looked at since a

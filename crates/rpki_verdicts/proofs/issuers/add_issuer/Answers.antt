@@ -39,7 +39,7 @@ returns-in-Ok c = λ key among.
     let before : option_copied c.get.result ≡ get (slice_cmp nat_cmp) m own =
     c.get.ensures.value ∙ ap (λ (k : List ℕ). get (slice_cmp nat_cmp) m k) c.as_octets.ensures.same in
     let sets : (q : List ℕ) → get (slice_cmp nat_cmp) n q ≡ cond (is_at (slice_cmp nat_cmp own) q) (Some c.args.place) (get (slice_cmp nat_cmp) m q) =
-    subst (λ (k : List ℕ). (q : List ℕ) → get (slice_cmp nat_cmp) n q ≡ cond (is_at (slice_cmp nat_cmp k) q) (Some c.args.place) (get (slice_cmp nat_cmp) m q)) c.as_octets-2.ensures.same c.in-Ok.ensures.updates.0 in
+    subst (λ (k : List ℕ). (q : List ℕ) → get (slice_cmp nat_cmp) n q ≡ cond (is_at (slice_cmp nat_cmp k) q) (Some c.args.place) (get (slice_cmp nat_cmp) m q)) c.as_octets-then-is_better.ensures.same c.in-Ok.ensures.updates.0 in
     is_taken trees c.args.place c.args.file.now c.requires own says m n sets
     (subst (λ (o : Option ℕ). StandsBetter trees o c.args.place) before (c.is_better.ensures.0 c.if-is_better.true))
     key among
