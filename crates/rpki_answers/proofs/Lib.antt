@@ -2,7 +2,6 @@
 mod AppendedTexts
 mod FlaggedItems
 mod PartsOfEach
-mod PrintedFiles
 mod PushedItems
 mod PushedValues
 mod PutMembers
@@ -10,7 +9,7 @@ mod ShownFiles
 mod GrownLists
 mod SingleOutcomes
 mod WholeFiles
-mod WholeTrees
 mod WholeValues
-mod WholeVerdicts
+mod TreeRowsInOrder
+mod TreeRowLaws
 mod AddedNodes

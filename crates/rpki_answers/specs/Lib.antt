@@ -1,7 +1,9 @@
 -- The definitions that the contracts of answers cite.
 pub mod Outcomes
 pub mod VerdictTexts
-pub mod TreeTexts
+pub mod TreeRows
+pub mod TreeDocuments
+pub mod TreeLaws
 pub mod JsonValues
 pub mod JsonBlocks
 pub mod JsonKeys
@@ -13,5 +15,4 @@ pub mod Verdicts
 pub mod ShownCertificates
 pub mod ShownLists
 pub mod ShownFiles
-pub mod JsonTrees
 pub mod AnswerTexts

@@ -7,15 +7,12 @@ mod blocks;
 mod key;
 mod objects;
 mod texts;
-mod trees;
-mod verdicts;
 
 use objects::Members;
 use rpki_files::rules::Rule;
 use serde_json::Value;
 use std::alloc::AllocError;
 pub use texts::{value_text, values_text};
-pub use trees::tree;
 
 // How many octets stand behind the object, where some do.
 #[tactic(auto, unfolding(crate::specs::JsonValues::put_all))]
