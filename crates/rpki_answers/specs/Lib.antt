@@ -4,11 +4,7 @@ pub mod VerdictTexts
 pub mod TreeRows
 pub mod TreeDocuments
 pub mod TreeLaws
-pub mod JsonValues
-pub mod JsonBlocks
-pub mod JsonKeys
 pub mod JsonTexts
-pub mod JsonVerdicts
 pub mod ToldValues
 pub mod RejectionDetails
 pub mod Verdicts
