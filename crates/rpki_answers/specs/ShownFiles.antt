@@ -212,19 +212,19 @@ Grows {X} Hold old new = (more : List X) × Hold more × (new ≡ old ++ more)
 
 -- the text of a file
 abbrev pub IsFileText : Options → FileFields → List ℕ → Type 0
-IsFileText options file text =
-    (nodes : List Node) × IsFileDocument options file nodes × (text ≡ document_text (document_of nodes))
+IsFileText options file written =
+    (nodes : List Node) × IsFileDocument options file nodes × (written ≡ document_text (document_of nodes))
 
 -- the text of a file behind another one: an empty line, and its own
 abbrev pub IsFurtherText : Options → FileFields → List ℕ → Type 0
-IsFurtherText options file text = (its : List ℕ) × IsFileText options file its × (text ≡ line_feed ++ its)
+IsFurtherText options file written = (its : List ℕ) × IsFileText options file its × (written ≡ line_feed ++ its)
 
 -- the text of files
 abbrev pub IsTextOfFiles : Options → List FileFields → List ℕ → Type 0
-IsTextOfFiles options [] text = text ≡ []
-IsTextOfFiles options (file ∷ files) text =
+IsTextOfFiles options [] written = written ≡ []
+IsTextOfFiles options (file ∷ files) written =
     (first : List ℕ) × (more : List ℕ) × IsFileText options file first
-    × SaysOfEach (IsFurtherText options) files more × (text ≡ first ++ more)
+    × SaysOfEach (IsFurtherText options) files more × (written ≡ first ++ more)
 
 -- in JSON all is shown
 abbrev pub with_all : Options → Options
@@ -244,5 +244,5 @@ is_single names = length names == 1
 
 -- the JSON of files in a format, where one is named or others are
 abbrev pub IsJsonOfFiles : Format → Bool → Options → List FileFields → List ℕ → Type 0
-IsJsonOfFiles format single options files text =
-    (values : List Data) × SaysOfEach (IsFileItem options) files values × (text ≡ values_text format single values)
+IsJsonOfFiles format single options files written =
+    (values : List Data) × SaysOfEach (IsFileItem options) files values × (written ≡ values_text format single values)

@@ -56,14 +56,14 @@ signature_line = told_line (codes "Signature") (codes "signature") (
 
 -- the algorithm of a key of this form
 abbrev pub algorithm_word : KeyForm → List ℕ
-algorithm_word (RsaKey count exponent) = codes "RSA"
+algorithm_word (RsaKey bits exponent) = codes "RSA"
 algorithm_word EvenModulus = codes "RSA"
 algorithm_word NoRsaKey = codes "RSA"
 algorithm_word _ = codes "ECDSA P-256"
 
 -- the form of a key
 abbrev pub form_word : KeyForm → List ℕ
-form_word (RsaKey count exponent) = codes "RSAPublicKey"
+form_word (RsaKey bits exponent) = codes "RSAPublicKey"
 form_word EvenModulus = codes "even modulus"
 form_word NoRsaKey = codes "no RSAPublicKey"
 form_word Point = codes "uncompressed point"

@@ -1,8 +1,8 @@
 //! The document of a CRL.
-ghost use Rattle.std.specs.Prelude.{◌≡◌, [], ◌∷◌, false, IfSome, OnOk, length, map, take};
+ghost use Rattle.std.specs.Prelude.{◌≡◌, ◌||◌, [], ◌∷◌, false, nat_le, IfSome, OnOk, length, map, take};
 ghost use Rattle.rpki_document.specs.Building.{Adds};
 ghost use Rattle.rpki_document.specs.Views.{leaf_view};
-ghost use Rattle.rpki_answers.specs.ShownLists.{entry_node, entry_nodes, list_head, list_nodes, revocation_node, revoked_nodes, update_nodes};
+ghost use Rattle.rpki_answers.specs.ShownLists.{entry_node, entry_nodes, few, list_head, list_nodes, revocation_node, revoked_nodes, update_nodes};
 
 use crate::told::{add_signature, add_until, identifier_leaf, moment_leaf, name_leaf, printed};
 use rpki_crl::{RevokedCertificates, TbsCertList};
@@ -112,6 +112,13 @@ fn add_entries(
     }
 }
 
+// Whether all of so many are shown.
+fn is_whole(all: bool, count: u64) -> bool
+    ensures { result ≡ (all || nat_le count few) }
+{
+    all || count <= FEW
+}
+
 fn add_revoked(
     parts: &mut Vec<Part<'_>>,
     alloc: Global,
@@ -127,7 +134,8 @@ fn add_revoked(
     let pieces = vec![in alloc; Piece::Show(Leaf::Count(count))]?;
     add_line(parts, "Revoked", pieces)?;
     let mut entries = Vec::new(alloc);
-    add_entries(&mut entries, alloc, revoked, count, all || count <= FEW)?;
+    let whole = is_whole(all, count);
+    add_entries(&mut entries, alloc, revoked, count, whole)?;
     add_each(parts, "revoked_certs", entries)
 }
 

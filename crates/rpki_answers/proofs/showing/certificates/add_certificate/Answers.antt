@@ -1,5 +1,5 @@
-use Rattle.std.proofs.Common.{[], ◌∷◌, ◌++◌, append_assoc, refl}
-use Rattle.rpki_document.proofs.Built.{ended_some, ended_with}
+use Rattle.std.proofs.Common.{[], ◌∷◌, ◌++◌, refl}
+use Rattle.rpki_document.proofs.Built.{ended_some, then_ended}
 use Rattle.rpki_answers.specs.ShownCertificates.{IsShownCertificate, certificate_nodes, remark_nodes}
 use Rattle.rpki_answers.specs.ToldValues.{signature_line}
 use Rattle.rpki_answers.proofs.showing.certificates.add_certificate.Goals as goal
@@ -24,6 +24,6 @@ returns c =
       notes_are = c.in_ok-notes.ensures;
       nodes_are = refl;
     })
-    (ended_with last _ _ _ c.add_signature.ensures
-    (rw (c.in_ok-add_remarks.ensures, c.deref.ensures.value, c.deref-2.ensures.value, c.in_ok-add_found.ensures, c.as_tbs.ensures)
-    (simp append_assoc)))
+    (then_ended last _ _ _ _ _ (rw c.as_tbs.ensures at c.in_ok-add_found.ensures)
+    (then_ended last _ _ _ _ _ (rw (c.deref.ensures.value, c.deref-2.ensures.value) at c.in_ok-add_remarks.ensures)
+    c.add_signature.ensures))

@@ -7,4 +7,4 @@ returns c =
     let counted : c.in-Some.count ≡ length c.args.revoked.now.entries = search rules in
     then_ended c.add_each.result _ _ _ _ _
     (rw (c.in_ok-pieces.ensures.items, counted) at c.in_ok-add_line.ensures)
-    (rw (c.in_ok-add_entries.ensures, c.new-entries.ensures.items, counted) at c.add_each.ensures)
+    (rw (c.in_ok-add_entries.ensures, c.new-entries.ensures.items, c.is_whole-whole.ensures, counted) at c.add_each.ensures)
