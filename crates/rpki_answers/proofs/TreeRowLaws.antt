@@ -43,7 +43,7 @@ said_rows certs name (said.Accepted t p kind) nodes (held, are, is) = (
       (no_rows (certs_of t.now) (t.now.anchor ∷ p.now.above.items)),
 )
 said_rows certs name (said.Rejected fault) nodes is =
-    (behind_of (rejected_head name fault), ap (λ (l : List Node). document_rows (document_of l)) is)
+    (behind_of (rejected_head name fault.rule.says.now fault.name.now fault.rule.section.now), ap (λ (l : List Node). document_rows (document_of l)) is)
 said_rows certs name (said.Unseen why) nodes is =
     (behind_of (row_head (unseen_word why) (file_first name (issuer_spans certs (issuer_at why)))), ap (λ (l : List Node). document_rows (document_of l)) is)
 said_rows certs name said.Anchor nodes is = (behind_of (row_head word.Anchor (file_last name)), ap (λ (l : List Node). document_rows (document_of l)) is)

@@ -111,16 +111,20 @@ abbrev pub left_nodes : ℕ → List Node
 left_nodes left = if left == 0 then [] else left_line left ∷ []
 
 -- a rejected certificate, and why, as `validate` says it
-abbrev pub rejected_head : List ℕ → Fault → Node
-rejected_head name f =
-    row_head word.Rejected (file_first name (say (codes ": ")
-    ∷ reason_spans f.rule.says.now f.name.now f.rule.section.now))
+abbrev pub rejected_head : List ℕ → List ℕ → List ℕ → List ℕ → Node
+rejected_head file says name section =
+    row_head word.Rejected (file_first file (say (codes ": ") ∷ reason_spans says name section))
+
+-- how many certificates are above it, and in which step it is rejected
+abbrev pub index_node : ℕ → List ℕ → Node
+index_node index step =
+    unsaid (keep (codes "member") (count index) ∷ keep (codes "step") (text step) ∷ [])
 
 abbrev pub rejected_row : List ℕ → Fault → List Node
-rejected_row name f =
-    rejected_head name f
-    ∷ unsaid (keep (codes "member") (count f.index) ∷ keep (codes "step") (text f.step.now)
-    ∷ fault_spans f.name.now f.rule.says.now f.rule.section.now)
+rejected_row file f =
+    rejected_head file f.rule.says.now f.name.now f.rule.section.now
+    ∷ index_node f.index f.step.now
+    ∷ unsaid (fault_spans f.name.now f.rule.says.now f.rule.section.now)
     ∷ []
 
 -- the name of the certificate's file at a place

@@ -4,13 +4,14 @@ ghost use Rattle.std.specs.Str.{bytes_eq};
 ghost use Rattle.std.specs.Prelude.{◌≡◌, ◌++◌, ◌∷◌, [], Some, codes, count_by, map, option_map, IfOk, OnOk};
 ghost use Rattle.rpki_document.specs.Building.{Adds, AddsSome, nodes_of, spans_of};
 ghost use Rattle.rpki_document.specs.Documents.{inner, keep, say, show, tell, text};
-ghost use Rattle.rpki_answers.specs.TreeDocuments.{AreSaid, IsAccepted, IsRowDocument, above_nodes, accepted_head, anchor_head, below_spans, count_line, count_lines, count_of, counts_node, damage_nodes, end_nodes, ended_word, error_node, errors_node, errors_of, file_first, file_last, has_error, has_word, left_line, left_nodes, name_of, no_anchor_head, no_locator_nodes, rejected_head, rejected_row, row_head, searched_line, limited_line, whole_line, tal_head, tal_node, tals_node, tree_asked, tree_unchecked, unseen_row, with_error};
+ghost use Rattle.rpki_answers.specs.TreeDocuments.{AreSaid, IsAccepted, IsRowDocument, above_nodes, accepted_head, anchor_head, below_spans, count_line, count_lines, count_of, counts_node, damage_nodes, end_nodes, ended_word, error_node, errors_node, errors_of, file_first, file_last, has_error, has_word, index_node, left_line, left_nodes, name_of, no_anchor_head, no_locator_nodes, rejected_head, rejected_row, row_head, searched_line, limited_line, whole_line, tal_head, tal_node, tals_node, tree_asked, tree_unchecked, unseen_row, with_error};
 ghost use Rattle.rpki_verdicts.specs.Trees.{asked_of};
 
 use crate::told::kind_leaf;
 use crate::tree_rows::{Row, Said, Word, unseen_word};
 use crate::verdict_document::{
-    add_held, add_not_locators, add_time, add_unchecked, add_unchecked_names, add_unjudged,
+    add_fault, add_held, add_not_locators, add_time, add_unchecked, add_unchecked_names,
+    add_unjudged,
 };
 use rpki_cert::Kind;
 use rpki_document::{
@@ -45,44 +46,60 @@ fn add_plain<'p>(
 fn add_rejected_head<'p>(
     parts: &mut Vec<Part<'p>>,
     alloc: Global,
+    file: &'p str,
+    says: &'p str,
     name: &'p str,
-    fault: &Fault,
+    section: &'p str,
 ) -> Result<(), AllocError>
-    ensures { OnOk result (Adds (rejected_head name.now fault.now ∷ [])
-        parts.old.items parts.new.items) }
+    ensures { let its = rejected_head file.now says.now name.now section.now in
+        OnOk result (Adds (its ∷ []) parts.old.items parts.new.items) }
 {
     let pieces = vec![in alloc;
         Piece::Keep("verdict", Leaf::Text(Word::Rejected.key())),
-        Piece::Tell("file", Leaf::Inner(name)),
+        Piece::Tell("file", Leaf::Inner(file)),
         Piece::Say(": "),
-        Piece::Say(fault.rule.says),
+        Piece::Say(says),
         Piece::Say(" ("),
-        Piece::Say(fault.name),
+        Piece::Say(name),
         Piece::Say(", "),
-        Piece::Say(fault.rule.section),
+        Piece::Say(section),
         Piece::Say(")"),
     ]?;
     add_head(parts, Word::Rejected.label(), pieces)
 }
 
+// How many certificates are above it, and in which step it is rejected.
+fn add_index<'p>(
+    parts: &mut Vec<Part<'p>>,
+    alloc: Global,
+    index: usize,
+    step: &'p str,
+) -> Result<(), AllocError>
+    ensures { OnOk result
+        (Adds (index_node index step.now ∷ []) parts.old.items parts.new.items) }
+{
+    let pieces = vec![in alloc;
+        Piece::Keep("member", Leaf::Count(index as u64)),
+        Piece::Keep("step", Leaf::Text(step)),
+    ]?;
+    add_unsaid(parts, pieces)
+}
+
 fn add_rejected<'p>(
     parts: &mut Vec<Part<'p>>,
     alloc: Global,
-    name: &'p str,
+    file: &'p str,
     fault: &Fault,
 ) -> Result<(), AllocError>
     ensures { OnOk result
-        (Adds (rejected_row name.now fault.now) parts.old.items parts.new.items) }
+        (Adds (rejected_row file.now fault.now) parts.old.items parts.new.items) }
 {
-    add_rejected_head(parts, alloc, name, fault)?;
-    let pieces = vec![in alloc;
-        Piece::Keep("member", Leaf::Count(fault.index as u64)),
-        Piece::Keep("step", Leaf::Text(fault.step)),
-        Piece::Keep("fault", Leaf::Text(fault.name)),
-        Piece::Keep("why", Leaf::Text(fault.rule.says)),
-        Piece::Keep("standard", Leaf::Text(fault.rule.section)),
-    ]?;
-    add_unsaid(parts, pieces)
+    let says = fault.rule.says;
+    let name = fault.name;
+    let section = fault.rule.section;
+    add_rejected_head(parts, alloc, file, says, name, section)?;
+    add_index(parts, alloc, fault.index, fault.step)?;
+    add_fault(parts, alloc, name, says, section)
 }
 
 // The name of the certificate's file at a place.
@@ -501,7 +518,7 @@ fn push_new(names: &mut Vec<&'static str>, error: &'static str) -> Result<(), Al
 // Adds that of a row, where it has one.
 fn push_error(names: &mut Vec<&'static str>, error: Option<&'static str>) -> Result<(), AllocError>
     ensures { OnOk result (map (λ n. n.now) names.new.items
-        ≡ with_error (map (λ n. n.now) names.old.items) (option_map (λ n. n.now) error)) }
+        ≡ with_error (map (λ n. n.now) names.old.items) (option_map (λ n. n.now) error.entry)) }
 {
     match error {
         Some(error) => push_new(names, error),

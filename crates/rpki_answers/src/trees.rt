@@ -239,11 +239,11 @@ fn as_json_lines(
 }
 
 // All as one object of JSON.
-fn as_object(
+fn as_object<'p>(
     alloc: Global,
     question: &TreeQuestion<'_, '_>,
-    trees: &Trees<'_, '_>,
-    rows: &[Row<'_, '_, '_>],
+    trees: &Trees<'p, '_>,
+    rows: &[Row<'_, 'p, '_>],
     options: TreeOptions,
 ) -> Result<String, AllocError>
     requires { options.format ≡ Format.Json }
@@ -260,11 +260,11 @@ fn as_object(
 }
 
 // The trees of files, of which these rows are.
-fn printed_rows(
+fn printed_rows<'p>(
     alloc: Global,
     question: &TreeQuestion<'_, '_>,
-    trees: &Trees<'_, '_>,
-    rows: &[Row<'_, '_, '_>],
+    trees: &Trees<'p, '_>,
+    rows: &[Row<'_, 'p, '_>],
     options: TreeOptions,
 ) -> Result<String, AllocError>
     ensures { IfOk result (λ text. PrintsTrees options.format options.only_rejected
@@ -278,10 +278,10 @@ fn printed_rows(
 }
 
 // The trees of files.
-fn printed_trees(
+fn printed_trees<'p>(
     alloc: Global,
-    question: &TreeQuestion<'_, '_>,
-    trees: &Trees<'_, '_>,
+    question: &TreeQuestion<'p, '_>,
+    trees: &Trees<'p, '_>,
     options: TreeOptions,
 ) -> Result<String, AllocError>
     ensures { IfOk result (λ text. AreTreesSaid options.format options.only_rejected
@@ -293,10 +293,10 @@ fn printed_trees(
 }
 
 // What is found.
-fn printed_finding(
+fn printed_finding<'p>(
     alloc: Global,
-    question: &TreeQuestion<'_, '_>,
-    finding: &TreeFinding<'_, '_>,
+    question: &TreeQuestion<'p, '_>,
+    finding: &TreeFinding<'p, '_>,
     options: TreeOptions,
 ) -> Result<String, AllocError>
     ensures { let q = asked_of question.now in IfOk result (λ text.

@@ -706,8 +706,8 @@ fn add_accepted<'p>(
 
 // ---- a rejected path
 
-// The fault as a program needs it.
-fn add_fault<'p>(
+/// Adds the fault as a program needs it.
+pub(crate) fn add_fault<'p>(
     parts: &mut Vec<Part<'p>>,
     alloc: Global,
     name: &'p str,

@@ -1,7 +1,8 @@
-use Rattle.rpki_document.proofs.Built.{then_ended}
+use Rattle.std.proofs.Common.{append_assoc}
+use Rattle.rpki_document.proofs.Built.{ended_with}
 use Rattle.rpki_answers.proofs.tree_document.add_rejected.Goals as goal
 
 pub returns : goal.returns
 returns c =
-    then_ended c.add_unsaid.result _ _ _ _ _ c.in_ok-add_rejected_head.ensures
-    (rw c.in_ok-pieces.ensures.items at c.add_unsaid.ensures)
+    ended_with c.add_fault.result _ _ _ c.add_fault.ensures
+    (rw (c.in_ok-add_index.ensures, c.in_ok-add_rejected_head.ensures) (simp append_assoc))
