@@ -692,8 +692,9 @@ struct rpki_folder_question {
     size_t locator_length;
     struct rpki_time moment;
     size_t depth;    /* is the most certificates that a path has below the anchor; 0 means 32 */
-    size_t steps;    /* is the most certificates that are verified, each once for each path that
-                      * leads to it; 0 means 64 times as many as there are */
+    size_t steps;    /* is the steps of the walk: a certificate that a CA signed takes one for each path
+                      * that leads to it; they are divided evenly among the CAs below each CA; 0 means
+                      * 10,000,000 */
     uint32_t strict; /* is as for struct rpki_question */
     uint32_t key;    /* is an enum rpki_last_key, for each certificate: one that is the last of a valid
                       * path, but has another key, is rejected with RPKI_BAD_KEY */
@@ -736,7 +737,8 @@ enum rpki_ended {
     RPKI_NOT_BEGUN = 0,   /* there was an error */
     RPKI_WHOLE = 1,       /* every certificate was judged to which a valid path leads */
     RPKI_TOO_DEEP = 2,    /* every such one within the depth was judged, and more are below */
-    RPKI_OUT_OF_STEPS = 3 /* the limit of steps was reached before that */
+    RPKI_OUT_OF_STEPS = 3 /* a CA's share of the steps is less than its children, so none of these
+                           * was judged */
 };
 
 /* Holds how the walk ended. */

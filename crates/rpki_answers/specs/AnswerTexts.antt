@@ -1,10 +1,11 @@
 -- What is answered of the files that a request names.
-use Rattle.std.specs.Prelude.{◌≡◌, ◌*◌, ◌^◌, ◌-◌, min, unwrap_or, ℕ, length, List, []}
+use Rattle.std.specs.Prelude.{◌≡◌, unwrap_or, ℕ, List, []}
 use Rattle.rpki_keys.specs.RsaSignatures.{IsSignedByRsa}
 use Rattle.rpki_der.specs.Times.{Moment}
 use Rattle.rpki_cert.specs.Verification.{context}
 use Rattle.rpki_text.specs.CommandLines.{RequestFields}
 use Rattle.rpki_files.specs.Files.{FileFields}
+use Rattle.rpki_folder.specs.UsualBounds.{usual_steps}
 use Rattle.rpki_verdicts.specs.GivenLocators.{LocatorFields}
 use Rattle.rpki_verdicts.specs.PathFiles.{QuestionFields}
 use Rattle.rpki_verdicts.specs.Trees.{TreeFields}
@@ -36,10 +37,6 @@ question_of r now members lists locators =
 abbrev pub usual_depth : ℕ
 usual_depth = 32
 
--- how many are verified at most among so many files, where no word says it
-abbrev pub usual_steps : ℕ → ℕ
-usual_steps count = min (count * 64) (2 ^ 64 - 1)
-
 -- and what it asks of files in no order
 abbrev pub tree_question_of : RequestFields → Moment → List FileFields → List LocatorFields → TreeFields
 tree_question_of r now files locators = record {
@@ -49,7 +46,7 @@ tree_question_of r now files locators = record {
   strict = r.strict;
   at = now;
   depth = unwrap_or r.depth usual_depth;
-  steps = unwrap_or r.steps (usual_steps (length files));
+  steps = unwrap_or r.steps usual_steps;
 }
 
 -- how a request has trees printed

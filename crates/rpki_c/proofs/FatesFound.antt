@@ -25,12 +25,12 @@ use Rattle.rpki_path.specs.declared.judging.Judged.{Judged}
 use Rattle.rpki_path.specs.declared.located.LocatedError.TheVariants.{OtherKey, NoResources, Path as path}
 use Rattle.rpki_path.specs.declared.path_fault.PathError.{PathError}
 use Rattle.rpki_path.specs.declared.path_fault.PathFault.{PathFault}
-use Rattle.rpki_folder.specs.Folders.{octets_at, cas_at, NamesSigner}
+use Rattle.rpki_folder.specs.Folders.{octets_at, cas_at}
 use Rattle.rpki_folder.specs.KeptLines.{step, IsRejectedWithin, IsLine}
 use Rattle.rpki_cert.specs.SaidKinds.{BeginsWithKind}
-use Rattle.rpki_folder.specs.Walks.{Root, at_anchor, members_at, LeadsTo, IsAcceptedAs, IsReached, IsRightOf, IsRight, IsLetIn, Told, IsTold, told, Covers, AreAdmitted, StandsAt, IsLookedAt, IsWhyNone}
+use Rattle.rpki_folder.specs.Walks.{Root, at_anchor, members_at, LeadsTo, IsAcceptedAs, IsReached, IsRightOf, IsRight, IsLetIn, Told, IsTold, Covers, AreAdmitted, StandsAt, IsLookedAt, IsWhyNone}
 use Rattle.rpki_folder.specs.declared.bounds.Ended.{Ended}
-use Rattle.rpki_folder.specs.declared.bounds.Ended.TheVariants.{TooDeep, OutOfSteps}
+use Rattle.rpki_folder.specs.declared.bounds.Ended.TheVariants.{TooDeep}
 use Rattle.rpki_folder.specs.declared.folder.Added.{Added}
 use Rattle.rpki_folder.specs.declared.folder.Added.TheVariants.{Certificate, List as list_added, Neither}
 use Rattle.rpki_folder.specs.declared.lines.Line.{Line}
@@ -41,9 +41,10 @@ use Rattle.rpki_folder.proofs.AnchorSteps.{anchor_is}
 use Rattle.rpki_folder.proofs.Descent.{no_certificate}
 use Rattle.rpki_folder.proofs.Renamed.{all_looked_there}
 use Rattle.rpki_folder.proofs.WalkedNames.{walked_chain}
-use Rattle.rpki_c.specs.FolderFates.{Fate, anchor, AreListsAmong, IsFirstWithKey, IsFate, IsJudgedAt, IsValidFate, AreVerified, StandsBelow, AreFates, AreJudged}
+use Rattle.rpki_c.specs.FolderFates.{Fate, anchor, AreListsAmong, IsFirstWithKey, IsFate, IsJudgedAt, IsValidFate, StandsBelow, AreFates, AreJudged}
 use Rattle.rpki_c.specs.FolderFates.Steps.{IsAddedAs, IsSorted, origin_of, kept_fate, added_fate, fate_at, IsWalked, refusal_of}
-use Rattle.rpki_c.specs.FolderQuestions.{asked_or, usual_steps}
+use Rattle.rpki_folder.specs.UsualBounds.{usual_steps}
+use Rattle.rpki_c.specs.FolderQuestions.{asked_or}
 use Rattle.rpki_c.specs.FolderTelling.{AreLinesOf, AnswersBelow}
 use Rattle.rpki_c.specs.declared.folder_question.FolderTerms.{FolderTerms}
 use Rattle.rpki_c.specs.declared.refusal.Refusal.{Refusal}
@@ -239,35 +240,25 @@ module _ (x : Context) (asked : RevocationChecks) (t : NamedTal) (top_octets : L
               (subst (λ (o : List ℕ). IsRightOf x asked root (cas_at certs above) o (Err fault)) octets right),
         )
 
-    -- a verdict is right of the string that the certificate was
-    abbrev moved_told : Told → Told
-    moved_told t = told (map (origin_of s) t.above) (origin_of s t.place) t.verdict
-
-    told_right : (t : Told) → IsRight x asked root certs t → IsRight x asked root strings (moved_told t)
-    told_right t h =
-        subst (λ (l : List Candidate). IsRightOf x asked root l (octets_at strings (origin_of s t.place)) t.verdict) (sym (origin_cas t.above))
-        (subst (λ (o : List ℕ). IsRightOf x asked root (cas_at certs t.above) o t.verdict) (sym (origin_same t.place)) h)
-
-    all_right : (ts : List Told) → AllByRecursion (IsRight x asked root certs) ts → AllByRecursion (IsRight x asked root strings) (map moved_told ts)
-    all_right [] h = tt
-    all_right (t ∷ ts) h = (told_right t h.0, all_right ts h.1)
-
     -- a bound that is said to have been met was
-    verified : ended ≡ OutOfSteps → AreVerified x asked root strings steps
-    verified is = (map moved_told w.tells, all_right w.tells w.right, length-map w.tells moved_told ∙ w.used_up is)
-
     stands_below : ended ≡ TooDeep → StandsBelow x asked root strings depth
     stands_below is =
         let f = w.too_deep is in
         let h = f.2 in
-        let key = h.issuer.cert.fields.extensions.subject_key_identifier in (
+        let child = h.child in (
           map (origin_of s) f.0,
           length-map f.0 (origin_of s) ∙ f.1,
           record {
             issuer = h.issuer;
             leads = subst (λ (l : List Candidate). LeadsTo x asked root l h.issuer) (sym (origin_cas f.0)) h.leads;
             place = origin_of s h.place;
-            names = subst (λ (o : List ℕ). NamesSigner key o) (sym (origin_same h.place)) h.names;
+            child = record {
+              cert = child.cert;
+              stands = subst (λ (o : List ℕ). Means IsCertificate child.cert o) (sym (origin_same h.place)) child.stands;
+              names_key = child.names_key;
+              signed = child.signed;
+              one_algorithm = child.one_algorithm;
+            };
             admitted = all_admitted [] (map (origin_of s) f.0 ++ origin_of s h.place ∷ []);
           },
         )
@@ -377,12 +368,11 @@ module _ (x : Context) (asked : RevocationChecks) (t : NamedTal) (top_octets : L
         | inr apart ↦ subst (λ (f : Fate). IsValidFate f) (sym (beside_top i apart)) (reached_valid c above i low starts covers by h)
       ];
       too_deep = stands_below;
-      used_up = verified;
     }
 
 -- what becomes of sorted strings, where the lists among them are asked
 pub judged_found : (x : Context) (names : Bool) (t : NamedTal) (s : Sorted) (sorted : IsSorted s) (top depth steps : ℕ) (kept : List Line) (count : length kept ≡ length s.folder.certs) (ended : Ended) → IsUnambiguous IsCertificate
-    → IsFirstWithKey t.tal s.strings.now top → IsWalked x (by_named_lists names x s.folder.lists) names (at_anchor t (octets_at s.strings.now top)) s.folder.certs depth (asked_or steps (usual_steps (length s.folder.certs))) kept ended
+    → IsFirstWithKey t.tal s.strings.now top → IsWalked x (by_named_lists names x s.folder.lists) names (at_anchor t (octets_at s.strings.now top)) s.folder.certs depth (asked_or steps usual_steps) kept ended
     → AreJudged x names t s.strings.now top depth steps ended (fate_at s kept top)
 judged_found x names t s sorted top depth steps kept count ended law first w = record {
   top_is = first;
@@ -392,7 +382,8 @@ judged_found x names t s sorted top depth steps kept count ended law first w = r
   holds = w.holds;
   certs = s.folder.certs;
   certs_are = sorted.certs_are;
-  fates = fates_found x (by_named_lists names x s.folder.lists) t (octets_at s.strings.now top) names s sorted top depth (asked_or steps (usual_steps (length s.folder.certs))) kept count ended w law;
+  fates = fates_found x (by_named_lists names x s.folder.lists) t (octets_at s.strings.now top) names s sorted top depth (asked_or steps usual_steps) kept count ended w law;
+  short = w.short;
 }
 
 -- ---- a wrong trust anchor
@@ -430,13 +421,13 @@ module _ (x : Context) (t : NamedTal) (all : List (List ℕ)) (top : ℕ) (f : F
 
 module _ (x : Context) (t : NamedTal) (s : Sorted) (top : ℕ) (f : FolderTerms) (first : IsFirstWithKey t.tal s.strings.now top) (octets : List ℕ) (there : octets ≡ octets_at s.strings.now top) where
   -- the answer of a walk that ended
-  pub walk_answered : IsUnambiguous IsCertificate → (sorted : IsSorted s) (kept : List Line) (count : length kept ≡ length s.folder.certs) (ended : Ended) (within : ℕ) → within ≡ f.depth → (most : ℕ) → most ≡ asked_or f.steps (usual_steps (length s.folder.certs))
+  pub walk_answered : IsUnambiguous IsCertificate → (sorted : IsSorted s) (kept : List Line) (count : length kept ≡ length s.folder.certs) (ended : Ended) (within : ℕ) → within ≡ f.depth → (most : ℕ) → most ≡ asked_or f.steps usual_steps
       → IsWalked x (by_named_lists f.asks_names x s.folder.lists) f.asks_names (at_anchor t octets) s.folder.certs within most kept ended
       → (r : Result Walked Refusal) → IfOk r (λ it. AreLinesOf f.asks_key top s.strings.now (fate_at s kept top) (length s.strings.now) it.told) → IfOk r (λ it. it.ended ≡ ended) → IfOk r (λ it. it.anchor ≡ top)
       → IfErr r (λ e. e ≡ refusal.Memory) → AnswersBelow x f t s.strings.now r
   walk_answered law sorted kept count ended within same most as_many w (Ok it) lines ended_is anchor_is memory =
       let fate = λ (i : ℕ). fate_at s kept top i in
-      let limit = asked_or f.steps (usual_steps (length s.folder.certs)) in
+      let limit = asked_or f.steps usual_steps in
       let walked : IsWalked x (by_named_lists f.asks_names x s.folder.lists) f.asks_names (at_anchor t (octets_at s.strings.now top)) s.folder.certs f.depth limit kept ended =
       subst (λ (o : List ℕ). IsWalked x (by_named_lists f.asks_names x s.folder.lists) f.asks_names (at_anchor t o) s.folder.certs f.depth limit kept ended) there
       (subst (λ (n : ℕ). IsWalked x (by_named_lists f.asks_names x s.folder.lists) f.asks_names (at_anchor t octets) s.folder.certs f.depth n kept ended) as_many

@@ -1,6 +1,5 @@
 -- What becomes of strings, which are certificates and revocation lists in any order, below the
 -- trust anchor among them that has a locator's key (own).
-use Rattle.std.specs.List.{AllByRecursion}
 use Rattle.std.specs.Prelude.{◌≡◌, ◌⊎◌, ◌+◌, ◌<◌, ℕ, Bool, List, [], ◌∷◌, ◌++◌, length, Err, IsTrue}
 use Rattle.rpki_ext.specs.Kinds.{Means}
 use Rattle.rpki_cert.specs.Certificates.{CertFields, IsCertificate}
@@ -17,10 +16,11 @@ use Rattle.rpki_path.specs.Paths.{candidate}
 use Rattle.rpki_path.specs.declared.judging.Judged.{Judged}
 use Rattle.rpki_path.specs.declared.path_fault.PathFault.{PathFault}
 use Rattle.rpki_folder.specs.Folders.{octets_at, BeginsNoCertificate}
-use Rattle.rpki_folder.specs.Walks.{Root, at_anchor, members_at, LeadsTo, IsAcceptedAs, IsReached, Told, IsRight, IsRightOf, Covers, AreAdmitted, IsLookedAt, HasBelow}
+use Rattle.rpki_folder.specs.Walks.{Root, at_anchor, members_at, LeadsTo, IsAcceptedAs, IsReached, IsRightOf, Covers, AreAdmitted, IsLookedAt, HasBelow, IsShort}
 use Rattle.rpki_folder.specs.declared.bounds.Ended.{Ended}
 use Rattle.rpki_folder.specs.declared.bounds.Ended.TheVariants.{TooDeep, OutOfSteps}
-use Rattle.rpki_c.specs.FolderQuestions.{asked_or, usual_steps}
+use Rattle.rpki_folder.specs.UsualBounds.{usual_steps}
+use Rattle.rpki_c.specs.FolderQuestions.{asked_or}
 use Rattle.rpki_c.specs.Verdicts.{AreNoList}
 pub mod Steps
 
@@ -104,11 +104,6 @@ IsValidFate anchor = Unit {0}
 IsValidFate (accepted above j) = Unit {0}
 IsValidFate _ = ⊥
 
--- so many verdicts on strings are right, each on the certificate at a place below CAs at places
-abbrev pub AreVerified : Context → RevocationChecks → Root → List (List ℕ) → ℕ → Type 0
-AreVerified x asked root strings n =
-    (told : List Told) × AllByRecursion (IsRight x asked root strings) told × (length told ≡ n)
-
 -- a certificate stands below a valid path of so many CAs
 abbrev pub StandsBelow : Context → RevocationChecks → Root → List (List ℕ) → ℕ → Type 0
 StandsBelow x asked root strings n =
@@ -128,12 +123,12 @@ pub record AreFates (x : Context) (asked : RevocationChecks) (names : Bool) (roo
       → AreAdmitted (IsLookedAt names (λ l p. Unit {0}) c strings) [] (above ++ place ∷ [])
       → IsReached x asked root strings above place → IsValidFate (fate place)
   pub too_deep : ended ≡ TooDeep → StandsBelow x asked root strings depth
-  pub used_up : ended ≡ OutOfSteps → AreVerified x asked root strings steps
 
 -- what becomes of the strings at a moment, by a walk that ended so: the first that has the
 -- locator's key is a valid trust anchor, and the lists among them are asked for revocation, which have
 -- to have their issuers' names if names are asked (RFC 5280 6.3.3 (b) (1)); the steps are those that
--- are asked for, or else the usual ones for so many certificates
+-- are asked for, or else the usual ones. Where these are said to be used up,
+-- the share of a CA is less than its children
 pub record AreJudged (x : Context) (names : Bool) (t : NamedTal) (strings : List (List ℕ))
     (top depth steps : ℕ) (ended : Ended) (fate : ℕ → Fate) : Type 0 where
   pub top_is : IsFirstWithKey t.tal strings top
@@ -144,4 +139,7 @@ pub record AreJudged (x : Context) (names : Bool) (t : NamedTal) (strings : List
   pub certs : List (List ℕ)
   pub certs_are : AreCertificatesAmong strings certs
   pub fates : AreFates x (by_named_lists names x lists) names (at_anchor t (octets_at strings top))
-      strings top depth (asked_or steps (usual_steps (length certs))) ended fate
+      strings top depth (asked_or steps usual_steps) ended fate
+  pub short : ended ≡ OutOfSteps → IsShort x (by_named_lists names x lists)
+      (IsLookedAt names (λ above place. Unit {0}) holder.cert certs)
+      (at_anchor t (octets_at strings top)) certs [] (asked_or steps usual_steps)

@@ -1,5 +1,5 @@
 -- What a caller asks of a folder, by octets, lengths and numbers (own).
-use Rattle.std.specs.Prelude.{◌≡◌, ◌≢◌, ◌↔◌, ◌==◌, ◌*◌, ◌^◌, ◌-◌, ℕ, IsTrue, min, if◌then◌else◌}
+use Rattle.std.specs.Prelude.{◌≡◌, ◌≢◌, ◌↔◌, ◌==◌, ℕ, IsTrue, if◌then◌else◌}
 use Rattle.rpki_der.specs.Times.{IsMoment}
 use Rattle.rpki_c.specs.Questions.{choice_number}
 use Rattle.rpki_c.specs.TimeParts.{moment_of_parts}
@@ -17,10 +17,6 @@ asked_or asked usual = if asked == 0 then usual else asked
 -- how many certificates a path has at most below the trust anchor, where no depth is asked for
 abbrev pub usual_depth : ℕ
 usual_depth = 32
-
--- how many of so many certificates are verified at most, where no steps are asked for
-abbrev pub usual_steps : ℕ → ℕ
-usual_steps count = min (64 * count) (2 ^ 64 - 1)
 
 -- the folder of the question is judged so
 pub record HasFolderTerms (q : RpkiFolderQuestion) (t : FolderTerms) : Type 0 where

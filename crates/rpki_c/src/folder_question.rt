@@ -6,7 +6,7 @@ use crate::moments::{RpkiTime, moment_of};
 use crate::question::is_asked;
 use crate::strings::RpkiStrings;
 use rpki_der::Time;
-use rpki_folder::Bounds;
+use rpki_folder::{Bounds, USUAL_STEPS};
 
 /// A question about a directory.
 #[repr(C)]
@@ -35,8 +35,6 @@ pub(crate) const FOLDER_QUESTION_SIZE: usize = size_of::<RpkiFolderQuestion<'_>>
 
 const USUAL_DEPTH: usize = 32;
 
-const USUAL_STEPS: usize = 64;
-
 /// The terms under which a directory is validated.
 #[derive(Clone, Copy)]
 pub(crate) struct FolderTerms {
@@ -62,16 +60,17 @@ fn asked_or(asked: usize, usual: usize) -> usize
 
 impl FolderTerms {
     ghost use Rattle.std.specs.Prelude.{◌≡◌};
-    ghost use Rattle.rpki_c.specs.FolderQuestions.{asked_or, usual_steps};
+    ghost use Rattle.rpki_folder.specs.UsualBounds.{usual_steps};
+    ghost use Rattle.rpki_c.specs.FolderQuestions.{asked_or};
 
-    /// Returns the limits of the walk over so many certificates.
-    pub(crate) fn bounds(self, count: usize) -> Bounds
+    /// Returns the limits of the walk.
+    pub(crate) fn bounds(self) -> Bounds
         ensures depth { result.depth ≡ self.depth }
-        ensures steps { result.steps ≡ asked_or self.steps (usual_steps count) }
+        ensures steps { result.steps ≡ asked_or self.steps usual_steps }
     {
         Bounds {
             depth: self.depth,
-            steps: asked_or(self.steps, count.saturating_mul(USUAL_STEPS)),
+            steps: asked_or(self.steps, USUAL_STEPS),
         }
     }
 }

@@ -121,7 +121,7 @@ fn walk_from(
     let count = sorted.folder.certs().len();
     let (strict, at, asks_key) = (terms.strict, terms.now, terms.asks_key);
     let names = terms.asks_names;
-    let bounds = terms.bounds(count);
+    let bounds = terms.bounds();
     let walk = Walk {
         alloc,
         folder: &sorted.folder,

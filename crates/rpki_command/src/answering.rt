@@ -17,6 +17,7 @@ ghost use Rattle.rpki_verdicts.specs.Trees.{asked_of};
 use rpki_answers::{Answer, Options, Outcome, TreeOptions, shown, treed, validated};
 use rpki_der::Time;
 use rpki_files::{BareObject, Object};
+use rpki_folder::USUAL_STEPS;
 use rpki_text::command_line::{Format, Request, Task};
 use rpki_verdicts::{GivenLocator, Question, TreeQuestion};
 use std::alloc::{AllocError, Global};
@@ -122,10 +123,6 @@ fn if_read(answer: Answer, are_all_read: bool) -> Answer
 /// The greatest depth of a path below a trust anchor, if the command line doesn't set it.
 const USUAL_DEPTH: usize = 32;
 
-/// The most certificates that are verified for each named file, if the command line doesn't set a
-/// limit.
-const USUAL_STEPS: usize = 64;
-
 /// Returns the question of a request about files in any order.
 pub fn tree_question<'q, 'n>(
     request: &Request<'_>,
@@ -136,7 +133,6 @@ pub fn tree_question<'q, 'n>(
     ensures { asked_of result
         ≡ tree_question_of (fields_of request.now) now files.now locators.now }
 {
-    let usual_steps = files.len().saturating_mul(USUAL_STEPS);
     TreeQuestion {
         files,
         locators,
@@ -144,7 +140,7 @@ pub fn tree_question<'q, 'n>(
         strict: request.strict,
         at: now,
         depth: request.depth.unwrap_or(USUAL_DEPTH),
-        steps: request.steps.unwrap_or(usual_steps),
+        steps: request.steps.unwrap_or(USUAL_STEPS),
     }
 }
 

@@ -1,7 +1,7 @@
 -- What has a valid path through a folder has one without a circle.
 use Rattle.std.specs.List.{AllZip}
 use Rattle.std.specs.Prelude.{Bool, None, Ok}
-use Rattle.std.proofs.Common.{◌≡◌, ◌⊎◌, ◌+◌, ◌-◌, ◌<◌, ◌≤◌, ℕ, zero, suc, List, [], ◌∷◌, ◌++◌, length, take, drop, refl, inl, inr, arith}
+use Rattle.std.proofs.Common.{◌≡◌, ◌⊎◌, ◌+◌, ◌<◌, ◌≤◌, ℕ, zero, suc, List, [], ◌∷◌, ◌++◌, length, take, drop, refl, inl, inr, arith}
 use Rattle.rpki_der.specs.Values.{IsUnambiguous}
 use Rattle.rpki_cert.specs.Certificates.{IsCertificate}
 use Rattle.rpki_cert.specs.Verification.{Context, ResourceFields}

@@ -4,7 +4,7 @@ use Rattle.std.proofs.Common.{◌≡◌, ◌≢◌, ◌⊎◌, ◌+◌, ◌<◌,
 use Rattle.std.proofs.Math.ListN.{get_or-append}
 use Rattle.std.proofs.Math.Nat.{eq-or-lt_of_le}
 use Rattle.std.proofs.Math.Seq.{get_or-append_seam}
-use Rattle.std.proofs.lemmas.List.{length-append}
+use Rattle.std.proofs.lemmas.List.{length-append, append-nil, nil_from_length}
 use Rattle.std.proofs.lemmas.List.Elements.{Contains-push_cases, Contains-append_left, Contains-push}
 use Rattle.std.proofs.lemmas.Slice.Eq.{bytes_eq-Decides}
 use Rattle.rpki_der.specs.Place.{Rejects}
@@ -12,10 +12,13 @@ use Rattle.rpki_der.specs.Values.{IsUnambiguous}
 use Rattle.rpki_der.specs.declared.error.DecodeError.{DecodeError}
 use Rattle.rpki_der.specs.declared.error.DecodeError.TheVariants.{Memory}
 use Rattle.rpki_der.proofs.Formats.{one_meant}
+use Rattle.rpki_der.specs.Encoding.{Begins}
 use Rattle.rpki_ext.specs.Kinds.{Means}
+use Rattle.rpki_crl.specs.Lists.{CrlFields, IsCertificateList}
 use Rattle.rpki_cert.specs.Certificates.{CertFields, IsCertificate}
 use Rattle.rpki_folder.specs.Folders.{octets_at, NamesSigner, ArePlacesOf}
 use Rattle.rpki_folder.specs.KeyTables.{with_place}
+use Rattle.rpki_folder.proofs.OnceLists.{once_push}
 
 some_one : {X : Type 0} (x y : X) → Some x ≡ Some y → x ≡ y
 some_one x y e = cc e
@@ -55,6 +58,7 @@ module _ (certs : List (List ℕ)) (octets : List ℕ) where
         | inl is ↦ absurd (never (subst (λ (o : List ℕ). NamesSigner key o) new_at (subst (λ (p : ℕ). NamesSigner key (octets_at more p)) is names)))
         | inr low ↦ old_all place low names
       ];
+      once = old.once;
     }
 
     -- the key that signs it
@@ -72,6 +76,7 @@ module _ (certs : List (List ℕ)) (octets : List ℕ) where
         | inl is ↦ subst (λ (p : ℕ). Contains (places ++ length certs ∷ []) p) (sym is) (Contains-push places (length certs))
         | inr low ↦ Contains-append_left places (length certs ∷ []) place (old_all place low names)
       ];
+      once = once_push places (length certs) old.once (λ among. let low = old.inside (length certs) among in absurd (omega (arith, low)));
     }
 
   module _ (law : IsUnambiguous IsCertificate) (c : CertFields) (begins : Means IsCertificate c octets) (table : List ℕ → List ℕ) (old : (key : List ℕ) → ArePlacesOf certs key (table key)) where
@@ -99,3 +104,17 @@ module _ (certs : List (List ℕ)) (octets : List ℕ) where
 pub rejected : (P : Type 0) (e : DecodeError) → Rejects e P → e ≢ Memory → P
 rejected P Memory h apart = absurd (apart refl)
 rejected P e h apart = h
+
+-- ---- lists with octets behind them
+
+-- what no list is at the front of is no list
+pub no_list_at_all : (octets : List ℕ) → ((y : CrlFields) (rest : List ℕ) → Begins IsCertificateList octets y rest → ⊥) → (y : CrlFields) → IsCertificateList y octets → ⊥
+no_list_at_all octets none y is = none y [] (record { text = octets; encoded = is; parts = sym (append-nil octets) })
+
+-- nor is what has octets behind one
+pub no_whole_list : IsUnambiguous IsCertificateList → (octets rest : List ℕ) (l : CrlFields) → Begins IsCertificateList octets l rest → (rest ≡ [] → ⊥) → (y : CrlFields) → IsCertificateList y octets → ⊥
+no_whole_list law octets rest l begins some y is =
+    let same : octets ≡ begins.text = (law y l octets begins.text [] rest is begins.encoded (append-nil octets ∙ begins.parts)).1 in
+    let long = length-append begins.text rest in
+    let none : length rest ≡ 0 = omega (arith, long, ap length begins.parts, ap length same) in
+    some (nil_from_length rest none)

@@ -1,15 +1,15 @@
 -- What the members of a path hold are sets.
-use Rattle.std.proofs.Common.{◌≡◌, ◌⊎◌, ◌↔◌, ◌≤◌, ℕ, true, max, min, List, [], ◌∷◌, ◌++◌, refl, sym, subst, inl, inr, append_assoc, arith}
+use Rattle.std.proofs.Common.{◌≡◌, ◌≤◌, ℕ, true, max, min, List, [], ◌∷◌, ◌++◌, refl, sym, subst, inl, inr, append_assoc, arith}
 use Rattle.std.proofs.lemmas.List.{append-nil}
-use Rattle.rpki_blocks.specs.Sets.{Block, Has, between, is_in}
+use Rattle.rpki_blocks.specs.Sets.{Block, between, is_in}
 use Rattle.rpki_blocks.specs.Resources.{Resources, missing, inherit, blocks}
-use Rattle.rpki_blocks.specs.IssuedSets.{IsListed, Gets, IsIssued}
+use Rattle.rpki_blocks.specs.IssuedSets.{IsListed, IsIssued}
 use Rattle.rpki_blocks.proofs.Sets.{in_head, in_tail, in_cases}
 use Rattle.rpki_blocks.proofs.ChainWalks.{in_append_cases, in_append_left, in_append_right}
 use Rattle.rpki_cert.specs.Certificates.{CertFields}
 use Rattle.rpki_cert.specs.Verification.{Context, HasIssued, ListsNumbers, ResourceFields}
 use Rattle.rpki_path.specs.Asking.{RevocationChecks}
-use Rattle.rpki_path.specs.Paths.{Path, Member, HasHeld, Holds, NumberKind, v4_addresses, v6_addresses, system_numbers, kind_resources, longer, member}
+use Rattle.rpki_path.specs.Paths.{Path, Member, HasHeld, Holds, NumberKind, v4_addresses, v6_addresses, system_numbers, kind_resources, longer}
 use Rattle.rpki_path.proofs.ValidPaths.{held_then}
 
 -- ---- numbers of two sets

@@ -1,7 +1,7 @@
 -- Files that strangers add change no path on which no issuer has a key of theirs.
 use Rattle.std.specs.List.{AllByRecursion}
 use Rattle.std.specs.Prelude.{Bool, true, false, Contains}
-use Rattle.std.proofs.Common.{◌≡◌, ◌⊎◌, ◌↔◌, ◌+◌, ◌<◌, ℕ, zero, suc, List, [], ◌∷◌, length, map, get_or, refl, sym, ap, subst, ◌∙◌, inl, inr, arith}
+use Rattle.std.proofs.Common.{◌≡◌, ◌↔◌, ◌+◌, ◌<◌, ℕ, zero, suc, List, [], ◌∷◌, length, map, get_or, sym, subst, inl, inr, arith}
 use Rattle.rpki_parts.specs.Keys.{KeyFields}
 use Rattle.rpki_cert.specs.Certificates.{TbsFields, CertFields}
 use Rattle.rpki_cert.specs.Profiles.{MeetsProfile}
@@ -16,7 +16,7 @@ use Rattle.rpki_path.specs.Asking.{IsUnrevokedBy}
 use Rattle.rpki_path.specs.AskedLists.{IsEligibleNamed, HasBegun, IsForBelow, IsAskedOf, Supersedes, by_named_lists}
 use Rattle.rpki_path.specs.Paths.{Path, Member, last, certificate_at, IsValidPath}
 use Rattle.rpki_folder.specs.Folders.{FolderFields}
-use Rattle.rpki_folder.specs.Strangers.{HasCertificate, HasList, IsSignedByOnly, AddsOnly, IsFreeOf, LeadsThrough}
+use Rattle.rpki_folder.specs.Strangers.{HasCertificate, AddsOnly, IsFreeOf, LeadsThrough}
 
 -- ---- lists
 

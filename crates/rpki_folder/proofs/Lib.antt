@@ -1,6 +1,12 @@
+pub mod OnceLists
 pub mod PathsDown
 pub mod Outcomes
 pub mod Descent
+pub mod Shares
+pub mod ChildSteps
+pub mod KeptIssuers
+pub mod ClaimSteps
+pub mod BelowIssuer
 pub mod LookedAt
 pub mod AnchorSteps
 pub mod WalkedNames

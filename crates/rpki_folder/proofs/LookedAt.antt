@@ -1,13 +1,12 @@
 -- Which certificates are looked at below an issuer, and whether that is in a circle.
-use Rattle.std.specs.Prelude.{Bool, true, false, Contains, IsTrue, IsFalse}
-use Rattle.std.proofs.Common.{◌≡◌, ◌⊎◌, ◌<◌, ℕ, List, [], ◌∷◌, ◌++◌, length, get_or, refl, sym, ap, subst, ◌∙◌, inl, inr, arith}
+use Rattle.std.specs.Prelude.{Bool, Contains}
+use Rattle.std.proofs.Common.{◌≡◌, ◌<◌, ℕ, List, [], ◌∷◌, ◌++◌, length, refl, sym, ap, subst, ◌∙◌, inl, inr}
 use Rattle.std.proofs.lemmas.List.Elements.{Contains-push_cases}
 use Rattle.rpki_der.specs.Values.{IsUnambiguous}
 use Rattle.rpki_der.proofs.Formats.{one_meant}
 use Rattle.rpki_cert.specs.Certificates.{CertFields, IsCertificate}
-use Rattle.rpki_path.specs.Repeats.{AreOneEntity}
 use Rattle.rpki_folder.specs.Folders.{octets_at}
-use Rattle.rpki_folder.specs.Walks.{StandsAt, IsAmong, IsLastOf, IsNamedUnder, IsRepeated, EndsNoCircle, IsLookedAt}
+use Rattle.rpki_folder.specs.Walks.{StandsAt, IsLastOf, IsNamedUnder, IsRepeated, EndsNoCircle, IsLookedAt}
 
 module _ (top : CertFields) (certs : List (List ℕ)) where
   -- the certificate at the place that was put behind the others is the last

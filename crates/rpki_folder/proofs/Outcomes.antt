@@ -12,12 +12,12 @@ use Rattle.rpki_path.specs.declared.judging.Judged.{Judged}
 use Rattle.rpki_path.specs.declared.path_fault.PathFault.{PathFault}
 use Rattle.rpki_path.specs.Paths.{Candidate, candidate}
 use Rattle.rpki_path.specs.Judging.{IsRouterIfAny}
-use Rattle.rpki_folder.specs.Folders.{octets_at, cas_at, NamesSigner}
+use Rattle.rpki_folder.specs.Folders.{octets_at, cas_at}
 use Rattle.rpki_cert.specs.SaidKinds.{BeginsWithKind}
-use Rattle.rpki_folder.specs.Walks.{Root, members_at, LeadsTo, IsAcceptedAs, IsReached, IsRightOf}
+use Rattle.rpki_folder.specs.Walks.{Root, members_at, LeadsTo, IsAcceptedAs, IsReached, IsRightOf, IsChildOf}
 use Rattle.rpki_folder.specs.Walks.Steps.{IsAnswer, GoesOn, IsOutcome}
 use Rattle.rpki_cert.proofs.SaidOnce.{begins_one}
-use Rattle.rpki_folder.proofs.PathsDown.{members_more, leads_further, no_fault, names_signer, says_authority, no_router_fault, router_names_signer}
+use Rattle.rpki_folder.proofs.PathsDown.{members_more, leads_further, no_fault, is_child, says_authority, no_router_fault, router_is_child}
 
 -- the first of these places
 abbrev pub head_of : List ℕ → ℕ → ℕ
@@ -42,13 +42,13 @@ module _ (x : Context) (asked : RevocationChecks) (root : Root) (law : IsUnambig
     right_answer Detached says (Err e) h = (h.0, (Detached, issuer, says, a, h.1))
     right_answer Router says (Err e) h = (h.0, (Router, issuer, says, a, h.1))
 
-    -- octets that are accepted name the issuer's key
-    pub accepted_names : (kind : Kind) → BeginsWithKind kind octets → (j : Judged) → IsAcceptedAs x asked root members kind octets j → NamesSigner issuer.cert.fields.extensions.subject_key_identifier octets
-    accepted_names Anchor says j h = absurd says.2
-    accepted_names Authority says j h = names_signer x asked root law members issuer a Authority octets [] j.holder h.0
-    accepted_names EndEntity says j h = names_signer x asked root law members issuer a EndEntity octets [] j.holder h.0
-    accepted_names Detached says j h = names_signer x asked root law members issuer a Detached octets [] j.holder h.0
-    accepted_names Router says j h = router_names_signer x asked root law members issuer a octets j.holder j.router h.0 h.1
+    -- octets that are accepted are those of a child
+    pub accepted_child : (kind : Kind) → BeginsWithKind kind octets → (j : Judged) → IsAcceptedAs x asked root members kind octets j → (certs : List (List ℕ)) (place : ℕ) → octets ≡ octets_at certs place → IsChildOf x.verifies issuer.cert certs place
+    accepted_child Anchor says j h = absurd says.2
+    accepted_child Authority says j h = is_child x asked root law members issuer a Authority octets [] j.holder h.0
+    accepted_child EndEntity says j h = is_child x asked root law members issuer a EndEntity octets [] j.holder h.0
+    accepted_child Detached says j h = is_child x asked root law members issuer a Detached octets [] j.holder h.0
+    accepted_child Router says j h = router_is_child x asked root law members issuer a octets j.holder j.router h.0 h.1
 
     -- octets that are accepted aren't rejected
     accepted_ok : (kind : Kind) → BeginsWithKind kind octets → (j : Judged) → IsAcceptedAs x asked root members kind octets j → (verdict : Result Judged PathFault) → IsAnswer x asked issuer octets kind verdict → IsOk verdict
@@ -114,12 +114,11 @@ module _ (x : Context) (asked : RevocationChecks) (root : Root) (law : IsUnambig
     reached_passes rest end h = accepted_passes rest h.0 (octets_at certs end) h.1 h.2 h.3
 
     module _ (issuer : ResourceFields) (a : LeadsTo x asked root (members_at root certs above) issuer) where
-      -- what is reached below an issuer names its key
-      pub reached_names : (between : List ℕ) (end : ℕ) → head_of between end ≡ place → IsReached x asked root certs (above ++ between) end → NamesSigner issuer.cert.fields.extensions.subject_key_identifier (octets_at certs place)
-      reached_names [] end is h =
+      -- what is reached below an issuer goes by a child of it
+      pub reached_child : (between : List ℕ) (end : ℕ) → head_of between end ≡ place → IsReached x asked root certs (above ++ between) end → IsChildOf x.verifies issuer.cert certs place
+      reached_child [] end is h =
           let here : IsReached x asked root certs above end = subst (λ (l : List ℕ). IsReached x asked root certs l end) (append-nil above) h in
-          subst (λ (p : ℕ). NamesSigner issuer.cert.fields.extensions.subject_key_identifier (octets_at certs p)) is
-          (accepted_names (members_at root certs above) issuer a (octets_at certs end) here.0 here.2 here.1 here.3)
-      reached_names (p ∷ rest) end is h =
+          accepted_child (members_at root certs above) issuer a (octets_at certs end) here.0 here.2 here.1 here.3 certs place (ap (λ (p : ℕ). octets_at certs p) is)
+      reached_child (p ∷ rest) end is h =
           let passes = reached_passes rest end (subst (λ (q : ℕ). IsReached x asked root certs (above ++ q ∷ rest) end) is h) in
-          names_signer x asked root law (members_at root certs above) issuer a Authority (octets_at certs place) passes.after passes.holder passes.leads
+          is_child x asked root law (members_at root certs above) issuer a Authority (octets_at certs place) passes.after passes.holder passes.leads certs place refl

@@ -1,14 +1,15 @@
 -- Valid paths from a locator that go on through a folder.
 use Rattle.std.specs.List.{AllByRecursion}
-use Rattle.std.specs.Prelude.{Option, None, Some, IsSome, IfSome}
+use Rattle.std.specs.Prelude.{Bool, Option, None, Some, IsSome, IfSome}
 use Rattle.std.proofs.Common.{◌≡◌, ◌≢◌, ◌+◌, ◌<◌, ◌≤◌, ℕ, List, [], ◌∷◌, ◌++◌, Ok, length, refl, sym, subst, ap, ◌∙◌, append_assoc, arith}
 use Rattle.std.proofs.lemmas.List.{map-append, length-append}
 use Rattle.rpki_der.specs.Values.{IsUnambiguous}
+use Rattle.rpki_ext.specs.Kinds.{Means}
 use Rattle.rpki_cert.specs.Certificates.{CertFields, IsCertificate}
 use Rattle.rpki_cert.specs.Profiles.{MeetsProfile}
-use Rattle.rpki_cert.specs.Verification.{Context, ResourceFields, IsVerified, issued_checks}
+use Rattle.rpki_cert.specs.Verification.{Context, ResourceFields, IsSignedBy, IsVerified, issued_checks}
 use Rattle.rpki_cert.specs.declared.inspect.Kind.{Kind}
-use Rattle.rpki_cert.specs.declared.inspect.Kind.TheVariants.{Authority}
+use Rattle.rpki_cert.specs.declared.inspect.Kind.TheVariants.{Anchor, Authority, EndEntity, Detached, Router}
 use Rattle.rpki_path.specs.Asking.{RevocationChecks}
 use Rattle.rpki_path.specs.declared.judging.Judged.{Judged}
 use Rattle.rpki_path.specs.declared.path_fault.PathFault.{PathFault}
@@ -25,9 +26,9 @@ use Rattle.rpki_path.proofs.LocatedPaths.{located_headline}
 use Rattle.rpki_path.proofs.ValidPaths.{one_more}
 use Rattle.rpki_path.proofs.Rejections.{one_path, GoesOn, goes_on, fault_there, no_valid_path}
 use Rattle.rpki_path.proofs.Verdicts.{wrong_below}
-use Rattle.rpki_folder.specs.Folders.{octets_at, cas_at, NamesSigner}
+use Rattle.rpki_folder.specs.Folders.{octets_at, cas_at}
 use Rattle.rpki_cert.specs.SaidKinds.{BeginsWithKind}
-use Rattle.rpki_folder.specs.Walks.{Root, members_at, LeadsTo}
+use Rattle.rpki_folder.specs.Walks.{Root, members_at, LeadsTo, IsChildOf}
 use Rattle.rpki_cert.proofs.SaidOnce.{authority_says}
 
 -- ---- members at places
@@ -60,6 +61,14 @@ unless_holds Memory apart h = absurd (apart refl)
 pub some_is : {X : Type 0} (o : Option X) (x : X) → IsSome o → IfSome o (λ y. y ≡ x) → o ≡ Some x
 some_is None x some is = absurd cc
 some_is (Some y) x some is = ap (λ (z : _). Some z) is
+
+-- each profile asks for it
+pub one_algorithm_of : (strict : Bool) (kind : Kind) (c : CertFields) → MeetsProfile kind strict c → c.fields.algorithm ≡ c.signed_data.signature.algorithm
+one_algorithm_of strict Anchor c h = h.0
+one_algorithm_of strict Authority c h = h.0
+one_algorithm_of strict EndEntity c h = h.0
+one_algorithm_of strict Detached c h = h.0
+one_algorithm_of strict Router c h = h.0
 
 module _ (x : Context) (asked : RevocationChecks) (root : Root) (law : IsUnambiguous IsCertificate) where
   -- the same, with no locator
@@ -97,9 +106,9 @@ module _ (x : Context) (asked : RevocationChecks) (root : Root) (law : IsUnambig
         unless_holds e apart (no_valid_path x asked law root.anchor (members ++ candidate kind octets ∷ after) error fault) in
         none b.path b.path_of b.is_valid.is_valid
 
-    -- it names the issuer's key as the one that signs it
-    pub names_signer : NamesSigner issuer.cert.fields.extensions.subject_key_identifier octets
-    names_signer =
+    -- it is a child of the issuer
+    pub is_child : (certs : List (List ℕ)) (place : ℕ) → octets ≡ octets_at certs place → IsChildOf x.verifies issuer.cert certs place
+    is_child certs place stands =
         let q = a.path in
         let m = on.item in
         let all = extended q m on.more in
@@ -107,13 +116,18 @@ module _ (x : Context) (asked : RevocationChecks) (root : Root) (law : IsUnambig
         let same : last q ≤ last q = omega arith in
         let valid = subst (λ (y : Path). (i : ℕ) → i < last y → IsVerified (CheckBelow x y i (certificate_at y (i + 1))) issued_checks) on.path_is b.is_valid.is_valid.members_verified in
         let verified : IsVerified (CheckBelow x all (last q) m.cert) issued_checks = subst (λ (c : CertFields). IsVerified (CheckBelow x all (last q) c) issued_checks) (there q m on.more) (valid (last q) low) in
+        let one : certificate_at all (last q) ≡ issuer.cert = above q m on.more (last q) same ∙ sym a.held.cert_is in
         let named : IfSome m.cert.fields.extensions.authority_key_identifier (λ id. id ≡ (certificate_at all (last q)).fields.extensions.subject_key_identifier) = verified.1.1.1.0 in
         let key = (certificate_at all (last q)).fields.extensions.subject_key_identifier in
-        let is : key ≡ issuer.cert.fields.extensions.subject_key_identifier = ap (λ (c : CertFields). c.fields.extensions.subject_key_identifier) (above q m on.more (last q) same ∙ sym a.held.cert_is) in
+        let is : key ≡ issuer.cert.fields.extensions.subject_key_identifier = ap (λ (c : CertFields). c.fields.extensions.subject_key_identifier) one in
+        let meet = subst (λ (y : Path). AllByRecursion (λ (n : Member). MeetsProfile n.kind x.strict n.cert) y.below) on.path_is b.is_valid.is_valid.members_meet in
+        let meets : MeetsProfile m.kind x.strict m.cert = all_at (λ (n : Member). MeetsProfile n.kind x.strict n.cert) a.path.below m on.more meet in
         record {
           cert = m.cert;
-          begins = on.item_is.begins;
-          names = some_is m.cert.fields.extensions.authority_key_identifier key verified.1.1.0 named ∙ ap (λ (k : List ℕ). Some k) is;
+          stands = subst (λ (o : List ℕ). Means IsCertificate m.cert o) stands on.item_is.begins;
+          names_key = some_is m.cert.fields.extensions.authority_key_identifier key verified.1.1.0 named ∙ ap (λ (k : List ℕ). Some k) is;
+          signed = subst (λ (c : CertFields). IsSignedBy x.verifies c.fields.key m.cert.signed_data) one verified.1.1.1.1.1.0;
+          one_algorithm = one_algorithm_of x.strict m.kind m.cert meets;
         }
 
     -- where it is a CA, it says so
@@ -143,12 +157,15 @@ module _ (x : Context) (asked : RevocationChecks) (root : Root) (law : IsUnambig
   router_same r octets None h = h
   router_same r octets (Some c) h = (h.0, record { meets = h.1.meets; checks = h.1.checks; unrevoked = h.1.unrevoked })
 
-  router_named : (holder : ResourceFields) (octets : List ℕ) (o : Option CertFields) → IsRouterIfAny x asked holder (Some octets) o → NamesSigner holder.cert.fields.extensions.subject_key_identifier octets
-  router_named holder octets None h = absurd h
-  router_named holder octets (Some c) h = record {
+  router_child_of : (holder : ResourceFields) (octets : List ℕ) (o : Option CertFields) → IsRouterIfAny x asked holder (Some octets) o → (certs : List (List ℕ)) (place : ℕ) → octets ≡ octets_at certs place
+      → IsChildOf x.verifies holder.cert certs place
+  router_child_of holder octets None h certs place stands = absurd h
+  router_child_of holder octets (Some c) h certs place stands = record {
     cert = c;
-    begins = h.0;
-    names = some_is c.fields.extensions.authority_key_identifier holder.cert.fields.extensions.subject_key_identifier h.1.checks.1.1.0 h.1.checks.1.1.1.0;
+    stands = subst (λ (o : List ℕ). Means IsCertificate c o) stands h.0;
+    names_key = some_is c.fields.extensions.authority_key_identifier holder.cert.fields.extensions.subject_key_identifier h.1.checks.1.1.0 h.1.checks.1.1.1.0;
+    signed = h.1.checks.1.1.1.1.1.0;
+    one_algorithm = one_algorithm_of x.strict Router c h.1.meets;
   }
 
   module _ (members : List Candidate) (issuer : ResourceFields) (a : LeadsTo x asked root members issuer) (octets : List ℕ) (holder : ResourceFields) (o : Option CertFields) (b : LeadsTo x asked root members holder) (router : IsRouterIfAny x asked holder (Some octets) o) where
@@ -161,9 +178,7 @@ module _ (x : Context) (asked : RevocationChecks) (root : Root) (law : IsUnambig
         let j : Judged = record { holder = nameless holder; router = o } in
         (unless_holds e apart wrong).0 j (record { accepted = alone members holder b; router = router_same holder octets o router })
 
-    -- it names the issuer's key as the one that signs it
-    pub router_names_signer : NamesSigner issuer.cert.fields.extensions.subject_key_identifier octets
-    router_names_signer =
-        let key : holder.cert.fields.extensions.subject_key_identifier ≡ issuer.cert.fields.extensions.subject_key_identifier =
-        ap (λ (c : CertFields). c.fields.extensions.subject_key_identifier) (one_holder members holder issuer b a) in
-        subst (λ (k : List ℕ). NamesSigner k octets) key (router_named holder octets o router)
+    -- it is a child of the issuer
+    pub router_is_child : (certs : List (List ℕ)) (place : ℕ) → octets ≡ octets_at certs place → IsChildOf x.verifies issuer.cert certs place
+    router_is_child certs place stands =
+        subst (λ (c : CertFields). IsChildOf x.verifies c certs place) (one_holder members holder issuer b a) (router_child_of holder octets o router certs place stands)

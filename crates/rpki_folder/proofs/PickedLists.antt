@@ -12,13 +12,13 @@ module _ {X : Type 0} where
   pub in_none : (x : X) → Contains [] x → ⊥
   in_none x at = absurd (omega (arith, at.1))
 
-  in_front : (y : X) (xs : List X) (x : X) → y ≡ x → Contains (y ∷ xs) x
+  pub in_front : (y : X) (xs : List X) (x : X) → y ≡ x → Contains (y ∷ xs) x
   in_front y xs x same = (0, omega arith, same)
 
-  further : (y : X) (xs : List X) (x : X) → Contains xs x → Contains (y ∷ xs) x
+  pub further : (y : X) (xs : List X) (x : X) → Contains xs x → Contains (y ∷ xs) x
   further y xs x at = (suc at.0, omega (arith, at.1), at.2)
 
-  first_or_further : (y : X) (xs : List X) (x : X) → Contains (y ∷ xs) x → (y ≡ x) ⊎ Contains xs x
+  pub first_or_further : (y : X) (xs : List X) (x : X) → Contains (y ∷ xs) x → (y ≡ x) ⊎ Contains xs x
   first_or_further y xs x (zero, low, same) = inl same
   first_or_further y xs x (suc k, low, is) = inr (k, omega (arith, low), is)
 

@@ -38,26 +38,33 @@ pub record NamesSigner (key octets : List ℕ) : Type 0 where
   pub begins : Means IsCertificate cert octets
   pub names : cert.fields.extensions.authority_key_identifier ≡ Some key
 
--- these are the places of the certificates that name the key as the one that signs them
+-- no element stands twice in the list
+abbrev pub IsOnce : {X : Type 0} → List X → Type 0
+IsOnce {X} [] = Unit {0}
+IsOnce {X} (x ∷ xs) = (Contains xs x → ⊥) × IsOnce xs
+
+-- these are the places of the certificates that name the key as the one that signs them, each once
 pub record ArePlacesOf (certs : List (List ℕ)) (key places : List ℕ) : Type 0 where
   pub inside : (place : ℕ) → Contains places place → place < length certs
   pub only : (place : ℕ) → Contains places place → NamesSigner key (octets_at certs place)
   pub all : (place : ℕ) → place < length certs → NamesSigner key (octets_at certs place)
       → Contains places place
+  pub once : IsOnce places
 
 -- the octets begin with no certificate
 abbrev pub BeginsNoCertificate : List ℕ → Type 0
 BeginsNoCertificate octets = (c : CertFields) → Means IsCertificate c octets → ⊥
 
--- what was added of the octets, and at which place: the certificate with which they begin, or else
--- the list
+-- what was added of the octets, and at which place: the certificate with which they begin, whatever
+-- is behind it; or else the list that they are, with nothing behind it (own: what is behind may be a
+-- list that revokes)
 abbrev pub IsAdded : List ℕ → FolderFields → FolderFields → Added → Type 0
 IsAdded octets old new (Certificate place) =
     (new ≡ with_cert old octets) × (place ≡ length old.certs)
     × ((c : CertFields) × Means IsCertificate c octets)
 IsAdded octets old new list =
-    ((l : CrlState) × Means IsCertificateList l.list octets × (new ≡ with_list old l))
+    ((l : CrlState) × IsCertificateList l.list octets × (new ≡ with_list old l))
     × BeginsNoCertificate octets
 IsAdded octets old new Neither =
     (new ≡ old) × BeginsNoCertificate octets
-    × ((l : CrlFields) → Means IsCertificateList l octets → ⊥)
+    × ((l : CrlFields) → IsCertificateList l octets → ⊥)

@@ -1,7 +1,9 @@
 pub mod KeyTables
 pub mod Folders
 pub mod IssuerLists
+pub mod UsualBounds
 pub mod Walks
+pub mod IssuerTables
 pub mod WalkFaults
 pub mod KeptLines
 pub mod Searches

@@ -1,10 +1,11 @@
 -- Walks down through a folder: to which certificates a valid path leads, and what is told of them
 -- (RFC 6487 7.2, RFC 8630 3; own: the bounds).
-use Rattle.std.specs.Prelude.{◌≡◌, ◌≢◌, ◌⊎◌, ◌+◌, ◌≤◌, ℕ, Bool, List, [], ◌∷◌, ◌++◌, length, Any, Contains, None, Some, Result, Ok, Err, IsOk, IfOk, IsTrue}
+use Rattle.std.specs.Prelude.{◌≡◌, ◌≢◌, ◌⊎◌, ◌+◌, ◌-◌, ◌/◌, ◌<◌, ◌≤◌, ℕ, Bool, List, [], ◌∷◌, ◌++◌, length, Any, Contains, None, Some, Result, Ok, Err, IsOk, IfOk, IsTrue}
 use Rattle.std.specs.List.{AllByRecursion}
 use Rattle.rpki_ext.specs.Kinds.{Means}
 use Rattle.rpki_cert.specs.Certificates.{CertFields, IsCertificate}
-use Rattle.rpki_cert.specs.Verification.{Context, ResourceFields}
+use Rattle.rpki_parts.specs.Signatures.{Verifies}
+use Rattle.rpki_cert.specs.Verification.{Context, ResourceFields, IsSignedBy}
 use Rattle.rpki_cert.specs.declared.inspect.Kind.{Kind}
 use Rattle.rpki_cert.specs.declared.inspect.Kind.TheVariants.{Router}
 use Rattle.rpki_path.specs.Asking.{RevocationChecks}
@@ -21,7 +22,8 @@ use Rattle.rpki_path.specs.NameChains.{IsNamedBelow, IsSelfNamed, NamesChain}
 use Rattle.rpki_path.specs.Repeats.{AreOneEntity}
 use Rattle.rpki_path.specs.LocatedPaths.{IsAcceptedFrom, IsLocatedFault, IsOutOfMemory, IsValidFrom}
 use Rattle.rpki_cert.specs.SaidKinds.{BeginsWithKind}
-use Rattle.rpki_folder.specs.Folders.{octets_at, cas_at, NamesSigner}
+use Rattle.rpki_folder.specs.Folders.{octets_at, cas_at, NamesSigner, IsOnce}
+use Rattle.rpki_folder.specs.IssuerLists.{ArePicked}
 use Rattle.rpki_folder.specs.declared.bounds.Ended.{Ended}
 use Rattle.rpki_folder.specs.declared.bounds.Ended.TheVariants.{Whole, TooDeep, OutOfSteps}
 use Rattle.rpki_folder.specs.declared.walk_error.WalkError.{WalkError}
@@ -177,15 +179,98 @@ Covers Whole depth n = Unit {0}
 Covers TooDeep depth n = n ≤ depth
 Covers OutOfSteps depth n = ⊥
 
--- where a walk says that the steps are used up, it told as many verdicts as there were steps
-abbrev pub AreUsedUp : ℕ → List Told → Ended → Type 0
-AreUsedUp steps ts ended = ended ≡ OutOfSteps → length ts ≡ steps
-
 -- each of the places is let in below those above it
 abbrev pub AreAdmitted : (List ℕ → ℕ → Type 0) → List ℕ → List ℕ → Type 0
 AreAdmitted admits above [] = Unit {0}
 AreAdmitted admits above (place ∷ places) =
     admits above place × AreAdmitted admits (above ++ place ∷ []) places
+
+-- ---- shares
+
+-- The certificate at the place is a child of the issuer: it names the issuer's key as the one that
+-- signs it, that key signed it, and the algorithm inside of what is signed is the one outside (RFC
+-- 5280 4.1.1.2)
+pub record IsChildOf (verifies : Verifies) (issuer : CertFields) (certs : List (List ℕ))
+    (place : ℕ) : Type 0 where
+  pub cert : CertFields
+  pub stands : StandsAt certs place cert
+  pub names_key : cert.fields.extensions.authority_key_identifier
+      ≡ Some issuer.fields.extensions.subject_key_identifier
+  pub signed : IsSignedBy verifies issuer.fields.key cert.signed_data
+  pub one_algorithm : cert.fields.algorithm ≡ cert.signed_data.signature.algorithm
+
+-- a valid path leads to the last of the CAs at these places, and these are the places of its children
+-- that are let in below them, each once
+pub record AreChildren (x : Context) (asked : RevocationChecks) (admits : List ℕ → ℕ → Type 0)
+    (root : Root) (certs : List (List ℕ)) (above places : List ℕ) : Type 0 where
+  pub issuer : ResourceFields
+  pub leads : LeadsTo x asked root (members_at root certs above) issuer
+  pub only : (place : ℕ) → Contains places place
+      → admits above place × IsChildOf x.verifies issuer.cert certs place
+  pub all : (place : ℕ) → admits above place → IsChildOf x.verifies issuer.cert certs place
+      → Contains places place
+  pub once : IsOnce places
+
+-- a valid path leads to the CA at the place, below the CAs at these places
+abbrev pub IsAcceptedCa : Context → RevocationChecks → Root → List (List ℕ) → List ℕ → ℕ → Type 0
+IsAcceptedCa x asked root certs above place =
+    (r : ResourceFields) × LeadsTo x asked root (members_at root certs (above ++ place ∷ [])) r
+
+-- these are the places of the CAs that are let in below those at the places above and accepted there,
+-- each once
+pub record AreAcceptedCas (x : Context) (asked : RevocationChecks) (admits : List ℕ → ℕ → Type 0)
+    (root : Root) (certs : List (List ℕ)) (above places : List ℕ) : Type 0 where
+  pub only : (place : ℕ) → Contains places place
+      → admits above place × IsAcceptedCa x asked root certs above place
+  pub all : (place : ℕ) → admits above place → IsAcceptedCa x asked root certs above place
+      → Contains places place
+  pub once : IsOnce places
+
+-- The share of the CAs at these places is enough for their children, and each of the CAs that are
+-- accepted below them has this one: what is left, divided evenly and rounded down. What is left over
+-- nobody has
+pub record IsHandedDown (x : Context) (asked : RevocationChecks) (admits : List ℕ → ℕ → Type 0)
+    (root : Root) (certs : List (List ℕ)) (above : List ℕ) (share next : ℕ) : Type 0 where
+  pub children : List ℕ
+  pub are_children : AreChildren x asked admits root certs above children
+  pub enough : length children ≤ share
+  pub cas : List ℕ
+  pub are_cas : AreAcceptedCas x asked admits root certs above cas
+  pub next_is : next ≡ (share - length children) / length cas
+
+-- where the CAs at the places above have the first share, those at the places between have the last
+-- one, below them
+abbrev pub HasShare : Context → RevocationChecks → (List ℕ → ℕ → Type 0) → Root → List (List ℕ)
+    → List ℕ → ℕ → List ℕ → ℕ → Type 0
+HasShare x asked admits root certs above share [] last = last ≡ share
+HasShare x asked admits root certs above share (place ∷ between) last =
+    (next : ℕ) × IsHandedDown x asked admits root certs above share next
+    × HasShare x asked admits root certs (above ++ place ∷ []) next between last
+
+-- the CAs at the places between are within the depth, and their share is enough for their children,
+-- where those at the places above have this one: so the walk looks at the children
+pub record HasEnough (x : Context) (asked : RevocationChecks) (admits : List ℕ → ℕ → Type 0)
+    (root : Root) (certs : List (List ℕ)) (above : List ℕ) (share depth : ℕ)
+    (between : List ℕ) : Type 0 where
+  pub within : length between < depth
+  pub last : ℕ
+  pub has : HasShare x asked admits root certs above share between last
+  pub children : List ℕ
+  pub are_children : AreChildren x asked admits root certs (above ++ between) children
+  pub enough : length children ≤ last
+
+-- where a walk says that the steps are used up, the share of CAs that are reached is less than their
+-- children
+pub record IsShort (x : Context) (asked : RevocationChecks) (admits : List ℕ → ℕ → Type 0)
+    (root : Root) (certs : List (List ℕ)) (above : List ℕ) (share : ℕ) : Type 0 where
+  pub between : List ℕ
+  pub last : ℕ
+  pub has : HasShare x asked admits root certs above share between last
+  pub children : List ℕ
+  pub are_children : AreChildren x asked admits root certs (above ++ between) children
+  pub short : last < length children
+
+-- ---- what a walk tells
 
 -- each certificate was accepted to which an admitted path leads that was looked at
 abbrev pub IsComplete : Context → RevocationChecks → (List ℕ → ℕ → Type 0) → Root → List (List ℕ)
@@ -195,11 +280,43 @@ IsComplete x asked admits root certs above depth ts ended =
     → AreAdmitted admits above (between ++ place ∷ [])
     → IsReached x asked root certs (above ++ between) place → IsTold ts (above ++ between) place
 
+-- however the walk ended, each certificate was accepted to which an admitted path leads whose CAs have
+-- enough
+abbrev pub IsCompleteInShares : Context → RevocationChecks → (List ℕ → ℕ → Type 0) → Root
+    → List (List ℕ) → List ℕ → ℕ → ℕ → List Told → Type 0
+IsCompleteInShares x asked admits root certs above depth share ts =
+    (between : List ℕ) (place : ℕ)
+    → HasEnough x asked admits root certs above share depth between
+    → AreAdmitted admits above (between ++ place ∷ [])
+    → IsReached x asked root certs (above ++ between) place → IsTold ts (above ++ between) place
+
+-- what a walk that ended so has looked at, to which an admitted path leads, is below CAs that have
+-- enough
+abbrev pub IsEnough : Context → RevocationChecks → (List ℕ → ℕ → Type 0) → Root → List (List ℕ)
+    → List ℕ → ℕ → ℕ → Ended → Type 0
+IsEnough x asked admits root certs above depth share ended =
+    (between : List ℕ) (place : ℕ) → Covers ended depth (length between + 1)
+    → AreAdmitted admits above (between ++ place ∷ [])
+    → IsReached x asked root certs (above ++ between) place
+    → HasEnough x asked admits root certs above share depth between
+
 -- the verdict is on a certificate that is let in below those places, by CAs each of which is
 abbrev pub IsLetIn : (List ℕ → ℕ → Type 0) → List ℕ → Told → Type 0
 IsLetIn admits above t =
     (between : List ℕ) × (t.above ≡ above ++ between)
     × AreAdmitted admits above (between ++ t.place ∷ [])
+
+-- the verdict takes a step: it is on a child of the last of the CAs above it
+abbrev pub TakesStep : Context → RevocationChecks → Root → List (List ℕ) → Told → Type 0
+TakesStep x asked root certs t =
+    (issuer : ResourceFields) × LeadsTo x asked root (members_at root certs t.above) issuer
+    × IsChildOf x.verifies issuer.cert certs t.place
+
+-- no more of the verdicts take a step
+abbrev pub AreFew : Context → RevocationChecks → Root → List (List ℕ) → ℕ → List Told → Type 0
+AreFew x asked root certs steps ts =
+    (those : List Told) → ArePicked (TakesStep x asked root certs) ts those
+    → length those ≤ steps
 
 -- a valid path leads to the last of the CAs at these places, and its key is the one that a
 -- certificate names which is let in below them
@@ -209,8 +326,7 @@ pub record HasBelow (x : Context) (asked : RevocationChecks)
   pub issuer : ResourceFields
   pub leads : LeadsTo x asked root (members_at root certs (above ++ between)) issuer
   pub place : ℕ
-  pub names : NamesSigner issuer.cert.fields.extensions.subject_key_identifier
-      (octets_at certs place)
+  pub child : IsChildOf x.verifies issuer.cert certs place
   pub admitted : AreAdmitted admits above (between ++ place ∷ [])
 
 -- where a walk of this depth says that it is too deep, a certificate stands below a path that long
@@ -220,26 +336,30 @@ IsTooDeep x asked admits root certs above depth ended =
     ended ≡ TooDeep → (between : List ℕ) × (length between ≡ depth)
     × HasBelow x asked admits root certs above between
 
--- What a walk tells below the CAs at these places: each verdict is right and on a certificate that is
--- let in, there are no more than steps, and where the walk ended, it looked at each path that its end
--- says. It says that a bound was met only where it was.
+-- What a walk tells below the CAs at these places, which have this share: each verdict is right and on
+-- a certificate that is let in, no more of them take a step than the share, and each path was looked
+-- at whose CAs have enough. Where the walk ended, it looked at each path that its end says, and the CAs
+-- of each have enough. It says that a bound was met only where it was.
 pub record Tells {E : Type 0} (x : Context) (asked : RevocationChecks)
     (admits : List ℕ → ℕ → Type 0) (root : Root) (certs : List (List ℕ)) (above : List ℕ)
-    (depth steps : ℕ) (result : Result Ended E) (ts : List Told) : Type 0 where
+    (depth share : ℕ) (result : Result Ended E) (ts : List Told) : Type 0 where
   pub right : AllByRecursion (IsRight x asked root certs) ts
   pub let_in : AllByRecursion (IsLetIn admits above) ts
-  pub few : length ts ≤ steps
-  pub used_up : IfOk result (AreUsedUp steps ts)
+  pub few : AreFew x asked root certs share ts
+  pub short : IfOk result (λ ended. ended ≡ OutOfSteps
+      → IsShort x asked admits root certs above share)
   pub too_deep : IfOk result (IsTooDeep x asked admits root certs above depth)
   pub complete : IfOk result (IsComplete x asked admits root certs above depth ts)
+  pub in_shares : IfOk result (λ ended.
+      IsCompleteInShares x asked admits root certs above depth share ts)
+  pub enough : IfOk result (IsEnough x asked admits root certs above depth share)
 
 -- the same, wherever the issuer stands at the end of a valid path
 abbrev pub TellsBelow : {E : Type 0} → Context → RevocationChecks → (List ℕ → ℕ → Type 0)
     → ResourceFields → List (List ℕ) → List ℕ → ℕ → ℕ → Result Ended E → List Told → Type 0
-TellsBelow x asked admits issuer certs above depth steps result ts =
-    (length ts ≤ steps) × IfOk result (AreUsedUp steps ts)
-    × ((root : Root) → LeadsTo x asked root (members_at root certs above) issuer
-    → Tells x asked admits root certs above depth steps result ts)
+TellsBelow x asked admits issuer certs above depth share result ts =
+    (root : Root) → LeadsTo x asked root (members_at root certs above) issuer
+    → Tells x asked admits root certs above depth share result ts
 
 -- what a walk tells below the locator's trust anchor, with these octets, of the certificates that it
 -- looks at

@@ -2,13 +2,18 @@
 ghost use Rattle.std.specs.Prelude.{◌≡◌};
 ghost use Rattle.rpki_folder.specs.Walks.{worse};
 
+/// The steps of a walk below one trust anchor, if the user doesn't say how many. They depend on
+/// nothing in the folder: so no file changes how far a walk goes below other CAs.
+pub const USUAL_STEPS: usize = 10_000_000;
+
 /// The limits of a walk.
 #[derive(Clone, Copy)]
 pub struct Bounds {
     /// The most certificates that a path may have below the certificate at which the walk starts.
     pub depth: usize,
-    /// The most certificates that are verified; a certificate counts once for each path that leads
-    /// to it.
+    /// The steps of the walk. A verdict on a child of a CA takes one, once for each path that leads
+    /// to the child. They are divided evenly among the CAs below each CA; what is left over below
+    /// one CA goes to no other.
     pub steps: usize,
 }
 
@@ -20,7 +25,8 @@ pub enum Ended {
     /// Every certificate within the depth was judged. Below a CA at the greatest depth more may be
     /// valid.
     TooDeep,
-    /// The limit of steps was reached before every certificate was judged.
+    /// The share of a CA is less than its children, so none of these was judged. Below every other
+    /// CA the walk went on.
     OutOfSteps,
 }
 

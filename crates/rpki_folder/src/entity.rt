@@ -5,8 +5,8 @@ ghost use Rattle.rpki_path.specs.Repeats.{AreOneEntity};
 use rpki_cert::Cert;
 use rpki_parts::PublicKey;
 
-// Whether the keys are equal: their algorithms and their bits are.
-fn is_one_key(one: &PublicKey, other: &PublicKey) -> bool
+/// Returns whether the keys are equal: their algorithms and their bits are.
+pub(crate) fn is_one_key(one: &PublicKey, other: &PublicKey) -> bool
     ensures { IsTrue result ↔ one.now ≡ other.now }
 {
     one.algorithm() == other.algorithm() && one.bits() == other.bits()

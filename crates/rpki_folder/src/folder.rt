@@ -2,6 +2,8 @@
 ghost use Rattle.std.specs.Prelude.{◌≡◌, ◌≢◌, length, IfOk, OnOk, OnErr};
 ghost use Rattle.rpki_ext.specs.Kinds.{Means};
 ghost use Rattle.rpki_cert.specs.Certificates.{CertFields, IsCertificate};
+ghost use Rattle.rpki_crl.specs.Lists.{IsCertificateList};
+ghost use Rattle.rpki_der.specs.Place.{MeansOrMemoryBy};
 ghost use Rattle.rpki_der.specs.declared.error.DecodeError.TheVariants.{Memory};
 ghost use Rattle.rpki_folder.specs.Folders.{empty, with_cert, with_list, ArePlacesOf, IsAdded};
 ghost use Rattle.rpki_folder.specs.KeyTables.{list_places};
@@ -12,7 +14,7 @@ use crate::keys::KeyTable;
 use bytes::Bytes;
 use rpki_cert::{Cert, Said, laws};
 use rpki_crl::Crl;
-use rpki_der::DecodeError;
+use rpki_der::{Cursor, DecodeError};
 use rpki_parts::KeyIdentifier;
 use std::alloc::{AllocError, Global};
 use std::marker::Model;
@@ -24,7 +26,7 @@ pub enum Added {
     Certificate(usize),
     /// A CRL.
     List,
-    /// Nothing: the bytes start with neither a certificate nor a CRL.
+    /// Nothing: the bytes don't start with a certificate, and aren't a CRL.
     Neither,
 }
 
@@ -69,6 +71,21 @@ fn rejects(fault: DecodeError) -> Result<(), AllocError>
     let is_memory = fault.is_memory();
     drop(fault);
     if is_memory { Err(AllocError) } else { Ok(()) }
+}
+
+// Decodes the CRL that the bytes are. Bytes after it are an error, since they may be a CRL that
+// revokes.
+fn whole_list(alloc: Global, octets: &Bytes) -> Result<Crl, DecodeError>
+    ensures { MeansOrMemoryBy (λ l. l.list) IsCertificateList result octets.now }
+{
+    rpki_crl::laws::unambiguous();
+    let mut cursor = Cursor::new(octets);
+    let list = Crl::take_from(alloc, &mut cursor)?;
+    if !cursor.is_empty() {
+        drop(list);
+        return Err(DecodeError::Trailing);
+    }
+    Ok(list)
 }
 
 impl Folder {
@@ -143,8 +160,9 @@ impl Folder {
         }
     }
 
-    /// Adds the certificate or the CRL at the start of `octets`, ignores the rest, and returns
-    /// which of the two was added. The serial numbers of a CRL are cached.
+    /// Adds the certificate at the start of `octets`, whatever follows it, or else the CRL that
+    /// `octets` are, and returns which of the two was added. If anything follows a CRL, nothing is
+    /// added: it may be a CRL that revokes. The serial numbers of a CRL are cached.
     ///
     /// # Errors
     ///
@@ -166,13 +184,15 @@ impl Folder {
         }
     }
 
-    // Adds the CRL at the start of bytes that start with no certificate.
+    // Adds the CRL that bytes are which start with no certificate.
     fn add_other(&mut self, octets: Bytes) -> Result<Added, AllocError>
         requires { (c : CertFields) → Means IsCertificate c octets → ⊥ }
         ensures ok { IfOk result (IsAdded octets self.old self.new) }
         ensures err { OnErr result (self.new ≡ self.old) }
     {
-        match Crl::decode_shared(self.alloc, octets) {
+        let read = whole_list(self.alloc, &octets);
+        drop(octets);
+        match read {
             Ok(mut list) => {
                 if let Err(error) = list.cache_serials(self.alloc) {
                     drop(list);

@@ -9,7 +9,9 @@ mod filed;
 mod find;
 mod folder;
 mod issuer_lists;
+mod issuers;
 mod keys;
+mod known;
 pub mod laws;
 mod lines;
 mod visitor;
@@ -17,7 +19,7 @@ mod walk;
 mod walk_error;
 
 pub use admission::{Admission, AllAdmitted};
-pub use bounds::{Bounds, Ended};
+pub use bounds::{Bounds, Ended, USUAL_STEPS};
 pub use filed::Filed;
 pub use find::{Found, FoundPath};
 pub use folder::{Added, Folder};

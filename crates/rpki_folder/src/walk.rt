@@ -1,5 +1,6 @@
 //! The walk down from a trust anchor.
-ghost use Rattle.std.specs.Prelude.{◌≡◌, ◌≢◌, ◌↔◌, ◌+◌, ◌++◌, ◌∷◌, [], ◌<◌, ℕ, List, length, Contains, Result, Ok, Err, IfOk, IfErr, OnOk, OnErr, IsTrue, IsFalse};
+ghost use Rattle.std.specs.Prelude.{◌≡◌, ◌≢◌, ◌↔◌, ◌+◌, ◌++◌, ◌∷◌, [], ◌<◌, ◌≤◌, ℕ, List, length, Contains, slice_index_or, Result, Ok, Err, IfOk, IfErr, OnOk, OnErr, IsTrue, IsFalse};
+ghost use Rattle.std.specs.List.{AllByRecursion};
 ghost use Rattle.std.proofs.Common.{rc_value};
 ghost use Rattle.rpki_ext.specs.Kinds.{Means};
 ghost use Rattle.rpki_cert.specs.Certificates.{CertFields, IsCertificate};
@@ -8,7 +9,7 @@ ghost use Rattle.rpki_path.specs.LocatedPaths.{IsLocatedFault};
 ghost use Rattle.rpki_path.specs.declared.judging.Judged.{Judged};
 ghost use Rattle.rpki_path.specs.declared.path_fault.PathFault.{PathFault as Fault};
 ghost use Rattle.rpki_path.specs.declared.path_fault.PathFault.TheVariants.{Memory};
-ghost use Rattle.rpki_cert.specs.Verification.{context};
+ghost use Rattle.rpki_cert.specs.Verification.{context, IsSignedBy};
 ghost use Rattle.rpki_path.specs.Asking.{nobody};
 ghost use Rattle.rpki_path.specs.AskedLists.{by_named_lists};
 ghost use Rattle.rpki_path.specs.NameChains.{IsSelfNamed};
@@ -16,16 +17,21 @@ ghost use Rattle.rpki_path.specs.Paths.{Finds};
 ghost use Rattle.rpki_path.specs.Paths.Steps.{kind_of, IsIssuedBy, demand_under};
 ghost use Rattle.rpki_path.specs.Repeats.{AreOneEntity};
 ghost use Rattle.rpki_path.specs.Routers.{IsRouterUnder, router_demand};
-ghost use Rattle.rpki_folder.specs.Folders.{octets_at, ArePlacesOf};
-ghost use Rattle.rpki_folder.specs.IssuerLists.{AreIssuers};
-ghost use Rattle.rpki_folder.specs.Walks.{Root, at_anchor, members_at, LeadsTo, IsValidAnchor, Told, told, StandsAt, IsLastOf, IsNamedUnder, IsRepeated, EndsNoCircle, IsLookedAt, TellsBelow, TellsFrom, IsWhyNone};
-ghost use Rattle.rpki_folder.specs.Walks.Steps.{IsAnswer, IsOutcome, Hands, IsAtTop};
+ghost use Rattle.rpki_folder.specs.Folders.{octets_at, ArePlacesOf, IsOnce, NamesSigner};
+ghost use Rattle.rpki_folder.specs.IssuerLists.{AreIssuers, ArePicked};
+ghost use Rattle.rpki_folder.specs.Walks.{Root, at_anchor, members_at, LeadsTo, IsValidAnchor, Told, told, StandsAt, IsLastOf, IsNamedUnder, IsRepeated, EndsNoCircle, IsLookedAt, IsChildOf, TellsBelow, TellsFrom, IsWhyNone};
+ghost use Rattle.rpki_folder.specs.Walks.Steps.{IsAnswer, IsOutcome, Hands, IsAtTop, AreJudged, ClaimIs, IsChildAdded, IsClaim, IsOther, IsToldOf, WalksBelowEach};
+ghost use Rattle.rpki_folder.specs.IssuerTables.{AreAllChildren, AreKept, IsKeptOf};
+ghost use Rattle.rpki_folder.specs.declared.issuers.Issuer.{Issuer as Kept};
+ghost use Rattle.rpki_folder.specs.declared.walk.Ca.{Ca};
 
 use crate::admission::Admission;
 use crate::bounds::{Bounds, Ended};
 use crate::entity::are_one_entity;
 use crate::folder::Folder;
 use crate::issuer_lists::IssuerLists;
+use crate::issuers::{Issuer, Issuers};
+use crate::known::Known;
 use crate::visitor::{Accepted, Visitor};
 use crate::walk_error::WalkError;
 use rpki_cert::{Cert, Kind, ResourceCert, laws};
@@ -63,11 +69,51 @@ pub struct Walk<'w, A, V> {
     pub verifier: &'w V,
 }
 
-// Where a walk is: the places of the CAs above, from the top down, and the steps that are left.
+// Where a walk is: the places of the CAs above, from the top down.
 #[derive(Drop)]
 struct Trail {
     above: Vec<usize>,
-    steps: usize,
+}
+
+// What a certificate that names an issuer's key is to the issuer.
+#[derive(Drop)]
+enum Claim {
+    // Names are checked, and its issuer isn't the issuer's subject.
+    OtherName,
+    // It is a child of the issuer.
+    Child,
+    // It isn't, and this is whether the issuer's key signed it.
+    Other(bool),
+}
+
+// A CA that was accepted, and its place.
+#[derive(Drop)]
+struct Ca {
+    place: usize,
+    holder: ResourceCert,
+}
+
+// What a certificate that names the issuer's key is to the issuer.
+fn claim_of<V: Verifier>(
+    issuer: &ResourceCert,
+    cert: &Cert,
+    names: bool,
+    strict: bool,
+    verifier: &V,
+) -> Claim
+    ensures { ClaimIs names (V.verifies verifier.now) issuer.now.cert cert.now result }
+{
+    if names && !names_chain(issuer, cert) {
+        return Claim::OtherName;
+    }
+    let is_signed = cert
+        .verify_signature(issuer.as_cert(), strict, verifier)
+        .is_ok();
+    let is_one = cert.as_tbs().signature() == *cert.signed_data().signature().algorithm();
+    if is_signed && is_one {
+        return Claim::Child;
+    }
+    Claim::Other(is_signed)
 }
 
 // An answer on the trust anchor, as one on the path.
@@ -342,7 +388,7 @@ impl<'w, A: Admission, V: Verifier> Walk<'w, A, V> {
     }
 
     // The CRLs of the folder that are searched below an issuer.
-    fn lists_of(&self, issuer: &ResourceCert) -> Result<IssuerLists<'_>, AllocError>
+    fn lists_of(&self, issuer: &ResourceCert) -> Result<IssuerLists<'w>, AllocError>
         ensures { let w = self.now in
             let x = context (V.verifies w.verifier.now) w.at w.strict in
             IfOk result (AreIssuers w.names x w.folder.now.lists issuer.now.cert.fields) }
@@ -351,32 +397,6 @@ impl<'w, A: Admission, V: Verifier> Walk<'w, A, V> {
         let places = self.folder.lists_of(&key);
         let (alloc, lists, now) = (self.alloc, self.folder.lists(), self.at);
         IssuerLists::new(alloc, lists, places, issuer, self.names, now, self.verifier)
-    }
-
-    // Whether the certificate at a place is judged below the issuer: it is admitted there, and its
-    // issuer is the issuer's subject, if names are checked.
-    fn is_looked_at(
-        &self,
-        issuer: &ResourceCert,
-        above: &[usize],
-        place: usize,
-    ) -> Result<bool, AllocError>
-        requires { place < length self.now.folder.now.certs }
-        ensures { let w = self.now in
-            let named = IsNamedUnder w.names issuer.now.cert w.folder.now.certs place in
-            IfOk result (λ is. IsTrue is ↔ (A.admits w.admission.now above.now place × named)) }
-    {
-        laws::unambiguous();
-        if !self.admission.is_admitted(above, place) {
-            return Ok(false);
-        }
-        if !self.names {
-            return Ok(true);
-        }
-        let cert = self.folder.certs()[place].cert(self.alloc)?;
-        let is_named = names_chain(issuer, &cert);
-        drop(cert);
-        Ok(is_named)
     }
 
     // Whether the certificate at a place is of the same entity as this one.
@@ -445,30 +465,304 @@ impl<'w, A: Admission, V: Verifier> Walk<'w, A, V> {
         }
     }
 
-    // The walk below an issuer with these CRLs, to the certificates at these places, for this
-    // depth. It started below the certificate at the top.
-    #[cycle(descend)]
-    fn each_below<W: Visitor>(
+    // What the certificate at a place, which names the issuer's key, is to the issuer.
+    fn claim(&self, issuer: &ResourceCert, place: usize) -> Result<Claim, AllocError>
+        requires place { place < length self.now.folder.now.certs }
+        requires names { let key = issuer.now.cert.fields.extensions.subject_key_identifier in
+            NamesSigner key (octets_at self.now.folder.now.certs place) }
+        ensures { let w = self.now in
+            IfOk result (IsClaim w.names (V.verifies w.verifier.now) issuer.now.cert
+            w.folder.now.certs place) }
+    {
+        laws::unambiguous();
+        let cert = self.folder.certs()[place].cert(self.alloc)?;
+        let claim = claim_of(issuer, &cert, self.names, self.strict, self.verifier);
+        drop(cert);
+        Ok(claim)
+    }
+
+    // Judges the certificate at a place below an issuer, as `look_at` does, if it is known whether
+    // the issuer's key signed it: its signature isn't verified again.
+    fn judge<W: Visitor>(
         &self,
-        top: &ResourceCert,
         issuer: &ResourceCert,
         lists: &IssuerLists<'_>,
-        places: &[usize],
-        trail: &mut Trail,
-        depth: usize,
+        above: &[usize],
+        place: usize,
+        is_signed: bool,
         visitor: &mut W,
-    ) -> Result<Ended, AllocError>
+    ) -> Result<Option<ResourceCert>, AllocError>
+        requires place { place < length self.now.folder.now.certs }
+        requires kept { let w = self.now in
+            let x = context (V.verifies w.verifier.now) w.at w.strict in
+            AreIssuers w.names x w.folder.now.lists issuer.now.cert.fields lists.now }
+        requires signed { let w = self.now in
+            (c : CertFields) → StandsAt w.folder.now.certs place c → IsTrue is_signed
+            ↔ IsSignedBy (V.verifies w.verifier.now) issuer.now.cert.fields.key c.signed_data }
+        ensures ok { let w = self.now in
+            let x = context (V.verifies w.verifier.now) w.at w.strict in
+            let asked = by_named_lists w.names x w.folder.now.lists in
+            let octets = octets_at w.folder.now.certs place in
+            (v : W) (ts : List Told) → W.became v ts visitor.old → IfOk result (λ next.
+            (verdict : Result Judged Fault)
+            × W.became v (ts ++ told above.now place verdict ∷ []) visitor.new
+            × IsOutcome x asked issuer.now octets verdict next) }
+        ensures err { (v : W) (ts : List Told) → W.became v ts visitor.old
+            → OnErr result (W.became v ts visitor.new) }
+    {
+        let cert = self.folder.certs()[place].cert(self.alloc)?;
+        let key = issuer.as_cert().as_tbs().subject_public_key_info();
+        let known = Known::new(self.verifier, key, cert.signed_data(), is_signed);
+        let walk = Walk {
+            alloc: self.alloc,
+            folder: self.folder,
+            admission: self.admission,
+            bounds: self.bounds,
+            names: self.names,
+            strict: self.strict,
+            at: self.at,
+            verifier: &known,
+        };
+        let next = walk.look_at(issuer, lists, above, place, visitor);
+        drop(cert);
+        next
+    }
+
+    // Tells what is wrong with the certificate at a place, if it is admitted: it names the issuer's
+    // key, but is no child of the issuer.
+    fn tell_other<W: Visitor>(
+        &self,
+        issuer: &ResourceCert,
+        lists: &IssuerLists<'_>,
+        above: &[usize],
+        place: usize,
+        is_signed: bool,
+        visitor: &mut W,
+    ) -> Result<(), AllocError>
+        requires place { place < length self.now.folder.now.certs }
+        requires kept { let w = self.now in
+            let x = context (V.verifies w.verifier.now) w.at w.strict in
+            AreIssuers w.names x w.folder.now.lists issuer.now.cert.fields lists.now }
+        requires signed { let w = self.now in
+            (c : CertFields) → StandsAt w.folder.now.certs place c → IsTrue is_signed
+            ↔ IsSignedBy (V.verifies w.verifier.now) issuer.now.cert.fields.key c.signed_data }
+        ensures { let w = self.now in
+            let x = context (V.verifies w.verifier.now) w.at w.strict in
+            let asked = by_named_lists w.names x w.folder.now.lists in
+            let here = λ (p : ℕ). (p ≡ place) × A.admits w.admission.now above.now p in
+            (v : W) (ts : List Told) → W.became v ts visitor.old
+            → (more : List Told) × W.became v (ts ++ more) visitor.new
+            × AllByRecursion (IsToldOf x asked issuer.now w.folder.now.certs above.now here) more }
+    {
+        if !self.admission.is_admitted(above, place) {
+            return Ok(());
+        }
+        drop(self.judge(issuer, lists, above, place, is_signed, visitor)?);
+        Ok(())
+    }
+
+    // Adds the place of a certificate that names the issuer's key to those of the issuer's children,
+    // if it is a child. If it has the issuer's name and isn't, what is wrong with it is told.
+    fn add_child<W: Visitor>(
+        &self,
+        issuer: &ResourceCert,
+        lists: &IssuerLists<'_>,
+        above: &[usize],
+        place: usize,
+        children: &mut Vec<usize>,
+        visitor: &mut W,
+    ) -> Result<(), AllocError>
+        requires place { place < length self.now.folder.now.certs }
+        requires names { let key = issuer.now.cert.fields.extensions.subject_key_identifier in
+            NamesSigner key (octets_at self.now.folder.now.certs place) }
+        requires kept { let w = self.now in
+            let x = context (V.verifies w.verifier.now) w.at w.strict in
+            AreIssuers w.names x w.folder.now.lists issuer.now.cert.fields lists.now }
+        ensures told { let w = self.now in
+            let x = context (V.verifies w.verifier.now) w.at w.strict in
+            let asked = by_named_lists w.names x w.folder.now.lists in
+            let certs = w.folder.now.certs in
+            let others = IsOther x.verifies w.names (A.admits w.admission.now) issuer.now.cert certs
+            above.now in
+            (v : W) (ts : List Told) → W.became v ts visitor.old
+            → (more : List Told) × W.became v (ts ++ more) visitor.new
+            × AllByRecursion (IsToldOf x asked issuer.now certs above.now others) more }
+        ensures children { let w = self.now in OnOk result (IsChildAdded w.names
+            (V.verifies w.verifier.now) issuer.now.cert w.folder.now.certs place children.old.items
+            children.new.items) }
+    {
+        laws::unambiguous();
+        match self.claim(issuer, place)? {
+            Claim::OtherName => Ok(()),
+            Claim::Child => {
+                children.push(place)?;
+                Ok(())
+            }
+            Claim::Other(is_signed) => {
+                self.tell_other(issuer, lists, above, place, is_signed, visitor)
+            }
+        }
+    }
+
+    // The places of the issuer's children among those that name its key. What is wrong with the
+    // others is told: they take no step.
+    fn children<W: Visitor>(
+        &self,
+        issuer: &ResourceCert,
+        lists: &IssuerLists<'_>,
+        above: &[usize],
+        places: &[usize],
+        visitor: &mut W,
+    ) -> Result<Vec<usize>, AllocError>
         requires kept { let w = self.now in
             let x = context (V.verifies w.verifier.now) w.at w.strict in
             AreIssuers w.names x w.folder.now.lists issuer.now.cert.fields lists.now }
         requires places { let key = issuer.now.cert.fields.extensions.subject_key_identifier in
             ArePlacesOf self.now.folder.now.certs key places.now }
+        ensures told { let w = self.now in
+            let x = context (V.verifies w.verifier.now) w.at w.strict in
+            let asked = by_named_lists w.names x w.folder.now.lists in
+            let certs = w.folder.now.certs in
+            let others = IsOther x.verifies w.names (A.admits w.admission.now) issuer.now.cert certs
+            above.now in
+            (v : W) (ts : List Told) → W.became v ts visitor.old
+            → (more : List Told) × W.became v (ts ++ more) visitor.new
+            × AllByRecursion (IsToldOf x asked issuer.now certs above.now others) more }
+        ensures children { let w = self.now in
+            IfOk result (λ children. AreAllChildren w.names (V.verifies w.verifier.now)
+            issuer.now.cert w.folder.now.certs children.items) }
+    {
+        laws::unambiguous();
+        let mut children = Vec::new(self.alloc);
+        for &place in places {
+            self.add_child(issuer, lists, above, place, &mut children, visitor)?;
+        }
+        Ok(children)
+    }
+
+    // The index of an issuer in the table. If the table doesn't have it yet, its children and its
+    // CRLs are found first.
+    fn enter<W: Visitor>(
+        &self,
+        issuer: &ResourceCert,
+        above: &[usize],
+        places: &[usize],
+        issuers: &mut Issuers<'w>,
+        visitor: &mut W,
+    ) -> Result<usize, AllocError>
+        requires places { let key = issuer.now.cert.fields.extensions.subject_key_identifier in
+            ArePlacesOf self.now.folder.now.certs key places.now }
+        requires kept { let w = self.now in
+            let x = context (V.verifies w.verifier.now) w.at w.strict in
+            AreKept w.names x w.folder.now issuers.old }
+        ensures told { let w = self.now in
+            let x = context (V.verifies w.verifier.now) w.at w.strict in
+            let asked = by_named_lists w.names x w.folder.now.lists in
+            let certs = w.folder.now.certs in
+            let others = IsOther x.verifies w.names (A.admits w.admission.now) issuer.now.cert certs
+            above.now in
+            (v : W) (ts : List Told) → W.became v ts visitor.old
+            → (more : List Told) × W.became v (ts ++ more) visitor.new
+            × AllByRecursion (IsToldOf x asked issuer.now certs above.now others) more }
+        ensures kept { let w = self.now in
+            let x = context (V.verifies w.verifier.now) w.at w.strict in
+            OnOk result (AreKept w.names x w.folder.now issuers.new) }
+        ensures found { let w = self.now in
+            let x = context (V.verifies w.verifier.now) w.at w.strict in
+            IfOk result (λ at. (at < length issuers.new.kept.items) × ((d : Kept)
+            → IsKeptOf w.names x w.folder.now issuer.now.cert
+            (slice_index_or issuers.new.kept.items at d))) }
+    {
+        if let Some(at) = issuers.find(issuer.as_cert(), self.names) {
+            return Ok(at);
+        }
+        let lists = self.lists_of(issuer)?;
+        let children = self.children(issuer, &lists, above, places, visitor)?;
+        let cert = issuer.as_cert().try_clone(self.alloc)?;
+        issuers.add(Issuer {
+            cert,
+            children,
+            lists,
+        })
+    }
+
+    // Those of these places that are admitted below the CAs at the places above.
+    fn admitted(&self, above: &[usize], places: &[usize]) -> Result<Vec<usize>, AllocError>
+        ensures { let w = self.now in IfOk result (λ those.
+            ArePicked (A.admits w.admission.now above.now) places.now those.items) }
+    {
+        let mut those = Vec::new(self.alloc);
+        for &place in places {
+            if !self.admission.is_admitted(above, place) {
+                continue;
+            }
+            those.push(place)?;
+        }
+        Ok(those)
+    }
+
+    // Judges the issuer's children at these places, tells the verdicts, and returns the CAs that are
+    // accepted.
+    fn judge_children<W: Visitor>(
+        &self,
+        issuer: &ResourceCert,
+        lists: &IssuerLists<'_>,
+        above: &[usize],
+        children: &[usize],
+        visitor: &mut W,
+    ) -> Result<Vec<Ca>, AllocError>
+        requires inside { (place : ℕ) → Contains children.now place
+            → place < length self.now.folder.now.certs }
+        requires once { IsOnce children.now }
+        requires children { let w = self.now in (place : ℕ) → Contains children.now place
+            → IsChildOf (V.verifies w.verifier.now) issuer.now.cert w.folder.now.certs place }
+        requires kept { let w = self.now in
+            let x = context (V.verifies w.verifier.now) w.at w.strict in
+            AreIssuers w.names x w.folder.now.lists issuer.now.cert.fields lists.now }
+        ensures { let w = self.now in
+            let x = context (V.verifies w.verifier.now) w.at w.strict in
+            let asked = by_named_lists w.names x w.folder.now.lists in
+            let certs = w.folder.now.certs in
+            let among = λ (p : ℕ). Contains children.now p in
+            (v : W) (ts : List Told) → W.became v ts visitor.old
+            → (more : List Told) × W.became v (ts ++ more) visitor.new
+            × (length more ≤ length children.now)
+            × AllByRecursion (IsToldOf x asked issuer.now certs above.now among) more
+            × IfOk result (λ cas.
+            AreJudged x asked issuer.now certs above.now children.now cas.items more) }
+    {
+        laws::unambiguous();
+        let mut cas = Vec::new(self.alloc);
+        for &place in children {
+            let next = self.judge(issuer, lists, above, place, true, visitor)?;
+            let Some(holder) = next else {
+                continue;
+            };
+            cas.push(Ca { place, holder })?;
+        }
+        Ok(cas)
+    }
+
+    // The walk below each of these CAs, which stand below those on the trail, for this depth and
+    // share. It began below the certificate at the top.
+    #[cycle(descend)]
+    fn each_below<W: Visitor>(
+        &self,
+        top: &ResourceCert,
+        cas: &[Ca],
+        trail: &mut Trail,
+        issuers: &mut Issuers<'w>,
+        share: usize,
+        depth: usize,
+        visitor: &mut W,
+    ) -> Result<Ended, AllocError>
         requires inside { (place : ℕ) → Contains trail.old.above.items place
             → place < length self.now.folder.now.certs }
-        requires last { let certs = self.now.folder.now.certs in
-            IsLastOf top.now.cert certs trail.old.above.items issuer.now.cert }
-        requires no_circle { let w = self.now in
-            EndsNoCircle w.names top.now.cert w.folder.now.certs trail.old.above.items }
+        requires kept { let w = self.now in
+            let x = context (V.verifies w.verifier.now) w.at w.strict in
+            AreKept w.names x w.folder.now issuers.old }
+        requires stand { (ca : Ca) → Contains cas.now ca
+            → StandsAt self.now.folder.now.certs ca.place ca.holder.cert }
         ensures tells { let w = self.now in
             let x = context (V.verifies w.verifier.now) w.at w.strict in
             let asked = by_named_lists w.names x w.folder.now.lists in
@@ -476,52 +770,43 @@ impl<'w, A: Admission, V: Verifier> Walk<'w, A, V> {
             let admits = IsLookedAt w.names (A.admits w.admission.now) top.now.cert certs in
             (v : W) (ts : List Told) → W.became v ts visitor.old
             → (more : List Told) × W.became v (ts ++ more) visitor.new
-            × (length more + trail.new.steps ≡ trail.old.steps)
-            × TellsBelow x asked admits issuer.now certs trail.old.above.items depth
-            trail.old.steps result more }
+            × WalksBelowEach x asked admits certs trail.old.above.items depth share cas.now result
+            more }
         ensures trail { OnOk result (trail.new.above.items ≡ trail.old.above.items) }
+        ensures kept { let w = self.now in
+            let x = context (V.verifies w.verifier.now) w.at w.strict in
+            OnOk result (AreKept w.names x w.folder.now issuers.new) }
     {
         laws::unambiguous();
         let mut ended = Ended::Whole;
-        for &place in places {
-            let is_looked_at = self.is_looked_at(issuer, &trail.above, place)?;
-            if !is_looked_at {
-                continue;
-            }
-            if depth == 0 {
-                return Ok(Ended::TooDeep);
-            }
-            if trail.steps == 0 {
-                return Ok(Ended::OutOfSteps);
-            }
-            let next = self.look_at(issuer, lists, &trail.above, place, visitor)?;
-            trail.steps -= 1;
-            let Some(ca) = next else {
-                continue;
-            };
-            trail.above.push(place)?;
-            let below = self.descend(top, &ca, trail, depth - 1, visitor);
-            drop(ca);
+        for ca in cas {
+            trail.above.push(ca.place)?;
+            let below = self.descend(top, &ca.holder, trail, issuers, share, depth, visitor);
             trail.above.pop();
             ended = ended.and(below?);
         }
         Ok(ended)
     }
 
-    // The walk below an issuer, for this depth, which started below the certificate at the top. It
-    // doesn't go on below an entity that is above already. If no certificate is below the issuer,
-    // its CRLs aren't verified.
+    // The walk below an issuer, for this depth and share, which started below the certificate at
+    // the top. It doesn't go on below an entity that is above already. If no certificate is below
+    // the issuer, its CRLs aren't verified.
     #[cycle(descend)]
     fn descend<W: Visitor>(
         &self,
         top: &ResourceCert,
         issuer: &ResourceCert,
         trail: &mut Trail,
+        issuers: &mut Issuers<'w>,
+        share: usize,
         depth: usize,
         visitor: &mut W,
     ) -> Result<Ended, AllocError>
         requires inside { (place : ℕ) → Contains trail.old.above.items place
             → place < length self.now.folder.now.certs }
+        requires kept { let w = self.now in
+            let x = context (V.verifies w.verifier.now) w.at w.strict in
+            AreKept w.names x w.folder.now issuers.old }
         requires last { let certs = self.now.folder.now.certs in
             IsLastOf top.now.cert certs trail.old.above.items issuer.now.cert }
         ensures tells { let w = self.now in
@@ -531,10 +816,12 @@ impl<'w, A: Admission, V: Verifier> Walk<'w, A, V> {
             let admits = IsLookedAt w.names (A.admits w.admission.now) top.now.cert certs in
             (v : W) (ts : List Told) → W.became v ts visitor.old
             → (more : List Told) × W.became v (ts ++ more) visitor.new
-            × (length more + trail.new.steps ≡ trail.old.steps)
-            × TellsBelow x asked admits issuer.now certs trail.old.above.items depth
-            trail.old.steps result more }
+            × TellsBelow x asked admits issuer.now certs trail.old.above.items depth share result
+            more }
         ensures trail { OnOk result (trail.new.above.items ≡ trail.old.above.items) }
+        ensures kept { let w = self.now in
+            let x = context (V.verifies w.verifier.now) w.at w.strict in
+            OnOk result (AreKept w.names x w.folder.now issuers.new) }
     {
         laws::unambiguous();
         let key = issuer.as_cert().as_tbs().subject_key_identifier();
@@ -546,10 +833,24 @@ impl<'w, A: Admission, V: Verifier> Walk<'w, A, V> {
         if is_in_circle {
             return Ok(Ended::Whole);
         }
-        let lists = self.lists_of(issuer)?;
-        let ended = self.each_below(top, issuer, &lists, places, trail, depth, visitor);
-        drop(lists);
-        ended
+        let at = self.enter(issuer, &trail.above, places, issuers, visitor)?;
+        let kept = &issuers.kept[at];
+        let children = self.admitted(&trail.above, &kept.children)?;
+        if children.is_empty() {
+            return Ok(Ended::Whole);
+        }
+        if depth == 0 {
+            return Ok(Ended::TooDeep);
+        }
+        if children.len() > share {
+            return Ok(Ended::OutOfSteps);
+        }
+        let cas = self.judge_children(issuer, &kept.lists, &trail.above, &children, visitor)?;
+        if cas.is_empty() {
+            return Ok(Ended::Whole);
+        }
+        let next = (share - children.len()) / cas.len();
+        self.each_below(top, &cas, trail, issuers, next, depth - 1, visitor)
     }
 
     /// Walks below an issuer that was validated before, and calls the visitor with each verdict.
@@ -590,10 +891,20 @@ impl<'w, A: Admission, V: Verifier> Walk<'w, A, V> {
     {
         let mut trail = Trail {
             above: Vec::new(self.alloc),
-            steps: self.bounds.steps,
         };
-        let ended = self.descend(issuer, issuer, &mut trail, self.bounds.depth, visitor);
+        let mut issuers = Issuers::new(self.alloc);
+        let bounds = self.bounds;
+        let ended = self.descend(
+            issuer,
+            issuer,
+            &mut trail,
+            &mut issuers,
+            bounds.steps,
+            bounds.depth,
+            visitor,
+        );
         drop(trail);
+        drop(issuers);
         ended
     }
 

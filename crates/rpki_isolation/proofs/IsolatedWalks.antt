@@ -1,9 +1,8 @@
 -- What walks tell below paths on which no CA has a key of strangers is alike, whatever these add.
-use Rattle.std.specs.List.{AllByRecursion, AllZip}
-use Rattle.std.specs.Prelude.{Any, Bool, Option, None, Some, Contains, Result, Ok, Err, IsOk, IsTrue}
-use Rattle.std.proofs.Common.{◌≡◌, ◌≢◌, ◌⊎◌, ◌↔◌, ◌+◌, ◌<◌, ◌≤◌, ℕ, zero, suc, List, [], ◌∷◌, ◌++◌, length, map, get_or, refl, sym, ap, subst, ◌∙◌, inl, inr, arith}
-use Rattle.std.proofs.lemmas.List.{get_or_past}
-use Rattle.std.proofs.lemmas.List.Elements.{All-from_recursion, Contains-get_or}
+use Rattle.std.specs.List.{AllByRecursion}
+use Rattle.std.specs.Prelude.{Any, Bool, Option, None, Some, Contains, Result, Ok, Err, IsOk}
+use Rattle.std.proofs.Common.{◌≡◌, ◌≢◌, ◌⊎◌, ◌↔◌, ◌+◌, ◌≤◌, ℕ, List, [], ◌∷◌, ◌++◌, length, refl, sym, ap, subst, ◌∙◌, inl, inr, arith}
+use Rattle.std.proofs.lemmas.List.Elements.{All-from_recursion}
 use Rattle.rpki_der.specs.Values.{IsUnambiguous}
 use Rattle.rpki_der.proofs.Formats.{one_meant}
 use Rattle.rpki_ext.specs.Kinds.{Means}
@@ -13,117 +12,34 @@ use Rattle.rpki_crl.specs.Revocation.{revocation_checks}
 use Rattle.rpki_crl.specs.declared.revocation_error.RevocationError.{RevocationError}
 use Rattle.rpki_cert.specs.declared.verification_error.VerificationError.{VerificationError}
 use Rattle.rpki_path.specs.declared.path_fault.PathFault.TheVariants.{Memory, Revocation}
-use Rattle.rpki_path.specs.Asking.{IsUnrevokedBy, RevocationChecks}
+use Rattle.rpki_path.specs.Asking.{RevocationChecks}
 use Rattle.rpki_path.proofs.ValidPaths.{check_last}
 use Rattle.rpki_isolation.proofs.AlikeFaults.{faults_alike, found_of, lists_alike}
-use Rattle.rpki_folder.proofs.IsolatedPaths.{leads_alike, same_eligible, unrevoked_alike}
+use Rattle.rpki_folder.proofs.IsolatedPaths.{same_eligible}
 use Rattle.rpki_cert.specs.Certificates.{TbsFields, CertFields, IsCertificate}
 use Rattle.rpki_cert.specs.SaidKinds.{SaysKind}
-use Rattle.rpki_cert.specs.Verification.{CheckUnder, Context, IsSignedBy, IsVerified, issued_checks, ResourceFields, router_checks}
+use Rattle.rpki_cert.specs.Verification.{CheckUnder, Context, IsVerified, issued_checks, ResourceFields, router_checks}
 use Rattle.rpki_cert.specs.declared.inspect.Kind.{Kind}
 use Rattle.rpki_cert.specs.declared.inspect.Kind.TheVariants.{Anchor, Authority, EndEntity, Detached, Router}
 use Rattle.rpki_cert.proofs.SaidOnce.{says_one}
 use Rattle.rpki_keys.specs.Locators.{NamedTal}
 use Rattle.rpki_path.specs.AskedLists.{by_named_lists}
 use Rattle.rpki_path.specs.Judging.{IsRouterIfAny}
-use Rattle.rpki_path.specs.LocatedPaths.{IsValidFrom, ListsSome}
-use Rattle.rpki_path.specs.NameChains.{IsNamedBelow}
-use Rattle.rpki_path.specs.Paths.{Candidate, candidate, Finds, HasHeld, IsMember, IsPathOf, Member, member, Path, certificate_at, last, longer}
-use Rattle.rpki_path.specs.Repeats.{HasNoRepeat}
+use Rattle.rpki_path.specs.Paths.{Candidate, candidate, Finds, HasHeld, IsPathOf, Member, member, Path, certificate_at, last, longer}
 use Rattle.rpki_path.specs.Routers.{IsRouterUnder}
 use Rattle.rpki_path.specs.declared.judging.Judged.{Judged}
 use Rattle.rpki_path.specs.declared.path_fault.PathFault.{PathFault}
-use Rattle.rpki_path.proofs.LongerPaths.{above, all_at, last_extended, zip_more}
-use Rattle.rpki_path.proofs.Rejections.{one_path}
+use Rattle.rpki_path.proofs.LongerPaths.{above, all_at, last_extended}
 use Rattle.rpki_folder.specs.Folders.{FolderFields, cas_at, octets_at}
 use Rattle.rpki_folder.specs.Strangers.{AddsOnly, HasCertificate, IsFreeOf, LeadsThrough}
-use Rattle.rpki_isolation.specs.ToldWalks.{AreAlikeFaults, HasNoList, HoldAlike, IsAcceptedBelow, IsAllFreeOf, IsForWantOfList, IsToldOf, SayAlike, Walked}
-use Rattle.rpki_folder.specs.Walks.{at_anchor, Covers, demand_as, IsAcceptedAs, IsLookedAt, IsReached, IsRight, IsRightOf, IsTold, LeadsTo, StandsAt, Told}
-use Rattle.rpki_folder.proofs.Descent.{less-or-not, no_certificate}
-use Rattle.rpki_folder.proofs.LookedPaths.{all_looked, looked_names, looked_none}
+use Rattle.rpki_isolation.specs.PathShares.{HasEnoughOn, IsOfOthers, LetsIn}
+use Rattle.rpki_isolation.specs.ToldWalks.{AreAlikeFaults, BeginAlike, HasLookedBelow, HasNoList, HoldAlike, IsAcceptedBelow, IsAllFreeOf, IsForWantOfList, IsToldOf, SayAlike, Walked}
+use Rattle.rpki_folder.specs.Walks.{at_anchor, AreAdmitted, IsLookedAt, Covers, demand_as, IsAcceptedAs, IsReached, IsRight, IsRightOf, IsTold, StandsAt, Told}
 use Rattle.rpki_folder.proofs.PathsDown.{no_fault, no_router_fault, some_is}
 use Rattle.rpki_folder.proofs.SearchSteps.{told_let_in}
-
--- ---- places
-
-default_same : {X : Type 0} (l : List X) (k : ℕ) (d e : X) → k < length l → get_or l k d ≡ get_or l k e
-default_same [] k d e low = absurd (omega (arith, low))
-default_same (y ∷ l) zero d e low = refl
-default_same (y ∷ l) (suc k) d e low = default_same l k d e (omega (arith, low))
-
-module _ (folder : FolderFields) where
-  -- a certificate of the folder stands at a place
-  place_of : (c : CertFields) → HasCertificate folder c → (place : ℕ) × StandsAt folder.certs place c
-  place_of c (octets, (k, low, is), means) = (k, subst (λ (o : List ℕ). Means IsCertificate c o) (sym (default_same folder.certs k [] octets low ∙ is)) means)
-
-  -- what stands at one is of the folder
-  has_there : (place : ℕ) (c : CertFields) → StandsAt folder.certs place c → HasCertificate folder c
-  has_there place c stands = elim (less-or-not place (length folder.certs)) [
-    | inl low ↦ (octets_at folder.certs place, Contains-get_or folder.certs place [] low, stands)
-    | inr past ↦ absurd (no_certificate c (octets_at folder.certs place) stands (get_or_past folder.certs place [] past))
-  ]
-
-  abbrev Has : Member → Type 0
-  Has m = HasCertificate folder m.cert
-
-  abbrev IsCA : Member → Type 0
-  IsCA m = m.kind ≡ Authority
-
-  -- CAs of the folder stand at places
-  places_of : (ms : List Member) → AllByRecursion IsCA ms → AllByRecursion Has ms → (places : List ℕ) × AllZip IsMember ms (cas_at folder.certs places)
-  places_of [] cas has = ([], tt)
-  places_of (m ∷ ms) cas has =
-      let p = place_of m.cert has.0 in
-      let r = places_of ms cas.1 has.1 in
-      (p.0 ∷ r.0, (record { kind_is = cas.0; begins = p.1 }, r.1))
-
-  are_cas : (ms : List Member) (places : List ℕ) → AllZip IsMember ms (cas_at folder.certs places) → AllByRecursion IsCA ms
-  are_cas [] places h = tt
-  are_cas (m ∷ ms) [] h = absurd h
-  are_cas (m ∷ ms) (p ∷ places) h = (h.0.kind_is, are_cas ms places h.1)
-
-  have : (ms : List Member) (places : List ℕ) → AllZip IsMember ms (cas_at folder.certs places) → AllByRecursion Has ms
-  have [] places h = tt
-  have (m ∷ ms) [] h = absurd h
-  have (m ∷ ms) (p ∷ places) h = (has_there p m.cert h.0.begins, have ms places h.1)
-
-  as_many : (ms : List Member) (places : List ℕ) → AllZip IsMember ms (cas_at folder.certs places) → length places ≡ length ms
-  as_many [] [] h = refl
-  as_many [] (p ∷ places) h = absurd h
-  as_many (m ∷ ms) [] h = absurd h
-  as_many (m ∷ ms) (p ∷ places) h = ap suc (as_many ms places h.1)
-
-  -- by the number of the member, and for each
-  indexed : (ms : List Member) (d : CertFields) → AllByRecursion Has ms → (i : ℕ) → i < length ms → HasCertificate folder (get_or (map (λ (m : Member). m.cert) ms) i d)
-  indexed [] d has i low = absurd (omega (arith, low))
-  indexed (m ∷ ms) d has zero low = has.0
-  indexed (m ∷ ms) d has (suc i) low = indexed ms d has.1 i (omega (arith, low))
-
-  each : (ms : List Member) (d : CertFields) → ((i : ℕ) → i < length ms → HasCertificate folder (get_or (map (λ (m : Member). m.cert) ms) i d)) → AllByRecursion Has ms
-  each [] d has = tt
-  each (m ∷ ms) d has = (has 0 (omega arith), each ms d (λ i low. has (suc i) (omega (arith, low))))
-
-  below_has : (p : Path) → AllByRecursion Has p.below → (i : ℕ) → i < last p → HasCertificate folder (certificate_at p (i + 1))
-  below_has p has i low =
-      let next : suc i ≡ i + 1 = omega arith in
-      subst (λ (n : ℕ). HasCertificate folder (certificate_at p n)) next (indexed p.below p.anchor has i low)
-
-  has_below : (p : Path) → ((i : ℕ) → i < last p → HasCertificate folder (certificate_at p (i + 1))) → AllByRecursion Has p.below
-  has_below p has = each p.below p.anchor (λ i low.
-      let next : i + 1 ≡ suc i = omega arith in
-      subst (λ (n : ℕ). HasCertificate folder (certificate_at p n)) next (has i low))
-
-all_front : {X : Type 0} (P : X → Type 0) (xs ys : List X) → AllByRecursion P (xs ++ ys) → AllByRecursion P xs
-all_front P [] ys h = tt
-all_front P (z ∷ xs) ys h = (h.0, all_front P xs ys h.1)
-
--- with a certificate below the CAs
-with_end : (anchor : List ℕ) (certs : List (List ℕ)) (above : List ℕ) (place : ℕ) (kind : Kind) (p : Path) (c : CertFields) → IsPathOf anchor (cas_at certs above) p → StandsAt certs place c
-    → IsPathOf anchor (cas_at certs above ++ candidate kind (octets_at certs place) ∷ []) (longer p (member kind c))
-with_end anchor certs above place kind p c path_of stands = record {
-  anchor_begins = path_of.anchor_begins;
-  members = zip_more IsMember p.below (cas_at certs above) (member kind c) (candidate kind (octets_at certs place)) path_of.members (record { kind_is = refl; begins = stands });
-}
+use Rattle.rpki_isolation.proofs.Carried.{Carries, carries_back, carries_on, unlet_back, unlet_on}
+use Rattle.rpki_isolation.proofs.LookedAlike.{admitted_front, admitted_last, admitted_more, Down, looked_down, looked_there, same_path}
+use Rattle.rpki_isolation.proofs.FolderPaths.{Leads, all_below, all_front, as_many, has_there, have, leads_of, place_of, to_leads, with_end}
 
 ok_value : (r : Result Judged PathFault) → IsOk r → (j : Judged) × (r ≡ Ok j)
 ok_value (Ok j) ok = (j, refl)
@@ -131,30 +47,24 @@ ok_value (Err e) ok = absurd (cc ok)
 
 -- ---- what an accepted certificate is
 
-module _ (x : Context) (names : Bool) (t : NamedTal) (anchor : List ℕ) (law : IsUnambiguous IsCertificate) where
-  -- the path leads through the folder from the locator's key
-  record Leads (folder : FolderFields) (p : Path) (r : ResourceFields) : Type 0 where
-    through : LeadsThrough names x folder p
-    key_is : p.anchor.fields.key ≡ t.tal.key
-    lists_some : ListsSome p.anchor
-    held : HasHeld p t.name r
-
+module _ (x : Context) (names : Bool) (t : NamedTal) (law : IsUnambiguous IsCertificate) where
   -- what is said of a certificate of this kind that is accepted below the path
   abbrev IsOf : FolderFields → Kind → Path → CertFields → Judged → Type 0
-  IsOf folder Router p c j = Leads folder p j.holder × HasCertificate folder c × IsRouterUnder x (by_named_lists names x folder.lists) j.holder c × (j.router ≡ Some c)
-  IsOf folder kind p c j = Leads folder (longer p (member kind c)) j.holder × (j.router ≡ None)
+  IsOf folder Router p c j = Leads x names t folder p j.holder × HasCertificate folder c × IsRouterUnder x (by_named_lists names x folder.lists) j.holder c × (j.router ≡ Some c)
+  IsOf folder kind p c j = Leads x names t folder (longer p (member kind c)) j.holder × (j.router ≡ None)
 
   -- and of the way on which a walk looked at it
-  record Way (folder : FolderFields) (p : Path) (c : CertFields) (j : Judged) : Type 0 where
+  record Way (admits : List ℕ → ℕ → Type 0) (anchor : List ℕ) (folder : FolderFields) (p : Path) (c : CertFields) (j : Judged) : Type 0 where
     kind : Kind
     says : SaysKind kind c.fields
-    begins : Means IsCertificate p.anchor anchor
-    cas : AllByRecursion (λ (m : Member). m.kind ≡ Authority) p.below
-    named : IsTrue names → (i : ℕ) → i < last (longer p (member kind c)) → IsNamedBelow (certificate_at (longer p (member kind c)) i) (certificate_at (longer p (member kind c)) (i + 1))
-    none : HasNoRepeat names (longer p (member kind c))
+    places : List ℕ
+    place : ℕ
+    path_of : IsPathOf anchor (cas_at folder.certs places) p
+    stands : StandsAt folder.certs place c
+    looked : AreAdmitted (IsLookedAt names admits p.anchor folder.certs) [] (places ++ place ∷ [])
     is_of : IsOf folder kind p c j
 
-  module _ (folder : FolderFields) where
+  module _ (anchor : List ℕ) (folder : FolderFields) where
     abbrev asked : RevocationChecks
     asked = by_named_lists names x folder.lists
 
@@ -173,27 +83,6 @@ module _ (x : Context) (names : Bool) (t : NamedTal) (anchor : List ℕ) (law : 
 
     told_there : (ts : List Told) (places : List ℕ) (place : ℕ) (j : Judged) → Any (λ (u : Told). (u.above ≡ places) × (u.place ≡ place) × (u.verdict ≡ Ok j)) ts → IsTold ts places place
     told_there ts places place j h = (h.0, h.1, h.2, h.3, (h.4.0, h.4.1, subst (λ (r : Result Judged PathFault). IsOk r) (sym h.4.2) refl))
-
-    -- ---- the path that led there
-
-    leads_of : (p : Path) (members : List Candidate) (r : ResourceFields) → LeadsTo x asked (at_anchor t anchor) members r → IsPathOf anchor members p → AllByRecursion (λ (m : Member). HasCertificate folder m.cert) p.below → Leads folder p r
-    leads_of p members r a path_of has =
-        let same : a.path ≡ p = one_path law anchor members a.path p a.path_of path_of in
-        let valid : IsValidFrom x asked t.tal p = subst (λ (q : Path). IsValidFrom x asked t.tal q) same a.is_valid in
-        record {
-          through = record { is_valid = valid.is_valid; members = below_has folder p has };
-          key_is = valid.key_is;
-          lists_some = valid.lists;
-          held = subst (λ (q : Path). HasHeld q t.name r) same a.held;
-        }
-
-    to_leads : (p : Path) (members : List Candidate) (r : ResourceFields) → Leads folder p r → IsPathOf anchor members p → LeadsTo x asked (at_anchor t anchor) members r
-    to_leads p members r l path_of = record {
-      path = p;
-      path_of = path_of;
-      is_valid = record { is_valid = l.through.is_valid; key_is = l.key_is; lists = l.lists_some };
-      held = l.held;
-    }
 
     module _ (p : Path) (c : CertFields) (places : List ℕ) (place : ℕ) (path_of : IsPathOf anchor (cas_at folder.certs places) p) (stands : StandsAt folder.certs place c) where
       abbrev octets : List ℕ
@@ -225,20 +114,20 @@ module _ (x : Context) (names : Bool) (t : NamedTal) (anchor : List ℕ) (law : 
 
       is_of_as : (kind : Kind) (j : Judged) → SaysKind kind c.fields → As cas_there kind octets j → IsOf folder kind p c j
       is_of_as Anchor j says h = absurd says
-      is_of_as Authority j says h = (leads_of (longer p (member Authority c)) (all_there Authority) j.holder h.0 (path_to Authority) (all_has Authority), h.1)
-      is_of_as EndEntity j says h = (leads_of (longer p (member EndEntity c)) (all_there EndEntity) j.holder h.0 (path_to EndEntity) (all_has EndEntity), h.1)
-      is_of_as Detached j says h = (leads_of (longer p (member Detached c)) (all_there Detached) j.holder h.0 (path_to Detached) (all_has Detached), h.1)
+      is_of_as Authority j says h = (leads_of x names t anchor law folder (longer p (member Authority c)) (all_there Authority) j.holder h.0 (path_to Authority) (all_has Authority), h.1)
+      is_of_as EndEntity j says h = (leads_of x names t anchor law folder (longer p (member EndEntity c)) (all_there EndEntity) j.holder h.0 (path_to EndEntity) (all_has EndEntity), h.1)
+      is_of_as Detached j says h = (leads_of x names t anchor law folder (longer p (member Detached c)) (all_there Detached) j.holder h.0 (path_to Detached) (all_has Detached), h.1)
       is_of_as Router j says h =
           let r = router_is j.holder j.router h.1 in
-          (leads_of p cas_there j.holder h.0 path_of above_has, has_there folder place c stands, r.0, r.1)
+          (leads_of x names t anchor law folder p cas_there j.holder h.0 path_of above_has, has_there folder place c stands, r.0, r.1)
 
       as_of : (kind : Kind) (j : Judged) → SaysKind kind c.fields → IsOf folder kind p c j → As cas_there kind octets j
       as_of Anchor j says h = absurd says
-      as_of Authority j says h = (to_leads (longer p (member Authority c)) (all_there Authority) j.holder h.0 (path_to Authority), h.1)
-      as_of EndEntity j says h = (to_leads (longer p (member EndEntity c)) (all_there EndEntity) j.holder h.0 (path_to EndEntity), h.1)
-      as_of Detached j says h = (to_leads (longer p (member Detached c)) (all_there Detached) j.holder h.0 (path_to Detached), h.1)
+      as_of Authority j says h = (to_leads x names t anchor law folder (longer p (member Authority c)) (all_there Authority) j.holder h.0 (path_to Authority), h.1)
+      as_of EndEntity j says h = (to_leads x names t anchor law folder (longer p (member EndEntity c)) (all_there EndEntity) j.holder h.0 (path_to EndEntity), h.1)
+      as_of Detached j says h = (to_leads x names t anchor law folder (longer p (member Detached c)) (all_there Detached) j.holder h.0 (path_to Detached), h.1)
       as_of Router j says h = (
-        to_leads p cas_there j.holder h.0 path_of,
+        to_leads x names t anchor law folder p cas_there j.holder h.0 path_of,
         subst (λ (o : Option CertFields). IsRouterIfAny x asked j.holder (Some octets) o) (sym h.3) (stands, h.2),
       )
 
@@ -261,29 +150,48 @@ module _ (x : Context) (names : Bool) (t : NamedTal) (anchor : List ℕ) (law : 
 
     -- ---- the way to what a walk accepted
 
-    module _ (w : Walked x names t anchor folder) (p : Path) (c : CertFields) where
-      way_of : (j : Judged) → IsToldOf anchor folder.certs w.verdicts p c (Ok j) → Way folder p c j
+    module _ (admits : List ℕ → ℕ → Type 0) (w : Walked x names admits t anchor folder) (p : Path) (c : CertFields) where
+      way_of : (j : Judged) → IsToldOf anchor folder.certs w.verdicts p c (Ok j) → Way admits anchor folder p c j
       way_of j told =
           let tells = w.tells p.anchor told.path_of.anchor_begins in
           let right = right_at w.verdicts told.above told.place (Ok j) tells.right told.among in
           let kind = right.0 in
           let says : SaysKind kind c.fields = subst (λ (d : CertFields). SaysKind kind d.fields) (one_meant IsCertificate law right.1.0 c (octets_at folder.certs told.place) right.1.1 told.stands) right.1.2 in
-          let looked = told_let_in (IsLookedAt names (λ l n. Unit {0}) p.anchor folder.certs) told.place w.verdicts told.above tells.let_in (told_there w.verdicts told.above told.place j told.among) in
-          let q = longer p (member kind c) in
-          let to = with_end anchor folder.certs told.above told.place kind p c told.path_of told.stands in
           record {
             kind = kind;
             says = says;
-            begins = told.path_of.anchor_begins;
-            cas = are_cas folder p.below told.above told.path_of.members;
-            named = looked_names names anchor folder.certs told.place kind law told.above q to looked;
-            none = looked_none names anchor folder.certs told.place kind law told.above q to looked;
+            places = told.above;
+            place = told.place;
+            path_of = told.path_of;
+            stands = told.stands;
+            looked = told_let_in (IsLookedAt names admits p.anchor folder.certs) told.place w.verdicts told.above tells.let_in (told_there w.verdicts told.above told.place j told.among);
             is_of = is_of_as p c told.above told.place told.path_of told.stands kind j says right.2;
+          }
+
+      -- where the walk's end says that it looked at what it accepted there, the CAs of the path have enough
+      pub enough_of : Covers w.ended w.depth (last p + 1) → IsAcceptedBelow anchor folder.certs w.verdicts p c → HasEnoughOn x names admits t anchor folder w.depth w.steps p
+      enough_of covers accepted =
+          let told = accepted.1 in
+          let tells = w.tells p.anchor told.path_of.anchor_begins in
+          let right = right_at w.verdicts told.above told.place (Ok accepted.0) tells.right told.among in
+          let looked = told_let_in (IsLookedAt names admits p.anchor folder.certs) told.place w.verdicts told.above tells.let_in (told_there w.verdicts told.above told.place accepted.0 told.among) in
+          let many = as_many folder p.below told.above told.path_of.members in
+          let far : Covers w.ended w.depth (length told.above + 1) = subst (λ (n : ℕ). Covers w.ended w.depth (n + 1)) (sym many) covers in
+          let e = tells.enough told.above told.place far looked (right.0, accepted.0, right.1, right.2) in
+          record {
+            down = record {
+              above = told.above;
+              path_of = told.path_of;
+              looked = admitted_front (IsLookedAt names admits p.anchor folder.certs) [] told.above told.place looked;
+              holder = e.are_children.issuer;
+              leads = e.are_children.leads;
+            };
+            enough = e;
           }
 
   -- ---- from one folder to the other
 
-  module _ (keys : List KeyFields) (a b : FolderFields) (through : (q : Path) → IsFreeOf keys q → LeadsThrough names x a q → LeadsThrough names x b q) (unrevoked : (issuer : TbsFields) → (Contains keys issuer.key → ⊥) → (c : CertFields) → IsUnrevokedBy (by_named_lists names x a.lists) issuer c → IsUnrevokedBy (by_named_lists names x b.lists) issuer c) (there : (key : KeyFields) → (Contains keys key → ⊥) → (c : CertFields) → IsSignedBy x.verifies key c.signed_data → c.fields.algorithm ≡ c.signed_data.signature.algorithm → HasCertificate a c → HasCertificate b c) (p : Path) (free : IsAllFreeOf keys p) (c : CertFields) where
+  module _ (keys : List KeyFields) (aa : List ℕ) (a : FolderFields) (ia : List ℕ → ℕ → Type 0) (bb : List ℕ) (b : FolderFields) (ib : List ℕ → ℕ → Type 0) (on : Carries x names keys aa a bb b ib) (p : Path) (free : IsAllFreeOf keys p) (c : CertFields) where
     free_above : IsFreeOf keys p
     free_above i low = free i (omega (arith, low))
 
@@ -293,8 +201,8 @@ module _ (x : Context) (names : Bool) (t : NamedTal) (anchor : List ℕ) (law : 
         let under : i ≤ last p = omega (arith, low, n) in
         λ has. free i under (subst (λ (d : CertFields). Contains keys d.fields.key) (above p m [] i under) has)
 
-    moved : (q : Path) → IsFreeOf keys q → (r : ResourceFields) → Leads a q r → Leads b q r
-    moved q free_q r l = record { through = through q free_q l.through; key_is = l.key_is; lists_some = l.lists_some; held = l.held }
+    moved : (q : Path) → IsFreeOf keys q → (r : ResourceFields) → Leads x names t a q r → Leads x names t b q r
+    moved q free_q r l = record { through = on.through q free_q l.through; key_is = l.key_is; lists_some = l.lists_some; held = l.held }
 
     carried : (kind : Kind) (j : Judged) → IsOf a kind p c j → IsOf b kind p c j
     carried Anchor j h = (moved (longer p (member Anchor c)) (free_longer (member Anchor c)) j.holder h.0, h.1)
@@ -306,55 +214,88 @@ module _ (x : Context) (names : Bool) (t : NamedTal) (anchor : List ℕ) (law : 
         let same : last p ≤ last p = omega arith in
         let own : Contains keys j.holder.cert.fields.key → ⊥ = λ has. free (last p) same (subst (λ (d : CertFields). Contains keys d.fields.key) h.0.held.cert_is has) in (
           moved p free_above j.holder h.0,
-          there j.holder.cert.fields.key own c under.checks.1.1.1.1.1.0 under.meets.0 h.1,
-          record { meets = under.meets; checks = under.checks; unrevoked = unrevoked j.holder.cert.fields own c under.unrevoked },
+          on.signed j.holder.cert.fields.key own c under.checks.1.1.1.1.1.0 under.meets.0 h.1,
+          record { meets = under.meets; checks = under.checks; unrevoked = on.unrevoked j.holder.cert.fields own c under.unrevoked },
           h.3,
         )
 
     -- the certificates are there
-    have_longer : (k : Kind) (r : ResourceFields) → Leads b (longer p (member k c)) r → AllByRecursion (λ (m : Member). HasCertificate b m.cert) p.below × HasCertificate b c
+    have_longer : (k : Kind) (r : ResourceFields) → Leads x names t b (longer p (member k c)) r → AllByRecursion (λ (m : Member). HasCertificate b m.cert) p.below × HasCertificate b c
     have_longer k r l =
-        let all = has_below b (longer p (member k c)) l.through.members in
+        let all = all_below (HasCertificate b) (longer p (member k c)) l.through.members in
         (all_front (λ (m : Member). HasCertificate b m.cert) p.below (member k c ∷ []) all, all_at (λ (m : Member). HasCertificate b m.cert) p.below (member k c) [] all)
 
     have_all : (kind : Kind) (j : Judged) → IsOf b kind p c j → AllByRecursion (λ (m : Member). HasCertificate b m.cert) p.below × HasCertificate b c
-    have_all Router j h = (has_below b p h.0.through.members, h.1)
+    have_all Router j h = (all_below (HasCertificate b) p h.0.through.members, h.1)
     have_all Anchor j h = have_longer Anchor j.holder h.0
     have_all Authority j h = have_longer Authority j.holder h.0
     have_all EndEntity j h = have_longer EndEntity j.holder h.0
     have_all Detached j h = have_longer Detached j.holder h.0
 
-    -- what a walk of the first accepted, one of the second accepts that goes so far
-    accepted_there : (j : Judged) → Way a p c j → (v : Walked x names t anchor b) → Covers v.ended v.depth (last p + 1) → IsAcceptedBelow anchor b.certs v.verdicts p c
-    accepted_there j s v covers =
-        let kind = s.kind in
-        let is_of = carried kind j s.is_of in
-        let has = have_all kind j is_of in
-        let places = places_of b p.below s.cas has.0 in
-        let place = place_of b c has.1 in
-        let path_of : IsPathOf anchor (cas_at b.certs places.0) p = record { anchor_begins = s.begins; members = places.1 } in
-        let accepted = as_of b p c places.0 place.0 path_of place.1 kind j s.says is_of in
-        let reached : IsReached x (by_named_lists names x b.lists) (at_anchor t anchor) b.certs places.0 place.0 = (kind, j, (c, place.1, s.says), accepted) in
-        let looked = all_looked names anchor b.certs place.0 kind law places.0 (longer p (member kind c)) (with_end anchor b.certs places.0 place.0 kind p c path_of place.1) s.named s.none in
-        let many = as_many b p.below places.0 places.1 in
-        let far : Covers v.ended v.depth (length places.0 + 1) = subst (λ (n : ℕ). Covers v.ended v.depth (n + 1)) (sym many) covers in
-        let told : IsTold v.verdicts places.0 place.0 = (v.tells p.anchor s.begins).complete places.0 place.0 far looked reached in
-        let k = ok_value told.1.verdict told.4.2 in (
-          k.0,
-          record {
-            above = places.0;
-            place = place.0;
-            path_of = path_of;
-            stands = place.1;
-            among = (told.0, told.1, told.2, told.3, (told.4.0, told.4.1, k.1));
-          },
-        )
+    -- others signed it
+    others_signed : (q : Path) → IsFreeOf keys q → LeadsThrough names x b q → AllByRecursion (λ (m : Member). IsOfOthers x.verifies keys m.cert) q.below
+    others_signed q free_q l = all_below (IsOfOthers x.verifies keys) q (λ i low. ((certificate_at q i).fields.key, free_q i low, (l.is_valid.members_verified i low).1.1.1.1.1.0))
+
+    others_longer : (k : Kind) (r : ResourceFields) → Leads x names t b (longer p (member k c)) r → AllByRecursion (λ (m : Member). IsOfOthers x.verifies keys m.cert) p.below × IsOfOthers x.verifies keys c
+    others_longer k r l =
+        let all = others_signed (longer p (member k c)) (free_longer (member k c)) l.through in
+        (all_front (λ (m : Member). IsOfOthers x.verifies keys m.cert) p.below (member k c ∷ []) all, all_at (λ (m : Member). IsOfOthers x.verifies keys m.cert) p.below (member k c) [] all)
+
+    others_all : (kind : Kind) (j : Judged) → IsOf b kind p c j → AllByRecursion (λ (m : Member). IsOfOthers x.verifies keys m.cert) p.below × IsOfOthers x.verifies keys c
+    others_all Router j h =
+        let same : last p ≤ last p = omega arith in
+        let own : Contains keys j.holder.cert.fields.key → ⊥ = λ has. free (last p) same (subst (λ (d : CertFields). Contains keys d.fields.key) h.0.held.cert_is has) in
+        (others_signed p free_above h.0.through, (j.holder.cert.fields.key, own, h.2.checks.1.1.1.1.1.0))
+    others_all Anchor j h = others_longer Anchor j.holder h.0
+    others_all Authority j h = others_longer Authority j.holder h.0
+    others_all EndEntity j h = others_longer EndEntity j.holder h.0
+    others_all Detached j h = others_longer Detached j.holder h.0
+
+    -- what a walk of the first accepted, one of the second accepts that looked below the path
+    module _ (j : Judged) (s : Way ia aa a p c j) (v : Walked x names ib t bb b) where
+      abbrev kind_is : IsOf b s.kind p c j
+      kind_is = carried s.kind j s.is_of
+
+      begins : Means IsCertificate p.anchor bb
+      begins = on.begins p.anchor s.path_of.anchor_begins
+
+      -- the places of the CAs at which the second one looks, and of the certificate
+      module _ (d : Down x.verifies keys law names p.anchor a.certs ia b ib on.lets_in p.below []) where
+        abbrev path_there : IsPathOf bb (cas_at b.certs d.places) p
+        path_there = record { anchor_begins = begins; members = d.members }
+
+        there : (place : ℕ) × StandsAt b.certs place c × ib d.places place
+        there = let some = place_of b c (have_all s.kind j kind_is).1 in on.lets_in c (others_all s.kind j kind_is).1 some.0 some.1 d.places
+
+        accepted_so : IsTold v.verdicts d.places there.0 → IsAcceptedBelow bb b.certs v.verdicts p c
+        accepted_so told =
+            let k = ok_value told.1.verdict told.4.2 in
+            (k.0, record { above = d.places; place = there.0; path_of = path_there; stands = there.1; among = (told.0, told.1, told.2, told.3, (told.4.0, told.4.1, k.1)) })
+
+        reached : IsReached x (by_named_lists names x b.lists) (at_anchor t bb) b.certs d.places there.0
+        reached = (s.kind, j, (c, there.1, s.says), as_of bb b p c d.places there.0 path_there there.1 s.kind j s.says kind_is)
+
+        looked : AreAdmitted (IsLookedAt names ib p.anchor b.certs) [] (d.places ++ there.0 ∷ [])
+        looked =
+            let same = same_path a.certs b.certs p.below s.places d.places s.path_of.members d.members in
+            admitted_more (IsLookedAt names ib p.anchor b.certs) [] d.places there.0 d.looked
+            (looked_there a.certs b.certs law names ia ib p.anchor s.places d.places same s.place there.0 (c, s.stands, there.1) there.2 (admitted_last (IsLookedAt names ia p.anchor a.certs) [] s.places s.place s.looked))
+
+      accepted_there : HasLookedBelow p v → IsAcceptedBelow bb b.certs v.verdicts p c
+      accepted_there (inl covers) =
+          let d = looked_down x.verifies keys law names p.anchor a.certs ia b ib on.lets_in p.below (have_all s.kind j kind_is).0 (others_all s.kind j kind_is).0 [] s.places [] tt s.path_of.members (admitted_front (IsLookedAt names ia p.anchor a.certs) [] s.places s.place s.looked) in
+          let many = as_many b p.below d.places d.members in
+          let far : Covers v.ended v.depth (length d.places + 1) = subst (λ (n : ℕ). Covers v.ended v.depth (n + 1)) (sym many) covers in
+          accepted_so d ((v.tells p.anchor begins).complete d.places (there d).0 far (looked d) (reached d))
+      accepted_there (inr h) =
+          let d : Down x.verifies keys law names p.anchor a.certs ia b ib on.lets_in p.below [] = record { places = h.down.above; members = h.down.path_of.members; looked = h.down.looked } in
+          accepted_so d ((v.tells p.anchor begins).in_shares d.places (there d).0 h.enough (looked d) (reached d))
 
     -- and finds no fault
-    not_rejected : (j : Judged) → Way a p c j → (v : Walked x names t anchor b) (e : PathFault) → IsToldOf anchor b.certs v.verdicts p c (Err e) → ⊥
-    not_rejected j s v e told =
-        let right = right_at b v.verdicts told.above told.place (Err e) (v.tells p.anchor told.path_of.anchor_begins).right told.among in
-        not_wrong b p c told.above told.place told.path_of told.stands s.kind j s.says (carried s.kind j s.is_of) e right
+    not_rejected : (j : Judged) → Way ia aa a p c j → (lets : List ℕ → ℕ → Type 0) (v : Walked x names lets t bb b) (e : PathFault) → IsToldOf bb b.certs v.verdicts p c (Err e) → ⊥
+    not_rejected j s lets v e told =
+        let right = right_at bb b v.verdicts told.above told.place (Err e) (v.tells p.anchor told.path_of.anchor_begins).right told.among in
+        not_wrong bb b p c told.above told.place told.path_of told.stands s.kind j s.says (carried s.kind j s.is_of) e right
 
   -- ---- verdicts
 
@@ -376,36 +317,14 @@ module _ (x : Context) (names : Bool) (t : NamedTal) (anchor : List ℕ) (law : 
 
   -- ---- what strangers add
 
-  module _ (keys : List KeyFields) (old new : FolderFields) (adds : AddsOnly x.verifies keys old new) (p : Path) (free : IsAllFreeOf keys p) (c : CertFields) where
-    was_signed : (key : KeyFields) → (Contains keys key → ⊥) → (d : CertFields) → IsSignedBy x.verifies key d.signed_data → d.fields.algorithm ≡ d.signed_data.signature.algorithm → HasCertificate new d → HasCertificate old d
-    was_signed key own d signed one has = elim (adds.certs_added d has) [
-      | inl there ↦ there
-      | inr (inl only) ↦ absurd (own (only key signed))
-      | inr (inr two) ↦ absurd (two one)
-    ]
+  module _ (keys : List KeyFields) (old new : FolderFields) (adds : AddsOnly x.verifies keys old new) (anchor after : List ℕ) (alike : BeginAlike anchor after) (i i_then : List ℕ → ℕ → Type 0) (p : Path) (free : IsAllFreeOf keys p) (c : CertFields) where
+    module _ (w : Walked x names i t anchor old) (v : Walked x names i_then t after new) where
+      -- what one walk accepted, the other did, if it looked below the path
+      pub accepted_then : LetsIn x.verifies keys new.certs i_then → HasLookedBelow p v → IsAcceptedBelow anchor old.certs w.verdicts p c → IsAcceptedBelow after new.certs v.verdicts p c
+      accepted_then lets far told = accepted_there keys anchor old i after new i_then (carries_on x names law keys old new adds anchor after alike i_then lets) p free c told.0 (way_of anchor old i w p c told.0 told.1) v far
 
-    stays : (key : KeyFields) → (Contains keys key → ⊥) → (d : CertFields) → IsSignedBy x.verifies key d.signed_data → d.fields.algorithm ≡ d.signed_data.signature.algorithm → HasCertificate old d → HasCertificate new d
-    stays key own d signed one has = adds.certs_stay d has
-
-    leads_then : (q : Path) → IsFreeOf keys q → LeadsThrough names x old q → LeadsThrough names x new q
-    leads_then q free_q = (leads_alike names x keys old new adds q free_q).0
-
-    leads_before : (q : Path) → IsFreeOf keys q → LeadsThrough names x new q → LeadsThrough names x old q
-    leads_before q free_q = (leads_alike names x keys old new adds q free_q).1
-
-    free_then : (issuer : TbsFields) → (Contains keys issuer.key → ⊥) → (d : CertFields) → IsUnrevokedBy (by_named_lists names x old.lists) issuer d → IsUnrevokedBy (by_named_lists names x new.lists) issuer d
-    free_then issuer own d = (unrevoked_alike names x keys old new adds issuer own d).0
-
-    free_before : (issuer : TbsFields) → (Contains keys issuer.key → ⊥) → (d : CertFields) → IsUnrevokedBy (by_named_lists names x new.lists) issuer d → IsUnrevokedBy (by_named_lists names x old.lists) issuer d
-    free_before issuer own d = (unrevoked_alike names x keys old new adds issuer own d).1
-
-    module _ (w : Walked x names t anchor old) (v : Walked x names t anchor new) where
-      -- what one walk accepted, the other did, if it went so far
-      pub accepted_then : Covers v.ended v.depth (last p + 1) → IsAcceptedBelow anchor old.certs w.verdicts p c → IsAcceptedBelow anchor new.certs v.verdicts p c
-      accepted_then covers told = accepted_there keys old new leads_then free_then stays p free c told.0 (way_of old w p c told.0 told.1) v covers
-
-      pub accepted_before : Covers w.ended w.depth (last p + 1) → IsAcceptedBelow anchor new.certs v.verdicts p c → IsAcceptedBelow anchor old.certs w.verdicts p c
-      accepted_before covers told = accepted_there keys new old leads_before free_before was_signed p free c told.0 (way_of new v p c told.0 told.1) w covers
+      pub accepted_before : LetsIn x.verifies keys old.certs i → HasLookedBelow p w → IsAcceptedBelow after new.certs v.verdicts p c → IsAcceptedBelow anchor old.certs w.verdicts p c
+      accepted_before lets far told = accepted_there keys after new i_then anchor old i (carries_back x names law keys old new adds anchor after alike i lets) p free c told.0 (way_of after new i_then v p c told.0 told.1) w far
 
       -- ---- faults
 
@@ -458,12 +377,12 @@ module _ (x : Context) (names : Bool) (t : NamedTal) (anchor : List ℕ) (law : 
           by_kind Detached i j = by_checks Detached issued_checks issued_names i j
           by_kind Router i j = by_checks Router router_checks router_names i j
 
-      rejected_alike : (e f : PathFault) → IsToldOf anchor old.certs w.verdicts p c (Err e) → IsToldOf anchor new.certs v.verdicts p c (Err f) → AreAlikeFaults names x old p c e f
+      rejected_alike : (e f : PathFault) → IsToldOf anchor old.certs w.verdicts p c (Err e) → IsToldOf after new.certs v.verdicts p c (Err f) → AreAlikeFaults names x old p c e f
       rejected_alike e f m n =
-          let i = right_at old w.verdicts m.above m.place (Err e) (w.tells p.anchor m.path_of.anchor_begins).right m.among in
-          let j = right_at new v.verdicts n.above n.place (Err f) (v.tells p.anchor n.path_of.anchor_begins).right n.among in
-          let h = leads_of old p (cas_at old.certs m.above) i.1.1 i.1.3 m.path_of (have old p.below m.above m.path_of.members) in
-          let k = leads_of new p (cas_at new.certs n.above) j.1.1 j.1.3 n.path_of (have new p.below n.above n.path_of.members) in
+          let i = right_at anchor old w.verdicts m.above m.place (Err e) (w.tells p.anchor m.path_of.anchor_begins).right m.among in
+          let j = right_at after new v.verdicts n.above n.place (Err f) (v.tells p.anchor n.path_of.anchor_begins).right n.among in
+          let h = leads_of x names t anchor law old p (cas_at old.certs m.above) i.1.1 i.1.3 m.path_of (have old p.below m.above m.path_of.members) in
+          let k = leads_of x names t after law new p (cas_at new.certs n.above) j.1.1 j.1.3 n.path_of (have new p.below n.above n.path_of.members) in
           let said : SaysKind i.1.0 c.fields = subst (λ (d : CertFields). SaysKind i.1.0 d.fields) (one_meant IsCertificate law i.1.2.0 c (octets_at old.certs m.place) i.1.2.1 m.stands) i.1.2.2 in
           let said_then : SaysKind j.1.0 c.fields = subst (λ (d : CertFields). SaysKind j.1.0 d.fields) (one_meant IsCertificate law j.1.2.0 c (octets_at new.certs n.place) j.1.2.1 n.stands) j.1.2.2 in
           let same = says_one c.fields j.1.0 i.1.0 said_then said in
@@ -471,12 +390,12 @@ module _ (x : Context) (names : Bool) (t : NamedTal) (anchor : List ℕ) (law : 
           (subst (λ (kind : Kind). Finds x (demand_as x (by_named_lists names x new.lists) j.1.1 kind) (octets_at new.certs n.place) f) same j.1.4)
 
       -- two verdicts on one certificate below one path say the same
-      pub verdicts_alike : (one other : Result Judged PathFault) → IsToldOf anchor old.certs w.verdicts p c one → IsToldOf anchor new.certs v.verdicts p c other → SayAlike names x old p c one other
+      pub verdicts_alike : (one other : Result Judged PathFault) → IsToldOf anchor old.certs w.verdicts p c one → IsToldOf after new.certs v.verdicts p c other → SayAlike names x old p c one other
       verdicts_alike (Ok j) (Ok k) m n =
-          let s = way_of old w p c j m in
-          let r = way_of new v p c k n in
+          let s = way_of anchor old i w p c j m in
+          let r = way_of after new i_then v p c k n in
           let same = says_one c.fields r.kind s.kind r.says s.says in
           alike_judged old new p c s.kind j k s.is_of (subst (λ (kind : Kind). IsOf new kind p c k) same r.is_of)
-      verdicts_alike (Ok j) (Err f) m n = not_rejected keys old new leads_then free_then stays p free c j (way_of old w p c j m) v f n
-      verdicts_alike (Err e) (Ok k) m n = not_rejected keys new old leads_before free_before was_signed p free c k (way_of new v p c k n) w e m
+      verdicts_alike (Ok j) (Err f) m n = not_rejected keys anchor old i after new (λ above place. Unit {0}) (unlet_on x names law keys old new adds anchor after alike) p free c j (way_of anchor old i w p c j m) i_then v f n
+      verdicts_alike (Err e) (Ok k) m n = not_rejected keys after new i_then anchor old (λ above place. Unit {0}) (unlet_back x names law keys old new adds anchor after alike) p free c k (way_of after new i_then v p c k n) i w e m
       verdicts_alike (Err e) (Err f) m n = rejected_alike e f m n

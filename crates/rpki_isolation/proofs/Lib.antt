@@ -1,3 +1,9 @@
+pub mod RelatedLists
+pub mod LookedAlike
+pub mod Carried
+pub mod FolderPaths
 pub mod AlikeFaults
+pub mod IsolatedShares
 pub mod IsolatedWalks
+pub mod IsolatedAnchors
 pub mod AddedFiles

@@ -1,1 +1,2 @@
+pub mod PathShares
 pub mod ToldWalks

@@ -1,9 +1,10 @@
 -- What a walk tells below the paths that are none of strangers, and when two walks tell alike of them
 -- (own). Strangers of rpki_folder has what strangers add, and which paths these are.
-use Rattle.std.specs.Prelude.{◌≡◌, ◌⊎◌, ◌↔◌, ◌≤◌, ℕ, Bool, List, Any, Contains, Result, Ok, Err}
+use Rattle.std.specs.Prelude.{◌≡◌, ◌⊎◌, ◌↔◌, ◌+◌, ◌≤◌, ℕ, Bool, List, Any, Contains, Result, Ok, Err}
 use Rattle.rpki_blocks.specs.Sets.{Has}
+use Rattle.rpki_ext.specs.Kinds.{Means}
 use Rattle.rpki_parts.specs.Keys.{KeyFields}
-use Rattle.rpki_cert.specs.Certificates.{CertFields}
+use Rattle.rpki_cert.specs.Certificates.{CertFields, IsCertificate}
 use Rattle.rpki_cert.specs.Verification.{Context, ResourceFields}
 use Rattle.rpki_crl.specs.declared.revocation_error.RevocationError.TheVariants.{NoCrl, BadSignature, Stale, WrongIssuer}
 use Rattle.rpki_keys.specs.Locators.{NamedTal}
@@ -13,22 +14,38 @@ use Rattle.rpki_path.specs.declared.path_fault.PathFault.{PathFault}
 use Rattle.rpki_path.specs.declared.path_fault.PathFault.TheVariants.{Revocation}
 use Rattle.rpki_path.specs.Paths.{Path, last, certificate_at, IsPathOf}
 use Rattle.rpki_folder.specs.Folders.{FolderFields, cas_at}
-use Rattle.rpki_folder.specs.Walks.{StandsAt, Told, TellsFrom}
+use Rattle.rpki_folder.specs.Walks.{IsValidAnchor, StandsAt, Covers, Told, TellsFrom}
 use Rattle.rpki_folder.specs.declared.bounds.Ended.{Ended}
 use Rattle.rpki_folder.specs.declared.walk_error.WalkError.{WalkError}
+use Rattle.rpki_isolation.specs.PathShares.{HasEnoughOn}
+
+-- ---- trust anchors
+
+-- octets of the folder begin with the certificate and are a valid trust anchor of the locator
+pub record IsAnchorIn (x : Context) (names : Bool) (t : NamedTal) (folder : FolderFields)
+    (c : CertFields) : Type 0 where
+  pub octets : List ℕ
+  pub among : Contains folder.certs octets
+  pub begins : Means IsCertificate c octets
+  pub is_valid : IsValidAnchor x (by_named_lists names x folder.lists) names t octets
 
 -- ---- a walk, and what it told
 
--- a walk below this trust anchor, through all certificates of the folder and with its lists, that
--- ended, and what it told; whether names are asked is the caller's to say
-pub record Walked (x : Context) (names : Bool) (t : NamedTal) (anchor : List ℕ)
-    (folder : FolderFields) : Type 0 where
+-- the two octet strings begin with one certificate, as the files of one trust anchor do
+abbrev pub BeginAlike : List ℕ → List ℕ → Type 0
+BeginAlike one other =
+    (c : CertFields) × Means IsCertificate c one × Means IsCertificate c other
+
+-- a walk below this trust anchor, through the certificates of the folder that it lets in and with the
+-- folder's lists, that ended, and what it told; whether names are asked is the caller's to say
+pub record Walked (x : Context) (names : Bool) (admits : List ℕ → ℕ → Type 0) (t : NamedTal)
+    (anchor : List ℕ) (folder : FolderFields) : Type 0 where
   pub depth : ℕ
   pub steps : ℕ
   pub ended : Ended
   pub verdicts : List Told
-  pub tells : TellsFrom {E = WalkError} x (by_named_lists names x folder.lists) names
-      (λ above place. Unit {0}) t anchor folder.certs depth steps (Ok ended) verdicts
+  pub tells : TellsFrom {E = WalkError} x (by_named_lists names x folder.lists) names admits t anchor
+      folder.certs depth steps (Ok ended) verdicts
 
 -- among what was told is this verdict on the certificate, below the CAs of the path
 pub record IsToldOf (anchor : List ℕ) (certs : List (List ℕ)) (ts : List Told) (p : Path)
@@ -42,6 +59,14 @@ pub record IsToldOf (anchor : List ℕ) (certs : List (List ℕ)) (ts : List Tol
 -- among what was told is that it is accepted there
 abbrev pub IsAcceptedBelow : List ℕ → List (List ℕ) → List Told → Path → CertFields → Type 0
 IsAcceptedBelow anchor certs ts p c = (j : Judged) × IsToldOf anchor certs ts p c (Ok j)
+
+-- the walk looked at all below the path: its end says so; or the path's CAs have enough
+abbrev pub HasLookedBelow : {x : Context} {names : Bool} {admits : List ℕ → ℕ → Type 0}
+    {t : NamedTal} {anchor : List ℕ} {folder : FolderFields} → Path
+    → Walked x names admits t anchor folder → Type 0
+HasLookedBelow {x} {names} {admits} {t} {anchor} {folder} p w =
+    Covers w.ended w.depth (last p + 1)
+    ⊎ HasEnoughOn x names admits t anchor folder w.depth w.steps p
 
 -- ---- paths that are none of theirs
 

@@ -118,8 +118,12 @@ fn a_walk_ends_with_the_steps(rt: HostRuntime) {
     }
     let list = lists::plain(&rt, alloc, b"abc");
     folder.add_list(list).expect(&rt, "memory");
-    let (ended, lines) = walked(&rt, alloc, &folder, 20, 30);
+    let (ended, lines) = walked(&rt, alloc, &folder, 20, 39);
     assert!(rt; ended == Ended::OutOfSteps);
+    assert!(rt; line(&lines, 0) == (0, "unseen"));
+    drop(lines);
+    let (ended, lines) = walked(&rt, alloc, &folder, 20, 40);
+    assert!(rt; ended == Ended::Whole);
     assert!(rt; line(&lines, 0) == (0, "accepted"));
     drop(lines);
     drop(folder);
@@ -221,6 +225,24 @@ fn renewals_that_lie_side_by_side_are_both_judged(rt: HostRuntime) {
     drop(folder);
 }
 
+// These octets, with one behind them.
+fn longer(rt: &impl Abort, alloc: Global, octets: &[u8]) -> Bytes {
+    let mut more = Vec::from_slice(alloc, octets).expect(rt, "memory");
+    more.push(0).expect(rt, "memory");
+    Bytes::from_vec(more).expect(rt, "memory")
+}
+
+// What is behind a list may be one that revokes.
+#[test]
+fn a_list_with_octets_behind_is_none(rt: HostRuntime) {
+    let alloc = rt.alloc();
+    let mut folder = Folder::new(alloc);
+    let list = list_octets(&rt, alloc);
+    assert!(rt; add(&rt, &mut folder, longer(&rt, alloc, &list)) == Added::Neither);
+    assert!(rt; add(&rt, &mut folder, list) == Added::List);
+    drop(folder);
+}
+
 // How many signatures are verified in a walk through the folder.
 fn verified(rt: &impl Abort, alloc: Global, folder: &Folder) -> usize {
     let mut lines = Lines::new(alloc, folder.certs().len()).expect(rt, "memory");
@@ -238,8 +260,8 @@ fn verified(rt: &impl Abort, alloc: Global, folder: &Folder) -> usize {
     verifier.calls.get()
 }
 
-// The anchor, and once there is something below it, its list and each certificate. A list that
-// names another key isn't verified.
+// The anchor, and once there is something below it, its list and each certificate. A list that names
+// another key isn't verified.
 #[test]
 fn a_list_is_verified_once(rt: HostRuntime) {
     let alloc = rt.alloc();

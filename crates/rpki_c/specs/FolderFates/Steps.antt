@@ -10,8 +10,9 @@ use Rattle.rpki_path.specs.NameChains.{IsSelfNamed}
 use Rattle.rpki_path.specs.declared.located.LocatedError.TheVariants.{OtherKey, NoResources, Path as path}
 use Rattle.rpki_folder.specs.Folders.{FolderFields, octets_at, BeginsNoCertificate}
 use Rattle.rpki_folder.specs.KeptLines.{AreLines}
-use Rattle.rpki_folder.specs.Walks.{Root, LeadsTo, Told, IsRight, IsLetIn, AreUsedUp, IsTooDeep, IsComplete, IsLookedAt}
+use Rattle.rpki_folder.specs.Walks.{Root, LeadsTo, Told, IsRight, IsLetIn, IsShort, IsTooDeep, IsComplete, IsLookedAt}
 use Rattle.rpki_folder.specs.declared.bounds.Ended.{Ended}
+use Rattle.rpki_folder.specs.declared.bounds.Ended.TheVariants.{OutOfSteps}
 use Rattle.rpki_folder.specs.declared.folder.Added.{Added}
 use Rattle.rpki_folder.specs.declared.folder.Added.TheVariants.{Certificate, List as list_added, Neither}
 use Rattle.rpki_folder.specs.declared.lines.Line.{Line}
@@ -94,7 +95,8 @@ pub record IsWalked (x : Context) (asked : RevocationChecks) (names : Bool) (roo
   pub right : AllByRecursion (IsRight x asked root certs) tells
   pub let_in : AllByRecursion
       (IsLetIn (IsLookedAt names (λ above place. Unit {0}) holder.cert certs) []) tells
-  pub used_up : AreUsedUp steps tells ended
+  pub short : ended ≡ OutOfSteps → IsShort x asked
+      (IsLookedAt names (λ above place. Unit {0}) holder.cert certs) root certs [] steps
   pub too_deep : IsTooDeep x asked (IsLookedAt names (λ above place. Unit {0}) holder.cert certs) root
       certs [] depth ended
   pub complete : IsComplete x asked (IsLookedAt names (λ above place. Unit {0}) holder.cert certs) root

@@ -4,7 +4,7 @@ use Rattle.rpki_c.proofs.walking.walk_below.Goals as goal
 pub returns-clause-walked : goal.returns-clause-walked
 returns-clause-walked c = λ none.
     let b = c.in_ok-ended.ensures.tells in
-    let t = b.2.2 (at_anchor c.args.tal.now c.args.anchor.now) c.in_ok-issuer.ensures.ok in record {
+    let t = b.2 (at_anchor c.args.tal.now c.args.anchor.now) c.in_ok-issuer.ensures.ok in record {
       holder = c.in_ok-issuer.issuer;
       holds = c.in_ok-issuer.ensures.ok;
       named = c.in_ok-issuer.ensures.named;
@@ -12,7 +12,7 @@ returns-clause-walked c = λ none.
       lines_are = b.1.1 none;
       right = t.right;
       let_in = t.let_in;
-      used_up = t.used_up;
+      short = t.short;
       too_deep = t.too_deep;
       complete = t.complete;
     }

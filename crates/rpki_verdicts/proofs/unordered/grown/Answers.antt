@@ -52,12 +52,12 @@ returns c =
     let taken = anchor_at x asked q.names q.locators.now files found are anchor best in
     let root = at_anchor anchor.tal.now anchor.file.now.octets in
     let walk = c.in_ok-ended.ensures in
-    let t = walk.2.2 root taken.0 in
+    let t = walk.2 root taken.0 in
     let tells : TellsFrom {E = WalkError} x asked q.names every anchor.tal.now anchor.file.now.octets folder.certs q.depth q.steps (Ok c.in_ok-ended.ended) walk.0 =
     λ top begins.
     let is = anchor_is x asked anchor.tal.now anchor.file.now.octets anchor.issuer taken.0 c.unambiguous.ensures.certificate top begins in
     subst (λ (d : CertFields). Tells {E = WalkError} x asked (IsLookedAt q.names every d folder.certs) root folder.certs [] q.depth q.steps (Ok c.in_ok-ended.ended) walk.0) is
-    (record { right = t.right; let_in = t.let_in; few = t.few; used_up = t.used_up; too_deep = t.too_deep; complete = t.complete }) in
+    (record { right = t.right; let_in = t.let_in; few = t.few; short = t.short; too_deep = t.too_deep; complete = t.complete; in_shares = t.in_shares; enough = t.enough }) in
     record {
       certs_are = c.requires.certs_are;
       lists = folder.lists;

@@ -1,186 +1,79 @@
-use Rattle.std.specs.Prelude.{Option, None, Some, Ok, Bool, true, ◌==◌, Contains}
-use Rattle.std.proofs.Common.{rules, ◌≡◌, ◌+◌, ◌-◌, ◌<◌, ◌≤◌, ℕ, List, [], ◌∷◌, ◌++◌, length, take, get_or, refl, sym, ap, subst, ◌∙◌, inl, inr, append_assoc, arith}
-use Rattle.std.proofs.lemmas.Bool.{both_ways, eqb-true}
-use Rattle.std.proofs.lemmas.List.{append-nil, length-append, take_more, take_all}
+use Rattle.std.specs.Prelude.{Result, Ok, Bool, true, false, ◌==◌, Contains}
+use Rattle.std.specs.List.{AllByRecursion}
+use Rattle.std.specs.Global.{Vec}
+use Rattle.std.specs.declared.alloc.AllocError.{AllocError}
+use Rattle.std.proofs.Common.{rules, ◌≡◌, ◌+◌, ◌-◌, ◌/◌, ◌<◌, ◌≤◌, ℕ, List, [], ◌∷◌, ◌++◌, length, take, refl, sym, ap, subst, ◌∙◌, append_assoc, arith}
+use Rattle.std.proofs.lemmas.Bool.{eqb-true}
+use Rattle.std.proofs.lemmas.List.{append-nil, take_more, take_all}
 use Rattle.std.proofs.lemmas.List.Elements.{Contains-get_or}
 use Rattle.rpki_cert.specs.Certificates.{TbsFields, CertFields}
-use Rattle.rpki_cert.specs.Verification.{context, ResourceFields}
+use Rattle.rpki_cert.specs.Verification.{context}
 use Rattle.rpki_path.specs.AskedLists.{by_named_lists}
-use Rattle.rpki_folder.specs.Folders.{octets_at, ArePlacesOf}
-use Rattle.rpki_folder.specs.Walks.{Told, told, AreUsedUp, TellsBelow, IsLastOf, IsNamedUnder, EndsNoCircle, IsLookedAt}
-use Rattle.rpki_folder.specs.Walks.Steps.{IsOutcome}
 use Rattle.rpki_folder.specs.declared.bounds.Ended.{Ended}
-use Rattle.rpki_folder.specs.declared.bounds.Ended.TheVariants.{Whole, TooDeep, OutOfSteps}
-use Rattle.rpki_folder.proofs.Descent.{SoFar, nothing_yet, passed_over, one_right, ended_there, below_right, went_below, ended_whole, ended_deep, ended_steps, ended_err, ended_circle, ca_stands, worse_out, if_ok}
-use Rattle.rpki_folder.proofs.LookedAt.{last_pushed, inside_pushed, looked_at, let_in as was_let_in}
+use Rattle.rpki_folder.specs.declared.walk.Ca.{Ca}
+use Rattle.rpki_folder.specs.Folders.{ArePlacesOf, IsOnce}
+use Rattle.rpki_folder.specs.IssuerTables.{IsKeptOf}
+use Rattle.rpki_folder.specs.Walks.{Told, TellsBelow, StandsAt, IsLastOf, EndsNoCircle, IsLookedAt, IsChildOf}
+use Rattle.rpki_folder.specs.declared.issuers.Issuer.{Issuer}
+use Rattle.rpki_folder.specs.Walks.Steps.{AreJudged, IsToldOf, WalksBelowEach}
+use Rattle.rpki_folder.proofs.KeptIssuers.{kept_at, kids_here}
+use Rattle.rpki_folder.proofs.Descent.{there as low_of, child_names, no_sound, ca_stands, if_ok}
+use Rattle.rpki_folder.proofs.Shares.{take_within, take_shorter, each_none, each_stops, each_fails, each_walked, ended_err, ended_none}
+use Rattle.rpki_folder.proofs.PickedLists.{in_none as none_in}
+use Rattle.rpki_folder.proofs.LookedAt.{last_pushed, inside_pushed}
+use Rattle.rpki_folder.proofs.BelowIssuer.{Others, at_err, at_none, at_depth, at_short, judged_err, at_last, at_each}
 use Rattle.rpki_folder.proofs.StepAnswers.{popped}
 use Rattle.rpki_folder.proofs.walk.Walk.+descend.Goals as goal
 
-pub each_below-loop-place-init : goal.each_below-loop-place-init
-each_below-loop-place-init g t c =
+-- ---- below each CA
+
+pub each_below-loop-ca-init : goal.each_below-loop-ca-init
+each_below-loop-ca-init g t c =
     let w = c.args.self.now in
-    let x = context (g.V.Verifier.verifies w.verifier.now) w.at w.strict in (
+    let x = context (g.V.Verifier.verifies w.verifier.now) w.at w.strict in
+    let asked = by_named_lists w.names x w.folder.now.lists in
+    let certs = w.folder.now.certs in
+    let admits = IsLookedAt w.names (g.A.Admission.admits w.admission.now) c.args.top.now.cert certs in (
       refl {A = List ℕ},
+      c.requires.kept,
       (λ v ts heard. (
         [],
         subst (λ (l : List Told). g.W.Visitor.became v l c.args.visitor.now) (sym (append-nil ts)) heard,
-        omega arith,
-        nothing_yet x (by_named_lists w.names x w.folder.now.lists) (IsLookedAt w.names (g.A.Admission.admits w.admission.now) c.args.top.now.cert w.folder.now.certs) c.args.issuer.now w.folder.now.certs c.args.trail.now.above.items c.args.depth,
-        (λ e. absurd (cc e)),
+        (λ root leads. each_none x asked admits root certs c.args.trail.now.above.items c.args.depth c.args.share {E = AllocError}),
       )),
     )
 
-pub each_below-loop-place-preserved-then-not-is_looked_at : goal.each_below-loop-place-preserved-then-not-is_looked_at
-each_below-loop-place-preserved-then-not-is_looked_at g t c = (
-  c.loop-place.invariant.0,
-  (λ v ts heard.
-      let w = c.args.self.now in
-      let x = context (g.V.Verifier.verifies w.verifier.now) w.at w.strict in
-      let asked = by_named_lists w.names x w.folder.now.lists in
-      let admits = IsLookedAt w.names (g.A.Admission.admits w.admission.now) c.args.top.now.cert w.folder.now.certs in
-      let issuer = c.args.issuer.now in
-      let certs = w.folder.now.certs in
-      let above = c.args.trail.now.above.items in
-      let places = c.args.places.now in
-      let index = c.loop-place.place-index in
-      let place = get_or places index 0 in
-      let i = c.loop-place.invariant.1 v ts heard in
-      let same = c.deref.ensures.value ∙ c.loop-place.invariant.0 in
-      let pair : (l : List ℕ) → Type 0 = λ l. g.A.Admission.admits w.admission.now l place × IsNamedUnder w.names issuer.cert certs place in
-      let never : admits above place → ⊥ = λ a. both_ways c.in_ok-is_looked_at.is_looked_at c.if-not-is_looked_at.true (c.in_ok-is_looked_at.ensures.1 (subst pair (sym same) (was_let_in c.args.top.now.cert certs c.unambiguous.ensures.certificate w.names above issuer.cert c.requires.last (g.A.Admission.admits w.admission.now) place a))) in (
-        i.0,
-        i.1,
-        i.2,
-        subst (λ (l : List ℕ). SoFar x asked admits issuer certs above c.args.depth l c.loop-place.ended i.0) (sym (take_more places index 0 c.loop-place-test.true))
-            (passed_over x asked admits issuer certs above c.args.depth (take index places) c.loop-place.ended i.0 place i.3 never),
-        i.4,
-      )),
-)
-
-pub each_below-returns-then-depth-eq0-clause-tells : goal.each_below-returns-then-depth-eq0-clause-tells
-each_below-returns-then-depth-eq0-clause-tells g t c = λ v ts heard.
-    let w = c.args.self.now in
-    let x = context (g.V.Verifier.verifies w.verifier.now) w.at w.strict in
-    let admits = IsLookedAt w.names (g.A.Admission.admits w.admission.now) c.args.top.now.cert w.folder.now.certs in
-    let above = c.args.trail.now.above.items in
-    let places = c.args.places.now in
-    let place = get_or places c.loop-place.place-index 0 in
-    let i = c.loop-place.invariant.1 v ts heard in
-    let few : length i.0 ≤ c.args.trail.now.steps = omega (arith, i.2) in
-    let names = c.requires.places.only place (Contains-get_or places c.loop-place.place-index 0 c.loop-place-test.true) in
-    let let_in : admits above place = looked_at c.args.top.now.cert w.folder.now.certs c.unambiguous.ensures.certificate w.names above c.args.issuer.now.cert c.requires.last (g.A.Admission.admits w.admission.now) place c.requires.no_circle (subst (λ (l : List ℕ). g.A.Admission.admits w.admission.now l place × IsNamedUnder w.names c.args.issuer.now.cert w.folder.now.certs place) (c.deref.ensures.value ∙ c.loop-place.invariant.0) (c.in_ok-is_looked_at.ensures.0 c.if-not-is_looked_at.false)) in
-    (i.0, i.1, i.2, ended_deep x (by_named_lists w.names x w.folder.now.lists) admits c.args.issuer.now w.folder.now.certs above c.args.depth c.unambiguous.ensures.certificate c.args.trail.now.steps i.0 few c.if-depth-eq0.true i.3.right place names let_in (Ok TooDeep) refl)
-
-pub each_below-returns-then-trail-eq0-clause-tells : goal.each_below-returns-then-trail-eq0-clause-tells
-each_below-returns-then-trail-eq0-clause-tells g t c = λ v ts heard.
-    let w = c.args.self.now in
-    let x = context (g.V.Verifier.verifies w.verifier.now) w.at w.strict in
-    let admits = IsLookedAt w.names (g.A.Admission.admits w.admission.now) c.args.top.now.cert w.folder.now.certs in
-    let i = c.loop-place.invariant.1 v ts heard in
-    let few : length i.0 ≤ c.args.trail.now.steps = omega (arith, i.2) in
-    let used : length i.0 ≡ c.args.trail.now.steps = omega (arith, i.2, c.if-trail-eq0.true) in
-    (i.0, i.1, i.2, ended_steps x (by_named_lists w.names x w.folder.now.lists) admits c.args.issuer.now w.folder.now.certs c.args.trail.now.above.items c.args.depth c.unambiguous.ensures.certificate c.args.trail.now.steps i.0 few i.3.right used (Ok OutOfSteps) refl)
-
-pub each_below-look_at-requires : goal.each_below-look_at-requires
-each_below-look_at-requires g t c =
-    let places = c.args.places.now in
-    let index = c.loop-place.place-index in
-    record {
-      place = c.requires.places.inside (get_or places index 0) (Contains-get_or places index 0 c.loop-place-test.true);
-      kept = c.requires.kept;
-    }
-
-pub each_below-is_looked_at-requires : goal.each_below-is_looked_at-requires
-each_below-is_looked_at-requires g t c =
-    let places = c.args.places.now in
-    let index = c.loop-place.place-index in
-    c.requires.places.inside (get_or places index 0) (Contains-get_or places index 0 c.loop-place-test.true)
-
-pub each_below-returns-in_err-is_looked_at-clause-tells : goal.each_below-returns-in_err-is_looked_at-clause-tells
-each_below-returns-in_err-is_looked_at-clause-tells g t c = λ v ts heard.
-    let w = c.args.self.now in
-    let x = context (g.V.Verifier.verifies w.verifier.now) w.at w.strict in
-    let admits = IsLookedAt w.names (g.A.Admission.admits w.admission.now) c.args.top.now.cert w.folder.now.certs in
-    let i = c.loop-place.invariant.1 v ts heard in
-    let few : length i.0 ≤ c.args.trail.now.steps = omega (arith, i.2) in
-    (i.0, i.1, i.2, ended_err x (by_named_lists w.names x w.folder.now.lists) admits c.args.issuer.now w.folder.now.certs c.args.trail.now.above.items c.args.depth c.unambiguous.ensures.certificate c.args.trail.now.steps i.0 few i.3.right c.from_residual.result c.from_residual.ensures.0)
-
 pub each_below-descend-below-requires : goal.each_below-descend-below-requires
 each_below-descend-below-requires g t c =
-    let w = c.args.self.now in
-    let x = context (g.V.Verifier.verifies w.verifier.now) w.at w.strict in
-    let admits = IsLookedAt w.names (g.A.Admission.admits w.admission.now) c.args.top.now.cert w.folder.now.certs in
-    let issuer = c.args.issuer.now in
-    let certs = w.folder.now.certs in
+    let certs = c.args.self.now.folder.now.certs in
     let top = c.args.top.now.cert in
     let above = c.args.trail.now.above.items in
-    let places = c.args.places.now in
-    let index = c.loop-place.place-index in
-    let place = get_or places index 0 in
-    let ca = c.in-Some.ca in
-    let low : place < length certs = c.requires.places.inside place (Contains-get_or places index 0 c.loop-place-test.true) in
-    let o = c.in_ok-next.ensures.ok c.loop-place.visitor [] (g.met.W.Visitor.begins c.loop-place.visitor) in
-    let outcome : IsOutcome x (by_named_lists w.names x w.folder.now.lists) issuer (octets_at certs place) o.0 (Some ca) = subst (λ (n : Option ResourceFields). IsOutcome x (by_named_lists w.names x w.folder.now.lists) issuer (octets_at certs place) o.0 n) c.in-Some.is o.2 in
-    let stands = ca_stands x (by_named_lists w.names x w.folder.now.lists) admits issuer certs above c.args.depth c.unambiguous.ensures.certificate place o.0 ca outcome in
-    let deeper = c.in_ok-push.ensures.items ∙ ap (λ (l : List ℕ). l ++ place ∷ []) c.loop-place.invariant.0 in
-    let inside = subst (λ (l : List ℕ). (p : ℕ) → Contains l p → p < length certs) (sym deeper) (inside_pushed top certs above place c.requires.inside low) in
-    let last = subst (λ (l : List ℕ). IsLastOf top certs l ca.cert) (sym deeper) (last_pushed top certs above place ca.cert stands) in
-    search (rules, inside, last)
-
-pub each_below-loop-place-preserved-in_default : goal.each_below-loop-place-preserved-in_default
-each_below-loop-place-preserved-in_default g t c = (
-  c.loop-place.invariant.0,
-  (λ v ts heard.
-      let w = c.args.self.now in
-      let x = context (g.V.Verifier.verifies w.verifier.now) w.at w.strict in
-      let asked = by_named_lists w.names x w.folder.now.lists in
-      let admits = IsLookedAt w.names (g.A.Admission.admits w.admission.now) c.args.top.now.cert w.folder.now.certs in
-      let issuer = c.args.issuer.now in
-      let certs = w.folder.now.certs in
-      let above = c.args.trail.now.above.items in
-      let places = c.args.places.now in
-      let index = c.loop-place.place-index in
-      let place = get_or places index 0 in
-      let i = c.loop-place.invariant.1 v ts heard in
-      let same = c.deref-in-loop-place.ensures.value ∙ c.loop-place.invariant.0 in
-      let let_in : admits above place = looked_at c.args.top.now.cert w.folder.now.certs c.unambiguous.ensures.certificate w.names above c.args.issuer.now.cert c.requires.last (g.A.Admission.admits w.admission.now) place c.requires.no_circle (subst (λ (l : List ℕ). g.A.Admission.admits w.admission.now l place × IsNamedUnder w.names c.args.issuer.now.cert w.folder.now.certs place) (c.deref.ensures.value ∙ c.loop-place.invariant.0) (c.in_ok-is_looked_at.ensures.0 c.if-not-is_looked_at.false)) in
-      let o = c.in_ok-next.ensures.ok v (ts ++ i.0) i.1 in
-      let item = told above place o.0 in
-      let hears = λ (l : List Told). g.W.Visitor.became v l c.look_at.new.visitor in
-      let outcome : IsOutcome x asked issuer (octets_at certs place) o.0 None = subst (λ (n : Option ResourceFields). IsOutcome x asked issuer (octets_at certs place) o.0 n) c.in_default.is o.2 in
-      let count : length (i.0 ++ item ∷ []) ≡ length i.0 + 1 = length-append i.0 (item ∷ []) in (
-        i.0 ++ item ∷ [],
-        subst (λ (l : List Told). hears l) (append_assoc ts i.0 (item ∷ [])) (subst (λ (l : List ℕ). hears ((ts ++ i.0) ++ told l place o.0 ∷ [])) same o.1),
-        omega (arith, count, i.2, c.if-trail-eq0.false),
-        subst (λ (l : List ℕ). SoFar x asked admits issuer certs above c.args.depth l c.loop-place.ended (i.0 ++ item ∷ [])) (sym (take_more places index 0 c.loop-place-test.true))
-            (ended_there x asked admits issuer certs above c.args.depth c.unambiguous.ensures.certificate (take index places) c.loop-place.ended i.0 place o.0 let_in i.3 outcome),
-        (λ e. omega (arith, i.4 e)),
-      )),
-)
+    let cas = c.args.cas.now in
+    let index = c.loop-ca.ca-index in
+    let ca = c.ca-item.result in
+    let at : Contains cas ca = subst (λ (k : Ca). Contains cas k) (sym c.ca-item.is) (Contains-get_or cas index ca c.loop-ca-test.true) in
+    let stands : StandsAt certs ca.place ca.holder.cert = c.requires.stand ca at in
+    let deeper = c.in_ok-push.ensures.items ∙ ap (λ (l : List ℕ). l ++ ca.place ∷ []) c.loop-ca.invariant.0 in
+    let low : ca.place < length certs = low_of certs ca.holder.cert ca.place stands in
+    let inside = subst (λ (l : List ℕ). (p : ℕ) → Contains l p → p < length certs) (sym deeper) (inside_pushed top certs above ca.place c.requires.inside low) in
+    let last = subst (λ (l : List ℕ). IsLastOf top certs l ca.holder.cert) (sym deeper) (last_pushed top certs above ca.place ca.holder.cert stands) in
+    let kept = c.loop-ca.invariant.1 in
+    search (rules, inside, last, kept)
 
 pub each_below-returns-in_err-push-clause-tells : goal.each_below-returns-in_err-push-clause-tells
 each_below-returns-in_err-push-clause-tells g t c = λ v ts heard.
     let w = c.args.self.now in
     let x = context (g.V.Verifier.verifies w.verifier.now) w.at w.strict in
     let asked = by_named_lists w.names x w.folder.now.lists in
-    let admits = IsLookedAt w.names (g.A.Admission.admits w.admission.now) c.args.top.now.cert w.folder.now.certs in
-    let issuer = c.args.issuer.now in
     let certs = w.folder.now.certs in
-    let above = c.args.trail.now.above.items in
-    let place = get_or c.args.places.now c.loop-place.place-index 0 in
-    let i = c.loop-place.invariant.1 v ts heard in
-    let same = c.deref-in-loop-place.ensures.value ∙ c.loop-place.invariant.0 in
-    let let_in : admits above place = looked_at c.args.top.now.cert w.folder.now.certs c.unambiguous.ensures.certificate w.names above c.args.issuer.now.cert c.requires.last (g.A.Admission.admits w.admission.now) place c.requires.no_circle (subst (λ (l : List ℕ). g.A.Admission.admits w.admission.now l place × IsNamedUnder w.names c.args.issuer.now.cert w.folder.now.certs place) (c.deref.ensures.value ∙ c.loop-place.invariant.0) (c.in_ok-is_looked_at.ensures.0 c.if-not-is_looked_at.false)) in
-    let o = c.in_ok-next.ensures.ok v (ts ++ i.0) i.1 in
-    let item = told above place o.0 in
-    let hears = λ (l : List Told). g.W.Visitor.became v l c.look_at.new.visitor in
-    let count : length (i.0 ++ item ∷ []) ≡ length i.0 + 1 = length-append i.0 (item ∷ []) in
-    let few : length (i.0 ++ item ∷ []) ≤ c.args.trail.now.steps = omega (arith, count, i.2, c.if-trail-eq0.false) in (
-      i.0 ++ item ∷ [],
-      subst (λ (l : List Told). hears l) (append_assoc ts i.0 (item ∷ [])) (subst (λ (l : List ℕ). hears ((ts ++ i.0) ++ told l place o.0 ∷ [])) same o.1),
-      omega (arith, count, i.2, c.if-trail-eq0.false),
-      ended_err x asked admits issuer certs above c.args.depth c.unambiguous.ensures.certificate c.args.trail.now.steps (i.0 ++ item ∷ []) few
-          (one_right x asked admits issuer certs above c.args.depth c.unambiguous.ensures.certificate i.0 place o.0 c.in_ok-next.next let_in i.3.right o.2) c.from_residual-in_err-push.result c.from_residual-in_err-push.ensures.0,
+    let admits = IsLookedAt w.names (g.A.Admission.admits w.admission.now) c.args.top.now.cert certs in
+    let cas = c.args.cas.now in
+    let index = c.loop-ca.ca-index in
+    let i = c.loop-ca.invariant.2 v ts heard in (
+      i.0,
+      i.1,
+      (λ root leads. each_stops x asked admits root certs c.args.trail.now.above.items c.args.depth c.args.share (take index cas) cas i.0 (Ok c.loop-ca.ended) c.from_residual.result (take_within cas index) (let low = take_shorter cas index c.loop-ca-test.true in omega (arith, low))
+          (i.2 root (λ k at. leads k (take_within cas index k at))) c.from_residual.ensures.0),
     )
 
 pub each_below-returns-in_err-below-clause-tells : goal.each_below-returns-in_err-below-clause-tells
@@ -188,75 +81,49 @@ each_below-returns-in_err-below-clause-tells g t c = λ v ts heard.
     let w = c.args.self.now in
     let x = context (g.V.Verifier.verifies w.verifier.now) w.at w.strict in
     let asked = by_named_lists w.names x w.folder.now.lists in
-    let admits = IsLookedAt w.names (g.A.Admission.admits w.admission.now) c.args.top.now.cert w.folder.now.certs in
-    let issuer = c.args.issuer.now in
     let certs = w.folder.now.certs in
+    let admits = IsLookedAt w.names (g.A.Admission.admits w.admission.now) c.args.top.now.cert certs in
     let above = c.args.trail.now.above.items in
-    let place = get_or c.args.places.now c.loop-place.place-index 0 in
-    let ca = c.in-Some.ca in
-    let i = c.loop-place.invariant.1 v ts heard in
-    let same = c.deref-in-loop-place.ensures.value ∙ c.loop-place.invariant.0 in
-    let let_in : admits above place = looked_at c.args.top.now.cert w.folder.now.certs c.unambiguous.ensures.certificate w.names above c.args.issuer.now.cert c.requires.last (g.A.Admission.admits w.admission.now) place c.requires.no_circle (subst (λ (l : List ℕ). g.A.Admission.admits w.admission.now l place × IsNamedUnder w.names c.args.issuer.now.cert w.folder.now.certs place) (c.deref.ensures.value ∙ c.loop-place.invariant.0) (c.in_ok-is_looked_at.ensures.0 c.if-not-is_looked_at.false)) in
-    let o = c.in_ok-next.ensures.ok v (ts ++ i.0) i.1 in
-    let item = told above place o.0 in
-    let outcome : IsOutcome x asked issuer (octets_at certs place) o.0 (Some ca) = subst (λ (n : Option ResourceFields). IsOutcome x asked issuer (octets_at certs place) o.0 n) c.in-Some.is o.2 in
-    let heard_it = subst (λ (l : List ℕ). g.W.Visitor.became v ((ts ++ i.0) ++ told l place o.0 ∷ []) c.look_at.new.visitor) same o.1 in
-    let b = c.descend-below.ensures.tells v ((ts ++ i.0) ++ item ∷ []) heard_it in
-    let deeper = c.in_ok-push.ensures.items ∙ ap (λ (l : List ℕ). l ++ place ∷ []) c.loop-place.invariant.0 in
-    let below : TellsBelow x asked admits ca certs (above ++ place ∷ []) (c.args.depth - 1) (c.loop-place.trail.steps - 1) c.descend-below.result b.0 = subst (λ (l : List ℕ). TellsBelow x asked admits ca certs l (c.args.depth - 1) (c.loop-place.trail.steps - 1) c.descend-below.result b.0) deeper b.3 in
-    let more = (i.0 ++ item ∷ []) ++ b.0 in
-    let hears = λ (l : List Told). g.W.Visitor.became v l c.descend-below.new.visitor in
-    let count : length more ≡ length i.0 + 1 + length b.0 = omega (arith, length-append (i.0 ++ item ∷ []) b.0, length-append i.0 (item ∷ [])) in
-    let few : length more ≤ c.args.trail.now.steps = omega (arith, count, i.2, b.2, c.if-trail-eq0.false) in (
-      more,
-      subst (λ (l : List Told). hears l) (ap (λ (l : List Told). l ++ b.0) (append_assoc ts i.0 (item ∷ [])) ∙ append_assoc ts (i.0 ++ item ∷ []) b.0) b.1,
-      omega (arith, count, i.2, b.2, c.if-trail-eq0.false),
-      ended_err x asked admits issuer certs above c.args.depth c.unambiguous.ensures.certificate c.args.trail.now.steps more few
-          (below_right x asked admits issuer certs above c.args.depth c.unambiguous.ensures.certificate place o.0 ca outcome (c.loop-place.trail.steps - 1) c.descend-below.result b.0 below let_in i.0 i.3.right) c.from_residual-in_err-below.result c.from_residual-in_err-below.ensures.0,
+    let cas = c.args.cas.now in
+    let index = c.loop-ca.ca-index in
+    let ca = c.ca-item.result in
+    let i = c.loop-ca.invariant.2 v ts heard in
+    let b = c.descend-below.ensures.tells v (ts ++ i.0) i.1 in
+    let deeper = c.in_ok-push.ensures.items ∙ ap (λ (l : List ℕ). l ++ ca.place ∷ []) c.loop-ca.invariant.0 in
+    let below : TellsBelow x asked admits ca.holder certs (above ++ ca.place ∷ []) c.args.depth c.args.share c.descend-below.result b.0 = subst (λ (l : List ℕ). TellsBelow x asked admits ca.holder certs l c.args.depth c.args.share c.descend-below.result b.0) deeper b.2 in
+    let at : Contains cas ca = subst (λ (k : Ca). Contains cas k) (sym c.ca-item.is) (Contains-get_or cas index ca c.loop-ca-test.true) in (
+      i.0 ++ b.0,
+      subst (λ (l : List Told). g.W.Visitor.became v l c.descend-below.new.visitor) (append_assoc ts i.0 b.0) b.1,
+      (λ root leads. each_fails x asked admits root certs above c.args.depth c.args.share cas index ca (take_within cas index) (take_shorter cas index c.loop-ca-test.true) at i.0 b.0 (Ok c.loop-ca.ended) c.descend-below.result c.from_residual-in_err-below.result
+          (i.2 root (λ k among. leads k (take_within cas index k among))) (below root (leads ca at)) c.from_residual-in_err-below.ensures.0),
     )
 
-pub each_below-loop-place-preserved : goal.each_below-loop-place-preserved
-each_below-loop-place-preserved g t c =
+pub each_below-loop-ca-preserved : goal.each_below-loop-ca-preserved
+each_below-loop-ca-preserved g t c =
     let above = c.args.trail.now.above.items in
-    let places = c.args.places.now in
-    let index = c.loop-place.place-index in
-    let place = get_or places index 0 in
-    let deeper = c.in_ok-push.ensures.items ∙ ap (λ (l : List ℕ). l ++ place ∷ []) c.loop-place.invariant.0 in (
-      c.pop.ensures.rest ∙ popped c.descend-below.new.trail.above above place (c.in_ok-below.ensures.trail ∙ deeper),
+    let cas = c.args.cas.now in
+    let index = c.loop-ca.ca-index in
+    let ca = c.ca-item.result in
+    let deeper = c.in_ok-push.ensures.items ∙ ap (λ (l : List ℕ). l ++ ca.place ∷ []) c.loop-ca.invariant.0 in (
+      c.pop.ensures.rest ∙ popped c.descend-below.new.trail.above above ca.place (c.in_ok-below.ensures.trail ∙ deeper),
+      c.in_ok-below.ensures.kept,
       (λ v ts heard.
           let w = c.args.self.now in
           let x = context (g.V.Verifier.verifies w.verifier.now) w.at w.strict in
           let asked = by_named_lists w.names x w.folder.now.lists in
-          let admits = IsLookedAt w.names (g.A.Admission.admits w.admission.now) c.args.top.now.cert w.folder.now.certs in
-          let issuer = c.args.issuer.now in
           let certs = w.folder.now.certs in
-          let ca = c.in-Some.ca in
+          let admits = IsLookedAt w.names (g.A.Admission.admits w.admission.now) c.args.top.now.cert certs in
           let end = c.in_ok-below.field-0 in
-          let i = c.loop-place.invariant.1 v ts heard in
-          let same = c.deref-in-loop-place.ensures.value ∙ c.loop-place.invariant.0 in
-          let o = c.in_ok-next.ensures.ok v (ts ++ i.0) i.1 in
-          let item = told above place o.0 in
-          let outcome : IsOutcome x asked issuer (octets_at certs place) o.0 (Some ca) = subst (λ (n : Option ResourceFields). IsOutcome x asked issuer (octets_at certs place) o.0 n) c.in-Some.is o.2 in
-          let heard_it = subst (λ (l : List ℕ). g.W.Visitor.became v ((ts ++ i.0) ++ told l place o.0 ∷ []) c.look_at.new.visitor) same o.1 in
-          let b = c.descend-below.ensures.tells v ((ts ++ i.0) ++ item ∷ []) heard_it in
-          let below : TellsBelow x asked admits ca certs (above ++ place ∷ []) (c.args.depth - 1) (c.loop-place.trail.steps - 1) c.descend-below.result b.0 = subst (λ (l : List ℕ). TellsBelow x asked admits ca certs l (c.args.depth - 1) (c.loop-place.trail.steps - 1) c.descend-below.result b.0) deeper b.3 in
-          let more = (i.0 ++ item ∷ []) ++ b.0 in
-          let low : 0 < c.args.depth = omega (arith, c.if-depth-eq0.false) in
-          let let_in : admits above place = looked_at c.args.top.now.cert w.folder.now.certs c.unambiguous.ensures.certificate w.names above c.args.issuer.now.cert c.requires.last (g.A.Admission.admits w.admission.now) place c.requires.no_circle (subst (λ (l : List ℕ). g.A.Admission.admits w.admission.now l place × IsNamedUnder w.names c.args.issuer.now.cert w.folder.now.certs place) (c.deref.ensures.value ∙ c.loop-place.invariant.0) (c.in_ok-is_looked_at.ensures.0 c.if-not-is_looked_at.false)) in
-          let hears = λ (l : List Told). g.W.Visitor.became v l c.descend-below.new.visitor in
-          let count : length more ≡ length i.0 + 1 + length b.0 = omega (arith, length-append (i.0 ++ item ∷ []) b.0, length-append i.0 (item ∷ [])) in (
-            more,
-            subst (λ (l : List Told). hears l) (ap (λ (l : List Told). l ++ b.0) (append_assoc ts i.0 (item ∷ [])) ∙ append_assoc ts (i.0 ++ item ∷ []) b.0) b.1,
-            omega (arith, count, i.2, b.2, c.if-trail-eq0.false),
-            subst (λ (l : List ℕ). SoFar x asked admits issuer certs above c.args.depth l c.and-ended.result more) (sym (take_more places index 0 c.loop-place-test.true))
-                (subst (λ (e : Ended). SoFar x asked admits issuer certs above c.args.depth (take index places ++ place ∷ []) e more) (sym c.and-ended.ensures)
-                (went_below x asked admits issuer certs above c.args.depth c.unambiguous.ensures.certificate place o.0 ca outcome (c.loop-place.trail.steps - 1) c.descend-below.result b.0 below low let_in (take index places) c.loop-place.ended end i.0 c.in_ok-below.was i.3)),
-            (λ e. elim (worse_out c.loop-place.ended end (sym c.and-ended.ensures ∙ e)) [
-              | inl before ↦ absurd (omega (arith, i.4 before, c.if-trail-eq0.false))
-              | inr now ↦
-                  let spent = if_ok (AreUsedUp (c.loop-place.trail.steps - 1) b.0) c.descend-below.result end c.in_ok-below.was below.1 now in
-                  omega (arith, spent, b.2)
-            ]),
+          let i = c.loop-ca.invariant.2 v ts heard in
+          let b = c.descend-below.ensures.tells v (ts ++ i.0) i.1 in
+          let below : TellsBelow x asked admits ca.holder certs (above ++ ca.place ∷ []) c.args.depth c.args.share c.descend-below.result b.0 = subst (λ (l : List ℕ). TellsBelow x asked admits ca.holder certs l c.args.depth c.args.share c.descend-below.result b.0) deeper b.2 in
+          let ended : TellsBelow x asked admits ca.holder certs (above ++ ca.place ∷ []) c.args.depth c.args.share (Ok end) b.0 = subst (λ (r : Result Ended AllocError). TellsBelow x asked admits ca.holder certs (above ++ ca.place ∷ []) c.args.depth c.args.share r b.0) c.in_ok-below.was below in
+          let next : take (index + 1) cas ≡ take index cas ++ ca ∷ [] = take_more cas index ca c.loop-ca-test.true ∙ ap (λ (k : Ca). take index cas ++ k ∷ []) (sym c.ca-item.is) in (
+            i.0 ++ b.0,
+            subst (λ (l : List Told). g.W.Visitor.became v l c.descend-below.new.visitor) (append_assoc ts i.0 b.0) b.1,
+            subst (λ (l : List Ca). WalksBelowEach {E = AllocError} x asked admits certs above c.args.depth c.args.share l (Ok c.and-ended.result) (i.0 ++ b.0)) (sym next)
+                (subst (λ (e : Ended). WalksBelowEach {E = AllocError} x asked admits certs above c.args.depth c.args.share (take index cas ++ ca ∷ []) (Ok e) (i.0 ++ b.0)) (sym c.and-ended.ensures)
+                (each_walked x asked admits certs above c.args.depth c.args.share {E = AllocError} (take index cas) ca i.0 b.0 c.loop-ca.ended end i.2 ended)),
           )),
     )
 
@@ -265,45 +132,52 @@ each_below-returns-clause-tells g t c = λ v ts heard.
     let w = c.args.self.now in
     let x = context (g.V.Verifier.verifies w.verifier.now) w.at w.strict in
     let asked = by_named_lists w.names x w.folder.now.lists in
-    let admits = IsLookedAt w.names (g.A.Admission.admits w.admission.now) c.args.top.now.cert w.folder.now.certs in
-    let issuer = c.args.issuer.now in
     let certs = w.folder.now.certs in
-    let above = c.args.trail.now.above.items in
-    let places = c.args.places.now in
-    let i = c.loop-place.invariant.1 v ts heard in
-    let all : SoFar x asked admits issuer certs above c.args.depth places c.loop-place.ended i.0 = subst (λ (l : List ℕ). SoFar x asked admits issuer certs above c.args.depth l c.loop-place.ended i.0) (take_all c.loop-place.place-index places c.loop-place-test.false) i.3 in
-    let few : length i.0 ≤ c.args.trail.now.steps = omega (arith, i.2) in
-    let used : AreUsedUp c.args.trail.now.steps i.0 c.loop-place.ended = λ e. omega (arith, i.2, i.4 e) in
-    (i.0, i.1, i.2, ended_whole x asked admits issuer certs above c.args.depth c.unambiguous.ensures.certificate c.args.trail.now.steps i.0 few places c.loop-place.ended c.requires.places all used (Ok c.loop-place.ended) refl)
+    let admits = IsLookedAt w.names (g.A.Admission.admits w.admission.now) c.args.top.now.cert certs in
+    let i = c.loop-ca.invariant.2 v ts heard in (
+      i.0,
+      i.1,
+      subst (λ (l : List Ca). WalksBelowEach {E = AllocError} x asked admits certs c.args.trail.now.above.items c.args.depth c.args.share l (Ok c.loop-ca.ended) i.0) (take_all c.loop-ca.ca-index c.args.cas.now c.loop-ca-test.false) i.2,
+    )
+
+-- ---- below an issuer
 
 -- the places of the issuer's key
 there : (certs : List (List ℕ)) (key own : List ℕ) (places : List ℕ) → key ≡ own → ArePlacesOf certs key places → ArePlacesOf certs own places
 there certs key own places is are = subst (λ (k : List ℕ). ArePlacesOf certs k places) is are
 
-none_there : (places : List ℕ) (b : Bool) → b ≡ (length places == 0) → b ≡ true → places ≡ []
+none_there : {X : Type 0} (places : List X) (b : Bool) → b ≡ (length places == 0) → b ≡ true → places ≡ []
 none_there [] b is test = refl
 none_there (p ∷ places) b is test = let zero : length (p ∷ places) ≡ 0 = eqb-true (length (p ∷ places)) 0 (sym is ∙ test) in absurd (omega (arith, zero))
+
+-- of so many, there are none, or some
+none_of : {X : Type 0} (xs : List X) (n : ℕ) (b : Bool) → n ≡ length xs → b ≡ (n == 0) → b ≡ true → xs ≡ []
+none_of [] n b count is test = refl
+none_of (y ∷ xs) n b count is test = let zero : n ≡ 0 = eqb-true n 0 (sym is ∙ test) in absurd (omega (arith, zero, count))
+
+some_of : {X : Type 0} (xs : List X) (n : ℕ) (b : Bool) → n ≡ length xs → b ≡ (n == 0) → b ≡ false → 0 < length xs
+some_of [] n b count is test = let none : n ≡ 0 = count in absurd (cc (sym test ∙ is ∙ ap (λ (m : ℕ). m == 0) none))
+some_of (y ∷ xs) n b count is test = omega arith
 
 pub descend-returns-then-is_empty-clause-tells : goal.descend-returns-then-is_empty-clause-tells
 descend-returns-then-is_empty-clause-tells g t c = λ v ts heard.
     let w = c.args.self.now in
     let x = context (g.V.Verifier.verifies w.verifier.now) w.at w.strict in
     let asked = by_named_lists w.names x w.folder.now.lists in
-    let admits = IsLookedAt w.names (g.A.Admission.admits w.admission.now) c.args.top.now.cert w.folder.now.certs in
-    let issuer = c.args.issuer.now in
     let certs = w.folder.now.certs in
+    let admits = IsLookedAt w.names (g.A.Admission.admits w.admission.now) c.args.top.now.cert certs in
+    let issuer = c.args.issuer.now in
     let above = c.args.trail.now.above.items in
     let places = c.signed_by-places.result.now in
     let own = issuer.cert.fields.extensions.subject_key_identifier in
     let key = c.subject_key_identifier-key.ensures ∙ ap (λ (f : TbsFields). f.extensions.subject_key_identifier) c.as_tbs.ensures ∙ ap (λ (d : CertFields). d.fields.extensions.subject_key_identifier) c.as_cert.ensures in
     let are = there certs c.subject_key_identifier-key.result own places key c.signed_by-places.ensures in
-    let none : places ≡ [] = none_there places c.is_empty.result c.is_empty.ensures c.if-is_empty.true in
-    let few : length {A = Told} [] ≤ c.args.trail.now.steps = omega arith in (
+    let none : places ≡ [] = none_there places c.is_empty.result c.is_empty.ensures c.if-is_empty.true in (
       [],
       subst (λ (l : List Told). g.W.Visitor.became v l c.args.visitor.now) (sym (append-nil ts)) heard,
-      omega arith,
-      ended_whole x asked admits issuer certs above c.args.depth c.unambiguous.ensures.certificate c.args.trail.now.steps [] few [] Whole (subst (λ (l : List ℕ). ArePlacesOf certs own l) none are)
-          (nothing_yet x asked admits issuer certs above c.args.depth) (λ e. absurd (cc e)) (Ok Whole) refl,
+      (λ root leads. ended_none x asked admits root certs above c.args.depth c.args.share c.unambiguous.ensures.certificate issuer leads {E = AllocError} []
+          (λ place admitted child. let at = are.all place (low_of certs child.cert place child.stands) (child_names x.verifies issuer.cert certs place child) in none_in place (subst (λ (l : List ℕ). Contains l place) none at))
+          (no_sound x asked admits root certs above c.args.share)),
     )
 
 pub descend-is_in_circle-requires : goal.descend-is_in_circle-requires
@@ -320,16 +194,13 @@ descend-returns-in_err-is_in_circle-clause-tells g t c = λ v ts heard.
     let w = c.args.self.now in
     let x = context (g.V.Verifier.verifies w.verifier.now) w.at w.strict in
     let asked = by_named_lists w.names x w.folder.now.lists in
-    let admits = IsLookedAt w.names (g.A.Admission.admits w.admission.now) c.args.top.now.cert w.folder.now.certs in
-    let issuer = c.args.issuer.now in
     let certs = w.folder.now.certs in
-    let above = c.args.trail.now.above.items in
-    let few : length {A = Told} [] ≤ c.args.trail.now.steps = omega arith in (
+    let admits = IsLookedAt w.names (g.A.Admission.admits w.admission.now) c.args.top.now.cert certs in
+    let above = c.args.trail.now.above.items in (
       [],
       subst (λ (l : List Told). g.W.Visitor.became v l c.args.visitor.now) (sym (append-nil ts)) heard,
-      omega arith,
-      ended_err x asked admits issuer certs above c.args.depth c.unambiguous.ensures.certificate c.args.trail.now.steps [] few
-          (nothing_yet x asked admits issuer certs above c.args.depth).right c.from_residual.result c.from_residual.ensures.0,
+      (λ root leads. ended_err x asked admits root certs above c.args.depth c.args.share c.unambiguous.ensures.certificate c.args.issuer.now leads [] c.from_residual.result c.from_residual.ensures.0
+          (no_sound x asked admits root certs above c.args.share)),
     )
 
 pub descend-returns-then-is_in_circle-clause-tells : goal.descend-returns-then-is_in_circle-clause-tells
@@ -337,42 +208,274 @@ descend-returns-then-is_in_circle-clause-tells g t c = λ v ts heard.
     let w = c.args.self.now in
     let x = context (g.V.Verifier.verifies w.verifier.now) w.at w.strict in
     let asked = by_named_lists w.names x w.folder.now.lists in
-    let admits = IsLookedAt w.names (g.A.Admission.admits w.admission.now) c.args.top.now.cert w.folder.now.certs in
-    let issuer = c.args.issuer.now in
     let certs = w.folder.now.certs in
+    let admits = IsLookedAt w.names (g.A.Admission.admits w.admission.now) c.args.top.now.cert certs in
     let above = c.args.trail.now.above.items in
-    let few : length {A = Told} [] ≤ c.args.trail.now.steps = omega arith in
     let circle : EndsNoCircle w.names c.args.top.now.cert certs above → ⊥ = subst (λ (l : List ℕ). EndsNoCircle w.names c.args.top.now.cert certs l → ⊥) c.deref.ensures.value (c.in_ok-is_in_circle.ensures.circle c.if-is_in_circle.true) in (
       [],
       subst (λ (l : List Told). g.W.Visitor.became v l c.args.visitor.now) (sym (append-nil ts)) heard,
-      omega arith,
-      ended_circle x asked admits issuer certs above c.args.depth c.unambiguous.ensures.certificate c.args.trail.now.steps [] few (λ place looked. circle looked.no_circle)
-          (nothing_yet x asked admits issuer certs above c.args.depth).right (Ok Whole) refl,
+      (λ root leads. ended_none x asked admits root certs above c.args.depth c.args.share c.unambiguous.ensures.certificate c.args.issuer.now leads {E = AllocError} [] (λ place looked child. circle looked.no_circle)
+          (no_sound x asked admits root certs above c.args.share)),
     )
 
-pub descend-each_below-ended-requires : goal.descend-each_below-ended-requires
-descend-each_below-ended-requires g t c =
-    let w = c.args.self.now in
-    let certs = w.folder.now.certs in
+pub descend-enter-requires : goal.descend-enter-requires
+descend-enter-requires g t c =
+    let certs = c.args.self.now.folder.now.certs in
     let own = c.args.issuer.now.cert.fields.extensions.subject_key_identifier in
     let key = c.subject_key_identifier-key.ensures ∙ ap (λ (f : TbsFields). f.extensions.subject_key_identifier) c.as_tbs.ensures ∙ ap (λ (d : CertFields). d.fields.extensions.subject_key_identifier) c.as_cert.ensures in
-    let places = there certs c.subject_key_identifier-key.result own c.signed_by-places.result.now key c.signed_by-places.ensures in
-    let no_circle = subst (λ (l : List ℕ). EndsNoCircle w.names c.args.top.now.cert certs l) c.deref.ensures.value (c.in_ok-is_in_circle.ensures.none c.if-is_in_circle.false) in
-    search (rules, c.in_ok-lists.ensures, places, c.requires.inside, c.requires.last, no_circle)
+    record { kept = c.requires.kept; places = there certs c.subject_key_identifier-key.result own c.signed_by-places.result.now key c.signed_by-places.ensures }
 
-pub descend-returns-in_err-lists-clause-tells : goal.descend-returns-in_err-lists-clause-tells
-descend-returns-in_err-lists-clause-tells g t c = λ v ts heard.
+pub descend-returns-in_err-at-clause-tells : goal.descend-returns-in_err-at-clause-tells
+descend-returns-in_err-at-clause-tells g t c = λ v ts heard.
     let w = c.args.self.now in
     let x = context (g.V.Verifier.verifies w.verifier.now) w.at w.strict in
     let asked = by_named_lists w.names x w.folder.now.lists in
-    let admits = IsLookedAt w.names (g.A.Admission.admits w.admission.now) c.args.top.now.cert w.folder.now.certs in
-    let issuer = c.args.issuer.now in
     let certs = w.folder.now.certs in
+    let admits = g.A.Admission.admits w.admission.now in
+    let top = c.args.top.now.cert in
+    let issuer = c.args.issuer.now in
     let above = c.args.trail.now.above.items in
-    let few : length {A = Told} [] ≤ c.args.trail.now.steps = omega arith in (
-      [],
-      subst (λ (l : List Told). g.W.Visitor.became v l c.args.visitor.now) (sym (append-nil ts)) heard,
-      omega arith,
-      ended_err x asked admits issuer certs above c.args.depth c.unambiguous.ensures.certificate c.args.trail.now.steps [] few
-          (nothing_yet x asked admits issuer certs above c.args.depth).right c.from_residual-in_err-lists.result c.from_residual-in_err-lists.ensures.0,
+    let law = c.unambiguous.ensures.certificate in
+    let none : EndsNoCircle w.names top certs above = subst (λ (l : List ℕ). EndsNoCircle w.names top certs l) c.deref.ensures.value (c.in_ok-is_in_circle.ensures.none c.if-is_in_circle.false) in
+    let o = c.enter.ensures.told v ts heard in
+    let others : AllByRecursion (IsToldOf x asked issuer certs above (Others x.verifies w.names admits issuer.cert certs above)) o.0 =
+    subst (λ (l : List ℕ). AllByRecursion (IsToldOf x asked issuer certs l (Others x.verifies w.names admits issuer.cert certs l)) o.0) c.deref-2.ensures.value o.2 in
+    (o.0, o.1, at_err x asked w.names admits top certs above c.args.depth c.args.share law issuer c.requires.last none o.0 others {E = AllocError} c.from_residual-in_err-at.result c.from_residual-in_err-at.ensures.0)
+
+pub descend-returns-in_err-children-clause-tells : goal.descend-returns-in_err-children-clause-tells
+descend-returns-in_err-children-clause-tells g t c = λ v ts heard.
+    let w = c.args.self.now in
+    let x = context (g.V.Verifier.verifies w.verifier.now) w.at w.strict in
+    let asked = by_named_lists w.names x w.folder.now.lists in
+    let certs = w.folder.now.certs in
+    let admits = g.A.Admission.admits w.admission.now in
+    let top = c.args.top.now.cert in
+    let issuer = c.args.issuer.now in
+    let above = c.args.trail.now.above.items in
+    let law = c.unambiguous.ensures.certificate in
+    let none : EndsNoCircle w.names top certs above = subst (λ (l : List ℕ). EndsNoCircle w.names top certs l) c.deref.ensures.value (c.in_ok-is_in_circle.ensures.none c.if-is_in_circle.false) in
+    let o = c.enter.ensures.told v ts heard in
+    let others : AllByRecursion (IsToldOf x asked issuer certs above (Others x.verifies w.names admits issuer.cert certs above)) o.0 =
+    subst (λ (l : List ℕ). AllByRecursion (IsToldOf x asked issuer certs l (Others x.verifies w.names admits issuer.cert certs l)) o.0) c.deref-2.ensures.value o.2 in
+    (o.0, o.1, at_err x asked w.names admits top certs above c.args.depth c.args.share law issuer c.requires.last none o.0 others {E = AllocError} c.from_residual-in_err-children.result c.from_residual-in_err-children.ensures.0)
+
+pub descend-returns-then-is_empty-2-clause-tells : goal.descend-returns-then-is_empty-2-clause-tells
+descend-returns-then-is_empty-2-clause-tells g t c = λ v ts heard.
+    let w = c.args.self.now in
+    let x = context (g.V.Verifier.verifies w.verifier.now) w.at w.strict in
+    let asked = by_named_lists w.names x w.folder.now.lists in
+    let certs = w.folder.now.certs in
+    let admits = g.A.Admission.admits w.admission.now in
+    let top = c.args.top.now.cert in
+    let issuer = c.args.issuer.now in
+    let above = c.args.trail.now.above.items in
+    let law = c.unambiguous.ensures.certificate in
+    let none : EndsNoCircle w.names top certs above = subst (λ (l : List ℕ). EndsNoCircle w.names top certs l) c.deref.ensures.value (c.in_ok-is_in_circle.ensures.none c.if-is_in_circle.false) in
+    let o = c.enter.ensures.told v ts heard in
+    let others : AllByRecursion (IsToldOf x asked issuer certs above (Others x.verifies w.names admits issuer.cert certs above)) o.0 =
+    subst (λ (l : List ℕ). AllByRecursion (IsToldOf x asked issuer certs l (Others x.verifies w.names admits issuer.cert certs l)) o.0) c.deref-2.ensures.value o.2 in
+    let places = c.signed_by-places.result.now in
+    let own = issuer.cert.fields.extensions.subject_key_identifier in
+    let key = c.subject_key_identifier-key.ensures ∙ ap (λ (f : TbsFields). f.extensions.subject_key_identifier) c.as_tbs.ensures ∙ ap (λ (d : CertFields). d.fields.extensions.subject_key_identifier) c.as_cert.ensures in
+    let are = there certs c.subject_key_identifier-key.result own places key c.signed_by-places.ensures in
+    let children = c.in_ok-children.children.items in
+    let kids = kids_here x w.names admits issuer.cert w.folder.now above c.index-kept.result.now c.deref-3.result.now c.deref-4.result.now children c.deref-3.ensures.value c.deref-4.ensures.value (kept_at (λ (k : Issuer). IsKeptOf w.names x w.folder.now issuer.cert k) c.enter.new.issuers.kept.items c.in_ok-at.at c.index-kept.result.now c.index-kept.ensures c.in_ok-at.ensures.found.1) c.in_ok-children.ensures places are in
+    (o.0, o.1, at_none x asked w.names admits top certs above c.args.depth c.args.share law issuer c.requires.last none o.0 others places are children kids {E = AllocError} (none_of children c.in_ok-children.children.len c.is_empty-2.result (omega (arith, c.in_ok-children.children.ok.0)) c.is_empty-2.ensures c.if-is_empty-2.true))
+
+pub descend-returns-then-depth-eq0-clause-tells : goal.descend-returns-then-depth-eq0-clause-tells
+descend-returns-then-depth-eq0-clause-tells g t c = λ v ts heard.
+    let w = c.args.self.now in
+    let x = context (g.V.Verifier.verifies w.verifier.now) w.at w.strict in
+    let asked = by_named_lists w.names x w.folder.now.lists in
+    let certs = w.folder.now.certs in
+    let admits = g.A.Admission.admits w.admission.now in
+    let top = c.args.top.now.cert in
+    let issuer = c.args.issuer.now in
+    let above = c.args.trail.now.above.items in
+    let law = c.unambiguous.ensures.certificate in
+    let none : EndsNoCircle w.names top certs above = subst (λ (l : List ℕ). EndsNoCircle w.names top certs l) c.deref.ensures.value (c.in_ok-is_in_circle.ensures.none c.if-is_in_circle.false) in
+    let o = c.enter.ensures.told v ts heard in
+    let others : AllByRecursion (IsToldOf x asked issuer certs above (Others x.verifies w.names admits issuer.cert certs above)) o.0 =
+    subst (λ (l : List ℕ). AllByRecursion (IsToldOf x asked issuer certs l (Others x.verifies w.names admits issuer.cert certs l)) o.0) c.deref-2.ensures.value o.2 in
+    let places = c.signed_by-places.result.now in
+    let own = issuer.cert.fields.extensions.subject_key_identifier in
+    let key = c.subject_key_identifier-key.ensures ∙ ap (λ (f : TbsFields). f.extensions.subject_key_identifier) c.as_tbs.ensures ∙ ap (λ (d : CertFields). d.fields.extensions.subject_key_identifier) c.as_cert.ensures in
+    let are = there certs c.subject_key_identifier-key.result own places key c.signed_by-places.ensures in
+    let children = c.in_ok-children.children.items in
+    let kids = kids_here x w.names admits issuer.cert w.folder.now above c.index-kept.result.now c.deref-3.result.now c.deref-4.result.now children c.deref-3.ensures.value c.deref-4.ensures.value (kept_at (λ (k : Issuer). IsKeptOf w.names x w.folder.now issuer.cert k) c.enter.new.issuers.kept.items c.in_ok-at.at c.index-kept.result.now c.index-kept.ensures c.in_ok-at.ensures.found.1) c.in_ok-children.ensures places are in
+    (o.0, o.1, at_depth x asked w.names admits top certs above c.args.depth c.args.share law issuer c.requires.last none o.0 others places are children kids {E = AllocError} c.if-depth-eq0.true (some_of children c.in_ok-children.children.len c.is_empty-2.result (omega (arith, c.in_ok-children.children.ok.0)) c.is_empty-2.ensures c.if-is_empty-2.false))
+
+pub descend-returns-then-len-share-clause-tells : goal.descend-returns-then-len-share-clause-tells
+descend-returns-then-len-share-clause-tells g t c = λ v ts heard.
+    let w = c.args.self.now in
+    let x = context (g.V.Verifier.verifies w.verifier.now) w.at w.strict in
+    let asked = by_named_lists w.names x w.folder.now.lists in
+    let certs = w.folder.now.certs in
+    let admits = g.A.Admission.admits w.admission.now in
+    let top = c.args.top.now.cert in
+    let issuer = c.args.issuer.now in
+    let above = c.args.trail.now.above.items in
+    let law = c.unambiguous.ensures.certificate in
+    let none : EndsNoCircle w.names top certs above = subst (λ (l : List ℕ). EndsNoCircle w.names top certs l) c.deref.ensures.value (c.in_ok-is_in_circle.ensures.none c.if-is_in_circle.false) in
+    let o = c.enter.ensures.told v ts heard in
+    let others : AllByRecursion (IsToldOf x asked issuer certs above (Others x.verifies w.names admits issuer.cert certs above)) o.0 =
+    subst (λ (l : List ℕ). AllByRecursion (IsToldOf x asked issuer certs l (Others x.verifies w.names admits issuer.cert certs l)) o.0) c.deref-2.ensures.value o.2 in
+    let places = c.signed_by-places.result.now in
+    let own = issuer.cert.fields.extensions.subject_key_identifier in
+    let key = c.subject_key_identifier-key.ensures ∙ ap (λ (f : TbsFields). f.extensions.subject_key_identifier) c.as_tbs.ensures ∙ ap (λ (d : CertFields). d.fields.extensions.subject_key_identifier) c.as_cert.ensures in
+    let are = there certs c.subject_key_identifier-key.result own places key c.signed_by-places.ensures in
+    let children = c.in_ok-children.children.items in
+    let kids = kids_here x w.names admits issuer.cert w.folder.now above c.index-kept.result.now c.deref-3.result.now c.deref-4.result.now children c.deref-3.ensures.value c.deref-4.ensures.value (kept_at (λ (k : Issuer). IsKeptOf w.names x w.folder.now issuer.cert k) c.enter.new.issuers.kept.items c.in_ok-at.at c.index-kept.result.now c.index-kept.ensures c.in_ok-at.ensures.found.1) c.in_ok-children.ensures places are in
+    let short : c.args.share < length children = omega (arith, c.if-len-share.true, c.len.ensures, c.in_ok-children.children.ok.0) in
+    (o.0, o.1, at_short x asked w.names admits top certs above c.args.depth c.args.share law issuer c.requires.last none o.0 others places are children kids {E = AllocError} short)
+
+pub descend-judge_children-requires : goal.descend-judge_children-requires
+descend-judge_children-requires g t c =
+    let w = c.args.self.now in
+    let certs = w.folder.now.certs in
+    let x = context (g.V.Verifier.verifies w.verifier.now) w.at w.strict in
+    let admits = g.A.Admission.admits w.admission.now in
+    let issuer = c.args.issuer.now in
+    let above = c.args.trail.now.above.items in
+    let own = issuer.cert.fields.extensions.subject_key_identifier in
+    let key = c.subject_key_identifier-key.ensures ∙ ap (λ (f : TbsFields). f.extensions.subject_key_identifier) c.as_tbs.ensures ∙ ap (λ (d : CertFields). d.fields.extensions.subject_key_identifier) c.as_cert.ensures in
+    let places = c.signed_by-places.result.now in
+    let are = there certs c.subject_key_identifier-key.result own places key c.signed_by-places.ensures in
+    let children = c.in_ok-children.children.items in
+    let kept = kept_at (λ (k : Issuer). IsKeptOf w.names x w.folder.now issuer.cert k) c.enter.new.issuers.kept.items c.in_ok-at.at c.index-kept.result.now c.index-kept.ensures c.in_ok-at.ensures.found.1 in
+    let kids = kids_here x w.names admits issuer.cert w.folder.now above c.index-kept.result.now c.deref-3.result.now c.deref-4.result.now children c.deref-3.ensures.value c.deref-4.ensures.value kept c.in_ok-children.ensures places are in
+    record {
+      inside = subst (λ (l : List ℕ). (p : ℕ) → Contains l p → p < length certs) (sym c.deref-6.ensures.value)
+          (λ p at. let child = (kids.only p at).1 in low_of certs child.cert p child.stands);
+      once = subst (λ (l : List ℕ). IsOnce l) (sym c.deref-6.ensures.value) kids.once;
+      children = subst (λ (l : List ℕ). (p : ℕ) → Contains l p → IsChildOf x.verifies issuer.cert certs p) (sym c.deref-6.ensures.value) (λ p at. (kids.only p at).1);
+      kept = kept.lists;
+    }
+
+pub descend-returns-in_err-cas-clause-tells : goal.descend-returns-in_err-cas-clause-tells
+descend-returns-in_err-cas-clause-tells g t c = λ v ts heard.
+    let w = c.args.self.now in
+    let x = context (g.V.Verifier.verifies w.verifier.now) w.at w.strict in
+    let asked = by_named_lists w.names x w.folder.now.lists in
+    let certs = w.folder.now.certs in
+    let admits = g.A.Admission.admits w.admission.now in
+    let top = c.args.top.now.cert in
+    let issuer = c.args.issuer.now in
+    let above = c.args.trail.now.above.items in
+    let law = c.unambiguous.ensures.certificate in
+    let none : EndsNoCircle w.names top certs above = subst (λ (l : List ℕ). EndsNoCircle w.names top certs l) c.deref.ensures.value (c.in_ok-is_in_circle.ensures.none c.if-is_in_circle.false) in
+    let o = c.enter.ensures.told v ts heard in
+    let others : AllByRecursion (IsToldOf x asked issuer certs above (Others x.verifies w.names admits issuer.cert certs above)) o.0 =
+    subst (λ (l : List ℕ). AllByRecursion (IsToldOf x asked issuer certs l (Others x.verifies w.names admits issuer.cert certs l)) o.0) c.deref-2.ensures.value o.2 in
+    let places = c.signed_by-places.result.now in
+    let own = issuer.cert.fields.extensions.subject_key_identifier in
+    let key = c.subject_key_identifier-key.ensures ∙ ap (λ (f : TbsFields). f.extensions.subject_key_identifier) c.as_tbs.ensures ∙ ap (λ (d : CertFields). d.fields.extensions.subject_key_identifier) c.as_cert.ensures in
+    let are = there certs c.subject_key_identifier-key.result own places key c.signed_by-places.ensures in
+    let children = c.in_ok-children.children.items in
+    let kids = kids_here x w.names admits issuer.cert w.folder.now above c.index-kept.result.now c.deref-3.result.now c.deref-4.result.now children c.deref-3.ensures.value c.deref-4.ensures.value (kept_at (λ (k : Issuer). IsKeptOf w.names x w.folder.now issuer.cert k) c.enter.new.issuers.kept.items c.in_ok-at.at c.index-kept.result.now c.index-kept.ensures c.in_ok-at.ensures.found.1) c.in_ok-children.ensures places are in
+    let us = c.judge_children.ensures v (ts ++ o.0) o.1 in
+    let told : AllByRecursion (IsToldOf x asked issuer certs above (λ p. Contains children p)) us.0 =
+    subst (λ (k : List ℕ). AllByRecursion (IsToldOf x asked issuer certs above (λ p. Contains k p)) us.0) c.deref-6.ensures.value
+    (subst (λ (l : List ℕ). AllByRecursion (IsToldOf x asked issuer certs l (λ p. Contains c.deref-6.result.now p)) us.0) c.deref-5.ensures.value us.3) in
+    let few : length us.0 ≤ length children = subst (λ (k : List ℕ). length us.0 ≤ length k) c.deref-6.ensures.value us.2 in
+    let enough : length children ≤ c.args.share = omega (arith, c.if-len-share.false, c.len.ensures, c.in_ok-children.children.ok.0) in (
+      o.0 ++ us.0,
+      subst (λ (l : List Told). g.W.Visitor.became v l c.judge_children.new.visitor) (append_assoc ts o.0 us.0) us.1,
+      judged_err x asked w.names admits top certs above c.args.depth c.args.share law issuer c.requires.last none o.0 others places are children kids enough us.0 few told {E = AllocError} c.from_residual-in_err-cas.result c.from_residual-in_err-cas.ensures.0,
+    )
+
+pub descend-returns-then-is_empty-3-clause-tells : goal.descend-returns-then-is_empty-3-clause-tells
+descend-returns-then-is_empty-3-clause-tells g t c = λ v ts heard.
+    let w = c.args.self.now in
+    let x = context (g.V.Verifier.verifies w.verifier.now) w.at w.strict in
+    let asked = by_named_lists w.names x w.folder.now.lists in
+    let certs = w.folder.now.certs in
+    let admits = g.A.Admission.admits w.admission.now in
+    let top = c.args.top.now.cert in
+    let issuer = c.args.issuer.now in
+    let above = c.args.trail.now.above.items in
+    let law = c.unambiguous.ensures.certificate in
+    let none : EndsNoCircle w.names top certs above = subst (λ (l : List ℕ). EndsNoCircle w.names top certs l) c.deref.ensures.value (c.in_ok-is_in_circle.ensures.none c.if-is_in_circle.false) in
+    let o = c.enter.ensures.told v ts heard in
+    let others : AllByRecursion (IsToldOf x asked issuer certs above (Others x.verifies w.names admits issuer.cert certs above)) o.0 =
+    subst (λ (l : List ℕ). AllByRecursion (IsToldOf x asked issuer certs l (Others x.verifies w.names admits issuer.cert certs l)) o.0) c.deref-2.ensures.value o.2 in
+    let places = c.signed_by-places.result.now in
+    let own = issuer.cert.fields.extensions.subject_key_identifier in
+    let key = c.subject_key_identifier-key.ensures ∙ ap (λ (f : TbsFields). f.extensions.subject_key_identifier) c.as_tbs.ensures ∙ ap (λ (d : CertFields). d.fields.extensions.subject_key_identifier) c.as_cert.ensures in
+    let are = there certs c.subject_key_identifier-key.result own places key c.signed_by-places.ensures in
+    let children = c.in_ok-children.children.items in
+    let kids = kids_here x w.names admits issuer.cert w.folder.now above c.index-kept.result.now c.deref-3.result.now c.deref-4.result.now children c.deref-3.ensures.value c.deref-4.ensures.value (kept_at (λ (k : Issuer). IsKeptOf w.names x w.folder.now issuer.cert k) c.enter.new.issuers.kept.items c.in_ok-at.at c.index-kept.result.now c.index-kept.ensures c.in_ok-at.ensures.found.1) c.in_ok-children.ensures places are in
+    let us = c.judge_children.ensures v (ts ++ o.0) o.1 in
+    let told : AllByRecursion (IsToldOf x asked issuer certs above (λ p. Contains children p)) us.0 =
+    subst (λ (k : List ℕ). AllByRecursion (IsToldOf x asked issuer certs above (λ p. Contains k p)) us.0) c.deref-6.ensures.value
+    (subst (λ (l : List ℕ). AllByRecursion (IsToldOf x asked issuer certs l (λ p. Contains c.deref-6.result.now p)) us.0) c.deref-5.ensures.value us.3) in
+    let few : length us.0 ≤ length children = subst (λ (k : List ℕ). length us.0 ≤ length k) c.deref-6.ensures.value us.2 in
+    let enough : length children ≤ c.args.share = omega (arith, c.if-len-share.false, c.len.ensures, c.in_ok-children.children.ok.0) in
+    let cas = c.in_ok-cas.cas.items in
+    let low : 0 < c.args.depth = omega (arith, c.if-depth-eq0.false) in
+    let j : AreJudged x asked issuer certs above children cas us.0 =
+    subst (λ (k : List ℕ). AreJudged x asked issuer certs above k cas us.0) c.deref-6.ensures.value
+    (subst (λ (l : List ℕ). AreJudged x asked issuer certs l c.deref-6.result.now cas us.0) c.deref-5.ensures.value (if_ok (λ (k : Vec Ca). AreJudged x asked issuer certs c.deref-5.result.now c.deref-6.result.now k.items us.0) c.judge_children.result c.in_ok-cas.cas c.in_ok-cas.was us.4)) in (
+      o.0 ++ us.0,
+      subst (λ (l : List Told). g.W.Visitor.became v l c.judge_children.new.visitor) (append_assoc ts o.0 us.0) us.1,
+      at_last x asked w.names admits top certs above c.args.depth c.args.share law issuer c.requires.last none o.0 others places are children kids enough us.0 few told cas j low {E = AllocError} (none_of cas c.in_ok-cas.cas.len c.is_empty-3.result (omega (arith, c.in_ok-cas.cas.ok.0)) c.is_empty-3.ensures c.if-is_empty-3.true),
+    )
+
+pub descend-each_below-requires : goal.descend-each_below-requires
+descend-each_below-requires g t c =
+    let v = c.enter.new.visitor in
+    let w = c.args.self.now in
+    let x = context (g.V.Verifier.verifies w.verifier.now) w.at w.strict in
+    let asked = by_named_lists w.names x w.folder.now.lists in
+    let certs = w.folder.now.certs in
+    let issuer = c.args.issuer.now in
+    let us = c.judge_children.ensures v [] (g.met.W.Visitor.begins v) in
+    let cas = c.in_ok-cas.cas.items in
+    let j = if_ok (λ (k : Vec Ca). AreJudged x asked issuer certs c.deref-5.result.now c.deref-6.result.now k.items us.0) c.judge_children.result c.in_ok-cas.cas c.in_ok-cas.was us.4 in
+    let stand : (ca : Ca) → Contains cas ca → StandsAt certs ca.place ca.holder.cert = λ ca at. let o = (j.only ca at).1 in ca_stands x asked issuer certs ca.place o.0 ca.holder o.1 in
+    let inside = c.requires.inside in
+    let stands = subst (λ (l : List Ca). (ca : Ca) → Contains l ca → StandsAt certs ca.place ca.holder.cert) (sym c.deref-7.ensures.value) stand in
+    let kept = c.in_ok-at.ensures.kept in
+    search (rules, inside, stands, kept)
+
+pub descend-returns-clause-tells : goal.descend-returns-clause-tells
+descend-returns-clause-tells g t c = λ v ts heard.
+    let w = c.args.self.now in
+    let x = context (g.V.Verifier.verifies w.verifier.now) w.at w.strict in
+    let asked = by_named_lists w.names x w.folder.now.lists in
+    let certs = w.folder.now.certs in
+    let admits = g.A.Admission.admits w.admission.now in
+    let top = c.args.top.now.cert in
+    let issuer = c.args.issuer.now in
+    let above = c.args.trail.now.above.items in
+    let law = c.unambiguous.ensures.certificate in
+    let none : EndsNoCircle w.names top certs above = subst (λ (l : List ℕ). EndsNoCircle w.names top certs l) c.deref.ensures.value (c.in_ok-is_in_circle.ensures.none c.if-is_in_circle.false) in
+    let o = c.enter.ensures.told v ts heard in
+    let others : AllByRecursion (IsToldOf x asked issuer certs above (Others x.verifies w.names admits issuer.cert certs above)) o.0 =
+    subst (λ (l : List ℕ). AllByRecursion (IsToldOf x asked issuer certs l (Others x.verifies w.names admits issuer.cert certs l)) o.0) c.deref-2.ensures.value o.2 in
+    let places = c.signed_by-places.result.now in
+    let own = issuer.cert.fields.extensions.subject_key_identifier in
+    let key = c.subject_key_identifier-key.ensures ∙ ap (λ (f : TbsFields). f.extensions.subject_key_identifier) c.as_tbs.ensures ∙ ap (λ (d : CertFields). d.fields.extensions.subject_key_identifier) c.as_cert.ensures in
+    let are = there certs c.subject_key_identifier-key.result own places key c.signed_by-places.ensures in
+    let children = c.in_ok-children.children.items in
+    let kids = kids_here x w.names admits issuer.cert w.folder.now above c.index-kept.result.now c.deref-3.result.now c.deref-4.result.now children c.deref-3.ensures.value c.deref-4.ensures.value (kept_at (λ (k : Issuer). IsKeptOf w.names x w.folder.now issuer.cert k) c.enter.new.issuers.kept.items c.in_ok-at.at c.index-kept.result.now c.index-kept.ensures c.in_ok-at.ensures.found.1) c.in_ok-children.ensures places are in
+    let us = c.judge_children.ensures v (ts ++ o.0) o.1 in
+    let told : AllByRecursion (IsToldOf x asked issuer certs above (λ p. Contains children p)) us.0 =
+    subst (λ (k : List ℕ). AllByRecursion (IsToldOf x asked issuer certs above (λ p. Contains k p)) us.0) c.deref-6.ensures.value
+    (subst (λ (l : List ℕ). AllByRecursion (IsToldOf x asked issuer certs l (λ p. Contains c.deref-6.result.now p)) us.0) c.deref-5.ensures.value us.3) in
+    let few : length us.0 ≤ length children = subst (λ (k : List ℕ). length us.0 ≤ length k) c.deref-6.ensures.value us.2 in
+    let enough : length children ≤ c.args.share = omega (arith, c.if-len-share.false, c.len.ensures, c.in_ok-children.children.ok.0) in
+    let cas = c.in_ok-cas.cas.items in
+    let low : 0 < c.args.depth = omega (arith, c.if-depth-eq0.false) in
+    let j : AreJudged x asked issuer certs above children cas us.0 =
+    subst (λ (k : List ℕ). AreJudged x asked issuer certs above k cas us.0) c.deref-6.ensures.value
+    (subst (λ (l : List ℕ). AreJudged x asked issuer certs l c.deref-6.result.now cas us.0) c.deref-5.ensures.value (if_ok (λ (k : Vec Ca). AreJudged x asked issuer certs c.deref-5.result.now c.deref-6.result.now k.items us.0) c.judge_children.result c.in_ok-cas.cas c.in_ok-cas.was us.4)) in
+    let next = (c.args.share - c.len-2.result) / c.len-3.result in
+    let one : c.len-2.result ≡ length children = omega (arith, c.len-2.ensures, c.in_ok-children.children.ok.0) in
+    let other : c.len-3.result ≡ length cas = omega (arith, c.len-3.ensures, c.in_ok-cas.cas.ok.0) in
+    let b = c.each_below.ensures.tells v ((ts ++ o.0) ++ us.0) us.1 in
+    let walks = subst (λ (l : List Ca). WalksBelowEach {E = AllocError} x asked (IsLookedAt w.names admits top certs) certs above (c.args.depth - 1) next l c.each_below.result b.0) c.deref-7.ensures.value b.2 in (
+      o.0 ++ (us.0 ++ b.0),
+      subst (λ (l : List Told). g.W.Visitor.became v l c.each_below.new.visitor) (ap (λ (l : List Told). l ++ b.0) (append_assoc ts o.0 us.0) ∙ append_assoc ts (o.0 ++ us.0) b.0 ∙ ap (λ (l : List Told). ts ++ l) (append_assoc o.0 us.0 b.0)) b.1,
+      at_each x asked w.names admits top certs above c.args.depth c.args.share law issuer c.requires.last none o.0 others places are children kids enough us.0 few told cas j low {E = AllocError} next (λ some. ap (λ (n : ℕ). (c.args.share - n) / c.len-3.result) one ∙ ap (λ (n : ℕ). (c.args.share - length children) / n) other) c.each_below.result b.0 walks,
     )

@@ -13,6 +13,6 @@ returns g c =
       tells = (
         d.0,
         d.1,
-        subst (λ (l : List ℕ). TellsBelow x (by_named_lists w.names x w.folder.now.lists) (IsLookedAt w.names (g.A.Admission.admits w.admission.now) c.args.issuer.now.cert w.folder.now.certs) c.args.issuer.now w.folder.now.certs l w.bounds.depth w.bounds.steps c.descend-ended.result d.0) c.new.ensures.items d.3,
+        subst (λ (l : List ℕ). TellsBelow x (by_named_lists w.names x w.folder.now.lists) (IsLookedAt w.names (g.A.Admission.admits w.admission.now) c.args.issuer.now.cert w.folder.now.certs) c.args.issuer.now w.folder.now.certs l w.bounds.depth w.bounds.steps c.descend-ended.result d.0) c.new.ensures.items d.2,
       );
     }
