@@ -43,7 +43,7 @@ import signed_paths                                         # noqa: E402
 from signers import Signer                                  # noqa: E402
 
 KEYS = 5
-MOST_SECONDS = 300
+MOST_SECONDS = 3600
 
 
 # ---- what is asked

@@ -40,8 +40,8 @@ from random_folders import END, START
 from signers import Signer
 
 AT = ['--at', '2026-06-01']
-MOST_SECONDS = 600
-FILES = 40                                              # in a run
+MOST_SECONDS = 3600
+NAMED, FOUND = 400, 200     # files in a run of `validate`, and of `tree`
 WORDS = [b'accepted: ', b'rejected: ', b'trust anchor', b'below ', b' > ', b': ', b', ', b' (', b')', b'\n', b'\r\n',
          b'\n                          ', b'Certificate:              ', b'Note:', b'\x1b[2K', b'\\x0A', b'\\', b'"',
          'Ω'.encode(), '\u2028'.encode(), '\u202e'.encode(), b'.cer', b'-']
@@ -194,7 +194,7 @@ def junk(rng):
 
 def names_wrongs(asker, rng, _signers):
     question = Question(rng)
-    roles = [rng.choice(['', '--crl', '--tal']) for _ in range(FILES)]
+    roles = [rng.choice(['', '--crl', '--tal']) for _ in range(NAMED)]
     added = [(role, question.add(junk(rng))) for role in [*roles, '--crl', '--tal', '']]
 
     def words_of(names):
@@ -224,12 +224,12 @@ def anchor_of(by):
 def folders_wrongs(asker, rng, signers):
     question, anchor = Question(rng), signers[0]
     files = [anchor_of(anchor), signed_list(anchor, 1)]
-    for serial in range(2, FILES):
+    for serial in range(2, FOUND):
         by, of = rng.choice(signers[:2]), rng.choice(signers)
         files.append(rng.choice([
             lambda: authority(of.key, by, serial, asn=ref.INHERIT),
             lambda: authority(of.key, by, serial, asn=random_folders.blocks(1, 9000)),
-            lambda: signed_list(by, serial), lambda: junk(rng),
+            lambda: signed_list(by, serial), *[lambda: junk(rng)] * 30,
             lambda: authority(of.key, by, serial, not_after=(2025, 1, 1, 0, 0, 0)) + rng.choice([b'', b'\0'])])())
     rng.shuffle(files)
     added = [question.add(it) for it in files]

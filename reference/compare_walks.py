@@ -15,13 +15,14 @@ each folder without these files, and with them. Compared is, for both,
 - how far the walk went;
 
 and, of both together, that each file of the folder to which a path without the stranger's keys leads is
-accepted, whatever the stranger added, and what such a path holds, where the command tells that.
+accepted, whatever the stranger added, and what such a path holds.
 
 Names are asked of half of the folders, of certificates and of lists alike; the others are asked with
 --no-names. With --shares it is taken that what is left of a CA's steps is divided among the CAs
-below it. Then three numbers of steps are asked too, with the walk of walks.py: what is told of a path
-without the stranger's keys mustn't depend on what the stranger added. Without it a walk is asked that
-meets no bound but the depth; of one that does, it is only asked whether what it tells is so.
+below it. Then three numbers of steps are asked too, beside the walk of walks.py: each path, verdict and
+what is held, and whether a bound was met. What is told of a path without the stranger's keys mustn't
+depend on what the stranger added, by walks.py and by what the command shows. Without --shares a walk is
+asked that meets no bound but the depth; of one that does, only whether what it tells is so.
 
 A folder with more than MOST paths isn't asked. A folder that differs is made smaller, by leaving out
 files while it differs, and kept in FOLDER. A folder depends on the seed and its index alone. Prints each
@@ -38,6 +39,7 @@ import subprocess
 import sys
 import tempfile
 from pathlib import Path
+from typing import NamedTuple
 
 import make
 import random_folders
@@ -51,7 +53,7 @@ from signers import Signer
 KEYS = 7
 DEPTH, MOST = 6, 400
 MANY_STEPS = 100000
-MOST_SECONDS = 300
+MOST_SECONDS = 3600     # also on a machine with other work
 AT = '%04d-%02d-%02dT%02d:%02d:%02dZ' % random_folders.NOW
 STEPS = {'profile', 'verification', 'revocation'}
 UNSEEN = {'below_rejected', 'below_unseen', 'not_looked_at', 'not_issued', 'no_issuer'}
@@ -212,25 +214,59 @@ def free_told(told, walk, keys):
     return found
 
 
-def share_wrongs(question, folder, told, walk, depth, steps):
+def path_of(folder, line):
+    """What is signed of each certificate of the path that a line shows."""
+    return tuple(folder.certificate(it).signed.data for it in [*line['above'], line['file']])
+
+
+class Held(NamedTuple):
+    """What the last certificate of a path holds, and the one above it."""
+    result: object
+    above: object
+
+
+def share_wrongs(folder, told, walk):
     """What is wrong of a walk that may meet a bound, beside the one of walks.py."""
-    known, _ = walk
-    by_end = collections.defaultdict(list)
-    for path, (faults, result) in known.items():
-        by_end[path[-1]].append((path, faults, result))
+    known, met = walk
+    accepting = collections.defaultdict(dict)
+    for path, (_, result) in known.items():
+        if result is not None:
+            above = known[path[:-1]][1] if len(path) > 2 else folder.anchor.result
+            accepting[path[-1]][path] = Held(result, above)
     for name, line in told.files.items():
         cert = folder.certificate(name)
         if cert is None or line['verdict'] == 'trust_anchor':
             continue
-        some = by_end[cert.signed.data]
-        accepting = {path for path, _, result in some if result is not None}
+        some = accepting[cert.signed.data]
         if line['verdict'] == 'accepted':
-            path = tuple(folder.certificate(it).signed.data for it in [*line['above'], name])
-            if path not in accepting:
-                yield f'{steps} steps, {depth} deep: {name} is accepted by a path that isn\'t told'
-        elif accepting and cert.tbs.signature == cert.signed.algorithm and folder.walks.verified(
-                *signed_by(folder, accepting)):
-            yield f'{steps} steps, {depth} deep: {name} is {line["verdict"]}, and a path accepts it'
+            path = path_of(folder, line)
+            if path in some:
+                yield from held_wrongs(name, line, some[path])
+            else:
+                yield f'{name} is accepted by a path that isn\'t told'
+        elif some and cert.tbs.signature == cert.signed.algorithm and folder.walks.verified(
+                *signed_by(folder, some)):
+            yield f'{name} is {line["verdict"]}, and a path accepts it'
+    if (told.answer.get('ended') == 'whole') != (not met):
+        yield f'the walk ended {told.answer.get("ended")}, and met a bound below {len(met)} paths'
+
+
+def reported(folder, told, keys):
+    """The files that are accepted by a path without these keys, as the command shows it."""
+    certs = {it.signed.data: it for _, it in folder.walks.certs}
+    return {name for name, line in told.files.items() if line['verdict'] == 'accepted' and walks.is_free(
+        [certs[it] for it in path_of(folder, line)], keys)}
+
+
+def isolation_wrongs(question, folder, grown, told, told_then):
+    """What a stranger has changed of what the command shows, at whatever number of steps."""
+    files = set(question.files)
+    lost = reported(folder, told, question.keys) - told_then.accepted()
+    if lost:
+        yield f'{sorted(lost)} were accepted without the stranger'
+    won = reported(grown, told_then, question.keys) & files - told.accepted()
+    if won:
+        yield f'{sorted(won)} are accepted by a path without the stranger, and weren\'t'
 
 
 def signed_by(folder, accepting):
@@ -243,16 +279,20 @@ def signed_by(folder, accepting):
 
 def bounded_wrongs(program, question, folder, grown, names, rng):
     """Walks of three numbers of steps, without the stranger's files and with them."""
+    both = [(folder, question.files), (grown, question.with_added())]
     for steps, depth in ((rng.randrange(1, 40), DEPTH), (rng.randrange(1, 40), rng.randrange(4)),
                          (6000, DEPTH)):
-        answers = []
-        for it, files in ((folder, question.files), (grown, question.with_added())):
+        answers, wrongs = [], []
+        for it, files in both if question.added else both[:1]:
             walk = it.walks.walk(it.anchor, depth, steps)
             told = tell(program, files, question.locator, names, depth, steps)
-            yield from share_wrongs(question, it, told, walk, depth, steps)
-            answers.append(free_told(walk[0], it.walks, question.keys))
-        if answers[0] != answers[1]:
-            yield f'{steps} steps, {depth} deep: the walk of walks.py isn\'t as without the stranger'
+            wrongs += share_wrongs(it, told, walk)
+            answers.append((free_told(walk[0], it.walks, question.keys), told))
+        if question.added:
+            wrongs += isolation_wrongs(question, folder, grown, *(told for _, told in answers))
+            if answers[0][0] != answers[1][0]:
+                wrongs.append('the walk of walks.py isn\'t as without the stranger')
+        yield from (f'{steps} steps, {depth} deep: {it}' for it in wrongs)
 
 
 # ---- a folder

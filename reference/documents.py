@@ -79,9 +79,9 @@ def time(place, moment):
 
 
 def capital(written):
-    """JSON whose escapes have capital digits (RFC 8259 7 has both)."""
+    """JSON whose escapes have capital digits, but for those of control characters (RFC 8259 7 has both)."""
     return re.sub(r'\\(u[0-9a-f]{4}|.)', lambda it: '\\' + (
-        f'u{it[1][1:].upper()}' if len(it[1]) == 5 else it[1]), written)
+        f'u{it[1][1:].upper()}' if len(it[1]) == 5 and it[1] >= 'u0020' else it[1]), written)
 
 
 class Answer:

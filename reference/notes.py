@@ -5,7 +5,7 @@ from extensions import (
     KINDS, OID, OID_AS, OID_IP, OID_MANIFEST, OID_CA_REPOSITORY, OID_NOTIFY, OID_SIGNED_OBJECT, take_extension)
 from parts import hex_octets, inspect_rpki_name
 from refusals import Refusal
-from resources import put_as_content, put_ip_content
+from resources import MISSING, put_as_content, put_ip_content
 
 PRINTABLE = set(b"ABCDEFGHIJKLMNOPQRSTUVWXYZabcdefghijklmnopqrstuvwxyz0123456789 '()+,-./:=?")
 PRINTABLE_STRING, GENERALIZED_TIME = 0x13, 0x18
@@ -116,7 +116,10 @@ def count_of(raw, method):
 
 
 def canonical(raw, kind):
+    """The one content of resources; there is none of no resources."""
     f = raw.f
+    if {f.v4, f.v6} == {MISSING} if kind is OID_IP else f.asn == MISSING:
+        return None
     return put_ip_content(f.v4, f.v6) if kind is OID_IP else put_as_content(f.asn)
 
 
