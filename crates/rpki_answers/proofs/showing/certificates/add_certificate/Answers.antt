@@ -24,6 +24,10 @@ returns c =
       notes_are = c.in_ok-notes.ensures;
       nodes_are = refl;
     })
-    (then_ended last _ _ _ _ _ (rw c.as_tbs.ensures at c.in_ok-add_found.ensures)
-    (then_ended last _ _ _ _ _ (rw (c.deref.ensures.value, c.deref-2.ensures.value) at c.in_ok-add_remarks.ensures)
+    (then_ended last c.args.parts.now.items c.add_found.new.parts.items c.add_signature.new.parts.items
+    (certificate_nodes cert.fields o.at o.all found) (remark_nodes facts notes ++ signature_line ∷ [])
+    (rw c.as_tbs.ensures at c.in_ok-add_found.ensures)
+    (then_ended last c.add_found.new.parts.items c.add_remarks.new.parts.items c.add_signature.new.parts.items
+    (remark_nodes facts notes) (signature_line ∷ [])
+    (rw (c.deref.ensures.value, c.deref-2.ensures.value) at c.in_ok-add_remarks.ensures)
     c.add_signature.ensures))
