@@ -356,7 +356,7 @@ module _ (x : Context) (asked : RevocationChecks) (t : NamedTal) (top_octets : L
     beside_top : (i : ℕ) → (i ≡ top → ⊥) → fate_at s kept top i ≡ added_fate (origin_of s) kept (get_or s.added.items i Neither)
     beside_top i apart = ap (λ (b : Bool). if b then anchor else added_fate (origin_of s) kept (get_or s.added.items i Neither)) (ne_eqb i top apart)
 
-    pub fates_found : AreFates x asked names root strings top depth steps ended (fate_at s kept top)
+    pub fates_found : AreFates x asked names root strings top depth ended (fate_at s kept top)
     fates_found = record {
       anchor_is = at_top top refl;
       right = λ i low. elim (cases_eq i top) [

@@ -112,9 +112,9 @@ StandsBelow x asked root strings n =
 
 -- What becomes of the strings below the trust anchor at a place: each fate is right, and each
 -- certificate is accepted to which a path leads that was looked at, on which no issuer stands twice.
--- A bound is said to have been met only where it was.
+-- The walk is said to have been too deep only where a certificate stands below so many CAs.
 pub record AreFates (x : Context) (asked : RevocationChecks) (names : Bool) (root : Root)
-    (strings : List (List ℕ)) (top depth steps : ℕ) (ended : Ended) (fate : ℕ → Fate) : Type 0 where
+    (strings : List (List ℕ)) (top depth : ℕ) (ended : Ended) (fate : ℕ → Fate) : Type 0 where
   pub anchor_is : fate top ≡ anchor
   pub right : (place : ℕ) → place < length strings
       → IsFate x asked names root strings top place (fate place)
@@ -127,8 +127,8 @@ pub record AreFates (x : Context) (asked : RevocationChecks) (names : Bool) (roo
 -- what becomes of the strings at a moment, by a walk that ended so: the first that has the
 -- locator's key is a valid trust anchor, and the lists among them are asked for revocation, which have
 -- to have their issuers' names if names are asked (RFC 5280 6.3.3 (b) (1)); the steps are those that
--- are asked for, or else the usual ones. Where these are said to be used up,
--- the share of a CA is less than its children
+-- are asked for, or else the usual ones. The walk is said to be out of steps only where the share of
+-- a CA is less than its children
 pub record AreJudged (x : Context) (names : Bool) (t : NamedTal) (strings : List (List ℕ))
     (top depth steps : ℕ) (ended : Ended) (fate : ℕ → Fate) : Type 0 where
   pub top_is : IsFirstWithKey t.tal strings top
@@ -139,7 +139,7 @@ pub record AreJudged (x : Context) (names : Bool) (t : NamedTal) (strings : List
   pub certs : List (List ℕ)
   pub certs_are : AreCertificatesAmong strings certs
   pub fates : AreFates x (by_named_lists names x lists) names (at_anchor t (octets_at strings top))
-      strings top depth (asked_or steps usual_steps) ended fate
+      strings top depth ended fate
   pub short : ended ≡ OutOfSteps → IsShort x (by_named_lists names x lists)
       (IsLookedAt names (λ above place. Unit {0}) holder.cert certs)
       (at_anchor t (octets_at strings top)) certs [] (asked_or steps usual_steps)

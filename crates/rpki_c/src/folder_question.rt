@@ -21,7 +21,7 @@ pub struct RpkiFolderQuestion<'c> {
     pub moment: RpkiTime,
     /// The most certificates that a path may have below the trust anchor; 0 for the default.
     pub depth: usize,
-    /// The most certificates that are verified; 0 for the default.
+    /// The steps of the walk; 0 for the default.
     pub steps: usize,
     pub strict: u32,
     /// Whether the RPKI has to use a certificate's key: 0 it has to, 1 it needn't.
@@ -43,7 +43,7 @@ pub(crate) struct FolderTerms {
     pub(crate) now: Time,
     /// The most certificates that a path may have below the trust anchor.
     pub(crate) depth: usize,
-    /// The most certificates that are verified; 0 for the default.
+    /// The steps of the walk; 0 for the default.
     pub(crate) steps: usize,
     /// Whether a certificate has to have a key that the RPKI uses.
     pub(crate) asks_key: bool,
