@@ -4,6 +4,7 @@ use Rattle.std.specs.List.{flat_map, list_any}
 use Rattle.std.specs.Prelude.{Result, Ok, Err, IfOk, OnOk}
 use Rattle.std.proofs.Common.{◌≡◌, ◌≢◌, ◌∙◌, ◌+◌, ◌<◌, ◌≤◌, ℕ, Bool, true, false, List, [], ◌∷◌, ◌++◌, length, map, take, get_or, string_bytes, refl, sym, ap, subst, append_assoc}
 use Rattle.std.proofs.lemmas.Grind.{flat_map-append}
+use Rattle.std.proofs.lemmas.List.Sums.{fold-append}
 use Rattle.std.proofs.lemmas.List.{append-nil, map-append, take_more, take_all}
 use Rattle.rpki_document.specs.Building.{Adds, nodes_of, spans_of}
 use Rattle.rpki_document.specs.Documents.{Node, Span, inside, document_of, document_text, document_json}
@@ -16,7 +17,7 @@ use Rattle.rpki_text.specs.declared.command_line.arguments.Format.{Format}
 use Rattle.rpki_text.specs.declared.command_line.arguments.Format.TheVariants.{Text, Json, JsonLines}
 use Rattle.rpki_verdicts.specs.declared.parts.Trees.{Trees}
 use Rattle.rpki_answers.specs.JsonTexts.{value_text}
-use Rattle.rpki_answers.specs.TreeDocuments.{IsRowDocument, PrintsRow, PrintsRows, files_node, is_printed, rendered, tree_text}
+use Rattle.rpki_answers.specs.TreeDocuments.{IsRowDocument, PrintsRow, PrintsRows, errors_of, files_node, is_printed, rendered, said_error, tree_text, with_error}
 use Rattle.rpki_answers.specs.TreeDocuments.Steps.{AddsDocuments, AddsRow, AddsRows, Appends, AppendsRow, AppendsRows}
 use Rattle.rpki_answers.specs.TreeRows.{AreRows, AreRowsFrom, IsRow}
 use Rattle.rpki_answers.specs.declared.tree_rows.Row.{Row}
@@ -59,7 +60,8 @@ module _ (only : Bool) (certs : List FileFields) where
 
   prints_none : (row : Row) → is_printed only row ≡ false → PrintsRow only certs row []
   prints_none row is =
-      subst (λ (b : Bool). MatchBool b ((ns : List Node) × IsRowDocument certs row ns × ([] ≡ ns ∷ [])) ([] ≡ [])) (sym is) refl
+      let none : List (List Node) = [] in
+      subst (λ (b : Bool). MatchBool b ((ns : List Node) × IsRowDocument certs row ns × (none ≡ ns ∷ [])) (none ≡ none)) (sym is) refl
 
   -- ---- in a text
 
@@ -158,3 +160,23 @@ mapped_twice {A} {B} {C} f g (x ∷ xs) = ap (λ (l : List C). f (g x) ∷ l) (m
 pub any_mapped : {A B : Type 0} (p : B → Bool) (g : A → B) (xs : List A) → list_any p (map g xs) ≡ list_any (λ x. p (g x)) xs
 any_mapped p g [] = refl
 any_mapped p g (x ∷ xs) = rw (any_mapped p g xs)
+
+-- ---- a node for each of a list
+
+module _ {X : Type 0} (f : X → Node) (xs : List X) (i : ℕ) where
+  pub node_more : (d : X) (old mid new : List Part) → i < length xs → Adds (map f (take i xs)) old mid → Adds (f (get_or xs i d) ∷ []) mid new → Adds (map f (take (i + 1) xs)) old new
+  node_more d old mid new low so_far one =
+      let more : map f (take (i + 1) xs) ≡ map f (take i xs) ++ f (get_or xs i d) ∷ [] =
+      ap (λ (l : List X). map f l) (take_more xs i d low) ∙ map-append f (take i xs) (get_or xs i d ∷ []) in
+      subst (λ (l : List Node). Adds l old new) (sym more) (then_added old mid new (map f (take i xs)) (f (get_or xs i d) ∷ []) so_far one)
+
+  pub node_next : (x : X) (old mid new : List Part) → i < length xs → x ≡ get_or xs i x → Adds (map f (take i xs)) old mid → Adds (f x ∷ []) mid new → Adds (map f (take (i + 1) xs)) old new
+  node_next x old mid new low there so_far one =
+      node_more x old mid new low so_far (subst (λ (y : X). Adds (f y ∷ []) mid new) there one)
+
+-- ---- errors
+
+pub error_next : (rows : List Row) (i : ℕ) (row : Row) → i < length rows → row ≡ get_or rows i row → errors_of (take (i + 1) rows) ≡ with_error (errors_of (take i rows)) (said_error row.said)
+error_next rows i row low there =
+    let more : take (i + 1) rows ≡ take i rows ++ row ∷ [] = take_more rows i row low ∙ ap (λ (y : Row). take i rows ++ y ∷ []) (sym there) in
+    ap (λ (l : List Row). errors_of l) more ∙ fold-append (λ names row. with_error names (said_error row.said)) [] (take i rows) (row ∷ [])

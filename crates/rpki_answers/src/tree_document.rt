@@ -497,7 +497,7 @@ fn add_all_counts<'p>(
 }
 
 // Whether one of the names is this.
-fn has_name(names: &[&str], name: &str) -> bool
+fn has_name(names: &[&'static str], name: &'static str) -> bool
     ensures { result ≡ list_any (λ one. bytes_eq one.now name.now) names.now }
 {
     names.iter().any(|one| *one == name)

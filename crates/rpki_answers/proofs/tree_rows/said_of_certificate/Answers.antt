@@ -11,11 +11,11 @@ returns-in-Some c =
     let trees = c.args.trees.now in
     let place = c.args.place in
     let found = sym (ap option_copied c.in-Some.is) ∙ c.shown_part.ensures in
-    subst (λ (o : Option TreePart). SaysPart place c.args.file.now o (SaysUnseen trees c.args.file.now (wrong_at trees.parts.items place)) _) found c.said_by_answer.ensures
+    subst (λ (o : Option TreePart). SaysPart place c.args.file.now o (SaysUnseen trees c.args.file.now (wrong_at trees.parts.items place)) c.said_by_answer.result) found c.said_by_answer.ensures
 
 pub returns-in-None : goal.returns-in-None
 returns-in-None c =
     let trees = c.args.trees.now in
     let place = c.args.place in
     let found = sym (ap option_copied c.in-None.is) ∙ c.shown_part.ensures in
-    subst (λ (o : Option TreePart). SaysPart place c.args.file.now o (SaysUnseen trees c.args.file.now (wrong_at trees.parts.items place)) _) found c.said_unseen.ensures
+    subst (λ (o : Option TreePart). SaysPart place c.args.file.now o (SaysUnseen trees c.args.file.now (wrong_at trees.parts.items place)) c.said_unseen.result) found c.said_unseen.ensures
