@@ -21,6 +21,6 @@ returns c =
     let old = nodes_of c.args.parts.now.items in
     let names = c.in_ok-names.names.items in
     let f = λ (n : Bor (List ℕ)). error_node rows n.now in
-    let all = l.invariant ∙ ap (λ (ns : List (Bor (List ℕ))). map f ns) (take_all names l.name-index c.loop-name-test.false)
+    let all = l.invariant ∙ ap (λ (ns : List (Bor (List ℕ))). map f ns) (take_all l.name-index names c.loop-name-test.false)
     ∙ sym (mapped_twice (error_node rows) (λ (n : Bor (List ℕ)). n.now) names) ∙ ap (map (error_node rows)) c.in_ok-names.ensures in
     ended_with c.add_each.result _ _ _ c.add_each.ensures (ap (λ (ns : List Node). old ++ each (codes "errors") (document_of ns) ∷ []) all)

@@ -25,4 +25,4 @@ loop-place-preserved c =
 pub returns : goal.returns
 returns c =
     let l = c.loop-place in
-    subst (λ (p : List ℕ). Adds (above_nodes (map (λ f. f.now) c.args.certs.now) p) c.args.parts.now.items l.parts.items) (take_all c.args.places.now l.place-index c.loop-place-test.false) l.invariant
+    subst (λ (p : List ℕ). Adds (above_nodes (map (λ f. f.now) c.args.certs.now) p) c.args.parts.now.items l.parts.items) (take_all l.place-index c.args.places.now c.loop-place-test.false) l.invariant

@@ -20,5 +20,5 @@ returns c =
     let l = c.loop-part in
     let parts = c.args.trees.now.parts.items in
     let old = nodes_of c.args.parts.now.items in
-    let all = l.invariant ∙ ap (λ (ps : List TreePart). map tal_node ps) (take_all parts l.part-index c.loop-part-test.false) in
+    let all = l.invariant ∙ ap (λ (ps : List TreePart). map tal_node ps) (take_all l.part-index parts c.loop-part-test.false) in
     ended_with c.add_each.result _ _ _ c.add_each.ensures (ap (λ (ns : List Node). old ++ each (codes "tals") (document_of ns) ∷ []) all)

@@ -25,4 +25,4 @@ loop-place-preserved c =
 pub returns : goal.returns
 returns c =
     let l = c.loop-place in
-    l.invariant ∙ ap (λ (p : List ℕ). spans_of c.args.pieces.now.items ++ below_spans (map (λ f. f.now) c.args.certs.now) p) (take_all c.args.places.now l.place-index c.loop-place-test.false)
+    l.invariant ∙ ap (λ (p : List ℕ). spans_of c.args.pieces.now.items ++ below_spans (map (λ f. f.now) c.args.certs.now) p) (take_all l.place-index c.args.places.now c.loop-place-test.false)
