@@ -5,7 +5,7 @@ _rpki() {
     case ${COMP_WORDS[1]} in
         show) options='--output --json --quiet --all --at --lenient --max-size --help' ;;
         validate) options='--output --json --quiet --tal --crl --in --depth --steps --trust-first --no-crl --no-names --at --lenient --max-size --help' ;;
-        tree) options='--output --json --quiet --tal --depth --steps --no-names --at --lenient --max-size --help' ;;
+        tree) options='--output --json --quiet --tal --only --strict-exit --depth --steps --no-names --at --lenient --max-size --help' ;;
         prepare)
             options='--issuer --crl --at --lenient --out --force --help'
             if [[ ${COMP_WORDS[2]} == list ]]; then
@@ -38,6 +38,10 @@ _rpki() {
         --repository | --manifest | --notify | --object | --issuer-uri | --crl-uri) return ;;
         -o | --output)
             mapfile -t COMPREPLY < <(compgen -W 'text json jsonl' -- "$word")
+            return
+            ;;
+        --only)
+            mapfile -t COMPREPLY < <(compgen -W 'rejected' -- "$word")
             return
             ;;
         --tal | --crl | --in | --issuer | --key | --previous | --revoke | --out) options='' ;;

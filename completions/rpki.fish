@@ -47,6 +47,8 @@ complete -c rpki -n $validate -l trust-first -d 'Accept any trust anchor'
 complete -c rpki -n $validate -l no-crl -d 'Check no revocation'
 
 complete -c rpki -n $tree -l tal -r -F -d 'Add a locator of the trust anchor'
+complete -c rpki -n $tree -l only -x -a rejected -d 'Print only certificates with this verdict'
+complete -c rpki -n $tree -l strict-exit -d 'End with 1 also if the cache is damaged'
 
 complete -c rpki -n $issuing -l issuer -r -F -d 'Add a certificate of the path of the issuer'
 complete -c rpki -n $issuing -l crl -r -F -d 'Add a list with which that path is judged'

@@ -432,8 +432,17 @@ enum rpki_uri {
 uint32_t rpki_certificate_uri(const uint8_t *octets, size_t length, uint32_t which, uint8_t *out,
                               size_t room, uint64_t *count);
 
-/* Writes a Name in DER: of the issuer if `which` is 0, of the subject if it is 1. Returns
- * RPKI_BAD_CALL if `which` is another number. */
+/* Numbers a certificate's names. A text is that of RFC 4514, but with the parts in the order of the
+ * Name and a comma and a space between them: "CN=0A1B". It has visible ASCII characters alone, and
+ * escapes all others. */
+enum rpki_which_name {
+    RPKI_ISSUER_NAME = 0,  /* the issuer's Name in DER */
+    RPKI_SUBJECT_NAME = 1, /* the subject's Name in DER */
+    RPKI_ISSUER_TEXT = 2,  /* the issuer's name as text */
+    RPKI_SUBJECT_TEXT = 3  /* the subject's name as text */
+};
+
+/* Writes a name, an enum rpki_which_name. Returns RPKI_BAD_CALL if no name has the number. */
 uint32_t rpki_certificate_name(const uint8_t *octets, size_t length, uint32_t which, uint8_t *out,
                                size_t room, uint64_t *count);
 

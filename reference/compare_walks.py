@@ -56,6 +56,7 @@ MANY_STEPS = 100000
 MOST_SECONDS = 3600     # also on a machine with other work
 AT = '%04d-%02d-%02dT%02d:%02d:%02dZ' % random_folders.NOW
 STEPS = {'profile', 'verification', 'revocation'}
+UNSEEN = {'below_rejected', 'below_unseen', 'not_looked_at', 'not_issued', 'no_issuer'}
 
 
 class Told:
@@ -153,12 +154,12 @@ def line_wrongs(folder, name, line, ended):
         fault = line['member'], line['step'], line['fault']
         if line['step'] in STEPS and fault not in folder.faults(name):
             yield f'{name} is rejected as {fault}, and wanted one of {sorted(folder.faults(name))}'
-    elif verdict in ('list', 'neither') and cert is not None:
+    elif verdict in ('crl', 'neither') and cert is not None:
         yield f'{name} is a certificate, and {verdict} is told'
-    elif verdict not in ('list', 'neither', 'trust_anchor') and cert is None:
+    elif verdict not in ('crl', 'neither', 'trust_anchor') and cert is None:
         yield f'{name} is no certificate, and {verdict} is told'
-    elif verdict == 'no_issuer' and folder.faults(name) and ended != 'out_of_steps':
-        yield f'{name} has no issuer, and wanted one of {sorted(folder.faults(name))}'
+    elif verdict in UNSEEN and folder.faults(name) and ended != 'out_of_steps':
+        yield f'{name} is {verdict}, and wanted one of {sorted(folder.faults(name))}'
 
 
 def answer_wrongs(folder, told):

@@ -508,8 +508,9 @@ static void names(struct file anchor, struct file first, struct file list) {
     memset(above, 1, sizeof above);
     memset(issuer, 2, sizeof issuer);
     memset(other, 3, sizeof other);
-    check(rpki_certificate_name(anchor.octets, anchor.length, 1, above, 128, &count) == RPKI_OK
-              && rpki_certificate_name(first.octets, first.length, 0, issuer, 128, &again) == RPKI_OK
+    check(rpki_certificate_name(anchor.octets, anchor.length, RPKI_SUBJECT_NAME, above, 128, &count) == RPKI_OK
+              && rpki_certificate_name(first.octets, first.length, RPKI_ISSUER_NAME, issuer, 128, &again)
+                      == RPKI_OK
               && rpki_list_issuer(list.octets, list.length, other, 128, &listed) == RPKI_OK
               && count < 128 && count == again && count == listed
               && memcmp(above, issuer, count) == 0 && memcmp(above, other, count) == 0,
@@ -520,7 +521,28 @@ static void names(struct file anchor, struct file first, struct file list) {
     check(rpki_certificate_name(first.octets, first.length, 1, other, 128, &listed) == RPKI_OK
               && listed < 128 && memcmp(other, above, count) != 0,
           "the first authority's own name is another");
-    static const uint32_t no_names[] = {2, 3, 256, 0x80000000, UINT32_MAX};
+    /* openssl x509 -nameopt RFC2253 prints these names as CN= and the key identifier in hexadecimal */
+    char anchor_text[44] = "CN=", first_text[44] = "CN=";
+    struct rpki_certificate anchor_read, first_read;
+    check(rpki_certificate_read(anchor.octets, anchor.length, &anchor_read) == RPKI_OK
+              && rpki_certificate_read(first.octets, first.length, &first_read) == RPKI_OK,
+          "both are read");
+    for (size_t i = 0; i < 20; i++) {
+        snprintf(anchor_text + 3 + 2 * i, 3, "%02X", anchor_read.subject_key[i]);
+        snprintf(first_text + 3 + 2 * i, 3, "%02X", first_read.subject_key[i]);
+    }
+    memset(other, 3, sizeof other);
+    check(rpki_certificate_name(first.octets, first.length, RPKI_ISSUER_TEXT, other, 128, &listed) == RPKI_OK
+              && listed == 43 && memcmp(other, anchor_text, 43) == 0 && other[listed] == 3,
+          "the issuer's name as text");
+    check(rpki_certificate_name(first.octets, first.length, RPKI_SUBJECT_TEXT, other, 128, &listed) == RPKI_OK
+              && listed == 43 && memcmp(other, first_text, 43) == 0,
+          "the subject's name as text");
+    memset(other, 3, sizeof other);
+    check(rpki_certificate_name(first.octets, first.length, RPKI_SUBJECT_TEXT, other, 2, &listed) == RPKI_OK
+              && listed == 43 && other[0] == 'C' && other[1] == 'N' && other[2] == 3,
+          "a text is written as far as there is room");
+    static const uint32_t no_names[] = {4, 5, 256, 0x80000000, UINT32_MAX};
     for (size_t i = 0; i < sizeof no_names / sizeof *no_names; i++) {
         again = 9, issuer[0] = 7;
         check(rpki_certificate_name(first.octets, first.length, no_names[i], issuer, 128, &again)
@@ -536,6 +558,9 @@ static void names(struct file anchor, struct file first, struct file list) {
     check(rpki_list_issuer(list.octets, list.length, NULL, 0, &again) == RPKI_OK && again == count,
           "room 0 counts a list's name");
     count = 9, again = 9;
+    check(is_decoding(rpki_certificate_name(NULL, 0, RPKI_SUBJECT_TEXT, NULL, 0, &count)) && count == 0,
+          "no octets have no text of a name");
+    count = 9;
     check(is_decoding(rpki_certificate_name(NULL, 0, 0, NULL, 0, &count)) && count == 0
               && is_decoding(rpki_list_issuer(NULL, 0, NULL, 0, &again)) && again == 0,
           "no octets have no name");

@@ -196,7 +196,7 @@ static void make(void) {
         is_bad = a.number != 4 && a.number != 6;
         break;
     case certificate_uri: a.number = number_to(5); break;
-    case certificate_name: a.number = number_to(1); break;
+    case certificate_name: a.number = number_to(3); break;
     case stop_text: a.number = number_to(2); break;
     case list_ask:
     case table_ask: serials_input(); break;

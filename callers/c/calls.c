@@ -77,11 +77,12 @@ static void print_list_uri(const uint8_t *octets, size_t length) {
 }
 
 static void print_subject_length(const uint8_t *octets, size_t length) {
+    uint8_t name[128];
     uint64_t count;
-    uint32_t which = 1, fault;
-    fault = rpki_certificate_name(octets, length, which, NULL, 0, &count);
-    if (fault == RPKI_OK)
-        printf("its subject has %d octets\n", (int)count);
+    uint32_t which = RPKI_SUBJECT_TEXT, fault;
+    fault = rpki_certificate_name(octets, length, which, name, sizeof name, &count);
+    if (fault == RPKI_OK && count <= sizeof name)
+        printf("its subject is %.*s\n", (int)count, name);
 }
 
 static void print_list(const uint8_t *octets, size_t length) {

@@ -382,6 +382,22 @@ impl Certificate {
         sys::certificate_name(&self.octets, 1).map_err(Fault::new)
     }
 
+    /// Returns the issuer's name as text (RFC 4514, but with the parts in the order of the name), as
+    /// `CN=0A1B`. It has visible ASCII characters alone, and escapes all others.
+    pub fn issuer_text(&self) -> Result<String, Fault> {
+        self.name_text(2)
+    }
+
+    /// Returns the subject's name as text, in the same form.
+    pub fn subject_text(&self) -> Result<String, Fault> {
+        self.name_text(3)
+    }
+
+    fn name_text(&self, which: u32) -> Result<String, Fault> {
+        let text = sys::certificate_name(&self.octets, which).map_err(Fault::new)?;
+        Ok(String::from_utf8_lossy(&text).into_owned())
+    }
+
     /// Returns its key: the SubjectPublicKeyInfo in DER.
     pub fn public_key(&self) -> Result<Vec<u8>, Fault> {
         let (key, _) = sys::certificate_key(&self.octets).map_err(Fault::new)?;

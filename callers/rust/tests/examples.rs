@@ -43,6 +43,11 @@ fn certificates_are_read() {
     let key = anchor.subject_key_identifier();
     assert_eq!(it.authority_key_identifier(), Some(key));
     assert_eq!(it.issuer().unwrap(), anchor.subject().unwrap());
+    // openssl x509 -nameopt RFC2253 prints the names so
+    let hexadecimal = |id: [u8; 20]| id.map(|octet| format!("{octet:02X}")).concat();
+    let (above, own) = (hexadecimal(key), hexadecimal(it.subject_key_identifier()));
+    assert_eq!(it.issuer_text().unwrap(), format!("CN={above}"));
+    assert_eq!(it.subject_text().unwrap(), format!("CN={own}"));
     let uri = it.uri(Uri::Manifest).unwrap();
     assert_eq!(
         uri.unwrap(),

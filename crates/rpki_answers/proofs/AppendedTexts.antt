@@ -5,7 +5,6 @@ use Rattle.std.proofs.Common.{◌≡◌, ◌+◌, ◌<◌, ◌≤◌, ℕ, List,
 use Rattle.std.proofs.lemmas.List.{append-nil, take_more, take_all}
 use Rattle.rpki_files.specs.Files.{FileFields}
 use Rattle.rpki_text.specs.Pages.{Appends, AppendsSome}
-use Rattle.rpki_answers.specs.TreeTexts.{SaysInOrder}
 use Rattle.rpki_answers.specs.VerdictTexts.{SaysOfEach}
 
 -- ---- one text
@@ -68,13 +67,6 @@ says_more {X} Says [] so_far file text is says =
     (text, [], says, refl, ap (λ (l : List X). l ++ text) is ∙ sym (append-nil text))
 says_more {X} Says (f ∷ fs) so_far file text is says =
     (is.0, is.1 ++ text, is.2, says_more Says fs is.1 file text is.3 says, ap (λ (l : List X). l ++ text) is.4 ∙ append_assoc is.0 is.1 text)
-
--- of a further file, with the places before and behind each
-pub order_more : {X : Type 0} (Says : ℕ → ℕ → FileFields → List X → Type 0) (from mid last : ℕ) (files : List FileFields) (so_far : List X) → SaysInOrder Says from mid files so_far → (file : FileFields) (said : List X) → Says mid last file said → SaysInOrder Says from last (files ++ file ∷ []) (so_far ++ said)
-order_more {X} Says from mid last [] so_far is file said says =
-    (last, said, [], subst (λ (p : ℕ). Says p last file said) is.1 says, (refl, refl), ap (λ (l : List X). l ++ said) is.0 ∙ sym (append-nil said))
-order_more {X} Says from mid last (f ∷ fs) so_far is file said says =
-    (is.0, is.1, is.2 ++ said, is.3, order_more Says is.0 mid last fs is.2 is.4 file said says, ap (λ (l : List X). l ++ said) is.5 ∙ append_assoc is.1 is.2 said)
 
 module _ (Says : FileFields → List ℕ → Type 0) (files : List FileFields) where
   -- one file more

@@ -9,9 +9,9 @@ use Rattle.rpki_folder.specs.UsualBounds.{usual_steps}
 use Rattle.rpki_verdicts.specs.GivenLocators.{LocatorFields}
 use Rattle.rpki_verdicts.specs.PathFiles.{QuestionFields}
 use Rattle.rpki_verdicts.specs.Trees.{TreeFields}
-use Rattle.rpki_answers.specs.JsonTrees.{IsTreeJson}
 use Rattle.rpki_answers.specs.ShownFiles.{IsJsonOfFiles, IsTextOfFiles, is_single}
-use Rattle.rpki_answers.specs.TreeTexts.{IsAcceptingFinding, IsTreeFinding, IsTreeText}
+use Rattle.rpki_answers.specs.TreeDocuments.{IsTree}
+use Rattle.rpki_answers.specs.TreeRows.{IsAcceptingFinding, IsTreeFinding}
 use Rattle.rpki_answers.specs.Verdicts.{IsJsonOfPath, IsTextOfPath}
 use Rattle.rpki_text.specs.declared.command_line.arguments.Format.{Format}
 use Rattle.rpki_text.specs.declared.command_line.arguments.Task.{Task}
@@ -20,6 +20,7 @@ use Rattle.rpki_answers.specs.declared.outcomes.Outcome.{Outcome}
 use Rattle.rpki_answers.specs.declared.outcomes.Outcome.TheVariants.{Success, Rejection, Unread}
 use Rattle.rpki_answers.specs.declared.showing.Options.{Options}
 use Rattle.rpki_answers.specs.declared.trees.TreeFinding.{TreeFinding}
+use Rattle.rpki_answers.specs.declared.trees.TreeOptions.{TreeOptions}
 
 -- how a request has files shown at a moment
 abbrev pub options_of : RequestFields → Moment → Options
@@ -48,20 +49,19 @@ tree_question_of r now files locators = record {
   steps = unwrap_or r.steps usual_steps;
 }
 
--- what is said of files in no order is this of what is found, and the run ends so: as success only
+-- how a request has trees printed
+abbrev pub tree_options_of : RequestFields → TreeOptions
+tree_options_of r =
+    record { format = r.format; only_rejected = r.only_rejected; strict_exit = r.strict_exit }
+
+-- what is printed of files in no order is this of what is found, and the run ends so: as success only
 -- where all are accepted, and as rejection only where they aren't
-abbrev pub IsTreeBy : (TreeFinding → List ℕ → Type 0) → TreeFields → Outcome → List ℕ → Type 0
-IsTreeBy Says q outcome text =
+abbrev pub IsTreeBy : TreeOptions → TreeFields → Outcome → List ℕ → Type 0
+IsTreeBy options q outcome text =
     (finding : TreeFinding) × IsTreeFinding (context IsSignedByRsa q.at q.strict) q finding
-    × Says finding text × (outcome ≡ Success → IsAcceptingFinding finding)
-    × (outcome ≡ Rejection → IsAcceptingFinding finding → ⊥)
-
--- as lines, and in a format of JSON
-abbrev pub IsTreeTextBy : TreeFields → Outcome → List ℕ → Type 0
-IsTreeTextBy q outcome text = IsTreeBy (IsTreeText q) q outcome text
-
-abbrev pub IsTreeJsonBy : Format → TreeFields → Outcome → List ℕ → Type 0
-IsTreeJsonBy format q outcome text = IsTreeBy (IsTreeJson format q) q outcome text
+    × IsTree options.format options.only_rejected q finding text
+    × (outcome ≡ Success → IsAcceptingFinding options.strict_exit finding)
+    × (outcome ≡ Rejection → IsAcceptingFinding options.strict_exit finding → ⊥)
 
 -- the text for a person of a run with this task that ends so, of which these files, lists and
 -- locators could be read: `show` shows them, and `validate` judges nothing where another couldn't
@@ -73,7 +73,7 @@ IsTextBy Validate Unread r now files lists locators text = text ≡ []
 IsTextBy Validate outcome r now files lists locators text =
     IsTextOfPath (context IsSignedByRsa now r.strict) (question_of r now files lists locators) text
 IsTextBy Tree outcome r now files lists locators text =
-    IsTreeTextBy (tree_question_of r now files locators) outcome text
+    IsTreeBy (tree_options_of r) (tree_question_of r now files locators) outcome text
 IsTextBy _ outcome r now files lists locators text = ⊥
 
 -- its JSON, in the format that is asked
@@ -85,5 +85,5 @@ IsJsonBy Validate Unread r now files lists locators text = text ≡ []
 IsJsonBy Validate outcome r now files lists locators text =
     IsJsonOfPath r.format (context IsSignedByRsa now r.strict) (question_of r now files lists locators) text
 IsJsonBy Tree outcome r now files lists locators text =
-    IsTreeJsonBy r.format (tree_question_of r now files locators) outcome text
+    IsTreeBy (tree_options_of r) (tree_question_of r now files locators) outcome text
 IsJsonBy _ outcome r now files lists locators text = ⊥

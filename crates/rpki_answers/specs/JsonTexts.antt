@@ -10,7 +10,7 @@ use Rattle.rpki_der.specs.Texts.{hexadecimal}
 use Rattle.serde_json.specs.Data.{Data}
 use Rattle.serde_json.specs.Written.{compact_text, outline}
 use Rattle.rpki_text.specs.Pages.{line_feed}
-use Rattle.rpki_answers.specs.JsonValues.{array_of}
+use Rattle.rpki_document.specs.Documents.{array_of}
 use Rattle.rpki_text.specs.declared.command_line.arguments.Format.{Format}
 use Rattle.rpki_text.specs.declared.command_line.arguments.Format.TheVariants.{Json, JsonLines}
 

@@ -1,17 +1,14 @@
 -- The definitions that the contracts of answers cite.
 pub mod Outcomes
 pub mod VerdictTexts
-pub mod TreeTexts
-pub mod JsonValues
-pub mod JsonBlocks
-pub mod JsonKeys
+pub mod TreeRows
+pub mod TreeDocuments
+pub mod TreeLaws
 pub mod JsonTexts
-pub mod JsonVerdicts
 pub mod ToldValues
 pub mod RejectionDetails
 pub mod Verdicts
 pub mod ShownCertificates
 pub mod ShownLists
 pub mod ShownFiles
-pub mod JsonTrees
 pub mod AnswerTexts

@@ -1,23 +1,17 @@
--- What is printed of the verdict on a path.
-use Rattle.std.specs.List.{concat, flat_map}
+-- What is found of a path, and what is said of files.
 use Rattle.std.specs.Option.{option_map}
-use Rattle.std.specs.Prelude.{◌≡◌, ℕ, All, List, [], ◌∷◌, ◌++◌, length, codes, slice_get, Option, Some, None, MatchOption, Result, Ok, Err}
+use Rattle.std.specs.Prelude.{◌≡◌, ℕ, All, List, [], ◌∷◌, ◌++◌, length, codes, slice_get, Option, Some, None, MatchOption}
 use Rattle.rpki_der.specs.Encoding.{Begins, Means}
-use Rattle.rpki_keys.specs.Locators.{NamedTal}
-use Rattle.rpki_keys.specs.declared.tal.tal_error.TalError.{TalError}
-use Rattle.rpki_der.specs.Texts.{time_text}
-use Rattle.rpki_der.specs.Times.{Moment}
 use Rattle.rpki_cert.specs.Verification.{Context}
 use Rattle.rpki_files.specs.Contents.{IsList}
 use Rattle.rpki_files.specs.Files.{FileFields, contents}
 use Rattle.rpki_files.specs.LocatorFiles.{AreLocator}
-use Rattle.rpki_verdicts.specs.GivenLocators.{LocatorFields, locator_octets}
+use Rattle.rpki_verdicts.specs.GivenLocators.{locator_octets}
 use Rattle.rpki_verdicts.specs.PathFiles.{QuestionFields, demands_of}
-use Rattle.rpki_text.specs.Pages.{line, count_text, file_name_text}
+use Rattle.rpki_text.specs.Pages.{count_text}
 use Rattle.rpki_verdicts.specs.PathAnswers.{IsAcceptance, IsNoLocator, IsVerdictBy}
 use Rattle.rpki_answers.specs.declared.verdicts.Finding.{Finding}
 use Rattle.rpki_answers.specs.declared.verdicts.Finding.TheVariants.{NotALocator, NotAList, Decided}
-use Rattle.rpki_verdicts.specs.declared.path.Fault.{Fault}
 use Rattle.rpki_verdicts.specs.declared.path.Verdict.{Verdict}
 
 -- what is said of each file, one after the other
@@ -36,31 +30,9 @@ abbrev pub behind_list_text : ℕ → List ℕ
 behind_list_text left =
     codes ", since " ++ (count_text left (codes " octet stands") (codes " octets stand") ++ codes " behind its list")
 
--- what is said of one of which this was read: its name where it is none
-abbrev pub locator_part : List ℕ → Result NamedTal TalError → List ℕ
-locator_part name (Ok tal) = []
-locator_part name (Err error) = line (codes "Not a locator") (file_name_text name)
-
--- of each
-abbrev pub locators_text : List LocatorFields → List ℕ
-locators_text locators = flat_map (λ l. locator_part l.file.name l.read) locators
-
--- what a fault means, and its name
-abbrev pub reason_text : List ℕ → List ℕ → List ℕ
-reason_text says name = says ++ (codes " (" ++ (name ++ codes ")"))
-
 -- the name of the member at this place, where there is a member
 abbrev pub file_name_at : List FileFields → ℕ → Option (List ℕ)
 file_name_at members place = option_map (λ file. file.name) (slice_get members place)
-
--- some file given as a locator is none, for this reason, and nothing is judged
-unfoldable pub no_locator_text : Fault → List ℕ
-no_locator_text fault = concat (
-    line (codes "Path") (codes "rejected")
-    ∷ line (codes "Step") fault.step.now
-    ∷ line (codes "Why") (reason_text fault.rule.says.now fault.name.now)
-    ∷ line (codes "Standard") fault.rule.section.now
-    ∷ [])
 
 -- the verdict on the path, which there is where there is a file
 abbrev pub IsDecision : Context → QuestionFields → Option Verdict → Type 0
@@ -83,7 +55,3 @@ abbrev pub IsAcceptedFinding : Finding → Type 0
 IsAcceptedFinding (NotALocator fault) = ⊥
 IsAcceptedFinding NotAList = ⊥
 IsAcceptedFinding (Decided verdict) = IsAcceptance verdict
-
--- the moment at which a path is judged
-abbrev pub moment_line : Moment → List ℕ
-moment_line at = line (codes "Moment") (time_text at)

@@ -1,30 +1,46 @@
-//! The verdicts on the certificates among files, for a person or as JSON, and the outcome of a run
-//! by them.
-ghost use Rattle.std.specs.Prelude.{◌≡◌, ◌≢◌, ◌↔◌, All, IfOk, IsTrue, MatchOption, string_bytes};
+//! The verdicts on the certificates among files, as text or JSON, and the outcome of a run by them.
+ghost use Rattle.std.specs.Prelude.{◌≡◌, ◌↔◌, ◌++◌, All, map, IfOk, IsTrue, MatchOption, OnOk, string_bytes};
 ghost use Rattle.rpki_keys.specs.RsaSignatures.{IsSignedByRsa};
 ghost use Rattle.rpki_cert.specs.Verification.{context};
-ghost use Rattle.rpki_answers.specs.AnswerTexts.{IsTreeJsonBy, IsTreeTextBy};
-ghost use Rattle.rpki_answers.specs.JsonTrees.{IsTreeJson};
+ghost use Rattle.rpki_document.specs.Building.{nodes_of};
+ghost use Rattle.rpki_answers.specs.AnswerTexts.{IsTreeBy};
 ghost use Rattle.rpki_answers.specs.Outcomes.{IsOutcomeOfTree};
-ghost use Rattle.rpki_answers.specs.TreeTexts.{IsAcceptingFinding, IsTreeFinding, IsTreeText};
+ghost use Rattle.rpki_answers.specs.TreeDocuments.{AreTreesSaid, IsTree, PrintsTrees, is_printed, rendered};
+ghost use Rattle.rpki_answers.specs.TreeDocuments.Steps.{AddsRow, AddsRows, AppendsRow, AppendsRows};
+ghost use Rattle.rpki_answers.specs.TreeRows.{IsAcceptingFinding, IsTreeFinding};
 ghost use Rattle.rpki_files.specs.LocatorFiles.{AreLocator};
 ghost use Rattle.rpki_verdicts.specs.GivenLocators.{IsRead, locator_octets};
 ghost use Rattle.rpki_verdicts.specs.PathAnswers.{IsNoLocator};
 ghost use Rattle.rpki_verdicts.specs.Trees.{asked_of};
 
-use crate::as_json;
 use crate::outcomes::{Answer, Outcome};
-use crate::tree_lines::tree_text;
+use crate::tree_document::{add_end, add_tals, no_locator_document, row_document};
+use crate::tree_rows::{Row, rows_of};
+use crate::verdicts::rendered;
+use rpki_document::{Part, add_each, add_inside};
+use rpki_files::BareObject;
 use rpki_text::command_line::Format;
-use rpki_verdicts::{Fault, Question, TreeAnswer, TreeQuestion, first_no_locator, judge_all};
+use rpki_verdicts::{
+    Fault, Question, TreeQuestion, Trees, first_no_locator, issuers_of, judge_all,
+};
 use std::alloc::{AllocError, Global};
 
-/// The findings on files in any order: the verdicts; or that a file given as a TAL isn't one, and
-/// why, so that nothing is judged.
+/// The findings on files in any order: the verdicts below each TAL; or that a file given as a TAL
+/// isn't one, and why, so that nothing is judged.
 #[derive(Drop)]
 pub enum TreeFinding<'q, 'n> {
     NotALocator(Fault),
-    Answered(TreeAnswer<'q, 'n>),
+    Answered(Trees<'q, 'n>),
+}
+
+/// How a tree is printed, and what makes the run fail.
+#[derive(Clone, Copy)]
+pub struct TreeOptions {
+    pub format: Format,
+    /// Whether only certificates that aren't accepted are printed.
+    pub only_rejected: bool,
+    /// Whether a damaged cache is an error.
+    pub strict_exit: bool,
 }
 
 // What is wrong of the first file that is given as a locator and is none.
@@ -56,41 +72,249 @@ fn find<'q, 'n>(
     if let Some(fault) = no_locator_of(question) {
         return Ok(TreeFinding::NotALocator(fault));
     }
-    let answer = judge_all(alloc, question)?;
-    Ok(TreeFinding::Answered(answer))
+    let trees = judge_all(alloc, question)?;
+    Ok(TreeFinding::Answered(trees))
 }
 
-// Whether each certificate but the trust anchor is accepted, and no bound was met.
-fn is_accepting(finding: &TreeFinding<'_, '_>) -> bool
-    ensures { IsTrue result ↔ IsAcceptingFinding finding.now }
+// Whether each certificate is a trust anchor or accepted, no limit was reached, and, if that is
+// asked, the cache isn't damaged.
+fn is_accepting(finding: &TreeFinding<'_, '_>, strict_exit: bool) -> bool
+    ensures { IsTrue result ↔ IsAcceptingFinding strict_exit finding.now }
 {
     match finding {
-        TreeFinding::Answered(TreeAnswer::Walked(tree)) => tree.is_accepted(),
-        TreeFinding::Answered(_) | TreeFinding::NotALocator(_) => false,
+        TreeFinding::Answered(trees) => {
+            let is_damaged = strict_exit && trees.are_damaged();
+            trees.are_accepted() && !is_damaged
+        }
+        TreeFinding::NotALocator(_) => false,
     }
 }
 
-// What is found, written in this format.
-fn written(
+// A document in a format.
+fn formed(alloc: Global, parts: &Vec<Part<'_>>, format: Format) -> Result<String, AllocError>
+    ensures { IfOk result (λ text.
+        string_bytes text ≡ rendered format (nodes_of parts.now.items)) }
+{
+    rendered(alloc, parts, format)
+}
+
+// Appends a document in a format.
+fn append(
+    out: &mut String,
+    alloc: Global,
+    parts: &Vec<Part<'_>>,
+    format: Format,
+) -> Result<(), AllocError>
+    ensures { let its = rendered format (nodes_of parts.now.items) in
+        OnOk result (string_bytes out.new ≡ string_bytes out.old ++ its) }
+{
+    let text = formed(alloc, parts, format)?;
+    out.push_str(text.as_str())
+}
+
+// Whether a row is printed.
+fn is_printed(row: &Row<'_, '_, '_>, only_rejected: bool) -> bool
+    ensures { result ≡ is_printed only_rejected row.now }
+{
+    if only_rejected {
+        return row.said.word().is_unaccepted();
+    }
+    true
+}
+
+// Appends the document of a row.
+fn append_row<'p>(
+    out: &mut String,
+    alloc: Global,
+    certs: &[&'p BareObject<'_>],
+    row: &Row<'_, 'p, '_>,
+    options: TreeOptions,
+) -> Result<(), AllocError>
+    ensures { let files = map (λ f. f.now) certs.now in
+        OnOk result (AppendsRow options.format options.only_rejected files row.now
+        (string_bytes out.old) (string_bytes out.new)) }
+{
+    if is_printed(row, options.only_rejected) {
+        let parts = row_document(alloc, certs, row)?;
+        return append(out, alloc, &parts, options.format);
+    }
+    Ok(())
+}
+
+// Appends those of all rows.
+fn append_rows<'p>(
+    out: &mut String,
+    alloc: Global,
+    certs: &[&'p BareObject<'_>],
+    rows: &[Row<'_, 'p, '_>],
+    options: TreeOptions,
+) -> Result<(), AllocError>
+    ensures { let files = map (λ f. f.now) certs.now in
+        OnOk result (AppendsRows options.format options.only_rejected files rows.now
+        (string_bytes out.old) (string_bytes out.new)) }
+{
+    for row in rows {
+        append_row(out, alloc, certs, row, options)?;
+    }
+    Ok(())
+}
+
+// Adds the document of a row to a list.
+fn add_row<'p>(
+    files: &mut Vec<Part<'p>>,
+    alloc: Global,
+    certs: &[&'p BareObject<'_>],
+    row: &Row<'_, 'p, '_>,
+    only_rejected: bool,
+) -> Result<(), AllocError>
+    ensures { let its = map (λ f. f.now) certs.now in
+        OnOk result (AddsRow only_rejected its row.now files.old.items files.new.items) }
+{
+    if is_printed(row, only_rejected) {
+        let parts = row_document(alloc, certs, row)?;
+        return add_inside(files, "", parts);
+    }
+    Ok(())
+}
+
+// Adds those of all rows.
+fn add_rows<'p>(
+    files: &mut Vec<Part<'p>>,
+    alloc: Global,
+    certs: &[&'p BareObject<'_>],
+    rows: &[Row<'_, 'p, '_>],
+    only_rejected: bool,
+) -> Result<(), AllocError>
+    ensures { let its = map (λ f. f.now) certs.now in
+        OnOk result (AddsRows only_rejected its rows.now files.old.items files.new.items) }
+{
+    for row in rows {
+        add_row(files, alloc, certs, row, only_rejected)?;
+    }
+    Ok(())
+}
+
+// The heads, the rows and the end as lines for a person.
+fn as_lines(
     alloc: Global,
     question: &TreeQuestion<'_, '_>,
-    finding: &TreeFinding<'_, '_>,
-    format: Format,
+    trees: &Trees<'_, '_>,
+    rows: &[Row<'_, '_, '_>],
+    options: TreeOptions,
 ) -> Result<String, AllocError>
-    ensures text { let q = asked_of question.now in format ≡ Format.Text
-        → IfOk result (λ text. IsTreeText q finding.now (string_bytes text)) }
-    ensures json { let q = asked_of question.now in format ≢ Format.Text
-        → IfOk result (λ text. IsTreeJson format q finding.now (string_bytes text)) }
+    requires { options.format ≡ Format.Text }
+    ensures { IfOk result (λ text. PrintsTrees options.format options.only_rejected
+        (asked_of question.now) trees.now rows.now (string_bytes text)) }
 {
-    if format == Format::Text {
-        return tree_text(alloc, question, finding);
+    let mut out = String::new(alloc);
+    let mut heads = Vec::new(alloc);
+    add_tals(&mut heads, alloc, trees)?;
+    append(&mut out, alloc, &heads, options.format)?;
+    append_rows(&mut out, alloc, &trees.certs, rows, options)?;
+    let mut ends = Vec::new(alloc);
+    add_end(&mut ends, alloc, question, trees, rows)?;
+    append(&mut out, alloc, &ends, options.format)?;
+    Ok(out)
+}
+
+// The rows as a line of JSON each, and one line for the rest.
+fn as_json_lines(
+    alloc: Global,
+    question: &TreeQuestion<'_, '_>,
+    trees: &Trees<'_, '_>,
+    rows: &[Row<'_, '_, '_>],
+    options: TreeOptions,
+) -> Result<String, AllocError>
+    requires { options.format ≡ Format.JsonLines }
+    ensures { IfOk result (λ text. PrintsTrees options.format options.only_rejected
+        (asked_of question.now) trees.now rows.now (string_bytes text)) }
+{
+    let mut out = String::new(alloc);
+    append_rows(&mut out, alloc, &trees.certs, rows, options)?;
+    let mut rest = Vec::new(alloc);
+    add_tals(&mut rest, alloc, trees)?;
+    add_end(&mut rest, alloc, question, trees, rows)?;
+    append(&mut out, alloc, &rest, options.format)?;
+    Ok(out)
+}
+
+// All as one object of JSON.
+fn as_object<'p>(
+    alloc: Global,
+    question: &TreeQuestion<'_, '_>,
+    trees: &Trees<'p, '_>,
+    rows: &[Row<'_, 'p, '_>],
+    options: TreeOptions,
+) -> Result<String, AllocError>
+    requires { options.format ≡ Format.Json }
+    ensures { IfOk result (λ text. PrintsTrees options.format options.only_rejected
+        (asked_of question.now) trees.now rows.now (string_bytes text)) }
+{
+    let mut whole = Vec::new(alloc);
+    add_tals(&mut whole, alloc, trees)?;
+    let mut files = Vec::new(alloc);
+    add_rows(&mut files, alloc, &trees.certs, rows, options.only_rejected)?;
+    add_each(&mut whole, "files", files)?;
+    add_end(&mut whole, alloc, question, trees, rows)?;
+    formed(alloc, &whole, options.format)
+}
+
+// The trees of files, of which these rows are.
+fn printed_rows<'p>(
+    alloc: Global,
+    question: &TreeQuestion<'_, '_>,
+    trees: &Trees<'p, '_>,
+    rows: &[Row<'_, 'p, '_>],
+    options: TreeOptions,
+) -> Result<String, AllocError>
+    ensures { IfOk result (λ text. PrintsTrees options.format options.only_rejected
+        (asked_of question.now) trees.now rows.now (string_bytes text)) }
+{
+    match options.format {
+        Format::Text => as_lines(alloc, question, trees, rows, options),
+        Format::JsonLines => as_json_lines(alloc, question, trees, rows, options),
+        Format::Json => as_object(alloc, question, trees, rows, options),
     }
-    as_json::tree(alloc, question, finding, format)
+}
+
+// The trees of files.
+fn printed_trees<'p>(
+    alloc: Global,
+    question: &TreeQuestion<'p, '_>,
+    trees: &Trees<'p, '_>,
+    options: TreeOptions,
+) -> Result<String, AllocError>
+    ensures { IfOk result (λ text. AreTreesSaid options.format options.only_rejected
+        (asked_of question.now) trees.now (string_bytes text)) }
+{
+    let issuers = issuers_of(alloc, trees)?;
+    let rows = rows_of(alloc, trees, &issuers, question.files)?;
+    printed_rows(alloc, question, trees, &rows, options)
+}
+
+// What is found.
+fn printed_finding<'p>(
+    alloc: Global,
+    question: &TreeQuestion<'p, '_>,
+    finding: &TreeFinding<'p, '_>,
+    options: TreeOptions,
+) -> Result<String, AllocError>
+    ensures { let q = asked_of question.now in IfOk result (λ text.
+        IsTree options.format options.only_rejected q finding.now (string_bytes text)) }
+{
+    match finding {
+        TreeFinding::Answered(trees) => printed_trees(alloc, question, trees, options),
+        TreeFinding::NotALocator(fault) => {
+            let parts = no_locator_document(alloc, question, fault)?;
+            formed(alloc, &parts, options.format)
+        }
+    }
 }
 
 /// Judges all certificates among files, and writes the findings on each file, as lines for a person
-/// or as JSON. The outcome is success if each file given as a TAL is one, each certificate but the
-/// trust anchor is accepted, and no limit was reached.
+/// or as JSON. The outcome is success if each file given as a TAL is one and has a valid trust
+/// anchor, each certificate is a trust anchor or accepted, no limit was reached, and, if that is
+/// asked, the cache isn't damaged.
 ///
 /// # Errors
 ///
@@ -98,18 +322,16 @@ fn written(
 pub fn treed(
     alloc: Global,
     question: &TreeQuestion<'_, '_>,
-    format: Format,
+    options: TreeOptions,
 ) -> Result<Answer, AllocError>
     requires { All (IsRead question.now.strict) question.now.locators.now }
-    ensures text { let q = asked_of question.now in format ≡ Format.Text
-        → IfOk result (λ answer. IsTreeTextBy q answer.outcome (string_bytes answer.text)) }
-    ensures json { let q = asked_of question.now in format ≢ Format.Text
-        → IfOk result (λ answer. IsTreeJsonBy format q answer.outcome (string_bytes answer.text)) }
+    ensures answer { let q = asked_of question.now in IfOk result (λ answer.
+        IsTreeBy options q answer.outcome (string_bytes answer.text)) }
     ensures outcome { IfOk result (λ answer. IsOutcomeOfTree answer.outcome) }
 {
     let finding = find(alloc, question)?;
-    let is_accepting = is_accepting(&finding);
-    let text = written(alloc, question, &finding, format);
+    let is_accepting = is_accepting(&finding, options.strict_exit);
+    let text = printed_finding(alloc, question, &finding, options);
     drop(finding);
     Ok(Answer {
         text: text?,

@@ -357,7 +357,7 @@ fn add_not_a_locator<'p>(
     }
 }
 
-fn add_not_locators<'p>(
+pub(crate) fn add_not_locators<'p>(
     parts: &mut Vec<Part<'p>>,
     alloc: Global,
     locators: &'p [GivenLocator<'_>],
@@ -559,7 +559,11 @@ fn add_own_resources(
     add_each(parts, "holds", held)
 }
 
-fn add_held(parts: &mut Vec<Part<'_>>, alloc: Global, judged: &Judged) -> Result<(), AllocError>
+pub(crate) fn add_held(
+    parts: &mut Vec<Part<'_>>,
+    alloc: Global,
+    judged: &Judged,
+) -> Result<(), AllocError>
     ensures { let Are = AreHeld judged.now.holder judged.now.router in
         OnOk result (AddsSome Are parts.old.items parts.new.items) }
 {
@@ -609,7 +613,7 @@ fn add_checked(
     )
 }
 
-fn add_unchecked<'p>(
+pub(crate) fn add_unchecked<'p>(
     parts: &mut Vec<Part<'p>>,
     alloc: Global,
     what: &'p str,
@@ -635,7 +639,7 @@ fn add_unchecked_anchor(
     }
 }
 
-fn add_unchecked_names(
+pub(crate) fn add_unchecked_names(
     parts: &mut Vec<Part<'_>>,
     alloc: Global,
     names: bool,
@@ -702,8 +706,8 @@ fn add_accepted<'p>(
 
 // ---- a rejected path
 
-// The fault as a program needs it.
-fn add_fault<'p>(
+/// Adds the fault as a program needs it.
+pub(crate) fn add_fault<'p>(
     parts: &mut Vec<Part<'p>>,
     alloc: Global,
     name: &'p str,
@@ -903,7 +907,7 @@ fn add_unjudged_head<'p>(
 }
 
 // That there is such a file.
-fn add_unjudged<'p>(
+pub(crate) fn add_unjudged<'p>(
     parts: &mut Vec<Part<'p>>,
     alloc: Global,
     step: &'p str,
@@ -1046,7 +1050,7 @@ fn add_asked<'p>(
     add_unsaid(parts, pieces)
 }
 
-fn add_time(parts: &mut Vec<Part<'_>>, alloc: Global, at: Time) -> Result<(), AllocError>
+pub(crate) fn add_time(parts: &mut Vec<Part<'_>>, alloc: Global, at: Time) -> Result<(), AllocError>
     ensures { OnOk result (Adds (time_node at ∷ []) parts.old.items parts.new.items) }
 {
     let leaf = moment_leaf(alloc, at)?;

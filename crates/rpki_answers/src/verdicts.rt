@@ -43,8 +43,12 @@ fn json_text(alloc: Global, parts: &Vec<Part<'_>>, format: Format) -> Result<Str
     text
 }
 
-// A document in a format.
-fn rendered(alloc: Global, parts: &Vec<Part<'_>>, format: Format) -> Result<String, AllocError>
+/// Writes a document in a format.
+pub(crate) fn rendered(
+    alloc: Global,
+    parts: &Vec<Part<'_>>,
+    format: Format,
+) -> Result<String, AllocError>
     ensures text { let d = document_of (nodes_of parts.now.items) in
         format ≡ Format.Text → IfOk result (λ text. string_bytes text ≡ document_text d) }
     ensures json { let d = document_of (nodes_of parts.now.items) in

@@ -3,13 +3,14 @@ use Rattle.std.specs.Prelude.{ℕ, List, [], Option, Some, None}
 use Rattle.rpki_blocks.specs.Resources.{Resources, blocks}
 use Rattle.rpki_blocks.specs.Sets.{Block}
 use Rattle.rpki_ext.specs.CertificateExtensions.{ExtensionFields}
+use Rattle.rpki_parts.specs.NameTexts.{name_text}
 use Rattle.rpki_cert.specs.Certificates.{TbsFields}
 use Rattle.rpki_c.specs.declared.certificates.Family.{Family}
 use Rattle.rpki_c.specs.declared.certificates.Family.TheVariants.{V4, V6}
 use Rattle.rpki_c.specs.declared.certificates.CertUri.{CertUri}
 use Rattle.rpki_c.specs.declared.certificates.CertUri.TheVariants.{CaIssuer, Crl, Repository, Manifest, SignedObject, Notify}
 use Rattle.rpki_c.specs.declared.certificates.CertName.{CertName}
-use Rattle.rpki_c.specs.declared.certificates.CertName.TheVariants.{Issuer, Subject}
+use Rattle.rpki_c.specs.declared.certificates.CertName.TheVariants.{Issuer, Subject, IssuerText, SubjectText}
 
 -- ---- addresses
 
@@ -54,7 +55,12 @@ octets_if_any (Some uri) = uri
 abbrev pub name_number : CertName → ℕ
 name_number Issuer = 0
 name_number Subject = 1
+name_number IssuerText = 2
+name_number SubjectText = 3
 
+-- the name in DER, or its text (RFC 4514, but in the order of the name)
 abbrev pub name_field : CertName → TbsFields → List ℕ
 name_field Issuer f = f.issuer
 name_field Subject f = f.subject
+name_field IssuerText f = name_text f.issuer
+name_field SubjectText f = name_text f.subject

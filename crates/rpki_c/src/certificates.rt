@@ -1,5 +1,5 @@
 //! Certificates for C.
-ghost use Rattle.std.specs.Prelude.{ℕ, List, ◌≡◌, ◌≢◌, ◌<◌, ◌≤◌, ◌↔◌, ◌==◌, not, map, IsTrue, IsNone, IfSome, OnOk, IfOk, IfErr, option_map};
+ghost use Rattle.std.specs.Prelude.{ℕ, List, ◌≡◌, ◌≢◌, ◌<◌, ◌≤◌, ◌↔◌, ◌==◌, not, map, IsTrue, IsErr, IsNone, IfSome, OnOk, IfOk, IfErr, option_map};
 ghost use Rattle.rpki_der.specs.Place.{Rejects};
 ghost use Rattle.rpki_ext.specs.Kinds.{Means};
 ghost use Rattle.rpki_ext.specs.declared.inspection.InspectionError.{InspectionError as inspections};
@@ -9,6 +9,7 @@ ghost use Rattle.rpki_cert.specs.declared.inspect.Kind.{Kind as kinds};
 ghost use Rattle.rpki_c.specs.Choices.{family_number, family_field, listed_blocks, uri_number, uri_field, octets_if_any, name_number, name_field};
 ghost use Rattle.rpki_c.specs.Contents.{state_number, TellsKey, TellsKeys, TellsCertificate};
 ghost use Rattle.rpki_folder.specs.Folders.{BeginsNoCertificate};
+ghost use Rattle.rpki_parts.specs.NameTexts.{name_text};
 ghost use Rattle.rpki_c.specs.FaultNumbers.{inspection_number};
 ghost use Rattle.rpki_c.specs.Writing.{IsWritten, as_struct, ip_struct};
 ghost use Rattle.rpki_c.specs.declared.certificates.Family.{Family as families};
@@ -25,8 +26,8 @@ use rpki_blocks::{AsResources, IpResources, Overclaim};
 use rpki_cert::{Cert, InspectionError, KeyUsage, Kind, TbsCert};
 use rpki_der::DecodeError;
 use rpki_keys::is_usable;
-use rpki_parts::{Https, Rsync};
-use std::alloc::Global;
+use rpki_parts::{Https, Name, Rsync};
+use std::alloc::{AllocError, Global};
 
 /// The fields of a certificate that have a fixed size.
 #[repr(C)]
@@ -544,36 +545,61 @@ pub extern "C" fn rpki_certificate_uri(
     }
 }
 
-/// A name in a certificate.
+/// A name in a certificate, in DER or as text.
 #[derive(Clone, Copy)]
 enum CertName {
     Issuer,
     Subject,
+    IssuerText,
+    SubjectText,
 }
 
 // The name that has this number.
 fn name_numbered(number: u32) -> Option<CertName>
-    ensures none { IsNone result ↔ 1 < number }
+    ensures none { IsNone result ↔ 3 < number }
     ensures name { IfSome result (λ which. number ≡ name_number which) }
 {
     match number {
         0 => Some(CertName::Issuer),
         1 => Some(CertName::Subject),
+        2 => Some(CertName::IssuerText),
+        3 => Some(CertName::SubjectText),
         _ => None,
     }
 }
 
-fn name_of(tbs: &TbsCert, which: CertName) -> &[u8]
-    ensures { result.now ≡ name_field which tbs.now }
+// Writes the text of a name, as much as there is room for, and tells how long it is.
+fn put_text(alloc: Global, name: &Name, out: &mut [u8]) -> Result<u64, AllocError>
+    ensures written { IfOk result (IsWritten (name_text name.now) out.old out.new) }
+    ensures untouched { IsErr result → out.new ≡ out.old }
+{
+    let text = format!(in alloc; "{name}")?;
+    let count = put_octets(text.as_bytes(), out);
+    drop(text);
+    Ok(count)
+}
+
+// Writes a name, as much as there is room for, and tells how long it is.
+fn put_name(
+    alloc: Global,
+    tbs: &TbsCert,
+    which: CertName,
+    out: &mut [u8],
+) -> Result<u64, AllocError>
+    ensures written { IfOk result (IsWritten (name_field which tbs.now) out.old out.new) }
+    ensures untouched { IsErr result → out.new ≡ out.old }
 {
     match which {
-        CertName::Issuer => tbs.issuer().as_bytes(),
-        CertName::Subject => tbs.subject().as_bytes(),
+        CertName::Issuer => Ok(put_octets(tbs.issuer().as_bytes(), out)),
+        CertName::Subject => Ok(put_octets(tbs.subject().as_bytes(), out)),
+        CertName::IssuerText => put_text(alloc, tbs.issuer(), out),
+        CertName::SubjectText => put_text(alloc, tbs.subject(), out),
     }
 }
 
-/// Writes a name in DER: the issuer's if `which` is 0, the subject's if it is 1. Writes as many
-/// bytes as fit, and in `count` how many there are.
+/// Writes a name: in DER the issuer's if `which` is 0, the subject's if it is 1; and as text (RFC
+/// 4514, but in the order of the name) the issuer's if it is 2, the subject's if it is 3. Writes as
+/// many bytes as fit, and in `count` how many there are.
 ///
 /// # Errors
 ///
@@ -586,7 +612,7 @@ pub extern "C" fn rpki_certificate_name(
     out: &mut [u8],
     count: &mut u64,
 ) -> u32
-    ensures bad_call { (result ≡ BAD_CALL) ↔ 1 < which }
+    ensures bad_call { (result ≡ BAD_CALL) ↔ 3 < which }
     ensures name { result ≡ NONE → (n : names) × (which ≡ name_number n)
         × (c : CertFields) × Means IsCertificate c octets.now
         × IsWritten (name_field n c.fields) out.old out.new count.new }
@@ -601,9 +627,15 @@ pub extern "C" fn rpki_certificate_name(
     };
     match decoded(alloc, octets) {
         Ok(cert) => {
-            *count = put_octets(name_of(cert.as_tbs(), which), out);
+            let put = put_name(alloc, cert.as_tbs(), which, out);
             drop(cert);
-            NONE
+            match put {
+                Ok(length) => {
+                    *count = length;
+                    NONE
+                }
+                Err(_) => MEMORY,
+            }
         }
         Err(fault) => fault,
     }

@@ -106,7 +106,9 @@ tree_text = concat (
     codes "usage: rpki tree --tal FILE.. [OPTION].. FILE|DIRECTORY..\n"
     ∷ codes "Validates every certificate among the files, in any order, with the CRLs among them.\n"
     ∷ codes "Of a DIRECTORY it reads the files in it and below it that end in .cer or .crl.\n"
-    ∷ codes "  --tal FILE            the trust anchor is the certificate that has this TAL's key\n"
+    ∷ codes "  --tal FILE            a trust anchor is the certificate that has this TAL's key; repeatable\n"
+    ∷ codes "  --only rejected       prints only the certificates that aren't accepted\n"
+    ∷ codes "  --strict-exit         ends with 1 also if a file damages the cache, or only trust anchors are there\n"
     ∷ codes "  --depth NUMBER        the most certificates below the trust anchor on a path (32)\n"
     ∷ codes "  --steps NUMBER        the most certificates verified (10,000,000)\n"
     ∷ codes "  --no-names            skips name chaining, and the issuer names of CRLs\n"
@@ -114,7 +116,7 @@ tree_text = concat (
     ∷ codes "  --lenient, --max-size BYTES, -o FORMAT, -j, -q: as 'rpki show --help' says\n"
     ∷ codes "TIME is YYYY-MM-DD, YYYY-MM-DDTHH:MM:SSZ or YYYYMMDDHHMMSS.\n"
     ∷ codes "Exit status: 0 all are accepted, 1 one isn't, 2 wrong usage, 3 a file can't be read.\n"
-    ∷ codes "Example: rpki tree --tal anchor.tal repository/\n"
+    ∷ codes "Example: rpki tree --tal anchor.tal --only rejected repository/\n"
     ∷ [])
 
 -- `rpki prepare`

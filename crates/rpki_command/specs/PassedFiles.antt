@@ -1,11 +1,17 @@
 -- What a search says of the files among which it seeks: of those that it passes over, and where
 -- there is no list (own).
-use Rattle.std.specs.Prelude.{◌≡◌, ◌⊎◌, ℕ, List, [], ◌∷◌, ◌++◌, codes}
+use Rattle.std.specs.Fmt.{decimal}
+use Rattle.std.specs.Prelude.{◌≡◌, ◌==◌, ◌⊎◌, ℕ, if◌then◌else◌, List, [], ◌∷◌, ◌++◌, codes}
 use Rattle.rpki_files.specs.Contents.{BeginsWithCertificate, IsList, StandBehind}
 use Rattle.rpki_files.specs.Files.{FileFields}
-use Rattle.rpki_answers.specs.TreeTexts.{neither_text}
 use Rattle.rpki_answers.specs.VerdictTexts.{SaysOfEach}
 use Rattle.rpki_command.specs.UnreadFiles.{called, file_message}
+
+-- why a file is neither, where it begins with a CRL and so many octets stand behind that
+abbrev pub neither_text : ℕ → List ℕ
+neither_text left =
+    if left == 0 then codes "neither a certificate nor a CRL"
+    else codes "neither a certificate nor a CRL, " ++ (decimal left ++ ((if left == 1 then codes " byte follows" else codes " bytes follow") ++ codes " its CRL"))
 
 -- that a file is neither a certificate nor a list, in a line, and why, where it begins with a list:
 -- so many octets stand behind that

@@ -65,7 +65,9 @@ Example: rpki validate --tal anchor.tal --crl anchor.crl anchor.cer first.cer
 const TREE: &str = "usage: rpki tree --tal FILE.. [OPTION].. FILE|DIRECTORY..
 Validates every certificate among the files, in any order, with the CRLs among them.
 Of a DIRECTORY it reads the files in it and below it that end in .cer or .crl.
-  --tal FILE            the trust anchor is the certificate that has this TAL's key
+  --tal FILE            a trust anchor is the certificate that has this TAL's key; repeatable
+  --only rejected       prints only the certificates that aren't accepted
+  --strict-exit         ends with 1 also if a file damages the cache, or only trust anchors are there
   --depth NUMBER        the most certificates below the trust anchor on a path (32)
   --steps NUMBER        the most certificates verified (10,000,000)
   --no-names            skips name chaining, and the issuer names of CRLs
@@ -73,7 +75,7 @@ Of a DIRECTORY it reads the files in it and below it that end in .cer or .crl.
   --lenient, --max-size BYTES, -o FORMAT, -j, -q: as 'rpki show --help' says
 TIME is YYYY-MM-DD, YYYY-MM-DDTHH:MM:SSZ or YYYYMMDDHHMMSS.
 Exit status: 0 all are accepted, 1 one isn't, 2 wrong usage, 3 a file can't be read.
-Example: rpki tree --tal anchor.tal repository/
+Example: rpki tree --tal anchor.tal --only rejected repository/
 ";
 
 const PREPARE: &str = "usage: rpki prepare KIND [--issuer FILE].. --key FILE FIELD.. [OPTION]..

@@ -3,7 +3,7 @@ ghost use Rattle.std.specs.Prelude.{◌≡◌, ◌≢◌, ◌↔◌, ◌⊎◌, 
 ghost use Rattle.std.specs.Bool.{MatchBool};
 ghost use Rattle.rpki_keys.specs.RsaSignatures.{IsSignedByRsa};
 ghost use Rattle.rpki_cert.specs.Verification.{context};
-ghost use Rattle.rpki_answers.specs.AnswerTexts.{IsJsonBy, IsTextBy, IsTreeJsonBy, IsTreeTextBy, options_of, question_of, tree_question_of};
+ghost use Rattle.rpki_answers.specs.AnswerTexts.{IsJsonBy, IsTextBy, IsTreeBy, options_of, question_of, tree_options_of, tree_question_of};
 ghost use Rattle.rpki_text.specs.CommandLines.Views.{fields_of};
 ghost use Rattle.rpki_answers.specs.Outcomes.{IsOutcomeOfTree, AreAllRead, EndsBy, IsOutcomeOfShow, IsOutcomeOfValidate};
 ghost use Rattle.rpki_command.specs.NamedFiles.{AreGiven, AreNamed};
@@ -14,7 +14,7 @@ ghost use Rattle.rpki_verdicts.specs.GivenLocators.{IsRead, LocatorFields, locat
 ghost use Rattle.rpki_verdicts.specs.PathFiles.{demands_of};
 ghost use Rattle.rpki_verdicts.specs.Trees.{asked_of};
 
-use rpki_answers::{Answer, Options, Outcome, shown, treed, validated};
+use rpki_answers::{Answer, Options, Outcome, TreeOptions, shown, treed, validated};
 use rpki_der::Time;
 use rpki_files::{BareObject, Object};
 use rpki_folder::USUAL_STEPS;
@@ -157,15 +157,17 @@ fn tree(
     requires { All (IsRead request.now.strict) locators.now }
     ensures outcome { IfOk result (λ answer. MatchBool are_all_read
         (IsOutcomeOfTree answer.outcome) (answer.outcome ≡ Outcome.Unread)) }
-    ensures text { let q = tree_question_of (fields_of request.now) now files.now locators.now in
-        request.now.format ≡ Format.Text
-        → IfOk result (λ answer. IsTreeTextBy q answer.outcome (string_bytes answer.text)) }
-    ensures json { let q = tree_question_of (fields_of request.now) now files.now locators.now in
-        let format = request.now.format in format ≢ Format.Text
-        → IfOk result (λ answer. IsTreeJsonBy format q answer.outcome (string_bytes answer.text)) }
+    ensures answer { let q = tree_question_of (fields_of request.now) now files.now locators.now in
+        let options = tree_options_of (fields_of request.now) in
+        IfOk result (λ answer. IsTreeBy options q answer.outcome (string_bytes answer.text)) }
 {
     let question = tree_question(request, now, files, locators);
-    let answer = treed(alloc, &question, request.format)?;
+    let options = TreeOptions {
+        format: request.format,
+        only_rejected: request.only_rejected,
+        strict_exit: request.strict_exit,
+    };
+    let answer = treed(alloc, &question, options)?;
     Ok(if_read(answer, are_all_read))
 }
 

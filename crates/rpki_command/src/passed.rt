@@ -2,9 +2,8 @@
 ghost use Rattle.std.specs.Io.KnownBytes.{Appends};
 ghost use Rattle.std.specs.Prelude.{◌≡◌, ◌==◌, [], List, ℕ, Ok, OnOk, Some, codes, if◌then◌else◌};
 ghost use Rattle.rpki_text.specs.CommandLines.Views.{word_octets};
-ghost use Rattle.rpki_answers.specs.TreeTexts.{neither_text};
 ghost use Rattle.rpki_answers.specs.VerdictTexts.{SaysOfEach};
-ghost use Rattle.rpki_command.specs.PassedFiles.{SaysIfPassed, SaysOfOthers, no_list_message};
+ghost use Rattle.rpki_command.specs.PassedFiles.{SaysIfPassed, SaysOfOthers, neither_text, no_list_message};
 
 use crate::reading::tell;
 use anyhow::Result;
@@ -13,19 +12,19 @@ use std::alloc::Global;
 use std::io::Write;
 use std::{fmt, io};
 
-// That a file is neither a certificate nor a list, where so many octets stand behind a list that it
-// begins with.
+// That a file is neither a certificate nor a CRL, where so many bytes follow a CRL that it starts
+// with.
 #[derive(Drop)]
 struct Neither(usize);
 
-// What octets do, of which there are so many.
-fn stand(left: usize) -> &'static str
-    ensures { result.now ≡ (if left == 1 then codes " octet stands" else codes " octets stand") }
+// What bytes do, of which there are so many.
+fn follow(left: usize) -> &'static str
+    ensures { result.now ≡ (if left == 1 then codes " byte follows" else codes " bytes follow") }
 {
     if left == 1 {
-        " octet stands"
+        " byte follows"
     } else {
-        " octets stand"
+        " bytes follow"
     }
 }
 
@@ -35,13 +34,10 @@ impl fmt::Display for Neither {
     fn fmt<W: fmt::Write>(&self, f: &mut fmt::Formatter<W>) -> fmt::Result {
         let left = self.0;
         if left == 0 {
-            return f.write_str("neither a certificate nor a list");
+            return f.write_str("neither a certificate nor a CRL");
         }
-        let stand = stand(left);
-        write!(
-            f,
-            "neither a certificate nor a list, since {left}{stand} behind its list"
-        )
+        let follow = follow(left);
+        write!(f, "neither a certificate nor a CRL, {left}{follow} its CRL")
     }
 }
 

@@ -3,7 +3,7 @@ use Rattle.std.specs.List.{flat_map}
 use Rattle.std.specs.Prelude.{Result, Ok, Err, OnOk, is_ok, if◌then◌else◌, Vec}
 use Rattle.std.specs.declared.alloc.Global.{Global}
 use Rattle.std.proofs.Common.{Bor, rules, subst}
-use Rattle.std.proofs.lemmas.List.{map-append}
+use Rattle.std.proofs.lemmas.List.{append-nil, map-append}
 use Rattle.serde_json.specs.View.{view}
 use Rattle.serde_json.specs.declared.value.Value.{Value}
 use Rattle.rpki_document.specs.Documents as doc
@@ -11,7 +11,7 @@ use Rattle.std.proofs.Common.{◌≡◌, ◌∙◌, ℕ, List, [], ◌∷◌, �
 use Rattle.serde_json.specs.Data.{Data, Members}
 use Rattle.rpki_document.specs.Documents.{Node, document_of, document_text, document_members, document_items, node_text, node_members, node_items, Pair, put_all, object_of, array_of, span_text, span_members, span_items, spans_text}
 use Rattle.rpki_document.specs.Views.{Entries, Puts, Pushes, part_view, piece_view, parts_text, parts_members, parts_items, pieces_text, pieces_members, pieces_items}
-use Rattle.rpki_document.specs.declared.parts.Part.{Part, Inside, Each, the_lemmas}
+use Rattle.rpki_document.specs.declared.parts.Part.{Part, Inside, Each, Aside, the_lemmas}
 use Rattle.rpki_document.specs.declared.parts.Piece.{Piece}
 
 -- ---- a document is gone over part by part
@@ -55,6 +55,19 @@ view-Inside key ps = search (rules, the_lemmas)
 
 pub view-Each : (key : Bor (List ℕ)) (ps : Vec Part Global) → part_view (Each key ps) ≡ doc.each key.now (document_of (map part_view ps.items))
 view-Each key ps = search (rules, the_lemmas)
+
+pub view-Aside : (ps : Vec Part Global) → part_view (Aside ps) ≡ doc.aside (document_of (map part_view ps.items))
+view-Aside ps = search (rules, the_lemmas)
+
+-- parts that are in no line
+pub written_aside : (old : List ℕ) (p : Part) (ps : List Part) → part_view p ≡ doc.aside (document_of (map part_view ps)) → old ≡ old ++ node_text (part_view p)
+written_aside old p ps is = sym (ap (λ (n : Node). old ++ node_text n) is ∙ append-nil old)
+
+pub put_aside : {T E : Type 0} (r : Result T E) (old new : Entries) (p : Part) (ps : List Part) → part_view p ≡ doc.aside (document_of (map part_view ps)) → OnOk r (Puts (parts_members ps) old new) → OnOk r (Puts (node_members (part_view p)) old new)
+put_aside r old new p ps is e = subst (λ (l : List Pair). OnOk r (Puts l old new)) (sym (ap node_members is ∙ members_of_parts ps)) e
+
+pub push_aside : {T E : Type 0} (r : Result T E) (old new : List Value) (p : Part) (ps : List Part) → part_view p ≡ doc.aside (document_of (map part_view ps)) → OnOk r (Pushes (parts_items ps) old new) → OnOk r (Pushes (node_items (part_view p)) old new)
+push_aside r old new p ps is e = subst (λ (l : List Data). OnOk r (Pushes l old new)) (sym (ap node_items is ∙ items_of_parts ps)) e
 
 -- the text of parts is that of the part that they are inside of
 pub written_inside : {T E : Type 0} (r : Result T E) (old new key : List ℕ) (p : Part) (ps : List Part) → part_view p ≡ doc.inside key (document_of (map part_view ps)) → OnOk r (new ≡ old ++ parts_text ps) → OnOk r (new ≡ old ++ node_text (part_view p))

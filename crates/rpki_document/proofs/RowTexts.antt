@@ -8,7 +8,7 @@ use Rattle.std.proofs.lemmas.Bool.Decides.{nat_tests}
 use Rattle.std.proofs.lemmas.Fmt.{decimal_by_steps}
 use Rattle.std.proofs.lemmas.List.{append-nil, append_cancel_left}
 use Rattle.std.proofs.lemmas.Grind.{flat_map-append}
-use Rattle.rpki_document.specs.Documents.{Told, text, inner, printed, characters, words, count, octets, flag, dated, Span, say, tell, show, keep, Node, head, line, further, unsaid, inside, each, Document, nothing, part, told_text, span_text, spans_text, node_text, document_text}
+use Rattle.rpki_document.specs.Documents.{Told, text, inner, printed, characters, words, count, octets, flag, dated, Span, say, tell, show, keep, Node, head, line, further, unsaid, inside, each, aside, Document, nothing, part, told_text, span_text, spans_text, node_text, document_text}
 use Rattle.rpki_document.specs.Texts.{AreVisible, IsUnseparated, is_visible, stands, separates, escaped, digit, two_digits, colons_text, character_text, characters_text, inner_character_text, inner_text, printed_character_text, printed_text, flag_text, pad, further_margin, line_feed}
 use Rattle.rpki_document.specs.Lines.{Row, labelled, under, row_text, node_rows, document_rows, AreOctets, BeginsPlain, IsTold, IsSpan, IsNode, IsMade, IsRow}
 
@@ -146,6 +146,7 @@ mutual
   node_rows_are (unsaid spans) is = tt
   node_rows_are (inside key d) is = rows_are d is
   node_rows_are (each key d) is = rows_are d is
+  node_rows_are (aside d) is = tt
 
   -- each line of a document has a label and says visible characters alone
   pub rows_are : (d : Document) → IsMade d → AllByRecursion IsRow (document_rows d)
@@ -163,6 +164,7 @@ mutual
   node_text_is (unsaid spans) = refl
   node_text_is (inside key d) = text_is d
   node_text_is (each key d) = text_is d
+  node_text_is (aside d) = refl
 
   -- the text of a document is that of its lines
   pub text_is : (d : Document) → document_text d ≡ flat_map row_text (document_rows d)

@@ -8,7 +8,7 @@ use Rattle.serde_json.specs.Data.{Data, Members, no_members, member, put, number
 use Rattle.serde_json.specs.Find.{of_integer}
 use Rattle.serde_json.specs.View.{items_of}
 use Rattle.serde_json.specs.Written.{has_float, items_have_float, members_have_float}
-use Rattle.rpki_document.specs.Documents.{Told, text, inner, printed, characters, words, count, octets, flag, dated, Span, say, tell, show, keep, Node, head, line, further, unsaid, inside, each, Document, nothing, part, Pair, put_all, told_json, span_items, span_members, node_items, node_members, document_items, document_members, document_json}
+use Rattle.rpki_document.specs.Documents.{Told, text, inner, printed, characters, words, count, octets, flag, dated, Span, say, tell, show, keep, Node, head, line, further, unsaid, inside, each, aside, Document, nothing, part, Pair, put_all, told_json, span_items, span_members, node_items, node_members, document_items, document_members, document_json}
 
 -- ---- values, members, lists
 
@@ -99,6 +99,7 @@ mutual
   node_whole (unsaid spans) = spans_whole spans
   node_whole (inside key d) = (all_whole (document_members d) _ (members_whole d) refl, tt)
   node_whole (each key d) = (items_whole (document_items d) (listed_whole d), tt)
+  node_whole (aside d) = members_whole d
 
   members_whole : (d : Document) → AreWhole (document_members d)
   members_whole nothing = tt
@@ -111,6 +112,7 @@ mutual
   node_items_whole (unsaid spans) = spans_items_whole spans
   node_items_whole (inside key d) = (all_whole (document_members d) _ (members_whole d) refl, tt)
   node_items_whole (each key d) = (items_whole (document_items d) (listed_whole d), tt)
+  node_items_whole (aside d) = listed_whole d
 
   listed_whole : (d : Document) → AllByRecursion LacksFloat (document_items d)
   listed_whole nothing = tt

@@ -58,7 +58,7 @@ pub data Span : Type 0 where
 
 mutual
   -- the head of an answer; a line; a further line of the label above; values that are in no line;
-  -- parts under a key, as an object or as a list
+  -- parts under a key, as an object or as a list; parts that are in no line
   pub data Node : Type 0 where
     head : List ℕ → List Span → Node
     line : List ℕ → List Span → Node
@@ -66,6 +66,7 @@ mutual
     unsaid : List Span → Node
     inside : List ℕ → Document → Node
     each : List ℕ → Document → Node
+    aside : Document → Node
 
   -- parts, one behind the other
   pub data Document : Type 0 where
@@ -104,6 +105,7 @@ abbrev mutual
   node_text (unsaid spans) = []
   node_text (inside key d) = document_text d
   node_text (each key d) = document_text d
+  node_text (aside d) = []
 
   -- the text of a document
   pub document_text : Document → List ℕ
@@ -149,6 +151,7 @@ abbrev mutual
   node_members (unsaid spans) = flat_map span_members spans
   node_members (inside key d) = (key, object_of (document_members d)) ∷ []
   node_members (each key d) = (key, array_of (document_items d)) ∷ []
+  node_members (aside d) = document_members d
 
   pub document_members : Document → List Pair
   document_members nothing = []
@@ -161,6 +164,7 @@ abbrev mutual
   node_items (unsaid spans) = flat_map span_items spans
   node_items (inside key d) = object_of (document_members d) ∷ []
   node_items (each key d) = array_of (document_items d) ∷ []
+  node_items (aside d) = document_items d
 
   pub document_items : Document → List Data
   document_items nothing = []

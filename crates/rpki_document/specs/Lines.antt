@@ -1,7 +1,7 @@
 -- The lines of a document's text, and what keeps them apart.
 use Rattle.std.specs.List.{AllByRecursion}
 use Rattle.std.specs.Prelude.{ℕ, ◌<◌, ◌^◌, ◌≢◌, List, [], ◌∷◌, ◌++◌}
-use Rattle.rpki_document.specs.Documents.{Told, text, inner, printed, characters, words, count, octets, flag, dated, Span, say, tell, show, keep, Node, head, line, further, unsaid, inside, each, Document, nothing, part, spans_text}
+use Rattle.rpki_document.specs.Documents.{Told, text, inner, printed, characters, words, count, octets, flag, dated, Span, say, tell, show, keep, Node, head, line, further, unsaid, inside, each, aside, Document, nothing, part, spans_text}
 use Rattle.rpki_document.specs.Texts.{AreVisible, pad, further_margin, line_feed}
 
 -- a line: its label and what stands behind its colon, or what it says under the label above
@@ -21,6 +21,7 @@ abbrev mutual
   node_rows (unsaid spans) = []
   node_rows (inside key d) = document_rows d
   node_rows (each key d) = document_rows d
+  node_rows (aside d) = []
 
   -- the lines of a document
   pub document_rows : Document → List Row
@@ -65,6 +66,7 @@ abbrev mutual
   IsNode (unsaid spans) = Unit {0}
   IsNode (inside key d) = IsMade d
   IsNode (each key d) = IsMade d
+  IsNode (aside d) = Unit {0}
 
   -- the document is so made
   pub IsMade : Document → Type 0

@@ -40,6 +40,7 @@ part_step (Part-F.Further pieces) = doc.further (map piece_view pieces.items)
 part_step (Part-F.Unsaid pieces) = doc.unsaid (map piece_view pieces.items)
 part_step (Part-F.Inside key parts) = doc.inside key.now (document_of parts.items)
 part_step (Part-F.Each key parts) = doc.each key.now (document_of parts.items)
+part_step (Part-F.Aside parts) = doc.aside (document_of parts.items)
 
 abbrev pub part_view : Part → Node
 part_view = fold-Part Node part_step

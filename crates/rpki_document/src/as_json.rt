@@ -184,7 +184,18 @@ fn put_part(it: &Part<'_>, out: &mut Members, alloc: Global) -> Result<(), Alloc
             let value = list_value(alloc, parts)?;
             out.put(*key, value)
         }
+        Part::Aside(parts) => put_parts(parts, out, alloc),
     }
+}
+
+#[cycle(values)]
+fn put_parts(parts: &Vec<Part<'_>>, out: &mut Members, alloc: Global) -> Result<(), AllocError>
+    ensures { OnOk result (Puts (parts_members parts.now.items) out.old out.new) }
+{
+    for it in parts {
+        put_part(it, out, alloc)?;
+    }
+    Ok(())
 }
 
 #[cycle(values)]
@@ -192,9 +203,7 @@ fn object_value(alloc: Global, parts: &Vec<Part<'_>>) -> Result<Value, AllocErro
     ensures { IfOk result (λ made. view made ≡ object_of (parts_members parts.now.items)) }
 {
     let mut out = Members::new(alloc);
-    for it in parts {
-        put_part(it, &mut out, alloc)?;
-    }
+    put_parts(parts, &mut out, alloc)?;
     Ok(out.into_value())
 }
 
@@ -218,7 +227,23 @@ fn push_part(it: &Part<'_>, items: &mut Vec<Value>, alloc: Global) -> Result<(),
             items.push(value)?;
             Ok(())
         }
+        Part::Aside(parts) => push_parts(parts, items, alloc),
     }
+}
+
+#[cycle(values)]
+fn push_parts(
+    parts: &Vec<Part<'_>>,
+    items: &mut Vec<Value>,
+    alloc: Global,
+) -> Result<(), AllocError>
+    ensures { OnOk result
+        (Pushes (parts_items parts.now.items) items.old.items items.new.items) }
+{
+    for it in parts {
+        push_part(it, items, alloc)?;
+    }
+    Ok(())
 }
 
 #[cycle(values)]
@@ -226,9 +251,7 @@ fn list_value(alloc: Global, parts: &Vec<Part<'_>>) -> Result<Value, AllocError>
     ensures { IfOk result (λ made. view made ≡ array_of (parts_items parts.now.items)) }
 {
     let mut items = Vec::new(alloc);
-    for it in parts {
-        push_part(it, &mut items, alloc)?;
-    }
+    push_parts(parts, &mut items, alloc)?;
     Ok(Value::from(items))
 }
 

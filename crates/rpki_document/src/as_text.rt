@@ -87,6 +87,7 @@ fn write_part(out: &mut String, alloc: Global, it: &Part<'_>) -> Result<(), Allo
         Part::Line(label, pieces) => write_line(out, alloc, *label, pieces.as_slice()),
         Part::Further(pieces) => write_further(out, alloc, pieces.as_slice()),
         Part::Unsaid(_) => Ok(()),
+        Part::Aside(_) => Ok(()),
         Part::Inside(_, parts) => write_parts(out, alloc, parts),
         Part::Each(_, parts) => write_parts(out, alloc, parts),
     }

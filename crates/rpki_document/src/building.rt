@@ -1,6 +1,6 @@
 //! Documents that are being built.
 ghost use Rattle.std.specs.Prelude.{◌∷◌, [], OnOk};
-ghost use Rattle.rpki_document.specs.Documents.{document_of, each, further, head, inside, kept, line, told_line, unsaid};
+ghost use Rattle.rpki_document.specs.Documents.{aside, document_of, each, further, head, inside, kept, line, told_line, unsaid};
 ghost use Rattle.rpki_document.specs.Building.{Adds, nodes_of, spans_of};
 ghost use Rattle.rpki_document.specs.Views.{leaf_view};
 
@@ -103,5 +103,14 @@ pub fn add_each<'a>(
         OnOk result (Adds (its ∷ []) parts.old.items parts.new.items) }
 {
     parts.push(Part::Each(key, inner))?;
+    Ok(())
+}
+
+/// Adds parts that are in no line.
+pub fn add_aside<'a>(parts: &mut Vec<Part<'a>>, inner: Vec<Part<'a>>) -> Result<(), AllocError>
+    ensures { let its = aside (document_of (nodes_of inner.entry.items)) in
+        OnOk result (Adds (its ∷ []) parts.old.items parts.new.items) }
+{
+    parts.push(Part::Aside(inner))?;
     Ok(())
 }

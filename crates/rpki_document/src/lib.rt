@@ -11,6 +11,7 @@ mod parts;
 pub use as_json::json_of;
 pub use as_text::text_of;
 pub use building::{
-    add_each, add_further, add_head, add_inside, add_kept, add_line, add_told, add_unsaid,
+    add_aside, add_each, add_further, add_head, add_inside, add_kept, add_line, add_told,
+    add_unsaid,
 };
 pub use parts::{Leaf, Part, Piece};

@@ -55,4 +55,6 @@ pub enum Part<'a> {
     Inside(&'a str, Vec<Part<'a>>),
     /// Parts that are a list under a key.
     Each(&'a str, Vec<Part<'a>>),
+    /// Parts that are in no line.
+    Aside(Vec<Part<'a>>),
 }

@@ -8,8 +8,8 @@ use Rattle.std.proofs.lemmas.Slice.Eq.{bytes_eq-Decides}
 use Rattle.rpki_text.specs.declared.command_line.arguments.Format.{Format}
 use Rattle.rpki_text.specs.declared.command_line.arguments.Format.TheVariants.{Text, Json, JsonLines}
 use Rattle.rpki_text.specs.declared.command_line.arguments.Setting.{Setting}
-use Rattle.rpki_text.specs.declared.command_line.arguments.Setting.TheVariants.{Crl, Tal, In, Depth, StepCount, At, MaxSize, Output, ShortOutput}
-use Rattle.rpki_text.specs.CommandLines.{IsFormatName, LinePart, file, list, locator, folder, depth, steps, at_moment, max_size, output, lenient, json, quiet, all, no_names, trust_first, no_crl, help, setting_name, IsPart}
+use Rattle.rpki_text.specs.declared.command_line.arguments.Setting.TheVariants.{Crl, Tal, In, Depth, StepCount, At, MaxSize, Output, ShortOutput, Only}
+use Rattle.rpki_text.specs.CommandLines.{IsFormatName, LinePart, file, list, locator, folder, depth, steps, at_moment, max_size, output, lenient, json, quiet, all, no_names, trust_first, no_crl, strict_exit, only_rejected, help, setting_name, IsPart}
 use Rattle.rpki_text.specs.WordParts.{BeginsNoPart, IsOption, GivesValue, Joins}
 use Rattle.rpki_text.proofs.JoinedNames.{is_equals}
 use Rattle.rpki_text.proofs.PartsOfWords.{Sort, single, before, joining, Grammar, Shape, IsClear, alone_is, given_is}
@@ -45,6 +45,7 @@ sort_of word =
     (cond (bytes_eq word (codes "--max-size")) (before MaxSize)
     (cond (bytes_eq word (codes "--output")) (before Output)
     (cond (bytes_eq word (codes "-o")) (before ShortOutput)
+    (cond (bytes_eq word (codes "--only")) (before Only)
     (cond (bytes_eq word (codes "--lenient")) (single lenient)
     (cond (bytes_eq word (codes "--json")) (single json)
     (cond (bytes_eq word (codes "-j")) (single json)
@@ -54,6 +55,7 @@ sort_of word =
     (cond (bytes_eq word (codes "--no-names")) (single no_names)
     (cond (bytes_eq word (codes "--trust-first")) (single trust_first)
     (cond (bytes_eq word (codes "--no-crl")) (single no_crl)
+    (cond (bytes_eq word (codes "--strict-exit")) (single strict_exit)
     (cond (bytes_eq word (codes "--help")) (single help)
     (cond (bytes_eq word (codes "-h")) (single help)
     (joining_or Crl (stripped (codes "--crl=") word)
@@ -65,7 +67,8 @@ sort_of word =
     (joining_or MaxSize (stripped (codes "--max-size=") word)
     (joining_or Output (stripped (codes "--output=") word)
     (joining_or ShortOutput (stripped (codes "-o=") word)
-    (single (file word))))))))))))))))))))))))))))))
+    (joining_or Only (stripped (codes "--only=") word)
+    (single (file word)))))))))))))))))))))))))))))))))
 
 -- an option that takes a value
 named : (setting : Setting) → sort_of (setting_name setting) ≡ before setting
@@ -79,6 +82,7 @@ named At = refl
 named MaxSize = refl
 named Output = refl
 named ShortOutput = refl
+named Only = refl
 
 joined : (setting : Setting) (value : List ℕ) → sort_of (setting_name setting ++ codes "=" ++ value) ≡ joining setting value
 unfolding sort_of stripped joining_or
@@ -91,6 +95,7 @@ joined At value = refl
 joined MaxSize value = refl
 joined Output value = refl
 joined ShortOutput value = refl
+joined Only value = refl
 
 -- what stands before its first `=` is its name
 pub front_is : (setting : Setting) (value : List ℕ) → before_first is_equals (setting_name setting ++ codes "=" ++ value) ≡ setting_name setting
@@ -103,6 +108,7 @@ front_is At value = refl
 front_is MaxSize value = refl
 front_is Output value = refl
 front_is ShortOutput value = refl
+front_is Only value = refl
 
 -- a file isn't this option
 unlike : (word option : List ℕ) → (IsOption word → ⊥) → IsOption option → bytes_eq word option ≡ false
@@ -135,7 +141,7 @@ not_stripped c cs (w ∷ v ∷ ws) not_option =
 file_sort : (word : List ℕ) → (IsOption word → ⊥) → sort_of word ≡ single (file word)
 unfolding sort_of joining_or
 file_sort word not_option =
-    rw (unlike word (codes "--crl") not_option (refl, lit< tt), unlike word (codes "--tal") not_option (refl, lit< tt), unlike word (codes "--in") not_option (refl, lit< tt), unlike word (codes "--depth") not_option (refl, lit< tt), unlike word (codes "--steps") not_option (refl, lit< tt), unlike word (codes "--at") not_option (refl, lit< tt), unlike word (codes "--max-size") not_option (refl, lit< tt), unlike word (codes "--output") not_option (refl, lit< tt), unlike word (codes "-o") not_option (refl, lit< tt), unlike word (codes "--lenient") not_option (refl, lit< tt), unlike word (codes "--json") not_option (refl, lit< tt), unlike word (codes "-j") not_option (refl, lit< tt), unlike word (codes "--quiet") not_option (refl, lit< tt), unlike word (codes "-q") not_option (refl, lit< tt), unlike word (codes "--all") not_option (refl, lit< tt), unlike word (codes "--no-names") not_option (refl, lit< tt), unlike word (codes "--trust-first") not_option (refl, lit< tt), unlike word (codes "--no-crl") not_option (refl, lit< tt), unlike word (codes "--help") not_option (refl, lit< tt), unlike word (codes "-h") not_option (refl, lit< tt), not_stripped 45 (codes "crl=") word not_option, not_stripped 45 (codes "tal=") word not_option, not_stripped 45 (codes "in=") word not_option, not_stripped 45 (codes "depth=") word not_option, not_stripped 45 (codes "steps=") word not_option, not_stripped 45 (codes "at=") word not_option, not_stripped 45 (codes "max-size=") word not_option, not_stripped 45 (codes "output=") word not_option, not_stripped 111 (codes "=") word not_option) refl
+    rw (unlike word (codes "--crl") not_option (refl, lit< tt), unlike word (codes "--tal") not_option (refl, lit< tt), unlike word (codes "--in") not_option (refl, lit< tt), unlike word (codes "--depth") not_option (refl, lit< tt), unlike word (codes "--steps") not_option (refl, lit< tt), unlike word (codes "--at") not_option (refl, lit< tt), unlike word (codes "--max-size") not_option (refl, lit< tt), unlike word (codes "--output") not_option (refl, lit< tt), unlike word (codes "-o") not_option (refl, lit< tt), unlike word (codes "--only") not_option (refl, lit< tt), unlike word (codes "--lenient") not_option (refl, lit< tt), unlike word (codes "--json") not_option (refl, lit< tt), unlike word (codes "-j") not_option (refl, lit< tt), unlike word (codes "--quiet") not_option (refl, lit< tt), unlike word (codes "-q") not_option (refl, lit< tt), unlike word (codes "--all") not_option (refl, lit< tt), unlike word (codes "--no-names") not_option (refl, lit< tt), unlike word (codes "--trust-first") not_option (refl, lit< tt), unlike word (codes "--no-crl") not_option (refl, lit< tt), unlike word (codes "--strict-exit") not_option (refl, lit< tt), unlike word (codes "--help") not_option (refl, lit< tt), unlike word (codes "-h") not_option (refl, lit< tt), not_stripped 45 (codes "crl=") word not_option, not_stripped 45 (codes "tal=") word not_option, not_stripped 45 (codes "in=") word not_option, not_stripped 45 (codes "depth=") word not_option, not_stripped 45 (codes "steps=") word not_option, not_stripped 45 (codes "at=") word not_option, not_stripped 45 (codes "max-size=") word not_option, not_stripped 45 (codes "output=") word not_option, not_stripped 111 (codes "=") word not_option, not_stripped 45 (codes "only=") word not_option) refl
 
 -- ---- a part
 
@@ -169,6 +175,7 @@ one_set StepCount value p q h k = h.1 ∙ ap steps (sym h.2.1 ∙ k.2.1) ∙ sym
 one_set MaxSize value p q h k = h.1 ∙ ap max_size (sym h.2.1 ∙ k.2.1) ∙ sym k.1
 one_set Output value p q h k = h.1 ∙ ap output (one_format h.0 k.0 value h.2 k.2) ∙ sym k.1
 one_set ShortOutput value p q h k = h.1 ∙ ap output (one_format h.0 k.0 value h.2 k.2) ∙ sym k.1
+one_set Only value p q h k = h.0 ∙ sym k.0
 
 -- the parts of a command line
 abbrev pub line_grammar : Grammar LinePart Setting
@@ -204,6 +211,8 @@ shape all words h = alone_is line_grammar all words (codes "--all") h refl
 shape no_names words h = alone_is line_grammar no_names words (codes "--no-names") h refl
 shape trust_first words h = alone_is line_grammar trust_first words (codes "--trust-first") h refl
 shape no_crl words h = alone_is line_grammar no_crl words (codes "--no-crl") h refl
+shape strict_exit words h = alone_is line_grammar strict_exit words (codes "--strict-exit") h refl
+shape only_rejected words h = line_given Only (codes "rejected") only_rejected words (refl, refl) h
 shape help words (inl h) = alone_is line_grammar help words (codes "--help") h refl
 shape help words (inr h) = alone_is line_grammar help words (codes "-h") h refl
 
@@ -218,6 +227,8 @@ set_is_part StepCount value part words set gives = subst (λ (p : LinePart). IsP
 set_is_part MaxSize value part words set gives = subst (λ (p : LinePart). IsPart p words) (sym set.1) (value, gives, set.2)
 set_is_part Output value part words set gives = subst (λ (p : LinePart). IsPart p words) (sym set.1) (value, inl gives, set.2)
 set_is_part ShortOutput value part words set gives = subst (λ (p : LinePart). IsPart p words) (sym set.1) (value, inr gives, set.2)
+set_is_part Only value part words set gives =
+    subst (λ (p : LinePart). IsPart p words) (sym set.0) (subst (λ (v : List ℕ). GivesValue (codes "--only") v words) set.1 gives)
 
 -- which tells all parts apart
 pub line_clear : IsClear line_grammar
@@ -251,5 +262,7 @@ module _ (word : List ℕ) (is_option : IsOption word) (unnamed : (setting : Set
   no_option no_names its behind rest is e = no_switch no_names cc
   no_option trust_first its behind rest is e = no_switch trust_first cc
   no_option no_crl its behind rest is e = no_switch no_crl cc
+  no_option strict_exit its behind rest is e = no_switch strict_exit cc
+  no_option only_rejected its behind rest is e = not_given Only (codes "rejected") its behind rest is e
   no_option help its behind rest (inl is) e = no_switch help (inl cc)
   no_option help its behind rest (inr is) e = no_switch help (inr cc)

@@ -5,8 +5,8 @@ use Rattle.rpki_text.specs.declared.command_line.arguments.Misuse.{Misuse}
 use Rattle.rpki_text.specs.declared.command_line.arguments.Misuse.TheVariants.{Unknown, NoFile, OneFile, ListsIn, NoLocator, NoLocatorIn, BoundsIn, InputIn, NoAnchor, BothAnchors, NoLists, BothLists}
 use Rattle.rpki_text.specs.declared.command_line.arguments.Task.{Task}
 use Rattle.rpki_text.specs.declared.command_line.arguments.Task.TheVariants.{Show, Validate, Tree, Help, Version}
-use Rattle.rpki_text.specs.CommandLines.{RequestFields, AsksNoBounds, AsksSearch, GivesLists, LeavesNothingOut, SaysAnchor, SaysLists, Suits, SuitsFolders}
-use Rattle.rpki_text.specs.Misuses.{IsExtra, IsLeftOutBy, IsReason, SeeksPath}
+use Rattle.rpki_text.specs.CommandLines.{RequestFields, AsksNoBounds, AsksNoTree, AsksSearch, GivesLists, LeavesNothingOut, SaysAnchor, SaysLists, Suits, SuitsFolders}
+use Rattle.rpki_text.specs.Misuses.{IsExtra, IsLeftOutBy, IsOfTree, IsReason, SeeksPath}
 
 -- the task wants files
 some_files : (task : Task) (r : RequestFields) → task ≢ Help → task ≢ Version → Suits task r → r.files ≢ []
@@ -53,6 +53,11 @@ both_lists r some left (inl says) = false≢true (sym says.1 ∙ left)
 both_lists r (inl some) left (inr says) = some says.0
 both_lists r (inr some) left (inr says) = some says.1
 
+-- an option is given that only a tree takes
+of_tree : (name : List ℕ) (r : RequestFields) → IsOfTree name r → AsksNoTree r → ⊥
+of_tree name r (inl given) nothing = false≢true (sym nothing.0 ∙ given.1)
+of_tree name r (inr given) nothing = false≢true (sym nothing.1 ∙ given.1)
+
 -- an option is given that the task doesn't take
 extra_unsuited : (task : Task) (name : List ℕ) (r : RequestFields) → IsExtra task name r → Suits task r → ⊥
 extra_unsuited Show name r (inl given) suits = given.1 suits.1.0
@@ -61,8 +66,10 @@ extra_unsuited Show name r (inr (inr (inl given))) suits = given.1 suits.1.2
 extra_unsuited Show name r (inr (inr (inr (inl given)))) suits = false≢true (sym given.1 ∙ suits.1.3)
 extra_unsuited Show name r (inr (inr (inr (inr (inl given))))) suits = left_out name r given suits.1.4
 extra_unsuited Show name r (inr (inr (inr (inr (inr (inl given)))))) suits = given.1 suits.1.5.0
-extra_unsuited Show name r (inr (inr (inr (inr (inr (inr given)))))) suits = given.1 suits.1.5.1
-extra_unsuited Validate name r given suits = false≢true (sym suits.1 ∙ given.1)
+extra_unsuited Show name r (inr (inr (inr (inr (inr (inr (inl given))))))) suits = given.1 suits.1.5.1
+extra_unsuited Show name r (inr (inr (inr (inr (inr (inr (inr given))))))) suits = of_tree name r given suits.2
+extra_unsuited Validate name r (inl given) suits = false≢true (sym suits.1 ∙ given.1)
+extra_unsuited Validate name r (inr given) suits = of_tree name r given suits.5
 extra_unsuited Tree name r (inl given) suits = given.1 suits.1.0
 extra_unsuited Tree name r (inr (inl given)) suits = given.1 suits.1.1
 extra_unsuited Tree name r (inr (inr (inl given))) suits = false≢true (sym suits.1.2 ∙ given.1)

@@ -9,8 +9,8 @@ use Rattle.rpki_text.specs.declared.command_line.arguments.Format.{Format}
 use Rattle.rpki_text.specs.declared.command_line.arguments.Misuse.{Misuse}
 use Rattle.rpki_text.specs.declared.command_line.arguments.Misuse.TheVariants.{Unknown, NoValue, WrongValue}
 use Rattle.rpki_text.specs.declared.command_line.arguments.Setting.{Setting}
-use Rattle.rpki_text.specs.declared.command_line.arguments.Setting.TheVariants.{At, MaxSize}
-use Rattle.rpki_text.specs.CommandLines.{IsFormatName, IsNumberText, IsPart, LinePart, lenient, json, quiet, all, no_names, trust_first, no_crl, help, AreParts, RequestFields, setting_name, with_part}
+use Rattle.rpki_text.specs.declared.command_line.arguments.Setting.TheVariants.{At, MaxSize, Only}
+use Rattle.rpki_text.specs.CommandLines.{IsFormatName, IsNumberText, IsPart, LinePart, lenient, json, quiet, all, no_names, trust_first, no_crl, strict_exit, help, AreParts, RequestFields, setting_name, with_part}
 use Rattle.rpki_text.specs.CommandLines.Steps.{IsOptionName, IsSetPart, IsSwitch}
 use Rattle.rpki_text.specs.CommandLines.Views.{word_octets}
 use Rattle.rpki_text.specs.Misuses.{BeginsWith, IsUnknownOption, IsWrongFirst}
@@ -53,6 +53,10 @@ no_format setting value (inr is) none part set =
 pub no_moment : (value : List ℕ) → ((m : Moment) → IsMoment m → IsMomentText m value → ⊥) → (part : LinePart) → IsSetPart At value part → ⊥
 no_moment value none part set = none set.0 set.2 set.3
 
+-- that of what is printed alone, and another value
+pub not_only : (value : List ℕ) → (value ≡ codes "rejected" → ⊥) → (part : LinePart) → IsSetPart Only value part → ⊥
+not_only value none part set = none set.1
+
 -- a value that an option doesn't take is told
 pub value_told : (setting : Setting) (value : Bor (List ℕ)) → ((part : LinePart) → IsSetPart setting value.now part → ⊥) → TellsValue (WrongValue setting value) setting value.now
 value_told setting value none words begins =
@@ -90,6 +94,7 @@ switch_part all word is = ap (λ (w : List ℕ). w ∷ []) is
 switch_part no_names word is = ap (λ (w : List ℕ). w ∷ []) is
 switch_part trust_first word is = ap (λ (w : List ℕ). w ∷ []) is
 switch_part no_crl word is = ap (λ (w : List ℕ). w ∷ []) is
+switch_part strict_exit word is = ap (λ (w : List ℕ). w ∷ []) is
 switch_part help word (inl is) = inl (ap (λ (w : List ℕ). w ∷ []) is)
 switch_part help word (inr is) = inr (ap (λ (w : List ℕ). w ∷ []) is)
 switch_part _ word is = absurd is

@@ -8,7 +8,7 @@ use Rattle.rpki_text.specs.WordParts.{IsOption, GivesValue, AreInOrder, words_be
 use Rattle.rpki_text.specs.declared.command_line.arguments.Format.{Format}
 use Rattle.rpki_text.specs.declared.command_line.arguments.Format.TheVariants.{Text, Json, JsonLines}
 use Rattle.rpki_text.specs.declared.command_line.arguments.Setting.{Setting}
-use Rattle.rpki_text.specs.declared.command_line.arguments.Setting.TheVariants.{Crl, Tal, In, Depth, StepCount, At, MaxSize, Output, ShortOutput}
+use Rattle.rpki_text.specs.declared.command_line.arguments.Setting.TheVariants.{Crl, Tal, In, Depth, StepCount, At, MaxSize, Output, ShortOutput, Only}
 use Rattle.rpki_text.specs.declared.command_line.arguments.Task.{Task}
 use Rattle.rpki_text.specs.declared.command_line.arguments.Task.TheVariants.{Show, Validate, Tree, Help, Version}
 pub mod Views
@@ -35,6 +35,7 @@ setting_name At = codes "--at"
 setting_name MaxSize = codes "--max-size"
 setting_name Output = codes "--output"
 setting_name ShortOutput = codes "-o"
+setting_name Only = codes "--only"
 
 -- the text is a number below 2^64 in decimal digits
 abbrev pub IsNumberText : ℕ → List ℕ → Type 0
@@ -52,7 +53,7 @@ pub data LinePart : Type 0 where
   at_moment : Moment → LinePart
   depth steps max_size : ℕ → LinePart
   output : Format → LinePart
-  lenient json quiet all no_names trust_first no_crl help : LinePart
+  lenient json quiet all no_names trust_first no_crl strict_exit only_rejected help : LinePart
 
 -- the words are this part
 abbrev pub IsPart : LinePart → List (List ℕ) → Type 0
@@ -79,6 +80,8 @@ IsPart all words = words ≡ codes "--all" ∷ []
 IsPart no_names words = words ≡ codes "--no-names" ∷ []
 IsPart trust_first words = words ≡ codes "--trust-first" ∷ []
 IsPart no_crl words = words ≡ codes "--no-crl" ∷ []
+IsPart strict_exit words = words ≡ codes "--strict-exit" ∷ []
+IsPart only_rejected words = GivesValue (setting_name Only) (codes "rejected") words
 IsPart help words = (words ≡ codes "--help" ∷ []) ⊎ (words ≡ codes "-h" ∷ [])
 
 -- the words are these parts, in any order
@@ -91,8 +94,9 @@ AreParts parts words = AreInOrder IsPart parts words
 -- printed, whether nothing is printed, whether all entries of a list are printed, how many octets a
 -- file may have, whether names of issuer and subject have to be the same, the files, those given as
 -- CRLs and as TALs, the folders in which a path is sought, whether the first certificate is trusted
--- without a TAL, whether revocation isn't checked, and, if they are given, how many certificates a
--- path has at most below the trust anchor, and how many are verified at most
+-- without a TAL, whether revocation isn't checked, whether damage of a cache is an error, whether only
+-- certificates that aren't accepted are printed, and, if they are given, how many certificates a path
+-- has at most below the trust anchor, and how many are verified at most
 pub record RequestFields : Type 0 where
   pub task : Task
   pub at : Option Moment
@@ -108,6 +112,8 @@ pub record RequestFields : Type 0 where
   pub folders : List (List ℕ)
   pub trust_first : Bool
   pub no_crl : Bool
+  pub strict_exit : Bool
+  pub only_rejected : Bool
   pub depth : Option ℕ
   pub steps : Option ℕ
 
@@ -133,6 +139,8 @@ only_task task =
       folders = [];
       trust_first = false;
       no_crl = false;
+      strict_exit = false;
+      only_rejected = false;
       depth = None;
       steps = None;
     }
@@ -159,6 +167,8 @@ with_part r all = record r { all_entries = true }
 with_part r no_names = record r { names = false }
 with_part r trust_first = record r { trust_first = true }
 with_part r no_crl = record r { no_crl = true }
+with_part r strict_exit = record r { strict_exit = true }
+with_part r only_rejected = record r { only_rejected = true }
 with_part r help = record r { task = Help }
 
 -- with what these parts say, one after the other
@@ -204,6 +214,10 @@ AsksTree r =
     (r.lists ≡ []) × (r.folders ≡ []) × (r.all_entries ≡ false) × LeavesNothingOut r
     × (r.locators ≢ [])
 
+-- nothing is said that only a tree is asked about
+abbrev pub AsksNoTree : RequestFields → Type 0
+AsksNoTree r = (r.strict_exit ≡ false) × (r.only_rejected ≡ false)
+
 -- it is said once what the trust anchor is compared with: TALs, or nothing
 abbrev pub SaysAnchor : RequestFields → Type 0
 SaysAnchor r =
@@ -221,9 +235,10 @@ SaysLists r =
 
 -- what the task wants: files, and no option that only another task takes
 abbrev pub Suits : Task → RequestFields → Type 0
-Suits Show r = (r.files ≢ []) × AsksNoPath r
+Suits Show r = (r.files ≢ []) × AsksNoPath r × AsksNoTree r
 Suits Validate r =
     (r.files ≢ []) × (r.all_entries ≡ false) × SuitsFolders r.folders r × SaysAnchor r × SaysLists r
+    × AsksNoTree r
 Suits Tree r = (r.files ≢ []) × AsksTree r
 Suits _ r = Unit {0}
 

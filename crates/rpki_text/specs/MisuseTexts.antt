@@ -5,7 +5,7 @@ use Rattle.rpki_text.specs.CommandLines.{setting_name}
 use Rattle.rpki_text.specs.declared.command_line.arguments.Misuse.{Misuse}
 use Rattle.rpki_text.specs.declared.command_line.arguments.Misuse.TheVariants.{NoTask, UnknownTask, Unknown, NoValue, WrongValue, NoFile, OneFile, ListsIn, NoLocator, NoLocatorIn, BoundsIn, InputIn, NoAnchor, BothAnchors, NoLists, BothLists, Memory}
 use Rattle.rpki_text.specs.declared.command_line.arguments.Setting.{Setting}
-use Rattle.rpki_text.specs.declared.command_line.arguments.Setting.TheVariants.{Crl, Tal, In, Depth, StepCount, At, MaxSize, Output, ShortOutput}
+use Rattle.rpki_text.specs.declared.command_line.arguments.Setting.TheVariants.{Crl, Tal, In, Depth, StepCount, At, MaxSize, Output, ShortOutput, Only}
 
 -- what names a command
 abbrev pub commands : List ℕ
@@ -22,6 +22,7 @@ value_kind At = codes "a time"
 value_kind MaxSize = codes "a number below 2^64"
 value_kind Output = codes "an output format"
 value_kind ShortOutput = codes "an output format"
+value_kind Only = codes "a verdict to print alone"
 
 -- which values it takes
 abbrev pub expected_value : Setting → List ℕ
@@ -34,6 +35,7 @@ expected_value At = codes "YYYY-MM-DD[THH:MM:SSZ]"
 expected_value MaxSize = codes "a number of bytes"
 expected_value Output = codes "text, json or jsonl"
 expected_value ShortOutput = codes "text, json or jsonl"
+expected_value Only = codes "rejected"
 
 -- the option with a value that it doesn't take
 abbrev pub wrong_value_text : Setting → List ℕ → List ℕ

@@ -48,6 +48,12 @@ IsLeftOutBy name r =
     ((name ≡ codes "--trust-first") × (r.trust_first ≡ true))
     ⊎ ((name ≡ codes "--no-crl") × (r.no_crl ≡ true))
 
+-- an option of this name is given that only a tree takes
+abbrev pub IsOfTree : List ℕ → RequestFields → Type 0
+IsOfTree name r =
+    ((name ≡ codes "--strict-exit") × (r.strict_exit ≡ true))
+    ⊎ ((name ≡ codes "--only") × (r.only_rejected ≡ true))
+
 -- an option of this name is given, and the task doesn't take it
 abbrev pub IsExtra : Task → List ℕ → RequestFields → Type 0
 IsExtra Show name r =
@@ -57,8 +63,8 @@ IsExtra Show name r =
     ⊎ (((name ≡ codes "--no-names") × (r.names ≡ false))
     ⊎ (IsLeftOutBy name r
     ⊎ (((name ≡ codes "--depth") × (r.depth ≢ None))
-    ⊎ ((name ≡ codes "--steps") × (r.steps ≢ None)))))))
-IsExtra Validate name r = (name ≡ codes "--all") × (r.all_entries ≡ true)
+    ⊎ (((name ≡ codes "--steps") × (r.steps ≢ None)) ⊎ IsOfTree name r))))))
+IsExtra Validate name r = ((name ≡ codes "--all") × (r.all_entries ≡ true)) ⊎ IsOfTree name r
 IsExtra Tree name r =
     ((name ≡ codes "--crl") × (r.lists ≢ []))
     ⊎ (((name ≡ codes "--in") × (r.folders ≢ []))

@@ -1,6 +1,6 @@
 -- What stands above a file to which no valid path leads.
 use Rattle.std.specs.Prelude.{Option, Some, None, MatchOption, slice_get}
-use Rattle.std.proofs.Common.{◌≡◌, ◌≢◌, ◌+◌, ◌↔◌, ℕ, true, false, List, [], ◌∷◌, ◌++◌, sym, ap, subst, ◌∙◌, inl, inr, append_assoc}
+use Rattle.std.proofs.Common.{◌≡◌, ◌≢◌, ◌+◌, ◌↔◌, ℕ, Bool, true, false, List, [], ◌∷◌, ◌++◌, sym, ap, subst, ◌∙◌, inl, inr, append_assoc}
 use Rattle.std.proofs.lemmas.List.{append-nil}
 use Rattle.rpki_cert.specs.Certificates.{CertFields, IsCertificate}
 use Rattle.rpki_folder.specs.Folders.{NamesSigner}
@@ -60,15 +60,15 @@ module _ (tree : Tree) (file : FileFields) where
   -- ---- the files
 
   -- what stands above the file was added
-  abbrev pub Adds : ℕ → List FileFields → List FileFields → Type 0
-  Adds most old new = (above : List FileFields) × AreAbove tree most file above × (new ≡ old ++ above)
+  abbrev pub Adds : ℕ → List FileFields → Bool → List FileFields → Type 0
+  Adds most old reach new = (above : List FileFields) × AreAbove tree most file above reach × (new ≡ old ++ above)
 
-  pub adds_none : (old : List FileFields) → Adds 0 old old
+  pub adds_none : (old : List FileFields) → Adds 0 old false old
   adds_none old = ([], no_more file, sym (append-nil old))
 
   module _ (m most : ℕ) (more : m + 1 ≡ most) (old : List FileFields) where
-    pub adds_no_issuer : HasNoIssuer tree file → Adds most old old
-    adds_no_issuer none = subst (λ (n : ℕ). Adds n old old) more ([], no_issuer m file none, sym (append-nil old))
+    pub adds_no_issuer : HasNoIssuer tree file → Adds most old false old
+    adds_no_issuer none = subst (λ (n : ℕ). Adds n old false old) more ([], no_issuer m file none, sym (append-nil old))
 
     -- the issuer behind others
     module _ (place : ℕ) (has : HasIssuerAt place) (mid new : List FileFields) (one : new ≡ mid ++ files_at (certs_of tree) (place ∷ [])) where
@@ -77,20 +77,20 @@ module _ (tree : Tree) (file : FileFields) where
           one ∙ ap (λ (l : List FileFields). mid ++ l) (file_there (certs_of tree) place has.0 has.1.issuer_is)
           ∙ ap (λ (l : List FileFields). l ++ has.0 ∷ []) so_far ∙ append_assoc old over (has.0 ∷ [])
 
-      pub adds_accepted : (above : List ℕ) → above_by (slice_get tree.lines place) ≡ Some above → mid ≡ old ++ files_at (certs_of tree) (tree.anchor ∷ above) → Adds most old new
+      pub adds_accepted : (above : List ℕ) → above_by (slice_get tree.lines place) ≡ Some above → mid ≡ old ++ files_at (certs_of tree) (tree.anchor ∷ above) → Adds most old true new
       adds_accepted above line so_far =
           let over = files_at (certs_of tree) (tree.anchor ∷ above) in
-          subst (λ (n : ℕ). Adds n old new) more (over ++ has.0 ∷ [], accepted m file has.0 place above has.1 line, behind over so_far)
+          subst (λ (n : ℕ). Adds n old true new) more (over ++ has.0 ∷ [], accepted m file has.0 place above has.1 line, behind over so_far)
 
-      pub adds_top : place ≡ tree.anchor → above_by (slice_get tree.lines place) ≡ None → mid ≡ old → Adds most old new
+      pub adds_top : place ≡ tree.anchor → above_by (slice_get tree.lines place) ≡ None → mid ≡ old → Adds most old true new
       adds_top top line same =
           let is = subst (λ (n : ℕ). IsIssuerAt tree file n has.0) top has.1 in
           let unled = subst (λ (n : ℕ). above_by (slice_get tree.lines n) ≡ None) top line in
-          subst (λ (n : ℕ). Adds n old new) more (has.0 ∷ [], at_top m file has.0 is unled, behind [] (same ∙ sym (append-nil old)))
+          subst (λ (n : ℕ). Adds n old true new) more (has.0 ∷ [], at_top m file has.0 is unled, behind [] (same ∙ sym (append-nil old)))
 
-      pub adds_named : (there : FileFields) → slice_get (certs_of tree) place ≡ Some there → above_by (slice_get tree.lines place) ≡ None → place ≢ tree.anchor → (over : List FileFields) → AreAbove tree m there over → mid ≡ old ++ over → Adds most old new
-      adds_named there there_is line other over above so_far =
+      pub adds_named : (there : FileFields) → slice_get (certs_of tree) place ≡ Some there → above_by (slice_get tree.lines place) ≡ None → place ≢ tree.anchor → (over : List FileFields) (reach : Bool) → AreAbove tree m there over reach → mid ≡ old ++ over → Adds most old reach new
+      adds_named there there_is line other over reach above so_far =
           let both : Some there ≡ Some has.0 = sym there_is ∙ has.1.issuer_is in
           let same : there ≡ has.0 = cc in
-          let are = subst (λ (f : FileFields). AreAbove tree m f over) same above in
-          subst (λ (n : ℕ). Adds n old new) more (over ++ has.0 ∷ [], named m file has.0 place over has.1 line other are, behind over so_far)
+          let are = subst (λ (f : FileFields). AreAbove tree m f over reach) same above in
+          subst (λ (n : ℕ). Adds n old reach new) more (over ++ has.0 ∷ [], named m file has.0 place over reach has.1 line other are, behind over so_far)

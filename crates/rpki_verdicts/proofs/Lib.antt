@@ -1,11 +1,15 @@
 -- Lemmas of the proofs about verdicts.
+mod CountedFiles
 mod FiledFiles
 mod FilesAbove
 mod FirstItems
+mod FirstOfKeys
 mod FoundLocators
 mod GivenKinds
+mod IssuersByKey
 pub mod MappedItems
 pub mod OneVerdict
+mod PartByPart
 mod ReadLists
 mod ReachedFiles
 mod ReadLocators

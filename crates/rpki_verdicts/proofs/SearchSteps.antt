@@ -1,9 +1,9 @@
 -- The path that is sought, file by file.
 use Rattle.std.specs.List.{AllByRecursion, cons_option}
-use Rattle.std.specs.Prelude.{Option, Some, None, Ok, Err, IsFalse, IsTrue, Result, IsOk, slice_get}
+use Rattle.std.specs.Prelude.{All, Any, Option, Some, None, Ok, Err, IsFalse, IsTrue, Result, IsOk, slice_get, slice_index_or}
 use Rattle.std.proofs.Common.{◌≡◌, ◌<◌, ℕ, Bool, true, false, not, List, [], ◌∷◌, ◌++◌, length, refl, sym, ap, subst, ◌∙◌, inl, inr, arith}
 use Rattle.std.proofs.lemmas.List.{append_assoc}
-use Rattle.std.proofs.lemmas.List.Elements.{All-from_recursion}
+use Rattle.std.proofs.lemmas.List.Elements.{All-contains, All-from_recursion}
 use Rattle.std.proofs.lemmas.Option.{slice_get_within, get_or_from_slice_get}
 use Rattle.rpki_path.specs.AskedLists.{by_named_lists}
 use Rattle.rpki_path.specs.Asking.{RevocationChecks}
@@ -26,11 +26,15 @@ use Rattle.rpki_folder.proofs.SearchSteps.{told_let_in}
 use Rattle.rpki_folder.specs.Folders.{octets_at}
 use Rattle.rpki_files.specs.Contents.{BeginsWithCertificate}
 use Rattle.rpki_files.specs.Files.{FileFields, contents}
-use Rattle.rpki_verdicts.specs.Searches.{HasNoValidPath, IsNamedPath, IsSoughtPath, alone, no_anchor, valid, invalid, IsTreeWith, IsValidAmong, IsValidPathTo, Leads, StandsAlone, above_by, files_at, first_wrong}
-use Rattle.rpki_verdicts.specs.Trees.{AreCertificatesOf, HasNoAnchor, IsTreeOf, TreeFields, certs_of, every}
+use Rattle.rpki_verdicts.specs.Searches.{DeniesFirst, DoesNotReach, HasNoValidIn, HasNoValidPath, IsAcceptedIn, IsNamedAmong, IsNamedIn, IsSoughtPath, alone, no_anchor, valid, invalid, IsTreeWith, IsUnanchored, IsValidAmong, IsValidPathTo, Leads, StandsAlone, above_by, files_at, first_wrong}
+use Rattle.rpki_verdicts.specs.GivenLocators.{LocatorFields}
+use Rattle.rpki_verdicts.specs.TreeParts.{AreTreesOf, IsPartOf, of_locator, worst_end, wrong_of}
+use Rattle.rpki_verdicts.specs.Trees.{AreCertificatesOf, IsTreeAnswer, IsTreeOf, TreeFields, certs_of, every}
 use Rattle.rpki_verdicts.proofs.ReachedFiles.{reached_files}
 use Rattle.rpki_verdicts.specs.declared.unordered.Tree.{Tree}
-use Rattle.rpki_verdicts.specs.declared.unordered.WrongAnchor.{WrongAnchor}
+use Rattle.rpki_verdicts.specs.declared.parts.Trees.{Trees}
+use Rattle.rpki_verdicts.specs.declared.unordered.TreeAnswer.{TreeAnswer}
+use Rattle.rpki_verdicts.specs.declared.unordered.TreeAnswer.TheVariants.{NoAnchor, Walked}
 
 -- ---- files at places
 
@@ -155,21 +159,10 @@ module _ (x : Context) (q : TreeFields) (file : FileFields) (tree : Tree) (is : 
         (tells.complete above 0 covers leads.1 leads.0);
   }
 
-  -- what is sought, of either
-  pub valid_in : (above : List ℕ) (path : List FileFields) → above_by (slice_get tree.lines 0) ≡ Some above → path ≡ files_at (certs_of tree) (tree.anchor ∷ above) ++ file ∷ [] → IsSoughtPath x q file path Whole
-  valid_in above path e path_is = valid path (valid_by above path e path_is)
+-- ---- a file alone
 
-  pub invalid_in : (path : List FileFields) → above_by (slice_get tree.lines 0) ≡ None → IsNamedPath tree file path → IsSoughtPath x q file path tree.ended
-  invalid_in path e named = invalid path tree (invalid_by e) named
-
--- ---- a file alone, and one where no trust anchor is valid
-
-module _ (x : Context) (q : TreeFields) (file : FileFields) (path : List FileFields) where
-  pub alone_in : StandsAlone q file → path ≡ file ∷ [] → IsSoughtPath x q file path Whole
-  alone_in stands path_is = subst (λ (l : List FileFields). IsSoughtPath x q file l Whole) (sym path_is) (alone stands)
-
-  pub no_anchor_in : (wrong : List WrongAnchor) → HasNoAnchor x q wrong → path ≡ first_wrong wrong ++ file ∷ [] → IsSoughtPath x q file path Whole
-  no_anchor_in wrong is path_is = subst (λ (l : List FileFields). IsSoughtPath x q file l Whole) (sym path_is) (no_anchor wrong is)
+pub alone_in : (x : Context) (q : TreeFields) (file : FileFields) (path : List FileFields) → StandsAlone q file → path ≡ file ∷ [] → IsSoughtPath x q file path Whole
+alone_in x q file path stands path_is = subst (λ (l : List FileFields). IsSoughtPath x q file l Whole) (sym path_is) (alone stands)
 
 -- what is sought to the first of the files is sought to whichever that is
 pub of_first : (x : Context) (q : TreeFields) (path : List FileFields) (ended : Ended) (all rest : List FileFields) (file : FileFields) → all ≡ file ∷ rest → IsSoughtPath x q file path ended → (first : FileFields) (more : List FileFields) → all ≡ first ∷ more → IsSoughtPath x q first path ended
@@ -194,3 +187,46 @@ with_first x q file more tree files_are begins grown = record {
   grown = grown;
   first_is = first_certificate file more (certs_of tree) begins (subst (λ (l : List FileFields). AreCertificatesOf l (certs_of tree)) files_are grown.certs_are);
 }
+
+-- ---- of all locators
+
+module _ (x : Context) (q : TreeFields) (file : FileFields) (more : List FileFields) (files_are : q.files ≡ file ∷ more) (begins : BeginsWithCertificate file.octets) where
+  -- of one of them
+  valid_of : (l : LocatorFields) (answer : TreeAnswer) → IsTreeAnswer x (of_locator q l) answer → (path : List FileFields) → IsAcceptedIn file path answer → IsValidPathTo x (of_locator q l) file path
+  valid_of l (NoAnchor wrong) is path h = absurd h
+  valid_of l (Walked tree) is path h =
+      valid_by x (of_locator q l) file tree (with_first x (of_locator q l) file more tree files_are begins is) h.0 path h.1 h.2
+
+  none_of : (l : LocatorFields) (answer : TreeAnswer) → IsTreeAnswer x (of_locator q l) answer → DeniesFirst answer → HasNoValidIn x (of_locator q l) file answer
+  none_of l (NoAnchor wrong) is denies = tt
+  none_of l (Walked tree) is denies =
+      invalid_by x (of_locator q l) file tree (with_first x (of_locator q l) file more tree files_are begins is) denies
+
+  module _ (trees : Trees) (are : AreTreesOf x q trees) (path : List FileFields) where
+    pub valid_among : Any (λ part. IsAcceptedIn file path part.answer) trees.parts.items → IsSoughtPath x q file path Whole
+    valid_among h =
+        let part = h.1 in
+        let is : IsPartOf x q part = All-contains (IsPartOf x q) trees.parts.items part are.parts_are (h.0, h.2, h.3) in
+        valid path trees are (h.0, part, h.2, h.3, valid_of part.locator.now part.answer is path h.4)
+
+    module _ (denies : All (λ part. DeniesFirst part.answer) trees.parts.items) where
+      pub named_sought : IsNamedAmong trees.parts.items file path → (ended : Ended) → ended ≡ worst_end trees.parts.items → IsSoughtPath x q file path ended
+      named_sought named ended ended_is =
+          subst (λ (e : Ended). IsSoughtPath x q file path e) (sym ended_is)
+          (invalid path trees are
+          (λ k d low. none_of (slice_index_or trees.parts.items k d).locator.now (slice_index_or trees.parts.items k d).answer (are.parts_are k d low) (denies k d low))
+          named)
+
+    pub unanchored_sought : All (λ part. IsUnanchored part.answer) trees.parts.items → path ≡ first_wrong (wrong_of trees.parts.items) ++ file ∷ [] → IsSoughtPath x q file path Whole
+    unanchored_sought none path_is = subst (λ (l : List FileFields). IsSoughtPath x q file l Whole) (sym path_is) (no_anchor trees are none)
+
+-- ---- those that name one another, part by part
+
+-- an answer without a tree reaches nowhere
+pub unanchored_stops : (file : FileFields) (answer : TreeAnswer) → IsUnanchored answer → DoesNotReach file answer
+unanchored_stops file (NoAnchor wrong) none = tt
+unanchored_stops file (Walked tree) none = absurd none
+
+pub named_stops : (file : FileFields) (path : List FileFields) (answer : TreeAnswer) → IsNamedIn answer file false path → DoesNotReach file answer
+named_stops file path (NoAnchor wrong) named = tt
+named_stops file path (Walked tree) named = (path, named)

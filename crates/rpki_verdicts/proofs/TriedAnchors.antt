@@ -107,6 +107,7 @@ module _ (x : Context) (asked : RevocationChecks) (names : Bool) (locators : Lis
   none_tried found no_best no_wrong = record {
     best = subst (λ (o : Option ValidAnchor). IsBestOf x asked names locators certs 0 o) (sym no_best) (λ k file t c low valid. absurd (omega (arith, low)));
     wrong_are = subst (λ (l : List WrongAnchor). AllByRecursion (λ w. IsWrongOf x asked names locators w.file.now w.fault) l) (sym no_wrong) tt;
+    wrong_stand = subst (λ (l : List WrongAnchor). AllByRecursion (λ w. slice_get certs w.place ≡ Some w.file.now) l) (sym no_wrong) tt;
     all = λ k file t low candidate. absurd (omega (arith, low));
   }
 
@@ -171,6 +172,7 @@ module _ (x : Context) (asked : RevocationChecks) (names : Bool) (locators : Lis
       no_key none = record {
         best = best_stays old.best are.best (λ t c valid. absurd (none (t, valid.candidate.locator_is)));
         wrong_are = are.wrong_are;
+        wrong_stand = are.wrong_stand;
         all = all_more old.wrong.items are.all (λ t candidate. absurd (none (t, candidate.locator_is)));
       }
 
@@ -184,17 +186,19 @@ module _ (x : Context) (asked : RevocationChecks) (names : Bool) (locators : Lis
       is_wrong : (fault : Fault) → IsWrongOf x asked names locators file fault → IsKept old n file (Wrong fault) new → AreTried x asked names locators certs (n + 1) new
       is_wrong fault wrong kept =
           let w = kept.1 in
-          let its : IsWrongOf x asked names locators w.file.now w.fault = rw (kept.2, kept.3) wrong in
+          let its : IsWrongOf x asked names locators w.file.now w.fault = rw (kept.3, kept.4) wrong in
+          let stands : slice_get certs w.place ≡ Some w.file.now = rw (kept.2, kept.3) there in
           record {
             best = subst (λ (o : Option ValidAnchor). IsBestOf x asked names locators certs (n + 1) o) (sym kept.0) (best_stays old.best are.best (λ t c valid. absurd (never_valid fault wrong t c valid)));
-            wrong_are = subst (λ (l : List WrongAnchor). AllByRecursion (λ w. IsWrongOf x asked names locators w.file.now w.fault) l) (sym kept.4) (all_both old.wrong.items w are.wrong_are its);
-            all = subst (λ (l : List WrongAnchor). AreEither l (n + 1)) (sym kept.4)
+            wrong_are = subst (λ (l : List WrongAnchor). AllByRecursion (λ w. IsWrongOf x asked names locators w.file.now w.fault) l) (sym kept.5) (all_both (λ w. IsWrongOf x asked names locators w.file.now w.fault) old.wrong.items w are.wrong_are its);
+            wrong_stand = subst (λ (l : List WrongAnchor). AllByRecursion (λ w. slice_get certs w.place ≡ Some w.file.now) l) (sym kept.5) (all_both (λ w. slice_get certs w.place ≡ Some w.file.now) old.wrong.items w are.wrong_stand stands);
+            all = subst (λ (l : List WrongAnchor). AreEither l (n + 1)) (sym kept.5)
                 (all_more (old.wrong.items ++ w ∷ []) (λ k other t low candidate. any_more old.wrong.items w k other (are.all k other t low candidate))
-                (λ t candidate. let c = Contains-push old.wrong.items w in inl (c.0, w, c.1, c.2, kept.2)));
+                (λ t candidate. let c = Contains-push old.wrong.items w in inl (c.0, w, c.1, c.2, kept.3)));
           } where
-            all_both : (l : List WrongAnchor) (w : WrongAnchor) → AllByRecursion (λ w. IsWrongOf x asked names locators w.file.now w.fault) l → IsWrongOf x asked names locators w.file.now w.fault → AllByRecursion (λ w. IsWrongOf x asked names locators w.file.now w.fault) (l ++ w ∷ [])
-            all_both [] w all one = (one, tt)
-            all_both (v ∷ l) w all one = (all.0, all_both l w all.1 one)
+            all_both : (P : WrongAnchor → Type 0) (l : List WrongAnchor) (w : WrongAnchor) → AllByRecursion P l → P w → AllByRecursion P (l ++ w ∷ [])
+            all_both P [] w all one = (one, tt)
+            all_both P (v ∷ l) w all one = (all.0, all_both P l w all.1 one)
 
       -- one that is valid
       module _ (t : NamedTal) (r : ResourceFields) (locator : IsAnchorOf locators t file) (leads : LeadsTo x asked (at_anchor t file.octets) [] r) (named : IsTrue names → IsSelfNamed r.cert) where
@@ -232,6 +236,7 @@ module _ (x : Context) (asked : RevocationChecks) (names : Bool) (locators : Lis
         with_best o best_is wrong_is best = record {
           best = subst (λ (o : Option ValidAnchor). IsBestOf x asked names locators certs (n + 1) o) (sym best_is) best;
           wrong_are = subst (λ (l : List WrongAnchor). AllByRecursion (λ w. IsWrongOf x asked names locators w.file.now w.fault) l) (sym wrong_is) are.wrong_are;
+          wrong_stand = subst (λ (l : List WrongAnchor). AllByRecursion (λ w. slice_get certs w.place ≡ Some w.file.now) l) (sym wrong_is) are.wrong_stand;
           all = subst (λ (l : List WrongAnchor). AreEither l (n + 1)) (sym wrong_is) (all_more old.wrong.items are.all (λ u candidate. inr (t, r.cert, here)));
         }
 

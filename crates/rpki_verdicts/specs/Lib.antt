@@ -5,4 +5,7 @@ pub mod Reasons
 pub mod PathAnswers
 pub mod UnrevokedMembers
 pub mod Trees
+pub mod Damage
+pub mod TreeParts
 pub mod Searches
+pub mod UnseenCertificates

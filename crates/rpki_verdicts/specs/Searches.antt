@@ -1,6 +1,6 @@
 -- The path to one file that is sought among others, in no order (RFC 6487 7.2, RFC 8630 3; own: the
 -- bounds).
-use Rattle.std.specs.Prelude.{◌≡◌, ◌≢◌, ◌⊎◌, ◌+◌, ◌<◌, ℕ, Bool, true, false, All, List, [], ◌∷◌, ◌++◌, length, slice_get, filter_map, Option, Some, None, IsSome, IsTrue}
+use Rattle.std.specs.Prelude.{◌≡◌, ◌≢◌, ◌⊎◌, ◌+◌, ◌<◌, ℕ, Bool, true, false, All, Any, List, [], ◌∷◌, ◌++◌, length, slice_get, filter_map, Option, Some, None, IsSome, IsTrue}
 use Rattle.rpki_path.specs.Asking.{RevocationChecks}
 use Rattle.rpki_path.specs.AskedLists.{by_named_lists}
 use Rattle.rpki_cert.specs.Certificates.{CertFields, IsCertificate}
@@ -18,8 +18,13 @@ use Rattle.rpki_folder.specs.Walks.{AreAdmitted, Covers, IsLookedAt, IsReached, 
 use Rattle.rpki_files.specs.Contents.{BeginsWithCertificate, IsList}
 use Rattle.rpki_files.specs.Files.{FileFields, contents}
 use Rattle.rpki_verdicts.specs.PathFiles.{IsGivenBy}
-use Rattle.rpki_verdicts.specs.Trees.{HasLocator, HasNoAnchor, IsTreeOf, TreeFields, certs_of, every}
+use Rattle.rpki_verdicts.specs.TreeParts.{AreTreesOf, of_locator, worst_end, wrong_of}
+use Rattle.rpki_verdicts.specs.Trees.{HasLocator, IsTreeOf, TreeFields, certs_of, every}
+use Rattle.rpki_verdicts.specs.declared.parts.TreePart.{TreePart}
+use Rattle.rpki_verdicts.specs.declared.parts.Trees.{Trees}
 use Rattle.rpki_verdicts.specs.declared.unordered.Tree.{Tree}
+use Rattle.rpki_verdicts.specs.declared.unordered.TreeAnswer.{TreeAnswer}
+use Rattle.rpki_verdicts.specs.declared.unordered.TreeAnswer.TheVariants.{NoAnchor, Walked}
 use Rattle.rpki_verdicts.specs.declared.unordered.WrongAnchor.{WrongAnchor}
 
 -- ---- valid paths
@@ -74,6 +79,18 @@ abbrev pub above_by : Option Line → Option (List ℕ)
 above_by (Some (line.Accepted path)) = Some path.above.items
 above_by _ = None
 
+-- the answer accepts the first certificate, which is that of the file, and this is the path to it
+abbrev pub IsAcceptedIn : FileFields → List FileFields → TreeAnswer → Type 0
+IsAcceptedIn file path (NoAnchor wrong) = ⊥
+IsAcceptedIn file path (Walked tree) =
+    (above : List ℕ) × (above_by (slice_get tree.lines 0) ≡ Some above)
+    × (path ≡ files_at (certs_of tree) (tree.anchor ∷ above) ++ file ∷ [])
+
+-- it doesn't accept it
+abbrev pub DeniesFirst : TreeAnswer → Type 0
+DeniesFirst (NoAnchor wrong) = Unit {0}
+DeniesFirst (Walked tree) = above_by (slice_get tree.lines 0) ≡ None
+
 -- ---- what stands above a file to which no valid path leads
 
 -- the file begins with a certificate that has the key of this identifier (RFC 5280 4.2.1.2)
@@ -116,31 +133,52 @@ HasNoIssuer tree file =
 -- These files stand above a file, from the top down, at most so many beside those of a valid path:
 -- none, where there may be no more, or the file has no issuer; else the issuer is the last one.
 -- Above that stand those of a valid path, where it is accepted; none, where it is the trust anchor;
--- and else what stands above it, likewise.
-pub data AreAbove (tree : Tree) : ℕ → FileFields → List FileFields → Type 0 where
-  no_more : (file : FileFields) → AreAbove tree 0 file []
+-- and else what stands above it, likewise. Behind them stands whether they reach up to the trust
+-- anchor.
+pub data AreAbove (tree : Tree) : ℕ → FileFields → List FileFields → Bool → Type 0 where
+  no_more : (file : FileFields) → AreAbove tree 0 file [] false
   no_issuer : (most : ℕ) (file : FileFields) → HasNoIssuer tree file
-      → AreAbove tree (most + 1) file []
+      → AreAbove tree (most + 1) file [] false
   accepted : (most : ℕ) (file issuer : FileFields) (place : ℕ) (above : List ℕ)
       → IsIssuerAt tree file place issuer → above_by (slice_get tree.lines place) ≡ Some above
       → AreAbove tree (most + 1) file
-      (files_at (certs_of tree) (tree.anchor ∷ above) ++ issuer ∷ [])
+      (files_at (certs_of tree) (tree.anchor ∷ above) ++ issuer ∷ []) true
   at_top : (most : ℕ) (file issuer : FileFields) → IsIssuerAt tree file tree.anchor issuer
       → above_by (slice_get tree.lines tree.anchor) ≡ None
-      → AreAbove tree (most + 1) file (issuer ∷ [])
+      → AreAbove tree (most + 1) file (issuer ∷ []) true
   named : (most : ℕ) (file issuer : FileFields) (place : ℕ) (above : List FileFields)
-      → IsIssuerAt tree file place issuer → above_by (slice_get tree.lines place) ≡ None
-      → place ≢ tree.anchor → AreAbove tree most issuer above
-      → AreAbove tree (most + 1) file (above ++ issuer ∷ [])
+      (reach : Bool) → IsIssuerAt tree file place issuer
+      → above_by (slice_get tree.lines place) ≡ None
+      → place ≢ tree.anchor → AreAbove tree most issuer above reach
+      → AreAbove tree (most + 1) file (above ++ issuer ∷ []) reach
 
 -- how many are told at most
 abbrev pub most_above : ℕ
 most_above = 32
 
--- the path is what stands above the file, and that file
-abbrev pub IsNamedPath : Tree → FileFields → List FileFields → Type 0
-IsNamedPath tree file path =
-    (above : List FileFields) × AreAbove tree most_above file above × (path ≡ above ++ file ∷ [])
+-- the path is what stands above the file, which reaches up to the trust anchor or not, and that file
+abbrev pub IsNamedPath : Tree → FileFields → Bool → List FileFields → Type 0
+IsNamedPath tree file reach path =
+    (above : List FileFields) × AreAbove tree most_above file above reach
+    × (path ≡ above ++ file ∷ [])
+
+-- the same of an answer that has a tree
+abbrev pub IsNamedIn : TreeAnswer → FileFields → Bool → List FileFields → Type 0
+IsNamedIn (NoAnchor wrong) file reach path = ⊥
+IsNamedIn (Walked tree) file reach path = IsNamedPath tree file reach path
+
+-- it has no tree, or what stands above the file there doesn't reach up to the trust anchor
+abbrev pub DoesNotReach : FileFields → TreeAnswer → Type 0
+DoesNotReach file (NoAnchor wrong) = Unit {0}
+DoesNotReach file (Walked tree) = (path : List FileFields) × IsNamedPath tree file false path
+
+-- the path is so in one of the parts: in one where it reaches up to the trust anchor; or in any,
+-- where it does so in none
+abbrev pub IsNamedAmong : List TreePart → FileFields → List FileFields → Type 0
+IsNamedAmong parts file path =
+    Any (λ part. IsNamedIn part.answer file true path) parts
+    ⊎ (Any (λ part. IsNamedIn part.answer file false path) parts
+    × All (λ part. DoesNotReach file part.answer) parts)
 
 -- ---- the path that is sought
 
@@ -156,15 +194,32 @@ abbrev pub first_wrong : List WrongAnchor → List FileFields
 first_wrong [] = []
 first_wrong (w ∷ wrong) = w.file.now ∷ []
 
--- The path that is sought to the first of the files: that one alone; where no trust anchor is valid,
--- below one that is wrong, or alone if there is none; a valid path, as of its certificates and lists; or, where there is none, the file below
+-- no trust anchor is valid
+abbrev pub IsUnanchored : TreeAnswer → Type 0
+IsUnanchored (NoAnchor wrong) = Unit {0}
+IsUnanchored (Walked tree) = ⊥
+
+-- the answer on one locator has no tree, or no valid path there
+abbrev pub HasNoValidIn : Context → TreeFields → FileFields → TreeAnswer → Type 0
+HasNoValidIn x q file (NoAnchor wrong) = Unit {0}
+HasNoValidIn x q file (Walked tree) = HasNoValidPath x q file tree
+
+-- The path that is sought to the first of the files: that one alone; where no locator has a valid
+-- trust anchor, below one that is wrong, or alone if there is none; a valid path from the trust
+-- anchor of one of them, as of its certificates and lists; or, where there is none, the file below
 -- those that name one another as signers, of which the verdict tells what is wrong. Beside it
 -- stands how far a valid one was looked for: a bound can only have been met where none was found.
 pub data IsSoughtPath (x : Context) (q : TreeFields) (file : FileFields)
     : List FileFields → Ended → Type 0 where
   alone : StandsAlone q file → IsSoughtPath x q file (file ∷ []) Whole
-  no_anchor : (wrong : List WrongAnchor) → HasNoAnchor x q wrong
-      → IsSoughtPath x q file (first_wrong wrong ++ file ∷ []) Whole
-  valid : (path : List FileFields) → IsValidPathTo x q file path → IsSoughtPath x q file path Whole
-  invalid : (path : List FileFields) (tree : Tree) → HasNoValidPath x q file tree
-      → IsNamedPath tree file path → IsSoughtPath x q file path tree.ended
+  no_anchor : (trees : Trees) → AreTreesOf x q trees
+      → All (λ part. IsUnanchored part.answer) trees.parts.items
+      → IsSoughtPath x q file (first_wrong (wrong_of trees.parts.items) ++ file ∷ []) Whole
+  valid : (path : List FileFields) (trees : Trees) → AreTreesOf x q trees
+      → Any (λ part. IsValidPathTo x (of_locator q part.locator.now) file path) trees.parts.items
+      → IsSoughtPath x q file path Whole
+  invalid : (path : List FileFields) (trees : Trees) → AreTreesOf x q trees
+      → All (λ part. HasNoValidIn x (of_locator q part.locator.now) file part.answer)
+      trees.parts.items
+      → IsNamedAmong trees.parts.items file path
+      → IsSoughtPath x q file path (worst_end trees.parts.items)

@@ -5,16 +5,14 @@ use Rattle.std.specs.List.{AllByRecursion}
 use Rattle.std.specs.Ordering.{nat_cmp, ordering_then}
 use Rattle.std.specs.declared.cmp.Ordering.{Ordering}
 use Rattle.std.specs.declared.cmp.Ordering.TheVariants.{Less}
-use Rattle.std.specs.Prelude.{◌≡◌, ◌≢◌, ◌⊎◌, ℕ, List, [], ◌∷◌, length, map, slice_get, Any, Some, Ok, Bool, true, false, IsTrue, count_by}
+use Rattle.std.specs.Prelude.{◌≡◌, ◌⊎◌, ℕ, List, [], ◌∷◌, length, map, slice_get, Any, Some, Ok, Bool}
 use Rattle.rpki_path.specs.Asking.{RevocationChecks}
 use Rattle.rpki_path.specs.AskedLists.{by_named_lists}
 use Rattle.rpki_cert.specs.Certificates.{CertFields, IsCertificate}
 use Rattle.rpki_der.specs.Encoding.{Means}
 use Rattle.rpki_folder.specs.Folders.{FolderFields}
 use Rattle.rpki_folder.specs.KeptLines.{AreLines}
-use Rattle.rpki_folder.specs.declared.lines.Line.{Line}
 use Rattle.rpki_folder.specs.declared.lines.Line.TheVariants as line
-use Rattle.rpki_folder.specs.declared.bounds.Ended.TheVariants.{Whole}
 use Rattle.rpki_crl.specs.Lists.{CrlState}
 use Rattle.rpki_path.specs.declared.located.LocatedError.TheVariants.{OtherKey, NoResources, Path as path}
 use Rattle.rpki_path.specs.LocatedPaths.{BeginsWithKey}
@@ -183,6 +181,7 @@ pub record HasNoAnchor (x : Context) (q : TreeFields) (wrong : List WrongAnchor)
   pub lists_are : AreListsOf (contents q.files) lists
   pub wrong_are : AllByRecursion
       (λ w. IsWrongOf x (by_named_lists q.names x lists) q.names q.locators w.file.now w.fault) wrong
+  pub wrong_stand : AllByRecursion (λ w. slice_get certs w.place ≡ Some w.file.now) wrong
   pub all : (place : ℕ) (file : FileFields) (t : NamedTal)
       → IsCandidateAt q.locators certs place file t → Any (λ w. w.file.now ≡ file) wrong
   pub none : (place : ℕ) (file : FileFields) (t : NamedTal) (c : CertFields)
@@ -192,25 +191,3 @@ pub record HasNoAnchor (x : Context) (q : TreeFields) (wrong : List WrongAnchor)
 abbrev pub IsTreeAnswer : Context → TreeFields → TreeAnswer → Type 0
 IsTreeAnswer x q (NoAnchor wrong) = HasNoAnchor x q wrong.items
 IsTreeAnswer x q (Walked tree) = IsTreeOf x q tree
-
--- ---- what is accepted
-
--- the line accepts
-abbrev pub accepts : Line → Bool
-accepts (line.Accepted above) = true
-accepts _ = false
-
--- how many certificates are accepted
-abbrev pub accepted_count : Tree → ℕ
-accepted_count tree = count_by accepts tree.lines
-
--- each certificate but the trust anchor is accepted, and no bound was met
-pub record AllAccepted (tree : Tree) : Type 0 where
-  pub whole : tree.ended ≡ Whole
-  pub accepted : (place : ℕ) (l : Line) → slice_get tree.lines place ≡ Some l → place ≢ tree.anchor
-      → IsTrue (accepts l)
-
--- the answer accepts
-abbrev pub IsAccepting : TreeAnswer → Type 0
-IsAccepting (Walked tree) = AllAccepted tree
-IsAccepting _ = ⊥

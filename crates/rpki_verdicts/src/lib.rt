@@ -3,16 +3,21 @@
 //! path to one of them.
 #![tactic(auto)]
 
+mod damage;
+mod issuers;
 mod locators;
+mod parts;
 mod path;
 pub mod reasons;
 mod search;
 mod unordered;
 
+pub use issuers::{Issuers, Unseen, issuers_of};
 pub use locators::GivenLocator;
+pub use parts::{TreePart, Trees, judge_all};
 pub use path::{
     Fault, Question, Verdict, accepted_are_unrevoked, first_no_locator, judge, lists_of, located,
     one_acceptance, one_answer,
 };
 pub use search::{Sought, seek};
-pub use unordered::{Tree, TreeAnswer, TreeQuestion, WrongAnchor, judge_all};
+pub use unordered::{Tree, TreeAnswer, TreeQuestion, WrongAnchor};

@@ -1,19 +1,22 @@
 //! The path to one file among others, in any order.
-ghost use Rattle.std.specs.Prelude.{◌≡◌, ◌<◌, ◌↔◌, ◌++◌, ◌∷◌, [], ℕ, All, List, length, Some, map, option_map, slice_get, IfOk, IfSome, IsFalse, IsTrue, MatchOption, OnOk};
+ghost use Rattle.std.specs.Prelude.{◌≡◌, ◌<◌, ◌↔◌, ◌++◌, ◌∷◌, [], ℕ, All, Any, List, length, Some, map, option_map, option_to_list, slice_get, IfOk, IfSome, IsFalse, IsTrue, MatchOption, OnOk};
 ghost use Rattle.rpki_folder.specs.Folders.{NamesSigner};
 ghost use Rattle.rpki_keys.specs.RsaSignatures.{IsSignedByRsa};
 ghost use Rattle.rpki_cert.specs.Verification.{context};
 ghost use Rattle.rpki_files.specs.Contents.{BeginsWithCertificate, IsList};
 ghost use Rattle.rpki_files.specs.Files.{FileFields};
-ghost use Rattle.rpki_verdicts.specs.Searches.{AreAbove, HasKeyAt, HasKeyNamed, HasNoIssuer, HaveNoneKeyed, IsFirstKeyed, IsIssuerAt, IsNamedPath, IsSoughtPath, IsTreeWith, StandsAlone, above_by, files_at, first_wrong};
-ghost use Rattle.rpki_verdicts.specs.Trees.{IsTreeAnswer, asked_of, certs_of};
+ghost use Rattle.rpki_verdicts.specs.Searches.{AreAbove, DeniesFirst, HasKeyAt, HasKeyNamed, HasNoIssuer, HaveNoneKeyed, IsAcceptedIn, IsFirstKeyed, IsIssuerAt, IsNamedAmong, IsNamedIn, IsNamedPath, IsSoughtPath, IsUnanchored, StandsAlone, above_by, files_at, first_wrong};
+ghost use Rattle.rpki_verdicts.specs.TreeParts.{AreTreesOf, wrong_in, wrong_of};
+ghost use Rattle.rpki_verdicts.specs.Trees.{asked_of, certs_of};
 
-use crate::unordered::{Tree, TreeAnswer, TreeQuestion, WrongAnchor, judge_all, locator_of};
+use crate::parts::{TreePart, Trees, judge_all};
+use crate::unordered::{Tree, TreeAnswer, TreeQuestion, locator_of};
 use rpki_cert::laws;
 use rpki_files::{BareObject, Front};
 use rpki_folder::{Ended, Line};
 use rpki_parts::KeyIdentifier;
 use std::alloc::{AllocError, Global};
+use std::mem;
 
 /// The most files that are put above a file to which no valid path leads.
 const MOST_ABOVE: usize = 32;
@@ -181,9 +184,9 @@ fn has_key(file: &BareObject<'_>, key: &KeyIdentifier) -> bool
     }
 }
 
-// The key that the file names as the one that signs it, where it begins with a certificate that
-// names one.
-fn signer_of(file: &BareObject<'_>) -> Option<KeyIdentifier>
+/// Returns the key that the file names as its signer's, if it begins with a certificate that names
+/// one.
+pub(crate) fn signer_of(file: &BareObject<'_>) -> Option<KeyIdentifier>
     ensures { (key : List ℕ) → NamesSigner key file.now.octets ↔ (result ≡ Some key) }
 {
     laws::unambiguous();
@@ -232,31 +235,44 @@ fn issuer_of(tree: &Tree<'_, '_>, file: &BareObject<'_>) -> Option<usize>
 }
 
 // Adds what stands above a file to which no valid path leads, as it and those above it name their
-// signers: up to the trust anchor, or to one whose signer isn't there.
+// signers: up to the trust anchor, or to one whose signer isn't there. Returns whether that is the
+// trust anchor.
 fn push_above<'q, 'n>(
     path: &mut Vec<&'q BareObject<'n>>,
     tree: &Tree<'q, 'n>,
     file: &'q BareObject<'n>,
     most: usize,
-) -> Result<(), AllocError>
-    ensures { OnOk result ((above : List FileFields) × AreAbove tree.now most file.now above
+) -> Result<bool, AllocError>
+    ensures { IfOk result (λ reach. (above : List FileFields)
+        × AreAbove tree.now most file.now above reach
         × (map (λ f. f.now) path.new.items ≡ map (λ f. f.now) path.old.items ++ above)) }
 {
     if most == 0 {
-        return Ok(());
+        return Ok(false);
     }
     let Some(place) = issuer_of(tree, file) else {
-        return Ok(());
+        return Ok(false);
     };
     if let Some(above) = above_at(tree, place) {
         push_down(path, tree, above)?;
-        return push_one(path, &tree.certs, place);
+        push_one(path, &tree.certs, place)?;
+        return Ok(true);
     }
     if place == tree.anchor {
-        return push_one(path, &tree.certs, place);
+        push_one(path, &tree.certs, place)?;
+        return Ok(true);
     }
-    push_above(path, tree, tree.certs[place], most - 1)?;
-    push_one(path, &tree.certs, place)
+    let reach = push_above(path, tree, tree.certs[place], most - 1)?;
+    push_one(path, &tree.certs, place)?;
+    Ok(reach)
+}
+
+// A path to a file below those that name one another as signers, and whether these reach up to the
+// trust anchor.
+#[derive(Drop)]
+struct Named<'q, 'n> {
+    path: Vec<&'q BareObject<'n>>,
+    reach: bool,
 }
 
 // The file below what stands above it, where no valid path leads to it.
@@ -264,78 +280,161 @@ fn path_named<'q, 'n>(
     alloc: Global,
     tree: &Tree<'q, 'n>,
     file: &'q BareObject<'n>,
-) -> Result<Vec<&'q BareObject<'n>>, AllocError>
-    ensures { IfOk result (λ path. IsNamedPath tree.now file.now (map (λ f. f.now) path.items)) }
+) -> Result<Named<'q, 'n>, AllocError>
+    ensures { IfOk result (λ named.
+        IsNamedPath tree.now file.now named.reach (map (λ f. f.now) named.path.items)) }
 {
     let mut path = Vec::new(alloc);
-    push_above(&mut path, tree, file, MOST_ABOVE)?;
+    let reach = push_above(&mut path, tree, file, MOST_ABOVE)?;
     path.push(file)?;
-    Ok(path)
+    Ok(Named { path, reach })
 }
 
-// The path to the first certificate of a tree, which is that of the file.
-fn path_in<'q, 'n>(
+// The same of an answer that has a tree.
+fn named_in<'q, 'n>(
     alloc: Global,
-    question: &TreeQuestion<'q, 'n>,
-    tree: &Tree<'q, 'n>,
+    answer: &TreeAnswer<'q, 'n>,
     file: &'q BareObject<'n>,
-) -> Result<Sought<'q, 'n>, AllocError>
-    requires { let x = context IsSignedByRsa question.now.at question.now.strict in
-        IsTreeWith x (asked_of question.now) file.now tree.now }
-    ensures { let x = context IsSignedByRsa question.now.at question.now.strict in
-        IfOk result (λ sought. let path = map (λ f. f.now) sought.path.items in
-        IsSoughtPath x (asked_of question.now) file.now path sought.ended) }
+) -> Result<Option<Named<'q, 'n>>, AllocError>
+    ensures { IfOk result (λ found. MatchOption found (IsUnanchored answer.now) (λ named.
+        IsNamedIn answer.now file.now named.reach (map (λ f. f.now) named.path.items))) }
 {
-    match above_at(tree, 0) {
-        Some(above) => Ok(whole(path_down(alloc, tree, above, file)?)),
-        None => {
-            let path = path_named(alloc, tree, file)?;
-            Ok(Sought {
-                path,
-                ended: tree.ended,
-            })
+    match answer {
+        TreeAnswer::NoAnchor(_) => Ok(None),
+        TreeAnswer::Walked(tree) => Ok(Some(path_named(alloc, tree, file)?)),
+    }
+}
+
+// The same of the first part where it reaches up to the trust anchor, or else of the last one; none,
+// where no part has a tree.
+fn named_among<'q, 'n>(
+    alloc: Global,
+    parts: &[TreePart<'q, 'n>],
+    file: &'q BareObject<'n>,
+) -> Result<Option<Vec<&'q BareObject<'n>>>, AllocError>
+    ensures { IfOk result (λ found. MatchOption found
+        (All (λ part. IsUnanchored part.answer) parts.now)
+        (λ path. IsNamedAmong parts.now file.now (map (λ f. f.now) path.items))) }
+{
+    let mut kept = None;
+    for part in parts {
+        if let Some(named) = named_in(alloc, &part.answer, file)? {
+            let Named { path, reach } = named;
+            if reach {
+                drop(kept);
+                return Ok(Some(path));
+            }
+            drop(mem::replace(&mut kept, Some(path)));
         }
     }
+    Ok(kept)
+}
+
+// The path to the first certificate of a tree, which is that of the file, where it is accepted.
+fn accepted_in<'q, 'n>(
+    alloc: Global,
+    answer: &TreeAnswer<'q, 'n>,
+    file: &'q BareObject<'n>,
+) -> Result<Option<Vec<&'q BareObject<'n>>>, AllocError>
+    ensures { IfOk result (λ found. MatchOption found (DeniesFirst answer.now)
+        (λ path. IsAcceptedIn file.now (map (λ f. f.now) path.items) answer.now)) }
+{
+    match answer {
+        TreeAnswer::NoAnchor(_) => Ok(None),
+        TreeAnswer::Walked(tree) => match above_at(tree, 0) {
+            Some(above) => Ok(Some(path_down(alloc, tree, above, file)?)),
+            None => Ok(None),
+        },
+    }
+}
+
+// The same of the first part that accepts it.
+fn accepted_among<'q, 'n>(
+    alloc: Global,
+    parts: &[TreePart<'q, 'n>],
+    file: &'q BareObject<'n>,
+) -> Result<Option<Vec<&'q BareObject<'n>>>, AllocError>
+    ensures { IfOk result (λ found. MatchOption found
+        (All (λ part. DeniesFirst part.answer) parts.now) (λ path. let files = map (λ f. f.now) path.items in
+        Any (λ part. IsAcceptedIn file.now files part.answer) parts.now)) }
+{
+    for part in parts {
+        if let Some(path) = accepted_in(alloc, &part.answer, file)? {
+            return Ok(Some(path));
+        }
+    }
+    Ok(None)
+}
+
+// The first of the certificates that are wrong as a locator's trust anchor, where none is valid.
+fn first_of<'q, 'n>(answer: &TreeAnswer<'q, 'n>) -> Option<&'q BareObject<'n>>
+    ensures { option_to_list (option_map (λ f. f.now) result) ≡ first_wrong (wrong_in answer.now) }
+{
+    match answer {
+        TreeAnswer::NoAnchor(wrong) => match wrong.first() {
+            Some(anchor) => Some(anchor.file),
+            None => None,
+        },
+        TreeAnswer::Walked(_) => None,
+    }
+}
+
+// The first of those of all locators.
+fn first_among<'q, 'n>(parts: &[TreePart<'q, 'n>]) -> Option<&'q BareObject<'n>>
+    ensures { option_to_list (option_map (λ f. f.now) result) ≡ first_wrong (wrong_of parts.now) }
+{
+    for part in parts {
+        if let Some(file) = first_of(&part.answer) {
+            return Some(file);
+        }
+    }
+    None
 }
 
 // The file below the first of the certificates that are wrong as trust anchors, where there is one.
 fn path_without_anchor<'q, 'n>(
     alloc: Global,
-    wrong: &[WrongAnchor<'q, 'n>],
+    parts: &[TreePart<'q, 'n>],
     file: &'q BareObject<'n>,
 ) -> Result<Vec<&'q BareObject<'n>>, AllocError>
     ensures { IfOk result (λ path. map (λ f. f.now) path.items
-        ≡ first_wrong wrong.now ++ file.now ∷ []) }
+        ≡ first_wrong (wrong_of parts.now) ++ file.now ∷ []) }
 {
-    match wrong.first() {
-        Some(anchor) => pair(alloc, anchor.file, file),
+    match first_among(parts) {
+        Some(anchor) => pair(alloc, anchor, file),
         None => alone(alloc, file),
     }
 }
 
-// The path to the first file, which begins with a certificate, by the answer on all.
+// The path to the first file, which begins with a certificate, by the answers on all.
 fn path_by<'q, 'n>(
     alloc: Global,
     question: &TreeQuestion<'q, 'n>,
-    answer: &TreeAnswer<'q, 'n>,
+    trees: &Trees<'q, 'n>,
     file: &'q BareObject<'n>,
 ) -> Result<Sought<'q, 'n>, AllocError>
-    requires answer { let x = context IsSignedByRsa question.now.at question.now.strict in
-        IsTreeAnswer x (asked_of question.now) answer.now }
+    requires trees { let x = context IsSignedByRsa question.now.at question.now.strict in
+        AreTreesOf x (asked_of question.now) trees.now }
     requires certificate { BeginsWithCertificate file.now.octets }
     requires first { (more : List FileFields) × (question.now.files.now ≡ file.now ∷ more) }
     ensures { let x = context IsSignedByRsa question.now.at question.now.strict in
         IfOk result (λ sought. let path = map (λ f. f.now) sought.path.items in
         IsSoughtPath x (asked_of question.now) file.now path sought.ended) }
 {
-    match answer {
-        TreeAnswer::NoAnchor(wrong) => Ok(whole(path_without_anchor(alloc, wrong, file)?)),
-        TreeAnswer::Walked(tree) => path_in(alloc, question, tree, file),
+    if let Some(path) = accepted_among(alloc, &trees.parts, file)? {
+        return Ok(whole(path));
+    }
+    match named_among(alloc, &trees.parts, file)? {
+        Some(path) => Ok(Sought {
+            path,
+            ended: trees.ended(),
+        }),
+        None => Ok(whole(path_without_anchor(alloc, &trees.parts, file)?)),
     }
 }
 
-/// Searches the path from the trust anchor ([`judge_all`]) to the first of the files, with real
-/// signatures and with the CRLs among the files, which may be in any order.
+/// Searches the path from the trust anchor of one of the TALs ([`judge_all`]) to the first of the
+/// files, with real signatures and with the CRLs among the files, which may be in any order.
 ///
 /// If no valid path leads to the file, the result has files that end in it, for which
 /// [`crate::judge`] returns what is wrong: files that name one another as signers, a wrong trust
@@ -366,8 +465,8 @@ pub fn seek<'q, 'n>(
     if is_alone {
         return Ok(whole(alone(alloc, file)?));
     }
-    let answer = judge_all(alloc, question)?;
-    let sought = path_by(alloc, question, &answer, file);
-    drop(answer);
+    let trees = judge_all(alloc, question)?;
+    let sought = path_by(alloc, question, &trees, file);
+    drop(trees);
     sought
 }

@@ -11,7 +11,7 @@ ghost use Rattle.rpki_cert.specs.Verification.{context};
 ghost use Rattle.rpki_folder.specs.Walks.{IsLookedAt, Told, TellsBelow};
 ghost use Rattle.rpki_files.specs.Contents.{IsList};
 ghost use Rattle.rpki_files.specs.Files.{FileFields};
-ghost use Rattle.rpki_verdicts.specs.Trees.{AllAccepted, accepted_count, accepts, anchor_order, asked_of, HasLocator, IsAnchorOf, IsAnchorReason, IsFolderOf, IsTreeAnswer, every};
+ghost use Rattle.rpki_verdicts.specs.Trees.{anchor_order, asked_of, HasLocator, IsAnchorOf, IsAnchorReason, IsFolderOf, IsTreeAnswer, every};
 ghost use Rattle.rpki_verdicts.specs.Trees.Steps.{AreTried, IsKept, IsTried, TakesPlace};
 
 use crate::locators::{GivenLocator, tal_of_key};
@@ -21,7 +21,7 @@ use rpki_cert::{Cert, ResourceCert, Said, laws};
 use rpki_crl::Crl;
 use rpki_der::Time;
 use rpki_files::{BareObject, Front};
-use rpki_folder::{AllAdmitted, Bounds, Ended, Folder, Line, Lines, Walk, WalkError};
+use rpki_folder::{AllAdmitted, Bounds, Ended, Folder, Lines, Walk, WalkError};
 use rpki_keys::RsaVerifier;
 use rpki_keys::tal::Tal;
 use rpki_path::{LocatedError, Member};
@@ -59,6 +59,8 @@ pub struct Tree<'q, 'n> {
 /// A file whose certificate has the key of a TAL, and what is wrong with it as a trust anchor.
 #[derive(Drop)]
 pub struct WrongAnchor<'q, 'n> {
+    /// Its place.
+    pub place: usize,
     pub file: &'q BareObject<'n>,
     pub fault: Fault,
 }
@@ -159,9 +161,9 @@ fn add_file<'q, 'n>(
     }
 }
 
-// Fills an empty folder with the certificates and the lists of files, and returns those that begin
-// with certificates.
-fn filed<'q, 'n>(
+/// Fills an empty folder with the certificates and the lists of files, and returns those that begin
+/// with certificates.
+pub(crate) fn filed<'q, 'n>(
     alloc: Global,
     files: &'q [BareObject<'n>],
     folder: &mut Folder,
@@ -316,7 +318,7 @@ fn keep<'q, 'n>(
     match tried {
         Tried::OtherKey => Ok(()),
         Tried::Wrong(fault) => {
-            found.wrong.push(WrongAnchor { file, fault })?;
+            found.wrong.push(WrongAnchor { place, file, fault })?;
             Ok(())
         }
         Tried::Valid(tal, issuer) => {
@@ -379,8 +381,8 @@ fn walked(
     walk_of(alloc, question, folder).below(anchor, lines)
 }
 
-// The tree of the files that a folder was filled with.
-fn grown<'q, 'n>(
+/// Grows the tree of the files that a folder was filled with.
+pub(crate) fn grown<'q, 'n>(
     alloc: Global,
     question: &TreeQuestion<'q, 'n>,
     folder: &Folder,
@@ -405,80 +407,4 @@ fn grown<'q, 'n>(
         lines,
         ended,
     }))
-}
-
-/// Judges every certificate among files in any order: finds the trust anchor, and walks down from
-/// it, with real signatures and with the CRLs among the files.
-///
-/// The trust anchor is a certificate that has the key of one of the TALs (RFC 8630 3), lists an IP
-/// address or an AS number (RFC 8630 2.3) and is valid. If there are several, the one that is valid
-/// longest is taken, then the one whose validity starts last, then the one whose to-be-signed bytes
-/// are greatest (own). Names are checked if the question requires it (RFC 6487 7.2).
-///
-/// # Errors
-///
-/// Returns an error only if memory runs out. A rejection is a verdict.
-///
-/// # Not checked
-///
-/// Whether the RPKI uses a certificate's key, and manifests (own).
-pub fn judge_all<'q, 'n>(
-    alloc: Global,
-    question: &TreeQuestion<'q, 'n>,
-) -> Result<TreeAnswer<'q, 'n>, AllocError>
-    ensures { let x = context IsSignedByRsa question.now.at question.now.strict in
-        IfOk result (IsTreeAnswer x (asked_of question.now)) }
-{
-    let mut folder = Folder::new(alloc);
-    let certs = match filed(alloc, question.files, &mut folder) {
-        Ok(certs) => certs,
-        Err(error) => {
-            drop(folder);
-            return Err(error);
-        }
-    };
-    let answer = grown(alloc, question, &folder, certs);
-    drop(folder);
-    answer
-}
-
-// Whether the line accepts.
-fn accepts(line: &Line) -> bool
-    ensures { result ≡ accepts line.now }
-{
-    match line {
-        Line::Accepted(_) => true,
-        Line::Unseen | Line::Rejected(..) => false,
-    }
-}
-
-impl<'q, 'n> Tree<'q, 'n> {
-    /// Returns whether each certificate but the trust anchor is accepted, and no limit was reached.
-    pub fn is_accepted(&self) -> bool
-        ensures { IsTrue result ↔ AllAccepted self.now }
-    {
-        if self.ended != Ended::Whole {
-            return false;
-        }
-        let lines = self.lines.as_slice();
-        for (place, line) in lines.iter().enumerate() {
-            if place != self.anchor && !accepts(line) {
-                return false;
-            }
-        }
-        true
-    }
-    /// Returns how many certificates are accepted.
-    pub fn count_accepted(&self) -> usize
-        ensures { result ≡ accepted_count self.now }
-    {
-        let lines = self.lines.as_slice();
-        let mut count = 0;
-        for line in lines {
-            if accepts(line) {
-                count += 1;
-            }
-        }
-        count
-    }
 }

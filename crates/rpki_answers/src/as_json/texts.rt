@@ -4,7 +4,7 @@ ghost use Rattle.std.specs.List.{AllByRecursion, flat_map};
 ghost use Rattle.serde_json.specs.View.{view};
 ghost use Rattle.serde_json.specs.Written.{has_float};
 ghost use Rattle.rpki_answers.specs.JsonTexts.{json_line, json_lines, value_text, values_text};
-ghost use Rattle.rpki_answers.specs.JsonValues.{array_of};
+ghost use Rattle.rpki_document.specs.Documents.{array_of};
 ghost use Rattle.rpki_text.specs.Pages.{Appends};
 
 use crate::as_json::ascii::ended_ascii;

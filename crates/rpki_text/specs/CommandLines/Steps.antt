@@ -4,8 +4,8 @@ use Rattle.rpki_der.specs.Times.{Moment, IsMoment}
 use Rattle.rpki_text.specs.MomentTexts.{IsMomentText}
 use Rattle.rpki_text.specs.declared.command_line.arguments.Format.{Format}
 use Rattle.rpki_text.specs.declared.command_line.arguments.Setting.{Setting}
-use Rattle.rpki_text.specs.declared.command_line.arguments.Setting.TheVariants.{Crl, Tal, In, Depth, StepCount, At, MaxSize, Output, ShortOutput}
-use Rattle.rpki_text.specs.CommandLines.{IsFormatName, IsNumberText, LinePart, list, locator, folder, depth, steps, at_moment, max_size, output, lenient, json, quiet, all, no_names, trust_first, no_crl, help, RequestFields, setting_name, with_part}
+use Rattle.rpki_text.specs.declared.command_line.arguments.Setting.TheVariants.{Crl, Tal, In, Depth, StepCount, At, MaxSize, Output, ShortOutput, Only}
+use Rattle.rpki_text.specs.CommandLines.{IsFormatName, IsNumberText, LinePart, list, locator, folder, depth, steps, at_moment, max_size, output, lenient, json, quiet, all, no_names, trust_first, no_crl, strict_exit, only_rejected, help, RequestFields, setting_name, with_part}
 
 -- ---- options that take a value
 
@@ -24,6 +24,7 @@ IsSetPart StepCount value part = (n : ℕ) × (part ≡ steps n) × IsNumberText
 IsSetPart MaxSize value part = (n : ℕ) × (part ≡ max_size n) × IsNumberText n value
 IsSetPart Output value part = (f : Format) × (part ≡ output f) × IsFormatName f value
 IsSetPart ShortOutput value part = (f : Format) × (part ≡ output f) × IsFormatName f value
+IsSetPart Only value part = (part ≡ only_rejected) × (value ≡ codes "rejected")
 
 -- the new request has what the option with this value says too
 abbrev pub AddsSet : Setting → List ℕ → RequestFields → RequestFields → Type 0
@@ -41,5 +42,6 @@ IsSwitch all word = word ≡ codes "--all"
 IsSwitch no_names word = word ≡ codes "--no-names"
 IsSwitch trust_first word = word ≡ codes "--trust-first"
 IsSwitch no_crl word = word ≡ codes "--no-crl"
+IsSwitch strict_exit word = word ≡ codes "--strict-exit"
 IsSwitch help word = (word ≡ codes "--help") ⊎ (word ≡ codes "-h")
 IsSwitch _ word = ⊥

@@ -25,6 +25,8 @@ fields_of r = record {
   folders = map (λ name. name.now) r.folders.items;
   trust_first = r.trust_first;
   no_crl = r.no_crl;
+  strict_exit = r.strict_exit;
+  only_rejected = r.only_rejected;
   depth = r.depth;
   steps = r.steps;
 }

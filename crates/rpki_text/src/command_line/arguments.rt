@@ -2,10 +2,10 @@
 ghost use Rattle.std.specs.Prelude.{◌≡◌, ◌≢◌, ◌↔◌, ℕ, List, [], ◌∷◌, ◌++◌, false, map, codes, Some, IsTrue, IfSome, IfNone, MatchOption, OnOk, IfOk, IfErr};
 ghost use Rattle.std.specs.Bool.{OnTrue, OnFalse};
 ghost use Rattle.std.specs.Fmt.{WritesOnOk};
-ghost use Rattle.rpki_text.specs.CommandLines.{IsFormatName, IsTaskName, IsNumberText, IsPart, LinePart, RequestFields, only_task, setting_name, with_files, with_part, AsksNoPath, AsksSearch, AsksTree, LeavesNothingOut, NamesInput, ReadsInput, SaysAnchor, SaysLists, Suits, SuitsFolders, IsCommandLine};
+ghost use Rattle.rpki_text.specs.CommandLines.{IsFormatName, IsTaskName, IsNumberText, IsPart, LinePart, RequestFields, only_task, setting_name, with_files, with_part, AsksNoPath, AsksNoTree, AsksSearch, AsksTree, LeavesNothingOut, NamesInput, ReadsInput, SaysAnchor, SaysLists, Suits, SuitsFolders, IsCommandLine};
 ghost use Rattle.rpki_text.specs.CommandLines.Views.{word_octets, fields_of};
 ghost use Rattle.rpki_text.specs.WordParts.{AddsPart, AddsParts, IsFirstWrong, IsOption, Joins, words_before, words_behind};
-ghost use Rattle.rpki_text.specs.Misuses.{IsExtra, IsLeftOutBy, IsMisuse, IsReason, IsWrongFirst};
+ghost use Rattle.rpki_text.specs.Misuses.{IsExtra, IsLeftOutBy, IsMisuse, IsOfTree, IsReason, IsWrongFirst};
 ghost use Rattle.rpki_text.specs.Misuses.Steps.{IsBound, NamesFormat, TellsValue, TellsWord};
 ghost use Rattle.rpki_text.specs.MisuseTexts.{expected_value, misuse_text, value_kind, wrong_value_text};
 ghost use Rattle.rpki_text.specs.CommandLines.Steps.{AddsSet, IsSwitch, IsOptionName};
@@ -55,6 +55,7 @@ pub enum Setting {
     Output,
     /// `-o`, which means the same.
     ShortOutput,
+    Only,
 }
 
 /// A request. A file's name is the bytes of its word.
@@ -76,6 +77,10 @@ pub struct Request<'a> {
     pub trust_first: bool,
     /// Whether no CRL is checked.
     pub no_crl: bool,
+    /// Whether a damaged cache is an error.
+    pub strict_exit: bool,
+    /// Whether only certificates that aren't accepted are printed.
+    pub only_rejected: bool,
     pub depth: Option<usize>,
     pub steps: Option<usize>,
 }
@@ -132,6 +137,7 @@ fn name_of(setting: Setting) -> &'static str
         Setting::MaxSize => "--max-size",
         Setting::Output => "--output",
         Setting::ShortOutput => "-o",
+        Setting::Only => "--only",
     }
 }
 
@@ -145,6 +151,7 @@ fn value_kind(setting: Setting) -> &'static str
         Setting::Depth | Setting::StepCount | Setting::MaxSize => "a number below 2^64",
         Setting::At => "a time",
         Setting::Output | Setting::ShortOutput => "an output format",
+        Setting::Only => "a verdict to print alone",
     }
 }
 
@@ -159,6 +166,7 @@ fn expected_value(setting: Setting) -> &'static str
         Setting::MaxSize => "a number of bytes",
         Setting::At => "YYYY-MM-DD[THH:MM:SSZ]",
         Setting::Output | Setting::ShortOutput => "text, json or jsonl",
+        Setting::Only => "rejected",
     }
 }
 
@@ -267,6 +275,8 @@ fn setting_of(word: &[u8]) -> Option<Setting>
         Some(Setting::Output)
     } else if is(word, "-o") {
         Some(Setting::ShortOutput)
+    } else if is(word, "--only") {
+        Some(Setting::Only)
     } else {
         None
     }
@@ -374,6 +384,10 @@ fn switch(request: &mut Request<'_>, word: &[u8]) -> bool
         request.no_crl = true;
         return true;
     }
+    if is(word, "--strict-exit") {
+        request.strict_exit = true;
+        return true;
+    }
     if is(word, "--help") || is(word, "-h") {
         request.task = Task::Help;
         return true;
@@ -415,6 +429,19 @@ fn add_size<'a>(request: &mut Request<'a>, text: &'a [u8]) -> Result<(), Misuse<
     }
 }
 
+// Adds that only certificates that aren't accepted are printed, if a text says it.
+fn add_only<'a>(request: &mut Request<'a>, text: &'a [u8]) -> Result<(), Misuse<'a>>
+    ensures added { OnOk result
+        (AddsSet Setting.Only text.now (fields_of request.old) (fields_of request.new)) }
+    ensures told { IfErr result (λ e. TellsValue e Setting.Only text.now) }
+{
+    if is(text, "rejected") {
+        request.only_rejected = true;
+        return Ok(());
+    }
+    Err(Misuse::WrongValue(Setting::Only, text))
+}
+
 // Adds what an option with its value says.
 fn add_set<'a>(
     request: &mut Request<'a>,
@@ -447,6 +474,7 @@ fn add_set<'a>(
         },
         Setting::MaxSize => add_size(request, value),
         Setting::Output | Setting::ShortOutput => add_format(request, setting, value),
+        Setting::Only => add_only(request, value),
     }
 }
 
@@ -527,6 +555,8 @@ fn new_request<'a>(alloc: Global, task: Task) -> Request<'a>
         folders: Vec::new(alloc),
         trust_first: false,
         no_crl: false,
+        strict_exit: false,
+        only_rejected: false,
         depth: None,
         steps: None,
     }
@@ -542,6 +572,20 @@ fn left_out(request: &Request<'_>) -> Option<&'static [u8]>
     }
     if request.no_crl {
         return Some(b"--no-crl".as_slice());
+    }
+    None
+}
+
+// An option that only a tree takes, where one is given.
+fn only_of_tree(request: &Request<'_>) -> Option<&'static [u8]>
+    ensures { let r = fields_of request.now in
+        MatchOption result (AsksNoTree r) (λ name. IsOfTree name.now r) }
+{
+    if request.strict_exit {
+        return Some(b"--strict-exit".as_slice());
+    }
+    if request.only_rejected {
+        return Some(b"--only".as_slice());
     }
     None
 }
@@ -687,7 +731,8 @@ fn misuse_of_lists(request: &Request<'_>) -> Option<Misuse<'static>>
 // isn't said what is checked.
 fn misuse_of_path(request: &Request<'_>) -> Option<Misuse<'static>>
     ensures { let r = fields_of request.now in MatchOption result
-        ((r.all_entries ≡ false) × SuitsFolders r.folders r × SaysAnchor r × SaysLists r)
+        ((r.all_entries ≡ false) × SuitsFolders r.folders r × SaysAnchor r × SaysLists r
+        × AsksNoTree r)
         (λ misuse. IsReason misuse Task.Validate r) }
 {
     if request.all {
@@ -699,7 +744,13 @@ fn misuse_of_path(request: &Request<'_>) -> Option<Misuse<'static>>
     if let Some(misuse) = misuse_of_anchor(request) {
         return Some(misuse);
     }
-    misuse_of_lists(request)
+    if let Some(misuse) = misuse_of_lists(request) {
+        return Some(misuse);
+    }
+    if let Some(name) = only_of_tree(request) {
+        return Some(Misuse::Unknown(name));
+    }
+    None
 }
 
 // What doesn't suit the task: an option that it doesn't take, or that there is no file.
@@ -710,6 +761,9 @@ fn misuse_of(request: &Request<'_>) -> Option<Misuse<'static>>
 {
     if request.task == Task::Show {
         if let Some(option) = only_validating(request) {
+            return Some(Misuse::Unknown(option));
+        }
+        if let Some(option) = only_of_tree(request) {
             return Some(Misuse::Unknown(option));
         }
     }

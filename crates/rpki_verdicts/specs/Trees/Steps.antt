@@ -1,7 +1,7 @@
 -- What is found of certificates as trust anchors, one after the other.
 use Rattle.std.specs.List.{AllByRecursion}
 use Rattle.std.specs.declared.cmp.Ordering.TheVariants.{Less}
-use Rattle.std.specs.Prelude.{◌≡◌, ◌⊎◌, ◌<◌, ℕ, Bool, IsTrue, List, [], ◌∷◌, ◌++◌, Any, Option, None, Some}
+use Rattle.std.specs.Prelude.{◌≡◌, ◌⊎◌, ◌<◌, ℕ, Bool, IsTrue, List, [], ◌∷◌, ◌++◌, Any, Option, None, Some, slice_get}
 use Rattle.rpki_path.specs.Asking.{RevocationChecks}
 use Rattle.rpki_path.specs.NameChains.{IsSelfNamed}
 use Rattle.rpki_cert.specs.Certificates.{CertFields}
@@ -36,7 +36,8 @@ TakesPlace (Some a) r = anchor_order a.issuer.cert r.cert ≡ Less
 abbrev pub IsKept : Candidates → ℕ → FileFields → Tried → Candidates → Type 0
 IsKept old place file OtherKey new = new ≡ old
 IsKept old place file (Wrong fault) new =
-    (new.best ≡ old.best) × (w : WrongAnchor) × (w.file.now ≡ file) × (w.fault ≡ fault)
+    (new.best ≡ old.best)
+    × (w : WrongAnchor) × (w.place ≡ place) × (w.file.now ≡ file) × (w.fault ≡ fault)
     × (new.wrong.items ≡ old.wrong.items ++ w ∷ [])
 IsKept old place file (Valid t r) new =
     (new.wrong.items ≡ old.wrong.items)
@@ -64,6 +65,7 @@ pub record AreTried (x : Context) (asked : RevocationChecks) (names : Bool)
   pub best : IsBestOf x asked names locators certs n found.best
   pub wrong_are : AllByRecursion (λ w. IsWrongOf x asked names locators w.file.now w.fault)
       found.wrong.items
+  pub wrong_stand : AllByRecursion (λ w. slice_get certs w.place ≡ Some w.file.now) found.wrong.items
   pub all : (k : ℕ) (file : FileFields) (t : NamedTal) → k < n
       → IsCandidateAt locators certs k file t
       → Any (λ w. w.file.now ≡ file) found.wrong.items

@@ -16,12 +16,7 @@ tells P outcome true succeeds rejects says =
 tells P outcome false succeeds rejects says =
     ((λ is. absurd (subst IsSuccess (sym is ∙ rejects refl) tt)), (λ is holds. false≢true (says.1 holds)))
 
-pub returns-clause-text : goal.returns-clause-text
-returns-clause-text c =
+pub returns-clause-answer : goal.returns-clause-answer
+returns-clause-answer c =
     let outcome = tells _ c.of_answer.result c.is_accepting-is_accepting.result c.of_answer.ensures.success c.of_answer.ensures.rejection c.is_accepting-is_accepting.ensures in
-    λ is_text. (c.in_ok-finding.finding, c.in_ok-finding.ensures, rw (c.in_ok-text.was) at (c.written-text.ensures.text is_text), outcome.0, outcome.1)
-
-pub returns-clause-json : goal.returns-clause-json
-returns-clause-json c =
-    let outcome = tells _ c.of_answer.result c.is_accepting-is_accepting.result c.of_answer.ensures.success c.of_answer.ensures.rejection c.is_accepting-is_accepting.ensures in
-    λ is_json. (c.in_ok-finding.finding, c.in_ok-finding.ensures, rw (c.in_ok-text.was) at (c.written-text.ensures.json is_json), outcome.0, outcome.1)
+    (c.in_ok-finding.finding, c.in_ok-finding.ensures, rw (c.in_ok-text.was) at c.printed_finding-text.ensures, outcome.0, outcome.1)

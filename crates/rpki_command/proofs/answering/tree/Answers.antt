@@ -4,27 +4,26 @@ use Rattle.std.proofs.Common.{◌≡◌, ◌∙◌, Bool, true, false, ℕ, List
 use Rattle.rpki_text.specs.CommandLines.Views.{fields_of}
 use Rattle.rpki_verdicts.specs.GivenLocators.{IsRead}
 use Rattle.rpki_verdicts.specs.Trees.{TreeFields}
-use Rattle.rpki_answers.specs.AnswerTexts.{IsTreeBy, tree_question_of}
-use Rattle.rpki_answers.specs.JsonTrees.{IsTreeJson}
-use Rattle.rpki_answers.specs.TreeTexts.{IsTreeText}
+use Rattle.rpki_answers.specs.AnswerTexts.{IsTreeBy, tree_options_of, tree_question_of}
+use Rattle.rpki_answers.specs.TreeDocuments.{IsTree}
 use Rattle.rpki_answers.specs.declared.outcomes.Outcome.{Outcome}
 use Rattle.rpki_answers.specs.declared.outcomes.Outcome.TheVariants.{Success, Rejection, Unread}
-use Rattle.rpki_answers.specs.declared.trees.TreeFinding.{TreeFinding}
+use Rattle.rpki_answers.specs.declared.trees.TreeOptions.{TreeOptions}
 use Rattle.rpki_command.proofs.answering.tree.Goals as goal
 
 -- the same is said where another file couldn't be read
-said_too : (Says : TreeFinding → List ℕ → Type 0) (q : TreeFields) (are_all_read : Bool) (old new : Outcome) (before after : List ℕ) → MatchBool are_all_read (new ≡ old) (new ≡ Unread) → after ≡ before → IsTreeBy Says q old before → IsTreeBy Says q new after
-said_too Says q true old new before after is same by = (
+said_too : (o : TreeOptions) (q : TreeFields) (are_all_read : Bool) (old new : Outcome) (before after : List ℕ) → MatchBool are_all_read (new ≡ old) (new ≡ Unread) → after ≡ before → IsTreeBy o q old before → IsTreeBy o q new after
+said_too o q true old new before after is same by = (
   by.0,
   by.1,
-  subst (λ (text : List ℕ). Says by.0 text) (sym same) by.2,
+  subst (λ (text : List ℕ). IsTree o.format o.only_rejected q by.0 text) (sym same) by.2,
   (λ succeeds. by.3 (sym is ∙ succeeds)),
   (λ rejects. by.4 (sym is ∙ rejects)),
 )
-said_too Says q false old new before after is same by = (
+said_too o q false old new before after is same by = (
   by.0,
   by.1,
-  subst (λ (text : List ℕ). Says by.0 text) (sym same) by.2,
+  subst (λ (text : List ℕ). IsTree o.format o.only_rejected q by.0 text) (sym same) by.2,
   (λ succeeds. let never : Unread ≡ Success = sym is ∙ succeeds in absurd cc),
   (λ rejects accepts. let never : Unread ≡ Rejection = sym is ∙ rejects in cc),
 )
@@ -32,19 +31,11 @@ said_too Says q false old new before after is same by = (
 pub treed-requires : goal.treed-requires
 treed-requires c = subst (λ (p : TreeFields). All (IsRead p.strict) p.locators) (sym c.tree_question-question.ensures) c.requires
 
-pub returns-clause-text : goal.returns-clause-text
-returns-clause-text c = λ is_text.
+pub returns-clause-answer : goal.returns-clause-answer
+returns-clause-answer c =
+    let o = tree_options_of (fields_of c.args.request.now) in
     let q = tree_question_of (fields_of c.args.request.now) c.args.now c.args.files.now c.args.locators.now in
     let before = c.in_ok-answer.answer in
-    let by : IsTreeBy (IsTreeText q) q before.outcome (string_bytes before.text) =
-    subst (λ (p : TreeFields). IsTreeBy (IsTreeText p) p before.outcome (string_bytes before.text)) c.tree_question-question.ensures (c.in_ok-answer.ensures.text is_text) in
-    said_too (IsTreeText q) q c.args.are_all_read before.outcome c.if_read.result.outcome (string_bytes before.text) (string_bytes c.if_read.result.text) c.if_read.ensures.outcome (ap string_bytes c.if_read.ensures.text) by
-
-pub returns-clause-json : goal.returns-clause-json
-returns-clause-json c = λ no_text.
-    let q = tree_question_of (fields_of c.args.request.now) c.args.now c.args.files.now c.args.locators.now in
-    let format = c.args.request.now.format in
-    let before = c.in_ok-answer.answer in
-    let by : IsTreeBy (IsTreeJson format q) q before.outcome (string_bytes before.text) =
-    subst (λ (p : TreeFields). IsTreeBy (IsTreeJson format p) p before.outcome (string_bytes before.text)) c.tree_question-question.ensures (c.in_ok-answer.ensures.json no_text) in
-    said_too (IsTreeJson format q) q c.args.are_all_read before.outcome c.if_read.result.outcome (string_bytes before.text) (string_bytes c.if_read.result.text) c.if_read.ensures.outcome (ap string_bytes c.if_read.ensures.text) by
+    let by : IsTreeBy o q before.outcome (string_bytes before.text) =
+    subst (λ (p : TreeFields). IsTreeBy o p before.outcome (string_bytes before.text)) c.tree_question-question.ensures c.in_ok-answer.ensures.answer in
+    said_too o q c.args.are_all_read before.outcome c.if_read.result.outcome (string_bytes before.text) (string_bytes c.if_read.result.text) c.if_read.ensures.outcome (ap string_bytes c.if_read.ensures.text) by

@@ -1,11 +1,11 @@
 use Rattle.std.proofs.Common.{◌∙◌, ap, arith}
 use Rattle.std.proofs.lemmas.Grind.{common_steps}
 use Rattle.rpki_document.specs.Views.{part_view}
-use Rattle.rpki_document.proofs.Joined.{put_both, put_inside, put_each, push_inside, push_each, view-Inside, view-Each}
+use Rattle.rpki_document.proofs.Joined.{put_aside, put_both, put_inside, put_each, push_aside, push_inside, push_each, view-Aside, view-Inside, view-Each}
 use Rattle.rpki_document.proofs.as_json.+values.Goals as goal
 
-pub object_value-loop-it-preserved : goal.object_value-loop-it-preserved
-object_value-loop-it-preserved t c = grind (arith, common_steps, put_both)
+pub put_parts-loop-it-preserved : goal.put_parts-loop-it-preserved
+put_parts-loop-it-preserved t c = grind (arith, common_steps, put_both)
 
 pub put_part-returns-in_ok-value-in-Inside : goal.put_part-returns-in_ok-value-in-Inside
 put_part-returns-in_ok-value-in-Inside t c =
@@ -22,3 +22,11 @@ push_part-returns-in_ok-push-in-Inside t c =
 pub push_part-returns-in_ok-push-in-Each : goal.push_part-returns-in_ok-push-in-Each
 push_part-returns-in_ok-push-in-Each t c =
     push_each _ _ _ c.args.it.now c.in-Each.parts.items _ (ap part_view c.in-Each.is ∙ view-Each _ _) c.in_ok-value-in-Each.ensures c.in_ok-push-in-Each.ensures.items
+
+pub put_part-returns-in-Aside : goal.put_part-returns-in-Aside
+put_part-returns-in-Aside t c =
+    put_aside c.put_parts.result _ _ c.args.it.now c.in-Aside.parts.items (ap part_view c.in-Aside.is ∙ view-Aside _) c.put_parts.ensures
+
+pub push_part-returns-in-Aside : goal.push_part-returns-in-Aside
+push_part-returns-in-Aside t c =
+    push_aside c.push_parts.result _ _ c.args.it.now c.in-Aside.parts.items (ap part_view c.in-Aside.is ∙ view-Aside _) c.push_parts.ensures

@@ -1,10 +1,9 @@
-use Rattle.std.proofs.Common.{◌≡◌, [], take, map}
-use Rattle.serde_json.specs.View.{view}
-use Rattle.rpki_document.specs.Views.{Puts, parts_items, parts_members}
+use Rattle.std.proofs.Common.{take}
+use Rattle.rpki_document.specs.Views.{Pushes, Puts, parts_items, parts_members}
 use Rattle.rpki_document.proofs.as_json.+values.Given as goal
 
-abbrev pub invariant-object_value-loop-it : goal.invariant-object_value-loop-it
-invariant-object_value-loop-it l = Puts (parts_members (take l.it-index l.it-items)) [] l.out
+abbrev pub invariant-put_parts-loop-it : goal.invariant-put_parts-loop-it
+invariant-put_parts-loop-it l = Puts (parts_members (take l.it-index l.it-items)) l.fn.out l.out
 
-abbrev pub invariant-list_value-loop-it : goal.invariant-list_value-loop-it
-invariant-list_value-loop-it l = map view l.items.items ≡ parts_items (take l.it-index l.it-items)
+abbrev pub invariant-push_parts-loop-it : goal.invariant-push_parts-loop-it
+invariant-push_parts-loop-it l = Pushes (parts_items (take l.it-index l.it-items)) l.fn.items.items l.items.items

@@ -1,6 +1,6 @@
 use Rattle.std.proofs.Common.{◌∙◌, ap}
 use Rattle.rpki_document.specs.Views.{part_view}
-use Rattle.rpki_document.proofs.Joined.{view-Inside, view-Each, written_inside, written_each}
+use Rattle.rpki_document.proofs.Joined.{view-Aside, view-Inside, view-Each, written_aside, written_inside, written_each}
 use Rattle.rpki_document.proofs.as_text.+write.Goals as goal
 
 pub write_part-returns-in-Inside : goal.write_part-returns-in-Inside
@@ -10,3 +10,6 @@ write_part-returns-in-Inside t c =
 pub write_part-returns-in-Each : goal.write_part-returns-in-Each
 write_part-returns-in-Each t c =
     written_each c.write_parts-in-Each.result _ _ _ c.args.it.now c.in-Each.parts.items (ap part_view c.in-Each.is ∙ view-Each _ _) c.write_parts-in-Each.ensures
+
+pub write_part-returns-in-Aside : goal.write_part-returns-in-Aside
+write_part-returns-in-Aside t c = written_aside _ c.args.it.now _ (ap part_view c.in-Aside.is ∙ view-Aside _)

@@ -1,6 +1,5 @@
-use Rattle.std.proofs.Common.{◌≡◌, ◌+◌, ◌-◌, ◌++◌, ◌∷◌, [], ℕ, map, option_map, refl, sym, ap, subst, ◌∙◌, arith}
+use Rattle.std.proofs.Common.{◌≡◌, ◌+◌, ◌-◌, ◌++◌, ◌∷◌, [], ℕ, false, map, option_map, refl, sym, ap, subst, ◌∙◌, arith}
 use Rattle.std.proofs.lemmas.Option.{slice_get-map, slice_get_read}
-use Rattle.std.proofs.lemmas.Result.{on_ok_weaker}
 use Rattle.std.specs.Prelude.{Option, MatchOption}
 use Rattle.rpki_verdicts.specs.Searches.{HasNoIssuer, files_at}
 use Rattle.rpki_verdicts.proofs.FilesAbove.{Adds, HasIssuerAt, adds_none, adds_no_issuer, adds_accepted, adds_top, adds_named}
@@ -11,7 +10,7 @@ returns-then-most-eq0 t c =
     let tree = c.args.tree.now in
     let file = c.args.file.now in
     let old = map (λ f. f.now) c.args.path.now.items in
-    subst (λ (n : ℕ). Adds tree file n old old) (sym c.if-most-eq0.true) (adds_none tree file old)
+    subst (λ (n : ℕ). Adds tree file n old false old) (sym c.if-most-eq0.true) (adds_none tree file old)
 
 pub returns-in_default : goal.returns-in_default
 returns-in_default t c =
@@ -30,10 +29,8 @@ returns-in-Some-above_at t c =
     let new = map (λ f. f.now) c.push_one.new.path.items in
     let more : c.args.most - 1 + 1 ≡ c.args.most = omega (arith, c.if-most-eq0.false) in
     let line = sym c.above_at.ensures ∙ ap (option_map (λ a. a.now)) c.in-Some-above_at.is in
-    on_ok_weaker c.push_one.result
-    (λ one. adds_accepted tree c.args.file.now (c.args.most - 1) c.args.most more old place c.in-Some.ensures.issuer mid new
-    (one ∙ ap (λ l. mid ++ files_at (map (λ f. f.now) l) (place ∷ [])) c.deref.ensures.value) c.in-Some-above_at.above.now line c.in_ok-push_down.ensures)
-    c.push_one.ensures
+    adds_accepted tree c.args.file.now (c.args.most - 1) c.args.most more old place c.in-Some.ensures.issuer mid new
+    (c.in_ok-push_one.ensures ∙ ap (λ l. mid ++ files_at (map (λ f. f.now) l) (place ∷ [])) c.deref.ensures.value) c.in-Some-above_at.above.now line c.in_ok-push_down.ensures
 
 pub returns-then-place-tree : goal.returns-then-place-tree
 returns-then-place-tree t c =
@@ -43,10 +40,8 @@ returns-then-place-tree t c =
     let new = map (λ f. f.now) c.push_one-then-place-tree.new.path.items in
     let more : c.args.most - 1 + 1 ≡ c.args.most = omega (arith, c.if-most-eq0.false) in
     let line = sym c.above_at.ensures ∙ ap (option_map (λ a. a.now)) c.in_default-above_at.is in
-    on_ok_weaker c.push_one-then-place-tree.result
-    (λ one. adds_top tree c.args.file.now (c.args.most - 1) c.args.most more old place c.in-Some.ensures.issuer old new
-    (one ∙ ap (λ l. old ++ files_at (map (λ f. f.now) l) (place ∷ [])) c.deref-then-place-tree.ensures.value) c.if-place-tree.true line refl)
-    c.push_one-then-place-tree.ensures
+    adds_top tree c.args.file.now (c.args.most - 1) c.args.most more old place c.in-Some.ensures.issuer old new
+    (c.in_ok-push_one-2.ensures ∙ ap (λ l. old ++ files_at (map (λ f. f.now) l) (place ∷ [])) c.deref-then-place-tree.ensures.value) c.if-place-tree.true line refl
 
 pub returns : goal.returns
 returns t c =
@@ -59,8 +54,6 @@ returns t c =
     let more : c.args.most - 1 + 1 ≡ c.args.most = omega (arith, c.if-most-eq0.false) in
     let line = sym c.above_at.ensures ∙ ap (option_map (λ a. a.now)) c.in_default-above_at.is in
     let there = slice_get-map (λ f. f.now) certs place ∙ ap (option_map (λ f. f.now)) (slice_get_read certs _ place c.index.result.now refl c.in-Some.ensures.place c.index.ensures) in
-    let pushed = c.in_ok-push_above.ensures in
-    on_ok_weaker c.push_one-2.result
-    (λ one. adds_named tree c.args.file.now (c.args.most - 1) c.args.most more old place c.in-Some.ensures.issuer mid new
-    (one ∙ ap (λ l. mid ++ files_at (map (λ f. f.now) l) (place ∷ [])) c.deref-2.ensures.value) c.index.result.now.now there line c.if-place-tree.false pushed.0 pushed.1 pushed.2)
-    c.push_one-2.ensures
+    let pushed = c.in_ok-reach.ensures in
+    adds_named tree c.args.file.now (c.args.most - 1) c.args.most more old place c.in-Some.ensures.issuer mid new
+    (c.in_ok-push_one-3.ensures ∙ ap (λ l. mid ++ files_at (map (λ f. f.now) l) (place ∷ [])) c.deref-2.ensures.value) c.index.result.now.now there line c.if-place-tree.false pushed.0 c.in_ok-reach.reach pushed.1 pushed.2

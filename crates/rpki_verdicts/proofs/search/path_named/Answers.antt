@@ -4,7 +4,7 @@ use Rattle.rpki_verdicts.proofs.search.path_named.Goals as goal
 
 pub returns : goal.returns
 returns c =
-    let pushed = c.in_ok-push_above.ensures in (
+    let pushed = c.in_ok-reach.ensures in (
       pushed.0,
       pushed.1,
       ap (λ (l : List _). map (λ f. f.now) l) c.in_ok-push.ensures.items ∙ map-append (λ f. f.now) c.push_above.new.path.items (c.args.file ∷ [])

@@ -32,6 +32,7 @@ returns-in_default c =
       lists = folder.lists;
       lists_are = c.requires.lists_are;
       wrong_are = are.wrong_are;
+      wrong_stand = are.wrong_stand;
       all = all_wrong x asked q.names q.locators.now files found are no_best;
       none = none_valid x asked q.names q.locators.now files found are no_best;
     }

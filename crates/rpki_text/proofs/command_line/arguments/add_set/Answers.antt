@@ -65,3 +65,10 @@ returns-in_err-count_of-in-StepCount-clause-told c =
 pub returns-in-None-clause-told : goal.returns-in-None-clause-told
 returns-in-None-clause-told c =
     rw c.in-At.is (λ not_memory. value_told At c.args.value (no_moment c.args.value.now c.in-None.ensures.none))
+
+pub returns-in-Only-clause-added : goal.returns-in-Only-clause-added
+returns-in-Only-clause-added c = rw c.in-Only.is c.add_only.ensures.added
+
+pub returns-in-Only-clause-told : goal.returns-in-Only-clause-told
+returns-in-Only-clause-told c =
+    rw c.in-Only.is (IfErr-weaker c.add_only.result _ _ (λ e tells not_memory. tells) c.add_only.ensures.told)

@@ -1,5 +1,5 @@
 use Rattle.std.proofs.Common.{rules, refl}
-use Rattle.rpki_text.specs.CommandLines.{lenient, json, quiet, all, no_names, trust_first, no_crl, help}
+use Rattle.rpki_text.specs.CommandLines.{lenient, json, quiet, all, no_names, trust_first, no_crl, strict_exit, help}
 use Rattle.rpki_text.proofs.command_line.arguments.switch.Goals as goal
 
 pub returns-then-is-clause-added : goal.returns-then-is-clause-added
@@ -24,4 +24,7 @@ pub returns-then-is-9-clause-added : goal.returns-then-is-9-clause-added
 returns-then-is-9-clause-added c = (no_crl, search rules, refl)
 
 pub returns-then-is-10-clause-added : goal.returns-then-is-10-clause-added
-returns-then-is-10-clause-added c = (help, search rules, refl)
+returns-then-is-10-clause-added c = (strict_exit, search rules, refl)
+
+pub returns-then-is-11-clause-added : goal.returns-then-is-11-clause-added
+returns-then-is-11-clause-added c = (help, search rules, refl)

@@ -1,0 +1,91 @@
+-- The lines of rows, and their counts.
+use Rattle.std.specs.List.{AllByRecursion}
+use Rattle.std.specs.Prelude.{Bool, true, false, cond, suc, if◌then◌else◌}
+use Rattle.std.proofs.Common.{◌≡◌, ◌∙◌, ◌+◌, ◌==◌, ℕ, List, [], ◌∷◌, ◌++◌, length, map, refl, sym, ap, append_assoc, arith}
+use Rattle.rpki_document.specs.Documents.{Node, Span, head, document_of, spans_text}
+use Rattle.rpki_document.specs.Lines.{Row as Line, labelled, document_rows, node_rows}
+use Rattle.rpki_files.specs.Files.{FileFields}
+use Rattle.rpki_verdicts.specs.Trees.{certs_of}
+use Rattle.rpki_answers.specs.TreeDocuments.{AreSaid, above_nodes, accepted_head, count_of, file_first, file_last, is_word, issuer_at, issuer_spans, left_line, left_nodes, rejected_head, row_head, unseen_word, word_label, word_of}
+use Rattle.rpki_answers.specs.TreeLaws.{CountsAddUp, IsUnder, RowsBeginWithTheirWord}
+use Rattle.rpki_answers.specs.declared.tree_rows.Row.{Row}
+use Rattle.rpki_answers.specs.declared.tree_rows.Said.{Said}
+use Rattle.rpki_answers.specs.declared.tree_rows.Said.TheVariants as said
+use Rattle.rpki_answers.specs.declared.tree_rows.Word.{Word}
+use Rattle.rpki_answers.specs.declared.tree_rows.Word.TheVariants as word
+
+-- ---- lines
+
+rows_of_both : (a b : List Node) → document_rows (document_of (a ++ b)) ≡ document_rows (document_of a) ++ document_rows (document_of b)
+rows_of_both [] b = refl
+rows_of_both (p ∷ a) b =
+    ap (λ (l : List Line). node_rows p ++ l) (rows_of_both a b)
+    ∙ sym (append_assoc (node_rows p) (document_rows (document_of a)) (document_rows (document_of b)))
+
+under_if : (b : Bool) (left : ℕ) → AllByRecursion IsUnder (document_rows (document_of (if b then [] else left_line left ∷ [])))
+under_if true left = tt
+under_if false left = (tt, tt)
+
+no_rows : (certs : List FileFields) (places : List ℕ) → document_rows (document_of (above_nodes certs places)) ≡ []
+no_rows certs [] = refl
+no_rows certs (place ∷ places) = no_rows certs places
+
+-- what a line says behind its label
+behind_of : Node → List ℕ
+behind_of (head label spans) = 32 ∷ spans_text spans
+behind_of _ = []
+
+said_rows : (certs : List FileFields) (name : List ℕ) (of_it : Said) (nodes : List Node) → AreSaid certs name of_it nodes → (behind : List ℕ) × (document_rows (document_of nodes) ≡ labelled (word_label (word_of of_it)) behind ∷ [])
+said_rows certs name (said.Accepted t p kind) nodes (held, are, is) = (
+  behind_of (accepted_head name t.now p.now.above.items kind),
+  ap (λ (l : List Node). document_rows (document_of l)) is
+      ∙ ap (λ (l : List Line). labelled (word_label word.Accepted) (behind_of (accepted_head name t.now p.now.above.items kind)) ∷ (l ++ []))
+      (no_rows (certs_of t.now) (t.now.anchor ∷ p.now.above.items)),
+)
+said_rows certs name (said.Rejected fault) nodes is =
+    (behind_of (rejected_head name fault.rule.says.now fault.name.now fault.rule.section.now), ap (λ (l : List Node). document_rows (document_of l)) is)
+said_rows certs name (said.Unseen why) nodes is =
+    (behind_of (row_head (unseen_word why) (file_first name (issuer_spans certs (issuer_at why)))), ap (λ (l : List Node). document_rows (document_of l)) is)
+said_rows certs name said.Anchor nodes is = (behind_of (row_head word.Anchor (file_last name)), ap (λ (l : List Node). document_rows (document_of l)) is)
+said_rows certs name said.Crl nodes is = (behind_of (row_head word.Crl (file_last name)), ap (λ (l : List Node). document_rows (document_of l)) is)
+said_rows certs name said.Neither nodes is = (behind_of (row_head word.Neither (file_last name)), ap (λ (l : List Node). document_rows (document_of l)) is)
+
+pub begin_with_word : RowsBeginWithTheirWord
+begin_with_word certs row nodes (of_it, are, is) =
+    let first = said_rows certs row.file.now.name row.said of_it are in
+    let more = document_rows (document_of (left_nodes row.left)) in (
+      first.0,
+      more,
+      under_if (row.left == 0) row.left,
+      ap (λ (l : List Node). document_rows (document_of l)) is ∙ rows_of_both of_it (left_nodes row.left) ∙ ap (λ (l : List Line). l ++ more) first.1,
+    )
+
+-- ---- counts
+
+-- a word is one of these
+one_word : (w : Word)
+    → cond (is_word word.Anchor w) 1 0 + cond (is_word word.Accepted w) 1 0 + cond (is_word word.Rejected w) 1 0
+    + cond (is_word word.BelowRejected w) 1 0 + cond (is_word word.BelowUnseen w) 1 0
+    + cond (is_word word.NotLookedAt w) 1 0 + cond (is_word word.NotIssued w) 1 0 + cond (is_word word.NoIssuer w) 1 0
+    + cond (is_word word.Crl w) 1 0 + cond (is_word word.Neither w) 1 0 ≡ 1
+one_word word.Anchor = refl
+one_word word.Accepted = refl
+one_word word.Rejected = refl
+one_word word.BelowRejected = refl
+one_word word.BelowUnseen = refl
+one_word word.NotLookedAt = refl
+one_word word.NotIssued = refl
+one_word word.NoIssuer = refl
+one_word word.Crl = refl
+one_word word.Neither = refl
+
+sum_more : (a b c d e f g h i j k l m n o p q r s t z : ℕ) → a + b + c + d + e + f + g + h + i + j ≡ 1 → k + l + m + n + o + p + q + r + s + t ≡ z
+    → (a + k) + (b + l) + (c + m) + (d + n) + (e + o) + (f + p) + (g + q) + (h + r) + (i + s) + (j + t) ≡ suc z
+sum_more a b c d e f g h i j k l m n o p q r s t z one rest = omega (arith, one, rest)
+
+pub add_up : CountsAddUp
+add_up [] = refl
+add_up (row ∷ rows) =
+    sum_more _ _ _ _ _ _ _ _ _ _ (count_of word.Anchor rows) (count_of word.Accepted rows) (count_of word.Rejected rows)
+    (count_of word.BelowRejected rows) (count_of word.BelowUnseen rows) (count_of word.NotLookedAt rows) (count_of word.NotIssued rows)
+    (count_of word.NoIssuer rows) (count_of word.Crl rows) (count_of word.Neither rows) (length rows) (one_word (word_of row.said)) (add_up rows)

@@ -1,9 +1,0 @@
-use Rattle.std.proofs.lemmas.Result.{IfOk-weaker}
-use Rattle.rpki_answers.proofs.PutMembers.{then_put, last_put}
-use Rattle.rpki_answers.proofs.as_json.put_rule.Goals as goal
-
-pub returns : goal.returns
-returns c =
-    IfOk-weaker c.text-2.result _ _ (λ _ last.
-    then_put _ _ _ _ _ c.in_ok-text.ensures
-    (last_put _ _ _ last)) c.text-2.ensures

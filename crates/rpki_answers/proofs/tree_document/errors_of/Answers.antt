@@ -1,0 +1,16 @@
+use Rattle.std.specs.Prelude.{Option}
+use Rattle.std.proofs.Common.{◌≡◌, ◌∙◌, ℕ, List, sym, ap}
+use Rattle.rpki_answers.specs.TreeDocuments.{errors_of, said_error, with_error}
+use Rattle.std.proofs.Common.{take}
+use Rattle.rpki_answers.proofs.TreeRowsInOrder.{error_next}
+use Rattle.rpki_answers.proofs.tree_document.errors_of.Goals as goal
+
+pub loop-row-preserved : goal.loop-row-preserved
+loop-row-preserved c =
+    let l = c.loop-row in
+    let rows = c.args.rows.now in
+    let row = c.row-item.result in
+    c.in_ok-push_error.ensures
+    ∙ ap (λ (ns : List (List ℕ)). with_error ns _) l.invariant
+    ∙ ap (λ (e : Option (List ℕ)). with_error (errors_of (take l.row-index rows)) e) c.error.ensures
+    ∙ sym (error_next rows l.row-index row c.loop-row-test.true c.row-item.is)

@@ -1,0 +1,398 @@
+-- The document of files in no order: a head for each TAL, a row for each file, and the counts (own).
+use Rattle.std.specs.Bool.{MatchBool}
+use Rattle.std.specs.List.{flat_map, list_any}
+use Rattle.std.specs.Prelude.{◌≡◌, ◌==◌, ℕ, Bool, true, false, if◌then◌else◌, fold, List, [], ◌∷◌, ◌++◌, length, map, count_by, codes, unwrap_or, Option, Some, None}
+use Rattle.std.specs.Str.{bytes_eq}
+use Rattle.rpki_document.specs.Documents.{text, inner, count, flag, Span, say, tell, show, keep, Node, head, line, further, unsaid, inside, each, aside, document_of, document_text, document_json, kept}
+use Rattle.rpki_files.specs.Files.{FileFields}
+use Rattle.rpki_folder.specs.declared.bounds.Ended.{Ended}
+use Rattle.rpki_folder.specs.declared.bounds.Ended.TheVariants.{Whole, TooDeep, OutOfSteps}
+use Rattle.rpki_folder.specs.declared.find.FoundPath.{FoundPath}
+use Rattle.rpki_cert.specs.declared.inspect.Kind.{Kind}
+use Rattle.rpki_text.specs.declared.command_line.arguments.Format.{Format}
+use Rattle.rpki_text.specs.declared.command_line.arguments.Format.TheVariants.{Text, Json, JsonLines}
+use Rattle.rpki_verdicts.specs.TreeParts.{are_anchors, files_of, worst_end}
+use Rattle.rpki_verdicts.specs.Trees.{TreeFields, certs_of}
+use Rattle.rpki_verdicts.specs.declared.issuers.Unseen.{Unseen as Why}
+use Rattle.rpki_verdicts.specs.declared.issuers.Unseen.TheVariants as why
+use Rattle.rpki_verdicts.specs.declared.parts.TreePart.{TreePart}
+use Rattle.rpki_verdicts.specs.declared.parts.Trees.{Trees}
+use Rattle.rpki_verdicts.specs.declared.path.Fault.{Fault}
+use Rattle.rpki_verdicts.specs.declared.unordered.Tree.{Tree}
+use Rattle.rpki_verdicts.specs.declared.unordered.TreeAnswer.{TreeAnswer}
+use Rattle.rpki_verdicts.specs.declared.unordered.TreeAnswer.TheVariants.{NoAnchor, Walked}
+use Rattle.rpki_answers.specs.JsonTexts.{value_text}
+use Rattle.rpki_answers.specs.ToldValues.{kind_told}
+use Rattle.rpki_answers.specs.TreeRows.{AreRows}
+use Rattle.rpki_answers.specs.Verdicts.{AreHeld, fault_spans, not_locators, reason_spans, time_node, unchecked, unchecked_names, unjudged_nodes}
+use Rattle.rpki_answers.specs.VerdictTexts.{file_name_at}
+use Rattle.rpki_answers.specs.declared.tree_rows.Row.{Row}
+use Rattle.rpki_answers.specs.declared.tree_rows.Said.{Said}
+use Rattle.rpki_answers.specs.declared.tree_rows.Said.TheVariants as said
+use Rattle.rpki_answers.specs.declared.tree_rows.Word.{Word}
+use Rattle.rpki_answers.specs.declared.tree_rows.Word.TheVariants as word
+use Rattle.rpki_answers.specs.declared.trees.TreeFinding.{TreeFinding}
+use Rattle.rpki_answers.specs.declared.trees.TreeFinding.TheVariants.{NotALocator, Answered}
+pub mod Steps
+
+-- ---- words
+
+-- the word of a certificate on which there is no verdict
+abbrev pub unseen_word : Why → Word
+unseen_word why.NoIssuer = word.NoIssuer
+unseen_word (why.NotBelow issuer) = word.NotIssued
+unseen_word (why.NotLookedAt issuer) = word.NotLookedAt
+unseen_word (why.BelowRejected issuer) = word.BelowRejected
+unseen_word (why.BelowUnseen issuer) = word.BelowUnseen
+
+-- that of a file
+abbrev pub word_of : Said → Word
+word_of said.Anchor = word.Anchor
+word_of (said.Accepted tree path kind) = word.Accepted
+word_of (said.Rejected fault) = word.Rejected
+word_of (said.Unseen reason) = unseen_word reason
+word_of said.Crl = word.Crl
+word_of said.Neither = word.Neither
+
+-- for a person, as the label of a line
+abbrev pub word_label : Word → List ℕ
+word_label word.Anchor = codes "trust anchor"
+word_label word.Accepted = codes "accepted"
+word_label word.Rejected = codes "rejected"
+word_label word.BelowRejected = codes "below a rejected CA"
+word_label word.BelowUnseen = codes "below a CA without a verdict"
+word_label word.NotLookedAt = codes "not looked at"
+word_label word.NotIssued = codes "not issued by a CA here"
+word_label word.NoIssuer = codes "no issuer here"
+word_label word.Crl = codes "CRL"
+word_label word.Neither = codes "neither certificate nor CRL"
+
+-- for a program
+abbrev pub word_key : Word → List ℕ
+word_key word.Anchor = codes "trust_anchor"
+word_key word.Accepted = codes "accepted"
+word_key word.Rejected = codes "rejected"
+word_key word.BelowRejected = codes "below_rejected"
+word_key word.BelowUnseen = codes "below_unseen"
+word_key word.NotLookedAt = codes "not_looked_at"
+word_key word.NotIssued = codes "not_issued"
+word_key word.NoIssuer = codes "no_issuer"
+word_key word.Crl = codes "crl"
+word_key word.Neither = codes "neither"
+
+-- the certificate of a file with this word isn't accepted
+abbrev pub is_unaccepted : Word → Bool
+is_unaccepted word.Anchor = false
+is_unaccepted word.Accepted = false
+is_unaccepted word.Crl = false
+is_unaccepted word.Neither = false
+is_unaccepted _ = true
+
+-- ---- a row
+
+-- the line of a file: the word, and what is said behind it
+abbrev pub row_head : Word → List Span → Node
+row_head w spans = head (word_label w) (keep (codes "verdict") (text (word_key w)) ∷ spans)
+
+-- the file alone, and one behind which more is said
+abbrev pub file_last : List ℕ → List Span
+file_last name = tell (codes "file") (text name) ∷ []
+
+abbrev pub file_first : List ℕ → List Span → List Span
+file_first name spans = tell (codes "file") (inner name) ∷ spans
+
+-- how many octets stand behind the certificate or the CRL that a file begins with
+abbrev pub left_line : ℕ → Node
+left_line left =
+    further (tell (codes "octets_after_end") (count left) ∷ say (codes " bytes after its end") ∷ [])
+
+-- if some do
+abbrev pub left_nodes : ℕ → List Node
+left_nodes left = if left == 0 then [] else left_line left ∷ []
+
+-- a rejected certificate, and why, as `validate` says it
+abbrev pub rejected_head : List ℕ → List ℕ → List ℕ → List ℕ → Node
+rejected_head file says name section =
+    row_head word.Rejected (file_first file (say (codes ": ") ∷ reason_spans says name section))
+
+-- how many certificates are above it, and in which step it is rejected
+abbrev pub index_node : ℕ → List ℕ → Node
+index_node index step =
+    unsaid (keep (codes "member") (count index) ∷ keep (codes "step") (text step) ∷ [])
+
+abbrev pub rejected_row : List ℕ → Fault → List Node
+rejected_row file f =
+    rejected_head file f.rule.says.now f.name.now f.rule.section.now
+    ∷ index_node f.index f.step.now
+    ∷ unsaid (fault_spans f.name.now f.rule.says.now f.rule.section.now)
+    ∷ []
+
+-- the name of the certificate's file at a place
+abbrev pub name_of : List FileFields → ℕ → List ℕ
+name_of certs place = unwrap_or (file_name_at certs place) []
+
+-- the place of the issuer of a certificate on which there is no verdict
+abbrev pub issuer_at : Why → Option ℕ
+issuer_at why.NoIssuer = None
+issuer_at (why.NotBelow issuer) = Some issuer
+issuer_at (why.NotLookedAt issuer) = Some issuer
+issuer_at (why.BelowRejected issuer) = Some issuer
+issuer_at (why.BelowUnseen issuer) = Some issuer
+
+-- its name
+abbrev pub issuer_spans : List FileFields → Option ℕ → List Span
+issuer_spans certs None = []
+issuer_spans certs (Some place) =
+    say (codes ", issuer ") ∷ tell (codes "issuer") (text (name_of certs place)) ∷ []
+
+-- such a certificate, among these
+abbrev pub unseen_row : List FileFields → List ℕ → Why → List Node
+unseen_row certs name reason =
+    row_head (unseen_word reason) (file_first name (issuer_spans certs (issuer_at reason))) ∷ []
+
+-- the names of the CAs at these places, each behind an arrow
+abbrev pub below_spans : List FileFields → List ℕ → List Span
+below_spans certs places =
+    flat_map (λ place. say (codes " > ") ∷ show (inner (name_of certs place)) ∷ []) places
+
+-- those of the trust anchor and of the CAs, for a program
+abbrev pub above_nodes : List FileFields → List ℕ → List Node
+above_nodes certs places = map (λ place. kept [] (text (name_of certs place))) places
+
+-- an accepted certificate: as what it was judged, and the CAs above it from the trust anchor down
+abbrev pub accepted_head : List ℕ → Tree → List ℕ → Kind → Node
+accepted_head name tree above kind =
+    row_head word.Accepted (file_first name (say (codes ", ") ∷ tell (codes "judged_as") (kind_told kind)
+    ∷ say (codes ", below ") ∷ show (inner (name_of (certs_of tree) tree.anchor))
+    ∷ below_spans (certs_of tree) above))
+
+-- and, for a program, these and what it holds
+abbrev pub IsAccepted : List ℕ → Tree → FoundPath → Kind → List Node → Type 0
+IsAccepted name tree path kind nodes =
+    (held : List Node) × AreHeld path.judged.holder path.judged.router held
+    × (nodes ≡ accepted_head name tree path.above.items kind
+    ∷ each (codes "above") (document_of (above_nodes (certs_of tree) (tree.anchor ∷ path.above.items)))
+    ∷ aside (document_of held)
+    ∷ [])
+
+-- what is said of a file
+abbrev pub AreSaid : List FileFields → List ℕ → Said → List Node → Type 0
+AreSaid certs name (said.Accepted tree path kind) nodes = IsAccepted name tree.now path.now kind nodes
+AreSaid certs name (said.Rejected fault) nodes = nodes ≡ rejected_row name fault
+AreSaid certs name (said.Unseen reason) nodes = nodes ≡ unseen_row certs name reason
+AreSaid certs name said.Anchor nodes = nodes ≡ row_head word.Anchor (file_last name) ∷ []
+AreSaid certs name said.Crl nodes = nodes ≡ row_head word.Crl (file_last name) ∷ []
+AreSaid certs name said.Neither nodes = nodes ≡ row_head word.Neither (file_last name) ∷ []
+
+-- the document of a row
+abbrev pub IsRowDocument : List FileFields → Row → List Node → Type 0
+IsRowDocument certs row nodes =
+    (of_it : List Node) × AreSaid certs row.file.now.name row.said of_it
+    × (nodes ≡ of_it ++ left_nodes row.left)
+
+-- the row is printed, where only certificates that aren't accepted are
+abbrev pub is_printed : Bool → Row → Bool
+is_printed only row = if only then is_unaccepted (word_of row.said) else true
+
+-- its document alone; none, where it isn't printed
+abbrev pub PrintsRow : Bool → List FileFields → Row → List (List Node) → Type 0
+PrintsRow only certs row documents =
+    MatchBool (is_printed only row)
+    ((nodes : List Node) × IsRowDocument certs row nodes × (documents ≡ nodes ∷ []))
+    (documents ≡ [])
+
+-- those of all rows, one after the other
+abbrev pub PrintsRows : Bool → List FileFields → List Row → List (List Node) → Type 0
+PrintsRows only certs [] documents = documents ≡ []
+PrintsRows only certs (row ∷ rows) documents =
+    (first : List (List Node)) × (more : List (List Node)) × PrintsRow only certs row first
+    × PrintsRows only certs rows more × (documents ≡ first ++ more)
+
+-- ---- heads
+
+-- how far a walk went
+abbrev pub ended_word : Ended → List ℕ
+ended_word Whole = codes "whole"
+ended_word TooDeep = codes "too_deep"
+ended_word OutOfSteps = codes "out_of_steps"
+
+-- a TAL without a valid trust anchor
+abbrev pub no_anchor_head : List ℕ → Node
+no_anchor_head name = head (codes "TAL") (
+    tell (codes "tal") (inner name)
+    ∷ say (codes ": no valid trust anchor (NoAnchor, RFC 8630 3)")
+    ∷ keep (codes "fault") (text (codes "NoAnchor")) ∷ keep (codes "standard") (text (codes "RFC 8630 3")) ∷ [])
+
+-- a TAL, and the trust anchor of its tree
+abbrev pub anchor_head : List ℕ → Tree → Node
+anchor_head name tree = head (codes "TAL") (
+    tell (codes "tal") (inner name) ∷ keep (codes "ended") (text (ended_word tree.ended))
+    ∷ say (codes ", trust anchor ")
+    ∷ tell (codes "trust_anchor") (text (name_of (certs_of tree) tree.anchor)) ∷ [])
+
+abbrev pub tal_head : List ℕ → TreeAnswer → Node
+tal_head name (NoAnchor wrong) = no_anchor_head name
+tal_head name (Walked tree) = anchor_head name tree
+
+abbrev pub tal_node : TreePart → Node
+tal_node part = inside [] (document_of (tal_head part.locator.now.file.name part.answer ∷ []))
+
+-- the heads of the TALs
+abbrev pub tals_node : Trees → Node
+tals_node trees = each (codes "tals") (document_of (map tal_node trees.parts.items))
+
+-- ---- counts
+
+-- two words are the same
+abbrev pub is_word : Word → Word → Bool
+is_word w v = bytes_eq (word_key v) (word_key w)
+
+-- how many rows have a word
+abbrev pub has_word : Word → Row → Bool
+has_word w row = is_word w (word_of row.said)
+
+abbrev pub count_of : Word → List Row → ℕ
+count_of w rows = count_by (has_word w) rows
+
+-- the line of such a count
+abbrev pub count_line : List ℕ → Word → List Row → Node
+count_line label w rows = line label (tell (word_key w) (count (count_of w rows)) ∷ [])
+
+-- the counts of the words
+abbrev pub count_lines : List Row → List Node
+count_lines rows =
+    count_line (codes "Trust anchors") word.Anchor rows
+    ∷ count_line (codes "Accepted") word.Accepted rows
+    ∷ count_line (codes "Rejected") word.Rejected rows
+    ∷ count_line (codes "Below a rejected CA") word.BelowRejected rows
+    ∷ count_line (codes "Below another CA") word.BelowUnseen rows
+    ∷ count_line (codes "Not looked at") word.NotLookedAt rows
+    ∷ count_line (codes "Not issued by a CA") word.NotIssued rows
+    ∷ count_line (codes "No issuer here") word.NoIssuer rows
+    ∷ count_line (codes "CRLs") word.Crl rows
+    ∷ count_line (codes "Other files") word.Neither rows
+    ∷ []
+
+-- and of all certificates
+abbrev pub counts_node : Trees → List Row → Node
+counts_node trees rows = inside (codes "counts") (document_of (
+    line (codes "Certificates") (tell (codes "certificates") (count (length trees.certs.items)) ∷ [])
+    ∷ count_lines rows))
+
+-- the row has this error
+abbrev pub said_error : Said → Option (List ℕ)
+said_error (said.Rejected fault) = Some fault.name.now
+said_error _ = None
+
+abbrev pub is_error : List ℕ → Option (List ℕ) → Bool
+is_error name None = false
+is_error name (Some error) = bytes_eq error name
+
+abbrev pub has_error : List ℕ → Row → Bool
+has_error name row = is_error name (said_error row.said)
+
+-- the errors so far, with that of a row, where it is new
+abbrev pub with_error : List (List ℕ) → Option (List ℕ) → List (List ℕ)
+with_error names None = names
+with_error names (Some error) =
+    if list_any (λ name. bytes_eq name error) names then names else names ++ error ∷ []
+
+-- the errors of rows, each once, in the order of the rows
+abbrev pub errors_of : List Row → List (List ℕ)
+errors_of rows = fold (λ names row. with_error names (said_error row.said)) [] rows
+
+-- how many rows have an error
+abbrev pub error_node : List Row → List ℕ → Node
+error_node rows name = inside [] (document_of (
+    line (codes "Error") (tell (codes "fault") (text name) ∷ say (codes ": ")
+    ∷ tell (codes "count") (count (count_by (has_error name) rows)) ∷ []) ∷ []))
+
+abbrev pub errors_node : List Row → Node
+errors_node rows = each (codes "errors") (document_of (map (error_node rows) (errors_of rows)))
+
+-- what damages a cache
+abbrev pub damage_nodes : Trees → List Node
+damage_nodes trees =
+    line (codes "Malformed CRLs") (tell (codes "malformed_crls") (count trees.broken_lists) ∷ [])
+    ∷ line (codes "Unknown files") (tell (codes "unknown_files") (count trees.others) ∷ [])
+    ∷ line (codes "Trust anchors only") (tell (codes "only_trust_anchors") (flag (are_anchors trees)) ∷ [])
+    ∷ []
+
+-- ---- the whole
+
+-- every certificate was judged
+abbrev pub whole_line : Node
+whole_line = line (codes "Searched") (
+    keep (codes "ended") (text (codes "whole")) ∷ say (codes "every certificate below the trust anchors") ∷ [])
+
+-- a bound was met, and which option is a greater one
+abbrev pub limited_line : List ℕ → List ℕ → ℕ → List ℕ → Node
+limited_line w before limit behind = line (codes "Searched") (
+    keep (codes "ended") (text w) ∷ say before ∷ show (count limit) ∷ say behind ∷ [])
+
+-- how far the walks went
+abbrev pub searched_line : TreeFields → Ended → Node
+searched_line q Whole = whole_line
+searched_line q TooDeep = limited_line (codes "too_deep") (codes "at most ") q.depth
+    (codes " certificates down, more are below (--depth sets the limit)")
+searched_line q OutOfSteps = limited_line (codes "out_of_steps") (codes "not all, the limit of ") q.steps
+    (codes " steps was reached (--steps sets the limit)")
+
+-- what wasn't checked
+abbrev pub tree_unchecked : TreeFields → List Node
+tree_unchecked q =
+    unchecked (codes "manifests, a withheld file isn't missed")
+    ∷ (unchecked_names q.names ++ unchecked (codes "whether the RPKI uses the last keys") ∷ [])
+
+-- what was asked, for a program
+abbrev pub tree_asked : Bool → Node
+tree_asked names =
+    unsaid (keep (codes "names_asked") (flag names) ∷ keep (codes "manifests_asked") (flag false)
+    ∷ keep (codes "last_keys_asked") (flag false) ∷ [])
+
+-- what is said behind the rows
+abbrev pub end_nodes : TreeFields → Trees → List Row → List Node
+end_nodes q trees rows =
+    time_node q.at ∷ counts_node trees rows ∷ errors_node rows
+    ∷ (damage_nodes trees ++ searched_line q (worst_end trees.parts.items)
+    ∷ (tree_unchecked q ++ tree_asked q.names ∷ []))
+
+-- where a file given as a TAL is none
+abbrev pub no_locator_nodes : TreeFields → Fault → List Node
+no_locator_nodes q f =
+    unjudged_nodes f.step.now f.rule.says.now f.name.now f.rule.section.now
+    ++ each (codes "not_locators") (document_of (not_locators q.locators)) ∷ time_node q.at ∷ []
+
+-- a document in a format
+abbrev pub rendered : Format → List Node → List ℕ
+rendered Text nodes = document_text (document_of nodes)
+rendered format nodes = value_text format (document_json (document_of nodes))
+
+-- the documents of rows, as one
+abbrev pub files_node : List (List Node) → Node
+files_node documents = each (codes "files") (document_of (map (λ nodes. inside [] (document_of nodes)) documents))
+
+-- the heads, the rows and what is said behind them: in a person's format one after the other; in JSON
+-- one object, or a line for each row, and one for the rest
+abbrev pub tree_text : Format → Node → List (List Node) → List Node → List ℕ
+tree_text Text heads documents ends =
+    rendered Text (heads ∷ []) ++ (flat_map (rendered Text) documents ++ rendered Text ends)
+tree_text JsonLines heads documents ends =
+    flat_map (rendered JsonLines) documents ++ rendered JsonLines (heads ∷ ends)
+tree_text Json heads documents ends = rendered Json (heads ∷ files_node documents ∷ ends)
+
+-- of trees, and of these rows, this is printed
+abbrev pub PrintsTrees : Format → Bool → TreeFields → Trees → List Row → List ℕ → Type 0
+PrintsTrees format only q trees rows printed =
+    (documents : List (List Node)) × PrintsRows only (files_of trees) rows documents
+    × (printed ≡ tree_text format (tals_node trees) documents (end_nodes q trees rows))
+
+-- of trees, this is printed
+abbrev pub AreTreesSaid : Format → Bool → TreeFields → Trees → List ℕ → Type 0
+AreTreesSaid format only q trees printed =
+    (rows : List Row) × AreRows trees q.files rows × PrintsTrees format only q trees rows printed
+
+-- of what is found
+abbrev pub IsTree : Format → Bool → TreeFields → TreeFinding → List ℕ → Type 0
+IsTree format only q (NotALocator fault) printed = printed ≡ rendered format (no_locator_nodes q fault)
+IsTree format only q (Answered trees) printed = AreTreesSaid format only q trees printed

@@ -1,0 +1,36 @@
+-- What the functions that print rows do to a text, and to the parts of a document.
+use Rattle.std.specs.List.{flat_map}
+use Rattle.std.specs.Prelude.{◌≡◌, ℕ, Bool, List, [], ◌++◌, map}
+use Rattle.rpki_document.specs.Building.{Adds}
+use Rattle.rpki_document.specs.Documents.{Node, inside, document_of}
+use Rattle.rpki_document.specs.declared.parts.Part.{Part}
+use Rattle.rpki_files.specs.Files.{FileFields}
+use Rattle.rpki_text.specs.declared.command_line.arguments.Format.{Format}
+use Rattle.rpki_answers.specs.TreeDocuments.{PrintsRow, PrintsRows, rendered}
+use Rattle.rpki_answers.specs.declared.tree_rows.Row.{Row}
+
+-- new is old with these documents behind it
+abbrev pub Appends : Format → List (List Node) → List ℕ → List ℕ → Type 0
+Appends format documents old new = new ≡ old ++ flat_map (rendered format) documents
+
+-- with that of a row
+abbrev pub AppendsRow : Format → Bool → List FileFields → Row → List ℕ → List ℕ → Type 0
+AppendsRow format only certs row old new =
+    (documents : List (List Node)) × PrintsRow only certs row documents × Appends format documents old new
+
+-- with those of rows
+abbrev pub AppendsRows : Format → Bool → List FileFields → List Row → List ℕ → List ℕ → Type 0
+AppendsRows format only certs rows old new =
+    (documents : List (List Node)) × PrintsRows only certs rows documents × Appends format documents old new
+
+-- new is old with an object for each of these documents behind it
+abbrev pub AddsDocuments : List (List Node) → List Part → List Part → Type 0
+AddsDocuments documents old new = Adds (map (λ nodes. inside [] (document_of nodes)) documents) old new
+
+abbrev pub AddsRow : Bool → List FileFields → Row → List Part → List Part → Type 0
+AddsRow only certs row old new =
+    (documents : List (List Node)) × PrintsRow only certs row documents × AddsDocuments documents old new
+
+abbrev pub AddsRows : Bool → List FileFields → List Row → List Part → List Part → Type 0
+AddsRows only certs rows old new =
+    (documents : List (List Node)) × PrintsRows only certs rows documents × AddsDocuments documents old new

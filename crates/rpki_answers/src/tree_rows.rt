@@ -1,0 +1,294 @@
+//! What is said of each file of a tree.
+ghost use Rattle.std.specs.Prelude.{◌≡◌, ◌≤◌, ◌<◌, ◌+◌, ◌^◌, option_map, IfOk};
+ghost use Rattle.rpki_cert.specs.SaidKinds.{SaysKind};
+ghost use Rattle.rpki_path.specs.Judging.{last_certificate};
+ghost use Rattle.rpki_verdicts.specs.PathAnswers.{reason_of};
+ghost use Rattle.rpki_verdicts.specs.Reasons.{IsReason};
+ghost use Rattle.rpki_verdicts.specs.TreeParts.{wrong_at};
+ghost use Rattle.rpki_verdicts.specs.UnseenCertificates.{AreIssuers};
+ghost use Rattle.rpki_answers.specs.TreeDocuments.{is_unaccepted, said_error, unseen_word, word_key, word_label, word_of};
+ghost use Rattle.rpki_answers.specs.TreeRows.{AreRows, SaysAnswer, SaysCertificate, SaysFile, SaysLine, SaysUnseen};
+
+use rpki_cert::{Kind, said_kind};
+use rpki_files::{BareObject, Front};
+use rpki_folder::{FoundPath, Line};
+use rpki_path::{Judged, PathFault};
+use rpki_verdicts::reasons::of_path;
+use rpki_verdicts::{Fault, Issuers, Tree, TreeAnswer, Trees, Unseen};
+use std::alloc::{AllocError, Global};
+
+/// What is said of a file.
+#[derive(Drop)]
+pub enum Said<'t, 'q, 'n> {
+    /// Its certificate is a trust anchor.
+    Anchor,
+    /// Its certificate is accepted in a tree, by a path, as a certificate of this kind.
+    Accepted(&'t Tree<'q, 'n>, &'t FoundPath, Kind),
+    /// Its certificate is rejected.
+    Rejected(Fault),
+    /// There is no verdict on its certificate.
+    Unseen(Unseen),
+    /// It is a CRL.
+    Crl,
+    /// It is neither a certificate nor a CRL.
+    Neither,
+}
+
+/// A file, how many bytes follow what it starts with, and what is said of it.
+#[derive(Drop)]
+pub struct Row<'t, 'q, 'n> {
+    pub file: &'q BareObject<'n>,
+    pub left: usize,
+    pub said: Said<'t, 'q, 'n>,
+}
+
+/// The word for what is said of a file.
+#[derive(Clone, Copy)]
+pub enum Word {
+    Anchor,
+    Accepted,
+    Rejected,
+    BelowRejected,
+    BelowUnseen,
+    NotLookedAt,
+    NotIssued,
+    NoIssuer,
+    Crl,
+    Neither,
+}
+
+impl Word {
+    /// Returns the word for a person.
+    pub fn label(self) -> &'static str
+        ensures { result.now ≡ word_label self }
+    {
+        match self {
+            Word::Anchor => "trust anchor",
+            Word::Accepted => "accepted",
+            Word::Rejected => "rejected",
+            Word::BelowRejected => "below a rejected CA",
+            Word::BelowUnseen => "below a CA without a verdict",
+            Word::NotLookedAt => "not looked at",
+            Word::NotIssued => "not issued by a CA here",
+            Word::NoIssuer => "no issuer here",
+            Word::Crl => "CRL",
+            Word::Neither => "neither certificate nor CRL",
+        }
+    }
+    /// Returns the word for a program.
+    pub fn key(self) -> &'static str
+        ensures { result.now ≡ word_key self }
+    {
+        match self {
+            Word::Anchor => "trust_anchor",
+            Word::Accepted => "accepted",
+            Word::Rejected => "rejected",
+            Word::BelowRejected => "below_rejected",
+            Word::BelowUnseen => "below_unseen",
+            Word::NotLookedAt => "not_looked_at",
+            Word::NotIssued => "not_issued",
+            Word::NoIssuer => "no_issuer",
+            Word::Crl => "crl",
+            Word::Neither => "neither",
+        }
+    }
+    /// Returns whether the certificate of such a file isn't accepted.
+    pub fn is_unaccepted(self) -> bool
+        ensures { result ≡ is_unaccepted self }
+    {
+        match self {
+            Word::Anchor | Word::Accepted | Word::Crl | Word::Neither => false,
+            Word::Rejected
+            | Word::BelowRejected
+            | Word::BelowUnseen
+            | Word::NotLookedAt
+            | Word::NotIssued
+            | Word::NoIssuer => true,
+        }
+    }
+}
+
+/// Returns the word of a certificate on which there is no verdict.
+pub(crate) fn unseen_word(why: Unseen) -> Word
+    ensures { result ≡ unseen_word why }
+{
+    match why {
+        Unseen::NoIssuer => Word::NoIssuer,
+        Unseen::NotBelow(_) => Word::NotIssued,
+        Unseen::NotLookedAt(_) => Word::NotLookedAt,
+        Unseen::BelowRejected(_) => Word::BelowRejected,
+        Unseen::BelowUnseen(_) => Word::BelowUnseen,
+    }
+}
+
+impl Said<'_, '_, '_> {
+    /// Returns the word for it.
+    pub fn word(&self) -> Word
+        ensures { result ≡ word_of self.now }
+    {
+        match self {
+            Said::Anchor => Word::Anchor,
+            Said::Accepted(..) => Word::Accepted,
+            Said::Rejected(_) => Word::Rejected,
+            Said::Unseen(why) => unseen_word(*why),
+            Said::Crl => Word::Crl,
+            Said::Neither => Word::Neither,
+        }
+    }
+    /// Returns the name of the error, if the certificate is rejected.
+    pub fn error(&self) -> Option<&'static str>
+        ensures { option_map (λ name. name.now) result ≡ said_error self.now }
+    {
+        match self {
+            Said::Rejected(fault) => Some(fault.name),
+            Said::Anchor | Said::Accepted(..) | Said::Unseen(_) | Said::Crl | Said::Neither => None,
+        }
+    }
+}
+
+// As what the certificate that was accepted was judged: as what it says that it is.
+fn judged_as(judged: &Judged) -> Kind
+    ensures { let c = last_certificate judged.now.holder judged.now.router in
+        SaysKind result c.fields }
+{
+    match &judged.router {
+        Some(cert) => said_kind(cert.as_tbs()),
+        None => said_kind(judged.holder.as_cert().as_tbs()),
+    }
+}
+
+// What is wrong with a certificate that was rejected at a path index.
+fn fault_of(index: usize, error: &PathFault, file: &BareObject<'_>) -> Fault
+    ensures index { result.index ≡ index }
+    ensures reason { IsReason error.now file.now.octets (reason_of result) }
+{
+    let (step, name, rule) = of_path(error, file.octets());
+    Fault {
+        index,
+        step,
+        name,
+        rule,
+    }
+}
+
+// What is said of a certificate on which there is no verdict.
+fn said_unseen<'t, 'q, 'n>(
+    trees: &'t Trees<'q, 'n>,
+    issuers: &Issuers,
+    place: usize,
+    file: &BareObject<'_>,
+) -> Said<'t, 'q, 'n>
+    requires { AreIssuers trees.now issuers.now }
+    ensures { SaysUnseen trees.now file.now (wrong_at trees.now.parts.items place) result }
+{
+    match trees.wrong_at(place) {
+        Some(wrong) => Said::Rejected(wrong.fault),
+        None => Said::Unseen(trees.unseen(issuers, file)),
+    }
+}
+
+// By its line.
+fn said_by_line<'t, 'q, 'n>(
+    trees: &'t Trees<'q, 'n>,
+    issuers: &Issuers,
+    tree: &'t Tree<'q, 'n>,
+    place: usize,
+    file: &BareObject<'_>,
+    line: Option<&'t Line>,
+) -> Said<'t, 'q, 'n>
+    requires { AreIssuers trees.now issuers.now }
+    ensures { let its = option_map (λ l. l.now) line.entry in
+        SaysLine tree.now file.now its
+        (SaysUnseen trees.now file.now (wrong_at trees.now.parts.items place)) result }
+{
+    match line {
+        Some(Line::Accepted(path)) => Said::Accepted(tree, path, judged_as(&path.judged)),
+        Some(Line::Rejected(index, error)) => Said::Rejected(fault_of(*index, error, file)),
+        Some(Line::Unseen) | None => said_unseen(trees, issuers, place, file),
+    }
+}
+
+// By the answer on a TAL.
+fn said_by_answer<'t, 'q, 'n>(
+    trees: &'t Trees<'q, 'n>,
+    issuers: &Issuers,
+    answer: &'t TreeAnswer<'q, 'n>,
+    place: usize,
+    file: &BareObject<'_>,
+) -> Said<'t, 'q, 'n>
+    requires { AreIssuers trees.now issuers.now }
+    ensures { SaysAnswer place file.now answer.now
+        (SaysUnseen trees.now file.now (wrong_at trees.now.parts.items place)) result }
+{
+    match answer {
+        TreeAnswer::NoAnchor(_) => said_unseen(trees, issuers, place, file),
+        TreeAnswer::Walked(tree) => {
+            if place == tree.anchor {
+                return Said::Anchor;
+            }
+            let line = tree.lines.as_slice().get(place);
+            said_by_line(trees, issuers, tree, place, file, line)
+        }
+    }
+}
+
+// What is said of the certificate of a file at a place.
+fn said_of_certificate<'t, 'q, 'n>(
+    trees: &'t Trees<'q, 'n>,
+    issuers: &Issuers,
+    place: usize,
+    file: &BareObject<'_>,
+) -> Said<'t, 'q, 'n>
+    requires { AreIssuers trees.now issuers.now }
+    ensures { SaysCertificate trees.now place file.now result }
+{
+    match trees.shown_part(place) {
+        Some(part) => said_by_answer(trees, issuers, &part.answer, place, file),
+        None => said_unseen(trees, issuers, place, file),
+    }
+}
+
+// What is said of a file, where the next certificate is at this place; and the place of one after
+// it.
+fn said_of_file<'t, 'q, 'n>(
+    trees: &'t Trees<'q, 'n>,
+    issuers: &Issuers,
+    place: usize,
+    file: &BareObject<'_>,
+) -> (usize, Said<'t, 'q, 'n>)
+    requires issuers { AreIssuers trees.now issuers.now }
+    requires place { place + 1 < 2 ^ 64 }
+    ensures next { result.0 ≤ place + 1 }
+    ensures said { SaysFile trees.now place result.0 file.now result.1 }
+{
+    match file.front() {
+        Front::Certificate(_) => (place + 1, said_of_certificate(trees, issuers, place, file)),
+        Front::List => (place, Said::Crl),
+        Front::Neither => (place, Said::Neither),
+    }
+}
+
+/// Finds what is said of each file.
+///
+/// # Errors
+///
+/// Returns an error only if memory runs out.
+pub fn rows_of<'t, 'q, 'n>(
+    alloc: Global,
+    trees: &'t Trees<'q, 'n>,
+    issuers: &Issuers,
+    files: &'q [BareObject<'n>],
+) -> Result<Vec<Row<'t, 'q, 'n>>, AllocError>
+    requires { AreIssuers trees.now issuers.now }
+    ensures { IfOk result (λ rows. AreRows trees.now files.now rows.items) }
+{
+    let mut rows = Vec::new(alloc);
+    let mut place = 0;
+    for file in files {
+        let (next, said) = said_of_file(trees, issuers, place, file);
+        let left = file.left();
+        rows.push(Row { file, left, said })?;
+        place = next;
+    }
+    Ok(rows)
+}
