@@ -22,7 +22,7 @@ unreachable-requires c =
 
 pub returns-in-Ok : goal.returns-in-Ok
 returns-in-Ok c =
-    let octets = c.args.self.now in
+    let octets = c.self.inside.octets in
     let rest = remaining c.take_from.new.cursor in
     let end = c.len.result - length c.rest.result.now in
     let begins = subst (λ (o : List ℕ). Begins IsCertificate o c.in-Ok.cert rest) c.new-cursor.ensures.all c.in-Ok.ensures.encoded in
