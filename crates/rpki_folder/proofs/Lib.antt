@@ -15,6 +15,7 @@ pub mod HeldSets
 pub mod CircleFree
 pub mod Renamed
 pub mod KeyTableSteps
+pub mod FirstSteps
 pub mod FolderSteps
 pub mod KeptLineSteps
 pub mod StepAnswers

@@ -38,6 +38,21 @@ pub record NamesSigner (key octets : List ℕ) : Type 0 where
   pub begins : Means IsCertificate cert octets
   pub names : cert.fields.extensions.authority_key_identifier ≡ Some key
 
+-- the octets at the two places begin with one certificate. Whatever is behind it doesn't count
+abbrev pub AreOneAt : List (List ℕ) → ℕ → ℕ → Type 0
+AreOneAt certs place other =
+    (c : CertFields) × Means IsCertificate c (octets_at certs place)
+    × Means IsCertificate c (octets_at certs other)
+
+-- the place is the first of those whose octets begin with its certificate
+abbrev pub IsFirst : List (List ℕ) → ℕ → Type 0
+IsFirst certs place = (other : ℕ) → other < place → AreOneAt certs place other → ⊥
+
+-- this is the first of the places whose octets begin with the certificate at the place
+pub record IsFirstOf (certs : List (List ℕ)) (place first : ℕ) : Type 0 where
+  pub one : AreOneAt certs place first
+  pub is_first : IsFirst certs first
+
 -- no element stands twice in the list
 abbrev pub IsOnce : {X : Type 0} → List X → Type 0
 IsOnce {X} [] = Unit {0}

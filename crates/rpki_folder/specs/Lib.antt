@@ -1,5 +1,6 @@
 pub mod KeyTables
 pub mod Folders
+pub mod FirstPlaces
 pub mod IssuerLists
 pub mod UsualBounds
 pub mod Walks

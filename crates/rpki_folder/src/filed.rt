@@ -3,9 +3,11 @@ ghost use Rattle.std.specs.Prelude.{◌≡◌, IfOk};
 ghost use Rattle.rpki_ext.specs.Kinds.{Means};
 ghost use Rattle.rpki_cert.specs.Certificates.{IsCertificate};
 ghost use Rattle.rpki_cert.specs.SaidKinds.{BeginsWithSaid};
+ghost use Rattle.rpki_folder.specs.FirstPlaces.{IsCertificateOctets};
 
 use bytes::Bytes;
 use rpki_cert::{Cert, Said};
+use rpki_der::Cursor;
 use rpki_path::Member;
 use std::alloc::{AllocError, Global};
 use std::marker::Model;
@@ -63,6 +65,27 @@ impl Filed {
     {
         match Cert::decode_shared(alloc, self.octets.clone()?) {
             Ok(cert) => Ok(cert),
+            Err(fault) => {
+                if !fault.is_memory() {
+                    unreachable!();
+                }
+                drop(fault);
+                Err(AllocError)
+            }
+        }
+    }
+
+    // The bytes of the certificate, without those behind it.
+    pub(crate) fn certificate_octets(&self, alloc: Global) -> Result<Bytes, AllocError>
+        ensures { IfOk result (IsCertificateOctets self.now) }
+    {
+        let mut cursor = Cursor::new(&self.octets);
+        match Cert::take_from(alloc, &mut cursor) {
+            Ok(cert) => {
+                drop(cert);
+                let end = self.octets.len() - cursor.rest().len();
+                self.octets.slice(..end)
+            }
             Err(fault) => {
                 if !fault.is_memory() {
                     unreachable!();

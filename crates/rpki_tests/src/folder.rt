@@ -6,7 +6,9 @@ use crate::{anchors, lists, samples};
 use bytes::Bytes;
 use rpki_cert::{Cert, Said};
 use rpki_crl::RevocationError;
-use rpki_folder::{Added, AllAdmitted, Bounds, Ended, Folder, Found, Line, Lines, Walk, WalkError};
+use rpki_folder::{
+    Added, AllAdmitted, Bounds, Ended, Firsts, Folder, Found, Line, Lines, Walk, WalkError,
+};
 use rpki_parts::{StandIn, Verifier};
 use rpki_path::{Member, PathFault};
 use std::alloc::Global;
@@ -240,6 +242,42 @@ fn a_list_with_octets_behind_is_none(rt: HostRuntime) {
     let list = list_octets(&rt, alloc);
     assert!(rt; add(&rt, &mut folder, longer(&rt, alloc, &list)) == Added::Neither);
     assert!(rt; add(&rt, &mut folder, list) == Added::List);
+    drop(folder);
+}
+
+// Each certificate is admitted at its first place, whatever is behind it.
+#[test]
+fn a_copy_takes_no_step(rt: HostRuntime) {
+    let alloc = rt.alloc();
+    let mut folder = Folder::new(alloc);
+    add(&rt, &mut folder, list_octets(&rt, alloc));
+    let octets = end_entity(&rt, alloc);
+    add(&rt, &mut folder, longer(&rt, alloc, &octets));
+    add(&rt, &mut folder, octets);
+    add(&rt, &mut folder, authority(&rt, alloc));
+    let firsts = Firsts::of(alloc, &folder).expect(&rt, "memory");
+    assert_eq!(rt; (firsts.first_of(0), firsts.first_of(1), firsts.first_of(2)), (0, 0, 2));
+    let mut lines = Lines::new(alloc, 3).expect(&rt, "memory");
+    let tal = locator(&rt, alloc, OF_ANCHOR);
+    let anchor = anchors::octets(&rt, alloc);
+    let walk = Walk {
+        alloc,
+        folder: &folder,
+        admission: &firsts,
+        bounds: Bounds { depth: 3, steps: 2 },
+        names: false,
+        strict: true,
+        at: anchors::now(&rt),
+        verifier: &StandIn,
+    };
+    let ended = walk.from_anchor(&tal, &Member::of(&anchor), &mut lines);
+    assert!(rt; ended.expect(&rt, "an anchor") == Ended::Whole);
+    assert!(rt; line(&lines, 0) == (0, "accepted"));
+    assert!(rt; line(&lines, 1) == (0, "unseen"));
+    assert!(rt; line(&lines, 2) == (0, "accepted"));
+    drop(lines);
+    drop(tal);
+    drop(firsts);
     drop(folder);
 }
 
