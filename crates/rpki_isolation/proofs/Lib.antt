@@ -5,5 +5,6 @@ pub mod FolderPaths
 pub mod AlikeFaults
 pub mod IsolatedShares
 pub mod IsolatedWalks
+pub mod FirstPlaces
 pub mod IsolatedAnchors
 pub mod AddedFiles

@@ -11,7 +11,9 @@ ghost use Rattle.rpki_keys.specs.Locators.{NamedTal};
 ghost use Rattle.rpki_path.specs.Paths.{Path, last};
 ghost use Rattle.rpki_path.specs.declared.judging.Judged.{Judged};
 ghost use Rattle.rpki_path.specs.declared.path_fault.PathFault.{PathFault};
+ghost use Rattle.rpki_folder.specs.FirstPlaces.{AreFirstsIn, IsFirstIn};
 ghost use Rattle.rpki_folder.specs.Folders.{FolderFields, with_cert, with_list};
+ghost use Rattle.rpki_folder.specs.declared.firsts.Firsts.{Firsts};
 ghost use Rattle.rpki_folder.specs.Strangers.{AddsOnly, IsFreeOf, IsSignedByOnly};
 ghost use Rattle.rpki_folder.specs.Walks.{Covers};
 ghost use Rattle.rpki_isolation.specs.PathShares.{HasEnoughOn, HasOthersOnce, HasShareOn, IsChildOn, LetsIn, LetsInEach, ReachesLimit};
@@ -169,16 +171,22 @@ pub fn isolated_walks<A: Admission, B: Admission, V: Verifier>()
     rpki_cert::laws::unambiguous();
 }
 
-/// States of walks that admit all certificates what [`isolated_shares`] supposes: they admit each
-/// certificate of other keys (`all`), and at one place only if no such certificate has a copy
-/// (`all_once`).
+/// States which walks admit each certificate of other keys at one place only, as
+/// [`isolated_shares`] supposes: those by [`rpki_folder::Firsts`] (`firsts`), and those that admit
+/// all, if no such certificate has a copy (`all_once`). Those that admit all admit it somewhere
+/// (`all`).
 pub fn admitted_once<V: Verifier>()
+    ensures firsts { (verifier : V) (keys : List KeyFields) (certs : List (List ℕ))
+        (table : Firsts) → AreFirstsIn certs table
+        → LetsInEach (V.verifies verifier) keys certs (IsFirstIn table) }
     ensures all { (verifier : V) (keys : List KeyFields) (certs : List (List ℕ))
         → LetsIn (V.verifies verifier) keys certs (λ above place. Unit {0}) }
     ensures all_once { (verifier : V) (keys : List KeyFields) (certs : List (List ℕ))
         → HasOthersOnce (V.verifies verifier) keys certs
         → LetsInEach (V.verifies verifier) keys certs (λ above place. Unit {0}) }
-{}
+{
+    rpki_cert::laws::unambiguous();
+}
 
 /// States that three kinds of files add no more than [`isolated_walks`] supposes: a copy of a
 /// certificate's file, followed by any bytes (`copy`); a certificate that no key but these signed
