@@ -1,6 +1,6 @@
 /* Prints the IPv4 addresses that a path of certificates holds, or why it is
- * rejected. A locator says which trust anchor is trusted, and each issuer's
- * list whether a member is revoked. */
+ * rejected. A TAL says which trust anchor is trusted, and each issuer's CRL
+ * whether a certificate is revoked. */
 #include <rpki.h>
 #include <stdio.h>
 #include <stdlib.h>
@@ -60,7 +60,7 @@ static int reject(uint32_t fault, uint64_t index, size_t members) {
 
 int main(void) {
     static struct files members, lists, locator;
-    static struct rpki_ip_range v4[100]; /* verdict.v4 tells of more */
+    static struct rpki_ip_range v4[100]; /* verdict.v4 may count more */
     append(&members, "anchor.cer");
     append(&members, "first.cer");
     append(&members, "second.cer");
