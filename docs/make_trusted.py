@@ -64,7 +64,7 @@ one. Definitions also name enums of the code, as the kinds of certificates and t
 
 ## The toolchain
 
-- **The logic and its checker.** A proved crate has no hole and adds no axiom of logic; the gate also
+- **The logic and its checker.** A proved crate has no hole and adds no axiom of logic. The gate also
   refuses a contract that no call can meet. A tactic only searches for a proof. The contracts of C
   functions that compiled code reaches are taken as they are written, and counted as axioms: the
   library for C reaches three, which allocate, resize and free memory.
@@ -74,9 +74,9 @@ one. Definitions also name enums of the code, as the kinds of certificates and t
 - **Compiling**: the kit's translation to LLVM, LLVM, the linker and the C library.
 - **`HANDLES`** names what a program may reach beyond files, clock and memory: threads, waiting,
   sockets, other programs. This one may reach none.
-- `rt ci` prints a line of `rattle` for each check. `logic-built=trusted`, `libraries-built=trusted`
-  and `statements=trusted` in it mean that the logic, the kit's libraries and the statements of the
-  crates below were taken as they had been checked before, and not checked again in that step.
+- `rt ci` prints a line of `rattle` for each check, with `logic-built=trusted`, `libraries-built=trusted`
+  and `statements=trusted`. These words are about the logic, the kit's libraries and the statements of the
+  crates below. That step takes them as they were checked before, and doesn't check them again.
 
 [docs/api](api/README.md) has every definition, crate by crate, and the laws. A proved program can
 still run out of stack. How hard a signature is to forge is not a matter of proof.
