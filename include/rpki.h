@@ -595,8 +595,9 @@ enum rpki_last_key { RPKI_ASK_KEY = 0, RPKI_ANY_KEY = 1 };
  * and those of its CRLs. Names are compared byte by byte. */
 enum rpki_names { RPKI_ASK_NAMES = 0, RPKI_ANY_NAMES = 1 };
 
-/* Asks about a path. There are no permissive defaults: with zeros in `revocation`, `anchor`, `key`
- * and `names`, CRLs, a TAL, a last key that the RPKI uses and names that chain are required.
+/* Describes a question about a path. There are no permissive defaults: with zeros in `revocation`,
+ * `anchor`, `key` and `names`, CRLs, a TAL, a last key that the RPKI uses and names that chain are
+ * required.
  *
  * CRLs may be of any issuers, in any order; where they were found doesn't matter. Of each
  * certificate below the trust anchor the issuer's newest CRL that has begun decides:
@@ -684,11 +685,11 @@ uint32_t rpki_path_validate(const struct rpki_question *question, struct rpki_ro
  * lengths don't add up. */
 uint32_t rpki_path_names(const struct rpki_strings *members, uint64_t *place);
 
-/* ---- folders */
+/* ---- directories */
 
-/* Asks which certificates of a directory are valid below the trust anchor of a TAL. The strings are
- * certificates, CRLs and other bytes, in any order. The trust anchor is the first string that
- * starts with a certificate of the TAL's key (RFC 8630 3).
+/* Describes a question about a directory: which of its certificates are valid below the trust anchor
+ * of a TAL. The strings are certificates, CRLs and other bytes, in any order. The trust anchor is the
+ * first string that starts with a certificate of the TAL's key (RFC 8630 3).
  *
  * Each certificate that an accepted CA signed is validated below it as the kind that it says: a
  * router's, a CA's, or else an end entity's. The CRLs among the strings are used for revocation, as
@@ -712,10 +713,10 @@ struct rpki_folder_question {
 
 /* Numbers the results for a string. */
 enum rpki_fate {
-    RPKI_LINE_UNSEEN = 0,   /* a certificate that was judged nowhere: no accepted authority has the
-                             * key that it names as its issuer's and, if names are checked, the name
-                             * of its issuer; or a bound was met before */
-    RPKI_LINE_ANCHOR = 1,   /* the anchor, which is valid */
+    RPKI_LINE_UNSEEN = 0,   /* a certificate without a verdict: no accepted CA has the key that it
+                             * names as its issuer's and, if names are checked, the name of its
+                             * issuer; or a limit was reached before */
+    RPKI_LINE_ANCHOR = 1,   /* the trust anchor, which is valid */
     RPKI_LINE_ACCEPTED = 2, /* the last certificate of a valid path */
     RPKI_LINE_REJECTED = 3, /* a certificate that is wrong below each valid path that was tried */
     RPKI_LINE_LIST = 4,     /* a CRL, whether it was used or not */
@@ -731,31 +732,31 @@ struct rpki_held {
 /* Says what became of a string. A number that its comment doesn't mention is 0. */
 struct rpki_line {
     uint32_t what;   /* is an enum rpki_fate */
-    uint32_t fault;  /* is why it is rejected: its fault on one of the longest paths to it */
-    uint64_t step;   /* counts the certificates above it, there or where it is accepted */
-    uint64_t issuer; /* is the place among the strings of the authority right above it, where it is
-                      * accepted. An authority that two paths lead to has a line for one of them */
-    uint32_t kind;   /* is as what it was judged, where it is accepted or rejected: an enum rpki_kind,
-                      * but for RPKI_ANCHOR */
-    struct rpki_held held; /* is what it holds, where it is accepted; of a router's certificate what the
-                            * certificate above it holds */
+    uint32_t fault;  /* is the error of a rejected certificate on one of the longest paths to it */
+    uint64_t step;   /* counts the certificates above it on that path, or on the accepted path */
+    uint64_t issuer; /* is the place among the strings of the CA right above an accepted certificate.
+                      * A CA that two paths lead to has a line for one of them */
+    uint32_t kind;   /* is the kind as which an accepted or rejected certificate was validated: an
+                      * enum rpki_kind, but for RPKI_ANCHOR */
+    struct rpki_held held; /* is what an accepted certificate holds; for a router's certificate what
+                            * the certificate above it holds */
 };
 
 /* Numbers how a walk ended. */
 enum rpki_ended {
     RPKI_NOT_BEGUN = 0,   /* there was an error */
-    RPKI_WHOLE = 1,       /* every certificate was judged to which a valid path leads */
-    RPKI_TOO_DEEP = 2,    /* every such one within the depth was judged, and more are below */
+    RPKI_WHOLE = 1,       /* every certificate was validated to which a valid path leads */
+    RPKI_TOO_DEEP = 2,    /* every such one within the depth was validated, and more are below */
     RPKI_OUT_OF_STEPS = 3 /* a CA's share of the steps is less than its children, so none of these
-                           * was judged */
+                           * was validated */
 };
 
 /* Holds how the walk ended. */
 struct rpki_walk {
     uint32_t fault;  /* is what the function returns */
     uint32_t ended;  /* is an enum rpki_ended */
-    uint64_t anchor; /* is the anchor's place among the strings, also where the fault is its own */
-    uint64_t v4, v6, asn; /* count the ranges that all accepted certificates hold; 0 at a fault */
+    uint64_t anchor; /* is the trust anchor's place among the strings, also if the error is its own */
+    uint64_t v4, v6, asn; /* count the ranges that all accepted certificates hold; 0 after an error */
 };
 
 /* Validates all certificates of a directory, with signatures as for rpki_path_validate. Writes the
