@@ -314,7 +314,7 @@ fn printed_finding<'p>(
 /// Judges all certificates among files, and writes the findings on each file, as lines for a person
 /// or as JSON. The outcome is success if each file given as a TAL is one and has a valid trust
 /// anchor, each certificate is a trust anchor or accepted, no limit was reached, and, if that is
-/// asked, the cache isn't damaged.
+/// required, the cache isn't damaged.
 ///
 /// # Errors
 ///

@@ -290,7 +290,7 @@ fn path_named<'q, 'n>(
     Ok(Named { path, reach })
 }
 
-// The same of an answer that has a tree.
+// The file below what is above it, in an answer that has a tree.
 fn named_in<'q, 'n>(
     alloc: Global,
     answer: &TreeAnswer<'q, 'n>,
@@ -305,8 +305,8 @@ fn named_in<'q, 'n>(
     }
 }
 
-// The same of the first part where it reaches up to the trust anchor, or else of the last one; none,
-// where no part has a tree.
+// The file below what is above it, in the first part where that reaches up to the trust anchor, or
+// else in the last one; none if no part has a tree.
 fn named_among<'q, 'n>(
     alloc: Global,
     parts: &[TreePart<'q, 'n>],
@@ -348,7 +348,7 @@ fn accepted_in<'q, 'n>(
     }
 }
 
-// The same of the first part that accepts it.
+// The path to it in the first part that accepts it.
 fn accepted_among<'q, 'n>(
     alloc: Global,
     parts: &[TreePart<'q, 'n>],
