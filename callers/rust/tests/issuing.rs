@@ -199,21 +199,44 @@ fn what_is_wrong_is_refused_before_it_is_signed() {
     for serial_number in [[0; 20], [255; 20]] {
         let mut wrong = good.clone();
         wrong.serial_number = serial_number;
-        bad_call(&wrong, "the serial number isn't above 0");
+        bad_call(&wrong, "serial_number: expected a number above 0");
     }
+    // each has a sentence of its own, which names the field
     let back = RangeInclusive::new(9, 5);
-    for as_numbers in [vec![], vec![back]] {
+    for (as_numbers, text) in [(vec![], "no range"), (vec![back], "a range ends before")] {
         let mut wrong = good.clone();
         wrong.as_numbers = Resources::Listed(as_numbers);
-        bad_call(&wrong, "resources are listed");
+        bad_call(&wrong, &format!("as_numbers: {text}"));
+    }
+    let (low, high) = (Ipv4Addr::new(10, 0, 0, 1), Ipv4Addr::new(10, 0, 0, 2));
+    for (ipv4, text) in [
+        (vec![], "no range"),
+        (vec![(high, low)], "a range ends before"),
+    ] {
+        let mut wrong = good.clone();
+        wrong.ipv4 = Resources::Listed(ipv4);
+        bad_call(&wrong, &format!("ipv4: {text}"));
+    }
+    let (low, high) = (low.to_ipv6_mapped(), high.to_ipv6_mapped());
+    for (ipv6, text) in [
+        (vec![], "no range"),
+        (vec![(high, low)], "a range ends before"),
+    ] {
+        let mut wrong = good.clone();
+        wrong.ipv6 = Resources::Listed(ipv6);
+        bad_call(&wrong, &format!("ipv6: {text}"));
     }
     let mut wrong = good.clone();
     wrong.kind = Kind::TrustAnchor;
-    bad_call(&wrong, "a trust anchor has no issuer");
+    bad_call(&wrong, "kind: a trust anchor has no issuer");
     let late = issuer_of([&anchor], day(2040, 1));
     refused(&late, &good, "Expired", FaultKind::Verification, member(0));
     let alone = Issuer::of_anchor(now());
     refused(&alone, &good, "BadCall", FaultKind::BadCall, None);
+    let fault = alone.prepare(&good).unwrap_err();
+    assert!(fault
+        .sentence()
+        .starts_with("kind: a certificate of this kind has an issuer"));
     let asked = Revocation::by_lists(&[b"no list"]);
     let listed = Issuer::new([&anchor], asked, Anchor::AsGiven, now());
     let fault = listed.prepare(&good).unwrap_err();
@@ -246,10 +269,7 @@ fn lists_are_issued() {
         let octets = issuer.prepare_list(wanted).unwrap();
         issuer.complete_list(&octets, &above.sign(&octets)).unwrap()
     };
-    let entry = |last, revoked_at| Entry {
-        serial_number: serial(last),
-        revoked_at,
-    };
+    let entry = |last, revoked_at| Entry::new(serial(last), revoked_at);
     let early = day(2026, 2);
     let first = made(&list_wanted(None, &[entry(7, early)]));
     assert_eq!(first.number(), serial(1));
