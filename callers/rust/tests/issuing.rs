@@ -243,6 +243,35 @@ fn what_is_wrong_is_refused_before_it_is_signed() {
     assert_eq!(fault.place(), Some(Place::List(0)));
 }
 
+/// Nothing is issued below a CA whose name doesn't chain, of which tests/files/make.py says.
+#[test]
+fn names_of_issuers_are_checked() {
+    if !is_there() {
+        return;
+    }
+    let folder = concat!(env!("CARGO_MANIFEST_DIR"), "/../../tests/files/named");
+    let path = ["ta.cer", "ca_other_case.cer"]
+        .map(|name| std::fs::read(format!("{folder}/{name}")).unwrap());
+    let now = day(2025, 6);
+    let key = Key::new("named");
+    let mut wanted = wanted(Kind::Authority, &key, &URIS, 0);
+    (wanted.not_before, wanted.not_after) = (now, day(2025, 7));
+    wanted.ipv4 = Resources::Inherited;
+    wanted.as_numbers = Resources::Missing;
+    let list = WantedList::new(now, day(2025, 7));
+    let asking = issuer_of(&path, now);
+    for fault in [
+        asking.prepare(&wanted).unwrap_err(),
+        asking.prepare_list(&list).unwrap_err(),
+    ] {
+        let place = Some(Place::Member(1));
+        is_fault(fault, "OtherName", FaultKind::Names, place);
+    }
+    let waiving = issuer_of(&path, now).without_names();
+    assert!(waiving.prepare(&wanted).is_ok());
+    assert!(waiving.prepare_list(&list).is_ok());
+}
+
 fn serial(last: u8) -> [u8; 20] {
     let mut number = [0; 20];
     number[19] = last;
@@ -335,6 +364,14 @@ fn lists_are_issued() {
     refused(&wrong, "UpdateOrder", FaultKind::Issuing);
     wrong.this_update = early;
     refused(&wrong, "Stale", FaultKind::Revocation);
+    // below two issuers what is issued is no third one
+    let two = [&anchor, &ca];
+    let below_two = issuer_of(two, now());
+    let mut wrong = list_wanted(None, &[]);
+    wrong.next_update = early;
+    let fault = below_two.prepare_list(&wrong).unwrap_err();
+    is_fault(fault, "UpdateOrder", FaultKind::Issuing, issued);
+    wrong.this_update = early;
     let octets = issuer.prepare_list(&list_wanted(None, &[])).unwrap();
     for signature in [&below.sign(&octets), &above.sign(b"other octets"), &b""[..]] {
         let fault = issuer.complete_list(&octets, signature).unwrap_err();
