@@ -50,6 +50,16 @@
 #include <string.h>
 
 #ifdef __cplusplus
+template <class T> inline T rpki_sized() {
+    T it = T();
+    it.size = sizeof(T);
+    return it;
+}
+template <class T> inline T rpki_sized_below() {
+    T it = rpki_sized<T>();
+    it.issuer.size = sizeof it.issuer;
+    return it;
+}
 extern "C" {
 #endif
 
@@ -74,18 +84,20 @@ uint32_t rpki_version(struct rpki_text *out);
 /* Each struct that has a `size` has an initialiser, which sets the size and sets the rest to 0:
  * struct rpki_question question = RPKI_QUESTION_INIT; */
 #ifdef __cplusplus
-#define RPKI_SIZE(type) sizeof(type)
-#define RPKI_ISSUER RPKI_QUESTION_INIT
+#define RPKI_QUESTION_INIT rpki_sized<rpki_question>()
+#define RPKI_FOLDER_QUESTION_INIT rpki_sized<rpki_folder_question>()
+#define RPKI_WANTED_INIT rpki_sized_below<rpki_wanted>()
+#define RPKI_COMPLETION_INIT rpki_sized_below<rpki_completion>()
+#define RPKI_WANTED_LIST_INIT rpki_sized_below<rpki_wanted_list>()
+#define RPKI_LIST_COMPLETION_INIT rpki_sized_below<rpki_list_completion>()
 #else
-#define RPKI_SIZE(type) .size = sizeof(type)
-#define RPKI_ISSUER .issuer = RPKI_QUESTION_INIT
+#define RPKI_QUESTION_INIT {.size = sizeof(struct rpki_question)}
+#define RPKI_FOLDER_QUESTION_INIT {.size = sizeof(struct rpki_folder_question)}
+#define RPKI_WANTED_INIT {.size = sizeof(struct rpki_wanted), .issuer = RPKI_QUESTION_INIT}
+#define RPKI_COMPLETION_INIT {.size = sizeof(struct rpki_completion), .issuer = RPKI_QUESTION_INIT}
+#define RPKI_WANTED_LIST_INIT {.size = sizeof(struct rpki_wanted_list), .issuer = RPKI_QUESTION_INIT}
+#define RPKI_LIST_COMPLETION_INIT {.size = sizeof(struct rpki_list_completion), .issuer = RPKI_QUESTION_INIT}
 #endif
-#define RPKI_QUESTION_INIT {RPKI_SIZE(struct rpki_question)}
-#define RPKI_FOLDER_QUESTION_INIT {RPKI_SIZE(struct rpki_folder_question)}
-#define RPKI_WANTED_INIT {RPKI_SIZE(struct rpki_wanted), RPKI_ISSUER}
-#define RPKI_COMPLETION_INIT {RPKI_SIZE(struct rpki_completion), RPKI_ISSUER}
-#define RPKI_WANTED_LIST_INIT {RPKI_SIZE(struct rpki_wanted_list), RPKI_ISSUER}
-#define RPKI_LIST_COMPLETION_INIT {RPKI_SIZE(struct rpki_list_completion), RPKI_ISSUER}
 
 /* ---- errors */
 
@@ -465,6 +477,92 @@ struct rpki_places {
  * certificate's bytes. */
 uint32_t rpki_certificate_places(const uint8_t *octets, size_t length, struct rpki_places *out);
 
+/* Holds one string of bytes. */
+struct rpki_octets {
+    const uint8_t *octets;
+    size_t length;
+};
+
+/* Holds all fields of a certificate. A field that it doesn't have has the length or the count 0. */
+struct rpki_fields {
+    struct rpki_certificate fixed;
+    struct rpki_octets issuer, subject;           /* are the Names in DER */
+    struct rpki_octets issuer_text, subject_text; /* are the names as text */
+    struct rpki_octets key;                       /* is the SubjectPublicKeyInfo in DER */
+    struct rpki_octets uris[6];                   /* are those of enum rpki_uri */
+    const struct rpki_ip_range *v4, *v6;
+    size_t v4_count, v6_count;
+    const struct rpki_as_range *asn;
+    size_t asn_count;
+    size_t size;            /* is how many bytes of memory the fields take that have no fixed size */
+    uint8_t has_usable_key; /* is 1 if the RPKI uses such a key, else 0 */
+};
+
+/* Returns where the next field is in so much memory, of which so much is used, and in *left how much
+ * is left there. */
+static inline void *rpki_next_field(uint8_t *memory, size_t room, uint64_t used, size_t *left) {
+    *left = used < room ? room - (size_t)used : 0;
+    return *left > 0 ? memory + used : NULL;
+}
+
+/* Reads a certificate, and writes all of its fields: those of a fixed size into *out, and the others
+ * into `memory`, which has `room` bytes, and to which *out then points. If out->size is more than
+ * `room`, only the fields of a fixed size are written; call again with more memory. With room 0 it
+ * counts. After an error all of *out is 0. The error is as for rpki_certificate_read. */
+static inline uint32_t rpki_fields_of_certificate(const uint8_t *octets, size_t length, void *memory,
+                                                  size_t room, struct rpki_fields *out) {
+    /* ranges of AS numbers come first, aligned; that takes up to 3 bytes of the memory */
+    uint8_t *const start = room > 3 ? (uint8_t *)memory + (0 - (uintptr_t)memory) % 4 : NULL;
+    const size_t usable = room > 3 ? room - 3 : 0;
+    struct rpki_octets texts[11];
+    uint64_t used, count = 0;
+    size_t left;
+    memset(out, 0, sizeof *out);
+    uint32_t fault = rpki_certificate_read(octets, length, &out->fixed);
+    void *at = rpki_next_field(start, usable, 0, &left);
+    if (fault == RPKI_OK)
+        fault = rpki_certificate_as_numbers(octets, length, (struct rpki_as_range *)at,
+                                            left / sizeof(struct rpki_as_range), &count);
+    out->asn = (const struct rpki_as_range *)at;
+    out->asn_count = (size_t)count;
+    used = count * sizeof(struct rpki_as_range);
+    for (uint32_t family = 4; family <= 6 && fault == RPKI_OK; family += 2) {
+        at = rpki_next_field(start, usable, used, &left);
+        fault = rpki_certificate_addresses(octets, length, family, (struct rpki_ip_range *)at,
+                                           left / sizeof(struct rpki_ip_range), &count);
+        *(family == 4 ? &out->v4 : &out->v6) = (const struct rpki_ip_range *)at;
+        *(family == 4 ? &out->v4_count : &out->v6_count) = (size_t)count;
+        used += count * sizeof(struct rpki_ip_range);
+    }
+    for (uint32_t i = 0; i < 11 && fault == RPKI_OK; i++) {
+        uint8_t *to = (uint8_t *)rpki_next_field(start, usable, used, &left);
+        if (i < 4) fault = rpki_certificate_name(octets, length, i, to, left, &count);
+        else if (i < 10) fault = rpki_certificate_uri(octets, length, i - 4, to, left, &count);
+        else fault = rpki_certificate_key(octets, length, to, left, &count, &out->has_usable_key);
+        texts[i].octets = to;
+        texts[i].length = (size_t)count;
+        used += count;
+    }
+    if (fault != RPKI_OK) {
+        memset(out, 0, sizeof *out);
+        return fault;
+    }
+    if (used <= usable) {
+        out->issuer = texts[RPKI_ISSUER_NAME];
+        out->subject = texts[RPKI_SUBJECT_NAME];
+        out->issuer_text = texts[RPKI_ISSUER_TEXT];
+        out->subject_text = texts[RPKI_SUBJECT_TEXT];
+        memcpy(out->uris, texts + 4, sizeof out->uris);
+        out->key = texts[10];
+    } else {
+        out->v4 = out->v6 = NULL;
+        out->asn = NULL;
+        out->v4_count = out->v6_count = out->asn_count = 0;
+    }
+    out->size = (size_t)used + 3;
+    return RPKI_OK;
+}
+
 /* ---- revocation lists */
 
 /* Holds a CRL's fields of a fixed size, and how many entries it has. */
@@ -547,12 +645,6 @@ struct rpki_strings {
     size_t length;
     const size_t *lengths;
     size_t count;
-};
-
-/* Holds one string of bytes. */
-struct rpki_octets {
-    const uint8_t *octets;
-    size_t length;
 };
 
 /* Returns how many bytes the parts have together, or SIZE_MAX if they are as many or more. */

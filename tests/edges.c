@@ -831,6 +831,78 @@ static void joins(struct file anchor, struct file first) {
     free(octets);
 }
 
+static int are_octets(struct rpki_octets it, const uint8_t *octets, uint64_t length) {
+    return it.length == length && (length == 0 || memcmp(it.octets, octets, length) == 0);
+}
+
+/* All fields of a certificate at once are those that each call writes. */
+static void all_fields(struct file it) {
+    enum { ROOM = 4200 };
+    static uint8_t memory[1 << 19], octets[11][1 << 12];
+    static struct rpki_ip_range ranges[2][ROOM];
+    static struct rpki_as_range systems[ROOM];
+    uint64_t counts[14];
+    struct rpki_certificate fixed;
+    struct rpki_fields out, none;
+    uint8_t is_used;
+    memset(&none, 0, sizeof none);
+    check(rpki_certificate_read(it.octets, it.length, &fixed) == RPKI_OK, "the certificate is read");
+    for (uint32_t i = 0; i < 4; i++)
+        rpki_certificate_name(it.octets, it.length, i, octets[i], sizeof octets[i], &counts[i]);
+    for (uint32_t i = 0; i < 6; i++)
+        rpki_certificate_uri(it.octets, it.length, i, octets[4 + i], sizeof octets[i], &counts[4 + i]);
+    rpki_certificate_key(it.octets, it.length, octets[10], sizeof octets[10], &counts[10], &is_used);
+    for (uint32_t i = 0; i < 2; i++)
+        rpki_certificate_addresses(it.octets, it.length, 4 + 2 * i, ranges[i], ROOM, &counts[11 + i]);
+    rpki_certificate_as_numbers(it.octets, it.length, systems, ROOM, &counts[13]);
+    check(rpki_fields_of_certificate(it.octets, it.length, NULL, 0, &out) == RPKI_OK, "fields are counted");
+    const size_t size = out.size;
+    check(size <= sizeof memory - 4 && out.issuer.length == 0 && out.v4_count == 0 && out.asn == NULL
+              && memcmp(&out.fixed.serial, &fixed.serial, 20) == 0 && out.has_usable_key == is_used,
+          "without memory there are the fields of a fixed size");
+    for (size_t i = 0; i < 18; i++) {
+        const size_t room = i < 5 ? i : i < 14 ? size / 10 * (i - 4) : size - (18 - i);
+        memset(memory, 0x5a, size + 4);
+        check(rpki_fields_of_certificate(it.octets, it.length, memory, room, &out) == RPKI_OK && out.size == size
+                  && out.subject.octets == NULL && out.v6 == NULL && memory[room] == 0x5a,
+              "too little memory");
+    }
+    /* at each alignment */
+    for (size_t at = 0; at < 4; at++) {
+        memset(memory, 0x5a, size + 4);
+        check(rpki_fields_of_certificate(it.octets, it.length, memory + at, size, &out) == RPKI_OK
+                  && out.size == size && (at == 0 || memory[at - 1] == 0x5a) && memory[at + size] == 0x5a,
+              "all fields are written");
+        check(memcmp(&out.fixed.serial, &fixed.serial, 20) == 0
+                  && memcmp(&out.fixed.not_after, &fixed.not_after, sizeof fixed.not_after) == 0
+                  && out.fixed.v4 == fixed.v4 && out.has_usable_key == is_used,
+              "fields of a fixed size");
+        const struct rpki_octets told[] = {out.issuer, out.subject, out.issuer_text, out.subject_text};
+        for (size_t i = 0; i < 4; i++) check(are_octets(told[i], octets[i], counts[i]), "a name among all fields");
+        for (size_t i = 0; i < 6; i++)
+            check(are_octets(out.uris[i], octets[4 + i], counts[4 + i]), "a URI among all fields");
+        check(are_octets(out.key, octets[10], counts[10]), "the key among all fields");
+        check(out.v4_count == counts[11] && out.v6_count == counts[12] && out.asn_count == counts[13],
+              "the numbers of ranges");
+        check((counts[11] == 0 || memcmp(out.v4, ranges[0], counts[11] * sizeof *out.v4) == 0)
+                  && (counts[12] == 0 || memcmp(out.v6, ranges[1], counts[12] * sizeof *out.v6) == 0),
+              "the ranges of addresses");
+        for (size_t i = 0; i < out.asn_count; i++)
+            check(out.asn[i].min == systems[i].min && out.asn[i].max == systems[i].max, "the ranges of AS numbers");
+    }
+    memset(&out, 0x5a, sizeof out);
+    check(rpki_fields_of_certificate(it.octets, it.length - 1, memory, sizeof memory, &out) == RPKI_DECODE_TRUNCATED
+              && memcmp(&out, &none, sizeof out) == 0,
+          "a cut certificate has no fields");
+    check(rpki_fields_of_certificate(NULL, 0, NULL, 0, &out) == RPKI_DECODE_TRUNCATED, "no octets have no fields");
+}
+
+static void all_fields_of(const char *folder, const char *name) {
+    struct file it = contents(folder, name);
+    all_fields(it);
+    free(it.octets);
+}
+
 /* numbers of a question that say nothing, and another size */
 static void choices(struct file anchor, struct file list) {
     const size_t length = anchor.length, l = list.length;
@@ -2176,6 +2248,13 @@ int main(int count, char **words) {
     places(anchor, list);
     places(first, list);
     joins(anchor, first);
+    const char *names_of[] = {"router.cer", "odd_inherit_all.cer", "odd_name_utf8.cer", "wide/ta.cer",
+                              "keyed/ee_1024.cer"};
+    for (size_t i = 0; i < sizeof names_of / sizeof *names_of; i++) all_fields_of(words[2], names_of[i]);
+    all_fields(anchor);
+    all_fields(first);
+    all_fields(second);
+    all_fields(object);
     choices(anchor, empty);
     asked(anchor, first, empty, list);
     behind(anchor, first, empty, list);
