@@ -247,10 +247,11 @@ def other_answers(program):
 
 # ---- the run
 
-def save(folder, question):
-    Path(folder).mkdir(parents=True, exist_ok=True)
-    for file in [*question.members, *question.lists, *question.locators]:
-        Path(folder, file.name).write_bytes(file.octets)
+def save(folder, files):
+    for file in files:
+        place = Path(folder, file.name)
+        place.parent.mkdir(parents=True, exist_ok=True)
+        place.write_bytes(file.octets)
 
 
 def main():
@@ -277,7 +278,7 @@ def main():
             failed += 1
             print(f'{label}:\n  ' + '\n  '.join(wrongs), flush=True)
             if options.save:
-                save(Path(options.save, f'{total}'), question)
+                save(Path(options.save, f'{total}'), [*question.members, *question.lists, *question.locators])
     for kind, times in kinds.most_common():
         print(f'{times:7} {kind}')
     return make.totals((total - failed, failed))

@@ -84,6 +84,14 @@ def capital(written):
         f'u{it[1][1:].upper()}' if len(it[1]) == 5 and it[1] >= 'u0020' else it[1]), written)
 
 
+def json_text(data):
+    return capital(json.dumps(data, indent=2, sort_keys=True)) + '\n'
+
+
+def json_line(data):
+    return capital(json.dumps(data, separators=(',', ':'), sort_keys=True)) + '\n'
+
+
 class Answer:
     """Lines, and the data that grow with them."""
 
@@ -138,11 +146,17 @@ class Answer:
         """A line more of the label above."""
         self.lines.append(' ' * COLUMN + self.said(pieces))
 
+    def aside(self, say):
+        """What is said is in no line."""
+        lines, self.lines = self.lines, []
+        say()
+        self.lines = lines
+
     def text(self):
         return ''.join(f'{it}\n' for it in self.lines)
 
     def json(self):
-        return capital(json.dumps(self.data, indent=2, sort_keys=True)) + '\n'
+        return json_text(self.data)
 
     def json_line(self):
-        return capital(json.dumps(self.data, separators=(',', ':'), sort_keys=True)) + '\n'
+        return json_line(self.data)

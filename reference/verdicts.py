@@ -24,6 +24,7 @@ KINDS = {TA: ('trust anchor', 'ta'), CA: ('CA', 'ca'), EE: ('EE', 'ee'),
          DETACHED: ('detached EE', 'detached_ee'), ROUTER: ('BGPsec router', 'router')}
 SIGNATURES = 'checked (RSASSA-PKCS1-v1_5 with SHA-256, RFC 7935)'
 NOT_A_LIST = texts.Rule('a file given as a CRL is none', 'RFC 6487 5')
+SELF_NAMED = texts.Rule('the trust anchor\'s issuer isn\'t its subject', 'RFC 8630 2.3')
 
 
 class File(NamedTuple):
@@ -150,6 +151,11 @@ def profile_rule(name, cert):
     return texts.fault('profile', name)
 
 
+def rule_of(step, name, cert):
+    """The rule of a fault of a certificate that is read."""
+    return profile_rule(name, cert) if step == 'profile' else texts.fault(step, name)
+
+
 def judged(question):
     """What the last certificate holds, or the fault of the first certificate that is wrong."""
     above = None
@@ -165,8 +171,7 @@ def judged(question):
             if index and question.lists:
                 check_revocation(question, cert, above)
         except Refusal as error:
-            rule = (reading_rule(error, file.octets) if step == 'reading' else
-                    profile_rule(error.name, cert) if step == 'profile' else texts.fault(step, error.name))
+            rule = reading_rule(error, file.octets) if step == 'reading' else rule_of(step, error.name, cert)
             return Fault(step, error.name, rule, index)
         if kind == ROUTER:
             return Accepted(above, cert)
@@ -190,8 +195,7 @@ def name_fault(question):
     index = ref.first_unchained([it.octets for it in question.members])
     if index is None:
         return None
-    rule = texts.fault('names', 'OtherName') if index else texts.Rule(
-        'the trust anchor\'s issuer isn\'t its subject', 'RFC 8630 2.3')
+    rule = texts.fault('names', 'OtherName') if index else SELF_NAMED
     return Fault('names', 'OtherName', rule, index)
 
 
@@ -287,18 +291,27 @@ SAID_FORMS = {'point': 'an uncompressed point of the curve', 'off-curve': 'a poi
               'compressed-point': 'a compressed point', 'no-point': 'no point'}
 
 
-def say_router(answer, cert):
+def say_router(answer, router, cert):
     """A router's resources and its key, which is on the curve P-256."""
     f = cert.tbs
-    listed = ('router', 'subordinate_resources')
+    listed = (*router, 'subordinate_resources')
     answer.array(listed)
     say_listed(answer, 'Router AS numbers', 'as_inherit', listed, f.asn, numbers)
     form = dict(keys.form(True, f.key.bits))['form']
-    its = ('router', 'key')
+    its = (*router, 'key')
     answer.line('Router key', f'ECDSA P-256, {SAID_FORMS[form]}')
     answer.keep(doc.word((*its, 'algorithm'), '', 'ECDSA P-256'), doc.word((*its, 'form'), '', FORMS[form]),
                 doc.flag((*its, 'usable'), True), doc.word((*its, 'point'), '', doc.colons(f.key.bits)))
-    answer.line('Router key identifier', doc.identifier(('router', 'ski'), f.subject_key_identifier))
+    answer.line('Router key identifier', doc.identifier((*router, 'ski'), f.subject_key_identifier))
+
+
+def say_held_by(answer, its, found):
+    """What the last certificate holds; of a router's what it lists, and what the CA above it holds."""
+    if found.router:
+        say_router(answer, (*its, 'router'), found.router)
+        say_held(answer, (*its, 'issuer_holds'), ("Issuer's AS", "Issuer's IPv4", "Issuer's IPv6"), found.holder)
+    else:
+        say_held(answer, (*its, 'holds'), ('AS resources', 'IPv4 resources', 'IPv6 resources'), found.holder)
 
 
 def say_accepted(answer, question, found):
@@ -307,11 +320,7 @@ def say_accepted(answer, question, found):
         word = 'URI' if len(locator.uris) == 1 else 'URIs'
         answer.line('TAL', doc.count(('tal_uris',), len(locator.uris)), f' {word}, key ',
                     doc.identifier(('tal_key',), locator.key.identifier()), ', ', doc.text(('tal',), file.name))
-    if found.router:
-        say_router(answer, found.router)
-        say_held(answer, ('issuer_holds',), ("Issuer's AS", "Issuer's IPv4", "Issuer's IPv6"), found.holder)
-    else:
-        say_held(answer, ('holds',), ('AS resources', 'IPv4 resources', 'IPv6 resources'), found.holder)
+    say_held_by(answer, (), found)
     answer.line('Signatures', doc.word(('signatures',), SIGNATURES, 'checked'))
     if question.lists:
         checked = doc.word(('revocation',), 'checked, no certificate is revoked by the CRLs given', 'checked')
@@ -387,6 +396,16 @@ def say_rejected(answer, question, fault):
         say_advice(answer, question, fault)
 
 
+def say_unjudged(answer, fault):
+    """What is wrong of a file that is given as a TAL or as a CRL, so that nothing is judged."""
+    its, (says, section) = ('rejected',), fault.rule
+    answer.head('rejected', f'{says} ({fault.name}, {section})')
+    answer.keep(doc.flag(('accepted',), False))
+    answer.line('Step', doc.text((*its, 'step'), fault.step))
+    answer.keep(*(doc.word((*its, key), '', data) for key, data in (
+        ('fault', fault.name), ('why', says), ('standard', section))))
+
+
 def say_certificates(answer, question):
     for index, file in enumerate(question.members):
         its, cert = ('certificates', index), certificate(file)
@@ -425,6 +444,10 @@ def say_files(answer, question):
     for file in question.lists:
         if not is_list(file):
             answer.line('Not a CRL', doc.text(('not_lists', len(answer.data['not_lists'])), file.name))
+    say_no_locators(answer, question)
+
+
+def say_no_locators(answer, question):
     answer.array(('not_locators',))
     for file in question.locators:
         if folders.read(lambda it: ref.decode_locator(it, question.strict), file.octets) is None:
