@@ -18,11 +18,12 @@ and, of both together, that each file of the folder to which a path without the 
 accepted, whatever the stranger added, and what such a path holds.
 
 Names are asked of half of the folders, of certificates and of lists alike; the others are asked with
---no-names. With --shares it is taken that copies take no steps, and that what is left of a CA's
-steps is divided among the CAs below it. Then three numbers of steps are asked too, beside the walk of walks.py: each path, verdict and
-what is held, and whether a bound was met. What is told of a path without the stranger's keys mustn't
-depend on what the stranger added, by walks.py and by what the command shows. Without --shares a walk is
-asked that meets no bound but the depth; of one that does, only whether what it tells is so.
+--no-names. With --shares it is taken that copies take no steps, and that what is left of a CA's steps is
+divided among the CAs below it. Then three numbers of steps are asked too, beside the walk of walks.py:
+each path, verdict and what is held, and whether a bound was met. What is told of a path without the
+stranger's keys mustn't depend on what the stranger added, by walks.py and by what the command shows.
+Without --shares a walk is asked that meets no bound but the depth; of one that does, only whether what
+it tells is so.
 
 A folder with more than MOST paths isn't asked. A folder that differs is made smaller, by leaving out
 files while it differs, and kept in FOLDER. A folder depends on the seed and its index alone. Prints each
