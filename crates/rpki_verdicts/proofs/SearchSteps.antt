@@ -113,8 +113,8 @@ line_kept ts lines place are l is =
 -- ---- the path
 
 module _ (law : IsUnambiguous IsCertificate) (x : Context) (q : TreeFields) (file : FileFields) (tree : Tree) (is : IsTreeWith x q file tree) where
-  abbrev certs : List (List ℕ)
-  certs = contents (certs_of tree)
+  abbrev tree_certs : List (List ℕ)
+  tree_certs = contents (certs_of tree)
 
   abbrev asked : RevocationChecks
   asked = by_named_lists q.names x is.grown.lists
@@ -125,8 +125,8 @@ module _ (law : IsUnambiguous IsCertificate) (x : Context) (q : TreeFields) (fil
   -- no certificate stands before that of the file
   first_place : first_of tree.firsts 0 ≡ 0
   first_place =
-      let some : 0 < length certs = let few = low in omega (arith, few, length-map (certs_of tree) (λ (f : FileFields). f.octets)) in
-      first_zero law certs tree.firsts is.grown.firsts_are some
+      let some : 0 < length tree_certs = let few = low in omega (arith, few, length-map (certs_of tree) (λ (f : FileFields). f.octets)) in
+      first_zero law tree_certs tree.firsts is.grown.firsts_are some
 
   first_line_at : line_at tree 0 ≡ slice_get tree.lines 0
   first_line_at = ap (λ (n : ℕ). slice_get tree.lines n) first_place
@@ -139,17 +139,17 @@ module _ (law : IsUnambiguous IsCertificate) (x : Context) (q : TreeFields) (fil
   top = is.grown.anchor_is.cert
 
   abbrev admits : List ℕ → ℕ → Type 0
-  admits = IsLookedAt q.names (IsFirstIn tree.firsts) top certs
+  admits = IsLookedAt q.names (IsFirstIn tree.firsts) top tree_certs
 
-  tells : Tells {E = WalkError} x asked admits (at_anchor is.grown.locator is.grown.anchor.octets) certs [] q.depth q.steps (Ok tree.ended) is.grown.told
+  tells : Tells {E = WalkError} x asked admits (at_anchor is.grown.locator is.grown.anchor.octets) tree_certs [] q.depth q.steps (Ok tree.ended) is.grown.told
   tells = is.grown.tells top is.grown.anchor_is.valid.begins
 
   -- the line of the file accepts it: a valid path leads to it
   pub leads_by : (above : List ℕ) → above_by (line_at tree 0) ≡ Some above → Leads x q tree is.grown above
   leads_by above e =
       let told = line_tells is.grown.told 0 (line_at tree 0) above e kept_first in (
-        told_reached x asked (at_anchor is.grown.locator is.grown.anchor.octets) certs is.grown.told tells.right above 0 told,
-        let_in_all q.names top certs tree.firsts [] (above ++ 0 ∷ []) (told_let_in admits 0 is.grown.told above tells.let_in told),
+        told_reached x asked (at_anchor is.grown.locator is.grown.anchor.octets) tree_certs is.grown.told tells.right above 0 told,
+        let_in_all q.names top tree_certs tree.firsts [] (above ++ 0 ∷ []) (told_let_in admits 0 is.grown.told above tells.let_in told),
       )
 
   pub valid_by : (above : List ℕ) (path : List FileFields) → above_by (line_at tree 0) ≡ Some above → path ≡ files_at (certs_of tree) (tree.anchor ∷ above) ++ file ∷ [] → IsValidPathTo x q file path
@@ -178,8 +178,8 @@ module _ (law : IsUnambiguous IsCertificate) (x : Context) (q : TreeFields) (fil
     none = λ above covers leads.
         let firsts = map (first_of tree.firsts) above in
         let covers_them : Covers tree.ended q.depth (length firsts + 1) = subst (λ (n : ℕ). Covers tree.ended q.depth (n + 1)) (sym (length-map above (first_of tree.firsts))) covers in
-        let looked = looked_first law certs tree.firsts is.grown.firsts_are x asked is.grown.locator is.grown.anchor.octets above 0 leads.0 q.names top first_place leads.1 in
-        let reached = reached_first law certs tree.firsts is.grown.firsts_are x asked is.grown.locator is.grown.anchor.octets above 0 leads.0 in
+        let looked = looked_first law tree_certs tree.firsts is.grown.firsts_are x asked is.grown.locator is.grown.anchor.octets above 0 leads.0 q.names top first_place leads.1 in
+        let reached = reached_first law tree_certs tree.firsts is.grown.firsts_are x asked is.grown.locator is.grown.anchor.octets above 0 leads.0 in
         line_denies is.grown.told 0 (line_at tree 0) first_line.0 first_line.1 e kept_first firsts
         (tells.complete firsts 0 covers_them looked reached);
   }

@@ -1,4 +1,4 @@
-use Rattle.std.specs.Prelude.{Ok, Option, None, Some}
+use Rattle.std.specs.Prelude.{Ok, None, Some}
 use Rattle.std.proofs.Common.{◌≡◌, [], ℕ, List, length, map, sym, ap, subst, ◌∙◌}
 use Rattle.std.proofs.lemmas.List.{length-map}
 use Rattle.rpki_cert.specs.Certificates.{CertFields}
@@ -11,7 +11,6 @@ use Rattle.rpki_folder.specs.declared.walk_error.WalkError.{WalkError}
 use Rattle.rpki_folder.proofs.AnchorSteps.{anchor_is}
 use Rattle.rpki_files.specs.Files.{FileFields}
 use Rattle.rpki_verdicts.specs.Trees.Steps.{AreTried}
-use Rattle.rpki_verdicts.specs.declared.unordered.ValidAnchor.{ValidAnchor}
 use Rattle.rpki_verdicts.proofs.TriedAnchors.{all_wrong, anchor_at, none_valid}
 use Rattle.rpki_verdicts.proofs.unordered.grown.Goals as goal
 
