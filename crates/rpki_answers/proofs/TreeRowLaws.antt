@@ -1,14 +1,13 @@
 -- The lines of rows, and their counts.
 use Rattle.std.specs.List.{AllByRecursion}
 use Rattle.std.specs.Prelude.{Bool, true, false, cond, suc, if◌then◌else◌}
-use Rattle.std.proofs.Common.{◌≡◌, ◌∙◌, ◌+◌, ◌==◌, ℕ, List, [], ◌∷◌, ◌++◌, length, map, refl, sym, ap, append_assoc, arith}
-use Rattle.rpki_document.specs.Documents.{Node, Span, head, document_of, spans_text}
+use Rattle.std.proofs.Common.{◌≡◌, ◌∙◌, ◌+◌, ◌==◌, ℕ, List, [], ◌∷◌, ◌++◌, length, refl, sym, ap, append_assoc, arith}
+use Rattle.rpki_document.specs.Documents.{Node, head, document_of, spans_text}
 use Rattle.rpki_document.specs.Lines.{Row as Line, labelled, document_rows, node_rows}
 use Rattle.rpki_files.specs.Files.{FileFields}
 use Rattle.rpki_verdicts.specs.Trees.{certs_of}
 use Rattle.rpki_answers.specs.TreeDocuments.{AreSaid, above_nodes, accepted_head, count_of, file_first, file_last, is_word, issuer_at, issuer_spans, left_line, left_nodes, rejected_head, row_head, unseen_word, word_label, word_of}
 use Rattle.rpki_answers.specs.TreeLaws.{CountsAddUp, IsUnder, RowsBeginWithTheirWord}
-use Rattle.rpki_answers.specs.declared.tree_rows.Row.{Row}
 use Rattle.rpki_answers.specs.declared.tree_rows.Said.{Said}
 use Rattle.rpki_answers.specs.declared.tree_rows.Said.TheVariants as said
 use Rattle.rpki_answers.specs.declared.tree_rows.Word.{Word}
