@@ -51,14 +51,14 @@ pub record AsksFields (kind : Kind) (asked : AskedFields) (keys : List (List ℕ
   pub named : let subject = subject_asked kind wanted.numbers.systems key in IsName subject subject
   pub fields_are : f ≡ fields_asked kind asked.trims wanted (fields_above issuer) key
 
--- the octets of these fields, of which only the signature is missing below the issuer, by who is
--- asked for revocation
-pub record PreparesBelow (kind : Kind) (asked : AskedFields) (keys : List (List ℕ))
+-- the octets of these fields, of which only the signature is missing below the issuer, the last of
+-- this path, by who is asked for revocation
+pub record PreparesBelow (kind : Kind) (asked : AskedFields) (keys path : List (List ℕ))
     (checks : RevocationChecks) (at : Moment) (issuer : Option ResourceFields)
     (octets : List ℕ) : Type 0 where
   pub fields : TbsFields
   pub asks : AsksFields kind asked keys issuer fields
-  pub prepared : IsPrepared kind issuer checks at asked.strict fields octets
+  pub prepared : IsPrepared kind issuer path checks at asked.strict fields octets
 
 -- below the issuer that the files are, by the lists that are given
 pub record Prepares (kind : Kind) (asked : AskedFields) (inputs : InputFields) (at : Moment)
@@ -66,7 +66,7 @@ pub record Prepares (kind : Kind) (asked : AskedFields) (inputs : InputFields) (
   pub issuer : Option ResourceFields
   pub issuer_is : IsIssuerOf (context_of asked at) inputs.issuers inputs.lists issuer
   pub prepares : IsSoAsked (context_of asked at) inputs.lists
-      (λ checks. PreparesBelow kind asked inputs.keys checks at issuer octets)
+      (λ checks. PreparesBelow kind asked inputs.keys inputs.issuers checks at issuer octets)
 
 -- ---- which list is prepared
 
@@ -95,16 +95,18 @@ pub record PreparesList (asked : AskedFields) (inputs : InputFields) (at : Momen
 
 -- ---- what is completed
 
--- a TBSCertificate, a signature of it, and the certificate that these make below the issuer, whose
--- name it has (RFC 6487 4.4, 7.2), by who is asked for revocation
-pub record CompletesBelow (asked : AskedFields) (checks : RevocationChecks) (at : Moment)
-    (issuer : Option ResourceFields) (prepared signature octets : List ℕ) : Type 0 where
+-- a TBSCertificate, a signature of it, and the certificate that these make below the issuer, the
+-- last of this path, whose name it has (RFC 6487 4.4, 7.2), by who is asked for revocation
+pub record CompletesBelow (asked : AskedFields) (path : List (List ℕ)) (checks : RevocationChecks)
+    (at : Moment) (issuer : Option ResourceFields) (prepared signature octets : List ℕ)
+    : Type 0 where
   pub fields : TbsFields
   pub fields_are : IsToSign fields prepared
   pub named : IsNamed issuer fields
   pub kind : Kind
   pub kind_is : IsCompletedAs issuer fields kind
-  pub completed : IsCompleted kind issuer checks at asked.strict fields prepared signature octets
+  pub completed :
+      IsCompleted kind issuer path checks at asked.strict fields prepared signature octets
 
 -- a TBSCertList, a signature of it, and the list that these make below the issuer, whose name it
 -- has (RFC 5280 5.1.2.3)
@@ -116,13 +118,13 @@ pub record CompletesListBelow (asked : AskedFields) (at : Moment) (issuer : TbsF
   pub completed : IsListCompleted at asked.strict issuer fields prepared signature octets
 
 -- the certificate or the list that they make below the issuer; a list has one
-abbrev pub CompletesAs : AskedFields → RevocationChecks → Moment → Option ResourceFields → List ℕ
-    → List ℕ → Made → Type 0
-CompletesAs asked checks at issuer prepared signature (Certificate octets) =
-    CompletesBelow asked checks at issuer prepared signature octets
-CompletesAs asked checks at (Some issuer) prepared signature (made.RevocationList octets) =
+abbrev pub CompletesAs : AskedFields → List (List ℕ) → RevocationChecks → Moment
+    → Option ResourceFields → List ℕ → List ℕ → Made → Type 0
+CompletesAs asked path checks at issuer prepared signature (Certificate octets) =
+    CompletesBelow asked path checks at issuer prepared signature octets
+CompletesAs asked path checks at (Some issuer) prepared signature (made.RevocationList octets) =
     CompletesListBelow asked at issuer.cert.fields prepared signature octets
-CompletesAs asked checks at issuer prepared signature given = ⊥
+CompletesAs asked path checks at issuer prepared signature given = ⊥
 
 -- the two files are these, and this is what they make, by the lists that are given
 pub record Completes (asked : AskedFields) (inputs : InputFields) (at : Moment)
@@ -133,7 +135,7 @@ pub record Completes (asked : AskedFields) (inputs : InputFields) (at : Moment)
   pub signature : List ℕ
   pub files_are : inputs.files ≡ prepared ∷ signature ∷ []
   pub completes : IsSoAsked (context_of asked at) inputs.lists
-      (λ checks. CompletesAs asked checks at issuer prepared signature given)
+      (λ checks. CompletesAs asked inputs.issuers checks at issuer prepared signature given)
 
 -- a certificate is accepted below this issuer, and a list answers for it (RFC 6487 5, 7.2)
 abbrev pub IsAcceptedMade : Context → RevocationChecks → Option ResourceFields → Made → Type 0
