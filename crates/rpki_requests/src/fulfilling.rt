@@ -4,8 +4,8 @@ ghost use Rattle.rpki_files.specs.Files.{contents};
 ghost use Rattle.rpki_crl.specs.Lists.{IsTbsCertList};
 ghost use Rattle.rpki_cert.specs.Verification.{ResourceFields};
 ghost use Rattle.rpki_cert.specs.declared.inspect.Kind.{Kind as kinds};
-ghost use Rattle.rpki_issuing.specs.Acceptance.{IsAcceptedBelow, IsAnsweringList};
-ghost use Rattle.rpki_requests.specs.Fulfilment.{AsksFields, Completes, CompletesAs, CompletesBelow, CompletesListBelow, Fulfils, GivesToSign, IsAcceptedMade, IsAcceptedOf, Prepares, PreparesBelow, PreparesList, PreparesListBelow, context_of};
+ghost use Rattle.rpki_issuing.specs.Acceptance.{IsAnsweringList};
+ghost use Rattle.rpki_requests.specs.Fulfilment.{AsksFields, Completes, CompletesAs, CompletesBelow, CompletesListBelow, Fulfils, GivesToSign, IsAcceptedCertificate, IsAcceptedMade, IsAcceptedOf, Prepares, PreparesBelow, PreparesList, PreparesListBelow, context_of};
 ghost use Rattle.rpki_requests.specs.RequestFiles.{IsCompletedAs, IsIssuerOf, IsOnlyIssuer, IsSoAsked};
 ghost use Rattle.rpki_requests.specs.RequestWords.Views.{asked_fields};
 ghost use Rattle.rpki_requests.specs.Refusals.{AnswersOnly, IsPathless, TellsPath};
@@ -340,7 +340,7 @@ fn completed_below<R: RevocationSource>(
     ensures accepted { let issuer = option_map (λ r. r.now) issuer.entry in
         let x = context_of (asked_fields order.now) at in
         IfOk result (λ octets. (kind : kinds)
-        × IsAcceptedBelow x (R.asks source.now x) kind issuer octets) }
+        × IsAcceptedCertificate x (R.asks source.now x) issuer kind octets) }
     ensures refused { let issuer = option_map (λ r. r.now) issuer.entry in
         let asked = asked_fields order.now in
         let checks = R.asks source.now (context_of asked at) in
@@ -537,6 +537,9 @@ fn completed(
     ensures so { let asked = asked_fields order.now in
         IfErr result (IsSoOfCompletion asked inputs.now at) }
 {
+    // Called for what they ensure alone.
+    rpki_cert::laws::unambiguous();
+    laws::unambiguous();
     let Some((prepared, signature)) = two_files(inputs.files) else {
         return Err(Refusal::Files);
     };
@@ -597,8 +600,8 @@ fn made_of(
 
 /// Fulfils a request with the files that it names, at this time: prepares the to-be-signed bytes,
 /// or completes them with their signature. A completed certificate or CRL is accepted at this time
-/// with the same files: the certificate as the last of the issuer's path, the CRL as one that
-/// answers for its issuer (`accepted`).
+/// with the same files (`accepted`): the verdict on the issuer's path with the certificate behind
+/// it is that it is accepted, and the CRL answers for its issuer.
 ///
 /// # Errors
 ///

@@ -9,6 +9,7 @@ use Rattle.rpki_requests.specs.RefusedErrands.{IsSoOfCompletion, IsSoOfEither}
 use Rattle.rpki_requests.specs.RequestFiles.{AreOneIssuer, IsSoAsked}
 use Rattle.rpki_requests.specs.RequestWords.Views.{asked_fields}
 use Rattle.rpki_requests.specs.declared.refusals.Refusal.{Refusal}
+use Rattle.rpki_requests.proofs.AcceptedFiles.{accepted_of}
 use Rattle.rpki_requests.proofs.AskedLists.{completes_as_moved}
 use Rattle.rpki_requests.proofs.AskedSources.{so_moved}
 use Rattle.rpki_requests.proofs.fulfilling.completed.Goals as goal
@@ -43,16 +44,14 @@ returns-clause-completed c =
 
 pub returns-clause-accepted : goal.returns-clause-accepted
 returns-clause-accepted c =
-    let x = context_of (asked_fields c.args.order.now) c.args.at in
+    let asked = asked_fields c.args.order.now in
+    let x = context_of asked c.args.at in
     let lists : contents c.inputs.inside.lists.now ≡ c.args.inputs.now.lists = search rules in
     on_ok _ _ (Unit {0}) c.made_asking-made.result c.made_asking-made.ensures.accepted (λ _. tt)
-    (λ given below _. record {
-      issuer = c.in_ok-issuer.issuer;
-      issuer_is = c.in_ok-issuer.ensures.issuer;
-      is_so =
-          subst (λ (l : List (List ℕ)). IsSoAsked x l (λ checks. IsAcceptedMade x checks c.in_ok-issuer.issuer given)) lists
-          (subst (λ (o : Option ResourceFields). IsSoAsked x (contents c.inputs.inside.lists.now) (λ checks. IsAcceptedMade x checks o given)) c.as_ref.ensures.value below);
-    })
+    (λ given below _.
+    accepted_of c.unambiguous.ensures.certificate c.unambiguous-2.ensures.list asked c.args.inputs.now c.args.at c.in_ok-issuer.issuer c.in_ok-issuer.ensures.issuer given
+    (subst (λ (l : List (List ℕ)). IsSoAsked x l (λ checks. IsAcceptedMade x checks c.in_ok-issuer.issuer given)) lists
+    (subst (λ (o : Option ResourceFields). IsSoAsked x (contents c.inputs.inside.lists.now) (λ checks. IsAcceptedMade x checks o given)) c.as_ref.ensures.value below)))
 
 pub returns-clause-refused : goal.returns-clause-refused
 returns-clause-refused c =

@@ -4,6 +4,7 @@ use Rattle.std.proofs.lemmas.Bool.{false≢true}
 use Rattle.rpki_cert.specs.Certificates.{TbsFields}
 use Rattle.rpki_cert.specs.Verification.{ResourceFields}
 use Rattle.rpki_issuing.specs.PreparedOctets.{IsUncompleted}
+use Rattle.rpki_issuing.specs.Readiness.{signed_with}
 use Rattle.rpki_requests.specs.Fulfilment.{context_of}
 use Rattle.rpki_requests.specs.RefusedErrands.{IsNamedOtherwise, IsUnmade}
 use Rattle.rpki_requests.specs.RequestFiles.{IsCompletedAs}
@@ -61,4 +62,14 @@ returns-in-Err-clause-so g c =
     inr (inr (unfit_so (IsUnmade asked c.args.path.now checks c.args.at issuer prepared signature) _ _ c.unfit.ensures.told (λ not. unmade)))
 
 pub returns-in-Ok-clause-accepted : goal.returns-in-Ok-clause-accepted
-returns-in-Ok-clause-accepted g c = (c.completed_as-kind.result, c.in-Ok.ensures.accepted)
+returns-in-Ok-clause-accepted g c = (
+  c.completed_as-kind.result,
+  record {
+    cert = signed_with c.in_ok-tbs.tbs c.args.signature.now;
+    is_certificate = c.in-Ok.ensures.read;
+    usable = c.in_ok-tbs.ensures.0.usable;
+    named = c.is_named.ensures.0 c.if-not-is_named.false;
+    kind_is = c.completed_as-kind.ensures;
+    accepted = c.in-Ok.ensures.accepted;
+  },
+)
