@@ -97,7 +97,7 @@ fn lists_given(
         return Ok(Vec::new(alloc));
     }
     let octets = strings_of(alloc, &question.lists)?;
-    let lists = lists_of(alloc, &octets, false);
+    let lists = lists_of(alloc, &octets, &[]);
     drop(octets);
     lists
 }
