@@ -1848,6 +1848,47 @@ static void completions(struct rpki_wanted wanted, struct file made) {
     }
 }
 
+/* a CA with the key of its issuer, or of the anchor above that */
+static void keys_above(struct file anchor, struct file first) {
+    const struct file members[] = {anchor, first};
+    size_t parts[2];
+    struct file path = joined(members, 2, parts);
+    for (size_t i = 0; i < 2; i++) {
+        struct rpki_wanted wanted = wanted_below(&anchor, &members[i]);
+        wanted.issuer = about(strings(path.octets, path.length, parts, 2), RPKI_AUTHORITY, &now);
+        unprepared(wanted, RPKI_ISSUING_UNWRITABLE, 2, "a CA has the key of a CA above it");
+    }
+    free(path.octets);
+}
+
+/* the CRLs of the issuer's path are asked of the new certificate, too: one of its issuer has to be there, and
+ * not to revoke its serial number */
+static void lists_of_new(struct file anchor, struct file first, struct file second, struct file own,
+                         struct file revoking) {
+    const struct file members[] = {anchor, first}, lists[] = {own, revoking};
+    size_t parts[2], list_parts[2];
+    struct file path = joined(members, 2, parts), both = joined(lists, 2, list_parts);
+    struct rpki_wanted wanted = wanted_below(&anchor, &second);
+    struct rpki_issued told;
+    wanted.issuer = about(strings(path.octets, path.length, parts, 2), RPKI_AUTHORITY, &now);
+    wanted.v4 = (struct rpki_addresses){NULL, 0, RPKI_INHERITED};
+    wanted.asn = (struct rpki_as_numbers){NULL, 0, RPKI_INHERITED};
+    wanted.serial[0] = 0, memset(wanted.serial + 1, 0, 19), wanted.serial[19] = 3;
+    check(rpki_prepare(&wanted, NULL, 0, &told) == RPKI_OK, "no CRL is asked");
+    wanted.issuer.revocation = RPKI_ASK_LISTS;
+    wanted.issuer.lists = strings(own.octets, own.length, &own.length, 1);
+    unprepared(wanted, RPKI_REVOCATION_NO_CRL, 2, "no CRL of the issuer is given");
+    wanted.issuer.lists = strings(both.octets, both.length, list_parts, 2);
+    unprepared(wanted, RPKI_REVOCATION_REVOKED, 2, "the issuer's CRL revokes the serial number");
+    wanted.serial[19] = 4;
+    check(rpki_prepare(&wanted, NULL, 0, &told) == RPKI_OK, "it doesn't revoke another one");
+    list_parts[1]--;
+    wanted.issuer.lists = strings(both.octets, both.length - 1, list_parts, 2);
+    check(rpki_prepare(&wanted, NULL, 0, &told) / 100 == 1 && told.index == 3, "a cut CRL is none");
+    free(path.octets);
+    free(both.octets);
+}
+
 static void issuing(struct file anchor, struct file other) {
     struct rpki_wanted wanted = wanted_below(&anchor, &other);
     struct file made;
@@ -2191,6 +2232,8 @@ int main(int count, char **words) {
     keys(words[2]);
     tables(list, empty, words[2]);
     issuing(anchor, first);
+    keys_above(anchor, first);
+    lists_of_new(anchor, first, second, empty, list);
     issuing_lists(anchor, first, empty, list);
     const struct file files[] = {anchor, first, second, object, list, empty};
     for (size_t i = 0; i < sizeof files / sizeof *files; i++) free(files[i].octets);
