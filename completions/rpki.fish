@@ -35,7 +35,7 @@ complete -c rpki -n $all -l lenient -d 'Let any string type stand in names'
 complete -c rpki -n $each -l max-size -x -d 'Refuse a file with more octets'
 
 complete -c rpki -n $walks -l depth -x -d 'Look at paths of at most so many certificates'
-complete -c rpki -n $walks -l steps -x -d 'Verify at most so many certificates'
+complete -c rpki -n $walks -l steps -x -d 'Take at most so many steps below each trust anchor'
 complete -c rpki -n $walks -l no-names -d 'Do not ask that names chain'
 
 complete -c rpki -n $show -l all -d 'Print every entry of a list'

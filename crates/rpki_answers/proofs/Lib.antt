@@ -7,6 +7,7 @@ mod ShownFiles
 mod GrownLists
 mod SingleOutcomes
 mod WholeValues
+mod WholeItems
 mod TreeRowsInOrder
 mod TreeRowLaws
 mod AddedNodes

@@ -18,7 +18,7 @@ use Rattle.rpki_answers.specs.declared.showing.Options.{Options}
 use Rattle.rpki_answers.specs.declared.showing.subjects.Subject.{Subject}
 use Rattle.rpki_answers.specs.declared.showing.subjects.Subject.TheVariants as subject
 use Rattle.rpki_answers.proofs.WholeValues.{IsWhole}
-use Rattle.rpki_answers.proofs.WholeVerdicts.{AllWhole, each_whole, items_whole}
+use Rattle.rpki_answers.proofs.WholeItems.{AllWhole, each_whole, items_whole}
 use Rattle.rpki_answers.specs.RejectionDetails.{IsSortAt}
 use Rattle.rpki_answers.specs.declared.outcomes.Outcome.{Outcome}
 use Rattle.rpki_answers.specs.declared.outcomes.Outcome.TheVariants.{Success, Rejection}

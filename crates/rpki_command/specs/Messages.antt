@@ -74,11 +74,13 @@ progress_message read of =
     let end = if read == of then codes " files read\n" else codes " files read" in
     codes "\rrpki: " ++ (decimal read ++ (codes " of " ++ (decimal of ++ end)))
 
--- where a search met a bound, that not every path was looked at, with the number and the option
--- that sets it, in a line; and else nothing
+-- if a search reached a limit: that not every path was searched, with the limit and the option that
+-- sets it, in a line; else nothing
 abbrev pub bound_message : TreeFields → Ended → List ℕ
 bound_message q Whole = []
 bound_message q TooDeep =
-    codes "rpki: not every path was looked at: at most " ++ (decimal q.depth ++ codes " certificates down, and more stand below (--depth sets the limit)\n")
+    codes "rpki: not every path was searched: at most "
+    ++ (decimal q.depth ++ codes " certificates down, more are below (--depth sets the limit)\n")
 bound_message q OutOfSteps =
-    codes "rpki: not every path was looked at: " ++ (decimal q.steps ++ codes " certificates were verified (--steps sets the limit)\n")
+    codes "rpki: not every path was searched: the limit of "
+    ++ (decimal q.steps ++ codes " steps was reached (--steps sets the limit)\n")

@@ -53,7 +53,7 @@ Validates a path from the trust anchor down, or searches directories for one to 
   --no-crl              in place of --crl: checks no revocation
   --in DIRECTORY        searches certificates and CRLs in it and below it
   --depth NUMBER        of that search: the most certificates below the trust anchor (32)
-  --steps NUMBER        of that search: the most certificates verified (10,000,000)
+  --steps NUMBER        of that search: the most steps below each trust anchor (10,000,000)
   --no-names            skips name chaining, and the issuer names of CRLs
   --at TIME             the validation time; if left out, the clock's
   --lenient, --max-size BYTES, -o FORMAT, -j, -q: as 'rpki show --help' says
@@ -69,7 +69,7 @@ Of a DIRECTORY it reads the files in it and below it that end in .cer or .crl.
   --only rejected       prints only the certificates that aren't accepted
   --strict-exit         ends with 1 also if a file damages the cache, or only trust anchors are there
   --depth NUMBER        the most certificates below the trust anchor on a path (32)
-  --steps NUMBER        the most certificates verified (10,000,000)
+  --steps NUMBER        the most steps below each trust anchor (10,000,000)
   --no-names            skips name chaining, and the issuer names of CRLs
   --at TIME             the validation time; if left out, the clock's
   --lenient, --max-size BYTES, -o FORMAT, -j, -q: as 'rpki show --help' says

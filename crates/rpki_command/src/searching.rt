@@ -127,7 +127,7 @@ fn path_names(
     Ok((names?, ended))
 }
 
-// Says that not every path was looked at, where a search met a bound of its question.
+// Says that not every path was searched, if the search reached a limit of its question.
 fn tell_bound<E: Write>(
     err: &mut E,
     question: &TreeQuestion<'_, '_>,
@@ -143,14 +143,14 @@ fn tell_bound<E: Write>(
             let depth = question.depth;
             writeln!(
                 err,
-                "rpki: not every path was looked at: at most {depth} certificates down, and more stand below (--depth sets the limit)"
+                "rpki: not every path was searched: at most {depth} certificates down, more are below (--depth sets the limit)"
             )
         }
         Ended::OutOfSteps => {
             let steps = question.steps;
             writeln!(
                 err,
-                "rpki: not every path was looked at: {steps} certificates were verified (--steps sets the limit)"
+                "rpki: not every path was searched: the limit of {steps} steps was reached (--steps sets the limit)"
             )
         }
     }

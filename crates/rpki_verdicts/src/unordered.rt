@@ -31,7 +31,7 @@ use std::mem;
 
 /// A question about files in any order: the files, the TALs, whether names are checked, the mode,
 /// the validation time, the most certificates of a path below the trust anchor, and the most
-/// certificates that are verified.
+/// steps of a walk below each trust anchor.
 #[derive(Drop)]
 pub struct TreeQuestion<'q, 'n> {
     pub files: &'q [BareObject<'n>],

@@ -21,8 +21,8 @@ returns-in-Anchor c =
 
 pub returns-in-Crl : goal.returns-in-Crl
 returns-in-Crl c =
-    rw c.in-Crl.is (ended_some c.add_plain.result (AreSaid (map (λ f. f.now) c.args.certs.now) c.args.name.now said.Crl) _ _ _ refl c.add_plain.ensures)
+    rw c.in-Crl.is (ended_some c.add_plain-in-Crl.result (AreSaid (map (λ f. f.now) c.args.certs.now) c.args.name.now said.Crl) _ _ _ refl c.add_plain-in-Crl.ensures)
 
 pub returns-in-Neither : goal.returns-in-Neither
 returns-in-Neither c =
-    rw c.in-Neither.is (ended_some c.add_plain.result (AreSaid (map (λ f. f.now) c.args.certs.now) c.args.name.now said.Neither) _ _ _ refl c.add_plain.ensures)
+    rw c.in-Neither.is (ended_some c.add_plain-in-Neither.result (AreSaid (map (λ f. f.now) c.args.certs.now) c.args.name.now said.Neither) _ _ _ refl c.add_plain-in-Neither.ensures)

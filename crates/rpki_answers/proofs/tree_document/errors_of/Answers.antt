@@ -1,7 +1,6 @@
 use Rattle.std.specs.Prelude.{Option}
-use Rattle.std.proofs.Common.{◌≡◌, ◌∙◌, ℕ, List, sym, ap}
-use Rattle.rpki_answers.specs.TreeDocuments.{errors_of, said_error, with_error}
-use Rattle.std.proofs.Common.{take}
+use Rattle.std.proofs.Common.{◌∙◌, ℕ, List, take, sym, ap}
+use Rattle.rpki_answers.specs.TreeDocuments.{errors_of, with_error}
 use Rattle.rpki_answers.proofs.TreeRowsInOrder.{error_next}
 use Rattle.rpki_answers.proofs.tree_document.errors_of.Goals as goal
 
