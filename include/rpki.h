@@ -936,12 +936,13 @@ struct rpki_issued {
 /* Prepares a certificate for its signature: writes the TBSCertificate, which the issuer's key has
  * to sign (sha256WithRSAEncryption, RFC 7935 2), as many bytes as there is room for, and into *told
  * how many there are. The key may be elsewhere. No signature is spent on a certificate that would
- * be rejected: all but the signature is checked that rpki_path_validate checks below this issuer.
+ * be rejected: all but the signature is checked that rpki_path_validate checks below this issuer,
+ * with the same CRLs, if they are asked. A CA may not have the key of a certificate above it.
  *
  * *told is valid after an error, too, and *out is then as it was. The error is RPKI_BAD_CALL if
  * `size` is another, a number is of none of its enums, a range, a serial number or a time doesn't
  * exist, or the path doesn't go with the kind; one of the issuer's path; an RPKI_ISSUING_ one; or
- * that of a certificate's profile or verification. */
+ * that of a certificate's profile, verification or revocation. */
 uint32_t rpki_prepare(const struct rpki_wanted *wanted, uint8_t *out, size_t room,
                       struct rpki_issued *told);
 

@@ -8,6 +8,7 @@
 #include <stdio.h>
 #include <stdlib.h>
 #include <string.h>
+#include <time.h>
 
 static unsigned passed, failed;
 
@@ -958,7 +959,7 @@ static struct file joined(const struct file *files, size_t count, size_t *length
 static uint32_t listed(const struct file *lists, size_t list_count, const struct file *members,
                        size_t count, uint32_t last, const struct rpki_time *at,
                        struct rpki_verdict *out) {
-    size_t list_lengths[8], lengths[8];
+    size_t list_lengths[8], lengths[20];
     struct file all = joined(lists, list_count, list_lengths), path = joined(members, count, lengths);
     uint32_t fault = judge_with(strings(all.octets, all.length, list_lengths, list_count),
                                 strings(path.octets, path.length, lengths, count), last, at, out);
@@ -1920,6 +1921,47 @@ static void completions(struct rpki_wanted wanted, struct file made) {
     }
 }
 
+/* a CA with the key of its issuer, or of the anchor above that */
+static void keys_above(struct file anchor, struct file first) {
+    const struct file members[] = {anchor, first};
+    size_t parts[2];
+    struct file path = joined(members, 2, parts);
+    for (size_t i = 0; i < 2; i++) {
+        struct rpki_wanted wanted = wanted_below(&anchor, &members[i]);
+        wanted.issuer = about(strings(path.octets, path.length, parts, 2), RPKI_AUTHORITY, &now);
+        unprepared(wanted, RPKI_ISSUING_UNWRITABLE, 2, "a CA has the key of a CA above it");
+    }
+    free(path.octets);
+}
+
+/* the CRLs of the issuer's path are asked of the new certificate, too: one of its issuer has to be there, and
+ * not to revoke its serial number */
+static void lists_of_new(struct file anchor, struct file first, struct file second, struct file own,
+                         struct file revoking) {
+    const struct file members[] = {anchor, first}, lists[] = {own, revoking};
+    size_t parts[2], list_parts[2];
+    struct file path = joined(members, 2, parts), both = joined(lists, 2, list_parts);
+    struct rpki_wanted wanted = wanted_below(&anchor, &second);
+    struct rpki_issued told;
+    wanted.issuer = about(strings(path.octets, path.length, parts, 2), RPKI_AUTHORITY, &now);
+    wanted.v4 = (struct rpki_addresses){NULL, 0, RPKI_INHERITED};
+    wanted.asn = (struct rpki_as_numbers){NULL, 0, RPKI_INHERITED};
+    wanted.serial[0] = 0, memset(wanted.serial + 1, 0, 19), wanted.serial[19] = 3;
+    check(rpki_prepare(&wanted, NULL, 0, &told) == RPKI_OK, "no CRL is asked");
+    wanted.issuer.revocation = RPKI_ASK_LISTS;
+    wanted.issuer.lists = strings(own.octets, own.length, &own.length, 1);
+    unprepared(wanted, RPKI_REVOCATION_NO_CRL, 2, "no CRL of the issuer is given");
+    wanted.issuer.lists = strings(both.octets, both.length, list_parts, 2);
+    unprepared(wanted, RPKI_REVOCATION_REVOKED, 2, "the issuer's CRL revokes the serial number");
+    wanted.serial[19] = 4;
+    check(rpki_prepare(&wanted, NULL, 0, &told) == RPKI_OK, "it doesn't revoke another one");
+    list_parts[1]--;
+    wanted.issuer.lists = strings(both.octets, both.length - 1, list_parts, 2);
+    check(rpki_prepare(&wanted, NULL, 0, &told) / 100 == 1 && told.index == 3, "a cut CRL is none");
+    free(path.octets);
+    free(both.octets);
+}
+
 static void issuing(struct file anchor, struct file other) {
     struct rpki_wanted wanted = wanted_below(&anchor, &other);
     struct file made;
@@ -2201,6 +2243,64 @@ static void long_tables(struct rpki_wanted_list wanted) {
     free(of_table);
 }
 
+/* how many octets a value takes whose length has at most three */
+static size_t whole(const uint8_t *at) {
+    return at[1] < 128 ? 2u + at[1] : at[1] == 0x81 ? 3u + at[2] : 4u + (size_t)at[2] * 256 + at[3];
+}
+
+/* this list with so many entries in place of its own, under the same signature */
+static struct file with_entries(struct file list, size_t count) {
+    const uint8_t *data = list.octets + (list.octets[1] == 0x82 ? 4 : 3), *from = data + (data[1] == 0x82 ? 4 : 3);
+    const uint8_t *to = from, *end = data + whole(data);
+    for (size_t i = 0; i < 5; i++) to += whole(to);
+    const uint8_t *more = to + whole(to);
+    const size_t before = (size_t)(to - from), behind = (size_t)(end - more), own = 23 * count;
+    const size_t signature = list.length - (size_t)(end - list.octets), inner = before + 5 + own + behind;
+    const size_t sizes[] = {inner + 5 + signature, inner, own};
+    struct file it = {malloc(sizes[0] + 5), 0};
+    for (size_t i = 0; i < 3; i++) {
+        const uint8_t head[] = {0x30, 0x83, (uint8_t)(sizes[i] >> 16), (uint8_t)(sizes[i] >> 8), (uint8_t)sizes[i]};
+        put(it.octets + it.length, (struct file){(uint8_t *)head, 5});
+        it.length += 5;
+        if (i == 1) put(it.octets + it.length, (struct file){(uint8_t *)from, before}), it.length += before;
+    }
+    for (size_t i = 0; i < count; i++, it.length += 23) {
+        const uint64_t serial = next_number();
+        const uint8_t entry[] = {0x30, 21, 2, 4, (uint8_t)(64 | (serial >> 24 & 63)), (uint8_t)(serial >> 16), (uint8_t)(serial >> 8),
+                                 (uint8_t)serial, 0x17, 13, '2', '6', '0', '2', '0', '1', '0', '0', '0', '0', '0', '0', 'Z'};
+        put(it.octets + it.length, (struct file){(uint8_t *)entry, 23});
+    }
+    put(it.octets + it.length, (struct file){(uint8_t *)more, behind + signature});
+    it.length += behind + signature;
+    return it;
+}
+
+/* how long it takes at least to judge a path of so many certificates by this list */
+static clock_t fastest(struct file cert, size_t count, struct file list) {
+    struct file members[18];
+    struct rpki_verdict out;
+    clock_t least = 0;
+    for (size_t i = 0; i < count; i++) members[i] = cert;
+    for (size_t i = 0; i < 12; i++) {
+        clock_t begin = clock();
+        check(listed(&list, 1, members, count, RPKI_AUTHORITY, &now, &out) != RPKI_OK && out.index == 1,
+              "a trust anchor is no CA below itself");
+        clock_t took = clock() - begin;
+        if (i == 0 || took < least) least = took;
+    }
+    return least;
+}
+
+/* a CRL whose key no CA of a path has gets no table, however many CAs there are: a path of 17 CAs takes
+ * about as long as one of 16 */
+static void lists_of_others(struct file anchor, struct file list) {
+    struct file others = with_entries(list, 20000);
+    clock_t few = fastest(anchor, 17, others), many = fastest(anchor, 18, others);
+    if (many >= 2 * few) printf("17 certificates: %ld, 18: %ld\n", (long)few, (long)many);
+    check(many < 2 * few, "no table is made of a CRL that no certificate asks");
+    free(others.octets);
+}
+
 static void issuing_lists(struct file anchor, struct file first, struct file empty, struct file list) {
     const struct rpki_strings alone = strings(anchor.octets, anchor.length, &anchor.length, 1);
     struct file both = {malloc(anchor.length + first.length), anchor.length + first.length};
@@ -2270,7 +2370,10 @@ int main(int count, char **words) {
     keys(words[2]);
     tables(list, empty, words[2]);
     issuing(anchor, first);
+    keys_above(anchor, first);
+    lists_of_new(anchor, first, second, empty, list);
     issuing_lists(anchor, first, empty, list);
+    lists_of_others(anchor, list);
     const struct file files[] = {anchor, first, second, object, list, empty};
     for (size_t i = 0; i < sizeof files / sizeof *files; i++) free(files[i].octets);
     printf("%u passed, %u failed\n", passed, failed);
