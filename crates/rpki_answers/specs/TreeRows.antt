@@ -1,6 +1,6 @@
 -- What is found of files in no order: the trees, and what is said of each file (own).
 use Rattle.std.specs.Bool.{MatchBool}
-use Rattle.std.specs.Prelude.{◌≡◌, ◌+◌, ◌⊎◌, ℕ, Bool, IsTrue, All, List, [], ◌∷◌, ◌++◌, Option, None, Some}
+use Rattle.std.specs.Prelude.{◌≡◌, ◌==◌, ◌+◌, ◌⊎◌, ℕ, Bool, IsTrue, All, List, [], ◌∷◌, ◌++◌, slice_get, Option, None, Some}
 use Rattle.rpki_cert.specs.SaidKinds.{SaysKind}
 use Rattle.rpki_cert.specs.Verification.{Context}
 use Rattle.rpki_path.specs.Judging.{last_certificate}
