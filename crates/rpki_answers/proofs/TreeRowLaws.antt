@@ -36,6 +36,7 @@ behind_of (head label spans) = 32 ∷ spans_text spans
 behind_of _ = []
 
 said_rows : (certs : List FileFields) (name : List ℕ) (of_it : Said) (nodes : List Node) → AreSaid certs name of_it nodes → (behind : List ℕ) × (document_rows (document_of nodes) ≡ labelled (word_label (word_of of_it)) behind ∷ [])
+unfolding behind_of
 said_rows certs name (said.Accepted t p kind) nodes (held, are, is) = (
   behind_of (accepted_head name t.now p.now.above.items kind),
   ap (λ (l : List Node). document_rows (document_of l)) is
