@@ -1,7 +1,7 @@
 -- What is answered to what a caller wants of a certificate: the octets that are to be signed, those
 -- of the certificate, or why there are none (own).
 use Rattle.std.specs.List.{AllZip}
-use Rattle.std.specs.Prelude.{◌≡◌, ◌≢◌, ◌⊎◌, ◌<◌, ℕ, Bool, true, false, if◌then◌else◌, List, [], Option, Some, None, Result, Ok, Err}
+use Rattle.std.specs.Prelude.{◌≡◌, ◌≢◌, ◌⊎◌, ◌<◌, ℕ, Bool, true, false, List, [], Option, Some, None, Result, Ok, Err}
 use Rattle.rpki_cert.specs.Certificates.{TbsFields, IsTbsCertificate}
 use Rattle.rpki_cert.specs.Verification.{ResourceFields, context}
 use Rattle.rpki_cert.specs.declared.inspect.Kind.{Kind}
@@ -138,11 +138,12 @@ GivesNoAbove q _ = ⊥
 
 -- who is asked whether a certificate is revoked: the lists, as for the issuer's path, if they are
 -- asked; else nobody
+abbrev pub checks_if : Bool → Terms → List CrlState → RevocationChecks
+checks_if true t lists = by_named_lists t.asks_names (context IsSignedByRsa t.now t.strict) lists
+checks_if false t lists = nobody
+
 abbrev pub checks_above : Terms → List CrlState → RevocationChecks
-checks_above t lists =
-    if t.asks_lists
-    then by_named_lists t.asks_names (context IsSignedByRsa t.now t.strict) lists
-    else nobody
+checks_above t lists = checks_if t.asks_lists t lists
 
 -- the answer below this issuer, with its path and by who is asked, or why these aren't read; above
 -- a trust anchor there is no path, and nobody is asked

@@ -54,7 +54,8 @@ fn add_key(alloc: Global, keys: &mut Vec<KeyIdentifier>, octets: &Bytes) -> Resu
         Ok(cert) => {
             let key = cert.as_tbs().subject_key_identifier();
             drop(cert);
-            keys.push(key)
+            keys.push(key)?;
+            Ok(())
         }
         Err(error) => {
             let is_memory = error.is_memory();

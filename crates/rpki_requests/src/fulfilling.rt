@@ -564,7 +564,8 @@ fn octets_of(alloc: Global, files: &[Object<'_>]) -> Result<Vec<Bytes>, AllocErr
 {
     let mut all = Vec::new(alloc);
     for file in files {
-        all.push(file.octets().clone()?)?;
+        let octets = file.octets().clone()?;
+        all.push(octets)?;
     }
     Ok(all)
 }
