@@ -937,7 +937,7 @@ struct rpki_issued {
  * to sign (sha256WithRSAEncryption, RFC 7935 2), as many bytes as there is room for, and into *told
  * how many there are. The key may be elsewhere. No signature is spent on a certificate that would
  * be rejected: all but the signature is checked that rpki_path_validate checks below this issuer,
- * with the same CRLs, if they are asked. A CA may not have the key of a certificate above it.
+ * with the same CRLs, if they are checked. A CA may not have the key of a certificate above it.
  *
  * *told is valid after an error, too, and *out is then as it was. The error is RPKI_BAD_CALL if
  * `size` is another, a number is of none of its enums, a range, a serial number or a time doesn't

@@ -26,7 +26,7 @@ use Rattle.rpki_path.specs.AskedLists.{by_named_lists}
 use Rattle.rpki_path.specs.Asking.{RevocationChecks, nobody}
 use Rattle.rpki_path.specs.GivenPaths.{PathStrings, anchor_alone, path_to}
 use Rattle.rpki_path.specs.Judging.{IsRouterIfAny}
-use Rattle.rpki_path.specs.NameChains.{BeginChained, NamesChain, router_candidates}
+use Rattle.rpki_path.specs.NameChains.{BeginChained, router_candidates}
 use Rattle.rpki_path.specs.Paths.{Candidate, IsAccepted, IsMember, IsPathOf, IsValidPath, Member, Path, candidate, certificate_at, last, longer, member}
 use Rattle.rpki_path.specs.declared.judging.Judged.{Judged}
 use Rattle.rpki_verdicts.proofs.OneVerdict.{same_lists}

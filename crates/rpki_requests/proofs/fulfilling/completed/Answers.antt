@@ -1,5 +1,5 @@
-use Rattle.std.specs.Prelude.{Err, IfOk, option_map}
-use Rattle.std.proofs.Common.{◌≡◌, ◌⊎◌, ℕ, List, [], ◌∷◌, Bor, Option, inl, inr, refl, rules, sym, subst, ◌∙◌}
+use Rattle.std.specs.Prelude.{Err, option_map}
+use Rattle.std.proofs.Common.{◌≡◌, ℕ, List, [], ◌∷◌, Bor, Option, inl, inr, refl, rules, sym, subst, ◌∙◌}
 use Rattle.rpki_cert.specs.Verification.{ResourceFields}
 use Rattle.rpki_files.specs.Files.{contents}
 use Rattle.rpki_issuing.proofs.SameRoles.{on_ok, on_err}

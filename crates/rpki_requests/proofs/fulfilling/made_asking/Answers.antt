@@ -1,5 +1,5 @@
 use Rattle.std.specs.Prelude.{true, option_map, IfErr, IfOk}
-use Rattle.std.proofs.Common.{◌≡◌, ◌≢◌, ◌⊎◌, inl, inr, refl, ℕ, Bor, List, [], length, sym, ap, subst, ◌∙◌}
+use Rattle.std.proofs.Common.{◌≡◌, ◌≢◌, inl, inr, refl, Bor, List, length, sym, ap, subst, ◌∙◌}
 use Rattle.std.proofs.lemmas.Bool.{false≢true}
 use Rattle.std.proofs.lemmas.Bool.Decides.{Decides-eqb}
 use Rattle.std.proofs.lemmas.List.{length-map}
@@ -9,7 +9,7 @@ use Rattle.rpki_crl.specs.Lists.{CrlState}
 use Rattle.rpki_files.specs.Files.{contents}
 use Rattle.rpki_issuing.proofs.SameRoles.{on_ok, on_err}
 use Rattle.rpki_path.specs.AskedLists.{GivenFields, by_named_lists}
-use Rattle.rpki_path.specs.Asking.{RevocationChecks, nobody}
+use Rattle.rpki_path.specs.Asking.{RevocationChecks}
 use Rattle.rpki_requests.specs.Fulfilment.{CompletesAs, IsAcceptedMade}
 use Rattle.rpki_requests.specs.RefusedErrands.{IsSoOfEither}
 use Rattle.rpki_requests.specs.declared.fulfilling.Made.{Made}
