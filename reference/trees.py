@@ -167,8 +167,8 @@ def firsts_of_keys(question):
     return found
 
 
-def part_of(its, question, file, key, told):
-    """What is found of a TAL, if this is told of it."""
+def part_of(its, question, file, key, lines):
+    """What is found of a TAL, if these lines are told of the files."""
     wrong, valid = {}, {}
     for place, cert in its.certs:
         if cert.tbs.key == key:
@@ -180,7 +180,7 @@ def part_of(its, question, file, key, told):
     if not valid:
         return Part(file, None, {}, 'whole', wrong)
     places = greatest(valid)
-    place = next((it for it in places if question.files[it].name == told.get('trust_anchor')), places[0])
+    place = next((it for it in places if lines[it].get('verdict') == 'trust_anchor'), places[0])
     anchor = walks.Path((place,), ref.verify(TA, valid[place], None, question.now, rsa.verifier))
     return Part(file, place, *walk(its, anchor, question), {})
 
@@ -276,21 +276,21 @@ def row_of(file, cert):
 
 
 def find(question, told):
-    """What is found of the files, if this JSON is told of them."""
+    """What is found of the files, if this JSON is told of them all."""
     fault = verdicts.locator_fault(question)
     if fault:
         return fault
     its = walks.Walks([it.octets for it in question.files], rsa.verifier, question.names, question.strict,
                       question.now)
     its.lists = [ref.decode_crl(it.octets) for it in question.files if verdicts.is_list(it)]
-    tals = {it['tal']: it for it in told.get('tals', [])}
-    parts = [part_of(its, question, file, key, tals.get(file.name, {}))
-             for key, file in firsts_of_keys(question).items()]
-    certs, lines = dict(its.certs), {it['file']: it for it in told.get('files', [])}
+    lines = told.get('files', [])
+    lines += [{}] * (len(question.files) - len(lines))
+    parts = [part_of(its, question, file, key, lines) for key, file in firsts_of_keys(question).items()]
+    certs = dict(its.certs)
     rows = [row_of(file, certs.get(place)) for place, file in enumerate(question.files)]
     found = Found(parts, its.certs, rows)
     for place, cert in its.certs:
-        rows[place] = rows[place]._replace(said=said_of(found, place, cert, lines.get(rows[place].file.name, {})))
+        rows[place] = rows[place]._replace(said=said_of(found, place, cert, lines[place]))
     return found
 
 
