@@ -34,6 +34,7 @@ import make
 import questions_locators
 import shown
 from compare_answers import difference, random_name, save
+from der import Cursor
 from random_paths import chance
 from shown import Options
 from verdicts import File
@@ -165,8 +166,13 @@ def named_file(rng, files):
     return label, random_name(rng, ''), octets, octets
 
 
+def sound_files():
+    """The certificates and CRLs that are damaged, without what stands behind them."""
+    return [Cursor(it).capture_one() for it in compare_places.files_of('examples', 'tests/files')]
+
+
 def randoms(count, seed, only):
-    files = compare_places.files_of('examples', 'tests/files')
+    files = sound_files()
     for index in range(count) if only is None else [only]:
         label, *rest = named_file(random.Random(f'shown {seed} {index}'), files)
         yield f'{index}: {label}', *rest
