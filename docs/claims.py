@@ -6,8 +6,9 @@
 A claim of docs/PROVED.md is an item of a list, with at most 25 words and links to contracts behind
 them. A link's text is `CALL` or `CALL:CLAUSE,CLAUSE`. The place that it names is there, and the call
 has these clauses. The table of crates in docs/ARCHITECTURE.md has each crate of crates.txt and no
-other, and the modules that it or a crate's README lists are there. Each link from a page to another
-file names a file, and a place that the file has. Plain Python 3, standard library alone.
+other, and the modules that it or a crate's README lists are there. What PROVED and CONTRACTS quote is in
+the sources, line by line. Each link from a page to another file names a file, and a place that the file
+has. Plain Python 3, standard library alone.
 """
 import re
 import sys
@@ -101,6 +102,15 @@ def wrong_rows(text):
                 yield f"{crate} {name}: no such module"
 
 
+def wrong_quotes(text):
+    """The quotes of a page that no source has, without regard to how deep they are indented."""
+    sources = [path.read_text() for pattern in ("specs/**/*.antt", "src/**/*.rt") for path in ROOT.glob(f"crates/*/{pattern}")]
+    for quote in re.findall(r"^```\w*\n(.*?)^```$", text, flags=re.M | re.S):
+        lines = r"\n\s*".join(re.escape(line.strip()) for line in quote.strip().split("\n"))
+        if not any(re.search(lines, source) for source in sources):
+            yield f"no source has: {quote}"
+
+
 def pages():
     """The pages that are written by hand, and those made of the sources beside docs/api."""
     for pattern in ("*.md", "docs/*.md", "crates/*/README.md", "bench/*.md", "callers/*/README.md", "reference/README.md"):
@@ -125,6 +135,8 @@ def main():
     layers = architecture[architecture.index("## Layers"):architecture.index("## A crate")]
     wrong = [f"PROVED.md: {line}" for line in wrong_claims((DOCS / "PROVED.md").read_text())]
     wrong += [f"ARCHITECTURE.md: {line}" for line in wrong_rows(layers)]
+    for name in ("PROVED.md", "CONTRACTS.md"):
+        wrong += [f"{name}: {line}" for line in wrong_quotes((DOCS / name).read_text())]
     for page in pages():
         wrong += [f"{page.relative_to(ROOT)}: {line}" for line in wrong_links(page)]
     for line in wrong:

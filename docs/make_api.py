@@ -20,6 +20,8 @@ ROOT = Path(__file__).resolve().parent.parent
 CRATES = ROOT / "crates"
 FACADE = CRATES / "rpki" / "src"
 PAGES = ROOT / "docs" / "api"
+# The page that docs/make_trusted.py makes.
+HEADLINE = PAGES / "headline.md"
 # Crates that the facade doesn't re-export, and of which nothing else shows the contracts.
 LIBRARIES_BESIDE = ["rpki_document", "rpki_files", "rpki_text", "rpki_verdicts", "rpki_answers", "rpki_requests"]
 PROGRAMS = ["rpki_command", "rpki_c"]
@@ -475,7 +477,8 @@ def main():
         page, crate, head, text = of_crate(crate)
         made[page] = text
         index.append(f"| [`{crate}`]({page.relative_to(PAGES)}) | {head} |")
-    index += ["", "Definitions, each with its comment. Files `F/Reading` only compute, and `F/Steps` serve proofs:", ""]
+    index += ["", "Definitions, each with its comment. Files `F/Reading` only compute, and `F/Steps` serve proofs."]
+    index += [f"[One page]({HEADLINE.name}) has what has to be believed for the headline.", ""]
     index += ["| Crate | Files | Lines |", "|---|---|---|"]
     for crate in re.findall(r"^(\w+)(?: staticlib)?:", (ROOT / "crates.txt").read_text(), flags=re.M):
         if any((CRATES / crate / "specs").glob("[!L]*.antt")) and not re.search("_tests|_vectors|_calls|_bench", crate):
@@ -491,7 +494,7 @@ def main():
         print(line)
     if "--check" in sys.argv[1:]:
         stale = [page for page, text in made.items() if not page.exists() or page.read_text() != text]
-        stale += [page for page in PAGES.rglob("*.md") if page not in made]
+        stale += [page for page in PAGES.rglob("*.md") if page not in made and page != HEADLINE]
         for page in stale:
             print(f"not up to date: {page.relative_to(ROOT)}")
         sys.exit(1 if stale or missing else 0)

@@ -91,7 +91,7 @@ def proof_picture():
             picture.arrow(x + 186, 95, x + 210, 95)
     picture.text(20, 40, "Definitions: relations in the standards' words (a reader believes these)", bold=True)
     code = [("Cursor", "a span of the buffer"), ("readers, writers", "one clause, both ways"),
-            ("Cert, inspect, verify", "first fault, by name"), ("validate_path, judge", "Ok if and only if valid")]
+            ("Cert, inspect, verify", "first error, by name"), ("validate_path, judge", "Ok if and only if valid")]
     for place, (head, line) in enumerate(code):
         x = 20 + 212 * place
         picture.box(x, 190, 186, 52, "code", head, line)

@@ -23,7 +23,6 @@ PLACES = [
     ("callers/python/pyproject.toml", r'^version = "', '"'),
     ("callers/python/rpki/__init__.py", r'^__version__ = "', '"'),
     ("callers/rust/Cargo.toml", r'^version = "', '"'),
-    ("callers/rust/Cargo.lock", r'name = "gonxebhula"\nversion = "', '"'),
     ("README.md", r"^Status: version ", ","),
 ]
 

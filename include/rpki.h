@@ -50,6 +50,16 @@
 #include <string.h>
 
 #ifdef __cplusplus
+template <class T> inline T rpki_sized() {
+    T it = T();
+    it.size = sizeof(T);
+    return it;
+}
+template <class T> inline T rpki_sized_below() {
+    T it = rpki_sized<T>();
+    it.issuer.size = sizeof it.issuer;
+    return it;
+}
 extern "C" {
 #endif
 
@@ -74,18 +84,20 @@ uint32_t rpki_version(struct rpki_text *out);
 /* Each struct that has a `size` has an initialiser, which sets the size and sets the rest to 0:
  * struct rpki_question question = RPKI_QUESTION_INIT; */
 #ifdef __cplusplus
-#define RPKI_SIZE(type) sizeof(type)
-#define RPKI_ISSUER RPKI_QUESTION_INIT
+#define RPKI_QUESTION_INIT rpki_sized<rpki_question>()
+#define RPKI_FOLDER_QUESTION_INIT rpki_sized<rpki_folder_question>()
+#define RPKI_WANTED_INIT rpki_sized_below<rpki_wanted>()
+#define RPKI_COMPLETION_INIT rpki_sized_below<rpki_completion>()
+#define RPKI_WANTED_LIST_INIT rpki_sized_below<rpki_wanted_list>()
+#define RPKI_LIST_COMPLETION_INIT rpki_sized_below<rpki_list_completion>()
 #else
-#define RPKI_SIZE(type) .size = sizeof(type)
-#define RPKI_ISSUER .issuer = RPKI_QUESTION_INIT
+#define RPKI_QUESTION_INIT {.size = sizeof(struct rpki_question)}
+#define RPKI_FOLDER_QUESTION_INIT {.size = sizeof(struct rpki_folder_question)}
+#define RPKI_WANTED_INIT {.size = sizeof(struct rpki_wanted), .issuer = RPKI_QUESTION_INIT}
+#define RPKI_COMPLETION_INIT {.size = sizeof(struct rpki_completion), .issuer = RPKI_QUESTION_INIT}
+#define RPKI_WANTED_LIST_INIT {.size = sizeof(struct rpki_wanted_list), .issuer = RPKI_QUESTION_INIT}
+#define RPKI_LIST_COMPLETION_INIT {.size = sizeof(struct rpki_list_completion), .issuer = RPKI_QUESTION_INIT}
 #endif
-#define RPKI_QUESTION_INIT {RPKI_SIZE(struct rpki_question)}
-#define RPKI_FOLDER_QUESTION_INIT {RPKI_SIZE(struct rpki_folder_question)}
-#define RPKI_WANTED_INIT {RPKI_SIZE(struct rpki_wanted), RPKI_ISSUER}
-#define RPKI_COMPLETION_INIT {RPKI_SIZE(struct rpki_completion), RPKI_ISSUER}
-#define RPKI_WANTED_LIST_INIT {RPKI_SIZE(struct rpki_wanted_list), RPKI_ISSUER}
-#define RPKI_LIST_COMPLETION_INIT {RPKI_SIZE(struct rpki_list_completion), RPKI_ISSUER}
 
 /* ---- errors */
 
@@ -465,6 +477,92 @@ struct rpki_places {
  * certificate's bytes. */
 uint32_t rpki_certificate_places(const uint8_t *octets, size_t length, struct rpki_places *out);
 
+/* Holds one string of bytes. */
+struct rpki_octets {
+    const uint8_t *octets;
+    size_t length;
+};
+
+/* Holds all fields of a certificate. A field that it doesn't have has the length or the count 0. */
+struct rpki_fields {
+    struct rpki_certificate fixed;
+    struct rpki_octets issuer, subject;           /* are the Names in DER */
+    struct rpki_octets issuer_text, subject_text; /* are the names as text */
+    struct rpki_octets key;                       /* is the SubjectPublicKeyInfo in DER */
+    struct rpki_octets uris[6];                   /* are those of enum rpki_uri */
+    const struct rpki_ip_range *v4, *v6;
+    size_t v4_count, v6_count;
+    const struct rpki_as_range *asn;
+    size_t asn_count;
+    size_t size;            /* is how many bytes of memory the fields take that have no fixed size */
+    uint8_t has_usable_key; /* is 1 if the RPKI uses such a key, else 0 */
+};
+
+/* Returns where the next field is in so much memory, of which so much is used, and in *left how much
+ * is left there. */
+static inline void *rpki_next_field(uint8_t *memory, size_t room, uint64_t used, size_t *left) {
+    *left = used < room ? room - (size_t)used : 0;
+    return *left > 0 ? memory + used : NULL;
+}
+
+/* Reads a certificate, and writes all of its fields: those of a fixed size into *out, and the others
+ * into `memory`, which has `room` bytes, and to which *out then points. If out->size is more than
+ * `room`, only the fields of a fixed size are written; call again with more memory. With room 0 it
+ * counts. After an error all of *out is 0. The error is as for rpki_certificate_read. */
+static inline uint32_t rpki_fields_of_certificate(const uint8_t *octets, size_t length, void *memory,
+                                                  size_t room, struct rpki_fields *out) {
+    /* ranges of AS numbers come first, aligned; that takes up to 3 bytes of the memory */
+    uint8_t *const start = room > 3 ? (uint8_t *)memory + (0 - (uintptr_t)memory) % 4 : NULL;
+    const size_t usable = room > 3 ? room - 3 : 0;
+    struct rpki_octets texts[11];
+    uint64_t used, count = 0;
+    size_t left;
+    memset(out, 0, sizeof *out);
+    uint32_t fault = rpki_certificate_read(octets, length, &out->fixed);
+    void *at = rpki_next_field(start, usable, 0, &left);
+    if (fault == RPKI_OK)
+        fault = rpki_certificate_as_numbers(octets, length, (struct rpki_as_range *)at,
+                                            left / sizeof(struct rpki_as_range), &count);
+    out->asn = (const struct rpki_as_range *)at;
+    out->asn_count = (size_t)count;
+    used = count * sizeof(struct rpki_as_range);
+    for (uint32_t family = 4; family <= 6 && fault == RPKI_OK; family += 2) {
+        at = rpki_next_field(start, usable, used, &left);
+        fault = rpki_certificate_addresses(octets, length, family, (struct rpki_ip_range *)at,
+                                           left / sizeof(struct rpki_ip_range), &count);
+        *(family == 4 ? &out->v4 : &out->v6) = (const struct rpki_ip_range *)at;
+        *(family == 4 ? &out->v4_count : &out->v6_count) = (size_t)count;
+        used += count * sizeof(struct rpki_ip_range);
+    }
+    for (uint32_t i = 0; i < 11 && fault == RPKI_OK; i++) {
+        uint8_t *to = (uint8_t *)rpki_next_field(start, usable, used, &left);
+        if (i < 4) fault = rpki_certificate_name(octets, length, i, to, left, &count);
+        else if (i < 10) fault = rpki_certificate_uri(octets, length, i - 4, to, left, &count);
+        else fault = rpki_certificate_key(octets, length, to, left, &count, &out->has_usable_key);
+        texts[i].octets = to;
+        texts[i].length = (size_t)count;
+        used += count;
+    }
+    if (fault != RPKI_OK) {
+        memset(out, 0, sizeof *out);
+        return fault;
+    }
+    if (used <= usable) {
+        out->issuer = texts[RPKI_ISSUER_NAME];
+        out->subject = texts[RPKI_SUBJECT_NAME];
+        out->issuer_text = texts[RPKI_ISSUER_TEXT];
+        out->subject_text = texts[RPKI_SUBJECT_TEXT];
+        memcpy(out->uris, texts + 4, sizeof out->uris);
+        out->key = texts[10];
+    } else {
+        out->v4 = out->v6 = NULL;
+        out->asn = NULL;
+        out->v4_count = out->v6_count = out->asn_count = 0;
+    }
+    out->size = (size_t)used + 3;
+    return RPKI_OK;
+}
+
 /* ---- revocation lists */
 
 /* Holds a CRL's fields of a fixed size, and how many entries it has. */
@@ -549,12 +647,6 @@ struct rpki_strings {
     size_t count;
 };
 
-/* Holds one string of bytes. */
-struct rpki_octets {
-    const uint8_t *octets;
-    size_t length;
-};
-
 /* Returns how many bytes the parts have together, or SIZE_MAX if they are as many or more. */
 static inline size_t rpki_joined_length(const struct rpki_octets *parts, size_t count) {
     size_t length = 0;
@@ -595,8 +687,9 @@ enum rpki_last_key { RPKI_ASK_KEY = 0, RPKI_ANY_KEY = 1 };
  * and those of its CRLs. Names are compared byte by byte. */
 enum rpki_names { RPKI_ASK_NAMES = 0, RPKI_ANY_NAMES = 1 };
 
-/* Asks about a path. There are no permissive defaults: with zeros in `revocation`, `anchor`, `key`
- * and `names`, CRLs, a TAL, a last key that the RPKI uses and names that chain are required.
+/* Describes a question about a path. There are no permissive defaults: with zeros in `revocation`,
+ * `anchor`, `key` and `names`, CRLs, a TAL, a last key that the RPKI uses and names that chain are
+ * required.
  *
  * CRLs may be of any issuers, in any order; where they were found doesn't matter. Of each
  * certificate below the trust anchor the issuer's newest CRL that has begun decides:
@@ -684,11 +777,11 @@ uint32_t rpki_path_validate(const struct rpki_question *question, struct rpki_ro
  * lengths don't add up. */
 uint32_t rpki_path_names(const struct rpki_strings *members, uint64_t *place);
 
-/* ---- folders */
+/* ---- directories */
 
-/* Asks which certificates of a directory are valid below the trust anchor of a TAL. The strings are
- * certificates, CRLs and other bytes, in any order. The trust anchor is the first string that
- * starts with a certificate of the TAL's key (RFC 8630 3).
+/* Describes a question about a directory: which of its certificates are valid below the trust anchor
+ * of a TAL. The strings are certificates, CRLs and other bytes, in any order. The trust anchor is the
+ * first string that starts with a certificate of the TAL's key (RFC 8630 3).
  *
  * Each certificate that an accepted CA signed is validated below it as the kind that it says: a
  * router's, a CA's, or else an end entity's. The CRLs among the strings are used for revocation, as
@@ -712,10 +805,10 @@ struct rpki_folder_question {
 
 /* Numbers the results for a string. */
 enum rpki_fate {
-    RPKI_LINE_UNSEEN = 0,   /* a certificate that was judged nowhere: no accepted authority has the
-                             * key that it names as its issuer's and, if names are checked, the name
-                             * of its issuer; or a bound was met before */
-    RPKI_LINE_ANCHOR = 1,   /* the anchor, which is valid */
+    RPKI_LINE_UNSEEN = 0,   /* a certificate without a verdict: no accepted CA has the key that it
+                             * names as its issuer's and, if names are checked, the name of its
+                             * issuer; or a limit was reached before */
+    RPKI_LINE_ANCHOR = 1,   /* the trust anchor, which is valid */
     RPKI_LINE_ACCEPTED = 2, /* the last certificate of a valid path */
     RPKI_LINE_REJECTED = 3, /* a certificate that is wrong below each valid path that was tried */
     RPKI_LINE_LIST = 4,     /* a CRL, whether it was used or not */
@@ -731,31 +824,31 @@ struct rpki_held {
 /* Says what became of a string. A number that its comment doesn't mention is 0. */
 struct rpki_line {
     uint32_t what;   /* is an enum rpki_fate */
-    uint32_t fault;  /* is why it is rejected: its fault on one of the longest paths to it */
-    uint64_t step;   /* counts the certificates above it, there or where it is accepted */
-    uint64_t issuer; /* is the place among the strings of the authority right above it, where it is
-                      * accepted. An authority that two paths lead to has a line for one of them */
-    uint32_t kind;   /* is as what it was judged, where it is accepted or rejected: an enum rpki_kind,
-                      * but for RPKI_ANCHOR */
-    struct rpki_held held; /* is what it holds, where it is accepted; of a router's certificate what the
-                            * certificate above it holds */
+    uint32_t fault;  /* is the error of a rejected certificate on one of the longest paths to it */
+    uint64_t step;   /* counts the certificates above it on that path, or on the accepted path */
+    uint64_t issuer; /* is the place among the strings of the CA right above an accepted certificate.
+                      * A CA that two paths lead to has a line for one of them */
+    uint32_t kind;   /* is the kind as which an accepted or rejected certificate was validated: an
+                      * enum rpki_kind, but for RPKI_ANCHOR */
+    struct rpki_held held; /* is what an accepted certificate holds; for a router's certificate what
+                            * the certificate above it holds */
 };
 
 /* Numbers how a walk ended. */
 enum rpki_ended {
     RPKI_NOT_BEGUN = 0,   /* there was an error */
-    RPKI_WHOLE = 1,       /* every certificate was judged to which a valid path leads */
-    RPKI_TOO_DEEP = 2,    /* every such one within the depth was judged, and more are below */
+    RPKI_WHOLE = 1,       /* every certificate was validated to which a valid path leads */
+    RPKI_TOO_DEEP = 2,    /* every such one within the depth was validated, and more are below */
     RPKI_OUT_OF_STEPS = 3 /* a CA's share of the steps is less than its children, so none of these
-                           * was judged */
+                           * was validated */
 };
 
 /* Holds how the walk ended. */
 struct rpki_walk {
     uint32_t fault;  /* is what the function returns */
     uint32_t ended;  /* is an enum rpki_ended */
-    uint64_t anchor; /* is the anchor's place among the strings, also where the fault is its own */
-    uint64_t v4, v6, asn; /* count the ranges that all accepted certificates hold; 0 at a fault */
+    uint64_t anchor; /* is the trust anchor's place among the strings, also if the error is its own */
+    uint64_t v4, v6, asn; /* count the ranges that all accepted certificates hold; 0 after an error */
 };
 
 /* Validates all certificates of a directory, with signatures as for rpki_path_validate. Writes the
@@ -843,12 +936,13 @@ struct rpki_issued {
 /* Prepares a certificate for its signature: writes the TBSCertificate, which the issuer's key has
  * to sign (sha256WithRSAEncryption, RFC 7935 2), as many bytes as there is room for, and into *told
  * how many there are. The key may be elsewhere. No signature is spent on a certificate that would
- * be rejected: all but the signature is checked that rpki_path_validate checks below this issuer.
+ * be rejected: all but the signature is checked that rpki_path_validate checks below this issuer,
+ * with the same CRLs, if they are asked. A CA may not have the key of a certificate above it.
  *
  * *told is valid after an error, too, and *out is then as it was. The error is RPKI_BAD_CALL if
  * `size` is another, a number is of none of its enums, a range, a serial number or a time doesn't
  * exist, or the path doesn't go with the kind; one of the issuer's path; an RPKI_ISSUING_ one; or
- * that of a certificate's profile or verification. */
+ * that of a certificate's profile, verification or revocation. */
 uint32_t rpki_prepare(const struct rpki_wanted *wanted, uint8_t *out, size_t room,
                       struct rpki_issued *told);
 

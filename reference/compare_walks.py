@@ -8,7 +8,7 @@ PROGRAM is the command, as the gate builds it or as `./rpki` compiles it. Each o
 isn't said) is that of strangers.py, half of them with files of a stranger. `tree -o json` tells of
 each folder without these files, and with them. Compared is, for both,
 
-- that the trust anchor is the one that the rule chooses;
+- that the trust anchors are the one that the rule chooses, and its copies;
 - that each path that is told is valid, and accepts just what valid paths of that depth lead to;
 - that each fault that is told is one of the certificate below the end of a valid path;
 - that what isn't told to stand below an accepted issuer has none;
@@ -18,11 +18,12 @@ and, of both together, that each file of the folder to which a path without the 
 accepted, whatever the stranger added, and what such a path holds.
 
 Names are asked of half of the folders, of certificates and of lists alike; the others are asked with
---no-names. With --shares it is taken that what is left of a CA's steps is divided among the CAs
-below it. Then three numbers of steps are asked too, beside the walk of walks.py: each path, verdict and
-what is held, and whether a bound was met. What is told of a path without the stranger's keys mustn't
-depend on what the stranger added, by walks.py and by what the command shows. Without --shares a walk is
-asked that meets no bound but the depth; of one that does, only whether what it tells is so.
+--no-names. With --shares it is taken that copies take no steps, and that what is left of a CA's steps is
+divided among the CAs below it. Then three numbers of steps are asked too, beside the walk of walks.py:
+each path, verdict and what is held, and whether a bound was met. What is told of a path without the
+stranger's keys mustn't depend on what the stranger added, by walks.py and by what the command shows.
+Without --shares a walk is asked that meets no bound but the depth; of one that does, only whether what
+it tells is so.
 
 A folder with more than MOST paths isn't asked. A folder that differs is made smaller, by leaving out
 files while it differs, and kept in FOLDER. A folder depends on the seed and its index alone. Prints each
@@ -104,6 +105,10 @@ class Folder:
         place = self.names.index(name)
         return next((it for at, it in self.walks.certs if at == place), None)
 
+    def copies(self, cert):
+        """The names of the files that begin with this certificate, whatever follows it."""
+        return {self.names[place] for place, it in self.walks.certs if it.signed == cert.signed}
+
     def path(self, names):
         """The path of these files' names, or None where it isn't valid."""
         certs = [self.certificate(it) for it in names]
@@ -125,9 +130,9 @@ def anchor_wrongs(folder, told):
         if anchors or told.accepted():
             yield f'there is no valid trust anchor, and it tells {anchors}, {told.accepted()}'
         return
-    wanted = folder.anchor.certs[0].signed.data
-    if len(anchors) != 1 or folder.certificate(anchors[0]).signed.data != wanted:
-        yield f'the trust anchors are {anchors}, and wanted {folder.names[folder.anchor.places[0]]}'
+    wanted = folder.copies(folder.anchor.certs[0])
+    if set(anchors) != wanted:
+        yield f'the trust anchors are {anchors}, and wanted {sorted(wanted)}'
 
 
 def held_wrongs(name, line, path):

@@ -71,7 +71,17 @@ def of_show(data):
 
 
 def of_tree(data):
-    yield from unknown(data, 'If nothing is judged' if 'rejected' in data else 'Every tree')
+    if 'rejected' in data:
+        yield from unknown(data, 'If a file is no TAL')
+        return
+    yield from unknown(data, 'Every tree')
+    for it in data['tals']:
+        yield from unknown(it, 'A TAL of a tree')
+    for it in data['errors']:
+        yield from unknown(it, 'An error of a tree')
+    counts = tables()['The counts of a tree']
+    if not all(type(it) is int for it in data['counts'].values()) or not counts.keys() <= data['counts'].keys():
+        yield f'rpki-json(5) has other counts than {data["counts"]}'
     for it in data['files']:
         yield from unknown(it, 'A file of a tree', 'A rejected path', 'An accepted path')
         yield from of_accepted(it)

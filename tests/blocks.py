@@ -1,18 +1,18 @@
 """Runs the blocks of pages that readers type; see tests/blocks.
 
 A block is some lines behind four spaces. Its commands are run in one of these ways; any other command
-fails the test, and so does a fence of another language than Python.
+fails the test, and so does a fence of another language than Python or C.
 
 - prompt: the block's first line begins with `$ `. It is run in the repository, with `sh`, and has to
   print the lines below, up to a line `..` if there is one; a current time is compared as a time.
 - whole page: another test runs all blocks of the page as they are (WHOLE).
 - make: its steps are listed by `make -n` and compared (MAKE); another test runs the target.
-- examples: it is run in a copy of `examples`, over the library that `make library` built (EXAMPLES).
+- program: it builds callers/c/holds.c and runs it, over the library that `make library` built (PROGRAM).
 - template: its comment has the word `template`. It is a command of docs/ISSUING.md, with `..` for some
   of its words, or it builds `mine.c`: then it is run with callers/c/holds.c as that, over the library.
 
-The program in Python runs in `examples`, over the library. If the library isn't built, what needs it is
-left out. Python 3, standard library alone.
+The program in Python runs in `examples`, over the library. The one in C is a file that a command of its
+page builds. If the library isn't built, what needs it is left out. Python 3, standard library alone.
 """
 import os
 import re
@@ -37,8 +37,10 @@ MAKE = {
     "install-lib": ("/lib/librpki.a", "tests/install", "ends 0 make install "),
     "check": ("tests/all", "tests/all", "run rt ci\n"),
 }
-# A command that is run in `examples`, and how it begins.
-EXAMPLES = "cc -o holds "
+# How the command begins that builds a program and runs it in `examples`.
+PROGRAM = "cc -o holds "
+# What runs a program in `examples`, a link, which the top can't be reached from by `..`.
+THERE = " && top=$PWD && cd examples && $top/"
 TIME = re.compile(r"\d{4}-\d\d-\d\dT\d\d:\d\d:\d\dZ")
 NOW = re.compile(r"^(Moment|Time|Validation time):\s+\d{4}-\d\d-\d\dT\d\d:\d\d:\d\dZ$", flags=re.M)
 passed = failed = 0
@@ -111,6 +113,9 @@ def programs(page, text):
         about = {**os.environ, "PYTHONPATH": str(TOP / "callers" / "python"), "RPKI_LIBRARY": str(LIBRARY)}
         done = subprocess.run([sys.executable, "-c", program], cwd=TOP / "examples", env=about, capture_output=True, text=True)
         check(f"{page}: program in Python", done.returncode == 0 and done.stdout.strip(), done.stdout + done.stderr)
+    for program in re.findall(r"^```c\n(.*?)^```$", text, flags=re.M | re.S):
+        names = re.findall(r"^    cc .* (callers/c/\w+\.c) ", text, flags=re.M)
+        check(f"{page}: program in C", any((TOP / name).read_text() == program for name in names), "no command builds it")
 
 
 def listed(page, command):
@@ -151,17 +156,18 @@ def as_installed(home):
 
 
 def built(page, command, program):
-    """A command that builds a program of callers/c/holds.c, run in a copy of `examples`."""
+    """A command that builds a program of callers/c/holds.c, which is run in `examples`. It is run where
+    the sources are laid out as in the clone."""
     if not has_library(command):
         return
     with tempfile.TemporaryDirectory() as room:
         room = Path(room)
-        shutil.copytree(TOP / "examples", room / "examples")
-        for name in ("include", "callers"):
+        for name in ("include", "callers", "crates"):
             (room / name).symlink_to(TOP / name)
-        shutil.copy(TOP / "callers" / "c" / "holds.c", room / "examples" / "mine.c")
-        run = command if f"./{program}" in command else f"{command} && ./{program}"
-        done = subprocess.run(["sh", "-c", run], cwd=room / "examples", env=as_installed(room), capture_output=True, text=True)
+        (room / "examples").symlink_to(os.readlink(TOP / "examples"))
+        shutil.copy(TOP / "callers" / "c" / "holds.c", room / "mine.c")
+        run = command if THERE in command else f"{command}{THERE}{program}"
+        done = subprocess.run(["sh", "-c", run], cwd=room, env=as_installed(room), capture_output=True, text=True)
         check(f"{page}: {command}", done.returncode == 0 and " to " in done.stdout, done.stdout + done.stderr)
 
 
@@ -185,9 +191,9 @@ def plain(page, line):
     if "template" in comment:
         template(page, command)
         return "template"
-    if command.startswith(EXAMPLES):
+    if command.startswith(PROGRAM):
         built(page, command, "holds")
-        return "examples"
+        return "program"
     if command.split()[0] == "make":
         listed(page, command)
         return "make"
@@ -206,10 +212,10 @@ def main():
         for page in PAGES:
             text = (TOP / page).read_text()
             fences = re.findall(r"^ *(```|~~~)(.*)$", text, flags=re.M)
-            check(f"{page}: a fence of another language than Python", all(language in ("python", "") for _, language in fences)
-                  and sum(language == "python" for _, language in fences) * 2 == len(fences))
+            check(f"{page}: a fence of another language than Python or C", all(language in ("python", "c", "") for _, language in fences)
+                  and sum(language != "" for _, language in fences) * 2 == len(fences))
             programs(page, text)
-            for block in blocks(text):
+            for block in blocks(re.sub(r"^```.*?^```$", "", text, flags=re.M | re.S)):
                 if block[0].startswith("$ "):
                     if is_list:
                         print(*(f"{page}: prompt: {line[2:]}" for line in block if line.startswith("$ ")), sep="\n")

@@ -8,6 +8,7 @@
 #include <stdio.h>
 #include <stdlib.h>
 #include <string.h>
+#include <time.h>
 
 static unsigned passed, failed;
 
@@ -831,6 +832,78 @@ static void joins(struct file anchor, struct file first) {
     free(octets);
 }
 
+static int are_octets(struct rpki_octets it, const uint8_t *octets, uint64_t length) {
+    return it.length == length && (length == 0 || memcmp(it.octets, octets, length) == 0);
+}
+
+/* All fields of a certificate at once are those that each call writes. */
+static void all_fields(struct file it) {
+    enum { ROOM = 4200 };
+    static uint8_t memory[1 << 19], octets[11][1 << 12];
+    static struct rpki_ip_range ranges[2][ROOM];
+    static struct rpki_as_range systems[ROOM];
+    uint64_t counts[14];
+    struct rpki_certificate fixed;
+    struct rpki_fields out, none;
+    uint8_t is_used;
+    memset(&none, 0, sizeof none);
+    check(rpki_certificate_read(it.octets, it.length, &fixed) == RPKI_OK, "the certificate is read");
+    for (uint32_t i = 0; i < 4; i++)
+        rpki_certificate_name(it.octets, it.length, i, octets[i], sizeof octets[i], &counts[i]);
+    for (uint32_t i = 0; i < 6; i++)
+        rpki_certificate_uri(it.octets, it.length, i, octets[4 + i], sizeof octets[i], &counts[4 + i]);
+    rpki_certificate_key(it.octets, it.length, octets[10], sizeof octets[10], &counts[10], &is_used);
+    for (uint32_t i = 0; i < 2; i++)
+        rpki_certificate_addresses(it.octets, it.length, 4 + 2 * i, ranges[i], ROOM, &counts[11 + i]);
+    rpki_certificate_as_numbers(it.octets, it.length, systems, ROOM, &counts[13]);
+    check(rpki_fields_of_certificate(it.octets, it.length, NULL, 0, &out) == RPKI_OK, "fields are counted");
+    const size_t size = out.size;
+    check(size <= sizeof memory - 4 && out.issuer.length == 0 && out.v4_count == 0 && out.asn == NULL
+              && memcmp(&out.fixed.serial, &fixed.serial, 20) == 0 && out.has_usable_key == is_used,
+          "without memory there are the fields of a fixed size");
+    for (size_t i = 0; i < 18; i++) {
+        const size_t room = i < 5 ? i : i < 14 ? size / 10 * (i - 4) : size - (18 - i);
+        memset(memory, 0x5a, size + 4);
+        check(rpki_fields_of_certificate(it.octets, it.length, memory, room, &out) == RPKI_OK && out.size == size
+                  && out.subject.octets == NULL && out.v6 == NULL && memory[room] == 0x5a,
+              "too little memory");
+    }
+    /* at each alignment */
+    for (size_t at = 0; at < 4; at++) {
+        memset(memory, 0x5a, size + 4);
+        check(rpki_fields_of_certificate(it.octets, it.length, memory + at, size, &out) == RPKI_OK
+                  && out.size == size && (at == 0 || memory[at - 1] == 0x5a) && memory[at + size] == 0x5a,
+              "all fields are written");
+        check(memcmp(&out.fixed.serial, &fixed.serial, 20) == 0
+                  && memcmp(&out.fixed.not_after, &fixed.not_after, sizeof fixed.not_after) == 0
+                  && out.fixed.v4 == fixed.v4 && out.has_usable_key == is_used,
+              "fields of a fixed size");
+        const struct rpki_octets told[] = {out.issuer, out.subject, out.issuer_text, out.subject_text};
+        for (size_t i = 0; i < 4; i++) check(are_octets(told[i], octets[i], counts[i]), "a name among all fields");
+        for (size_t i = 0; i < 6; i++)
+            check(are_octets(out.uris[i], octets[4 + i], counts[4 + i]), "a URI among all fields");
+        check(are_octets(out.key, octets[10], counts[10]), "the key among all fields");
+        check(out.v4_count == counts[11] && out.v6_count == counts[12] && out.asn_count == counts[13],
+              "the numbers of ranges");
+        check((counts[11] == 0 || memcmp(out.v4, ranges[0], counts[11] * sizeof *out.v4) == 0)
+                  && (counts[12] == 0 || memcmp(out.v6, ranges[1], counts[12] * sizeof *out.v6) == 0),
+              "the ranges of addresses");
+        for (size_t i = 0; i < out.asn_count; i++)
+            check(out.asn[i].min == systems[i].min && out.asn[i].max == systems[i].max, "the ranges of AS numbers");
+    }
+    memset(&out, 0x5a, sizeof out);
+    check(rpki_fields_of_certificate(it.octets, it.length - 1, memory, sizeof memory, &out) == RPKI_DECODE_TRUNCATED
+              && memcmp(&out, &none, sizeof out) == 0,
+          "a cut certificate has no fields");
+    check(rpki_fields_of_certificate(NULL, 0, NULL, 0, &out) == RPKI_DECODE_TRUNCATED, "no octets have no fields");
+}
+
+static void all_fields_of(const char *folder, const char *name) {
+    struct file it = contents(folder, name);
+    all_fields(it);
+    free(it.octets);
+}
+
 /* numbers of a question that say nothing, and another size */
 static void choices(struct file anchor, struct file list) {
     const size_t length = anchor.length, l = list.length;
@@ -886,7 +959,7 @@ static struct file joined(const struct file *files, size_t count, size_t *length
 static uint32_t listed(const struct file *lists, size_t list_count, const struct file *members,
                        size_t count, uint32_t last, const struct rpki_time *at,
                        struct rpki_verdict *out) {
-    size_t list_lengths[8], lengths[8];
+    size_t list_lengths[8], lengths[20];
     struct file all = joined(lists, list_count, list_lengths), path = joined(members, count, lengths);
     uint32_t fault = judge_with(strings(all.octets, all.length, list_lengths, list_count),
                                 strings(path.octets, path.length, lengths, count), last, at, out);
@@ -1848,6 +1921,47 @@ static void completions(struct rpki_wanted wanted, struct file made) {
     }
 }
 
+/* a CA with the key of its issuer, or of the anchor above that */
+static void keys_above(struct file anchor, struct file first) {
+    const struct file members[] = {anchor, first};
+    size_t parts[2];
+    struct file path = joined(members, 2, parts);
+    for (size_t i = 0; i < 2; i++) {
+        struct rpki_wanted wanted = wanted_below(&anchor, &members[i]);
+        wanted.issuer = about(strings(path.octets, path.length, parts, 2), RPKI_AUTHORITY, &now);
+        unprepared(wanted, RPKI_ISSUING_UNWRITABLE, 2, "a CA has the key of a CA above it");
+    }
+    free(path.octets);
+}
+
+/* the CRLs of the issuer's path are asked of the new certificate, too: one of its issuer has to be there, and
+ * not to revoke its serial number */
+static void lists_of_new(struct file anchor, struct file first, struct file second, struct file own,
+                         struct file revoking) {
+    const struct file members[] = {anchor, first}, lists[] = {own, revoking};
+    size_t parts[2], list_parts[2];
+    struct file path = joined(members, 2, parts), both = joined(lists, 2, list_parts);
+    struct rpki_wanted wanted = wanted_below(&anchor, &second);
+    struct rpki_issued told;
+    wanted.issuer = about(strings(path.octets, path.length, parts, 2), RPKI_AUTHORITY, &now);
+    wanted.v4 = (struct rpki_addresses){NULL, 0, RPKI_INHERITED};
+    wanted.asn = (struct rpki_as_numbers){NULL, 0, RPKI_INHERITED};
+    wanted.serial[0] = 0, memset(wanted.serial + 1, 0, 19), wanted.serial[19] = 3;
+    check(rpki_prepare(&wanted, NULL, 0, &told) == RPKI_OK, "no CRL is asked");
+    wanted.issuer.revocation = RPKI_ASK_LISTS;
+    wanted.issuer.lists = strings(own.octets, own.length, &own.length, 1);
+    unprepared(wanted, RPKI_REVOCATION_NO_CRL, 2, "no CRL of the issuer is given");
+    wanted.issuer.lists = strings(both.octets, both.length, list_parts, 2);
+    unprepared(wanted, RPKI_REVOCATION_REVOKED, 2, "the issuer's CRL revokes the serial number");
+    wanted.serial[19] = 4;
+    check(rpki_prepare(&wanted, NULL, 0, &told) == RPKI_OK, "it doesn't revoke another one");
+    list_parts[1]--;
+    wanted.issuer.lists = strings(both.octets, both.length - 1, list_parts, 2);
+    check(rpki_prepare(&wanted, NULL, 0, &told) / 100 == 1 && told.index == 3, "a cut CRL is none");
+    free(path.octets);
+    free(both.octets);
+}
+
 static void issuing(struct file anchor, struct file other) {
     struct rpki_wanted wanted = wanted_below(&anchor, &other);
     struct file made;
@@ -2129,6 +2243,64 @@ static void long_tables(struct rpki_wanted_list wanted) {
     free(of_table);
 }
 
+/* how many octets a value takes whose length has at most three */
+static size_t whole(const uint8_t *at) {
+    return at[1] < 128 ? 2u + at[1] : at[1] == 0x81 ? 3u + at[2] : 4u + (size_t)at[2] * 256 + at[3];
+}
+
+/* this list with so many entries in place of its own, under the same signature */
+static struct file with_entries(struct file list, size_t count) {
+    const uint8_t *data = list.octets + (list.octets[1] == 0x82 ? 4 : 3), *from = data + (data[1] == 0x82 ? 4 : 3);
+    const uint8_t *to = from, *end = data + whole(data);
+    for (size_t i = 0; i < 5; i++) to += whole(to);
+    const uint8_t *more = to + whole(to);
+    const size_t before = (size_t)(to - from), behind = (size_t)(end - more), own = 23 * count;
+    const size_t signature = list.length - (size_t)(end - list.octets), inner = before + 5 + own + behind;
+    const size_t sizes[] = {inner + 5 + signature, inner, own};
+    struct file it = {malloc(sizes[0] + 5), 0};
+    for (size_t i = 0; i < 3; i++) {
+        const uint8_t head[] = {0x30, 0x83, (uint8_t)(sizes[i] >> 16), (uint8_t)(sizes[i] >> 8), (uint8_t)sizes[i]};
+        put(it.octets + it.length, (struct file){(uint8_t *)head, 5});
+        it.length += 5;
+        if (i == 1) put(it.octets + it.length, (struct file){(uint8_t *)from, before}), it.length += before;
+    }
+    for (size_t i = 0; i < count; i++, it.length += 23) {
+        const uint64_t serial = next_number();
+        const uint8_t entry[] = {0x30, 21, 2, 4, (uint8_t)(64 | (serial >> 24 & 63)), (uint8_t)(serial >> 16), (uint8_t)(serial >> 8),
+                                 (uint8_t)serial, 0x17, 13, '2', '6', '0', '2', '0', '1', '0', '0', '0', '0', '0', '0', 'Z'};
+        put(it.octets + it.length, (struct file){(uint8_t *)entry, 23});
+    }
+    put(it.octets + it.length, (struct file){(uint8_t *)more, behind + signature});
+    it.length += behind + signature;
+    return it;
+}
+
+/* how long it takes at least to judge a path of so many certificates by this list */
+static clock_t fastest(struct file cert, size_t count, struct file list) {
+    struct file members[18];
+    struct rpki_verdict out;
+    clock_t least = 0;
+    for (size_t i = 0; i < count; i++) members[i] = cert;
+    for (size_t i = 0; i < 12; i++) {
+        clock_t begin = clock();
+        check(listed(&list, 1, members, count, RPKI_AUTHORITY, &now, &out) != RPKI_OK && out.index == 1,
+              "a trust anchor is no CA below itself");
+        clock_t took = clock() - begin;
+        if (i == 0 || took < least) least = took;
+    }
+    return least;
+}
+
+/* a CRL whose key no CA of a path has gets no table, however many CAs there are: a path of 17 CAs takes
+ * about as long as one of 16 */
+static void lists_of_others(struct file anchor, struct file list) {
+    struct file others = with_entries(list, 20000);
+    clock_t few = fastest(anchor, 17, others), many = fastest(anchor, 18, others);
+    if (many >= 2 * few) printf("17 certificates: %ld, 18: %ld\n", (long)few, (long)many);
+    check(many < 2 * few, "no table is made of a CRL that no certificate asks");
+    free(others.octets);
+}
+
 static void issuing_lists(struct file anchor, struct file first, struct file empty, struct file list) {
     const struct rpki_strings alone = strings(anchor.octets, anchor.length, &anchor.length, 1);
     struct file both = {malloc(anchor.length + first.length), anchor.length + first.length};
@@ -2176,6 +2348,13 @@ int main(int count, char **words) {
     places(anchor, list);
     places(first, list);
     joins(anchor, first);
+    const char *names_of[] = {"router.cer", "odd_inherit_all.cer", "odd_name_utf8.cer", "wide/ta.cer",
+                              "keyed/ee_1024.cer"};
+    for (size_t i = 0; i < sizeof names_of / sizeof *names_of; i++) all_fields_of(words[2], names_of[i]);
+    all_fields(anchor);
+    all_fields(first);
+    all_fields(second);
+    all_fields(object);
     choices(anchor, empty);
     asked(anchor, first, empty, list);
     behind(anchor, first, empty, list);
@@ -2191,7 +2370,10 @@ int main(int count, char **words) {
     keys(words[2]);
     tables(list, empty, words[2]);
     issuing(anchor, first);
+    keys_above(anchor, first);
+    lists_of_new(anchor, first, second, empty, list);
     issuing_lists(anchor, first, empty, list);
+    lists_of_others(anchor, list);
     const struct file files[] = {anchor, first, second, object, list, empty};
     for (size_t i = 0; i < sizeof files / sizeof *files; i++) free(files[i].octets);
     printf("%u passed, %u failed\n", passed, failed);

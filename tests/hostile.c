@@ -59,6 +59,8 @@ static uint32_t call_it(void) {
     case certificate_uri: return rpki_certificate_uri(a.octets, a.length, a.number, a.out, a.room, a.count);
     case certificate_name: return rpki_certificate_name(a.octets, a.length, a.number, a.out, a.room, a.count);
     case certificate_key: return rpki_certificate_key(a.octets, a.length, a.out, a.room, a.count, a.told);
+    case fields_of_certificate:
+        return rpki_fields_of_certificate(a.octets, a.length, a.out, a.room, a.told);
     case certificate_places: return rpki_certificate_places(a.octets, a.length, a.told);
     case list_read: return rpki_list_read(a.octets, a.length, a.told);
     case list_entries: return rpki_list_entries(a.octets, a.length, a.out, a.room, a.count);
@@ -96,6 +98,7 @@ static const size_t elements[CALLS] = {[fault_name] = 1,
                                        [certificate_uri] = 1,
                                        [certificate_name] = 1,
                                        [certificate_key] = 1,
+                                       [fields_of_certificate] = 1,
                                        [list_entries] = sizeof(struct rpki_entry),
                                        [list_issuer] = 1,
                                        [list_ask] = 1,
@@ -110,6 +113,7 @@ static const size_t elements[CALLS] = {[fault_name] = 1,
 static const size_t tolds[CALLS] = {[version] = sizeof(struct rpki_text),
                                     [certificate_read] = sizeof(struct rpki_certificate),
                                     [certificate_key] = 1,
+                                    [fields_of_certificate] = sizeof(struct rpki_fields),
                                     [certificate_places] = sizeof(struct rpki_places),
                                     [list_read] = sizeof(struct rpki_list),
                                     [stop_text] = sizeof(struct rpki_stop),
@@ -138,8 +142,8 @@ static void make_outputs(size_t strings_count) {
     size_t element = elements[which];
     int has_ranges = which == path_validate || which == folder_judge;
     a.told = tolds[which] > 0 ? output(tolds[which]) : NULL;
-    if (which == stop_text ||
-        (element > 0 && which != list_ask && which != table_ask && which < path_validate))
+    if (which == stop_text || (element > 0 && which != list_ask && which != table_ask &&
+                               which != fields_of_certificate && which < path_validate))
         a.count = output(8);
     if (has_ranges) {
         const struct rpki_room none = {NULL, 0, NULL, 0, NULL, 0};
@@ -161,7 +165,9 @@ static void make_outputs(size_t strings_count) {
         uint64_t count = strings_count;
         a.room = 0;
         if (!has_ranges && run() == RPKI_OK)
-            count = a.count != NULL ? *a.count : ((struct rpki_issued *)a.told)->count;
+            count = a.count != NULL                  ? *a.count
+                    : which == fields_of_certificate ? ((struct rpki_fields *)a.told)->size
+                                                     : ((struct rpki_issued *)a.told)->count;
         a.room = room_for(one_in(8) ? below(64) : count);
     }
     a.out = output(a.room * element);
@@ -230,6 +236,28 @@ static void check(int holds, const char *what) {
     if (!holds) differs(what);
 }
 
+/* Whether a field is in the memory. */
+static int is_inside(const void *at, size_t length) {
+    const uint8_t *from = a.out, *field = at;
+    return length == 0 || (field >= from && length <= a.room && field <= from + a.room - length);
+}
+
+/* Whether all fields of a certificate are in the memory, if that is enough; all is 0 after an error. */
+static int are_fields(uint32_t answer) {
+    static const struct rpki_fields none;
+    const struct rpki_fields *it = a.told;
+    if (answer != RPKI_OK) return memcmp(it, &none, sizeof none) == 0;
+    int has_all = is_inside(it->issuer.octets, it->issuer.length) && is_inside(it->key.octets, it->key.length) &&
+                  is_inside(it->issuer_text.octets, it->issuer_text.length) &&
+                  is_inside(it->subject.octets, it->subject.length) &&
+                  is_inside(it->subject_text.octets, it->subject_text.length) &&
+                  is_inside(it->v4, it->v4_count * sizeof *it->v4) &&
+                  is_inside(it->v6, it->v6_count * sizeof *it->v6) &&
+                  is_inside(it->asn, it->asn_count * sizeof *it->asn) && (uintptr_t)it->asn % 4 == 0;
+    for (size_t i = 0; i < 6; i++) has_all = has_all && is_inside(it->uris[i].octets, it->uris[i].length);
+    return has_all && it->has_usable_key <= 1 && it->size > 3 && (it->size <= a.room) == (it->key.length > 0);
+}
+
 /* What the header says of one answer and of what was written. */
 static void check_answer(uint32_t answer) {
     const struct out *last = &outs[outs_used > 0 ? outs_used - 1 : 0];
@@ -255,6 +283,7 @@ static void check_answer(uint32_t answer) {
         for (size_t i = 0; answer == RPKI_OK && i < a.room; i++)
             check(last->at[i] < 2, "an answer is neither 0 nor 1");
     check(which != table_ask || requests == 0, "it takes memory");
+    check(which != fields_of_certificate || are_fields(answer), "all fields are not in the memory");
     check(which != certificate_key || *(uint8_t *)a.told <= (answer == RPKI_OK),
           "whether a key is used is neither 0 nor 1");
     check(which != path_validate || ((struct rpki_verdict *)a.told)->fault == answer,

@@ -9,9 +9,10 @@
 #define EACH_CALL(X)                                                                                \
     X(abi_version) X(version) X(fault_name) X(fault_sentence) X(certificate_read)                   \
     X(certificate_inspect) X(certificate_addresses) X(certificate_as_numbers) X(certificate_uri)    \
-    X(certificate_name) X(certificate_key) X(certificate_places) X(list_read) X(list_entries)       \
-    X(list_issuer) X(list_ask) X(list_table) X(table_ask) X(stop_text) X(path_validate)             \
-    X(path_names) X(folder_judge) X(prepare) X(complete) X(prepare_list) X(complete_list)
+    X(certificate_name) X(certificate_key) X(fields_of_certificate) X(certificate_places)           \
+    X(list_read) X(list_entries) X(list_issuer) X(list_ask) X(list_table) X(table_ask) X(stop_text) \
+    X(path_validate) X(path_names) X(folder_judge) X(prepare) X(complete) X(prepare_list)           \
+    X(complete_list)
 #define NUMBER(name) name,
 #define NAME(name) "rpki_" #name,
 enum { EACH_CALL(NUMBER) CALLS };

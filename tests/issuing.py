@@ -253,6 +253,7 @@ def make_issuers():
     make('less.cer', 'anchor', 'anchor', ipv4='10.1.0.0/17')
     make('alien.cer', 'anchor', 'other', key='other.pub')
     make('ca.cer', 'ca', 'anchor')
+    make('deeper.cer', 'ca', 'ca', issuer=['anchor.cer', 'ca.cer'], key='other.pub')
     make('small.cer', 'ca', 'anchor', ipv4='10.1.0.0/17')
     make('inheriting.cer', 'ca', 'anchor', **{'ipv4': 'inherit', 'ipv6': 'inherit',
                                               'as': 'inherit'})
@@ -338,8 +339,14 @@ REFUSED = [
     ('ca', {'issuer': ['anchor.cer', 'empty']}, '--issuer empty: rejected at reading, '),
     ('ca', {'issuer': ['ca.pub']}, '--issuer ca.pub: rejected at reading, '),
     ('ca', {'issuer': ['anchor.cer', 'small.cer'], 'key': 'other.pub'}, 'OverclaimV4: '),
-    ('ca', {'key': 'anchor.pub'}, "the CA has its issuer's key, "),
-    ('ca', {'issuer': ['anchor.cer', 'ca.cer']}, "the CA has its issuer's key, "),
+    ('ca', {'key': 'anchor.pub'}, 'the CA has the key of a CA above it, '),
+    ('ca', {'issuer': ['anchor.cer', 'ca.cer']}, 'the CA has the key of a CA above it, '),
+    ('ca', {'issuer': ['anchor.cer', 'ca.cer'], 'key': 'anchor.pub'},
+     'the CA has the key of a CA above it, '),
+    ('ca', {'issuer': ['anchor.cer', 'ca.cer', 'deeper.cer'], 'key': 'anchor.pub'},
+     'the CA has the key of a CA above it, '),
+    ('ca', {'issuer': ['anchor.cer', 'ca.cer', 'deeper.cer']},
+     'the CA has the key of a CA above it, '),
     ('ca', {'from': '1949-12-31T23:59:59Z'}, 'the validity starts before 1950, '),
     ('anchor', {'from': '1949-12-31'}, 'the validity starts before 1950, '),
     ('router', {'from': '0001-01-01'}, 'the validity starts before 1950, '),
@@ -406,8 +413,12 @@ OTHERS_REFUSED = [
     ('ca', {'serial': 0}, 'the serial number is 0, '),
     ('anchor', {'serial': 0}, 'the serial number is 0, '),
     ('ca', {'not_before': (1949, 12, 31, 23, 59, 59)}, 'the validity starts before 1950, '),
-    ('ca', {'key': 'anchor.pub'}, "the CA has its issuer's key, "),
+    ('ca', {'key': 'anchor.pub'}, 'the CA has the key of a CA above it, '),
 ]
+
+
+# what is no CA may have the key of a CA above it
+KEYS_ABOVE = [('ee', 'ca.pub'), ('ee', 'anchor.pub'), ('detached', 'anchor.pub')]
 
 
 def try_others():
@@ -420,6 +431,17 @@ def try_others():
             changed = {'key': key, 'subject_key_identifier': key.identifier()}
         sign(ref.encode_tbs(dataclasses.replace(tbs, **changed)), 'anchor')
         is_refused(f'complete {kind} {fields}', complete(WANTED[kind].get('issuer')), text)
+    above = ['anchor.cer', 'ca.cer']
+    tbs = ref.decode_cert(make('made.cer', 'ca', 'ca', issuer=above, key='other.pub')).tbs
+    for key in ['anchor.pub', 'ca.pub']:
+        key_is = key_in(key)
+        changed = {'key': key_is, 'subject_key_identifier': key_is.identifier()}
+        sign(ref.encode_tbs(dataclasses.replace(tbs, **changed)), 'ca')
+        is_refused(f'complete ca {key} below {above}', complete(above),
+                   'the CA has the key of a CA above it, ')
+    for kind, key in KEYS_ABOVE:
+        make('made.cer', kind, 'ca', issuer=above, key=key)
+        check(f'{kind} with {key}', told([*above, 'made.cer']) is None)
 
 
 def try_signatures():

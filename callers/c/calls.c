@@ -85,6 +85,21 @@ static void print_subject_length(const uint8_t *octets, size_t length) {
         printf("its subject is %.*s\n", (int)count, name);
 }
 
+/* All fields at once: a first call tells how much memory they take. */
+static void print_all(const uint8_t *octets, size_t length) {
+    struct rpki_fields it;
+    if (rpki_fields_of_certificate(octets, length, NULL, 0, &it) != RPKI_OK)
+        return;
+    size_t size = it.size;
+    void *memory = malloc(size);
+    if (memory == NULL) return;
+    rpki_fields_of_certificate(octets, length, memory, size, &it);
+    struct rpki_octets issuer = it.issuer_text;
+    printf("its issuer is %.*s\n", (int)issuer.length, issuer.octets);
+    printf("it lists %d ranges of IPv4\n", (int)it.v4_count);
+    free(memory);
+}
+
 static void print_list(const uint8_t *octets, size_t length) {
     struct rpki_list it;
     if (rpki_list_read(octets, length, &it) != RPKI_OK) return;
@@ -194,6 +209,7 @@ int main(void) {
     print_as_numbers(certificate, first);
     print_list_uri(certificate, first);
     print_subject_length(certificate, first);
+    print_all(certificate, first);
     size_t length = read_file("revoked.crl", list, sizeof list);
     print_list(list, length);
     print_entries(list, length);

@@ -1,6 +1,6 @@
 /* Prints the IPv4 addresses that a path of certificates holds, or why it is
- * rejected. A locator says which trust anchor is trusted, and each issuer's
- * list whether a member is revoked. */
+ * rejected. A TAL says which trust anchor is trusted, and each issuer's CRL
+ * whether a certificate is revoked. */
 #include <rpki.h>
 #include <stdio.h>
 #include <stdlib.h>
@@ -40,39 +40,35 @@ static struct rpki_strings strings_of(const struct files *it) {
 }
 
 /* Prints which file is wrong, and why. */
-static int reject(uint32_t fault, uint64_t index, size_t members) {
-    uint8_t name[64], sentence[256];
-    uint64_t name_length, length;
-    rpki_fault_name(fault, name, sizeof name, &name_length);
-    rpki_fault_sentence(fault, sentence, sizeof sentence, &length);
+static int reject(uint32_t fault, uint64_t index, size_t certificates) {
     if (fault == RPKI_MEMORY || fault == RPKI_BAD_CALL)
-        printf("not judged: "); /* no file is at fault */
+        printf("no verdict: "); /* no file is wrong */
     else if (fault >= RPKI_LOCATOR_NO_TEXT && fault <= RPKI_LOCATOR_BAD_KEY)
-        printf("locator: ");
-    else if (index < members)
-        printf("member %d: ", (int)index);
+        printf("TAL: ");
+    else if (index < certificates)
+        printf("certificate %d: ", (int)index);
     else
-        printf("list %d: ", (int)(index - members));
-    printf("%.*s (%d, %.*s)\n", (int)length, (const char *)sentence,
-           (int)fault, (int)name_length, (const char *)name);
+        printf("CRL %d: ", (int)(index - certificates));
+    printf("%s (%d, %s)\n", rpki_sentence_of_fault(fault), (int)fault,
+           rpki_name_of_fault(fault));
     return 1;
 }
 
 int main(void) {
-    static struct files members, lists, locator;
-    static struct rpki_ip_range v4[100]; /* verdict.v4 tells of more */
-    append(&members, "anchor.cer");
-    append(&members, "first.cer");
-    append(&members, "second.cer");
-    append(&lists, "first.crl");
-    append(&lists, "second.crl");
-    append(&locator, "anchor.tal");
+    static struct files path, crls, tal;
+    static struct rpki_ip_range v4[100]; /* verdict.v4 may count more */
+    append(&path, "anchor.cer");
+    append(&path, "first.cer");
+    append(&path, "second.cer");
+    append(&crls, "first.crl");
+    append(&crls, "second.crl");
+    append(&tal, "anchor.tal");
     struct rpki_question question = {
         .size = sizeof question,
-        .members = strings_of(&members),
-        .lists = strings_of(&lists),
-        .locator = locator.octets,
-        .locator_length = locator.length,
+        .members = strings_of(&path),
+        .lists = strings_of(&crls),
+        .locator = tal.octets,
+        .locator_length = tal.length,
         .moment = {.year = 2026, .month = 6, .day = 1},
         .last = RPKI_AUTHORITY,
         .strict = 1,
@@ -82,7 +78,7 @@ int main(void) {
     struct rpki_room room = {.v4 = v4, .v4_room = 100};
     struct rpki_verdict verdict;
     if (rpki_path_validate(&question, &room, &verdict) != RPKI_OK)
-        return reject(verdict.fault, verdict.index, members.count);
+        return reject(verdict.fault, verdict.index, path.count);
     for (size_t i = 0; i < verdict.v4 && i < 100; i++) {
         const uint8_t *min = v4[i].min, *max = v4[i].max;
         printf("%d.%d.%d.%d to ", min[0], min[1], min[2], min[3]);

@@ -9,13 +9,16 @@
 
 FNR == 1 { files++ }
 files > 1 { read_program($0) }
+# what is for C++ alone is left out
+files == 1 && /^#ifdef __cplusplus$/ { in_cplusplus = 1 }
+in_cplusplus { in_cplusplus = !/^#(else|endif)/; next }
 # of a table the first line is kept, and of a function with its body what a declaration would say
 in_table { in_table = /\\$/; next }
 in_body { in_body = $0 != "}"; next }
 files == 1 && /^#define RPKI_EACH_/ { in_table = 1; sub(/ *\\$/, ""); code[blocks] = code[blocks] $0 "\n"; next }
 files == 1 && /^static inline/ { in_head = 1 }
 in_head { in_head = !(in_body = sub(/ \{$/, ";")); code[blocks] = code[blocks] $0 "\n"; next }
-files > 1 || (/^#if|^#else|^#endif|^#include|^#define RPKI_(H|SIZE|ISSUER)|^extern "C"|^}$/) { next }
+files > 1 || (/^#if|^#else|^#endif|^#include|^#define RPKI_H$|^extern "C"|^}$/) { next }
 
 /^\/\* ---- / {
     gsub(/^\/\* ---- | *\*\/$/, "")

@@ -336,7 +336,12 @@ class Addresses(Generic[Address]):
         """Returns whether an address, or all of a network, is in the set. A str is parsed as
         either: `"10.0.0.0/24" in held.ipv4`."""
         network = ipaddress.ip_network(what) if isinstance(what, str) else what
-        first, last = (network[0], network[-1]) if isinstance(network, _NETWORKS) else (what, what)
+        if isinstance(network, _NETWORKS):
+            first, last = network[0], network[-1]
+        elif isinstance(network, _ADDRESSES):
+            first = last = network
+        else:
+            raise TypeError(f"expected an address, a network or a text, not {type(what).__name__}")
         at = bisect.bisect_right(self._firsts, int(first)) - 1
         if at < 0 or first.version != self.ranges[at][0].version:
             return False
@@ -376,7 +381,7 @@ class AsNumbers:
 
     def __contains__(self, number: int) -> bool:
         """Returns whether an AS number is in the set."""
-        at = bisect.bisect_right(self._firsts, number) - 1
+        at = bisect.bisect_right(self._firsts, _number(number, "an AS number")) - 1
         return at >= 0 and number in self.ranges[at]
 
     contains = __contains__
@@ -405,12 +410,18 @@ class Resources:
         self, as_number: int | None = None, prefix: Network | str | None = None
     ) -> bool:
         """Returns whether both are held: the AS number, and all of the prefix. An argument that is
-        None isn't checked."""
-        if prefix is not None:
-            network = ipaddress.ip_network(prefix) if isinstance(prefix, str) else prefix
-            if network not in (self.ipv4 if network.version == 4 else self.ipv6):
-                return False
-        return as_number is None or as_number in self.as_numbers
+        None isn't checked, and one of them has to be given."""
+        if as_number is None and prefix is None:
+            raise TypeError("allows: expected an AS number, a prefix or both")
+        is_allowed = as_number is None or as_number in self.as_numbers
+        if prefix is None:
+            return is_allowed
+        network = ipaddress.ip_network(prefix) if isinstance(prefix, str) else prefix
+        if not isinstance(network, _NETWORKS):
+            given = type(prefix).__name__
+            raise TypeError(f"prefix: expected a network or a text, not {given}")
+        is_held = network in self.ipv4 if network.version == 4 else network in self.ipv6
+        return is_allowed and is_held
 
 
 def _ipv4(ranges: Sequence[raw.IpRange]) -> Addresses[ipaddress.IPv4Address]:
@@ -441,6 +452,8 @@ def _bytes(octets: Octets, name: str = "octets") -> bytes:
     if isinstance(octets, os.PathLike):
         with open(octets, "rb") as file:
             return file.read()
+    if isinstance(octets, io.TextIOBase):
+        raise TypeError(f"{name}: the file is open in text mode; open it with mode 'rb'")
     if hasattr(octets, "read"):
         read = octets.read()
         if not isinstance(read, bytes):
@@ -633,10 +646,14 @@ class Certificate:
             return INHERIT if self._read.asn == raw.INHERITED else None
         return _as_numbers(raw.as_numbers(self.octets))
 
-    @cached_property
+    @property
     def uris(self) -> dict[str, str]:
         """The URIs that it has, by these names: ca_issuer (of its issuer's certificate), crl,
-        repository, manifest, signed_object, notify."""
+        repository, manifest, signed_object, notify. Each call returns a dict of its own."""
+        return dict(self._uris)
+
+    @cached_property
+    def _uris(self) -> dict[str, str]:
         found = ((name, raw.certificate_uri(self.octets, at)) for at, name in enumerate(raw.URIS))
         return {name: uri.decode("ascii") for name, uri in found if uri}
 
@@ -978,9 +995,10 @@ def judge_folder(
     CRLs among the octets, as for `validate`, which accepts what is accepted here.
 
     `at`, `strict` and `chain_names` are as for `validate`, and so is `check_key`, for each
-    certificate. A path has at most `depth` certificates below the trust anchor, and at most `steps`
-    certificates are verified, each once for each path that leads to it; the default is 64 times as
-    many as there are. `is_whole` of the answer says whether that was enough.
+    certificate. A path has at most `depth` certificates below the trust anchor. `steps` are those of
+    the walk, by default 10,000,000: a certificate that a CA signed takes one for each path that leads
+    to it, and they are divided evenly among the CAs below each CA. `is_whole` of the answer says
+    whether that was enough.
 
     Raises LocatorFault if the file is no TAL or no certificate has its key, and the Fault of a
     trust anchor that is wrong, with its index in `octets` as the `member`; ValueError if `depth` or
@@ -1026,7 +1044,7 @@ def _ends(what: AddressRange[Address], name: str) -> tuple[int, bytes, bytes]:
     else:
         given = type(network).__name__
         raise TypeError(f"{name}: expected networks, texts or pairs of addresses, not {given}")
-    if first.version != last.version or last < first:
+    if first.version != last.version or int(last) < int(first):
         raise ValueError(f"{name}: expected a network, or a first address and a last one")
     return first.version, first.packed, last.packed
 
@@ -1103,15 +1121,17 @@ class _Issuer:
             any_names=not self.chain_names,
         )
 
-    def raise_fault(self, told: raw.Issued, no_call: str) -> None:
-        """Raises the exception of why nothing is issued, if there is one."""
+    def raise_fault(self, told: raw.Issued, no_call: str, arguments: _Arguments) -> None:
+        """Raises the exception of why nothing is issued, if there is one. Of a fault of what is issued
+        these are the arguments."""
         if told.fault == raw.BAD_CALL:
             raise ValueError(no_call)
         if told.fault == raw.BAD_URI:
             raise ValueError(f"uris[{raw.URIS[told.index]!r}]: expected a URI")
         # a list that can't be read is behind the members, and so is what is issued
-        if told.fault != raw.OK and told.index == len(self.members) and told.fault in _ARGUMENTS:
-            _raise(told.fault, argument=_ARGUMENTS[told.fault])
+        is_issued = told.fault > raw.BAD_CALL and told.index == len(self.members)
+        if is_issued and not (100 <= told.fault < 300 or told.fault // 100 == 7):
+            _raise(told.fault, argument=arguments.of(told.fault))
         _raise_at(told.fault, told.index, self.members, self.lists or ())
 
 
@@ -1121,8 +1141,20 @@ def _kind_above(kind: Kind) -> Kind:
     return Kind.TRUST_ANCHOR if kind is Kind.TRUST_ANCHOR else Kind.AUTHORITY
 
 
-# the argument that a fault of what is to be issued speaks of
-_ARGUMENTS = {
+@dataclass(frozen=True)
+class _Arguments:
+    """The argument that each fault of what is issued is about."""
+
+    named: Mapping[int, str]
+    other: str
+    """That of all other faults."""
+
+    def of(self, fault: int) -> str:
+        return self.named.get(fault, self.other)
+
+
+# of what is prepared
+_PREPARED: dict[int, str] = {
     FaultCode.INSPECTION_KEY_ALGORITHM: "key",
     FaultCode.INSPECTION_MISSING_CA_REPOSITORY: "uris['repository']",
     FaultCode.INSPECTION_MISSING_MANIFEST: "uris['manifest']",
@@ -1144,23 +1176,64 @@ _ARGUMENTS = {
     FaultCode.VERIFICATION_INHERITED_V6: "ipv6",
     FaultCode.VERIFICATION_INHERITED_AS: "as_numbers",
     FaultCode.VERIFICATION_MISSING_ISSUER_URI: "uris['ca_issuer']",
-    FaultCode.VERIFICATION_BAD_SIGNATURE: "signature",
     FaultCode.VERIFICATION_OVERCLAIM_V4: "ipv4",
     FaultCode.VERIFICATION_OVERCLAIM_V6: "ipv6",
     FaultCode.VERIFICATION_OVERCLAIM_AS: "as_numbers",
-    FaultCode.REVOCATION_BAD_SIGNATURE: "signature",
     FaultCode.REVOCATION_STALE: "next_update",
     FaultCode.ISSUING_NO_KEY: "key",
     FaultCode.ISSUING_UNUSED_KEY: "key",
     FaultCode.ISSUING_NO_NAME: "as_numbers",
     FaultCode.ISSUING_UNWRITABLE: "ipv4, ipv6 or as_numbers",
-    FaultCode.ISSUING_NOT_TO_SIGN: "prepared",
-    FaultCode.ISSUING_OTHER_OCTETS: "prepared",
+    FaultCode.ISSUING_TOO_LONG: "ipv4, ipv6 or as_numbers",
     FaultCode.ISSUING_OTHER_LIST: "previous",
     FaultCode.ISSUING_NUMBER: "number",
     FaultCode.ISSUING_LONG_NUMBER: "number",
     FaultCode.ISSUING_UPDATE_ORDER: "next_update",
 }
+
+# of what is completed, which has the values already
+_SIGNED: dict[int, str] = {
+    FaultCode.VERIFICATION_BAD_SIGNATURE: "signature",
+    FaultCode.REVOCATION_BAD_SIGNATURE: "signature",
+}
+_COMPLETED = _Arguments(_SIGNED, "prepared")
+
+
+def _of_certificate(
+    kind: Kind, issuer: _Issuer, key: bytes, not_before: datetime
+) -> _Arguments:
+    """The arguments of a certificate that is prepared. That no certificate has the fields has several
+    reasons."""
+    why = "ipv4, ipv6 or as_numbers"
+    if not_before.astimezone(timezone.utc).year < 1950:
+        why = "not_before"  # RFC 5280 4.1.2.5: a UTCTime begins in 1950
+    elif kind is Kind.AUTHORITY and issuer.members and _has_key(issuer.members[-1], key):
+        why = "key"
+    named = dict(_PREPARED)
+    named[FaultCode.ISSUING_UNWRITABLE] = why
+    return _Arguments(named, "issuers")
+
+
+def _has_key(octets: bytes, key: bytes) -> bool:
+    """Whether octets are a certificate with this key."""
+    try:
+        return Certificate(octets).public_key == key
+    except DecodeFault:
+        return False
+
+
+def _of_list(this_update: raw.Time, now: raw.Time) -> _Arguments:
+    """The arguments of a CRL that is prepared. It is stale also if it is from the future."""
+    named = dict(_PREPARED)
+    named[FaultCode.ISSUING_TOO_LONG] = "revoked"
+    if _parts(this_update) > _parts(now):
+        named[FaultCode.REVOCATION_STALE] = "this_update"
+    return _Arguments(named, "issuers")
+
+
+def _parts(it: raw.Time) -> tuple[int, ...]:
+    return it.year, it.month, it.day, it.hour, it.minute, it.second
+
 
 _NO_CERTIFICATE = (
     "issuers: expected none for a trust anchor, and for any other kind the certificates down to a CA"
@@ -1206,8 +1279,8 @@ def prepare(
     identifiers, key usage and policy are set as RFC 6487 4 requires.
 
     All is checked that a validator will check below the issuer, but the signature. Raises the Fault
-    of what is wrong, with the path index in the issuer's path, or with the index after them all for
-    the certificate itself; and ValueError if a value doesn't exist.
+    of what is wrong, with the path index (`member`) of an issuer, or with the `argument` that is wrong
+    of the certificate itself; and ValueError if a value doesn't exist.
     """
     _kind(kind, "kind")
     issuer = _Issuer.of(issuers, lists, locator, at, strict, chain_names)
@@ -1217,10 +1290,11 @@ def prepare(
         raise ValueError(f"uris: expected the names {', '.join(raw.URIS)}, not {min(named)!r}")
     if not 1 <= _number(serial_number, "serial_number") < 1 << 159:
         raise ValueError("serial_number: expected a number from 1 to 2^159 - 1")
+    spki = _bytes(key, "key")
     asked = raw.wanted(
         issuer.question(_kind_above(kind)),
         kind.value,
-        _bytes(key, "key"),
+        spki,
         (_addresses(4, ipv4), _addresses(6, ipv6), _systems(as_numbers)),
         texts,
         (_time(not_before, "not_before"), _time(not_after, "not_after")),
@@ -1228,7 +1302,8 @@ def prepare(
         _flag(trims_resources, "trims_resources"),
     )
     told, octets = raw.prepare(asked)
-    issuer.raise_fault(told, _NO_CERTIFICATE)
+    if told.fault != raw.OK:
+        issuer.raise_fault(told, _NO_CERTIFICATE, _of_certificate(kind, issuer, spki, not_before))
     return octets
 
 
@@ -1249,7 +1324,7 @@ def complete(
     as for `prepare`; all is checked again, at this time.
 
     Raises VerificationFault with the name BadSignature if the signature isn't valid, and else the
-    Fault of what is wrong.
+    Fault of what is wrong. Its `argument` is `signature` or `prepared`, unless an issuer is wrong.
     """
     _kind(kind, "kind")
     issuer = _Issuer.of(issuers, lists, locator, at, strict, chain_names)
@@ -1260,7 +1335,7 @@ def complete(
         _bytes(signature, "signature"),
     )
     told, octets = raw.complete(asked)
-    issuer.raise_fault(told, _NO_CERTIFICATE)
+    issuer.raise_fault(told, _NO_CERTIFICATE, _COMPLETED)
     return Certificate(octets)
 
 
@@ -1307,9 +1382,8 @@ def prepare_list(
     of the previous CRL; by default it is one more, and 1 for a first CRL. `this_update` is by
     default the time `at`. The other arguments are as for `prepare`.
 
-    Raises the Fault of what is wrong: of the issuer's path with the path index, and else
-    IssuingFault or RevocationFault with the index after the path; and ValueError if a value doesn't
-    exist.
+    Raises the Fault of what is wrong: with the path index (`member`) of an issuer, and else
+    IssuingFault or RevocationFault with the `argument`; and ValueError if a value doesn't exist.
     """
     now = datetime.now(timezone.utc) if at is None else at
     issuer = _Issuer.of(issuers, lists, locator, now, strict, chain_names)
@@ -1323,7 +1397,7 @@ def prepare_list(
         asked = issuer.question(Kind.AUTHORITY)
         count = _list_number(number, "number")
         told, octets = raw.prepare_list(raw.wanted_list(asked, before, entries, updates, count))
-        issuer.raise_fault(told, _NO_LIST)
+        issuer.raise_fault(told, _NO_LIST, _of_list(updates[0], issuer.now))
         return octets
 
     entries = [_revoked(it, since) for it in _each(revoked, "revoked")]
@@ -1355,7 +1429,7 @@ def complete_list(
     again, at this time.
 
     Raises RevocationFault with the name BadSignature if the signature isn't valid, and else the
-    Fault of what is wrong.
+    Fault of what is wrong. Its `argument` is `signature` or `prepared`, unless an issuer is wrong.
     """
     issuer = _Issuer.of(issuers, lists, locator, at, strict, chain_names)
     asked = raw.list_completion(
@@ -1364,5 +1438,5 @@ def complete_list(
         _bytes(signature, "signature"),
     )
     told, octets = raw.complete_list(asked)
-    issuer.raise_fault(told, _NO_LIST)
+    issuer.raise_fault(told, _NO_LIST, _COMPLETED)
     return RevocationList(octets)

@@ -11,6 +11,7 @@ import io
 import ipaddress
 import os
 import pickle
+import random
 import shutil
 import subprocess
 import sys
@@ -40,11 +41,12 @@ from rpki.__main__ import certificate
 from rpki._names import text_of
 
 # most tests check neither the TAL's key nor, where they issue, CRLs
-validate = functools.partial(rpki.validate, locator=None)
-prepare, complete, prepare_list, complete_list = (
-    functools.partial(call, lists=None, locator=None)
-    for call in (rpki.prepare, rpki.complete, rpki.prepare_list, rpki.complete_list)
-)
+validate: Any = functools.partial(rpki.validate, locator=None)
+unchecked: dict[str, Any] = {"lists": None, "locator": None}
+prepare: Any = functools.partial(rpki.prepare, **unchecked)
+complete: Any = functools.partial(rpki.complete, **unchecked)
+prepare_list: Any = functools.partial(rpki.prepare_list, **unchecked)
+complete_list: Any = functools.partial(rpki.complete_list, **unchecked)
 
 TOP = Path(__file__).resolve().parents[3]
 BEGIN, END = datetime(2026, 1, 1, tzinfo=timezone.utc), datetime(2036, 1, 1, tzinfo=timezone.utc)
@@ -98,6 +100,13 @@ class Certificates(unittest.TestCase):
         self.assertIn(ipaddress.ip_network("10.32.0.0/13"), it.ipv4)
         self.assertNotIn(ipaddress.ip_network("10.0.0.0/8"), it.ipv4)
         self.assertTrue(64503 in it.as_numbers and 64504 not in it.as_numbers)
+        none: Any
+        for none in (10, None, b"10.0.0.0", 10.0):
+            with self.assertRaisesRegex(TypeError, "expected an address, a network or a text"):
+                self.assertNotIn(none, it.ipv4)
+        for none in ("64500", 64500.0, True, None):
+            with self.assertRaisesRegex(TypeError, "an AS number: expected a number"):
+                self.assertNotIn(none, it.as_numbers)
 
     def test_values(self) -> None:
         it, same = (Certificate(octets("first.cer")) for _ in range(2))
@@ -105,6 +114,10 @@ class Certificates(unittest.TestCase):
         self.assertNotEqual(it, Certificate(octets("anchor.cer")))
         self.assertEqual(repr(RevocationList(octets("revoked.crl"))), "<rpki.RevocationList 2>")
         self.assertEqual(str(INHERIT), "inherit")
+        # what is changed of a dict changes no certificate
+        it.uris.clear()
+        self.assertEqual(it.uris, same.uris)
+        self.assertIn("crl", it.uris)
 
     def test_shown(self) -> None:
         """As `rpki show -j` has the members of these (docs/rpki-json.5.md)."""
@@ -167,8 +180,10 @@ def der(tag: int, *parts: bytes) -> bytes:
 class Names(unittest.TestCase):
     def test_examples(self) -> None:
         for name in ("anchor.cer", "object.cer", "revoked.crl"):
-            it = (RevocationList if name.endswith("crl") else Certificate)(octets(name))
-            command = ["crl" if name.endswith("crl") else "x509", "-inform", "DER", "-noout"]
+            is_list, given = name.endswith("crl"), octets(name)
+            it: Certificate | RevocationList
+            it = RevocationList(given) if is_list else Certificate(given)
+            command = ["crl" if is_list else "x509", "-inform", "DER", "-noout"]
             said = openssl(*command, "-issuer", "-nameopt", "RFC2253", given=it.octets).decode()
             self.assertEqual(f"issuer={it.issuer_text}", said.strip())
             if isinstance(it, Certificate):
@@ -254,7 +269,8 @@ class Lists(unittest.TestCase):
 
     def test_many_questions(self) -> None:
         it = RevocationList(octets("revoked.crl"))
-        asked = [3, 2, -3, 3 + (1 << 160), 3, Certificate(octets("second.cer"))]
+        asked: list[int | Certificate] = [3, 2, -3, 3 + (1 << 160), 3]
+        asked.append(Certificate(octets("second.cer")))
         wanted = [True, False, False, False, True, True]
         self.assertEqual(it.revoked(asked), wanted)
         # the first two by the library, the others by the set of serial numbers
@@ -290,11 +306,39 @@ class Library(unittest.TestCase):
         for name, stand_in, ask in calls:
             with mock.patch.object(raw.lib, name, stand_in), self.assertRaises(MemoryError):
                 ask()
-        it = Certificate(octets("first.cer"))
-        with mock.patch.object(raw.lib, "rpki_certificate_name", lambda *_: 1):
-            with self.assertRaises(MemoryError):
-                self.assertTrue(it.subject_text)
-        self.assertTrue(it.subject_text)
+
+        for call, name in (
+            ("certificate_name", "issuer"),
+            ("certificate_name", "issuer_text"),
+            ("certificate_name", "subject"),
+            ("certificate_name", "subject_text"),
+            ("certificate_addresses", "ipv4"),
+            ("certificate_addresses", "ipv6"),
+            ("certificate_as_numbers", "as_numbers"),
+            ("certificate_uri", "uris"),
+            ("certificate_key", "public_key"),
+            ("certificate_key", "has_usable_key"),
+        ):
+            it = Certificate(octets("first.cer"))
+            with mock.patch.object(raw.lib, f"rpki_{call}", lambda *_: 1):
+                with self.assertRaises(MemoryError):
+                    getattr(it, name)
+            # it isn't kept that there was none
+            self.assertTrue(getattr(it, name))
+        asks: list[tuple[str, Any]] = [
+            ("list_issuer", lambda crl: crl.issuer),
+            ("list_issuer", lambda crl: crl.issuer_text),
+            ("list_entries", list),
+            ("list_entries", lambda crl: crl.serial_numbers),
+            ("list_ask", lambda crl: crl.revoked([3])),
+            ("list_ask", lambda crl: 3 in crl),
+        ]
+        for call, ask in asks:
+            crl = RevocationList(octets("revoked.crl"))
+            with mock.patch.object(raw.lib, f"rpki_{call}", lambda *_: 1):
+                with self.assertRaises(MemoryError):
+                    ask(crl)
+            self.assertTrue(ask(crl))
 
     def test_other_libraries(self) -> None:
         maps = Path("/proc/self/maps").read_text().split()
@@ -333,6 +377,16 @@ class Paths(unittest.TestCase):
         self.assertIn("10.32.0.0/24", held.ipv4)
         self.assertTrue(held.allows(65536, "2001:db8:2::/48"))
         self.assertFalse(held.allows(65537) or held.allows(None, "2001:db8:1::/48"))
+
+    def test_calls(self) -> None:
+        """A path is judged once; only if there are more ranges than are guessed at, once more."""
+        wide = TOP / "tests" / "files" / "wide" / "ta.cer"
+        few = (self.members, Kind.END_ENTITY, 1)
+        for members, last, calls in (few, ([wide], Kind.AUTHORITY, 2)):
+            real = raw.lib.rpki_path_validate
+            with mock.patch.object(raw.lib, "rpki_path_validate", wraps=real) as asked:
+                validate(cast(Any, members), last=last, lists=None, at=self.noon)
+            self.assertEqual(asked.call_count, calls)
 
     def test_inherited(self) -> None:
         held = validate(self.members[:3], last=Kind.AUTHORITY, lists=None, at=self.noon)
@@ -401,10 +455,11 @@ class Paths(unittest.TestCase):
         self.assertTrue(validate(members, last=Kind.DETACHED, lists=lists, at=self.noon).ipv4)
 
     def test_values_that_lend_octets(self) -> None:
-        members, lists = map(bytearray, self.members), map(memoryview, self.lists)
+        members = [bytearray(it) for it in self.members]
+        lists = [memoryview(it) for it in self.lists]
         key = memoryview(octets("anchor.tal"))
         asked: dict[str, Any] = {"last": Kind.END_ENTITY, "at": self.noon}
-        self.assertTrue(validate([*members], lists=[*lists], locator=key, **asked).ipv4)
+        self.assertTrue(validate(members, lists=lists, locator=key, **asked).ipv4)
         for other in (5, None, "text", "", False):
             with self.assertRaises(TypeError):
                 validate([cast(Any, other)], lists=None, **asked)
@@ -421,6 +476,8 @@ class Paths(unittest.TestCase):
         self.assertTrue(validate(paths, **asked).ipv4)
         with open(paths[0], "rb") as anchor:
             self.assertTrue(validate([anchor, *paths[1:]], **asked).ipv4)
+        with open(paths[0]) as opened, self.assertRaisesRegex(TypeError, r"^members\[0\]: the file is open"):
+            validate([opened, *paths[1:]], **asked)
         self.assertEqual(Certificate(paths[1]).octets, self.members[1])
         with self.assertRaises(FileNotFoundError):
             Certificate(Path("none.cer"))
@@ -447,7 +504,7 @@ class Paths(unittest.TestCase):
         name: str,
         kind: type[rpki.Fault],
         member: int | None,
-        members: list[bytes],
+        members: Any,
         **asked: Any,
     ) -> None:
         given: dict[str, Any] = {"last": Kind.AUTHORITY, "lists": None, "at": self.noon, **asked}
@@ -498,6 +555,18 @@ class Paths(unittest.TestCase):
         for code in FaultCode:
             if code not in (FaultCode.MEMORY, FaultCode.BAD_CALL):
                 self.assertEqual(rpki.Fault(code).code, code)
+
+    def test_what_is_allowed(self) -> None:
+        held = validate(self.members[:2], last=Kind.AUTHORITY, lists=None, at=self.noon)
+        network = ipaddress.ip_network("10.0.0.0/12")
+        yes: list[tuple[Any, ...]] = [(64500,), (None, "10.0.0.0/12"), (64500, network)]
+        no: list[tuple[Any, ...]] = [(1,), (1, network), (64500, "10.0.0.0/11"), (None, "::/0")]
+        for words in yes + no:
+            self.assertEqual(held.allows(*words), words in yes)
+        self.assertTrue(held.ipv4.contains(network) and held.as_numbers.contains(64500))
+        for other in (("64500",), (64500.0,), (True,), (None, 10), (), (None, None)):
+            with self.assertRaises(TypeError):
+                held.allows(*cast("tuple[Any, ...]", other))
 
     def test_what_is_held(self) -> None:
         held = validate(self.members[:2], last=Kind.AUTHORITY, lists=None, at=self.noon)
@@ -571,6 +640,8 @@ class Paths(unittest.TestCase):
                 validate(members, last=last, lists=None, at=self.noon)
         with self.assertRaises(ValueError):
             validate(self.members, last=Kind.END_ENTITY, lists=None, at=datetime(2026, 6, 1))
+        with self.assertRaisesRegex(TypeError, "^at: expected a datetime with a time zone, not str"):
+            validate(self.members, last=Kind.END_ENTITY, lists=None, at="2026-06-01")
 
     def test_moments_without_offset_or_year(self) -> None:
         class Zone(tzinfo):
@@ -708,7 +779,7 @@ class Folders(unittest.TestCase):
             self.assertEqual(sum(it.is_valid for it in folder.lines), valid)
             self.assertEqual(folder.is_whole, valid == 4)
         for none in ("depth", "steps"):
-            for number in (0, -1, 1 << 64):
+            for number in (0, -1, 1 << 64, (1 << 64) + 1):
                 with self.assertRaisesRegex(ValueError, f"^{none}: "):
                     self.judge(given, **{none: number})
             for other in ("1", 1.0, True):
@@ -767,14 +838,16 @@ class Issuing(unittest.TestCase):
             "not_after": END,
             "at": self.at,
         }
-        return prepare(kind, issuers=issuers, key=public(key), **(wanted | changes))
+        words: bytes = prepare(kind, issuers=issuers, key=public(key), **(wanted | changes))
+        return words
 
     def made(
         self, kind: Kind, key: str, signer: str, issuers: list[bytes], **changes: Any
     ) -> bytes:
         octets = self.prepared(kind, key, issuers, **changes)
         signature = sign(octets, signer)
-        it = complete(kind, issuers=issuers, prepared=octets, signature=signature, at=self.at)
+        asked = {"prepared": octets, "signature": signature, "at": self.at}
+        it: Certificate = complete(kind, issuers=issuers, **asked)
         return it.octets
 
     @functools.cached_property
@@ -860,6 +933,7 @@ class Issuing(unittest.TestCase):
             ),
             ("NotYetValid", "not_before", {"not_before": self.at + timedelta(seconds=1)}),
             ("Expired", "not_after", {"not_after": self.at - timedelta(seconds=1)}),
+            ("Unwritable", "not_before", {"not_before": datetime(1949, 12, 31, tzinfo=timezone.utc)}),
             (
                 "Unwritable",
                 "ipv4, ipv6 or as_numbers",
@@ -872,6 +946,10 @@ class Issuing(unittest.TestCase):
                 name, argument, self.prepared, Kind.AUTHORITY, "ca", [anchor], **wanted
             )
             self.assertEqual(str(fault), f"{argument}: {fault.sentence} ({name})")
+        # a CA has another key than its issuer
+        self.refuses("Unwritable", "key", self.prepared, Kind.AUTHORITY, "anchor", [anchor], **self.ca())
+        router = {"uris": self.above, "as_numbers": [64496]}
+        self.refuses("KeyAlgorithm", "key", self.prepared, Kind.ROUTER, "ca", [anchor], **router)
         wanted = self.ca(uris=self.places, ipv4=INHERIT)
         self.refuses("InheritedV4", "ipv4", self.prepared, Kind.TRUST_ANCHOR, "anchor", [], **wanted)
         # the issuer's path comes first
@@ -938,12 +1016,34 @@ class Issuing(unittest.TestCase):
             with self.assertRaisesRegex(TypeError, f"^{argument}: "):
                 self.prepared(Kind.AUTHORITY, "ca", [anchor], **self.ca(**changes))
         with self.assertRaisesRegex(TypeError, "^uris\\['crl'\\]: expected a str, not bytes"):
-            uris = {**self.places, **self.above, "crl": b"rsync://"}
+            uris: dict[str, Any] = {**self.places, **self.above, "crl": b"rsync://"}
             self.prepared(Kind.AUTHORITY, "ca", [anchor], **self.ca(uris=uris))
-        for missing in ({"lists": None}, {"locator": None}):
-            without: Any = rpki.prepare
-            with self.assertRaises(TypeError):
-                without(Kind.AUTHORITY, issuers=[anchor], key=public("ca"), **missing, **wanted)
+        # none of the four has a default for what is checked of the issuer
+        signed: dict[str, Any] = {"issuers": [anchor], "prepared": b"", "signature": b"", "at": self.at}
+        asked: list[tuple[Any, tuple[Kind, ...], dict[str, Any]]] = [
+            (rpki.prepare, (Kind.AUTHORITY,), {"issuers": [anchor], "key": public("ca"), **wanted}),
+            (rpki.complete, (Kind.AUTHORITY,), signed),
+            (rpki.prepare_list, (), {"issuers": [anchor], "next_update": END, "at": self.at}),
+            (rpki.complete_list, (), signed),
+        ]
+        for call, kinds, words in asked:
+            for missing, given in (("locator", {"lists": None}), ("lists", {"locator": None})):
+                with self.assertRaisesRegex(TypeError, f"argument: '{missing}'"):
+                    call(*kinds, **words, **given)
+
+    def test_names_of_issuers(self) -> None:
+        """Nothing is issued below a CA whose name doesn't chain, of which tests/files/make.py says."""
+        folder = TOP / "tests" / "files" / "named"
+        issuers: Any = [folder / "ta.cer", folder / "ca_other_case.cer"]
+        at = datetime(2025, 6, 1, tzinfo=timezone.utc)
+        uris = {**self.above, **self.places}
+        asked: dict[str, Any] = {"at": at, "uris": uris, "ipv4": INHERIT}
+        asked |= {"not_before": at, "not_after": at + timedelta(days=9)}
+        updates: dict[str, Any] = {"at": at, "next_update": at + timedelta(days=9)}
+        self.refuses("OtherName", 1, self.prepared, Kind.AUTHORITY, "ca", issuers, **asked)
+        self.refuses("OtherName", 1, self.list_prepared, issuers, **updates)
+        self.assertTrue(self.prepared(Kind.AUTHORITY, "ca", issuers, chain_names=False, **asked))
+        self.assertTrue(self.list_prepared(issuers, chain_names=False, **updates))
 
     def test_files_are_read_once(self) -> None:
         anchor = self.anchor
@@ -968,17 +1068,33 @@ class Issuing(unittest.TestCase):
         for name, octets_signed in (("NotToSign", prepared[:-1]), ("NotToSign", b"")):
             asked = {**words, "prepared": octets_signed, "signature": good}
             self.refuses(name, "prepared", complete, Kind.AUTHORITY, **asked)
-        with self.assertRaises(rpki.InspectionFault):
-            complete(Kind.END_ENTITY, **words, signature=good)
+        # what is completed has its values already
+        asked = {**words, "signature": good}
+        self.refuses("BasicConstraintsPresent", "prepared", complete, Kind.END_ENTITY, **asked)
+        self.refuses("KeyAlgorithm", "prepared", complete, Kind.ROUTER, **asked)
+        own: dict[str, Any] = {**asked, "issuers": []}
+        self.refuses("OtherName", "prepared", complete, Kind.TRUST_ANCHOR, **own)
+        ca = self.made(Kind.AUTHORITY, "ca", "anchor", [anchor], **self.ca())
+        below: dict[str, Any] = {**asked, "issuers": [anchor, ca]}
+        self.refuses("OtherName", "prepared", complete, Kind.AUTHORITY, **below)
+        short = self.prepared(
+            Kind.AUTHORITY, "ca", [anchor], **self.ca(not_after=self.at + timedelta(days=1))
+        )
+        late = {**words, "prepared": short, "at": self.at + timedelta(days=2)}
+        late["signature"] = sign(short, "anchor")
+        self.refuses("Expired", "prepared", complete, Kind.AUTHORITY, **late)
 
     def list_prepared(self, issuers: list[bytes], **changes: Any) -> bytes:
         wanted: dict[str, Any] = {"next_update": END, "at": self.at}
-        return prepare_list(issuers=issuers, **(wanted | changes))
+        words: bytes = prepare_list(issuers=issuers, **(wanted | changes))
+        return words
 
     def listed(self, signer: str, issuers: list[bytes], **changes: Any) -> RevocationList:
         octets = self.list_prepared(issuers, **changes)
         signature = sign(octets, signer)
-        return complete_list(issuers=issuers, prepared=octets, signature=signature, at=self.at)
+        asked = {"prepared": octets, "signature": signature, "at": self.at}
+        it: RevocationList = complete_list(issuers=issuers, **asked)
+        return it
 
     def test_lists(self) -> None:
         anchor = self.anchor
@@ -1009,15 +1125,15 @@ class Issuing(unittest.TestCase):
         self.assertEqual(mine.issuer, Certificate(below).subject)
         self.refuses("Revoked", 1, self.list_prepared, path, lists=[second])
         # an entry is dropped once its certificate had expired before the list before was issued
-        early_end, early = BEGIN + timedelta(days=90), BEGIN + timedelta(days=30)
-        ended = {"serial_number": 9, "not_after": early_end, "at": early}
+        early_end, day = BEGIN + timedelta(days=90), BEGIN + timedelta(days=30)
+        ended = {"serial_number": 9, "not_after": early_end, "at": day}
         words = self.prepared(Kind.AUTHORITY, "ca", [anchor], **self.ca(**ended))
         old = complete(
             Kind.AUTHORITY,
             issuers=[anchor],
             prepared=words,
             signature=sign(words, "anchor"),
-            at=early,
+            at=day,
         )
         self.assertEqual(third.expired([old, below]), [Entry(9, self.at)])
         self.assertEqual(third.expired([below]), [])
@@ -1055,6 +1171,7 @@ class Issuing(unittest.TestCase):
             ("LongNumber", "number", {"previous": first, "number": (1 << 160) - 1}),
             ("UpdateOrder", "next_update", {"next_update": self.at - second}),
             ("Stale", "next_update", {"this_update": BEGIN, "next_update": self.at - second}),
+            ("Stale", "this_update", {"this_update": self.at + second}),
         ]
         for name, argument, changes in wrong:
             self.refuses(name, argument, self.list_prepared, [anchor], **changes)
@@ -1084,7 +1201,7 @@ class Issuing(unittest.TestCase):
             ("OtherOctets", "prepared", prepared + b"0"),
             (
                 "WrongKeyId",
-                1,
+                "prepared",
                 prepared.replace(Certificate(anchor).subject_key_identifier, bytes(20)),
             ),
         ]
@@ -1092,8 +1209,26 @@ class Issuing(unittest.TestCase):
             asked = {**words, "prepared": octets_signed, "signature": sign(octets_signed, "anchor")}
             self.refuses(name, where, complete_list, **asked)
         words["signature"] = good
-        self.refuses("OtherName", 2, complete_list, **(words | {"issuers": [anchor, below]}))
+        others_list = words | {"issuers": [anchor, below]}
+        self.refuses("OtherName", "prepared", complete_list, **others_list)
         self.refuses("Expired", 0, complete_list, **(words | {"at": END + second}))
+        short = self.list_prepared([anchor], next_update=self.at + second)
+        late = words | {"prepared": short, "signature": sign(short, "anchor")}
+        late["at"] = self.at + 2 * second
+        self.refuses("Stale", "prepared", complete_list, **late)
+
+    def test_many_entries(self) -> None:
+        """The set of serial numbers answers as the library does."""
+        draw = random.Random(83)
+        revoked = [draw.getrandbits(158) | 1 << 158 for _ in range(300)]
+        revoked += draw.sample(range(1, 1000), 300)
+        crl = self.listed("anchor", [self.anchor], revoked=revoked)
+        asked = [it + step for it in revoked for step in (-1, 0, 1)] + [0, (1 << 160) - 1]
+        told = crl.revoked(asked)
+        self.assertEqual(sum(told[1 : 3 * len(revoked) : 3]), len(revoked))
+        self.assertEqual(len(crl.serial_numbers), len(crl))
+        self.assertEqual([it in crl for it in asked], told)
+        self.assertEqual([it in crl.serial_numbers for it in asked], told)
 
 
 if __name__ == "__main__":

@@ -3,6 +3,8 @@
 /// The number of a fault, by its name in rpki.h. A fault of reading that speaks of a part
 /// (`DecodeMissing`, `DecodeDuplicate` ..) is here without the part's number.
 #[derive(Clone, Copy, Debug, PartialEq, Eq, Hash, PartialOrd, Ord)]
+#[cfg_attr(feature = "serde", derive(serde::Serialize, serde::Deserialize))]
+#[cfg_attr(feature = "serde", serde(rename_all = "snake_case"))]
 #[non_exhaustive]
 #[repr(u32)]
 pub enum FaultCode {

@@ -5,6 +5,8 @@ use std::fmt;
 
 /// What an error is about, with the names of its errors.
 #[derive(Clone, Copy, Debug, PartialEq, Eq, Hash)]
+#[cfg_attr(feature = "serde", derive(serde::Serialize, serde::Deserialize))]
+#[cfg_attr(feature = "serde", serde(rename_all = "snake_case"))]
 #[non_exhaustive]
 pub enum FaultKind {
     /// Memory ran out. Its name is `Memory`.
@@ -61,6 +63,8 @@ pub enum FaultKind {
 
 /// The place of an error in a question.
 #[derive(Clone, Copy, Debug, PartialEq, Eq, Hash)]
+#[cfg_attr(feature = "serde", derive(serde::Serialize, serde::Deserialize))]
+#[cfg_attr(feature = "serde", serde(rename_all = "snake_case"))]
 #[non_exhaustive]
 pub enum Place {
     /// This certificate of the path, the trust anchor at 0; or this string of a directory.
@@ -285,3 +289,23 @@ impl fmt::Display for Fault {
 }
 
 impl Error for Fault {}
+
+/// Serializes the number, the name, the sentence and the place; of an error of reading also where
+/// reading stops.
+#[cfg(feature = "serde")]
+impl serde::Serialize for Fault {
+    fn serialize<S: serde::Serializer>(&self, serializer: S) -> Result<S::Ok, S::Error> {
+        use serde::ser::SerializeStruct;
+        let mut it = serializer.serialize_struct("Fault", 9)?;
+        it.serialize_field("number", &self.number)?;
+        it.serialize_field("kind", &self.kind())?;
+        it.serialize_field("name", &self.name())?;
+        it.serialize_field("sentence", &self.sentence())?;
+        it.serialize_field("place", &self.place)?;
+        it.serialize_field("octet", &self.octet())?;
+        it.serialize_field("field", &self.field())?;
+        it.serialize_field("wanted", &self.wanted())?;
+        it.serialize_field("found", &self.found())?;
+        it.end()
+    }
+}

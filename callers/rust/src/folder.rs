@@ -3,6 +3,8 @@ use crate::{check_library, slices, sys, Fault, Holdings, Kind, Moment};
 
 /// The result for one string of a directory.
 #[derive(Clone, Debug, PartialEq, Eq, Hash)]
+#[cfg_attr(feature = "serde", derive(serde::Serialize))]
+#[cfg_attr(feature = "serde", serde(rename_all = "snake_case"))]
 #[non_exhaustive]
 pub enum Line {
     /// A certificate that no accepted CA of its issuer's name signed, or that a bound kept from being
@@ -11,6 +13,7 @@ pub enum Line {
     /// The trust anchor, which is valid.
     Anchor,
     /// The last certificate of a valid path.
+    #[non_exhaustive]
     Accepted {
         /// How many certificates of the path are above it.
         step: usize,
@@ -22,6 +25,7 @@ pub enum Line {
         held: Holdings,
     },
     /// A certificate that is wrong below each valid path to its issuer.
+    #[non_exhaustive]
     Rejected {
         /// How many certificates of the path are above it.
         step: usize,
@@ -76,6 +80,7 @@ fn kind_of(number: u32) -> Kind {
 
 /// The results for the strings of a directory.
 #[derive(Clone, Debug, PartialEq, Eq, Hash)]
+#[cfg_attr(feature = "serde", derive(serde::Serialize))]
 #[non_exhaustive]
 pub struct Judged {
     /// A line for each string, in their order.
@@ -141,8 +146,8 @@ impl<'a> Folder<'a> {
         self
     }
 
-    /// Doesn't ask that each issuer is the subject of the certificate above it (RFC 6487 7.2), and that
-    /// a list has its issuer's name (RFC 5280 6.3.3).
+    /// Doesn't check that each issuer is the subject of the certificate above it (RFC 6487 7.2), and
+    /// that a CRL has its issuer's name (RFC 5280 6.3.3).
     pub fn without_names(mut self) -> Folder<'a> {
         self.chain_names = false;
         self
@@ -160,18 +165,26 @@ impl<'a> Folder<'a> {
         self
     }
 
-    /// Limits how many certificates are verified, each once for each path that leads to it; 0 means
-    /// 64 times as many as there are.
+    /// Limits the steps of the walk: a certificate that a CA signed takes one for each path that leads
+    /// to it, and they are divided evenly among the CAs below each CA; 0 means 10,000,000.
     pub fn steps(mut self, steps: usize) -> Folder<'a> {
         self.steps = steps;
         self
     }
 
-    /// Judges each certificate that an accepted CA signed, as what it says that it is, with signatures
-    /// (RFC 7935) and by the lists among the octets. Errs with what is wrong of the locator or of the
-    /// trust anchor, or that none has the locator's key. [`Path::validate`](crate::Path::validate)
-    /// accepts what is accepted here. No folder shows that a file was withheld: whoever reads manifests
-    /// leaves out what they don't list.
+    /// Validates each certificate that an accepted CA signed, as the kind that it says, with signatures
+    /// (RFC 7935) and by the CRLs among the strings. [`Path::validate`](crate::Path::validate) accepts
+    /// what is accepted here.
+    ///
+    /// # Errors
+    ///
+    /// Returns an error if the TAL isn't one, if no certificate has its key, or if the trust anchor is
+    /// wrong (`Place::Member`, its index among the strings).
+    ///
+    /// # Not checked
+    ///
+    /// Manifests. A withheld file isn't detected: a caller who reads manifests leaves out the files that
+    /// they don't list.
     pub fn judge(&self, now: Moment) -> Result<Judged, Fault> {
         check_library();
         let question = sys::FolderQuestion {

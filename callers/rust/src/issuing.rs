@@ -130,6 +130,32 @@ fn as_numbers(ranges: &AsRanges) -> Vec<sys::AsRange> {
     ranges.iter().map(range).collect()
 }
 
+// Why resources of a kind aren't listed: there are none, or a range is back to front.
+const IPV4_TEXTS: [&str; 2] = [
+    "ipv4: no range is listed; expected Resources::Missing for no addresses",
+    "ipv4: a range ends before it begins",
+];
+const IPV6_TEXTS: [&str; 2] = [
+    "ipv6: no range is listed; expected Resources::Missing for no addresses",
+    "ipv6: a range ends before it begins",
+];
+const AS_TEXTS: [&str; 2] = [
+    "as_numbers: no range is listed; expected Resources::Missing for no AS numbers",
+    "as_numbers: a range ends before it begins",
+];
+
+fn why_unlisted<T>(
+    resources: &Resources<Vec<T>>,
+    texts: &[&'static str; 2],
+    is_back: impl Fn(&T) -> bool,
+) -> Option<&'static str> {
+    match resources {
+        Resources::Listed(listed) if listed.is_empty() => Some(texts[0]),
+        Resources::Listed(listed) if listed.iter().any(is_back) => Some(texts[1]),
+        _ => None,
+    }
+}
+
 // The number behind this one, which isn't the greatest.
 fn next(mut number: [u8; 20]) -> [u8; 20] {
     for octet in number.iter_mut().rev() {
@@ -212,21 +238,22 @@ impl<'a> Issuer<'a> {
 
     // Why there is no such certificate below this issuer, whatever is signed.
     fn why_unwanted(&self, wanted: &Wanted<'_>) -> Option<&'static str> {
-        fn is_bad<T>(of: &Resources<Vec<T>>, is_back: impl Fn(&T) -> bool) -> bool {
-            matches!(of, Resources::Listed(listed) if listed.is_empty() || listed.iter().any(is_back))
-        }
         let serial = &wanted.serial_number;
         if *serial == [0; 20] || serial[0] >= 0x80 {
-            Some("the serial number isn't above 0 and below 2^159")
-        } else if is_bad(&wanted.ipv4, |it| it.1 < it.0)
-            || is_bad(&wanted.ipv6, |it| it.1 < it.0)
-            || is_bad(&wanted.as_numbers, |it| it.end() < it.start())
-        {
-            Some("resources are listed, and there are none, or a range ends before it begins")
-        } else if (wanted.kind == Kind::TrustAnchor) != self.path.is_empty() {
-            Some("a trust anchor has no issuer, and every other certificate has one")
-        } else {
-            None
+            return Some("serial_number: expected a number above 0 and below 2^159");
+        }
+        let texts = why_unlisted(&wanted.ipv4, &IPV4_TEXTS, |it| it.1 < it.0)
+            .or_else(|| why_unlisted(&wanted.ipv6, &IPV6_TEXTS, |it| it.1 < it.0))
+            .or_else(|| why_unlisted(&wanted.as_numbers, &AS_TEXTS, |it| it.end() < it.start()));
+        if texts.is_some() {
+            return texts;
+        }
+        match (wanted.kind == Kind::TrustAnchor, self.path.is_empty()) {
+            (true, false) => Some("kind: a trust anchor has no issuer, and the path isn't empty"),
+            (false, true) => {
+                Some("kind: a certificate of this kind has an issuer, and there is none")
+            }
+            _ => None,
         }
     }
 
@@ -303,7 +330,9 @@ impl<'a> Issuer<'a> {
     pub fn prepare_list(&self, wanted: &WantedList<'_>) -> Result<Vec<u8>, Fault> {
         check_library();
         if self.path.is_empty() {
-            return Err(Fault::bad_call("a list has an issuer, and there is none"));
+            return Err(Fault::bad_call(
+                "a CRL has an issuer, and the path is empty",
+            ));
         }
         let octets = self.prepared_list(wanted)?;
         let before = match wanted.previous {

@@ -46,6 +46,17 @@
 //! ```
 //!
 //! Each call checks first that the library has this crate's interface, and panics if it hasn't.
+//!
+//! # Features
+//!
+//! None is on by default, and then no other crate is needed.
+//!
+//! - `static`: links librpki.a.
+//! - `ipnet`: resources as networks of the crate ipnet: `ipv4_nets`, `ipv6_nets`,
+//!   `Holdings::contains_net`.
+//! - `serde`: [`Moment`] (as its text), [`Kind`], [`Uri`], [`Resources`], [`Holdings`], [`Entry`],
+//!   [`FaultCode`], [`FaultKind`] and [`Place`] are `Serialize` and `Deserialize`; [`Fault`], [`Line`]
+//!   and [`Judged`] are `Serialize`. Variants are in snake case, as `"end_entity"`.
 mod code;
 mod fault;
 mod folder;
@@ -80,6 +91,8 @@ fn check_library() {
 /// The kind as which a certificate is validated. As another kind than its own it is rejected, with
 /// an error of `FaultKind::Inspection`.
 #[derive(Clone, Copy, Debug, PartialEq, Eq, Hash)]
+#[cfg_attr(feature = "serde", derive(serde::Serialize, serde::Deserialize))]
+#[cfg_attr(feature = "serde", serde(rename_all = "snake_case"))]
 #[non_exhaustive]
 pub enum Kind {
     /// A trust anchor.
@@ -98,6 +111,8 @@ pub enum Kind {
 
 /// A URI of a certificate.
 #[derive(Clone, Copy, Debug, PartialEq, Eq, Hash)]
+#[cfg_attr(feature = "serde", derive(serde::Serialize, serde::Deserialize))]
+#[cfg_attr(feature = "serde", serde(rename_all = "snake_case"))]
 #[non_exhaustive]
 pub enum Uri {
     /// Where its issuer's certificate is.
@@ -130,8 +145,12 @@ pub type Ipv6Ranges = Vec<(Ipv6Addr, Ipv6Addr)>;
 /// The ranges of a set. They ascend, and neither overlap nor touch.
 pub type AsRanges = Vec<RangeInclusive<u32>>;
 
-/// How a certificate has its resources of one kind.
+/// How a certificate has its resources of one kind. There is no fourth way (RFC 3779), so this may be
+/// matched without a rest.
 #[derive(Clone, Debug, PartialEq, Eq, Hash)]
+#[cfg_attr(feature = "serde", derive(serde::Serialize, serde::Deserialize))]
+#[cfg_attr(feature = "serde", serde(rename_all = "snake_case"))]
+#[allow(clippy::exhaustive_enums)]
 pub enum Resources<T> {
     /// It has none.
     Missing,
@@ -153,6 +172,7 @@ impl<T> Resources<T> {
 
 /// The numbers that a path holds.
 #[derive(Clone, Debug, Default, PartialEq, Eq, Hash)]
+#[cfg_attr(feature = "serde", derive(serde::Serialize, serde::Deserialize))]
 #[non_exhaustive]
 pub struct Holdings {
     /// IPv4 addresses.
@@ -180,6 +200,26 @@ impl Holdings {
     /// Returns the IPv6 addresses as prefixes, the fewest that make them up.
     pub fn ipv6_prefixes(&self) -> Vec<(Ipv6Addr, u8)> {
         ipv6_prefixes(&self.ipv6)
+    }
+
+    /// Returns the IPv4 addresses as networks, the fewest that make them up. Requires the feature
+    /// `ipnet`.
+    #[cfg(feature = "ipnet")]
+    pub fn ipv4_nets(&self) -> Vec<ipnet::Ipv4Net> {
+        ipv4_nets(&self.ipv4)
+    }
+
+    /// Returns the IPv6 addresses as networks, the fewest that make them up. Requires the feature
+    /// `ipnet`.
+    #[cfg(feature = "ipnet")]
+    pub fn ipv6_nets(&self) -> Vec<ipnet::Ipv6Net> {
+        ipv6_nets(&self.ipv6)
+    }
+
+    /// Returns whether all of a network is held. Requires the feature `ipnet`.
+    #[cfg(feature = "ipnet")]
+    pub fn contains_net(&self, net: ipnet::IpNet) -> bool {
+        self.contains_prefix(net.addr(), net.prefix_len())
     }
 
     /// Returns whether this address is held.
@@ -234,6 +274,20 @@ pub fn ipv6_prefixes(ranges: &[(Ipv6Addr, Ipv6Addr)]) -> Vec<(Ipv6Addr, u8)> {
         .flat_map(|it| prefixes(it, 128))
         .map(address)
         .collect()
+}
+
+/// Returns the fewest networks that make up these ranges. Requires the feature `ipnet`.
+#[cfg(feature = "ipnet")]
+pub fn ipv4_nets(ranges: &[(Ipv4Addr, Ipv4Addr)]) -> Vec<ipnet::Ipv4Net> {
+    let net = |(first, length)| ipnet::Ipv4Net::new(first, length).ok();
+    ipv4_prefixes(ranges).into_iter().filter_map(net).collect()
+}
+
+/// Returns the fewest networks that make up these ranges. Requires the feature `ipnet`.
+#[cfg(feature = "ipnet")]
+pub fn ipv6_nets(ranges: &[(Ipv6Addr, Ipv6Addr)]) -> Vec<ipnet::Ipv6Net> {
+    let net = |(first, length)| ipnet::Ipv6Net::new(first, length).ok();
+    ipv6_prefixes(ranges).into_iter().filter_map(net).collect()
 }
 
 // The fewest prefixes of a range of addresses of so many bits, the first address of each as a number.
@@ -344,6 +398,11 @@ impl Certificate {
         self.read.is_authority != 0
     }
 
+    /// Returns whether its key usage is a CA's, and not an end entity's.
+    pub fn signs_certificates(&self) -> bool {
+        self.read.key_usage == 0
+    }
+
     /// Returns whether overclaimed resources are trimmed (RFC 8360), and not rejected.
     pub fn trims_resources(&self) -> bool {
         self.read.overclaim != 0
@@ -449,11 +508,23 @@ impl AsRef<[u8]> for Certificate {
 
 /// A revoked certificate's serial number, the most significant byte first, and its revocation date.
 #[derive(Clone, Copy, Debug, PartialEq, Eq, Hash)]
+#[cfg_attr(feature = "serde", derive(serde::Serialize, serde::Deserialize))]
+#[non_exhaustive]
 pub struct Entry {
     /// The serial number.
     pub serial_number: [u8; 20],
     /// Since when it is revoked.
     pub revoked_at: Moment,
+}
+
+impl Entry {
+    /// Makes an entry of a serial number and the time since when it is revoked.
+    pub const fn new(serial_number: [u8; 20], revoked_at: Moment) -> Entry {
+        Entry {
+            serial_number,
+            revoked_at,
+        }
+    }
 }
 
 /// A CRL, read from DER.

@@ -143,6 +143,7 @@ impl fmt::Display for Moment {
 
 /// A text or a time that isn't a [`Moment`].
 #[derive(Clone, Copy, Debug, PartialEq, Eq)]
+#[non_exhaustive]
 pub struct NoMoment;
 
 impl fmt::Display for NoMoment {
@@ -202,5 +203,22 @@ impl TryFrom<SystemTime> for Moment {
     fn try_from(time: SystemTime) -> Result<Moment, NoMoment> {
         let passed = time.duration_since(UNIX_EPOCH).map_err(|_| NoMoment)?;
         Moment::from_timestamp(passed.as_secs()).ok_or(NoMoment)
+    }
+}
+
+/// Serializes the text that `Display` prints, `YYYY-MM-DDTHH:MM:SSZ`.
+#[cfg(feature = "serde")]
+impl serde::Serialize for Moment {
+    fn serialize<S: serde::Serializer>(&self, serializer: S) -> Result<S::Ok, S::Error> {
+        serializer.collect_str(self)
+    }
+}
+
+/// Reads the texts that `FromStr` reads.
+#[cfg(feature = "serde")]
+impl<'de> serde::Deserialize<'de> for Moment {
+    fn deserialize<D: serde::Deserializer<'de>>(deserializer: D) -> Result<Moment, D::Error> {
+        let text = <std::borrow::Cow<'_, str>>::deserialize(deserializer)?;
+        text.parse().map_err(serde::de::Error::custom)
     }
 }

@@ -199,25 +199,77 @@ fn what_is_wrong_is_refused_before_it_is_signed() {
     for serial_number in [[0; 20], [255; 20]] {
         let mut wrong = good.clone();
         wrong.serial_number = serial_number;
-        bad_call(&wrong, "the serial number isn't above 0");
+        bad_call(&wrong, "serial_number: expected a number above 0");
     }
+    // each has a sentence of its own, which names the field
     let back = RangeInclusive::new(9, 5);
-    for as_numbers in [vec![], vec![back]] {
+    for (as_numbers, text) in [(vec![], "no range"), (vec![back], "a range ends before")] {
         let mut wrong = good.clone();
         wrong.as_numbers = Resources::Listed(as_numbers);
-        bad_call(&wrong, "resources are listed");
+        bad_call(&wrong, &format!("as_numbers: {text}"));
+    }
+    let (low, high) = (Ipv4Addr::new(10, 0, 0, 1), Ipv4Addr::new(10, 0, 0, 2));
+    for (ipv4, text) in [
+        (vec![], "no range"),
+        (vec![(high, low)], "a range ends before"),
+    ] {
+        let mut wrong = good.clone();
+        wrong.ipv4 = Resources::Listed(ipv4);
+        bad_call(&wrong, &format!("ipv4: {text}"));
+    }
+    let (low, high) = (low.to_ipv6_mapped(), high.to_ipv6_mapped());
+    for (ipv6, text) in [
+        (vec![], "no range"),
+        (vec![(high, low)], "a range ends before"),
+    ] {
+        let mut wrong = good.clone();
+        wrong.ipv6 = Resources::Listed(ipv6);
+        bad_call(&wrong, &format!("ipv6: {text}"));
     }
     let mut wrong = good.clone();
     wrong.kind = Kind::TrustAnchor;
-    bad_call(&wrong, "a trust anchor has no issuer");
+    bad_call(&wrong, "kind: a trust anchor has no issuer");
     let late = issuer_of([&anchor], day(2040, 1));
     refused(&late, &good, "Expired", FaultKind::Verification, member(0));
     let alone = Issuer::of_anchor(now());
     refused(&alone, &good, "BadCall", FaultKind::BadCall, None);
+    let fault = alone.prepare(&good).unwrap_err();
+    assert!(fault
+        .sentence()
+        .starts_with("kind: a certificate of this kind has an issuer"));
     let asked = Revocation::by_lists(&[b"no list"]);
     let listed = Issuer::new([&anchor], asked, Anchor::AsGiven, now());
     let fault = listed.prepare(&good).unwrap_err();
     assert_eq!(fault.place(), Some(Place::List(0)));
+}
+
+/// Nothing is issued below a CA whose name doesn't chain, of which tests/files/make.py says.
+#[test]
+fn names_of_issuers_are_checked() {
+    if !is_there() {
+        return;
+    }
+    let folder = concat!(env!("CARGO_MANIFEST_DIR"), "/../../tests/files/named");
+    let path = ["ta.cer", "ca_other_case.cer"]
+        .map(|name| std::fs::read(format!("{folder}/{name}")).unwrap());
+    let now = day(2025, 6);
+    let key = Key::new("named");
+    let mut wanted = wanted(Kind::Authority, &key, &URIS, 0);
+    (wanted.not_before, wanted.not_after) = (now, day(2025, 7));
+    wanted.ipv4 = Resources::Inherited;
+    wanted.as_numbers = Resources::Missing;
+    let list = WantedList::new(now, day(2025, 7));
+    let asking = issuer_of(&path, now);
+    for fault in [
+        asking.prepare(&wanted).unwrap_err(),
+        asking.prepare_list(&list).unwrap_err(),
+    ] {
+        let place = Some(Place::Member(1));
+        is_fault(fault, "OtherName", FaultKind::Names, place);
+    }
+    let waiving = issuer_of(&path, now).without_names();
+    assert!(waiving.prepare(&wanted).is_ok());
+    assert!(waiving.prepare_list(&list).is_ok());
 }
 
 fn serial(last: u8) -> [u8; 20] {
@@ -246,10 +298,7 @@ fn lists_are_issued() {
         let octets = issuer.prepare_list(wanted).unwrap();
         issuer.complete_list(&octets, &above.sign(&octets)).unwrap()
     };
-    let entry = |last, revoked_at| Entry {
-        serial_number: serial(last),
-        revoked_at,
-    };
+    let entry = |last, revoked_at| Entry::new(serial(last), revoked_at);
     let early = day(2026, 2);
     let first = made(&list_wanted(None, &[entry(7, early)]));
     assert_eq!(first.number(), serial(1));
@@ -315,6 +364,14 @@ fn lists_are_issued() {
     refused(&wrong, "UpdateOrder", FaultKind::Issuing);
     wrong.this_update = early;
     refused(&wrong, "Stale", FaultKind::Revocation);
+    // below two issuers what is issued is no third one
+    let two = [&anchor, &ca];
+    let below_two = issuer_of(two, now());
+    let mut wrong = list_wanted(None, &[]);
+    wrong.next_update = early;
+    let fault = below_two.prepare_list(&wrong).unwrap_err();
+    is_fault(fault, "UpdateOrder", FaultKind::Issuing, issued);
+    wrong.this_update = early;
     let octets = issuer.prepare_list(&list_wanted(None, &[])).unwrap();
     for signature in [&below.sign(&octets), &above.sign(b"other octets"), &b""[..]] {
         let fault = issuer.complete_list(&octets, signature).unwrap_err();

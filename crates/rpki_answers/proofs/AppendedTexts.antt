@@ -1,17 +1,13 @@
 -- Texts that are appended to a page one after the other.
 use Rattle.std.specs.Option.{option_map}
 use Rattle.std.specs.Prelude.{Option, Some, None, Result, Ok, Err, IfOk, MatchResult}
-use Rattle.std.proofs.Common.{◌≡◌, ◌+◌, ◌<◌, ◌≤◌, ℕ, List, [], ◌∷◌, ◌++◌, length, take, get_or, refl, sym, ap, subst, ◌∙◌, inl, inr, ⊎_elim, append_assoc}
-use Rattle.std.proofs.lemmas.List.{append-nil, take_more, take_all}
+use Rattle.std.proofs.Common.{◌≡◌, ℕ, List, [], ◌∷◌, ◌++◌, refl, sym, ap, subst, ◌∙◌, inl, inr, ⊎_elim, append_assoc}
+use Rattle.std.proofs.lemmas.List.{append-nil}
 use Rattle.rpki_files.specs.Files.{FileFields}
 use Rattle.rpki_text.specs.Pages.{Appends, AppendsSome}
 use Rattle.rpki_answers.specs.VerdictTexts.{SaysOfEach}
 
 -- ---- one text
-
-pub nothing_more : (old : Option (List ℕ)) → old ≡ option_map (λ so_far. so_far ++ []) old
-nothing_more None = refl
-nothing_more (Some so_far) = ap (λ (l : List ℕ). Some l) (sym (append-nil so_far))
 
 two_more : (a b : List ℕ) (old : Option (List ℕ)) → option_map (λ so_far. so_far ++ b) (option_map (λ so_far. so_far ++ a) old) ≡ option_map (λ so_far. so_far ++ (a ++ b)) old
 two_more a b None = refl
@@ -26,25 +22,12 @@ then_appended old mid new a b p q =
     (λ (was : mid ≡ None). inr (is ∙ ap more was)) p)
     (λ (is : new ≡ None). inr is) q
 
--- the last text of several, behind which `concat` has an empty one
-pub last_appended : (old new : Option (List ℕ)) (text : List ℕ) → Appends old text new → Appends old (text ++ []) new
-last_appended old new text p = subst (λ (l : List ℕ). Appends old l new) (sym (append-nil text)) p
-
 -- ---- some text
 
 -- a text of which it holds
 pub such_appended : (Holds : List ℕ → Type 0) (old new : Option (List ℕ)) (text : List ℕ) → Holds text → Appends old text new → AppendsSome Holds old new
 such_appended Holds old new text holds p =
     ⊎_elim (λ (is : new ≡ option_map (λ so_far. so_far ++ text) old). inl (text, holds, is)) (λ (is : new ≡ None). inr is) p
-
--- two texts
-pub both_appended : (P Q R : List ℕ → Type 0) (old mid new : Option (List ℕ)) → ((a b : List ℕ) → P a → Q b → R (a ++ b)) → AppendsSome P old mid → AppendsSome Q mid new → AppendsSome R old new
-both_appended P Q R old mid new both p q =
-    ⊎_elim (λ (second : (b : List ℕ) × Q b × (new ≡ option_map (λ so_far. so_far ++ b) mid)).
-    let more : Option (List ℕ) → Option (List ℕ) = option_map (λ so_far. so_far ++ second.0) in
-    ⊎_elim (λ (first : (a : List ℕ) × P a × (mid ≡ option_map (λ so_far. so_far ++ a) old)). inl (first.0 ++ second.0, both first.0 second.0 first.1 second.1, second.2 ∙ ap more first.2 ∙ two_more first.0 second.0 old))
-    (λ (failed : mid ≡ None). inr (second.2 ∙ ap more failed)) p)
-    (λ (failed : new ≡ None). inr failed) q
 
 -- the text that was formed; where none was, memory has run out
 pub formed_appended : {S E : Type 0} (bytes : S → List ℕ) (old new : Option (List ℕ)) (text : List ℕ) (made : Result S E) → IfOk made (λ s. bytes s ≡ text) → MatchResult made (λ s. Appends old (bytes s) new) (λ _. new ≡ None) → Appends old text new
@@ -67,15 +50,3 @@ says_more {X} Says [] so_far file text is says =
     (text, [], says, refl, ap (λ (l : List X). l ++ text) is ∙ sym (append-nil text))
 says_more {X} Says (f ∷ fs) so_far file text is says =
     (is.0, is.1 ++ text, is.2, says_more Says fs is.1 file text is.3 says, ap (λ (l : List X). l ++ text) is.4 ∙ append_assoc is.0 is.1 text)
-
-module _ (Says : FileFields → List ℕ → Type 0) (files : List FileFields) where
-  -- one file more
-  pub each_more : (i : ℕ) (file : FileFields) (old mid new : Option (List ℕ)) → i < length files → file ≡ get_or files i file → AppendsSome (SaysOfEach Says (take i files)) old mid → AppendsSome (Says file) mid new → AppendsSome (SaysOfEach Says (take (i + 1) files)) old new
-  each_more i file old mid new low there so_far one =
-      let more : take (i + 1) files ≡ take i files ++ file ∷ [] = take_more files i file low ∙ ap (λ (y : FileFields). take i files ++ y ∷ []) (sym there) in
-      subst (λ (l : List FileFields). AppendsSome (SaysOfEach Says l) old new) (sym more)
-      (both_appended (SaysOfEach Says (take i files)) (Says file) (SaysOfEach Says (take i files ++ file ∷ [])) old mid new (λ a b is says. says_more Says (take i files) a file b is says) so_far one)
-
-  -- behind the last
-  pub each_said : (i : ℕ) (old new : Option (List ℕ)) → length files ≤ i → AppendsSome (SaysOfEach Says (take i files)) old new → AppendsSome (SaysOfEach Says files) old new
-  each_said i old new high all = subst (λ (l : List FileFields). AppendsSome (SaysOfEach Says l) old new) (take_all i files high) all

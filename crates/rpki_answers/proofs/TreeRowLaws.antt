@@ -1,14 +1,14 @@
 -- The lines of rows, and their counts.
 use Rattle.std.specs.List.{AllByRecursion}
 use Rattle.std.specs.Prelude.{Bool, true, false, cond, suc, if◌then◌else◌}
-use Rattle.std.proofs.Common.{◌≡◌, ◌∙◌, ◌+◌, ◌==◌, ℕ, List, [], ◌∷◌, ◌++◌, length, map, refl, sym, ap, append_assoc, arith}
-use Rattle.rpki_document.specs.Documents.{Node, Span, head, document_of, spans_text}
+use Rattle.std.proofs.Common.{◌≡◌, ◌∙◌, ◌+◌, ◌==◌, ℕ, List, [], ◌∷◌, ◌++◌, length, refl, sym, ap, append_assoc, arith}
+use Rattle.std.proofs.lemmas.List.Sums.{sum_by-cons}
+use Rattle.rpki_document.specs.Documents.{Node, head, document_of, spans_text}
 use Rattle.rpki_document.specs.Lines.{Row as Line, labelled, document_rows, node_rows}
 use Rattle.rpki_files.specs.Files.{FileFields}
 use Rattle.rpki_verdicts.specs.Trees.{certs_of}
-use Rattle.rpki_answers.specs.TreeDocuments.{AreSaid, above_nodes, accepted_head, count_of, file_first, file_last, is_word, issuer_at, issuer_spans, left_line, left_nodes, rejected_head, row_head, unseen_word, word_label, word_of}
+use Rattle.rpki_answers.specs.TreeDocuments.{AreSaid, above_nodes, accepted_head, count_of, file_first, file_last, has_word, is_word, issuer_at, issuer_spans, left_line, left_nodes, rejected_head, row_head, unseen_word, word_label, word_of}
 use Rattle.rpki_answers.specs.TreeLaws.{CountsAddUp, IsUnder, RowsBeginWithTheirWord}
-use Rattle.rpki_answers.specs.declared.tree_rows.Row.{Row}
 use Rattle.rpki_answers.specs.declared.tree_rows.Said.{Said}
 use Rattle.rpki_answers.specs.declared.tree_rows.Said.TheVariants as said
 use Rattle.rpki_answers.specs.declared.tree_rows.Word.{Word}
@@ -36,6 +36,7 @@ behind_of (head label spans) = 32 ∷ spans_text spans
 behind_of _ = []
 
 said_rows : (certs : List FileFields) (name : List ℕ) (of_it : Said) (nodes : List Node) → AreSaid certs name of_it nodes → (behind : List ℕ) × (document_rows (document_of nodes) ≡ labelled (word_label (word_of of_it)) behind ∷ [])
+unfolding behind_of
 said_rows certs name (said.Accepted t p kind) nodes (held, are, is) = (
   behind_of (accepted_head name t.now p.now.above.items kind),
   ap (λ (l : List Node). document_rows (document_of l)) is
@@ -62,12 +63,14 @@ begin_with_word certs row nodes (of_it, are, is) =
 
 -- ---- counts
 
--- a word is one of these
-one_word : (w : Word)
-    → cond (is_word word.Anchor w) 1 0 + cond (is_word word.Accepted w) 1 0 + cond (is_word word.Rejected w) 1 0
-    + cond (is_word word.BelowRejected w) 1 0 + cond (is_word word.BelowUnseen w) 1 0
-    + cond (is_word word.NotLookedAt w) 1 0 + cond (is_word word.NotIssued w) 1 0 + cond (is_word word.NoIssuer w) 1 0
-    + cond (is_word word.Crl w) 1 0 + cond (is_word word.Neither w) 1 0 ≡ 1
+-- of each word something, all together
+abbrev total : (Word → ℕ) → ℕ
+total f =
+    f word.Anchor + f word.Accepted + f word.Rejected + f word.BelowRejected + f word.BelowUnseen
+    + f word.NotLookedAt + f word.NotIssued + f word.NoIssuer + f word.Crl + f word.Neither
+
+-- a word is one of them
+one_word : (w : Word) → total (λ v. cond (is_word v w) 1 0) ≡ 1
 one_word word.Anchor = refl
 one_word word.Accepted = refl
 one_word word.Rejected = refl
@@ -79,13 +82,24 @@ one_word word.NoIssuer = refl
 one_word word.Crl = refl
 one_word word.Neither = refl
 
-sum_more : (a b c d e f g h i j k l m n o p q r s t z : ℕ) → a + b + c + d + e + f + g + h + i + j ≡ 1 → k + l + m + n + o + p + q + r + s + t ≡ z
-    → (a + k) + (b + l) + (c + m) + (d + n) + (e + o) + (f + p) + (g + q) + (h + r) + (i + s) + (j + t) ≡ suc z
-sum_more a b c d e f g h i j k l m n o p q r s t z one rest = omega (arith, one, rest)
+total_more : (f g h : Word → ℕ) (n : ℕ) → ((w : Word) → f w ≡ g w + h w) → total g ≡ 1 → total h ≡ n → total f ≡ suc n
+total_more f g h n both one rest = omega (
+  arith,
+  both word.Anchor,
+  both word.Accepted,
+  both word.Rejected,
+  both word.BelowRejected,
+  both word.BelowUnseen,
+  both word.NotLookedAt,
+  both word.NotIssued,
+  both word.NoIssuer,
+  both word.Crl,
+  both word.Neither,
+)
 
 pub add_up : CountsAddUp
 add_up [] = refl
 add_up (row ∷ rows) =
-    sum_more _ _ _ _ _ _ _ _ _ _ (count_of word.Anchor rows) (count_of word.Accepted rows) (count_of word.Rejected rows)
-    (count_of word.BelowRejected rows) (count_of word.BelowUnseen rows) (count_of word.NotLookedAt rows) (count_of word.NotIssued rows)
-    (count_of word.NoIssuer rows) (count_of word.Crl rows) (count_of word.Neither rows) (length rows) (one_word (word_of row.said)) (add_up rows)
+    let one : Word → ℕ = λ w. cond (is_word w (word_of row.said)) 1 0 in
+    total_more (λ w. count_of w (row ∷ rows)) one (λ w. count_of w rows) (length rows)
+    (λ w. sum_by-cons (λ r. cond (has_word w r) 1 0) row rows) (one_word (word_of row.said)) (add_up rows)

@@ -2,12 +2,12 @@
 use Rattle.std.specs.Bool.{MatchBool}
 use Rattle.std.specs.List.{flat_map, list_any}
 use Rattle.std.specs.Prelude.{Result, Ok, Err, IfOk, OnOk}
-use Rattle.std.proofs.Common.{◌≡◌, ◌≢◌, ◌∙◌, ◌+◌, ◌<◌, ◌≤◌, ℕ, Bool, true, false, List, [], ◌∷◌, ◌++◌, length, map, take, get_or, string_bytes, refl, sym, ap, subst, append_assoc}
+use Rattle.std.proofs.Common.{◌≡◌, ◌≢◌, ◌∙◌, ◌+◌, ◌<◌, ◌≤◌, ℕ, Bool, true, false, List, [], ◌∷◌, ◌++◌, length, map, take, get_or, refl, sym, ap, subst, append_assoc}
 use Rattle.std.proofs.lemmas.Grind.{flat_map-append}
 use Rattle.std.proofs.lemmas.List.Sums.{fold-append}
 use Rattle.std.proofs.lemmas.List.{append-nil, map-append, take_more, take_all}
 use Rattle.rpki_document.specs.Building.{Adds, nodes_of, spans_of}
-use Rattle.rpki_document.specs.Documents.{Node, Span, inside, document_of, document_text, document_json}
+use Rattle.rpki_document.specs.Documents.{Node, inside, document_of, document_text, document_json}
 use Rattle.rpki_document.specs.Views.{piece_view}
 use Rattle.rpki_document.specs.declared.parts.Part.{Part}
 use Rattle.rpki_document.specs.declared.parts.Piece.{Piece}

@@ -13,7 +13,6 @@ use Rattle.rpki_answers.specs.ShownFiles.{IsJsonOfFiles, IsTextOfFiles, is_singl
 use Rattle.rpki_answers.specs.TreeDocuments.{IsTree}
 use Rattle.rpki_answers.specs.TreeRows.{IsAcceptingFinding, IsTreeFinding}
 use Rattle.rpki_answers.specs.Verdicts.{IsJsonOfPath, IsTextOfPath}
-use Rattle.rpki_text.specs.declared.command_line.arguments.Format.{Format}
 use Rattle.rpki_text.specs.declared.command_line.arguments.Task.{Task}
 use Rattle.rpki_text.specs.declared.command_line.arguments.Task.TheVariants.{Show, Validate, Tree}
 use Rattle.rpki_answers.specs.declared.outcomes.Outcome.{Outcome}

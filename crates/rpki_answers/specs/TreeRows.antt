@@ -1,6 +1,6 @@
 -- What is found of files in no order: the trees, and what is said of each file (own).
 use Rattle.std.specs.Bool.{MatchBool}
-use Rattle.std.specs.Prelude.{◌≡◌, ◌==◌, ◌+◌, ◌⊎◌, ℕ, Bool, IsTrue, All, List, [], ◌∷◌, ◌++◌, slice_get, Option, None, Some}
+use Rattle.std.specs.Prelude.{◌≡◌, ◌+◌, ◌⊎◌, ℕ, Bool, IsTrue, All, List, [], ◌∷◌, Option, None, Some}
 use Rattle.rpki_cert.specs.SaidKinds.{SaysKind}
 use Rattle.rpki_cert.specs.Verification.{Context}
 use Rattle.rpki_path.specs.Judging.{last_certificate}
@@ -13,7 +13,7 @@ use Rattle.rpki_verdicts.specs.GivenLocators.{locator_octets}
 use Rattle.rpki_verdicts.specs.PathAnswers.{IsNoLocator, reason_of}
 use Rattle.rpki_verdicts.specs.Reasons.{IsReason}
 use Rattle.rpki_verdicts.specs.TreeParts.{AreAllAccepted, AreDamaged, AreTreesOf, shown_part, wrong_at}
-use Rattle.rpki_verdicts.specs.Trees.{TreeFields}
+use Rattle.rpki_verdicts.specs.Trees.{TreeFields, is_anchor_at, line_at}
 use Rattle.rpki_verdicts.specs.UnseenCertificates.{IsUnseen}
 use Rattle.rpki_verdicts.specs.declared.issuers.Unseen.{Unseen as Why}
 use Rattle.rpki_verdicts.specs.declared.parts.TreePart.{TreePart}
@@ -62,12 +62,12 @@ SaysLine tree file (Some (line.Rejected index error)) Unsaid (Rejected fault) =
 SaysLine tree file (Some (line.Rejected index error)) Unsaid _ = ⊥
 SaysLine tree file _ Unsaid said = Unsaid said
 
--- by the answer on a TAL: that it is the trust anchor, or its line
+-- by the answer on a TAL: that it is the trust anchor, or a copy of it; or its line
 abbrev pub SaysAnswer : ℕ → FileFields → TreeAnswer → (Said → Type 0) → Said → Type 0
 SaysAnswer place file (NoAnchor wrong) Unsaid said = Unsaid said
 SaysAnswer place file (Walked tree) Unsaid said =
-    MatchBool (place == tree.anchor) (said ≡ Anchor)
-    (SaysLine tree file (slice_get tree.lines place) Unsaid said)
+    MatchBool (is_anchor_at tree place) (said ≡ Anchor)
+    (SaysLine tree file (line_at tree place) Unsaid said)
 
 -- by the part that tells most of it
 abbrev pub SaysPart : ℕ → FileFields → Option TreePart → (Said → Type 0) → Said → Type 0

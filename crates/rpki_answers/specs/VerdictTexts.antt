@@ -1,6 +1,6 @@
 -- What is found of a path, and what is said of files.
 use Rattle.std.specs.Option.{option_map}
-use Rattle.std.specs.Prelude.{◌≡◌, ℕ, All, List, [], ◌∷◌, ◌++◌, length, codes, slice_get, Option, Some, None, MatchOption}
+use Rattle.std.specs.Prelude.{◌≡◌, ℕ, All, List, [], ◌∷◌, ◌++◌, length, slice_get, Option, Some, None, MatchOption}
 use Rattle.rpki_der.specs.Encoding.{Begins, Means}
 use Rattle.rpki_cert.specs.Verification.{Context}
 use Rattle.rpki_files.specs.Contents.{IsList}
@@ -8,7 +8,6 @@ use Rattle.rpki_files.specs.Files.{FileFields, contents}
 use Rattle.rpki_files.specs.LocatorFiles.{AreLocator}
 use Rattle.rpki_verdicts.specs.GivenLocators.{locator_octets}
 use Rattle.rpki_verdicts.specs.PathFiles.{QuestionFields, demands_of}
-use Rattle.rpki_text.specs.Pages.{count_text}
 use Rattle.rpki_verdicts.specs.PathAnswers.{IsAcceptance, IsNoLocator, IsVerdictBy}
 use Rattle.rpki_answers.specs.declared.verdicts.Finding.{Finding}
 use Rattle.rpki_answers.specs.declared.verdicts.Finding.TheVariants.{NotALocator, NotAList, Decided}
@@ -24,11 +23,6 @@ SaysOfEach {X} Says (file ∷ files) said =
 abbrev pub Leaves : {V : Type 0} → (V → List ℕ → Type 0) → List ℕ → Option ℕ → Type 0
 Leaves {V} encodes octets (Some left) = (v : V) × (rest : List ℕ) × Begins encodes octets v rest × (left ≡ length rest)
 Leaves {V} encodes octets None = (v : V) → Means encodes v octets → ⊥
-
--- why a file is none that begins with one, where so many octets stand behind that
-abbrev pub behind_list_text : ℕ → List ℕ
-behind_list_text left =
-    codes ", since " ++ (count_text left (codes " octet stands") (codes " octets stand") ++ codes " behind its list")
 
 -- the name of the member at this place, where there is a member
 abbrev pub file_name_at : List FileFields → ℕ → Option (List ℕ)

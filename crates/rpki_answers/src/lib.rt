@@ -13,7 +13,6 @@ mod tree_laws;
 mod tree_rows;
 mod trees;
 mod verdict_document;
-mod verdict_lines;
 mod verdicts;
 
 pub use outcome_laws::one_outcome;

@@ -112,7 +112,7 @@ fn name_of<'p>(certs: &[&'p BareObject<'_>], place: usize) -> &'p str
     }
 }
 
-// A row of a word with the file's name alone, where an issuer's may follow.
+// Adds the row of a word with the file's name, where an issuer's may follow.
 fn add_alone<'p>(
     parts: &mut Vec<Part<'p>>,
     alloc: Global,
@@ -129,7 +129,7 @@ fn add_alone<'p>(
     add_head(parts, word.label(), pieces)
 }
 
-// The same, where it does.
+// Adds the row of a word with the file's name and its issuer's.
 fn add_issued<'p>(
     parts: &mut Vec<Part<'p>>,
     alloc: Global,

@@ -20,7 +20,7 @@ use std::alloc::{AllocError, Global};
 /// What is said of a file.
 #[derive(Drop)]
 pub enum Said<'t, 'q, 'n> {
-    /// Its certificate is a trust anchor.
+    /// Its certificate is a trust anchor, or a copy of one.
     Anchor,
     /// Its certificate is accepted in a tree, by a path, as a certificate of this kind.
     Accepted(&'t Tree<'q, 'n>, &'t FoundPath, Kind),
@@ -223,11 +223,10 @@ fn said_by_answer<'t, 'q, 'n>(
     match answer {
         TreeAnswer::NoAnchor(_) => said_unseen(trees, issuers, place, file),
         TreeAnswer::Walked(tree) => {
-            if place == tree.anchor {
+            if tree.is_anchor_at(place) {
                 return Said::Anchor;
             }
-            let line = tree.lines.as_slice().get(place);
-            said_by_line(trees, issuers, tree, place, file, line)
+            said_by_line(trees, issuers, tree, place, file, tree.line(place))
         }
     }
 }

@@ -11,6 +11,7 @@ ghost use Rattle.rpki_answers.specs.TreeRows.{IsAcceptingFinding, IsTreeFinding}
 ghost use Rattle.rpki_files.specs.LocatorFiles.{AreLocator};
 ghost use Rattle.rpki_verdicts.specs.GivenLocators.{IsRead, locator_octets};
 ghost use Rattle.rpki_verdicts.specs.PathAnswers.{IsNoLocator};
+ghost use Rattle.rpki_verdicts.specs.TreeParts.{AreDamaged};
 ghost use Rattle.rpki_verdicts.specs.Trees.{asked_of};
 
 use crate::outcomes::{Answer, Outcome};
@@ -76,6 +77,13 @@ fn find<'q, 'n>(
     Ok(TreeFinding::Answered(trees))
 }
 
+// Whether it is asked that damage fails the run, and the cache is damaged.
+fn is_damage_refused(trees: &Trees<'_, '_>, strict_exit: bool) -> bool
+    ensures { IsTrue result ↔ (IsTrue strict_exit × AreDamaged trees.now) }
+{
+    strict_exit && trees.are_damaged()
+}
+
 // Whether each certificate is a trust anchor or accepted, no limit was reached, and, if that is
 // asked, the cache isn't damaged.
 fn is_accepting(finding: &TreeFinding<'_, '_>, strict_exit: bool) -> bool
@@ -83,8 +91,7 @@ fn is_accepting(finding: &TreeFinding<'_, '_>, strict_exit: bool) -> bool
 {
     match finding {
         TreeFinding::Answered(trees) => {
-            let is_damaged = strict_exit && trees.are_damaged();
-            trees.are_accepted() && !is_damaged
+            trees.are_accepted() && !is_damage_refused(trees, strict_exit)
         }
         TreeFinding::NotALocator(_) => false,
     }
@@ -314,7 +321,7 @@ fn printed_finding<'p>(
 /// Judges all certificates among files, and writes the findings on each file, as lines for a person
 /// or as JSON. The outcome is success if each file given as a TAL is one and has a valid trust
 /// anchor, each certificate is a trust anchor or accepted, no limit was reached, and, if that is
-/// asked, the cache isn't damaged.
+/// required, the cache isn't damaged.
 ///
 /// # Errors
 ///

@@ -1,16 +1,19 @@
 -- What is answered to what a caller wants of a certificate: the octets that are to be signed, those
 -- of the certificate, or why there are none (own).
-use Rattle.std.specs.Prelude.{◌≡◌, ◌≢◌, ◌⊎◌, ◌<◌, ℕ, List, [], Option, Some, None, Result, Ok, Err}
+use Rattle.std.specs.List.{AllZip}
+use Rattle.std.specs.Prelude.{◌≡◌, ◌≢◌, ◌⊎◌, ◌<◌, ℕ, Bool, true, false, List, [], Option, Some, None, Result, Ok, Err}
 use Rattle.rpki_cert.specs.Certificates.{TbsFields, IsTbsCertificate}
 use Rattle.rpki_cert.specs.Verification.{ResourceFields, context}
 use Rattle.rpki_cert.specs.declared.inspect.Kind.{Kind}
 use Rattle.rpki_cert.specs.declared.inspect.Kind.TheVariants.{Anchor}
+use Rattle.rpki_crl.specs.Lists.{CrlState}
 use Rattle.rpki_keys.specs.KeyForms.{IsUsableKey}
 use Rattle.rpki_keys.specs.RsaSignatures.{IsSignedByRsa}
 use Rattle.rpki_parts.specs.Keys.{KeyFields, IsPublicKey}
 use Rattle.rpki_parts.specs.Names.{IsName}
 use Rattle.rpki_parts.specs.Uris.{IsHttps, IsRsync}
-use Rattle.rpki_path.specs.Asking.{nobody}
+use Rattle.rpki_path.specs.AskedLists.{by_named_lists}
+use Rattle.rpki_path.specs.Asking.{RevocationChecks, nobody}
 use Rattle.rpki_path.specs.declared.judging.Judged.{Judged}
 use Rattle.rpki_issuing.specs.Acceptance.{IsAcceptedBelow}
 use Rattle.rpki_issuing.specs.AskedFields.{fields_asked, subject_asked}
@@ -19,13 +22,17 @@ use Rattle.rpki_issuing.specs.PreparedOctets.{IsCompleted, IsPrepared, IsToSign,
 use Rattle.rpki_issuing.specs.declared.wanted.preparing.WantedError.{WantedError}
 use Rattle.rpki_issuing.specs.declared.wanted.preparing.WantedError.TheVariants as wanting
 use Rattle.rpki_issuing.specs.declared.wanted.wanted.Wanted.{Wanted}
-use Rattle.rpki_c.specs.Verdicts.{AnswersQuestion}
+use Rattle.rpki_c.specs.Verdicts.{AnswersQuestion, AreStringsOf, DontAddUp, IsGiven, IsUncalled, IsUnreadList}
 use Rattle.rpki_c.specs.WantedQuestions.{GivesWanted, HasCompletionTerms, HasNoCompletionTerms, HasNoWantedTerms, HasWantedTerms, IsKeyGiven}
 use Rattle.rpki_c.specs.declared.certificates.CertUri.{CertUri}
 use Rattle.rpki_c.specs.declared.certificates.CertUri.TheVariants as uri
 use Rattle.rpki_c.specs.declared.completing.CompletionTerms.{CompletionTerms}
 use Rattle.rpki_c.specs.declared.completing.RpkiCompletion.{RpkiCompletion}
+use Rattle.rpki_c.specs.declared.issuer.Above.{Above}
 use Rattle.rpki_c.specs.declared.question.RpkiQuestion.{RpkiQuestion}
+use Rattle.rpki_c.specs.declared.question.Terms.{Terms}
+use Rattle.rpki_c.specs.declared.refusal.Refusal.{Refusal}
+use Rattle.rpki_c.specs.declared.strings.RpkiStrings.{RpkiStrings}
 use Rattle.rpki_c.specs.declared.unissued.Unissued.{Unissued}
 use Rattle.rpki_c.specs.declared.unissued.Unissued.TheVariants as why
 use Rattle.rpki_c.specs.declared.wanted.RpkiUris.{RpkiUris}
@@ -105,6 +112,50 @@ IsNoIssuer kind q why.BadCall = EndsWell kind q → ⊥
 IsNoIssuer kind q (why.Issuer r) = (kind ≢ Anchor) × AnswersQuestion IsSignedByRsa q (Err r)
 IsNoIssuer kind q _ = ⊥
 
+-- ---- the issuer's path, and who is asked for revocation
+
+-- the caller's lists, if they are asked; else there are none
+abbrev pub AreListsGiven : Bool → RpkiStrings → List CrlState → Type 0
+AreListsGiven true s lists =
+    (octets : List (List ℕ)) × AreStringsOf s octets × AllZip IsGiven octets lists
+AreListsGiven false s lists = lists ≡ []
+
+-- why they aren't read
+abbrev pub AreNoListsGiven : RpkiStrings → Refusal → Type 0
+AreNoListsGiven s r =
+    IsUncalled (DontAddUp s) r
+    ⊎ ((octets : List (List ℕ)) × AreStringsOf s octets × IsUnreadList octets r)
+
+-- the certificates of the issuer's path, and the lists
+pub record GivesAbove (q : RpkiQuestion) (t : Terms) (above : Above) : Type 0 where
+  pub path_is : AreStringsOf q.members above.path.items
+  pub lists_are : AreListsGiven t.asks_lists q.lists above.lists.items
+
+-- why they aren't read
+abbrev pub GivesNoAbove : RpkiQuestion → Unissued → Type 0
+GivesNoAbove q (why.Issuer r) = IsUncalled (DontAddUp q.members) r ⊎ AreNoListsGiven q.lists r
+GivesNoAbove q _ = ⊥
+
+-- who is asked whether a certificate is revoked: the lists, as for the issuer's path, if they are
+-- asked; else nobody
+abbrev pub checks_if : Bool → Terms → List CrlState → RevocationChecks
+checks_if true t lists = by_named_lists t.asks_names (context IsSignedByRsa t.now t.strict) lists
+checks_if false t lists = nobody
+
+abbrev pub checks_above : Terms → List CrlState → RevocationChecks
+checks_above t lists = checks_if t.asks_lists t lists
+
+-- the answer below this issuer, with its path and by who is asked, or why these aren't read; above
+-- a trust anchor there is no path, and nobody is asked
+abbrev pub AnswersAbove : RpkiQuestion → Terms → Option ResourceFields
+    → (List (List ℕ) → RevocationChecks → Result (List ℕ) Unissued → Type 0)
+    → Result (List ℕ) Unissued → Type 0
+AnswersAbove q t None Answers r = Answers [] nobody r
+AnswersAbove q t (Some issuer) Answers r =
+    ((e : Unissued) × (r ≡ Err e) × GivesNoAbove q e)
+    ⊎ ((above : Above) × GivesAbove q t above
+    × Answers above.path.items (checks_above t above.lists.items) r)
+
 -- ---- what is prepared
 
 -- the values that are given, and the key
@@ -140,23 +191,24 @@ abbrev pub unfit_of : WantedError → Unissued
 unfit_of wanting.Memory = why.Memory
 unfit_of e = why.Unfit e
 
--- the octets of these fields, of which only the signature is missing below the issuer; or why they
--- aren't ready to be signed, or aren't there
-abbrev pub AnswersBelow : RpkiWanted → WantedTerms → Option ResourceFields → Result (List ℕ) Unissued → Type 0
-AnswersBelow w t issuer (Ok octets) =
+-- the octets of these fields, of which only the signature is missing below the issuer, the last of
+-- this path, by who is asked for revocation; or why they aren't ready to be signed, or aren't there
+abbrev pub AnswersBelow : RpkiWanted → WantedTerms → Option ResourceFields → List (List ℕ)
+    → RevocationChecks → Result (List ℕ) Unissued → Type 0
+AnswersBelow w t issuer path checks (Ok octets) =
     (f : TbsFields) × AsksFields w t issuer f
-    × IsPrepared t.kind issuer nobody t.asked.now t.asked.strict f octets
-AnswersBelow w t issuer (Err (why.Unfit e)) =
+    × IsPrepared t.kind issuer path checks t.asked.now t.asked.strict f octets
+AnswersBelow w t issuer path checks (Err (why.Unfit e)) =
     (f : TbsFields) × AsksFields w t issuer f
-    × IsUnprepared t.kind issuer nobody t.asked.now t.asked.strict f e
-AnswersBelow w t issuer (Err e) = AnswersFields w t issuer (Err e)
+    × IsUnprepared t.kind issuer path checks t.asked.now t.asked.strict f e
+AnswersBelow w t issuer path checks (Err e) = AnswersFields w t issuer (Err e)
 
 -- the answer below who issues, or why nobody does
 abbrev pub AnswersTerms : RpkiWanted → WantedTerms → Result (List ℕ) Unissued → Type 0
 AnswersTerms w t r =
     ((e : Unissued) × (r ≡ Err e) × IsNoIssuer t.kind w.issuer e)
     ⊎ ((issuer : Option ResourceFields) × IsIssuerOf t.kind w.issuer issuer
-    × AnswersBelow w t issuer r)
+    × AnswersAbove w.issuer t.asked issuer (AnswersBelow w t issuer) r)
 
 -- the octets that are to be signed of the certificate that is wanted, or why there are none
 abbrev pub AnswersWanted : RpkiWanted → Result (List ℕ) Unissued → Type 0
@@ -182,26 +234,27 @@ AnswersNamed issuer octets (Err why.OtherName) =
     (f : TbsFields) × IsToSign f octets × (IsNamed issuer f → ⊥)
 AnswersNamed issuer octets (Err e) = AnswersSigned octets (Err e)
 
--- the certificate that the signature makes of these fields below the issuer, where it is accepted;
--- or why there is none. Nobody is asked whether it is revoked.
-abbrev pub AnswersCompletedBelow : RpkiCompletion → CompletionTerms → Option ResourceFields → Result (List ℕ) Unissued → Type 0
-AnswersCompletedBelow c t issuer (Ok octets) =
+-- the certificate that the signature makes of these fields below the issuer, the last of this path,
+-- where it is accepted by who is asked for revocation; or why there is none
+abbrev pub AnswersCompletedBelow : RpkiCompletion → CompletionTerms → Option ResourceFields
+    → List (List ℕ) → RevocationChecks → Result (List ℕ) Unissued → Type 0
+AnswersCompletedBelow c t issuer path checks (Ok octets) =
     (f : TbsFields) × IsToSign f c.prepared.now × IsNamed issuer f
-    × IsCompleted t.kind issuer nobody t.asked.now t.asked.strict f
+    × IsCompleted t.kind issuer path checks t.asked.now t.asked.strict f
     c.prepared.now c.signature.now octets
-    × IsAcceptedBelow (context IsSignedByRsa t.asked.now t.asked.strict) nobody t.kind issuer octets
-AnswersCompletedBelow c t issuer (Err (why.Unfit e)) =
+    × IsAcceptedBelow (context IsSignedByRsa t.asked.now t.asked.strict) checks t.kind issuer octets
+AnswersCompletedBelow c t issuer path checks (Err (why.Unfit e)) =
     (f : TbsFields) × IsToSign f c.prepared.now × IsNamed issuer f
-    × IsUncompleted t.kind issuer nobody t.asked.now t.asked.strict f
+    × IsUncompleted t.kind issuer path checks t.asked.now t.asked.strict f
     c.prepared.now c.signature.now e
-AnswersCompletedBelow c t issuer (Err e) = AnswersNamed issuer c.prepared.now (Err e)
+AnswersCompletedBelow c t issuer path checks (Err e) = AnswersNamed issuer c.prepared.now (Err e)
 
 -- the answer below who issues, or why nobody does
 abbrev pub AnswersCompletionTerms : RpkiCompletion → CompletionTerms → Result (List ℕ) Unissued → Type 0
 AnswersCompletionTerms c t r =
     ((e : Unissued) × (r ≡ Err e) × IsNoIssuer t.kind c.issuer e)
     ⊎ ((issuer : Option ResourceFields) × IsIssuerOf t.kind c.issuer issuer
-    × AnswersCompletedBelow c t issuer r)
+    × AnswersAbove c.issuer t.asked issuer (AnswersCompletedBelow c t issuer) r)
 
 -- the certificate that is completed, or why there is none
 abbrev pub AnswersCompletion : RpkiCompletion → Result (List ℕ) Unissued → Type 0

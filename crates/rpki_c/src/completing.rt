@@ -1,12 +1,14 @@
 //! The completion of certificates with their signatures.
-ghost use Rattle.std.specs.Prelude.{◌≡◌, option_map, IfErr, IfOk, IsNone, IfSome};
-ghost use Rattle.rpki_c.specs.WantedAnswers.{AnswersCompletedBelow, AnswersCompletion, AnswersCompletionTerms, AnswersNamed, AnswersSigned};
+ghost use Rattle.std.specs.Prelude.{◌≡◌, option_map, Some, IfErr, IfOk, IsNone, IfSome};
+ghost use Rattle.rpki_cert.specs.Verification.{context};
+ghost use Rattle.rpki_keys.specs.RsaSignatures.{IsSignedByRsa};
+ghost use Rattle.rpki_c.specs.WantedAnswers.{AnswersAbove, AnswersCompletedBelow, AnswersCompletion, AnswersCompletionTerms, AnswersNamed, AnswersSigned, checks_above};
 ghost use Rattle.rpki_issuing.specs.Issuers.{IsNamed};
 ghost use Rattle.rpki_c.specs.WantedQuestions.{HasCompletionTerms, HasNoCompletionTerms};
 ghost use Rattle.rpki_c.specs.declared.unissued.Unissued.TheVariants.{OtherName};
 
 use crate::certificates::kind_of;
-use crate::issuer::issuer_of;
+use crate::issuer::{Above, above_of, issuer_of};
 use crate::preparing::unfit;
 use crate::question::{RpkiQuestion, Terms, terms_of};
 use crate::unissued::Unissued;
@@ -15,7 +17,7 @@ use rpki_cert::{Kind, ResourceCert, TbsCert};
 use rpki_issuing::wanted::issuers::is_named;
 use rpki_issuing::wanted::{complete_octets, read_tbs};
 use rpki_keys::is_usable;
-use rpki_path::revocation::NobodyAsked;
+use rpki_path::revocation::{GivenLists, NobodyAsked, RevocationSource};
 use std::alloc::Global;
 
 /// A prepared certificate with its signature.
@@ -107,36 +109,74 @@ fn signed_below(
     }
 }
 
-// The certificate below the issuer.
-fn completed_below(
+// The certificate below the issuer, by who is asked for revocation.
+fn completed_below<R: RevocationSource>(
     alloc: Global,
     completion: &RpkiCompletion<'_>,
     terms: CompletionTerms,
     issuer: Option<&ResourceCert>,
+    path: &[Bytes],
+    source: &R,
 ) -> Result<Bytes, Unissued>
-    ensures { let issuer = option_map (λ r. r.now) issuer.entry in
-        AnswersCompletedBelow completion.now terms issuer result }
+    ensures { let x = context IsSignedByRsa terms.asked.now terms.asked.strict in
+        let issuer = option_map (λ r. r.now) issuer.entry in
+        AnswersCompletedBelow completion.now terms issuer path.now (R.asks source.now x) result }
 {
     let tbs = signed_below(alloc, completion.prepared, issuer)?;
     let (prepared, signature) = (completion.prepared, completion.signature);
     let (kind, asked) = (terms.kind, terms.asked);
     let (strict, now) = (asked.strict, asked.now);
     let octets = complete_octets(
-        alloc,
-        &tbs,
-        prepared,
-        signature,
-        kind,
-        issuer,
-        &NobodyAsked,
-        strict,
-        now,
+        alloc, &tbs, prepared, signature, kind, issuer, path, source, strict, now,
     );
     drop(tbs);
     match octets {
         Ok(octets) => Ok(octets),
         Err(error) => Err(unfit(error)),
     }
+}
+
+// The certificate below the issuer, by the lists, if they are asked.
+fn completed_asking(
+    alloc: Global,
+    completion: &RpkiCompletion<'_>,
+    terms: CompletionTerms,
+    issuer: &ResourceCert,
+    above: &Above,
+) -> Result<Bytes, Unissued>
+    ensures { let checks = checks_above terms.asked above.now.lists.items in
+        let issuer = Some issuer.now in
+        AnswersCompletedBelow completion.now terms issuer above.now.path.items checks result }
+{
+    if terms.asked.asks_lists {
+        let given = GivenLists::with_names(&above.lists, terms.asked.asks_names);
+        return completed_below(alloc, completion, terms, Some(issuer), &above.path, &given);
+    }
+    completed_below(
+        alloc,
+        completion,
+        terms,
+        Some(issuer),
+        &above.path,
+        &NobodyAsked,
+    )
+}
+
+// The certificate below the CA in which the path ends.
+fn completed_above(
+    alloc: Global,
+    completion: &RpkiCompletion<'_>,
+    terms: CompletionTerms,
+    issuer: &ResourceCert,
+) -> Result<Bytes, Unissued>
+    ensures { let issuer = Some issuer.now in let question = completion.now.issuer in
+        let Answers = AnswersCompletedBelow completion.now terms issuer in
+        AnswersAbove question terms.asked issuer Answers result }
+{
+    let above = above_of(alloc, &completion.issuer, terms.asked)?;
+    let octets = completed_asking(alloc, completion, terms, issuer, &above);
+    drop(above);
+    octets
 }
 
 // The certificate, on these terms.
@@ -147,8 +187,10 @@ fn completed(
 ) -> Result<Bytes, Unissued>
     ensures { AnswersCompletionTerms completion.now terms result }
 {
-    let issuer = issuer_of(alloc, terms.kind, &completion.issuer)?;
-    let octets = completed_below(alloc, completion, terms, issuer.as_ref());
+    let Some(issuer) = issuer_of(alloc, terms.kind, &completion.issuer)? else {
+        return completed_below(alloc, completion, terms, None, &[], &NobodyAsked);
+    };
+    let octets = completed_above(alloc, completion, terms, &issuer);
     drop(issuer);
     octets
 }

@@ -2,14 +2,17 @@
 ghost use Rattle.std.specs.Prelude.{◌≡◌, ◌↔◌, Err, IfErr, IfOk, IsTrue};
 ghost use Rattle.rpki_cert.specs.declared.inspect.Kind.TheVariants.{Anchor};
 ghost use Rattle.rpki_c.specs.Verdicts.{AnswersQuestion};
-ghost use Rattle.rpki_c.specs.WantedAnswers.{IsAuthorityOf, IsHeld, IsIssuerOf, IsNoAuthority, IsNoIssuer};
+ghost use Rattle.rpki_c.specs.WantedAnswers.{AreListsGiven, AreNoListsGiven, GivesAbove, GivesNoAbove, IsAuthorityOf, IsHeld, IsIssuerOf, IsNoAuthority, IsNoIssuer};
 ghost use Rattle.rpki_keys.specs.RsaSignatures.{IsSignedByRsa};
 
-use crate::judging::judge_question;
-use crate::question::RpkiQuestion;
+use crate::judging::{judge_question, strings_of};
+use crate::lists::lists_of;
+use crate::question::{RpkiQuestion, Terms};
 use crate::refusal::Refusal;
 use crate::unissued::Unissued;
+use bytes::Bytes;
 use rpki_cert::{Kind, ResourceCert};
+use rpki_crl::Crl;
 use rpki_path::Judged;
 use std::alloc::Global;
 
@@ -70,5 +73,53 @@ pub(crate) fn issuer_of(
     match authority_of(alloc, question) {
         Ok(issuer) => Ok(Some(issuer)),
         Err(why) => Err(why),
+    }
+}
+
+/// The certificates of the issuer's path, and the CRLs, if they are asked.
+#[derive(Drop)]
+pub(crate) struct Above {
+    pub(crate) path: Vec<Bytes>,
+    pub(crate) lists: Vec<Crl>,
+}
+
+// The CRLs of a question, if they are asked.
+fn lists_given(
+    alloc: Global,
+    question: &RpkiQuestion<'_>,
+    asks_lists: bool,
+) -> Result<Vec<Crl>, Refusal>
+    ensures lists { IfOk result (λ lists.
+        AreListsGiven asks_lists question.now.lists lists.items) }
+    ensures none { IfErr result (AreNoListsGiven question.now.lists) }
+{
+    if !asks_lists {
+        return Ok(Vec::new(alloc));
+    }
+    let octets = strings_of(alloc, &question.lists)?;
+    let lists = lists_of(alloc, &octets, &[]);
+    drop(octets);
+    lists
+}
+
+/// Returns the certificates of the issuer's path, and the CRLs, if they are asked.
+pub(crate) fn above_of(
+    alloc: Global,
+    question: &RpkiQuestion<'_>,
+    terms: Terms,
+) -> Result<Above, Unissued>
+    ensures given { IfOk result (GivesAbove question.now terms) }
+    ensures none { IfErr result (GivesNoAbove question.now) }
+{
+    let path = match strings_of(alloc, &question.members) {
+        Ok(path) => path,
+        Err(refusal) => return Err(Unissued::Issuer(refusal)),
+    };
+    match lists_given(alloc, question, terms.asks_lists) {
+        Ok(lists) => Ok(Above { path, lists }),
+        Err(refusal) => {
+            drop(path);
+            Err(Unissued::Issuer(refusal))
+        }
     }
 }

@@ -18,7 +18,11 @@ use crate::refusal::Refusal;
 use bytes::Bytes;
 use rpki_crl::{Crl, CrlEntry, laws};
 use rpki_der::{Cursor, DecodeError, Serial};
+use rpki_parts::KeyIdentifier;
 use std::alloc::{AllocError, Global};
+
+/// At most so many searches take less time than a table takes to make.
+pub(crate) const FEW: usize = 16;
 
 /// The fields of a CRL that have a fixed size.
 #[repr(C)]
@@ -309,14 +313,12 @@ pub(crate) fn whole_list(alloc: Global, octets: &Bytes) -> Result<Crl, DecodeErr
     Ok(list)
 }
 
-/// Reads the list that the octets are, and puts its serial numbers into a table if it is asked often.
-pub(crate) fn list_of(alloc: Global, octets: &Bytes, often: bool) -> Result<Crl, DecodeError>
+// Puts the serial numbers of the list that the octets are into a table.
+fn tabled(alloc: Global, list: Crl, octets: &Bytes) -> Result<Crl, DecodeError>
+    requires { IsCertificateList list.list octets.now }
     ensures { MeansOrMemoryBy (λ l. l.list) IsCertificateList result octets.now }
 {
-    let mut list = whole_list(alloc, octets)?;
-    if !often {
-        return Ok(list);
-    }
+    let mut list = list;
     match list.cache_serials(alloc) {
         Ok(()) => Ok(list),
         Err(error) => {
@@ -326,6 +328,37 @@ pub(crate) fn list_of(alloc: Global, octets: &Bytes, often: bool) -> Result<Crl,
     }
 }
 
+/// Reads the list that the octets are, and puts its serial numbers into a table.
+pub(crate) fn list_of(alloc: Global, octets: &Bytes) -> Result<Crl, DecodeError>
+    ensures { MeansOrMemoryBy (λ l. l.list) IsCertificateList result octets.now }
+{
+    let list = whole_list(alloc, octets)?;
+    tabled(alloc, list, octets)
+}
+
+// Whether more than a few of the keys are the one that the list names.
+fn names_often(list: &Crl, keys: &[KeyIdentifier]) -> bool {
+    let named = list.as_cert_list().authority_key_identifier();
+    let mut count = 0usize;
+    for key in keys {
+        if key == named {
+            count = count.saturating_add(1);
+        }
+    }
+    count > FEW
+}
+
+// Reads the list that the octets are. One that more than a few certificates may ask gets a table.
+fn list_asked(alloc: Global, octets: &Bytes, keys: &[KeyIdentifier]) -> Result<Crl, DecodeError>
+    ensures { MeansOrMemoryBy (λ l. l.list) IsCertificateList result octets.now }
+{
+    let list = whole_list(alloc, octets)?;
+    if names_often(&list, keys) {
+        return tabled(alloc, list, octets);
+    }
+    Ok(list)
+}
+
 fn append(lists: &mut Vec<Crl>, list: Crl) -> Result<(), AllocError>
     ensures { OnOk result (lists.new.items ≡ lists.old.items ++ list ∷ []) }
 {
@@ -333,14 +366,19 @@ fn append(lists: &mut Vec<Crl>, list: Crl) -> Result<(), AllocError>
     Ok(())
 }
 
-/// Reads a list of each of these octets, with its serial numbers in a table if each is asked often.
-pub(crate) fn lists_of(alloc: Global, strings: &[Bytes], often: bool) -> Result<Vec<Crl>, Refusal>
+/// Reads a list of each of these octets. A list gets a table if more than a few of these keys, those
+/// of the issuers on a path, are the one that it names: each certificate asks its issuer's lists.
+pub(crate) fn lists_of(
+    alloc: Global,
+    strings: &[Bytes],
+    keys: &[KeyIdentifier],
+) -> Result<Vec<Crl>, Refusal>
     ensures lists { IfOk result (λ it. AllZip IsGiven strings.now it.items) }
     ensures unread { IfErr result (IsUnreadList strings.now) }
 {
     let mut lists = Vec::new(alloc);
     for octets in strings {
-        match list_of(alloc, octets, often) {
+        match list_asked(alloc, octets, keys) {
             Ok(list) => append(&mut lists, list)?,
             Err(error) => {
                 let place = lists.len();

@@ -41,7 +41,7 @@ fn other_front(alloc: Global, octets: &Bytes) -> Result<Front, AllocError>
     requires { BeginsNoCertificate octets.now }
     ensures { IfOk result (BeginsAs octets.now) }
 {
-    match list_of(alloc, octets, true) {
+    match list_of(alloc, octets) {
         Ok(list) => Ok(Front::List(list)),
         Err(fault) => {
             rejects(fault)?;

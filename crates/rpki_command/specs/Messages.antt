@@ -80,7 +80,7 @@ abbrev pub bound_message : TreeFields → Ended → List ℕ
 bound_message q Whole = []
 bound_message q TooDeep =
     codes "rpki: not every path was searched: at most "
-        ++ (decimal q.depth ++ codes " certificates down, more are below (--depth sets the limit)\n")
+    ++ (decimal q.depth ++ codes " certificates down, more are below (--depth sets the limit)\n")
 bound_message q OutOfSteps =
     codes "rpki: not every path was searched: the limit of "
-        ++ (decimal q.steps ++ codes " steps was reached (--steps sets the limit)\n")
+    ++ (decimal q.steps ++ codes " steps was reached (--steps sets the limit)\n")

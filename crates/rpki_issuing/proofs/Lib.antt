@@ -12,6 +12,7 @@ pub mod ZippedTexts
 pub mod PrefixesRead
 -- ---- what is wanted
 pub mod Accepted
+mod CertifiedKeys
 pub mod RouterNames
 pub mod SameRoles
 pub mod SignedLists

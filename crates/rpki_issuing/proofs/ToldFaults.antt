@@ -30,30 +30,30 @@ refused_listed asked issuer c (Listed e) apart first free = first_not_all (Asked
 refused_listed asked issuer c Memory apart h free = apart refl
 refused_listed asked issuer c _ apart h free = absurd h
 
-module _ (kind : Kind) (issuer : Option ResourceFields) (asked : RevocationChecks) (at : Moment) (strict : Bool) (f : TbsFields) where
-  pub listed : (e : WantedError) → IsListedFault asked issuer (unsigned_of f) e → IsUnprepared kind issuer asked at strict f e
+module _ (kind : Kind) (issuer : Option ResourceFields) (path : List (List ℕ)) (asked : RevocationChecks) (at : Moment) (strict : Bool) (f : TbsFields) where
+  pub listed : (e : WantedError) → IsListedFault asked issuer (unsigned_of f) e → IsUnprepared kind issuer path asked at strict f e
   listed (Listed e) h = h
   listed Memory h = tt
   listed _ h = absurd h
 
   module _ (role : Role) (is : IsRoleOf kind issuer role) where
-    pub unprepared : (e : WantedError) → IsUnpreparedAs at strict role f e → IsUnprepared kind issuer asked at strict f e
+    pub unprepared : (e : WantedError) → IsUnpreparedAs at strict role f e → IsUnprepared kind issuer path asked at strict f e
     unprepared (Unready e) h = (role, is, h)
     unprepared Memory h = tt
     unprepared _ h = absurd h
 
     module _ (prepared signature : List ℕ) where
-      pub uncompleted : (e : WantedError) → IsUnpreparedAs at strict role f e → IsUncompleted kind issuer asked at strict f prepared signature e
+      pub uncompleted : (e : WantedError) → IsUnpreparedAs at strict role f e → IsUncompleted kind issuer path asked at strict f prepared signature e
       uncompleted (Unready e) h = (role, is, h)
       uncompleted Memory h = tt
       uncompleted _ h = absurd h
 
-      pub unsigned : (e : WantedError) → IsUnsignedAs role f signature e → IsUncompleted kind issuer asked at strict f prepared signature e
+      pub unsigned : (e : WantedError) → IsUnsignedAs role f signature e → IsUncompleted kind issuer path asked at strict f prepared signature e
       unsigned (Unsigned e) h = (role, is, h)
       unsigned Memory h = tt
       unsigned _ h = absurd h
 
-      pub made_told : (e : WantedError) (c : CertFields) → c ≡ signed_with f signature → IsListedFault asked issuer c e ⊎ ((e ≡ Unsigned TooLong) × (2 ^ 32 ≤ length (signed_content c.signed_data))) → IsUncompleted kind issuer asked at strict f prepared signature e
+      pub made_told : (e : WantedError) (c : CertFields) → c ≡ signed_with f signature → IsListedFault asked issuer c e ⊎ ((e ≡ Unsigned TooLong) × (2 ^ 32 ≤ length (signed_content c.signed_data))) → IsUncompleted kind issuer path asked at strict f prepared signature e
       made_told (Listed e) c same (inl first) = subst (λ (d : CertFields). IsListedFault asked issuer d (Listed e)) same first
       made_told Memory c same (inl h) = tt
       made_told _ c same (inl h) = absurd h

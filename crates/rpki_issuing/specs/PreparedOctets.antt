@@ -38,13 +38,15 @@ HasNoRole kind issuer = (role : Role) → IsRoleOf kind issuer role → ⊥
 
 -- ---- what is prepared
 
--- the fields are ready to be signed as a certificate of this kind below this issuer, who keeps the
--- rules and is asked for no revoked one; and these are the octets that are to be signed
-pub record IsPrepared (kind : Kind) (issuer : Option ResourceFields) (asked : RevocationChecks)
-    (at : Moment) (strict : Bool) (f : TbsFields) (octets : List ℕ) : Type 0 where
+-- the fields are ready to be signed as a certificate of this kind below this issuer, the last of
+-- this path; they keep the rules, and by who is asked the certificate isn't revoked; and these are
+-- the octets that are to be signed
+pub record IsPrepared (kind : Kind) (issuer : Option ResourceFields) (path : List (List ℕ))
+    (asked : RevocationChecks) (at : Moment) (strict : Bool) (f : TbsFields)
+    (octets : List ℕ) : Type 0 where
   pub role : Role
   pub role_is : IsRoleOf kind issuer role
-  pub rules : KeepsRules kind issuer f
+  pub rules : KeepsRules kind path f
   pub ready : IsReady at strict role f
   pub unrevoked : IsUnrevokedIn asked issuer (unsigned f)
   pub octets_are : octets ≡ encoding f
@@ -57,15 +59,15 @@ IsUnpreparedAs at strict role f _ = ⊥
 
 -- why nothing is prepared: it has no role, doesn't keep a rule, isn't ready in its role, or is
 -- revoked by who is asked; or memory was wanted
-abbrev pub IsUnprepared : Kind → Option ResourceFields → RevocationChecks → Moment → Bool
-    → TbsFields → WantedError → Type 0
-IsUnprepared kind issuer asked at strict f error.NoRole = HasNoRole kind issuer
-IsUnprepared kind issuer asked at strict f (error.Broken rule) =
-    IsFirstFalse (RuleCheck kind issuer f) issuing_rules rule
-IsUnprepared kind issuer asked at strict f (error.Listed e) =
+abbrev pub IsUnprepared : Kind → Option ResourceFields → List (List ℕ) → RevocationChecks → Moment
+    → Bool → TbsFields → WantedError → Type 0
+IsUnprepared kind issuer path asked at strict f error.NoRole = HasNoRole kind issuer
+IsUnprepared kind issuer path asked at strict f (error.Broken rule) =
+    IsFirstFalse (RuleCheck kind path f) issuing_rules rule
+IsUnprepared kind issuer path asked at strict f (error.Listed e) =
     IsFirstFalse (AskedIn asked issuer (unsigned f)) revocation_checks e
-IsUnprepared kind issuer asked at strict f error.Memory = Unit {0}
-IsUnprepared kind issuer asked at strict f e =
+IsUnprepared kind issuer path asked at strict f error.Memory = Unit {0}
+IsUnprepared kind issuer path asked at strict f e =
     (role : Role) × IsRoleOf kind issuer role × IsUnpreparedAs at strict role f e
 
 -- ---- what is completed
@@ -77,11 +79,12 @@ pub record IsToSign (f : TbsFields) (octets : List ℕ) : Type 0 where
 
 -- the octets were prepared of these fields, the key of who issues signed them, this is the
 -- certificate, and it isn't revoked by who is asked
-pub record IsCompleted (kind : Kind) (issuer : Option ResourceFields) (asked : RevocationChecks)
-    (at : Moment) (strict : Bool) (f : TbsFields) (prepared signature octets : List ℕ) : Type 0 where
+pub record IsCompleted (kind : Kind) (issuer : Option ResourceFields) (path : List (List ℕ))
+    (asked : RevocationChecks) (at : Moment) (strict : Bool) (f : TbsFields)
+    (prepared signature octets : List ℕ) : Type 0 where
   pub role : Role
   pub role_is : IsRoleOf kind issuer role
-  pub rules : KeepsRules kind issuer f
+  pub rules : KeepsRules kind path f
   pub ready : IsReady at strict role f
   pub prepared_is : prepared ≡ encoding f
   pub signed : IsSignatureOf IsSignedByRsa role f signature
@@ -98,16 +101,16 @@ IsUnsignedAs role f signature _ = ⊥
 
 -- why nothing is completed: nothing is prepared of the fields, or other octets than these; or the
 -- signature is wrong; or the certificate is revoked by who is asked; or memory was wanted
-abbrev pub IsUncompleted : Kind → Option ResourceFields → RevocationChecks → Moment → Bool
-    → TbsFields → List ℕ → List ℕ → WantedError → Type 0
-IsUncompleted kind issuer asked at strict f prepared signature error.OtherOctets =
+abbrev pub IsUncompleted : Kind → Option ResourceFields → List (List ℕ) → RevocationChecks
+    → Moment → Bool → TbsFields → List ℕ → List ℕ → WantedError → Type 0
+IsUncompleted kind issuer path asked at strict f prepared signature error.OtherOctets =
     prepared ≢ encoding f
-IsUncompleted kind issuer asked at strict f prepared signature (error.Unsigned e) =
+IsUncompleted kind issuer path asked at strict f prepared signature (error.Unsigned e) =
     (role : Role) × IsRoleOf kind issuer role × IsUnsignedAs role f signature (error.Unsigned e)
-IsUncompleted kind issuer asked at strict f prepared signature (error.Listed e) =
+IsUncompleted kind issuer path asked at strict f prepared signature (error.Listed e) =
     IsFirstFalse (AskedIn asked issuer (signed_with f signature)) revocation_checks e
-IsUncompleted kind issuer asked at strict f prepared signature e =
-    IsUnprepared kind issuer asked at strict f e
+IsUncompleted kind issuer path asked at strict f prepared signature e =
+    IsUnprepared kind issuer path asked at strict f e
 
 -- the first check of revocation that isn't true of the certificate; or memory was wanted
 abbrev pub IsListedFault : RevocationChecks → Option ResourceFields → CertFields → WantedError

@@ -58,22 +58,22 @@ module _ (asked : AskedFields) (at : Moment) where
   list_prepares_moved inputs r s same octets p =
       subst (λ (c : CertFields). PreparesListBelow asked inputs at c.fields octets) same.cert_is p
 
-  module _ (prepared signature : List ℕ) where
+  module _ (path : List (List ℕ)) (prepared signature : List ℕ) where
     list_completes_moved : (r s : ResourceFields) → HoldSame r s → (octets : List ℕ) → CompletesListBelow asked at r.cert.fields prepared signature octets → CompletesListBelow asked at s.cert.fields prepared signature octets
     list_completes_moved r s same octets p =
         subst (λ (c : CertFields). CompletesListBelow asked at c.fields prepared signature octets) same.cert_is p
 
     -- what is completed below one
-    pub completes_as_moved : (checks : RevocationChecks) (other : Option ResourceFields) (issuer : Option (Bor ResourceFields)) (given : Made) → AreOneIssuer other (option_map (λ b. b.now) issuer) → CompletesAs asked checks at other prepared signature given → CompletesAs asked checks at (option_map (λ b. b.now) issuer) prepared signature given
+    pub completes_as_moved : (checks : RevocationChecks) (other : Option ResourceFields) (issuer : Option (Bor ResourceFields)) (given : Made) → AreOneIssuer other (option_map (λ b. b.now) issuer) → CompletesAs asked path checks at other prepared signature given → CompletesAs asked path checks at (option_map (λ b. b.now) issuer) prepared signature given
     completes_as_moved checks None None given same p = p
     completes_as_moved checks None (Some b) given same p = absurd same
     completes_as_moved checks (Some r) None given same p = absurd same
     completes_as_moved checks (Some r) (Some b) (made.ToSign octets) same p = p
-    completes_as_moved checks (Some r) (Some b) (made.Certificate octets) same p = completes_moved asked checks at prepared signature octets (Some r) (Some b) same p
+    completes_as_moved checks (Some r) (Some b) (made.Certificate octets) same p = completes_moved asked path checks at prepared signature octets (Some r) (Some b) same p
     completes_as_moved checks (Some r) (Some b) (made.RevocationList octets) same p = list_completes_moved r b.now same octets p
 
     -- where nothing is completed as a certificate, and what is to be signed is no list
-    pub none_as_certificate : (checks : RevocationChecks) → ((f : ListFields Revoked) → IsTbsCertList f prepared → ⊥) → (issuer : Option ResourceFields) → ((octets : List ℕ) → CompletesBelow asked checks at issuer prepared signature octets → ⊥) → (given : Made) → CompletesAs asked checks at issuer prepared signature given → ⊥
+    pub none_as_certificate : (checks : RevocationChecks) → ((f : ListFields Revoked) → IsTbsCertList f prepared → ⊥) → (issuer : Option ResourceFields) → ((octets : List ℕ) → CompletesBelow asked path checks at issuer prepared signature octets → ⊥) → (given : Made) → CompletesAs asked path checks at issuer prepared signature given → ⊥
     none_as_certificate checks no_list None none (made.ToSign octets) p = p
     none_as_certificate checks no_list (Some r) none (made.ToSign octets) p = p
     none_as_certificate checks no_list None none (made.Certificate octets) p = none octets p
@@ -83,13 +83,13 @@ module _ (asked : AskedFields) (at : Moment) where
 
     module _ (f : ListFields Revoked) (is : IsTbsCertList f prepared) where
       -- what is to be signed is a list, and no issuer is there
-      pub none_without : (checks : RevocationChecks) (given : Made) → CompletesAs asked checks at None prepared signature given → ⊥
+      pub none_without : (checks : RevocationChecks) (given : Made) → CompletesAs asked path checks at None prepared signature given → ⊥
       none_without checks (made.ToSign octets) p = p
       none_without checks (made.Certificate octets) p = data_apart f p.fields prepared is p.fields_are.is_data
       none_without checks (made.RevocationList octets) p = p
 
       -- or nothing is completed as one
-      pub none_as_list : (checks : RevocationChecks) (r : ResourceFields) → ((octets : List ℕ) → CompletesListBelow asked at r.cert.fields prepared signature octets → ⊥) → (given : Made) → CompletesAs asked checks at (Some r) prepared signature given → ⊥
+      pub none_as_list : (checks : RevocationChecks) (r : ResourceFields) → ((octets : List ℕ) → CompletesListBelow asked at r.cert.fields prepared signature octets → ⊥) → (given : Made) → CompletesAs asked path checks at (Some r) prepared signature given → ⊥
       none_as_list checks r none (made.ToSign octets) p = p
       none_as_list checks r none (made.Certificate octets) p = data_apart f p.fields prepared is p.fields_are.is_data
       none_as_list checks r none (made.RevocationList octets) p = none octets p

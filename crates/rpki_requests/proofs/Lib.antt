@@ -1,4 +1,5 @@
 -- Lemmas of the proofs about requests.
+mod AcceptedFiles
 mod AddedFiles
 mod AskedLists
 mod AskedSources

@@ -56,8 +56,8 @@ pub one_completed : (issuer : Option ResourceFields) (f : TbsFields) (a b : Kind
 one_completed None f a b p q = p ∙ sym q
 one_completed (Some issuer) f a b p q = says_one f a b p q
 
-pub same_completed : (issuer : Option ResourceFields) (checks : RevocationChecks) (at : Moment) (strict : Bool) (signature octets : List ℕ) (a b : Kind) (f g : TbsFields) (prepared given : List ℕ) → a ≡ b → f ≡ g → prepared ≡ given → IsCompleted a issuer checks at strict f prepared signature octets → IsCompleted b issuer checks at strict g given signature octets
-same_completed issuer checks at strict signature octets a b f g prepared given kinds fields files p =
-    subst (λ (k : Kind). IsCompleted k issuer checks at strict g given signature octets) kinds
-    (subst (λ (h : TbsFields). IsCompleted a issuer checks at strict h given signature octets) fields
-    (subst (λ (l : List ℕ). IsCompleted a issuer checks at strict f l signature octets) files p))
+pub same_completed : (issuer : Option ResourceFields) (path : List (List ℕ)) (checks : RevocationChecks) (at : Moment) (strict : Bool) (signature octets : List ℕ) (a b : Kind) (f g : TbsFields) (prepared given : List ℕ) → a ≡ b → f ≡ g → prepared ≡ given → IsCompleted a issuer path checks at strict f prepared signature octets → IsCompleted b issuer path checks at strict g given signature octets
+same_completed issuer path checks at strict signature octets a b f g prepared given kinds fields files p =
+    subst (λ (k : Kind). IsCompleted k issuer path checks at strict g given signature octets) kinds
+    (subst (λ (h : TbsFields). IsCompleted a issuer path checks at strict h given signature octets) fields
+    (subst (λ (l : List ℕ). IsCompleted a issuer path checks at strict f l signature octets) files p))

@@ -1,12 +1,10 @@
 -- What is prepared or completed below an issuer is so below each that has its certificate and holds
 -- its numbers.
 use Rattle.std.specs.Prelude.{option_map}
-use Rattle.std.proofs.Common.{◌≡◌, ◌≢◌, ℕ, Bool, List, [], ◌∷◌, Bor, Option, Some, None, refl, sym, ap, subst, ◌∙◌}
+use Rattle.std.proofs.Common.{◌≡◌, ℕ, Bool, List, [], ◌∷◌, Bor, Option, Some, None, refl, sym, ap, subst, ◌∙◌}
 use Rattle.rpki_cert.specs.Certificates.{TbsFields, CertFields, encoding}
 use Rattle.rpki_cert.specs.declared.inspect.Kind.{Kind}
-use Rattle.rpki_cert.specs.declared.inspect.Kind.TheVariants as kinds
 use Rattle.rpki_issuing.specs.Acceptance.{IsUnrevokedIn}
-use Rattle.rpki_issuing.specs.IssuingRules.{HasOwnKey, KeepsRules}
 use Rattle.rpki_issuing.specs.Readiness.{IsReady, but_signature, signed_with, unsigned}
 use Rattle.rpki_path.specs.Asking.{RevocationChecks, IsUnrevokedBy}
 use Rattle.rpki_issuing.specs.declared.role.Role.{Role}
@@ -104,19 +102,9 @@ module _ (r : ResourceFields) (issuer : Bor ResourceFields) (same : HoldSame r i
     ready_moved (Detached a) is h = record { fields_are = h.fields_are; short = h.short; valid = record { meets = h.valid.meets; checks = checks_moved (but_signature at strict) a.now issuer.now (same_as a.now is) (unsigned f) issued_checks h.valid.checks } }
     ready_moved (Router a) is h = record { fields_are = h.fields_are; short = h.short; valid = record { meets = h.valid.meets; checks = checks_moved (but_signature at strict) a.now issuer.now (same_as a.now is) (unsigned f) router_checks h.valid.checks } }
 
-    own_moved : (kind : Kind) → HasOwnKey kind (Some r) f → HasOwnKey kind (Some issuer.now) f
-    own_moved kinds.Authority own = subst (λ (c : CertFields). f.extensions.subject_key_identifier ≢ c.fields.extensions.subject_key_identifier) same.cert_is own
-    own_moved kinds.Anchor own = own
-    own_moved kinds.EndEntity own = own
-    own_moved kinds.Detached own = own
-    own_moved kinds.Router own = own
-
-    rules_moved : (kind : Kind) → KeepsRules kind (Some r) f → KeepsRules kind (Some issuer.now) f
-    rules_moved kind h = (h.0, (h.1.0, (own_moved kind h.1.1.0, tt)))
-
-    prepared_moved : (kind : Kind) (checks : RevocationChecks) (octets : List ℕ) → IsPrepared kind (Some r) checks at strict f octets → IsPrepared kind (Some issuer.now) checks at strict f octets
-    prepared_moved kind checks octets p = record {
-      rules = rules_moved kind p.rules;
+    prepared_moved : (kind : Kind) (path : List (List ℕ)) (checks : RevocationChecks) (octets : List ℕ) → IsPrepared kind (Some r) path checks at strict f octets → IsPrepared kind (Some issuer.now) path checks at strict f octets
+    prepared_moved kind path checks octets p = record {
+      rules = p.rules;
       unrevoked = unrevoked_moved checks (unsigned f) p.unrevoked;
       role = moved p.role issuer;
       role_is = record { kind_is = kind_moved p.role issuer ∙ p.role_is.kind_is; issuer_is = issuer_moved p.role p.role_is.issuer_is };
@@ -124,9 +112,9 @@ module _ (r : ResourceFields) (issuer : Bor ResourceFields) (same : HoldSame r i
       octets_are = p.octets_are;
     }
 
-    completed_moved : (kind : Kind) (checks : RevocationChecks) (prepared signature octets : List ℕ) → IsCompleted kind (Some r) checks at strict f prepared signature octets → IsCompleted kind (Some issuer.now) checks at strict f prepared signature octets
-    completed_moved kind checks prepared signature octets p = record {
-      rules = rules_moved kind p.rules;
+    completed_moved : (kind : Kind) (path : List (List ℕ)) (checks : RevocationChecks) (prepared signature octets : List ℕ) → IsCompleted kind (Some r) path checks at strict f prepared signature octets → IsCompleted kind (Some issuer.now) path checks at strict f prepared signature octets
+    completed_moved kind path checks prepared signature octets p = record {
+      rules = p.rules;
       unrevoked = unrevoked_moved checks (signed_with f signature) p.unrevoked;
       role = moved p.role issuer;
       role_is = record { kind_is = kind_moved p.role issuer ∙ p.role_is.kind_is; issuer_is = issuer_moved p.role p.role_is.issuer_is };
@@ -142,9 +130,9 @@ module _ (r : ResourceFields) (issuer : Bor ResourceFields) (same : HoldSame r i
 
 -- ---- requests
 
-module _ (asked : AskedFields) (checks : RevocationChecks) (at : Moment) where
+module _ (asked : AskedFields) (path : List (List ℕ)) (checks : RevocationChecks) (at : Moment) where
   -- what is prepared below one issuer
-  pub prepares_moved : (kind : Kind) (keys : List (List ℕ)) (octets : List ℕ) (other : Option ResourceFields) (issuer : Option (Bor ResourceFields)) → AreOneIssuer other (option_map (λ b. b.now) issuer) → PreparesBelow kind asked keys checks at other octets → PreparesBelow kind asked keys checks at (option_map (λ b. b.now) issuer) octets
+  pub prepares_moved : (kind : Kind) (keys : List (List ℕ)) (octets : List ℕ) (other : Option ResourceFields) (issuer : Option (Bor ResourceFields)) → AreOneIssuer other (option_map (λ b. b.now) issuer) → PreparesBelow kind asked keys path checks at other octets → PreparesBelow kind asked keys path checks at (option_map (λ b. b.now) issuer) octets
   prepares_moved kind keys octets None None same p = p
   prepares_moved kind keys octets None (Some b) same p = absurd same
   prepares_moved kind keys octets (Some r) None same p = absurd same
@@ -158,11 +146,11 @@ module _ (asked : AskedFields) (checks : RevocationChecks) (at : Moment) where
       named = p.asks.named;
       fields_are = p.asks.fields_are ∙ ap (λ (above : Option TbsFields). fields_asked kind asked.trims p.asks.wanted above p.asks.key) (fields_moved r b same);
     };
-    prepared = prepared_moved r b same at asked.strict p.fields kind checks octets p.prepared;
+    prepared = prepared_moved r b same at asked.strict p.fields kind path checks octets p.prepared;
   }
 
   -- what is completed below one
-  pub completes_moved : (prepared signature octets : List ℕ) (other : Option ResourceFields) (issuer : Option (Bor ResourceFields)) → AreOneIssuer other (option_map (λ b. b.now) issuer) → CompletesBelow asked checks at other prepared signature octets → CompletesBelow asked checks at (option_map (λ b. b.now) issuer) prepared signature octets
+  pub completes_moved : (prepared signature octets : List ℕ) (other : Option ResourceFields) (issuer : Option (Bor ResourceFields)) → AreOneIssuer other (option_map (λ b. b.now) issuer) → CompletesBelow asked path checks at other prepared signature octets → CompletesBelow asked path checks at (option_map (λ b. b.now) issuer) prepared signature octets
   completes_moved prepared signature octets None None same p = p
   completes_moved prepared signature octets None (Some b) same p = absurd same
   completes_moved prepared signature octets (Some r) None same p = absurd same
@@ -172,5 +160,5 @@ module _ (asked : AskedFields) (checks : RevocationChecks) (at : Moment) where
     named = p.named ∙ ap (λ (above : Option TbsFields). issuer_name above p.fields.subject) (fields_moved r b same);
     kind = p.kind;
     kind_is = p.kind_is;
-    completed = completed_moved r b same at asked.strict p.fields p.kind checks prepared signature octets p.completed;
+    completed = completed_moved r b same at asked.strict p.fields p.kind path checks prepared signature octets p.completed;
   }

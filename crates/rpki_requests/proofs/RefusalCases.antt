@@ -5,13 +5,15 @@ use Rattle.rpki_cert.specs.Certificates.{TbsFields}
 use Rattle.rpki_cert.specs.declared.inspect.Kind.{Kind}
 use Rattle.rpki_der.specs.Times.{Moment}
 use Rattle.rpki_issuing.specs.declared.wanted.preparing.WantedError.{WantedError}
-use Rattle.rpki_requests.specs.RefusedErrands.{IsAskedListFault, IsFieldsFault, MayNotFollow}
+use Rattle.rpki_requests.specs.RefusedErrands.{IsAskedListFault, IsFieldsFault, IsSoAs, MayNotFollow}
 use Rattle.rpki_requests.specs.Refusals.{AnswersOnly, AnswersOnlyBy, IsPathless}
 use Rattle.rpki_requests.specs.RequestFiles.{InputFields}
-use Rattle.rpki_requests.specs.RequestWords.{GivenFields}
+use Rattle.rpki_requests.specs.RequestWords.{AskedFields, GivenFields}
 use Rattle.rpki_requests.specs.ToldRefusals.{IsDataFault, IsKeyFault, IsUnfit, IsUnsaid, IsValueOf, HasListValue, HasValue}
 use Rattle.rpki_requests.specs.declared.refusals.Refusal.{Refusal}
 use Rattle.rpki_requests.specs.declared.refusals.Refusal.TheVariants.{Value, NoKey, UnusedKey, Rejected, NoAuthority, OtherCrl, NoIssuer, OtherList, OtherCertificate, NoName, Files, NotToSign, OtherName, Unfit, Memory}
+use Rattle.rpki_requests.specs.declared.words.Errand.{Errand}
+use Rattle.rpki_requests.specs.declared.words.Errand.TheVariants as errand
 use Rattle.rpki_requests.specs.declared.words.Setting.{Setting}
 
 -- unless memory ran out, it is that
@@ -147,3 +149,13 @@ unfit_so Is error why (inl memory) is = inl memory
 unfit_so Is error why (inr unfit) is =
     let known : why ≢ Memory = λ memory. let both : Unfit error ≡ Memory = sym unfit ∙ memory in cc in
     inr (error, unfit, is known)
+
+-- that memory ran out is so whatever is asked
+pub memory_so : (e : Errand) (asked : AskedFields) (inputs : InputFields) (at : Moment) → IsSoAs e asked inputs at Memory
+memory_so errand.Authority asked inputs at = inl tt
+memory_so errand.EndEntity asked inputs at = inl tt
+memory_so errand.Detached asked inputs at = inl tt
+memory_so errand.Router asked inputs at = inl tt
+memory_so errand.Anchor asked inputs at = inl tt
+memory_so errand.RevocationList asked inputs at = inl tt
+memory_so errand.Completion asked inputs at = inr (inl tt)

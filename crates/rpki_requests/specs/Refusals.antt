@@ -103,7 +103,8 @@ abbrev pub rule_text : IssuingRule → List ℕ
 rule_text ZeroSerial = codes "the serial number is 0, expected a positive one (RFC 6487 4.2)"
 rule_text EarlyValidity =
     codes "the validity starts before 1950, expected 1950 or later (RFC 5280 4.1.2.5)"
-rule_text IssuerKey = codes "the CA has its issuer's key, expected a key of its own (own rule)"
+rule_text IssuerKey =
+    codes "the CA has the key of a CA above it, expected a key of its own (own rule)"
 
 abbrev pub wanted_text : WantedError → List ℕ
 wanted_text wanted.NoRole = codes "a trust anchor has no issuer, and other certificates have one"

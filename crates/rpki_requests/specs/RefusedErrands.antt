@@ -44,27 +44,27 @@ IsFieldsFault kind given keys why =
     IsOption given why
     ⊎ (IsKeyFault keys why ⊎ ((why ≡ NoName) × HasNoName kind given keys))
 
--- the fields that are asked for aren't ready below this issuer, for this
-pub record AreUnready (kind : Kind) (asked : AskedFields) (keys : List (List ℕ))
+-- the fields that are asked for aren't ready below this issuer, the last of this path, for this
+pub record AreUnready (kind : Kind) (asked : AskedFields) (keys path : List (List ℕ))
     (checks : RevocationChecks) (at : Moment) (issuer : Option ResourceFields)
     (e : WantedError) : Type 0 where
   pub fields : TbsFields
   pub asks : AsksFields kind asked keys issuer fields
-  pub unprepared : IsUnprepared kind issuer checks at asked.strict fields e
+  pub unprepared : IsUnprepared kind issuer path checks at asked.strict fields e
 
 -- what it says of the certificate of this kind below this issuer is so
-abbrev pub IsSoOfCertificate : Kind → AskedFields → List (List ℕ) → RevocationChecks → Moment
-    → Option ResourceFields → Refusal → Type 0
-IsSoOfCertificate kind asked keys checks at issuer why =
+abbrev pub IsSoOfCertificate : Kind → AskedFields → List (List ℕ) → List (List ℕ)
+    → RevocationChecks → Moment → Option ResourceFields → Refusal → Type 0
+IsSoOfCertificate kind asked keys path checks at issuer why =
     IsFieldsFault kind asked.given keys why
-    ⊎ IsUnfit (AreUnready kind asked keys checks at issuer) why
+    ⊎ IsUnfit (AreUnready kind asked keys path checks at issuer) why
 
 -- it speaks of the issuer's path; or of the certificate below the issuer that this is, and is so
 abbrev pub IsSoOfPrepared : Kind → AskedFields → InputFields → Moment → Refusal → Type 0
 IsSoOfPrepared kind asked inputs at why =
     IsOfPath why
     ⊎ IsBelow asked inputs at (λ issuer. IsSoAsked (context_of asked at) inputs.lists
-    (λ checks. IsSoOfCertificate kind asked inputs.keys checks at issuer why))
+    (λ checks. IsSoOfCertificate kind asked inputs.keys inputs.issuers checks at issuer why))
 
 -- ---- a list is prepared
 
@@ -127,23 +127,25 @@ pub record IsNamedOtherwise (issuer : Option ResourceFields) (prepared : List �
   pub fields_are : IsToSign fields prepared
   pub unnamed : IsNamed issuer fields → ⊥
 
--- they are one, which isn't completed by this signature below this issuer, for this
-pub record IsUnmade (asked : AskedFields) (checks : RevocationChecks) (at : Moment)
-    (issuer : Option ResourceFields) (prepared signature : List ℕ) (e : WantedError) : Type 0 where
+-- they are one, which isn't completed by this signature below this issuer, the last of this path,
+-- for this
+pub record IsUnmade (asked : AskedFields) (path : List (List ℕ)) (checks : RevocationChecks)
+    (at : Moment) (issuer : Option ResourceFields) (prepared signature : List ℕ)
+    (e : WantedError) : Type 0 where
   pub fields : TbsFields
   pub fields_are : IsToSign fields prepared
   pub named : IsNamed issuer fields
   pub kind : Kind
   pub kind_is : IsCompletedAs issuer fields kind
-  pub uncompleted : IsUncompleted kind issuer checks at asked.strict fields prepared signature e
+  pub uncompleted : IsUncompleted kind issuer path checks at asked.strict fields prepared signature e
 
 -- what it says of the certificate that is completed below this issuer is so
-abbrev pub IsSoOfMade : AskedFields → RevocationChecks → Moment → Option ResourceFields → List ℕ
-    → List ℕ → Refusal → Type 0
-IsSoOfMade asked checks at issuer prepared signature why =
+abbrev pub IsSoOfMade : AskedFields → List (List ℕ) → RevocationChecks → Moment
+    → Option ResourceFields → List ℕ → List ℕ → Refusal → Type 0
+IsSoOfMade asked path checks at issuer prepared signature why =
     IsDataFault prepared why
     ⊎ (((why ≡ OtherName (name_place issuer)) × IsNamedOtherwise issuer prepared)
-    ⊎ IsUnfit (IsUnmade asked checks at issuer prepared signature) why)
+    ⊎ IsUnfit (IsUnmade asked path checks at issuer prepared signature) why)
 
 -- the octets are a TBSCertList, which isn't named as this issuer
 pub record IsListNamedOtherwise (issuer : TbsFields) (prepared : List ℕ) : Type 0 where
@@ -181,21 +183,21 @@ IsListData octets = (f : ListFields Revoked) × IsTbsCertList f octets
 
 -- memory ran out; or it speaks of the list that is to be completed; or there is none, and it speaks
 -- of the certificate
-abbrev pub IsSoOfEither : AskedFields → RevocationChecks → Moment → Option ResourceFields → List ℕ
-    → List ℕ → Refusal → Type 0
-IsSoOfEither asked checks at issuer prepared signature why =
+abbrev pub IsSoOfEither : AskedFields → List (List ℕ) → RevocationChecks → Moment
+    → Option ResourceFields → List ℕ → List ℕ → Refusal → Type 0
+IsSoOfEither asked path checks at issuer prepared signature why =
     (why ≡ Memory)
     ⊎ ((IsListData prepared × IsSoOfMadeList asked at issuer prepared signature why)
-    ⊎ ((IsListData prepared → ⊥) × IsSoOfMade asked checks at issuer prepared signature why))
+    ⊎ ((IsListData prepared → ⊥) × IsSoOfMade asked path checks at issuer prepared signature why))
 
 -- the files are two, and what it says of what they make below this issuer is so
-pub record IsSoOfFiles (asked : AskedFields) (lists : List (List ℕ)) (at : Moment)
-    (files : List (List ℕ)) (why : Refusal) (issuer : Option ResourceFields) : Type 0 where
+pub record IsSoOfFiles (asked : AskedFields) (inputs : InputFields) (at : Moment) (why : Refusal)
+    (issuer : Option ResourceFields) : Type 0 where
   pub prepared : List ℕ
   pub signature : List ℕ
-  pub files_are : files ≡ prepared ∷ signature ∷ []
-  pub either : IsSoAsked (context_of asked at) lists
-      (λ checks. IsSoOfEither asked checks at issuer prepared signature why)
+  pub files_are : inputs.files ≡ prepared ∷ signature ∷ []
+  pub either : IsSoAsked (context_of asked at) inputs.lists
+      (λ checks. IsSoOfEither asked inputs.issuers checks at issuer prepared signature why)
 
 -- there aren't two files
 abbrev pub AreNotTwo : List (List ℕ) → Type 0
@@ -206,7 +208,7 @@ AreNotTwo files = (prepared signature : List ℕ) → files ≡ prepared ∷ sig
 abbrev pub IsSoOfCompletion : AskedFields → InputFields → Moment → Refusal → Type 0
 IsSoOfCompletion asked inputs at why =
     ((why ≡ Files) × AreNotTwo inputs.files)
-    ⊎ (IsOfPath why ⊎ IsBelow asked inputs at (IsSoOfFiles asked inputs.lists at inputs.files why))
+    ⊎ (IsOfPath why ⊎ IsBelow asked inputs at (IsSoOfFiles asked inputs at why))
 
 -- ---- the whole
 

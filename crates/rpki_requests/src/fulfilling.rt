@@ -4,8 +4,8 @@ ghost use Rattle.rpki_files.specs.Files.{contents};
 ghost use Rattle.rpki_crl.specs.Lists.{IsTbsCertList};
 ghost use Rattle.rpki_cert.specs.Verification.{ResourceFields};
 ghost use Rattle.rpki_cert.specs.declared.inspect.Kind.{Kind as kinds};
-ghost use Rattle.rpki_issuing.specs.Acceptance.{IsAcceptedBelow, IsAnsweringList};
-ghost use Rattle.rpki_requests.specs.Fulfilment.{AsksFields, Completes, CompletesAs, CompletesBelow, CompletesListBelow, Fulfils, GivesToSign, IsAcceptedMade, IsAcceptedOf, Prepares, PreparesBelow, PreparesList, PreparesListBelow, context_of};
+ghost use Rattle.rpki_issuing.specs.Acceptance.{IsAnsweringList};
+ghost use Rattle.rpki_requests.specs.Fulfilment.{AsksFields, Completes, CompletesAs, CompletesBelow, CompletesListBelow, Fulfils, GivesToSign, IsAcceptedCertificate, IsAcceptedMade, IsAcceptedOf, Prepares, PreparesBelow, PreparesList, PreparesListBelow, context_of};
 ghost use Rattle.rpki_requests.specs.RequestFiles.{IsCompletedAs, IsIssuerOf, IsOnlyIssuer, IsSoAsked};
 ghost use Rattle.rpki_requests.specs.RequestWords.Views.{asked_fields};
 ghost use Rattle.rpki_requests.specs.Refusals.{AnswersOnly, IsPathless, TellsPath};
@@ -32,7 +32,7 @@ use rpki_issuing::wanted::{
 };
 use rpki_path::revocation::{GivenLists, NobodyAsked, RevocationSource};
 use rpki_verdicts::lists_of;
-use std::alloc::Global;
+use std::alloc::{AllocError, Global};
 use std::marker::Model;
 
 /// The files that a request names, as they were read: those of the issuer's path, from the trust
@@ -121,6 +121,7 @@ fn prepared_below<R: RevocationSource>(
     order: &Order<'_>,
     kind: Kind,
     keys: &[Object<'_>],
+    path: &[Bytes],
     issuer: Option<&ResourceCert>,
     source: &R,
     at: Time,
@@ -128,20 +129,20 @@ fn prepared_below<R: RevocationSource>(
     ensures prepared { let issuer = option_map (λ r. r.now) issuer.entry in
         let asked = asked_fields order.now in
         let checks = R.asks source.now (context_of asked at) in
-        IfOk result (PreparesBelow kind asked (contents keys.now) checks at issuer) }
+        IfOk result (PreparesBelow kind asked (contents keys.now) path.now checks at issuer) }
     ensures refused { let issuer = option_map (λ r. r.now) issuer.entry in
         let asked = asked_fields order.now in
         let checks = R.asks source.now (context_of asked at) in
         IfErr result (λ why. why ≢ Memory → (octets : List ℕ)
-        → PreparesBelow kind asked (contents keys.now) checks at issuer octets → ⊥) }
+        → PreparesBelow kind asked (contents keys.now) path.now checks at issuer octets → ⊥) }
     ensures pathless { IfErr result IsPathless }
     ensures so { let issuer = option_map (λ r. r.now) issuer.entry in
         let asked = asked_fields order.now in
         let checks = R.asks source.now (context_of asked at) in
-        IfErr result (IsSoOfCertificate kind asked (contents keys.now) checks at issuer) }
+        IfErr result (IsSoOfCertificate kind asked (contents keys.now) path.now checks at issuer) }
 {
     let tbs = fields_of(alloc, order, kind, keys, issuer)?;
-    let octets = prepare_octets(alloc, &tbs, kind, issuer, source, order.strict, at);
+    let octets = prepare_octets(alloc, &tbs, kind, issuer, path, source, order.strict, at);
     drop(tbs);
     match octets {
         Ok(octets) => Ok(octets),
@@ -155,6 +156,7 @@ fn prepared_asking(
     order: &Order<'_>,
     kind: Kind,
     keys: &[Object<'_>],
+    path: &[Bytes],
     issuer: Option<&ResourceCert>,
     lists: &[Object<'_>],
     at: Time,
@@ -163,30 +165,30 @@ fn prepared_asking(
         let asked = asked_fields order.now in
         let keys = contents keys.now in
         IfOk result (λ octets. IsSoAsked (context_of asked at) (contents lists.now)
-        (λ checks. PreparesBelow kind asked keys checks at issuer octets)) }
+        (λ checks. PreparesBelow kind asked keys path.now checks at issuer octets)) }
     ensures refused { let issuer = option_map (λ r. r.now) issuer.entry in
         let asked = asked_fields order.now in
         let keys = contents keys.now in
         IfErr result (λ why. why ≢ Memory → (octets : List ℕ)
         → IsSoAsked (context_of asked at) (contents lists.now)
-        (λ checks. PreparesBelow kind asked keys checks at issuer octets) → ⊥) }
+        (λ checks. PreparesBelow kind asked keys path.now checks at issuer octets) → ⊥) }
     ensures pathless { IfErr result IsPathless }
     ensures so { let issuer = option_map (λ r. r.now) issuer.entry in
         let asked = asked_fields order.now in
         let keys = contents keys.now in
         IfErr result (λ why. (why ≡ Memory)
         ⊎ IsSoAsked (context_of asked at) (contents lists.now)
-        (λ checks. IsSoOfCertificate kind asked keys checks at issuer why)) }
+        (λ checks. IsSoOfCertificate kind asked keys path.now checks at issuer why)) }
 {
     if lists.is_empty() {
-        return prepared_below(alloc, order, kind, keys, issuer, &NobodyAsked, at);
+        return prepared_below(alloc, order, kind, keys, path, issuer, &NobodyAsked, at);
     }
     // Called for what they ensure alone.
     rpki_cert::laws::unambiguous();
     laws::unambiguous();
     let read = lists_of(alloc, lists)?;
     let given = GivenLists::with_names(&read, true);
-    let octets = prepared_below(alloc, order, kind, keys, issuer, &given, at);
+    let octets = prepared_below(alloc, order, kind, keys, path, issuer, &given, at);
     drop(read);
     octets
 }
@@ -218,8 +220,10 @@ fn prepared(
     order: &Order<'_>,
     kind: Kind,
     inputs: &Inputs<'_, '_>,
+    path: &[Bytes],
     at: Time,
 ) -> Result<Made, Refusal>
+    requires { path.now ≡ inputs.now.issuers }
     ensures prepared { let asked = asked_fields order.now in
         IfOk result (GivesToSign (Prepares kind asked inputs.now at)) }
     ensures refused { let asked = asked_fields order.now in
@@ -236,6 +240,7 @@ fn prepared(
         order,
         kind,
         inputs.keys,
+        path,
         issuer.as_ref(),
         inputs.lists,
         at,
@@ -321,6 +326,7 @@ fn named_otherwise(issuer: Option<&ResourceCert>) -> Refusal
 fn completed_below<R: RevocationSource>(
     alloc: Global,
     order: &Order<'_>,
+    path: &[Bytes],
     issuer: Option<&ResourceCert>,
     source: &R,
     prepared: &Bytes,
@@ -330,21 +336,21 @@ fn completed_below<R: RevocationSource>(
     ensures completed { let issuer = option_map (λ r. r.now) issuer.entry in
         let asked = asked_fields order.now in
         let checks = R.asks source.now (context_of asked at) in
-        IfOk result (CompletesBelow asked checks at issuer prepared.now signature.now) }
+        IfOk result (CompletesBelow asked path.now checks at issuer prepared.now signature.now) }
     ensures accepted { let issuer = option_map (λ r. r.now) issuer.entry in
         let x = context_of (asked_fields order.now) at in
         IfOk result (λ octets. (kind : kinds)
-        × IsAcceptedBelow x (R.asks source.now x) kind issuer octets) }
+        × IsAcceptedCertificate x (R.asks source.now x) issuer kind octets) }
     ensures refused { let issuer = option_map (λ r. r.now) issuer.entry in
         let asked = asked_fields order.now in
         let checks = R.asks source.now (context_of asked at) in
         IfErr result (λ why. why ≢ Memory → (octets : List ℕ)
-        → CompletesBelow asked checks at issuer prepared.now signature.now octets → ⊥) }
+        → CompletesBelow asked path.now checks at issuer prepared.now signature.now octets → ⊥) }
     ensures pathless { IfErr result IsPathless }
     ensures so { let issuer = option_map (λ r. r.now) issuer.entry in
         let asked = asked_fields order.now in
         let checks = R.asks source.now (context_of asked at) in
-        IfErr result (IsSoOfMade asked checks at issuer prepared.now signature.now) }
+        IfErr result (IsSoOfMade asked path.now checks at issuer prepared.now signature.now) }
 {
     let tbs = to_sign(alloc, prepared)?;
     if !is_named(&tbs, issuer) {
@@ -354,7 +360,7 @@ fn completed_below<R: RevocationSource>(
     let kind = completed_as(&tbs, issuer);
     let strict = order.strict;
     let octets = complete_octets(
-        alloc, &tbs, prepared, signature, kind, issuer, source, strict, at,
+        alloc, &tbs, prepared, signature, kind, issuer, path, source, strict, at,
     );
     drop(tbs);
     match octets {
@@ -410,6 +416,7 @@ fn list_completed_below(
 fn made_below<R: RevocationSource>(
     alloc: Global,
     order: &Order<'_>,
+    path: &[Bytes],
     issuer: Option<&ResourceCert>,
     source: &R,
     prepared: &Bytes,
@@ -419,7 +426,7 @@ fn made_below<R: RevocationSource>(
     ensures completed { let issuer = option_map (λ r. r.now) issuer.entry in
         let asked = asked_fields order.now in
         let checks = R.asks source.now (context_of asked at) in
-        IfOk result (CompletesAs asked checks at issuer prepared.now signature.now) }
+        IfOk result (CompletesAs asked path.now checks at issuer prepared.now signature.now) }
     ensures accepted { let issuer = option_map (λ r. r.now) issuer.entry in
         let x = context_of (asked_fields order.now) at in
         IfOk result (IsAcceptedMade x (R.asks source.now x) issuer) }
@@ -427,15 +434,15 @@ fn made_below<R: RevocationSource>(
         let asked = asked_fields order.now in
         let checks = R.asks source.now (context_of asked at) in
         IfErr result (λ why. why ≢ Memory → (given : Made)
-        → CompletesAs asked checks at issuer prepared.now signature.now given → ⊥) }
+        → CompletesAs asked path.now checks at issuer prepared.now signature.now given → ⊥) }
     ensures pathless { IfErr result IsPathless }
     ensures so { let issuer = option_map (λ r. r.now) issuer.entry in
         let asked = asked_fields order.now in
         let checks = R.asks source.now (context_of asked at) in
-        IfErr result (IsSoOfEither asked checks at issuer prepared.now signature.now) }
+        IfErr result (IsSoOfEither asked path.now checks at issuer prepared.now signature.now) }
 {
     let Some(list) = list_to_sign(alloc, prepared)? else {
-        let octets = completed_below(alloc, order, issuer, source, prepared, signature, at)?;
+        let octets = completed_below(alloc, order, path, issuer, source, prepared, signature, at)?;
         return Ok(Made::Certificate(octets));
     };
     let Some(issuer) = issuer else {
@@ -451,6 +458,7 @@ fn made_below<R: RevocationSource>(
 fn made_asking(
     alloc: Global,
     order: &Order<'_>,
+    path: &[Bytes],
     issuer: Option<&ResourceCert>,
     lists: &[Object<'_>],
     prepared: &Bytes,
@@ -460,7 +468,7 @@ fn made_asking(
     ensures completed { let issuer = option_map (λ r. r.now) issuer.entry in
         let asked = asked_fields order.now in
         IfOk result (λ given. IsSoAsked (context_of asked at) (contents lists.now)
-        (λ checks. CompletesAs asked checks at issuer prepared.now signature.now given)) }
+        (λ checks. CompletesAs asked path.now checks at issuer prepared.now signature.now given)) }
     ensures accepted { let issuer = option_map (λ r. r.now) issuer.entry in
         let x = context_of (asked_fields order.now) at in
         IfOk result (λ given. IsSoAsked x (contents lists.now)
@@ -469,23 +477,32 @@ fn made_asking(
         let asked = asked_fields order.now in
         IfErr result (λ why. why ≢ Memory → (given : Made)
         → IsSoAsked (context_of asked at) (contents lists.now)
-        (λ checks. CompletesAs asked checks at issuer prepared.now signature.now given) → ⊥) }
+        (λ checks. CompletesAs asked path.now checks at issuer prepared.now signature.now given) → ⊥) }
     ensures pathless { IfErr result IsPathless }
     ensures so { let issuer = option_map (λ r. r.now) issuer.entry in
         let asked = asked_fields order.now in
         IfErr result (λ why. (why ≡ Memory)
         ⊎ IsSoAsked (context_of asked at) (contents lists.now)
-        (λ checks. IsSoOfEither asked checks at issuer prepared.now signature.now why)) }
+        (λ checks. IsSoOfEither asked path.now checks at issuer prepared.now signature.now why)) }
 {
     if lists.is_empty() {
-        return made_below(alloc, order, issuer, &NobodyAsked, prepared, signature, at);
+        return made_below(
+            alloc,
+            order,
+            path,
+            issuer,
+            &NobodyAsked,
+            prepared,
+            signature,
+            at,
+        );
     }
     // Called for what they ensure alone.
     rpki_cert::laws::unambiguous();
     laws::unambiguous();
     let read = lists_of(alloc, lists)?;
     let given = GivenLists::with_names(&read, true);
-    let made = made_below(alloc, order, issuer, &given, prepared, signature, at);
+    let made = made_below(alloc, order, path, issuer, &given, prepared, signature, at);
     drop(read);
     made
 }
@@ -507,8 +524,10 @@ fn completed(
     alloc: Global,
     order: &Order<'_>,
     inputs: &Inputs<'_, '_>,
+    path: &[Bytes],
     at: Time,
 ) -> Result<Made, Refusal>
+    requires { path.now ≡ inputs.now.issuers }
     ensures completed { IfOk result (Completes (asked_fields order.now) inputs.now at) }
     ensures accepted { IfOk result (IsAcceptedOf (asked_fields order.now) inputs.now at) }
     ensures refused { IfErr result (λ why. why ≢ Memory → (given : Made)
@@ -518,6 +537,9 @@ fn completed(
     ensures so { let asked = asked_fields order.now in
         IfErr result (IsSoOfCompletion asked inputs.now at) }
 {
+    // Called for what they ensure alone.
+    rpki_cert::laws::unambiguous();
+    laws::unambiguous();
     let Some((prepared, signature)) = two_files(inputs.files) else {
         return Err(Refusal::Files);
     };
@@ -525,6 +547,7 @@ fn completed(
     let made = made_asking(
         alloc,
         order,
+        path,
         issuer.as_ref(),
         inputs.lists,
         prepared,
@@ -535,10 +558,51 @@ fn completed(
     made
 }
 
+// The octets of files.
+fn octets_of(alloc: Global, files: &[Object<'_>]) -> Result<Vec<Bytes>, AllocError>
+    ensures { IfOk result (λ all. all.items ≡ contents files.now) }
+{
+    let mut all = Vec::new(alloc);
+    for file in files {
+        let octets = file.octets().clone()?;
+        all.push(octets)?;
+    }
+    Ok(all)
+}
+
+// What a request makes below the issuer's path, whose certificates are in these octets.
+fn made_of(
+    alloc: Global,
+    order: &Order<'_>,
+    inputs: &Inputs<'_, '_>,
+    path: &[Bytes],
+    at: Time,
+) -> Result<Made, Refusal>
+    requires { path.now ≡ inputs.now.issuers }
+    ensures fulfilled { IfOk result (Fulfils (asked_fields order.now) inputs.now at) }
+    ensures accepted { (asked_fields order.now).errand ≡ Completion
+        → IfOk result (IsAcceptedOf (asked_fields order.now) inputs.now at) }
+    ensures refused { IfErr result (λ why. why ≢ Memory → (given : Made)
+        → Fulfils (asked_fields order.now) inputs.now at given → ⊥) }
+    ensures told { let x = context_of (asked_fields order.now) at in
+        IfErr result (TellsPath x inputs.now.issuers inputs.now.lists) }
+    ensures so { IfErr result (IsSoOf (asked_fields order.now) inputs.now at) }
+{
+    match order.errand {
+        Errand::Authority => prepared(alloc, order, Kind::Authority, inputs, path, at),
+        Errand::EndEntity => prepared(alloc, order, Kind::EndEntity, inputs, path, at),
+        Errand::Detached => prepared(alloc, order, Kind::Detached, inputs, path, at),
+        Errand::Router => prepared(alloc, order, Kind::Router, inputs, path, at),
+        Errand::Anchor => prepared(alloc, order, Kind::Anchor, inputs, path, at),
+        Errand::RevocationList => list_prepared(alloc, order, inputs, at),
+        Errand::Completion => completed(alloc, order, inputs, path, at),
+    }
+}
+
 /// Fulfils a request with the files that it names, at this time: prepares the to-be-signed bytes,
 /// or completes them with their signature. A completed certificate or CRL is accepted at this time
-/// with the same files: the certificate as the last of the issuer's path, the CRL as one that
-/// answers for its issuer (`accepted`).
+/// with the same files (`accepted`): the verdict on the issuer's path with the certificate behind
+/// it is that it is accepted, and the CRL answers for its issuer.
 ///
 /// # Errors
 ///
@@ -563,13 +627,8 @@ pub fn fulfil(
         IfErr result (TellsPath x inputs.now.issuers inputs.now.lists) }
     ensures so { IfErr result (IsSoOf (asked_fields order.now) inputs.now at) }
 {
-    match order.errand {
-        Errand::Authority => prepared(alloc, order, Kind::Authority, inputs, at),
-        Errand::EndEntity => prepared(alloc, order, Kind::EndEntity, inputs, at),
-        Errand::Detached => prepared(alloc, order, Kind::Detached, inputs, at),
-        Errand::Router => prepared(alloc, order, Kind::Router, inputs, at),
-        Errand::Anchor => prepared(alloc, order, Kind::Anchor, inputs, at),
-        Errand::RevocationList => list_prepared(alloc, order, inputs, at),
-        Errand::Completion => completed(alloc, order, inputs, at),
-    }
+    let path = octets_of(alloc, inputs.issuers)?;
+    let made = made_of(alloc, order, inputs, &path, at);
+    drop(path);
+    made
 }

@@ -145,7 +145,7 @@ fn write_rule<W: fmt::Write>(f: &mut fmt::Formatter<W>, rule: IssuingRule) -> fm
             "the validity starts before 1950, expected 1950 or later (RFC 5280 4.1.2.5)"
         }
         IssuingRule::IssuerKey => {
-            "the CA has its issuer's key, expected a key of its own (own rule)"
+            "the CA has the key of a CA above it, expected a key of its own (own rule)"
         }
     })
 }

@@ -1,6 +1,6 @@
 -- The path that the files are, by the kind of the last.
 use Rattle.std.specs.Prelude.{Option, Some, None, Result, Ok, Err, IfOk, MatchOption}
-use Rattle.std.proofs.Common.{◌≡◌, ◌≢◌, ◌+◌, ◌≤◌, ℕ, List, [], ◌∷◌, ◌++◌, length, refl, sym, ap, subst, ◌∙◌, inl, inr, arith}
+use Rattle.std.proofs.Common.{◌≡◌, ◌≢◌, ◌≤◌, ℕ, List, [], ◌∷◌, ◌++◌, length, refl, sym, ap, subst, ◌∙◌, inl, inr, arith}
 use Rattle.std.proofs.lemmas.List.{length-append, length-map, map-append, same_from_push}
 use Rattle.rpki_path.specs.AskedLists.{by_named_lists}
 use Rattle.rpki_path.specs.GivenPaths.{PathStrings, CanEndIn, IsSplitAs, path_to}

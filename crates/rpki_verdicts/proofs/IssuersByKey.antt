@@ -11,7 +11,7 @@ use Rattle.rpki_files.specs.Files.{FileFields}
 use Rattle.rpki_folder.specs.Folders.{NamesSigner}
 use Rattle.rpki_verdicts.specs.Searches.{HasKeyNamed}
 use Rattle.rpki_verdicts.specs.TreeParts.{files_of}
-use Rattle.rpki_verdicts.specs.UnseenCertificates.{AreIssuers, HasKeyIn, IsIssuerAmong, IsIssuerOf, StandsBetter, standing}
+use Rattle.rpki_verdicts.specs.UnseenCertificates.{HasKeyIn, IsIssuerAmong, IsIssuerOf, StandsBetter, standing}
 use Rattle.rpki_verdicts.specs.declared.parts.Trees.{Trees}
 
 module _ (trees : Trees) where

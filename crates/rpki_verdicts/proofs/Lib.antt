@@ -4,6 +4,7 @@ mod FiledFiles
 mod FilesAbove
 mod FirstItems
 mod FirstOfKeys
+mod FirstPaths
 mod FoundLocators
 mod GivenKinds
 mod IssuersByKey

@@ -1,10 +1,11 @@
 -- The path that is sought, file by file.
 use Rattle.std.specs.List.{AllByRecursion, cons_option}
 use Rattle.std.specs.Prelude.{All, Any, Option, Some, None, Ok, Err, IsFalse, IsTrue, Result, IsOk, slice_get, slice_index_or}
-use Rattle.std.proofs.Common.{◌≡◌, ◌<◌, ℕ, Bool, true, false, not, List, [], ◌∷◌, ◌++◌, length, refl, sym, ap, subst, ◌∙◌, inl, inr, arith}
-use Rattle.std.proofs.lemmas.List.{append_assoc}
+use Rattle.std.proofs.Common.{◌≡◌, ◌+◌, ◌<◌, ℕ, Bool, true, false, not, List, [], ◌∷◌, ◌++◌, length, map, refl, sym, ap, subst, ◌∙◌, inl, inr, arith}
+use Rattle.std.proofs.lemmas.List.{append_assoc, length-map}
 use Rattle.std.proofs.lemmas.List.Elements.{All-contains, All-from_recursion}
 use Rattle.std.proofs.lemmas.Option.{slice_get_within, get_or_from_slice_get}
+use Rattle.rpki_der.specs.Values.{IsUnambiguous}
 use Rattle.rpki_path.specs.AskedLists.{by_named_lists}
 use Rattle.rpki_path.specs.Asking.{RevocationChecks}
 use Rattle.rpki_folder.specs.declared.bounds.Ended.{Ended}
@@ -17,19 +18,21 @@ use Rattle.rpki_folder.specs.KeptLines.{AreLines, IsLine, IsRejectedWithin}
 use Rattle.rpki_folder.specs.declared.lines.Line.{Line}
 use Rattle.rpki_folder.specs.declared.lines.Line.TheVariants as line
 use Rattle.rpki_path.specs.declared.path_fault.PathFault.{PathFault}
-use Rattle.rpki_cert.specs.Certificates.{CertFields}
+use Rattle.rpki_cert.specs.Certificates.{CertFields, IsCertificate}
 use Rattle.rpki_cert.specs.Verification.{Context}
-use Rattle.rpki_folder.specs.Walks.{Root, IsAcceptedAs, IsLookedAt, IsReached, IsRight, IsRightOf, IsTold, Tells, Told, at_anchor, members_at}
+use Rattle.rpki_folder.specs.Walks.{Root, Covers, IsAcceptedAs, IsLookedAt, IsReached, IsRight, IsRightOf, IsTold, Tells, Told, at_anchor, members_at}
 use Rattle.rpki_folder.specs.declared.walk_error.WalkError.{WalkError}
 use Rattle.rpki_folder.proofs.KeptLineSteps.{told_so}
 use Rattle.rpki_folder.proofs.SearchSteps.{told_let_in}
+use Rattle.rpki_folder.specs.FirstPlaces.{IsFirstIn, first_of}
 use Rattle.rpki_folder.specs.Folders.{octets_at}
 use Rattle.rpki_files.specs.Contents.{BeginsWithCertificate}
 use Rattle.rpki_files.specs.Files.{FileFields, contents}
 use Rattle.rpki_verdicts.specs.Searches.{DeniesFirst, DoesNotReach, HasNoValidIn, HasNoValidPath, IsAcceptedIn, IsNamedAmong, IsNamedIn, IsSoughtPath, alone, no_anchor, valid, invalid, IsTreeWith, IsUnanchored, IsValidAmong, IsValidPathTo, Leads, StandsAlone, above_by, files_at, first_wrong}
 use Rattle.rpki_verdicts.specs.GivenLocators.{LocatorFields}
 use Rattle.rpki_verdicts.specs.TreeParts.{AreTreesOf, IsPartOf, of_locator, worst_end, wrong_of}
-use Rattle.rpki_verdicts.specs.Trees.{AreCertificatesOf, IsTreeAnswer, IsTreeOf, TreeFields, certs_of, every}
+use Rattle.rpki_verdicts.specs.Trees.{AreCertificatesOf, IsTreeAnswer, IsTreeOf, TreeFields, certs_of, line_at}
+use Rattle.rpki_verdicts.proofs.FirstPaths.{first_zero, let_in_all, looked_first, reached_first}
 use Rattle.rpki_verdicts.proofs.ReachedFiles.{reached_files}
 use Rattle.rpki_verdicts.specs.declared.unordered.Tree.{Tree}
 use Rattle.rpki_verdicts.specs.declared.parts.Trees.{Trees}
@@ -109,32 +112,49 @@ line_kept ts lines place are l is =
 
 -- ---- the path
 
-module _ (x : Context) (q : TreeFields) (file : FileFields) (tree : Tree) (is : IsTreeWith x q file tree) where
-  kept_first : (l : Line) → slice_get tree.lines 0 ≡ Some l → IsLine is.grown.told 0 l
-  kept_first = line_kept is.grown.told tree.lines 0 is.grown.lines_are
+module _ (law : IsUnambiguous IsCertificate) (x : Context) (q : TreeFields) (file : FileFields) (tree : Tree) (is : IsTreeWith x q file tree) where
+  abbrev tree_certs : List (List ℕ)
+  tree_certs = contents (certs_of tree)
+
+  abbrev asked : RevocationChecks
+  asked = by_named_lists q.names x is.grown.lists
+
+  low : 0 < length (certs_of tree)
+  low = slice_get_within (certs_of tree) 0 file is.first_is
+
+  -- no certificate stands before that of the file
+  first_place : first_of tree.firsts 0 ≡ 0
+  first_place =
+      let some : 0 < length tree_certs = let few = low in omega (arith, few, length-map (certs_of tree) (λ (f : FileFields). f.octets)) in
+      first_zero law tree_certs tree.firsts is.grown.firsts_are some
+
+  first_line_at : line_at tree 0 ≡ slice_get tree.lines 0
+  first_line_at = ap (λ (n : ℕ). slice_get tree.lines n) first_place
+
+  kept_first : (l : Line) → line_at tree 0 ≡ Some l → IsLine is.grown.told 0 l
+  kept_first l e = line_kept is.grown.told tree.lines 0 is.grown.lines_are l (sym first_line_at ∙ e)
 
   -- the walk from the tree's trust anchor
   abbrev top : CertFields
   top = is.grown.anchor_is.cert
 
   abbrev admits : List ℕ → ℕ → Type 0
-  admits = IsLookedAt q.names every top (contents (certs_of tree))
+  admits = IsLookedAt q.names (IsFirstIn tree.firsts) top tree_certs
 
-  tells : Tells {E = WalkError} x (by_named_lists q.names x is.grown.lists) admits (at_anchor is.grown.locator is.grown.anchor.octets) (contents (certs_of tree)) [] q.depth q.steps (Ok tree.ended) is.grown.told
+  tells : Tells {E = WalkError} x asked admits (at_anchor is.grown.locator is.grown.anchor.octets) tree_certs [] q.depth q.steps (Ok tree.ended) is.grown.told
   tells = is.grown.tells top is.grown.anchor_is.valid.begins
 
   -- the line of the file accepts it: a valid path leads to it
-  pub leads_by : (above : List ℕ) → above_by (slice_get tree.lines 0) ≡ Some above → Leads x q tree is.grown above
+  pub leads_by : (above : List ℕ) → above_by (line_at tree 0) ≡ Some above → Leads x q tree is.grown above
   leads_by above e =
-      let told = line_tells is.grown.told 0 (slice_get tree.lines 0) above e kept_first in (
-        told_reached x (by_named_lists q.names x is.grown.lists) (at_anchor is.grown.locator is.grown.anchor.octets) (contents (certs_of tree)) is.grown.told tells.right above 0 told,
-        told_let_in admits 0 is.grown.told above tells.let_in told,
+      let told = line_tells is.grown.told 0 (line_at tree 0) above e kept_first in (
+        told_reached x asked (at_anchor is.grown.locator is.grown.anchor.octets) tree_certs is.grown.told tells.right above 0 told,
+        let_in_all q.names top tree_certs tree.firsts [] (above ++ 0 ∷ []) (told_let_in admits 0 is.grown.told above tells.let_in told),
       )
 
-  pub valid_by : (above : List ℕ) (path : List FileFields) → above_by (slice_get tree.lines 0) ≡ Some above → path ≡ files_at (certs_of tree) (tree.anchor ∷ above) ++ file ∷ [] → IsValidPathTo x q file path
+  pub valid_by : (above : List ℕ) (path : List FileFields) → above_by (line_at tree 0) ≡ Some above → path ≡ files_at (certs_of tree) (tree.anchor ∷ above) ++ file ∷ [] → IsValidPathTo x q file path
   valid_by above path e path_is =
       let files = path_is ∙ ap (λ (o : Option FileFields). cons_option o (files_at (certs_of tree) above) ++ file ∷ []) is.grown.anchor_is.valid.candidate.file_is in
-      let asked = by_named_lists q.names x is.grown.lists in
       record {
         tree = tree;
         is = is;
@@ -145,18 +165,23 @@ module _ (x : Context) (q : TreeFields) (file : FileFields) (tree : Tree) (is : 
       }
 
   -- there is a line of the file
-  first_line : (l : Line) × (slice_get tree.lines 0 ≡ Some l)
+  first_line : (l : Line) × (line_at tree 0 ≡ Some l)
   first_line =
-      let low : 0 < length tree.lines = omega (arith, slice_get_within (certs_of tree) 0 file is.first_is, is.grown.count_is) in
-      some_there tree.lines low
+      let some : 0 < length tree.lines = let few = low in omega (arith, few, is.grown.count_is) in
+      let there = some_there tree.lines some in
+      (there.0, first_line_at ∙ there.1)
 
-  -- it doesn't: none leads there
-  pub invalid_by : above_by (slice_get tree.lines 0) ≡ None → HasNoValidPath x q file tree
+  -- it doesn't: none leads there, by whichever places
+  pub invalid_by : above_by (line_at tree 0) ≡ None → HasNoValidPath x q file tree
   invalid_by e = record {
     is = is;
     none = λ above covers leads.
-        line_denies is.grown.told 0 (slice_get tree.lines 0) first_line.0 first_line.1 e kept_first above
-        (tells.complete above 0 covers leads.1 leads.0);
+        let firsts = map (first_of tree.firsts) above in
+        let covers_them : Covers tree.ended q.depth (length firsts + 1) = subst (λ (n : ℕ). Covers tree.ended q.depth (n + 1)) (sym (length-map above (first_of tree.firsts))) covers in
+        let looked = looked_first law tree_certs tree.firsts is.grown.firsts_are x asked is.grown.locator is.grown.anchor.octets above 0 leads.0 q.names top first_place leads.1 in
+        let reached = reached_first law tree_certs tree.firsts is.grown.firsts_are x asked is.grown.locator is.grown.anchor.octets above 0 leads.0 in
+        line_denies is.grown.told 0 (line_at tree 0) first_line.0 first_line.1 e kept_first firsts
+        (tells.complete firsts 0 covers_them looked reached);
   }
 
 -- ---- a file alone
@@ -190,17 +215,17 @@ with_first x q file more tree files_are begins grown = record {
 
 -- ---- of all locators
 
-module _ (x : Context) (q : TreeFields) (file : FileFields) (more : List FileFields) (files_are : q.files ≡ file ∷ more) (begins : BeginsWithCertificate file.octets) where
+module _ (law : IsUnambiguous IsCertificate) (x : Context) (q : TreeFields) (file : FileFields) (more : List FileFields) (files_are : q.files ≡ file ∷ more) (begins : BeginsWithCertificate file.octets) where
   -- of one of them
   valid_of : (l : LocatorFields) (answer : TreeAnswer) → IsTreeAnswer x (of_locator q l) answer → (path : List FileFields) → IsAcceptedIn file path answer → IsValidPathTo x (of_locator q l) file path
   valid_of l (NoAnchor wrong) is path h = absurd h
   valid_of l (Walked tree) is path h =
-      valid_by x (of_locator q l) file tree (with_first x (of_locator q l) file more tree files_are begins is) h.0 path h.1 h.2
+      valid_by law x (of_locator q l) file tree (with_first x (of_locator q l) file more tree files_are begins is) h.0 path h.1 h.2
 
   none_of : (l : LocatorFields) (answer : TreeAnswer) → IsTreeAnswer x (of_locator q l) answer → DeniesFirst answer → HasNoValidIn x (of_locator q l) file answer
   none_of l (NoAnchor wrong) is denies = tt
   none_of l (Walked tree) is denies =
-      invalid_by x (of_locator q l) file tree (with_first x (of_locator q l) file more tree files_are begins is) denies
+      invalid_by law x (of_locator q l) file tree (with_first x (of_locator q l) file more tree files_are begins is) denies
 
   module _ (trees : Trees) (are : AreTreesOf x q trees) (path : List FileFields) where
     pub valid_among : Any (λ part. IsAcceptedIn file path part.answer) trees.parts.items → IsSoughtPath x q file path Whole

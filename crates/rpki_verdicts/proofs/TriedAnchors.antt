@@ -18,8 +18,8 @@ use Rattle.rpki_cert.specs.Verification.{Context, ResourceFields}
 use Rattle.rpki_keys.specs.Locators.{NamedTal}
 use Rattle.rpki_path.specs.Asking.{RevocationChecks}
 use Rattle.rpki_path.specs.NameChains.{IsSelfNamed}
-use Rattle.rpki_path.specs.LocatedPaths.{BeginsWithKey, IsLocatedFault, IsNoPathFrom, IsOutOfMemory}
-use Rattle.rpki_path.specs.Paths.{Candidate, UnlessMemory}
+use Rattle.rpki_path.specs.LocatedPaths.{BeginsWithKey, IsLocatedFault, IsOutOfMemory}
+use Rattle.rpki_path.specs.Paths.{UnlessMemory}
 use Rattle.rpki_path.specs.declared.located.LocatedError.{LocatedError}
 use Rattle.rpki_path.specs.declared.located.LocatedError.TheVariants.{OtherKey as other_key, NoResources as no_resources, Path as path}
 use Rattle.rpki_path.specs.declared.path_fault.PathFault.{PathFault}

@@ -19,7 +19,7 @@ use Rattle.rpki_files.specs.Contents.{BeginsWithCertificate, IsList}
 use Rattle.rpki_files.specs.Files.{FileFields, contents}
 use Rattle.rpki_verdicts.specs.PathFiles.{IsGivenBy}
 use Rattle.rpki_verdicts.specs.TreeParts.{AreTreesOf, of_locator, worst_end, wrong_of}
-use Rattle.rpki_verdicts.specs.Trees.{HasLocator, IsTreeOf, TreeFields, certs_of, every}
+use Rattle.rpki_verdicts.specs.Trees.{HasLocator, IsTreeOf, TreeFields, certs_of, line_at}
 use Rattle.rpki_verdicts.specs.declared.parts.TreePart.{TreePart}
 use Rattle.rpki_verdicts.specs.declared.parts.Trees.{Trees}
 use Rattle.rpki_verdicts.specs.declared.unordered.Tree.{Tree}
@@ -37,6 +37,10 @@ files_at certs places = filter_map (slice_get certs) places
 pub record IsTreeWith (x : Context) (q : TreeFields) (file : FileFields) (tree : Tree) : Type 0 where
   pub grown : IsTreeOf x q tree
   pub first_is : slice_get (certs_of tree) 0 ≡ Some file
+
+-- every certificate is looked at, wherever it stands
+abbrev pub every : List ℕ → ℕ → Type 0
+every above place = Unit {0}
 
 -- a valid path leads from the trust anchor of the tree, by the CAs at these places, to the first
 -- certificate, where all lists among the files are asked; its names chain, if they are asked, and no
@@ -83,13 +87,13 @@ above_by _ = None
 abbrev pub IsAcceptedIn : FileFields → List FileFields → TreeAnswer → Type 0
 IsAcceptedIn file path (NoAnchor wrong) = ⊥
 IsAcceptedIn file path (Walked tree) =
-    (above : List ℕ) × (above_by (slice_get tree.lines 0) ≡ Some above)
+    (above : List ℕ) × (above_by (line_at tree 0) ≡ Some above)
     × (path ≡ files_at (certs_of tree) (tree.anchor ∷ above) ++ file ∷ [])
 
 -- it doesn't accept it
 abbrev pub DeniesFirst : TreeAnswer → Type 0
 DeniesFirst (NoAnchor wrong) = Unit {0}
-DeniesFirst (Walked tree) = above_by (slice_get tree.lines 0) ≡ None
+DeniesFirst (Walked tree) = above_by (line_at tree 0) ≡ None
 
 -- ---- what stands above a file to which no valid path leads
 
@@ -103,7 +107,7 @@ pub record HasKeyNamed (key : List ℕ) (file : FileFields) : Type 0 where
 abbrev pub HasKeyAt : Tree → List ℕ → Bool → ℕ → Type 0
 HasKeyAt tree key accepted place =
     ((file : FileFields) × (slice_get (certs_of tree) place ≡ Some file) × HasKeyNamed key file)
-    × (IsTrue accepted → IsSome (above_by (slice_get tree.lines place)))
+    × (IsTrue accepted → IsSome (above_by (line_at tree place)))
 
 -- no certificate is such
 abbrev pub HaveNoneKeyed : Tree → List ℕ → Bool → Type 0
@@ -140,15 +144,15 @@ pub data AreAbove (tree : Tree) : ℕ → FileFields → List FileFields → Boo
   no_issuer : (most : ℕ) (file : FileFields) → HasNoIssuer tree file
       → AreAbove tree (most + 1) file [] false
   accepted : (most : ℕ) (file issuer : FileFields) (place : ℕ) (above : List ℕ)
-      → IsIssuerAt tree file place issuer → above_by (slice_get tree.lines place) ≡ Some above
+      → IsIssuerAt tree file place issuer → above_by (line_at tree place) ≡ Some above
       → AreAbove tree (most + 1) file
       (files_at (certs_of tree) (tree.anchor ∷ above) ++ issuer ∷ []) true
   at_top : (most : ℕ) (file issuer : FileFields) → IsIssuerAt tree file tree.anchor issuer
-      → above_by (slice_get tree.lines tree.anchor) ≡ None
+      → above_by (line_at tree tree.anchor) ≡ None
       → AreAbove tree (most + 1) file (issuer ∷ []) true
   named : (most : ℕ) (file issuer : FileFields) (place : ℕ) (above : List FileFields)
       (reach : Bool) → IsIssuerAt tree file place issuer
-      → above_by (slice_get tree.lines place) ≡ None
+      → above_by (line_at tree place) ≡ None
       → place ≢ tree.anchor → AreAbove tree most issuer above reach
       → AreAbove tree (most + 1) file (above ++ issuer ∷ []) reach
 

@@ -2,7 +2,7 @@
 -- certificate (RFC 8630 3; own: which of them is told).
 use Rattle.std.specs.List.{list_any}
 use Rattle.std.specs.Option.{option_or}
-use Rattle.std.specs.Prelude.{◌≡◌, ◌≢◌, ◌==◌, ◌⊎◌, ◌&&◌, ℕ, zero, suc, Bool, true, IsTrue, if◌then◌else◌, List, [], ◌∷◌, ◌++◌, length, map, nat_le, slice_get, find, flat_map, fold, All, Any, Option, Some, Ok}
+use Rattle.std.specs.Prelude.{◌≡◌, ◌≢◌, ◌==◌, ◌⊎◌, ◌&&◌, ℕ, zero, suc, Bool, true, IsTrue, if◌then◌else◌, List, [], ◌∷◌, ◌++◌, length, map, nat_le, find, flat_map, fold, All, Any, Option, Some, Ok}
 use Rattle.rpki_cert.specs.Verification.{Context}
 use Rattle.rpki_files.specs.Files.{FileFields}
 use Rattle.rpki_folder.specs.Walks.{worse}
@@ -13,7 +13,7 @@ use Rattle.rpki_folder.specs.declared.lines.Line.TheVariants as line
 use Rattle.rpki_keys.specs.Locators.{NamedTal}
 use Rattle.rpki_verdicts.specs.Damage.{AreCounted, IsBrokenList, IsOther}
 use Rattle.rpki_verdicts.specs.GivenLocators.{LocatorFields, HasKeyRead}
-use Rattle.rpki_verdicts.specs.Trees.{TreeFields, AreCertificatesOf, IsTreeAnswer}
+use Rattle.rpki_verdicts.specs.Trees.{TreeFields, AreCertificatesOf, IsTreeAnswer, is_anchor_at, line_at}
 use Rattle.rpki_verdicts.specs.declared.parts.TreePart.{TreePart}
 use Rattle.rpki_verdicts.specs.declared.parts.Trees.{Trees}
 use Rattle.rpki_verdicts.specs.declared.unordered.TreeAnswer.{TreeAnswer}
@@ -69,12 +69,12 @@ line_rank ended (Some (line.Rejected step fault)) = 2
 line_rank ended _ = unseen_rank ended
 
 -- How much a part tells of the certificate at a place, the least number most: that it is the trust
--- anchor; that it is accepted; that it is rejected; that it wasn't looked at, since a bound was met;
--- that it has no issuer here; and nothing, where no trust anchor is valid
+-- anchor, or a copy of it; that it is accepted; that it is rejected; that it wasn't looked at, since
+-- a bound was met; that it has no issuer here; and nothing, where no trust anchor is valid
 abbrev pub answer_rank : TreeAnswer → ℕ → ℕ
 answer_rank (NoAnchor wrong) place = 5
 answer_rank (Walked tree) place =
-    if place == tree.anchor then 0 else line_rank tree.ended (slice_get tree.lines place)
+    if is_anchor_at tree place then 0 else line_rank tree.ended (line_at tree place)
 
 abbrev pub rank : TreePart → ℕ → ℕ
 rank part place = answer_rank part.answer place

@@ -5,14 +5,15 @@ use Rattle.std.specs.List.{AllByRecursion}
 use Rattle.std.specs.Ordering.{nat_cmp, ordering_then}
 use Rattle.std.specs.declared.cmp.Ordering.{Ordering}
 use Rattle.std.specs.declared.cmp.Ordering.TheVariants.{Less}
-use Rattle.std.specs.Prelude.{◌≡◌, ◌⊎◌, ℕ, List, [], ◌∷◌, length, map, slice_get, Any, Some, Ok, Bool}
+use Rattle.std.specs.Prelude.{◌≡◌, ◌==◌, ◌⊎◌, ℕ, List, [], ◌∷◌, length, map, slice_get, Any, Option, Some, Ok, Bool}
 use Rattle.rpki_path.specs.Asking.{RevocationChecks}
 use Rattle.rpki_path.specs.AskedLists.{by_named_lists}
 use Rattle.rpki_cert.specs.Certificates.{CertFields, IsCertificate}
 use Rattle.rpki_der.specs.Encoding.{Means}
+use Rattle.rpki_folder.specs.FirstPlaces.{AreFirstsIn, IsFirstIn, first_of}
 use Rattle.rpki_folder.specs.Folders.{FolderFields}
 use Rattle.rpki_folder.specs.KeptLines.{AreLines}
-use Rattle.rpki_folder.specs.declared.lines.Line.TheVariants as line
+use Rattle.rpki_folder.specs.declared.lines.Line.{Line}
 use Rattle.rpki_crl.specs.Lists.{CrlState}
 use Rattle.rpki_path.specs.declared.located.LocatedError.TheVariants.{OtherKey, NoResources, Path as path}
 use Rattle.rpki_path.specs.LocatedPaths.{BeginsWithKey}
@@ -150,14 +151,19 @@ IsWrongOf x asked names locators file fault =
 abbrev pub certs_of : Tree → List FileFields
 certs_of tree = map (λ file. file.now) tree.certs.items
 
--- every certificate is looked at, wherever it stands
-abbrev pub every : List ℕ → ℕ → Type 0
-every above place = Unit {0}
+-- The line of the certificate at a place is that of its first place: a copy, whatever is behind it,
+-- has no verdict of its own
+abbrev pub line_at : Tree → ℕ → Option Line
+line_at tree place = slice_get tree.lines (first_of tree.firsts place)
+
+-- the certificate at the place is the trust anchor, or a copy of it
+abbrev pub is_anchor_at : Tree → ℕ → Bool
+is_anchor_at tree place = first_of tree.firsts place == first_of tree.firsts tree.anchor
 
 -- The tree of the files: the trust anchor is a valid one of those that have the key of a locator; a
--- walk down from it over all certificates among them, with all lists among them, and with names if
--- they are asked, told verdicts that are right and complete; and the line of each certificate is kept
--- of these.
+-- walk down from it over all certificates among them, each at its first place alone, with all lists
+-- among them, and with names if they are asked, told verdicts that are right and complete; and the
+-- line of each place is kept of these.
 pub record IsTreeOf (x : Context) (q : TreeFields) (tree : Tree) : Type 0 where
   pub certs_are : AreCertificatesOf q.files (certs_of tree)
   pub lists : List CrlState
@@ -166,9 +172,11 @@ pub record IsTreeOf (x : Context) (q : TreeFields) (tree : Tree) : Type 0 where
   pub locator : NamedTal
   pub anchor_is : IsAnchorAt x (by_named_lists q.names x lists) q.names q.locators (certs_of tree) tree.anchor
       anchor locator
+  pub firsts_are : AreFirstsIn (contents (certs_of tree)) tree.firsts
   pub told : List Told
-  pub tells : TellsFrom {E = WalkError} x (by_named_lists q.names x lists) q.names every locator anchor.octets
-      (contents (certs_of tree)) q.depth q.steps (Ok tree.ended) told
+  pub tells : TellsFrom {E = WalkError} x (by_named_lists q.names x lists) q.names
+      (IsFirstIn tree.firsts) locator anchor.octets (contents (certs_of tree)) q.depth q.steps
+      (Ok tree.ended) told
   pub count_is : length tree.lines ≡ length (certs_of tree)
   pub lines_are : AreLines told tree.lines
 

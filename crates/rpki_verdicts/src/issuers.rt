@@ -1,4 +1,4 @@
-//! Why there is no verdict on a certificate: how its issuer stands.
+//! Why there is no verdict on a certificate: what became of its issuer.
 ghost use Rattle.std.specs.Prelude.{◌≡◌, ◌↔◌, ◌+◌, ℕ, List, Some, None, option_copied, slice_get, map, IfOk, OnOk, IsTrue};
 ghost use Rattle.std.specs.BTreeMap.{get};
 ghost use Rattle.std.specs.Cmp.Lexicographic.{slice_cmp};

@@ -183,10 +183,10 @@ impl<'q, 'n> TreePart<'q, 'n> {
         match &self.answer {
             TreeAnswer::NoAnchor(_) => 5,
             TreeAnswer::Walked(tree) => {
-                if place == tree.anchor {
+                if tree.is_anchor_at(place) {
                     return 0;
                 }
-                line_rank(tree.ended, tree.lines.as_slice().get(place))
+                line_rank(tree.ended, tree.line(place))
             }
         }
     }

@@ -1,5 +1,5 @@
 //! The path to one file among others, in any order.
-ghost use Rattle.std.specs.Prelude.{◌≡◌, ◌<◌, ◌↔◌, ◌++◌, ◌∷◌, [], ℕ, All, Any, List, length, Some, map, option_map, option_to_list, slice_get, IfOk, IfSome, IsFalse, IsTrue, MatchOption, OnOk};
+ghost use Rattle.std.specs.Prelude.{◌≡◌, ◌<◌, ◌↔◌, ◌++◌, ◌∷◌, [], ℕ, All, Any, List, length, Some, map, option_map, option_to_list, IfOk, IfSome, IsFalse, IsTrue, MatchOption, OnOk};
 ghost use Rattle.rpki_folder.specs.Folders.{NamesSigner};
 ghost use Rattle.rpki_keys.specs.RsaSignatures.{IsSignedByRsa};
 ghost use Rattle.rpki_cert.specs.Verification.{context};
@@ -7,7 +7,7 @@ ghost use Rattle.rpki_files.specs.Contents.{BeginsWithCertificate, IsList};
 ghost use Rattle.rpki_files.specs.Files.{FileFields};
 ghost use Rattle.rpki_verdicts.specs.Searches.{AreAbove, DeniesFirst, HasKeyAt, HasKeyNamed, HasNoIssuer, HaveNoneKeyed, IsAcceptedIn, IsFirstKeyed, IsIssuerAt, IsNamedAmong, IsNamedIn, IsNamedPath, IsSoughtPath, IsUnanchored, StandsAlone, above_by, files_at, first_wrong};
 ghost use Rattle.rpki_verdicts.specs.TreeParts.{AreTreesOf, wrong_in, wrong_of};
-ghost use Rattle.rpki_verdicts.specs.Trees.{asked_of, certs_of};
+ghost use Rattle.rpki_verdicts.specs.Trees.{asked_of, certs_of, line_at};
 
 use crate::parts::{TreePart, Trees, judge_all};
 use crate::unordered::{Tree, TreeAnswer, TreeQuestion, locator_of};
@@ -135,9 +135,9 @@ fn push_at<'q, 'n>(
 
 // The places of the CAs above the certificate at a place, where that is accepted.
 fn above_at<'t>(tree: &'t Tree<'_, '_>, place: usize) -> Option<&'t [usize]>
-    ensures { option_map (λ above. above.now) result ≡ above_by (slice_get tree.now.lines place) }
+    ensures { option_map (λ above. above.now) result ≡ above_by (line_at tree.now place) }
 {
-    match tree.lines.as_slice().get(place) {
+    match tree.line(place) {
         Some(Line::Accepted(path)) => Some(path.above.as_slice()),
         Some(_) | None => None,
     }
@@ -290,7 +290,7 @@ fn path_named<'q, 'n>(
     Ok(Named { path, reach })
 }
 
-// The same of an answer that has a tree.
+// The file below what is above it, in an answer that has a tree.
 fn named_in<'q, 'n>(
     alloc: Global,
     answer: &TreeAnswer<'q, 'n>,
@@ -305,8 +305,8 @@ fn named_in<'q, 'n>(
     }
 }
 
-// The same of the first part where it reaches up to the trust anchor, or else of the last one; none,
-// where no part has a tree.
+// The file below what is above it, in the first part where that reaches up to the trust anchor, or
+// else in the last one; none if no part has a tree.
 fn named_among<'q, 'n>(
     alloc: Global,
     parts: &[TreePart<'q, 'n>],
@@ -348,7 +348,7 @@ fn accepted_in<'q, 'n>(
     }
 }
 
-// The same of the first part that accepts it.
+// The path to it in the first part that accepts it.
 fn accepted_among<'q, 'n>(
     alloc: Global,
     parts: &[TreePart<'q, 'n>],
@@ -421,6 +421,7 @@ fn path_by<'q, 'n>(
         IfOk result (λ sought. let path = map (λ f. f.now) sought.path.items in
         IsSoughtPath x (asked_of question.now) file.now path sought.ended) }
 {
+    laws::unambiguous();
     if let Some(path) = accepted_among(alloc, &trees.parts, file)? {
         return Ok(whole(path));
     }

@@ -1,7 +1,8 @@
 //! Files in any order: the trust anchor among them, and the verdict on every certificate below it,
 //! with real signatures and with the CRLs among them.
-ghost use Rattle.std.specs.Prelude.{◌≡◌, ◌↔◌, ◌++◌, ◌∷◌, [], true, List, length, map, IfOk, IfSome, IfNone, OnOk, IsTrue};
+ghost use Rattle.std.specs.Prelude.{◌≡◌, ◌↔◌, ◌++◌, ◌∷◌, [], true, List, length, map, option_copied, IfOk, IfSome, IfNone, OnOk, IsTrue};
 ghost use Rattle.rpki_path.specs.AskedLists.{by_named_lists};
+ghost use Rattle.rpki_folder.specs.FirstPlaces.{IsFirstIn};
 ghost use Rattle.rpki_folder.specs.Folders.{with_cert, with_list};
 ghost use Rattle.rpki_folder.specs.KeptLines.{BecameLines};
 ghost use Rattle.rpki_crl.specs.Lists.{CrlState, IsCertificateList};
@@ -11,7 +12,7 @@ ghost use Rattle.rpki_cert.specs.Verification.{context};
 ghost use Rattle.rpki_folder.specs.Walks.{IsLookedAt, Told, TellsBelow};
 ghost use Rattle.rpki_files.specs.Contents.{IsList};
 ghost use Rattle.rpki_files.specs.Files.{FileFields};
-ghost use Rattle.rpki_verdicts.specs.Trees.{anchor_order, asked_of, HasLocator, IsAnchorOf, IsAnchorReason, IsFolderOf, IsTreeAnswer, every};
+ghost use Rattle.rpki_verdicts.specs.Trees.{anchor_order, asked_of, HasLocator, IsAnchorOf, IsAnchorReason, IsFolderOf, IsTreeAnswer, is_anchor_at, line_at};
 ghost use Rattle.rpki_verdicts.specs.Trees.Steps.{AreTried, IsKept, IsTried, TakesPlace};
 
 use crate::locators::{GivenLocator, tal_of_key};
@@ -21,7 +22,9 @@ use rpki_cert::{Cert, ResourceCert, Said, laws};
 use rpki_crl::Crl;
 use rpki_der::Time;
 use rpki_files::{BareObject, Front};
-use rpki_folder::{AllAdmitted, Bounds, Ended, Folder, Lines, Walk, WalkError};
+use rpki_folder::{
+    Admission, AllAdmitted, Bounds, Ended, Firsts, Folder, Line, Lines, Walk, WalkError,
+};
 use rpki_keys::RsaVerifier;
 use rpki_keys::tal::Tal;
 use rpki_path::{LocatedError, Member};
@@ -50,8 +53,10 @@ pub struct Tree<'q, 'n> {
     pub certs: Vec<&'q BareObject<'n>>,
     /// The place of the trust anchor.
     pub anchor: usize,
-    /// The line of each certificate, with what its verdicts came to.
-    pub lines: Lines,
+    // For each place, the first place of its certificate. The others are copies.
+    pub(crate) firsts: Firsts,
+    // The line of each certificate at its first place, with what its verdicts came to.
+    pub(crate) lines: Lines,
     /// Whether every certificate was judged, or which limit was reached.
     pub ended: Ended,
 }
@@ -97,6 +102,23 @@ enum Tried<'q> {
     OtherKey,
     Valid(&'q Tal, ResourceCert),
     Wrong(Fault),
+}
+
+impl<'q, 'n> Tree<'q, 'n> {
+    /// Returns the line of the certificate at a place, with what its verdicts came to. A copy, also
+    /// with other bytes behind it, has the line of the certificate's first place.
+    pub fn line(&self, place: usize) -> Option<&Line>
+        ensures { option_copied result ≡ line_at self.now place }
+    {
+        self.lines.as_slice().get(self.firsts.first_of(place))
+    }
+
+    /// Returns whether the certificate at a place is the trust anchor, or a copy of it.
+    pub fn is_anchor_at(&self, place: usize) -> bool
+        ensures { result ≡ is_anchor_at self.now place }
+    {
+        self.firsts.first_of(place) == self.firsts.first_of(self.anchor)
+    }
 }
 
 // Adds a file's certificate to a folder, and the file to those that begin with one.
@@ -200,13 +222,15 @@ pub(crate) fn locator_of<'q>(
     }
 }
 
-// The walk that a question asks for.
-fn walk_of<'w>(
+// The walk that a question asks for, through the certificates that are admitted.
+fn walk_of<'w, A: Admission>(
     alloc: Global,
     question: &TreeQuestion<'_, '_>,
     folder: &'w Folder,
-) -> Walk<'w, AllAdmitted, RsaVerifier>
+    admission: &'w A,
+) -> Walk<'w, A, RsaVerifier>
     ensures folder { result.folder.now ≡ folder.now }
+    ensures admission { result.admission.now ≡ admission.now }
     ensures names { result.names ≡ question.now.names }
     ensures strict { result.strict ≡ question.now.strict }
     ensures at { result.at ≡ question.now.at }
@@ -216,7 +240,7 @@ fn walk_of<'w>(
     Walk {
         alloc,
         folder,
-        admission: &AllAdmitted,
+        admission,
         bounds: Bounds {
             depth: question.depth,
             steps: question.steps,
@@ -265,7 +289,7 @@ fn try_anchor<'q, 'n>(
     let Some(tal) = locator_of(alloc, question.locators, file)? else {
         return Ok(Tried::OtherKey);
     };
-    let walk = walk_of(alloc, question, folder);
+    let walk = walk_of(alloc, question, folder, &AllAdmitted);
     match walk.trust_anchor(tal, &Member::of(file.octets())) {
         Ok(issuer) => Ok(Tried::Valid(tal, issuer)),
         Err(error) => Ok(Tried::Wrong(wrong_anchor(error, file)?)),
@@ -363,11 +387,12 @@ fn find_anchors<'q, 'n>(
     Ok(found)
 }
 
-// Walks down from the trust anchor, and keeps the lines.
+// Walks down from the trust anchor, through each certificate at its first place, and keeps the lines.
 fn walked(
     alloc: Global,
     question: &TreeQuestion<'_, '_>,
     folder: &Folder,
+    firsts: &Firsts,
     anchor: &ResourceCert,
     lines: &mut Lines,
 ) -> Result<Ended, AllocError>
@@ -375,10 +400,11 @@ fn walked(
         let x = context IsSignedByRsa q.at q.strict in
         let asked = by_named_lists q.names x folder.now.lists in
         (told : List Told) × BecameLines lines.old told lines.new
-        × TellsBelow x asked (IsLookedAt q.names every anchor.now.cert folder.now.certs) anchor.now
+        × TellsBelow x asked
+        (IsLookedAt q.names (IsFirstIn firsts.now) anchor.now.cert folder.now.certs) anchor.now
         folder.now.certs [] q.depth q.steps result told }
 {
-    walk_of(alloc, question, folder).below(anchor, lines)
+    walk_of(alloc, question, folder, firsts).below(anchor, lines)
 }
 
 /// Grows the tree of the files that a folder was filled with.
@@ -399,11 +425,13 @@ pub(crate) fn grown<'q, 'n>(
         return Ok(TreeAnswer::NoAnchor(wrong));
     };
     drop(wrong);
+    let firsts = Firsts::of(alloc, folder)?;
     let mut lines = Lines::new(alloc, certs.len())?;
-    let ended = walked(alloc, question, folder, &anchor.issuer, &mut lines)?;
+    let ended = walked(alloc, question, folder, &firsts, &anchor.issuer, &mut lines)?;
     Ok(TreeAnswer::Walked(Tree {
         certs,
         anchor: anchor.place,
+        firsts,
         lines,
         ended,
     }))

@@ -11,9 +11,9 @@ ghost use Rattle.rpki_keys.specs.RsaSignatures.{IsSignedByRsa};
 ghost use Rattle.rpki_parts.specs.Conditions.{Tests};
 ghost use Rattle.rpki_parts.specs.SignedDatas.{signed_content, signed_data};
 ghost use Rattle.rpki_issuing.specs.PreparedOctets.{HasNoRole, IsCompleted, IsListedFault, IsPrepared, IsRoleOf, IsUncompleted, IsUnprepared, IsUnpreparedAs, IsUnsignedAs};
-ghost use Rattle.rpki_issuing.specs.declared.wanted.preparing.WantedError.TheVariants.{Broken, Memory, Unsigned};
+ghost use Rattle.rpki_issuing.specs.declared.wanted.preparing.WantedError.TheVariants.{Memory, Unsigned};
 
-use crate::wanted::rules::{IssuingRule, check_rules};
+use crate::wanted::rules::{IssuingRule, first_broken};
 use crate::{IssuingError, ListError, NextListError, Prepared, Role, complete, prepare};
 use bytes::Bytes;
 use rpki_cert::{Cert, Kind, ResourceCert, TbsCert};
@@ -53,14 +53,6 @@ impl From<AllocError> for WantedError {
 
     fn from(_error: AllocError) -> WantedError {
         WantedError::Memory
-    }
-}
-
-impl From<IssuingRule> for WantedError {
-    ghost from_gives = { λ rule e. e ≡ Broken rule };
-
-    fn from(rule: IssuingRule) -> WantedError {
-        WantedError::Broken(rule)
     }
 }
 
@@ -153,8 +145,8 @@ fn octets_to_sign<R: RevocationSource>(
     }
 }
 
-/// Prepares a certificate of the kind with these fields below `issuer`, or without an issuer if it
-/// is a trust anchor's. Returns the bytes to sign.
+/// Prepares a certificate of the kind with these fields below `issuer`, the last one of `path`, or
+/// without an issuer and a path if it is a trust anchor's. Returns the bytes to sign.
 ///
 /// The result is `Ok` if and only if only the signature is missing, the rules for issuers
 /// ([`IssuingRule`]) are kept, and `asked` leaves the certificate unrevoked.
@@ -171,31 +163,34 @@ fn octets_to_sign<R: RevocationSource>(
 ///
 /// # Not checked
 ///
-/// Whether the issuer itself is valid: the caller has validated it.
+/// Whether the issuer itself is valid, and the last one of `path`: the caller has validated it.
 pub fn prepare_octets<R: RevocationSource>(
     alloc: Global,
     tbs: &TbsCert,
     kind: Kind,
     issuer: Option<&ResourceCert>,
+    path: &[Bytes],
     asked: &R,
     strict: bool,
     at: Time,
 ) -> Result<Bytes, WantedError>
     ensures prepared { let x = context IsSignedByRsa at strict in
         let above = option_map (λ above. above.now) issuer.entry in
-        IfOk result (IsPrepared kind above (R.asks asked.now x) at strict tbs.now) }
+        IfOk result (IsPrepared kind above path.now (R.asks asked.now x) at strict tbs.now) }
     ensures refused { let x = context IsSignedByRsa at strict in
         let above = option_map (λ above. above.now) issuer.entry in
         IfErr result (λ e. e ≢ Memory → (octets : List ℕ)
-        → IsPrepared kind above (R.asks asked.now x) at strict tbs.now octets → ⊥) }
+        → IsPrepared kind above path.now (R.asks asked.now x) at strict tbs.now octets → ⊥) }
     ensures told { let x = context IsSignedByRsa at strict in
         let above = option_map (λ above. above.now) issuer.entry in
-        IfErr result (IsUnprepared kind above (R.asks asked.now x) at strict tbs.now) }
+        IfErr result (IsUnprepared kind above path.now (R.asks asked.now x) at strict tbs.now) }
 {
     let Some(role) = role_of(kind, issuer) else {
         return Err(WantedError::NoRole);
     };
-    check_rules(tbs, kind, issuer)?;
+    if let Some(rule) = first_broken(alloc, tbs, kind, path)? {
+        return Err(WantedError::Broken(rule));
+    }
     let prepared = prepared(alloc, tbs, &role, strict, at)?;
     let octets = octets_to_sign(alloc, &prepared, issuer, asked, strict, at);
     drop(prepared);
@@ -307,31 +302,35 @@ pub fn complete_octets<R: RevocationSource>(
     signature: &[u8],
     kind: Kind,
     issuer: Option<&ResourceCert>,
+    path: &[Bytes],
     asked: &R,
     strict: bool,
     at: Time,
 ) -> Result<Bytes, WantedError>
     ensures completed { let x = context IsSignedByRsa at strict in
         let above = option_map (λ above. above.now) issuer.entry in
-        IfOk result (IsCompleted kind above (R.asks asked.now x) at strict
+        IfOk result (IsCompleted kind above path.now (R.asks asked.now x) at strict
         tbs.now octets.now signature.now) }
+    ensures read { IfOk result (IsCertificate (signed_with tbs.now signature.now)) }
     ensures accepted { let x = context IsSignedByRsa at strict in
         let above = option_map (λ above. above.now) issuer.entry in
         IfOk result (IsAcceptedBelow x (R.asks asked.now x) kind above) }
     ensures refused { let x = context IsSignedByRsa at strict in
         let above = option_map (λ above. above.now) issuer.entry in
         IfErr result (λ e. e ≢ Memory → (made : List ℕ)
-        → IsCompleted kind above (R.asks asked.now x) at strict
+        → IsCompleted kind above path.now (R.asks asked.now x) at strict
         tbs.now octets.now signature.now made → ⊥) }
     ensures told { let x = context IsSignedByRsa at strict in
         let above = option_map (λ above. above.now) issuer.entry in
-        IfErr result (IsUncompleted kind above (R.asks asked.now x) at strict
+        IfErr result (IsUncompleted kind above path.now (R.asks asked.now x) at strict
         tbs.now octets.now signature.now) }
 {
     let Some(role) = role_of(kind, issuer) else {
         return Err(WantedError::NoRole);
     };
-    check_rules(tbs, kind, issuer)?;
+    if let Some(rule) = first_broken(alloc, tbs, kind, path)? {
+        return Err(WantedError::Broken(rule));
+    }
     let prepared = prepared(alloc, tbs, &role, strict, at)?;
     if !is_prepared(&prepared, octets) {
         drop(prepared);

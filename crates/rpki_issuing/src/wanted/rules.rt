@@ -1,10 +1,13 @@
 //! Rules that a certificate has to keep only if it is issued here.
-ghost use Rattle.std.specs.Prelude.{◌↔◌, option_map, IsTrue};
-ghost use Rattle.rpki_parts.specs.Conditions.{Tests};
-ghost use Rattle.rpki_issuing.specs.IssuingRules.{HasOwnKey, RuleCheck, issuing_rules};
+ghost use Rattle.std.specs.Prelude.{◌≡◌, ◌↔◌, IfOk, IsTrue, MatchOption};
+ghost use Rattle.rpki_parts.specs.Conditions.{IsFirstFalse};
+ghost use Rattle.rpki_issuing.specs.IssuingRules.{CertifiesKey, HasOwnKey, IsNoKeyOf, KeepsRules, RuleCheck, issuing_rules};
 
-use rpki_cert::{Kind, ResourceCert, TbsCert};
+use bytes::Bytes;
+use rpki_cert::{Cert, Kind, TbsCert, laws};
 use rpki_der::Serial;
+use rpki_parts::PublicKey;
+use std::alloc::{AllocError, Global};
 
 /// A rule for issuers, which validation doesn't check.
 #[derive(Debug, Clone, Copy)]
@@ -14,45 +17,94 @@ pub enum IssuingRule {
     /// notBefore has to be in 1950 or later: UTCTime is required through 2049, and has no earlier
     /// year (RFC 5280 4.1.2.5).
     EarlyValidity,
-    /// A CA has to have another key than its issuer (own rule).
+    /// A CA has to have another key than each certificate of its issuer's path (own rule). With one
+    /// of these keys, the CAs would form a circle.
     IssuerKey,
 }
 
-// Whether a CA has another key than its issuer.
-fn has_own_key(tbs: &TbsCert, kind: Kind, issuer: Option<&ResourceCert>) -> bool
-    ensures { let above = option_map (λ above. above.now) issuer.entry in
-        IsTrue result ↔ HasOwnKey kind above tbs.now }
+// Whether the keys are one: their algorithm and their bits are.
+fn is_one_key(one: &PublicKey, other: &PublicKey) -> bool
+    ensures { IsTrue result ↔ one.now ≡ other.now }
 {
-    match (kind, issuer) {
-        (Kind::Authority, Some(issuer)) => {
-            let above = issuer.as_cert().as_tbs().subject_key_identifier();
-            tbs.subject_key_identifier() != above
+    one.algorithm() == other.algorithm() && one.bits() == other.bits()
+}
+
+// Whether the certificate has this key.
+fn has_key(cert: &Cert, key: &PublicKey) -> bool
+    ensures { IsTrue result ↔ cert.now.fields.key ≡ key.now }
+{
+    is_one_key(cert.as_tbs().subject_public_key_info(), key)
+}
+
+// Whether the octets begin with a certificate of this key.
+fn certifies(alloc: Global, octets: &Bytes, key: &PublicKey) -> Result<bool, AllocError>
+    ensures { IfOk result (λ is. IsTrue is ↔ CertifiesKey key.now octets.now) }
+{
+    // Called for what it ensures alone.
+    laws::unambiguous();
+    match Cert::decode_shared(alloc, octets.clone()?) {
+        Ok(cert) => {
+            let is_own = has_key(&cert, key);
+            drop(cert);
+            Ok(is_own)
         }
-        _ => true,
+        Err(error) => {
+            let is_memory = error.is_memory();
+            drop(error);
+            if is_memory {
+                Err(AllocError)
+            } else {
+                Ok(false)
+            }
+        }
     }
 }
 
-/// Checks the rules of a certificate of the kind below its issuer.
+// Whether no certificate of the path has this key.
+fn is_no_key_of(alloc: Global, path: &[Bytes], key: &PublicKey) -> Result<bool, AllocError>
+    ensures { IfOk result (λ is. IsTrue is ↔ IsNoKeyOf path.now key.now) }
+{
+    for octets in path {
+        if certifies(alloc, octets, key)? {
+            return Ok(false);
+        }
+    }
+    Ok(true)
+}
+
+// Whether a CA has another key than each certificate of its issuer's path.
+fn has_own_key(alloc: Global, tbs: &TbsCert, kind: Kind, path: &[Bytes]) -> Result<bool, AllocError>
+    ensures { IfOk result (λ has. IsTrue has ↔ HasOwnKey kind path.now tbs.now) }
+{
+    match kind {
+        Kind::Authority => is_no_key_of(alloc, path, tbs.subject_public_key_info()),
+        _ => Ok(true),
+    }
+}
+
+/// Returns the first rule that the certificate of the kind doesn't keep below the last certificate
+/// of this path, or `None` if it keeps all.
 ///
 /// # Errors
 ///
-/// Returns the first rule that isn't kept.
-pub(crate) fn check_rules(
+/// Returns an error only if memory runs out.
+pub(crate) fn first_broken(
+    alloc: Global,
     tbs: &TbsCert,
     kind: Kind,
-    issuer: Option<&ResourceCert>,
-) -> Result<(), IssuingRule>
-    ensures { let above = option_map (λ above. above.now) issuer.entry in
-        Tests (RuleCheck kind above tbs.now) issuing_rules result }
+    path: &[Bytes],
+) -> Result<Option<IssuingRule>, AllocError>
+    ensures { IfOk result (λ found. MatchOption found (KeepsRules kind path.now tbs.now)
+        (IsFirstFalse (RuleCheck kind path.now tbs.now) issuing_rules)) }
 {
     if tbs.serial_number() == Serial::from(0u64) {
-        return Err(IssuingRule::ZeroSerial);
+        return Ok(Some(IssuingRule::ZeroSerial));
     }
     if tbs.validity().not_before().year() < 1950 {
-        return Err(IssuingRule::EarlyValidity);
+        return Ok(Some(IssuingRule::EarlyValidity));
     }
-    if !has_own_key(tbs, kind, issuer) {
-        return Err(IssuingRule::IssuerKey);
+    if !has_own_key(alloc, tbs, kind, path)? {
+        return Ok(Some(IssuingRule::IssuerKey));
     }
-    Ok(())
+    Ok(None)
 }

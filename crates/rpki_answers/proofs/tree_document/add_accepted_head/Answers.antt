@@ -1,4 +1,3 @@
-use Rattle.std.proofs.Common.{append_assoc}
 use Rattle.rpki_document.proofs.Built.{ended_with}
 use Rattle.rpki_answers.proofs.tree_document.add_accepted_head.Goals as goal
 

@@ -5,4 +5,4 @@ use Rattle.rpki_answers.proofs.tree_document.add_errors.Given as goal
 
 -- the lines so far
 abbrev pub invariant-loop-name : goal.invariant-loop-name
-invariant-loop-name l = Adds (map (λ n. error_node l.rows n.now) (take l.name-index l.names.items)) [] l.each.items
+invariant-loop-name l = Adds (map (λ n. error_node l.rows n.now) (take l.name-index l.name-items)) [] l.each.items

@@ -5,4 +5,4 @@ use Rattle.rpki_answers.proofs.tree_document.add_tals.Given as goal
 
 -- the heads so far
 abbrev pub invariant-loop-part : goal.invariant-loop-part
-invariant-loop-part l = Adds (map tal_node (take l.part-index l.trees.parts.items)) [] l.each.items
+invariant-loop-part l = Adds (map tal_node (take l.part-index l.part-items)) [] l.each.items

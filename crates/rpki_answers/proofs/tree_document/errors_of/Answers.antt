@@ -1,7 +1,6 @@
-use Rattle.std.specs.Prelude.{Option}
-use Rattle.std.proofs.Common.{◌≡◌, ◌∙◌, ℕ, List, sym, ap}
-use Rattle.rpki_answers.specs.TreeDocuments.{errors_of, said_error, with_error}
-use Rattle.std.proofs.Common.{take}
+use Rattle.std.specs.Prelude.{Option, option_map}
+use Rattle.std.proofs.Common.{◌∙◌, ℕ, Bor, List, take, sym, ap}
+use Rattle.rpki_answers.specs.TreeDocuments.{errors_of, with_error}
 use Rattle.rpki_answers.proofs.TreeRowsInOrder.{error_next}
 use Rattle.rpki_answers.proofs.tree_document.errors_of.Goals as goal
 
@@ -11,6 +10,6 @@ loop-row-preserved c =
     let rows = c.args.rows.now in
     let row = c.row-item.result in
     c.in_ok-push_error.ensures
-    ∙ ap (λ (ns : List (List ℕ)). with_error ns _) l.invariant
+    ∙ ap (λ (ns : List (List ℕ)). with_error ns (option_map (λ (n : Bor (List ℕ)). n.now) c.error.result)) l.invariant
     ∙ ap (λ (e : Option (List ℕ)). with_error (errors_of (take l.row-index rows)) e) c.error.ensures
     ∙ sym (error_next rows l.row-index row c.loop-row-test.true c.row-item.is)

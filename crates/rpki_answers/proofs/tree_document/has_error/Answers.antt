@@ -1,6 +1,6 @@
 use Rattle.std.specs.Option.{option_map}
 use Rattle.std.specs.Prelude.{Option}
-use Rattle.std.proofs.Common.{◌≡◌, ◌∙◌, ℕ, Bor, List, sym, ap}
+use Rattle.std.proofs.Common.{◌∙◌, ℕ, Bor, List, sym, ap}
 use Rattle.rpki_answers.specs.TreeDocuments.{is_error}
 use Rattle.rpki_answers.proofs.tree_document.has_error.Goals as goal
 

@@ -1,6 +1,6 @@
 use Rattle.std.specs.Option.{option_map}
 use Rattle.std.specs.Prelude.{Option, unwrap_or}
-use Rattle.std.proofs.Common.{◌≡◌, ◌∙◌, ℕ, List, [], length, refl, sym, ap}
+use Rattle.std.proofs.Common.{◌∙◌, [], length, refl, sym, ap}
 use Rattle.std.proofs.lemmas.Option.{slice_get-map, slice_get_past, slice_get_read}
 use Rattle.rpki_files.specs.Files.{FileFields}
 use Rattle.rpki_answers.proofs.tree_document.name_of.Goals as goal

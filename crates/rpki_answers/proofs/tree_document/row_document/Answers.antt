@@ -1,4 +1,3 @@
-use Rattle.std.proofs.Common.{◌∙◌}
 use Rattle.rpki_answers.proofs.tree_document.row_document.Goals as goal
 
 pub returns : goal.returns

@@ -1,7 +1,5 @@
 use Rattle.std.specs.Prelude.{Err}
-use Rattle.std.proofs.Common.{◌≡◌, Option, inl, inr, refl, rules, subst}
-use Rattle.rpki_cert.specs.Verification.{ResourceFields}
-use Rattle.rpki_c.specs.WantedAnswers.{AnswersBelow}
+use Rattle.std.proofs.Common.{◌≡◌, inl, inr, refl, rules}
 use Rattle.rpki_c.proofs.preparing.prepared.Goals as goal
 
 pub returns-in_err-issuer : goal.returns-in_err-issuer
@@ -9,11 +7,3 @@ returns-in_err-issuer c =
     let e = c.in_err-issuer.field-0.0 in
     let same : c.from_residual.result ≡ Err e = search rules in
     rw same (inl (e, refl, c.in_err-issuer.ensures.none))
-
-pub returns : goal.returns
-returns c =
-    inr (
-      c.in_ok-issuer.issuer,
-      c.in_ok-issuer.ensures.issuer,
-      subst (λ (o : Option ResourceFields). AnswersBelow c.args.w.now c.args.terms o c.prepared_below-octets.result) c.as_ref.ensures.value c.prepared_below-octets.ensures,
-    )

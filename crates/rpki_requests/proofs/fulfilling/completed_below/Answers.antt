@@ -4,6 +4,7 @@ use Rattle.std.proofs.lemmas.Bool.{false≢true}
 use Rattle.rpki_cert.specs.Certificates.{TbsFields}
 use Rattle.rpki_cert.specs.Verification.{ResourceFields}
 use Rattle.rpki_issuing.specs.PreparedOctets.{IsUncompleted}
+use Rattle.rpki_issuing.specs.Readiness.{signed_with}
 use Rattle.rpki_requests.specs.Fulfilment.{context_of}
 use Rattle.rpki_requests.specs.RefusedErrands.{IsNamedOtherwise, IsUnmade}
 use Rattle.rpki_requests.specs.RequestFiles.{IsCompletedAs}
@@ -19,7 +20,7 @@ returns-in-Err-clause-refused g c = λ not octets p.
     let same = c.in_ok-tbs.ensures.1 p.fields p.fields_are in
     let kinds = one_completed issuer c.in_ok-tbs.tbs p.kind c.completed_as-kind.result (subst (λ (f : TbsFields). IsCompletedAs issuer f p.kind) same p.kind_is) c.completed_as-kind.ensures in
     c.in-Err.ensures.refused (c.unfit.ensures.memory not) octets
-    (same_completed issuer checks c.args.at c.args.order.now.strict c.args.signature.now octets p.kind c.completed_as-kind.result p.fields c.in_ok-tbs.tbs c.args.prepared.now c.deref.result.now kinds same (sym c.deref.ensures) p.completed)
+    (same_completed issuer c.args.path.now checks c.args.at c.args.order.now.strict c.args.signature.now octets p.kind c.completed_as-kind.result p.fields c.in_ok-tbs.tbs c.args.prepared.now c.deref.result.now kinds same (sym c.deref.ensures) p.completed)
 
 pub returns-in_err-tbs-clause-pathless : goal.returns-in_err-tbs-clause-pathless
 returns-in_err-tbs-clause-pathless g c =
@@ -49,8 +50,8 @@ returns-in-Err-clause-so g c =
     let prepared = c.args.prepared.now in
     let signature = c.args.signature.now in
     let checks = g.R.RevocationSource.asks c.args.source.now (context_of asked c.args.at) in
-    let told = subst (λ (l : List ℕ). IsUncompleted c.completed_as-kind.result issuer checks c.args.at asked.strict c.in_ok-tbs.tbs l signature c.in-Err.error) c.deref.ensures c.in-Err.ensures.told in
-    let unmade : IsUnmade asked checks c.args.at issuer prepared signature c.in-Err.error = record {
+    let told = subst (λ (l : List ℕ). IsUncompleted c.completed_as-kind.result issuer c.args.path.now checks c.args.at asked.strict c.in_ok-tbs.tbs l signature c.in-Err.error) c.deref.ensures c.in-Err.ensures.told in
+    let unmade : IsUnmade asked c.args.path.now checks c.args.at issuer prepared signature c.in-Err.error = record {
       fields = c.in_ok-tbs.tbs;
       fields_are = c.in_ok-tbs.ensures.0;
       named = c.is_named.ensures.0 c.if-not-is_named.false;
@@ -58,7 +59,17 @@ returns-in-Err-clause-so g c =
       kind_is = c.completed_as-kind.ensures;
       uncompleted = told;
     } in
-    inr (inr (unfit_so (IsUnmade asked checks c.args.at issuer prepared signature) _ _ c.unfit.ensures.told (λ not. unmade)))
+    inr (inr (unfit_so (IsUnmade asked c.args.path.now checks c.args.at issuer prepared signature) _ _ c.unfit.ensures.told (λ not. unmade)))
 
 pub returns-in-Ok-clause-accepted : goal.returns-in-Ok-clause-accepted
-returns-in-Ok-clause-accepted g c = (c.completed_as-kind.result, c.in-Ok.ensures.accepted)
+returns-in-Ok-clause-accepted g c = (
+  c.completed_as-kind.result,
+  record {
+    cert = signed_with c.in_ok-tbs.tbs c.args.signature.now;
+    is_certificate = c.in-Ok.ensures.read;
+    usable = c.in_ok-tbs.ensures.0.usable;
+    named = c.is_named.ensures.0 c.if-not-is_named.false;
+    kind_is = c.completed_as-kind.ensures;
+    accepted = c.in-Ok.ensures.accepted;
+  },
+)

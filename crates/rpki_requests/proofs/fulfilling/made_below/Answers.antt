@@ -18,7 +18,7 @@ returns-in_err-octets-clause-refused g c =
     let issuer = option_map (λ (r : Bor ResourceFields). r.now) c.args.issuer in
     let none : (f : ListFields Revoked) → IsTbsCertList f c.args.prepared.now → ⊥ = rw c.in_default.is at c.in_ok-list.ensures in
     let same : c.from_residual-in_err-octets.result ≡ Err c.in_err-octets.field-0.0 = search rules in
-    rw same (λ not. none_as_certificate (asked_fields c.args.order.now) c.args.at c.args.prepared.now c.args.signature.now (g.R.RevocationSource.asks c.args.source.now (context_of (asked_fields c.args.order.now) c.args.at)) none issuer (c.in_err-octets.ensures.refused not))
+    rw same (λ not. none_as_certificate (asked_fields c.args.order.now) c.args.at c.args.path.now c.args.prepared.now c.args.signature.now (g.R.RevocationSource.asks c.args.source.now (context_of (asked_fields c.args.order.now) c.args.at)) none issuer (c.in_err-octets.ensures.refused not))
 
 pub returns-in_default-issuer-clause-refused : goal.returns-in_default-issuer-clause-refused
 returns-in_default-issuer-clause-refused g c = λ not given p.
@@ -27,8 +27,8 @@ returns-in_default-issuer-clause-refused g c = λ not given p.
     let prepared = c.args.prepared.now in
     let signature = c.args.signature.now in
     let found : IsOnly (λ (f : ListFields Revoked). IsTbsCertList f prepared) c.in-Some.list = rw c.in-Some.is at c.in_ok-list.ensures in
-    none_without asked c.args.at prepared signature c.in-Some.list found.0 checks given
-    (subst (λ (o : Option (Bor ResourceFields)). CompletesAs asked checks c.args.at (option_map (λ (r : Bor ResourceFields). r.now) o) prepared signature given) c.in_default-issuer.is p)
+    none_without asked c.args.at c.args.path.now prepared signature c.in-Some.list found.0 checks given
+    (subst (λ (o : Option (Bor ResourceFields)). CompletesAs asked c.args.path.now checks c.args.at (option_map (λ (r : Bor ResourceFields). r.now) o) prepared signature given) c.in_default-issuer.is p)
 
 pub returns-in_err-octets-2-clause-refused : goal.returns-in_err-octets-2-clause-refused
 returns-in_err-octets-2-clause-refused g c =
@@ -38,9 +38,9 @@ returns-in_err-octets-2-clause-refused g c =
     let signature = c.args.signature.now in
     let found : IsOnly (λ (f : ListFields Revoked). IsTbsCertList f prepared) c.in-Some.list = rw c.in-Some.is at c.in_ok-list.ensures in
     let same : c.from_residual-in_err-octets-2.result ≡ Err c.in_err-octets-2.field-0.0 = search rules in
-    rw same (λ not given p. none_as_list asked c.args.at prepared signature c.in-Some.list found.0 checks c.in-Some-issuer.issuer.now
+    rw same (λ not given p. none_as_list asked c.args.at c.args.path.now prepared signature c.in-Some.list found.0 checks c.in-Some-issuer.issuer.now
     (λ octets is. c.in_err-octets-2.ensures.refused not octets (subst (λ (l : List ℕ). CompletesListBelow asked c.args.at c.in-Some-issuer.issuer.now.cert.fields l signature octets) (sym c.deref.ensures) is)) given
-    (subst (λ (o : Option (Bor ResourceFields)). CompletesAs asked checks c.args.at (option_map (λ (r : Bor ResourceFields). r.now) o) prepared signature given) c.in-Some-issuer.is p))
+    (subst (λ (o : Option (Bor ResourceFields)). CompletesAs asked c.args.path.now checks c.args.at (option_map (λ (r : Bor ResourceFields). r.now) o) prepared signature given) c.in-Some-issuer.is p))
 
 pub returns-in_err-list-clause-so : goal.returns-in_err-list-clause-so
 returns-in_err-list-clause-so g c =

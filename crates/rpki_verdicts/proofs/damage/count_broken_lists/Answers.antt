@@ -1,4 +1,4 @@
-use Rattle.std.proofs.Common.{◌≡◌, ◌+◌, ℕ, List, arith, take, sym, subst}
+use Rattle.std.proofs.Common.{◌+◌, ℕ, List, arith, take, sym, subst}
 use Rattle.rpki_files.specs.Files.{FileFields}
 use Rattle.rpki_path.proofs.LatestLists.{gone_over}
 use Rattle.rpki_verdicts.specs.Damage.{AreCounted, IsBrokenList}

@@ -9,23 +9,20 @@ use Rattle.rpki_issuing.specs.Readiness.{signed_with, IsReady, IsSignatureOf}
 use Rattle.rpki_keys.specs.RsaSignatures.{IsSignedByRsa}
 use Rattle.rpki_parts.specs.Keys.{KeyFields}
 use Rattle.rpki_parts.specs.SignedDatas.{signed_content, signed_data}
-use Rattle.rpki_issuing.specs.declared.wanted.preparing.WantedError.TheVariants.{Broken, Memory}
+use Rattle.rpki_issuing.specs.declared.wanted.preparing.WantedError.TheVariants.{Memory}
 use Rattle.rpki_issuing.proofs.Accepted.{accepted_below}
 use Rattle.rpki_issuing.proofs.SameRoles.{role_ready, role_key, on_ok, on_err}
 use Rattle.rpki_issuing.specs.PreparedOctets.{IsUnsignedAs}
 use Rattle.rpki_issuing.proofs.ToldFaults.{uncompleted, unsigned, made_told, refused_made}
 use Rattle.rpki_issuing.proofs.wanted.preparing.complete_octets.Goals as goal
 
-pub returns-in_err-check_rules-clause-refused : goal.returns-in_err-check_rules-clause-refused
-returns-in_err-check_rules-clause-refused g c =
-    let e = c.in_err-check_rules.field-0.0 in
-    let same : c.from_residual.result ≡ Err (Broken e) = search rules in
-    rw same (λ apart made p. first_not_all (RuleCheck c.args.kind (option_map (λ (r : Bor ResourceFields). r.now) c.args.issuer) c.args.tbs.now) issuing_rules e c.in_err-check_rules.ensures p.rules)
+pub returns-in-Some-2-clause-refused : goal.returns-in-Some-2-clause-refused
+returns-in-Some-2-clause-refused g c = λ apart made p.
+    let first = rw c.in-Some-2.is at c.in_ok-rule.ensures in
+    first_not_all (RuleCheck c.args.kind c.args.path.now c.args.tbs.now) issuing_rules c.in-Some-2.rule first p.rules
 
-pub returns-in_err-check_rules-clause-told : goal.returns-in_err-check_rules-clause-told
-returns-in_err-check_rules-clause-told g c =
-    let same : c.from_residual.result ≡ Err (Broken c.in_err-check_rules.field-0.0) = search rules in
-    rw same c.in_err-check_rules.ensures
+pub returns-in-Some-2-clause-told : goal.returns-in-Some-2-clause-told
+returns-in-Some-2-clause-told g c = rw c.in-Some-2.is at c.in_ok-rule.ensures
 
 pub returns-in_err-prepared-clause-refused : goal.returns-in_err-prepared-clause-refused
 returns-in_err-prepared-clause-refused g c =
@@ -37,7 +34,7 @@ pub returns-in_err-prepared-clause-told : goal.returns-in_err-prepared-clause-to
 returns-in_err-prepared-clause-told g c =
     let e = c.in_err-prepared.field-0.0 in
     let same : c.from_residual-in_err-prepared.result ≡ Err e = search rules in
-    rw same (uncompleted c.args.kind _ _ c.args.at c.args.strict c.args.tbs.now c.in-Some.role c.in-Some.ensures c.args.octets.now c.args.signature.now e c.in_err-prepared.ensures.told)
+    rw same (uncompleted c.args.kind _ _ _ c.args.at c.args.strict c.args.tbs.now c.in-Some.role c.in-Some.ensures c.args.octets.now c.args.signature.now e c.in_err-prepared.ensures.told)
 
 pub completed-completed-requires : goal.completed-completed-requires
 completed-completed-requires g c =
@@ -61,7 +58,7 @@ returns-in_err-cert-clause-told g c =
     let role = c.in-Some.role in
     let e = c.in_err-cert.field-0.0 in
     let same : c.from_residual-in_err-cert.result ≡ Err e = search rules in
-    rw same (unsigned c.args.kind _ _ c.args.at c.args.strict c.args.tbs.now role c.in-Some.ensures c.args.octets.now value e
+    rw same (unsigned c.args.kind _ _ _ c.args.at c.args.strict c.args.tbs.now role c.in-Some.ensures c.args.octets.now value e
     (subst (λ (g : TbsFields). IsUnsignedAs role g value e) c.in_ok-prepared.ensures.fields c.in_err-cert.ensures.told))
 
 pub returns-clause-completed : goal.returns-clause-completed
@@ -82,7 +79,7 @@ returns-clause-completed g c =
     (λ all same both. record {
       role = role;
       role_is = c.in-Some.ensures;
-      rules = c.in_ok-check_rules.ensures;
+      rules = rw c.in_default-2.is at c.in_ok-rule.ensures;
       ready = c.in_ok-prepared.ensures.ready;
       prepared_is = octets;
       signed = subst (λ (g : TbsFields). IsSignatureOf IsSignedByRsa role g value) fields c.in_ok-cert.ensures.signed;
@@ -90,6 +87,18 @@ returns-clause-completed g c =
       unrevoked = subst (λ (d : CertFields). IsUnrevokedIn asked above d) content both.1;
       octets_are = same ∙ ap (λ (d : CertFields). signed_data d.signed_data) content;
     })
+
+pub returns-clause-read : goal.returns-clause-read
+returns-clause-read g c =
+    let f = c.args.tbs.now in
+    let value = c.args.signature.now in
+    let cert = c.in_ok-cert.cert in
+    let content : cert ≡ signed_with f value = c.in_ok-cert.ensures.same ∙ ap (λ (g : TbsFields). signed_with g value) c.in_ok-prepared.ensures.fields in
+    let made = c.octets_unrevoked-made in
+    on_ok _ _ (Unit {0}) made.result made.ensures.ok (λ ok. tt)
+    (λ all same unit.
+    subst (λ (d : CertFields). IsCertificate d all) content
+    (subst (λ (b : _). IsCertificate cert b) (sym same) c.in_ok-cert.ensures.read))
 
 pub returns-clause-accepted : goal.returns-clause-accepted
 returns-clause-accepted g c =
@@ -129,4 +138,4 @@ returns-clause-told g c =
     let content : cert ≡ signed_with f value = c.in_ok-cert.ensures.same ∙ ap (λ (g : TbsFields). signed_with g value) c.in_ok-prepared.ensures.fields in
     let made = c.octets_unrevoked-made in
     on_err _ _ made.result made.ensures.told
-    (λ e told. made_told c.args.kind above asked c.args.at c.args.strict f c.in-Some.role c.in-Some.ensures c.args.octets.now value e cert content told)
+    (λ e told. made_told c.args.kind above c.args.path.now asked c.args.at c.args.strict f c.in-Some.role c.in-Some.ensures c.args.octets.now value e cert content told)

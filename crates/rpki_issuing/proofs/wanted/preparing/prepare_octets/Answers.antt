@@ -8,21 +8,17 @@ use Rattle.rpki_issuing.specs.Acceptance.{IsUnrevokedIn}
 use Rattle.rpki_issuing.specs.IssuingRules.{RuleCheck, issuing_rules}
 use Rattle.rpki_issuing.specs.PreparedOctets.{IsListedFault}
 use Rattle.rpki_issuing.specs.Readiness.{unsigned}
-use Rattle.rpki_issuing.specs.declared.wanted.preparing.WantedError.TheVariants.{Broken}
 use Rattle.rpki_issuing.proofs.SameRoles.{role_ready, on_ok, on_err}
 use Rattle.rpki_issuing.proofs.ToldFaults.{unprepared, listed, refused_listed}
 use Rattle.rpki_issuing.proofs.wanted.preparing.prepare_octets.Goals as goal
 
-pub returns-in_err-check_rules-clause-refused : goal.returns-in_err-check_rules-clause-refused
-returns-in_err-check_rules-clause-refused g c =
-    let e = c.in_err-check_rules.field-0.0 in
-    let same : c.from_residual.result ≡ Err (Broken e) = search rules in
-    rw same (λ apart octets p. first_not_all (RuleCheck c.args.kind (option_map (λ (r : Bor ResourceFields). r.now) c.args.issuer) c.args.tbs.now) issuing_rules e c.in_err-check_rules.ensures p.rules)
+pub returns-in-Some-2-clause-refused : goal.returns-in-Some-2-clause-refused
+returns-in-Some-2-clause-refused g c = λ apart octets p.
+    let first = rw c.in-Some-2.is at c.in_ok-rule.ensures in
+    first_not_all (RuleCheck c.args.kind c.args.path.now c.args.tbs.now) issuing_rules c.in-Some-2.rule first p.rules
 
-pub returns-in_err-check_rules-clause-told : goal.returns-in_err-check_rules-clause-told
-returns-in_err-check_rules-clause-told g c =
-    let same : c.from_residual.result ≡ Err (Broken c.in_err-check_rules.field-0.0) = search rules in
-    rw same c.in_err-check_rules.ensures
+pub returns-in-Some-2-clause-told : goal.returns-in-Some-2-clause-told
+returns-in-Some-2-clause-told g c = rw c.in-Some-2.is at c.in_ok-rule.ensures
 
 pub returns-in_err-prepared-clause-refused : goal.returns-in_err-prepared-clause-refused
 returns-in_err-prepared-clause-refused g c =
@@ -34,7 +30,7 @@ pub returns-in_err-prepared-clause-told : goal.returns-in_err-prepared-clause-to
 returns-in_err-prepared-clause-told g c =
     let e = c.in_err-prepared.field-0.0 in
     let same : c.from_residual-in_err-prepared.result ≡ Err e = search rules in
-    rw same (unprepared c.args.kind _ _ c.args.at c.args.strict c.args.tbs.now c.in-Some.role c.in-Some.ensures e c.in_err-prepared.ensures.told)
+    rw same (unprepared c.args.kind _ _ _ c.args.at c.args.strict c.args.tbs.now c.in-Some.role c.in-Some.ensures e c.in_err-prepared.ensures.told)
 
 pub returns-clause-prepared : goal.returns-clause-prepared
 returns-clause-prepared g c =
@@ -47,7 +43,7 @@ returns-clause-prepared g c =
     (λ octets same free. record {
       role = c.in-Some.role;
       role_is = c.in-Some.ensures;
-      rules = c.in_ok-check_rules.ensures;
+      rules = rw c.in_default-2.is at c.in_ok-rule.ensures;
       ready = c.in_ok-prepared.ensures.ready;
       unrevoked = subst (λ (f : TbsFields). IsUnrevokedIn asked above (unsigned f)) fields free;
       octets_are = same ∙ ap (λ (f : TbsFields). encoding f) fields;
@@ -69,4 +65,4 @@ returns-clause-told g c =
     let above = option_map (λ (r : Bor ResourceFields). r.now) c.args.issuer in
     let made = c.octets_to_sign-octets in
     on_err _ _ made.result made.ensures.told
-    (λ e told. listed c.args.kind above asked c.args.at c.args.strict c.args.tbs.now e (subst (λ (f : TbsFields). IsListedFault asked above (unsigned f) e) c.in_ok-prepared.ensures.fields told))
+    (λ e told. listed c.args.kind above c.args.path.now asked c.args.at c.args.strict c.args.tbs.now e (subst (λ (f : TbsFields). IsListedFault asked above (unsigned f) e) c.in_ok-prepared.ensures.fields told))

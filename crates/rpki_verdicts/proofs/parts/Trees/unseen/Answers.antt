@@ -1,5 +1,5 @@
-use Rattle.std.specs.Prelude.{None, Some}
-use Rattle.std.proofs.Common.{◌≡◌, ◌∙◌, ℕ, List, refl, sym, subst}
+use Rattle.std.specs.Prelude.{None}
+use Rattle.std.proofs.Common.{◌∙◌, sym}
 use Rattle.rpki_verdicts.specs.UnseenCertificates.{issuer_in}
 use Rattle.rpki_verdicts.proofs.IssuersByKey.{issuer_of}
 use Rattle.rpki_verdicts.proofs.parts.Trees.unseen.Goals as goal

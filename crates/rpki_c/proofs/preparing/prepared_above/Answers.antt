@@ -1,0 +1,12 @@
+use Rattle.std.specs.Prelude.{Err}
+use Rattle.std.proofs.Common.{◌≡◌, inl, inr, refl, rules}
+use Rattle.rpki_c.proofs.preparing.prepared_above.Goals as goal
+
+pub returns-in_err-above : goal.returns-in_err-above
+returns-in_err-above c =
+    let e = c.in_err-above.field-0.0 in
+    let same : c.from_residual.result ≡ Err e = search rules in
+    rw same (inl (e, refl, c.in_err-above.ensures.none))
+
+pub returns : goal.returns
+returns c = inr (c.in_ok-above.above, c.in_ok-above.ensures.given, c.prepared_asking-octets.ensures)
