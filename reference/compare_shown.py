@@ -16,8 +16,8 @@ Prints each difference, what the files were, and at the end `N passed, M failed`
 """
 
 import argparse
-import base64
 import collections
+import datetime
 import itertools
 import json
 import os
@@ -29,12 +29,13 @@ from pathlib import Path
 
 import compare_places
 import documents as doc
+import folders
 import json_page
 import make
 import questions_locators
+import reference as ref
 import shown
-from compare_answers import difference, random_name, save
-from der import Cursor
+from compare_answers import difference, in_pem, random_name, save
 from random_paths import chance
 from shown import Options
 from verdicts import File
@@ -133,17 +134,33 @@ def fixed():
                 octets = path.read_bytes()
                 yield f'{path.relative_to(TOP)}', path.name, octets, octets
                 if place == 'examples' and path.suffix != '.tal':
-                    label = b'CERTIFICATE' if path.suffix == '.cer' else b'X509 CRL'
-                    whole = b'-----BEGIN %s-----\n%s-----END %s-----\n' % (label, base64.encodebytes(octets), label)
+                    whole = in_pem(File(path.name, octets))
                     yield f'{path.relative_to(TOP)} in PEM', f'{path.name}.pem', whole, octets
 
 
 # ---- random files
 
-def random_options(rng):
-    year = rng.choice([2026, 2026, 1999, 2050, rng.randrange(1950, 2100)])
-    now = year, rng.randrange(1, 13), rng.randrange(1, 29), *(rng.randrange(it) for it in (24, 60, 60))
-    return Options(now, chance(rng, 0.7), chance(rng, 0.4))
+def ends_of(octets):
+    """The two ends of the period of a certificate or of a CRL."""
+    cert, crl = (folders.read(it, octets) for it in (ref.decode_cert, ref.decode_crl))
+    if cert:
+        return [cert.tbs.not_before, cert.tbs.not_after]
+    return [crl.tbs.this_update, crl.tbs.next_update] if crl else []
+
+
+def random_time(rng, files):
+    """Any time, or one that is just so far from the end of a period that its text changes there."""
+    ends = [end for octets in files for end in ends_of(octets) if 1 < end[0] < 9999]
+    if not ends or chance(rng, 0.5):
+        year = rng.choice([2026, 2026, 1999, 2050, rng.randrange(1950, 2100)])
+        return year, rng.randrange(1, 13), rng.randrange(1, 29), *(rng.randrange(it) for it in (24, 60, 60))
+    far = rng.choice([0, 60, 3600, 2 * 86400, 30 * 86400]) + rng.randrange(-1, 2)
+    its = datetime.datetime(*rng.choice(ends)) + datetime.timedelta(seconds=far * rng.choice([-1, 1]))
+    return its.timetuple()[:6]
+
+
+def random_options(rng, files):
+    return Options(random_time(rng, files), chance(rng, 0.7), chance(rng, 0.4))
 
 
 def random_file(rng, files):
@@ -168,7 +185,7 @@ def named_file(rng, files):
 
 def sound_files():
     """The certificates and CRLs that are damaged, without what stands behind them."""
-    return [Cursor(it).capture_one() for it in compare_places.files_of('examples', 'tests/files')]
+    return [ref.Cursor(it).capture_one() for it in compare_places.files_of('examples', 'tests/files')]
 
 
 def randoms(count, seed, only):
@@ -198,10 +215,12 @@ def main():
     parser.add_argument('--save')
     options = parser.parse_args()
     program, kinds, failed, total = os.path.abspath(options.program), collections.Counter(), 0, 0
-    its = [] if options.only is not None else fixed()
-    for number, some in enumerate(batches([*its, *randoms(options.count, options.seed, options.only)])):
+    files = [] if options.only is not None else list(fixed())
+    files += randoms(options.count, options.seed, options.only)
+    for number, some in enumerate(batches(files)):
         rng = random.Random(f'{options.seed} {number}')
-        for (label, name, whole, _), told, wrongs in zip(some, *wrongs_of(program, some, random_options(rng), rng)):
+        its = random_options(rng, [octets for *_, octets in some])
+        for (label, name, whole, _), told, wrongs in zip(some, *wrongs_of(program, some, its, rng)):
             total += 1
             kinds[kind_of(told)] += 1
             if wrongs:

@@ -7,10 +7,11 @@ the one description in trees.py.
 PROGRAM is the command, as the gate builds it or as `./rpki` compiles it. It is asked about examples/ and
 tests/circles/, and about N random sets of files (200 if it isn't said) as those of strangers.py: one or two
 trees of real certificates and CRLs, renewals and circles of keys, half of them with the files of a stranger,
-and damaged, foreign and misnamed ones. Several TALs, of one key too, of keys without a trust anchor, and
-files that are none; any file names; names, limits of depth and of steps, --lenient, `--only rejected`,
---strict-exit and -q by chance; each third as a directory. Compared are all three formats, to the byte, the
-status, and the files that are skipped; and each key in the JSON has to be in the page rpki-json(5).
+and damaged, foreign and misnamed ones, some in PEM, with any file names. There are several TALs, of one key
+too, of keys without a trust anchor, and files that are none. By chance the limits of depth and of steps are
+small, names aren't asked, the files are named by their directory, and --lenient, `--only rejected`,
+--strict-exit and -q are given. Compared are all three formats, to the byte, the status, and how many files
+are skipped; and each key in the JSON has to be in the page rpki-json(5).
 
 Prints each difference, what was said of files how often, and at the end `N passed, M failed`.
 """
@@ -36,7 +37,7 @@ import reference as ref
 import strangers
 import trees
 import walks
-from compare_answers import difference, file_of, locator_of, random_name, save
+from compare_answers import difference, file_of, in_pem, locator_of, random_name, save
 from random_paths import chance
 from signers import Signer
 from trees import Question
@@ -62,16 +63,18 @@ def words_of(question):
 
 
 class Asked(NamedTuple):
-    """A question, the files that are skipped, and whether all are named by the directory in which they are."""
+    """A question, the files that are skipped, whether all are named by the directory in which they are, and the
+    names of those in PEM."""
     question: Question
     skipped: list = ()
     is_folder: bool = False
+    in_pem: tuple = ()
 
     def write(self, room):
         for file in [*self.question.files, *self.skipped, *self.question.locators]:
             place = Path(room, file.name)
             place.parent.mkdir(exist_ok=True)
-            place.write_bytes(file.octets)
+            place.write_bytes(in_pem(file) if file.name in self.in_pem else file.octets)
 
     def names(self):
         return ['d'] if self.is_folder else [it.name for it in self.question.files]
@@ -185,7 +188,10 @@ def random_locators(rng, pool, keys, maker):
     if chance(rng, 0.2):
         keys.append(rng.choice([rng.choice(pool).key, rng.choice(maker.keys).key, keys[0]]))
     rng.shuffle(keys)
-    return [File(random_name(rng, '.tal'), locator_of(rng, it)) for it in keys]
+    some = [File(random_name(rng, '.tal'), locator_of(rng, it)) for it in keys]
+    if chance(rng, 0.05):
+        some[0] = some[0]._replace(octets=damaged(rng, some[0].octets))
+    return some
 
 
 def random_question(rng, pool):
@@ -198,11 +204,12 @@ def random_question(rng, pool):
     skipped = [it for it in files if is_folder and not it.name.endswith(('.cer', '.crl'))]
     if is_folder:
         files = sorted((it for it in files if it not in skipped), key=lambda it: it.name.encode())
+    pem = [it.name for it in files if chance(rng, 0.1)] if chance(rng, 0.3) else []
     now = rng.choice([random_folders.NOW] * 12 + [(2024, 1, 1, 0, 0, 0), (2050, 1, 1, 0, 0, 0)])
     return Asked(Question(
         files, random_locators(rng, pool, keys, maker), chance(rng, 0.7), chance(rng, 0.8), now,
         rng.choice([32, 32, 6, rng.randrange(5)]), rng.choice([10_000_000, 6000, rng.randrange(60)]),
-        chance(rng, 0.3), chance(rng, 0.3)), skipped, is_folder)
+        chance(rng, 0.3), chance(rng, 0.3)), skipped, is_folder, pem)
 
 
 def new_signers():
