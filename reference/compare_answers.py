@@ -113,6 +113,12 @@ def file_of(place):
     return File(Path(place).name, (TOP / place).read_bytes())
 
 
+def in_pem(file):
+    """The file's octets in PEM (RFC 7468)."""
+    label = b'X509 CRL' if file.name.endswith('.crl') else b'CERTIFICATE'
+    return b'-----BEGIN %s-----\n%s-----END %s-----\n' % (label, base64.encodebytes(file.octets), label)
+
+
 def examples():
     """Questions about the files of examples/, whose trust anchor has a TAL."""
     its = [file_of(f'examples/{it}.cer') for it in ('anchor', 'first', 'second', 'object')]

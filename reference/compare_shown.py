@@ -16,8 +16,8 @@ Prints each difference, what the files were, and at the end `N passed, M failed`
 """
 
 import argparse
-import base64
 import collections
+import datetime
 import itertools
 import json
 import os
@@ -29,11 +29,13 @@ from pathlib import Path
 
 import compare_places
 import documents as doc
+import folders
 import json_page
 import make
 import questions_locators
+import reference as ref
 import shown
-from compare_answers import difference, random_name, save
+from compare_answers import difference, in_pem, random_name, save
 from random_paths import chance
 from shown import Options
 from verdicts import File
@@ -91,45 +93,35 @@ def compared(printed, answers, form):
         yield 0, f'{form}: what stands between the files'
 
 
-class Run:
-    def __init__(self, options):
-        self.program, self.folder = os.path.abspath(options.program), options.save
-        self.kinds, self.failed, self.total = collections.Counter(), 0, 0
+def wrongs_of(program, some, options, rng):
+    """What is told of some files, each with its octets and those of its object, and by their places how the
+    command's answers differ."""
+    with tempfile.TemporaryDirectory() as room:
+        for _, name, whole, _ in some:
+            Path(room, name).write_bytes(whole)
+        return wrongs_in(program, room, [File(name, octets) for _, name, _, octets in some], options, rng)
 
-    def compare(self, some, options, rng):
-        """Some files, each as it is written and with the octets of its object."""
-        with tempfile.TemporaryDirectory() as room:
-            for _, name, whole, _ in some:
-                Path(room, name).write_bytes(whole)
-            self.compare_in(room, some, options, rng)
 
-    def compare_in(self, room, some, options, rng):
-        names = [name for _, name, _, _ in some]
-        _, told, _ = asked(self.program, room, options, ['-o', 'jsonl'], names)
-        told = [json.loads(it) for it in told.splitlines()]
-        files, wrongs = [File(name, octets) for _, name, _, octets in some], {}
-        status = 0 if all(shown.can_be_shown(it, options.strict) for it in files) else 1
-        for place, it in enumerate(told):
-            wrongs.setdefault(place, []).extend(json_page.wrongs('show', it))
-        for form in ('json', 'text', *(['jsonl'] if chance(rng, 0.2) else [])):
-            its = options if form == 'text' else options._replace(all=True)
-            answers = [shown.answer_of(*it) for it in zip(files, itertools.repeat(its), told)]
-            ended, printed, errors = asked(self.program, room, options, ['-o', form], names)
-            for place, wrong in compared(printed, answers, form):
-                wrongs[place].append(wrong)
-            if errors or ended != status:
-                wrongs[0].append(f'{form}: status {ended}, and wanted {status}: {errors}')
-        self.count(some, files, told, wrongs)
+def wrongs_in(program, room, files, options, rng):
+    names = [it.name for it in files]
+    _, told, _ = asked(program, room, options, ['-o', 'jsonl'], names)
+    told = [json.loads(it) for it in told.splitlines()]
+    wrongs = [json_page.wrongs('show', it) for it in told]
+    status = 0 if all(shown.can_be_shown(it, options.strict) for it in files) else 1
+    for form in ('json', 'text', *(['jsonl'] if chance(rng, 0.2) else [])):
+        its = options if form == 'text' else options._replace(all=True)
+        answers = [shown.answer_of(*it) for it in zip(files, itertools.repeat(its), told)]
+        ended, printed, errors = asked(program, room, options, ['-o', form], names)
+        for place, wrong in compared(printed, answers, form):
+            wrongs[place].append(wrong)
+        if errors or ended != status:
+            wrongs[0].append(f'{form}: status {ended}, and wanted {status}: {errors}')
+    return told, wrongs
 
-    def count(self, some, files, told, wrongs):
-        for place, ((label, *_), file, its) in enumerate(zip(some, files, told)):
-            self.total += 1
-            self.kinds[its.get('type') or its.get('kind') or f'at {its.get("field")}'] += 1
-            if wrongs[place]:
-                self.failed += 1
-                print(f'{label}, {file.name!r}:\n  ' + '\n  '.join(wrongs[place]), flush=True)
-                if self.folder:
-                    save(Path(self.folder, str(self.total)), [file])
+
+def kind_of(told):
+    """What a file is, or where reading stops in it."""
+    return told.get('type') or told.get('kind') or f'at {told.get("field")}'
 
 
 # ---- fixed files
@@ -142,12 +134,34 @@ def fixed():
                 octets = path.read_bytes()
                 yield f'{path.relative_to(TOP)}', path.name, octets, octets
                 if place == 'examples' and path.suffix != '.tal':
-                    label = b'CERTIFICATE' if path.suffix == '.cer' else b'X509 CRL'
-                    whole = b'-----BEGIN %s-----\n%s-----END %s-----\n' % (label, base64.encodebytes(octets), label)
+                    whole = in_pem(File(path.name, octets))
                     yield f'{path.relative_to(TOP)} in PEM', f'{path.name}.pem', whole, octets
 
 
 # ---- random files
+
+def ends_of(octets):
+    """The two ends of the period of a certificate or of a CRL."""
+    cert, crl = (folders.read(it, octets) for it in (ref.decode_cert, ref.decode_crl))
+    if cert:
+        return [cert.tbs.not_before, cert.tbs.not_after]
+    return [crl.tbs.this_update, crl.tbs.next_update] if crl else []
+
+
+def random_time(rng, files):
+    """Any time, or one that is just so far from the end of a period that its text changes there."""
+    ends = [end for octets in files for end in ends_of(octets) if 1 < end[0] < 9999]
+    if not ends or chance(rng, 0.5):
+        year = rng.choice([2026, 2026, 1999, 2050, rng.randrange(1950, 2100)])
+        return year, rng.randrange(1, 13), rng.randrange(1, 29), *(rng.randrange(it) for it in (24, 60, 60))
+    far = rng.choice([0, 60, 3600, 2 * 86400, 30 * 86400]) + rng.randrange(-1, 2)
+    its = datetime.datetime(*rng.choice(ends)) + datetime.timedelta(seconds=far * rng.choice([-1, 1]))
+    return its.timetuple()[:6]
+
+
+def random_options(rng, files):
+    return Options(random_time(rng, files), chance(rng, 0.7), chance(rng, 0.4))
+
 
 def random_file(rng, files):
     """How a file was made, and its octets."""
@@ -161,14 +175,24 @@ def random_file(rng, files):
     return compare_places.damaged(rng, files)
 
 
+def named_file(rng, files):
+    """How a file was made, its name, its octets, and those of its object."""
+    label, octets = random_file(rng, files)
+    if chance(rng, 0.1):
+        octets += rng.randbytes(rng.randrange(1, 300))
+    return label, random_name(rng, ''), octets, octets
+
+
+def sound_files():
+    """The certificates and CRLs that are damaged, without what stands behind them."""
+    return [ref.Cursor(it).capture_one() for it in compare_places.files_of('examples', 'tests/files')]
+
+
 def randoms(count, seed, only):
-    files = compare_places.files_of('examples', 'tests/files')
+    files = sound_files()
     for index in range(count) if only is None else [only]:
-        rng = random.Random(f'shown {seed} {index}')
-        label, octets = random_file(rng, files)
-        if chance(rng, 0.1):
-            octets += rng.randbytes(rng.randrange(1, 300))
-        yield f'{index}: {label}', random_name(rng, ''), octets, octets
+        label, *rest = named_file(random.Random(f'shown {seed} {index}'), files)
+        yield f'{index}: {label}', *rest
 
 
 def batches(files):
@@ -190,16 +214,23 @@ def main():
     parser.add_argument('--only', type=int)
     parser.add_argument('--save')
     options = parser.parse_args()
-    run = Run(options)
-    its = [] if options.only is not None else fixed()
-    for number, some in enumerate(batches([*its, *randoms(options.count, options.seed, options.only)])):
+    program, kinds, failed, total = os.path.abspath(options.program), collections.Counter(), 0, 0
+    files = [] if options.only is not None else list(fixed())
+    files += randoms(options.count, options.seed, options.only)
+    for number, some in enumerate(batches(files)):
         rng = random.Random(f'{options.seed} {number}')
-        year = rng.choice([2026, 2026, 1999, 2050, rng.randrange(1950, 2100)])
-        now = year, rng.randrange(1, 13), rng.randrange(1, 29), *(rng.randrange(it) for it in (24, 60, 60))
-        run.compare(some, Options(now, chance(rng, 0.7), chance(rng, 0.4)), rng)
-    for kind, times in run.kinds.most_common():
+        its = random_options(rng, [octets for *_, octets in some])
+        for (label, name, whole, _), told, wrongs in zip(some, *wrongs_of(program, some, its, rng)):
+            total += 1
+            kinds[kind_of(told)] += 1
+            if wrongs:
+                failed += 1
+                print(f'{label}, {name!r}:\n  ' + '\n  '.join(wrongs), flush=True)
+                if options.save:
+                    save(Path(options.save, str(total)), [File(name, whole)])
+    for kind, times in kinds.most_common():
         print(f'{times:7} {kind}')
-    return make.totals((run.total - run.failed, run.failed))
+    return make.totals((total - failed, failed))
 
 
 if __name__ == '__main__':

@@ -7,10 +7,11 @@ the one description in trees.py.
 PROGRAM is the command, as the gate builds it or as `./rpki` compiles it. It is asked about examples/ and
 tests/circles/, and about N random sets of files (200 if it isn't said) as those of strangers.py: one or two
 trees of real certificates and CRLs, renewals and circles of keys, half of them with the files of a stranger,
-and damaged, foreign and misnamed ones. Several TALs, of one key too, of keys without a trust anchor, and
-files that are none; any file names; names, limits of depth and of steps, --lenient, `--only rejected`,
---strict-exit and -q by chance; each third as a directory. Compared are all three formats, to the byte, the
-status, and the files that are skipped; and each key in the JSON has to be in the page rpki-json(5).
+and damaged, foreign and misnamed ones, some in PEM, with any file names. There are several TALs, of one key
+too, of keys without a trust anchor, and files that are none. By chance the limits of depth and of steps are
+small, names aren't asked, the files are named by their directory, and --lenient, `--only rejected`,
+--strict-exit and -q are given. Compared are all three formats, to the byte, the status, and how many files
+are skipped; and each key in the JSON has to be in the page rpki-json(5).
 
 Prints each difference, what was said of files how often, and at the end `N passed, M failed`.
 """
@@ -25,7 +26,9 @@ import re
 import subprocess
 import sys
 import tempfile
+from dataclasses import replace
 from pathlib import Path
+from typing import NamedTuple
 
 import json_page
 import make
@@ -34,7 +37,7 @@ import reference as ref
 import strangers
 import trees
 import walks
-from compare_answers import difference, file_of, locator_of, random_name, save
+from compare_answers import difference, file_of, in_pem, locator_of, random_name, save
 from random_paths import chance
 from signers import Signer
 from trees import Question
@@ -59,29 +62,22 @@ def words_of(question):
     return [*words, *(['--only', 'rejected'] if question.only else [])]
 
 
-class Room:
-    """A directory with the files of a question, which are named one by one or by the directory in it."""
+class Asked(NamedTuple):
+    """A question, the files that are skipped, whether all are named by the directory in which they are, and the
+    names of those in PEM."""
+    question: Question
+    skipped: list = ()
+    is_folder: bool = False
+    in_pem: tuple = ()
 
-    def __init__(self, program, question, skipped, is_folder):
-        self.program, self.question, self.skipped = program, question, skipped
-        self.room = tempfile.TemporaryDirectory()
-        self.names = ['d'] if is_folder else [it.name for it in question.files]
-        for file in [*question.files, *skipped, *question.locators]:
-            place = Path(self.room.name, file.name)
+    def write(self, room):
+        for file in [*self.question.files, *self.skipped, *self.question.locators]:
+            place = Path(room, file.name)
             place.parent.mkdir(exist_ok=True)
-            place.write_bytes(file.octets)
+            place.write_bytes(in_pem(file) if file.name in self.in_pem else file.octets)
 
-    def __enter__(self):
-        return self
-
-    def __exit__(self, *_):
-        self.room.cleanup()
-
-    def asked(self, form, question):
-        done = subprocess.run([self.program, 'tree', *form, *words_of(question), '--', *self.names],
-                              cwd=self.room.name, check=False, stdin=subprocess.DEVNULL, capture_output=True,
-                              timeout=MOST_SECONDS)
-        return done.returncode, done.stdout.decode(errors='replace'), done.stderr.decode(errors='replace')
+    def names(self):
+        return ['d'] if self.is_folder else [it.name for it in self.question.files]
 
     def error_wrongs(self, errors):
         """What is wrong of standard error, which has how many files were skipped alone."""
@@ -90,9 +86,22 @@ class Room:
             yield f'standard error, of {len(self.skipped)} files that are skipped: {errors}'
 
 
-def wrongs_of(room, question, rng):
+def answers(program, room, words, names):
+    done = subprocess.run([program, 'tree', *words, '--', *names], cwd=room, check=False,
+                          stdin=subprocess.DEVNULL, capture_output=True, timeout=MOST_SECONDS)
+    return done.returncode, done.stdout.decode(errors='replace'), done.stderr.decode(errors='replace')
+
+
+def wrongs_of(program, asked, rng):
     """What is found, and how the command's answers differ from it."""
-    _, told, _ = room.asked(['-j'], question._replace(only=False))
+    with tempfile.TemporaryDirectory() as room:
+        asked.write(room)
+        return wrongs_in(program, room, asked, rng)
+
+
+def wrongs_in(program, room, asked, rng):
+    question, names = asked.question, asked.names()
+    _, told, _ = answers(program, room, ['-j', *words_of(question._replace(only=False))], names)
     told = json.loads(told or '{}')
     wrongs = json_page.wrongs('tree', told)
     found = trees.find(question, told)
@@ -100,8 +109,8 @@ def wrongs_of(room, question, rng):
     forms = [('json', ['-j'], answer.json()), ('text', [], answer.text()),
              ('jsonl', ['-o', 'jsonl'], trees.json_lines(answer)), ('nothing', ['-q'], '')]
     for form, words, wanted in [*forms[:2], *rng.sample(forms[2:], rng.choice([0, 0, 1]))]:
-        ended, said, errors = room.asked(words, question)
-        wrongs += room.error_wrongs(errors)
+        ended, said, errors = answers(program, room, [*words, *words_of(question)], names)
+        wrongs += asked.error_wrongs(errors)
         if said != wanted or ended != status:
             wrongs.append(f'{form}: status {ended}, and wanted {status}\n' + difference(wanted, said))
     return found, wrongs
@@ -117,12 +126,13 @@ def fixed():
         few = [it for it in files if it.name != 'revoked.crl']
         locators = [file_of(f'{place}/{it}.tal') for it in tals]
         other = file_of('tests/locators/02-comment.tal')
-        turn = itertools.cycle([(32, 10_000_000), (1, 3), (2, 10), (32, 20), (0, 5), (3, 1000), (32, 0)])
+        turn = itertools.cycle(itertools.product(
+            [(32, 10_000_000), (1, 3), (2, 10), (32, 20), (0, 5), (3, 1000), (32, 0)],
+            [(True, 2026), (False, 2026), (True, 2040)]))
         for some in (files, few, files[:3], few[::-1], few[1:]):
-            for its in (locators, [other, *locators], [*locators, *locators], [other], [files[0]]):
-                for names, year in ((True, 2026), (False, 2026), (True, 2040)):
-                    depth, steps = next(turn)
-                    yield place, Question(some, its, names, True, (year, 11, 25, 0, 0, 0), depth, steps)
+            for its in (locators, locators, [other, *locators], [*locators, *locators], [other], [files[0]]):
+                (depth, steps), (names, year) = next(turn)
+                yield place, Asked(Question(some, its, names, True, (year, 11, 25, 0, 0, 0), depth, steps))
 
 
 # ---- random files
@@ -146,6 +156,17 @@ def oddities(rng, some):
         lambda: ('.cer', b'rsync:')])()
 
 
+def odd_anchor(rng, maker):
+    """Another certificate of a trust anchor's key: a later one, one of other names, without resources, or with
+    inherited ones; or the first once more, with bytes behind it."""
+    signer = maker.keys[0]
+    f = random_folders.fields(signer.key, signer.key, maker.next_serial(), crl_uri=None, ca_issuer=None,
+                              asn=random_folders.blocks(1, 1000), not_after=(2045, 1, 1, 0, 0, 0))
+    change = rng.choice([{}, {'issuer': strangers.NAMES[0]}, {'asn': ref.MISSING, 'v4': ()}, {'asn': ref.INHERIT},
+                         {'not_before': random_folders.FUTURE}, {'basic_ca': False}])
+    return rng.choice([signer.signed(ref.encode_tbs(replace(f, **change))), maker.nodes[0].octets + b'\0'])
+
+
 def random_files(rng, pool):
     """The ends of names and octets of files, and the keys of their trust anchors."""
     makers = [strangers.drawn(rng, pool) for _ in range(rng.choice([1, 1, 2]))]
@@ -156,6 +177,7 @@ def random_files(rng, pool):
         some += [(name[-4:], octets) for name, octets in stranger.files.items()]
     for _ in range(rng.choice([0, 0, 1, 2])):
         some += oddities(rng, some)
+    some += [('.cer', odd_anchor(rng, it)) for it in makers if chance(rng, 0.2)]
     rng.shuffle(some)
     return some, [maker.keys[0].key for maker in makers], makers[0]
 
@@ -166,27 +188,36 @@ def random_locators(rng, pool, keys, maker):
     if chance(rng, 0.2):
         keys.append(rng.choice([rng.choice(pool).key, rng.choice(maker.keys).key, keys[0]]))
     rng.shuffle(keys)
-    return [File(random_name(rng, '.tal'), locator_of(rng, it)) for it in keys]
+    some = [File(random_name(rng, '.tal'), locator_of(rng, it)) for it in keys]
+    if chance(rng, 0.05):
+        some[0] = some[0]._replace(octets=damaged(rng, some[0].octets))
+    return some
 
 
 def random_question(rng, pool):
-    """A question, the files that it skips, and whether the files are named by their directory."""
+    """Random files, and what is asked of them."""
     some, keys, maker = random_files(rng, pool)
     is_folder = chance(rng, 0.33)
     files = [File(('d/' if is_folder else '') + random_name(rng, end), octets) for end, octets in some]
     files = list({it.name: it for it in files}.values())
+    files += [rng.choice(files)] * chance(rng, 0.1 * (not is_folder))
     skipped = [it for it in files if is_folder and not it.name.endswith(('.cer', '.crl'))]
     if is_folder:
         files = sorted((it for it in files if it not in skipped), key=lambda it: it.name.encode())
+    pem = [it.name for it in files if chance(rng, 0.1)] if chance(rng, 0.3) else []
     now = rng.choice([random_folders.NOW] * 12 + [(2024, 1, 1, 0, 0, 0), (2050, 1, 1, 0, 0, 0)])
-    return Question(
+    return Asked(Question(
         files, random_locators(rng, pool, keys, maker), chance(rng, 0.7), chance(rng, 0.8), now,
         rng.choice([32, 32, 6, rng.randrange(5)]), rng.choice([10_000_000, 6000, rng.randrange(60)]),
-        chance(rng, 0.3), chance(rng, 0.3)), skipped, is_folder
+        chance(rng, 0.3), chance(rng, 0.3)), skipped, is_folder, pem)
+
+
+def new_signers():
+    return [Signer() for _ in range(KEYS)]
 
 
 def randoms(count, seed, only):
-    pool = [Signer() for _ in range(KEYS)]
+    pool = new_signers()
     for index in range(count) if only is None else [only]:
         yield f'files {index}', random_question(random.Random(f'trees {seed} {index}'), pool)
 
@@ -211,21 +242,20 @@ def main():
     parser.add_argument('--save')
     options = parser.parse_args()
     program, kinds, failed, total = os.path.abspath(options.program), collections.Counter(), 0, 0
-    its = [] if options.only is not None else [(label, (it, [], False)) for label, it in fixed()]
-    for label, (question, skipped, is_folder) in [*its, *randoms(options.count, options.seed, options.only)]:
-        total += 1
-        with Room(program, question, skipped, is_folder) as room:
-            try:
-                found, wrongs = wrongs_of(room, question, random.Random(total))
-            except walks.TooMany:
-                kinds['too many paths'] += 1
-                continue
+    its = [] if options.only is not None else fixed()
+    for label, asked in [*its, *randoms(options.count, options.seed, options.only)]:
+        total, question = total + 1, asked.question
+        try:
+            found, wrongs = wrongs_of(program, asked, random.Random(total))
+        except walks.TooMany:
+            kinds['too many paths'] += 1
+            continue
         kinds.update(kinds_of(question, found))
         if wrongs:
             failed += 1
             print(f'{label}: {" ".join(words_of(question))}\n  ' + '\n  '.join(wrongs), flush=True)
             if options.save:
-                save(Path(options.save, f'{total}'), [*question.files, *question.locators])
+                save(Path(options.save, str(total)), [*question.files, *question.locators])
     for kind, times in kinds.most_common():
         print(f'{times:7} {kind}')
     return make.totals((total - failed, failed))

@@ -241,9 +241,11 @@ def say_resources(answer, f):
     answer.line('Overclaimed resources', doc.word(('overclaim',), *OVERCLAIMS[f.overclaim]))
     its = ('subordinate_resources',)
     answer.array(its)
-    verdicts.say_listed(answer, 'AS resources', 'as_inherit', its, f.asn, verdicts.numbers)
-    verdicts.say_listed(answer, 'IPv4 resources', 'ip4_inherit', its, shifted(f.v4), verdicts.addresses(ipaddress.IPv4Address))
-    verdicts.say_listed(answer, 'IPv6 resources', 'ip6_inherit', its, f.v6, verdicts.addresses(ipaddress.IPv6Address))
+    for label, key, resources, values in (
+            ('AS resources', 'as_inherit', f.asn, verdicts.numbers),
+            ('IPv4 resources', 'ip4_inherit', shifted(f.v4), verdicts.addresses(ipaddress.IPv4Address)),
+            ('IPv6 resources', 'ip6_inherit', f.v6, verdicts.addresses(ipaddress.IPv6Address))):
+        verdicts.say_listed(answer, label, key, its, resources, values)
 
 
 def say_profiles(answer, cert, options):
@@ -302,7 +304,8 @@ def say_list(answer, crl, options):
     is_cut = len(entries) > FEW and not options.all
     for number, it in enumerate(entries[:FEW] if is_cut else entries):
         its = ('revoked_certs', number)
-        answer.further(doc.text((*its, 'serial'), verdicts.serial_text(it.serial)), '  ', doc.time((*its, 'date'), it.date))
+        answer.further(doc.text((*its, 'serial'), verdicts.serial_text(it.serial)), '  ',
+                       doc.time((*its, 'date'), it.date))
     if is_cut:
         answer.further('..')
     say_signature(answer)
@@ -335,7 +338,8 @@ def say_unread(answer, found, options):
         answer.line('To do', doc.text(('advice',), said.advice))
     if options.all or not found.sort:
         answer.line('Error', doc.text(('fault',), found.error))
-        answer.line('Where', doc.text(('field',), found.place.field), ', at byte ', doc.count(('byte',), found.place.octet))
+        answer.line('Where', doc.text(('field',), found.place.field), ', at byte ',
+                    doc.count(('byte',), found.place.octet))
         answer.line('Expected', doc.text(('expected',), found.expected))
         if found.found:
             answer.line('Found', doc.text(('found',), found.found))

@@ -59,10 +59,10 @@ class Verdict(NamedTuple):
 
 
 class Part(NamedTuple):
-    """What is found of a TAL: the place of the trust anchor, with the verdicts on places, and how far the
-    walk went; or, of none, what is wrong at the places with its key."""
+    """What is found of a TAL: the places of the trust anchor and its copies, that which is told first, with
+    the verdicts on places, and how far the walk went; or, of none, what is wrong at the places with its key."""
     locator: File
-    anchor: Optional[int]
+    anchors: list
     verdicts: dict
     ended: str
     wrong: dict
@@ -121,10 +121,16 @@ def greatest(certs):
 
 # ---- the walk
 
+def copies(its):
+    """Of each place the first one with the same certificate, whatever follows it."""
+    firsts = {}
+    return {place: firsts.setdefault(cert.signed, place) for place, cert in its.certs}
+
+
 def walk(its, anchor, question):
     """The verdicts on places, and how far the walk went: like that of walks.py, but of each place, and with
-    what names a CA's key and isn't its child."""
-    told, ends = collections.defaultdict(list), {'whole'}
+    what names a CA's key and isn't its child. Of copies the first is judged, and the verdict is that on all."""
+    told, ends, firsts = collections.defaultdict(list), {'whole'}, copies(its)
 
     def tell(path, place, cert, is_child):
         kind, result, faults = its.faults(place, cert, path.result)
@@ -135,11 +141,12 @@ def walk(its, anchor, question):
         return walks.Path((*path.places, place), result, path) if result and kind == CA else None
 
     def below(path, share):
-        named = [(*it, its.is_child(it[1], path.result)) for it in its.below(path.result)]
+        named = [(place, cert, its.is_child(cert, path.result)) for place, cert in its.below(path.result)
+                 if firsts[place] == place]
         for place, cert, is_child in named:
             if not is_child:
                 tell(path, place, cert, False)
-        count = len(its.children(path.result))
+        count = sum(is_child for _, _, is_child in named)
         if count and len(path.certs) > question.depth:
             ends.add('too_deep')
         elif count > share:
@@ -150,13 +157,12 @@ def walk(its, anchor, question):
 
     def go_on(path, cas, left):
         above = {its.entity(it) for it in path.certs}
-        number = len({it.certs[-1].signed.data for it in cas})
         for ca in cas:
             if its.entity(ca.certs[-1]) not in above:
-                below(ca, left // number)
+                below(ca, left // len(cas))
 
     below(anchor, question.steps)
-    return dict(told), next(it for it in ENDS if it in ends)
+    return {place: told[it] for place, it in firsts.items()}, next(it for it in ENDS if it in ends)
 
 
 def firsts_of_keys(question):
@@ -178,20 +184,20 @@ def part_of(its, question, file, key, told):
             else:
                 valid[place] = cert
     if not valid:
-        return Part(file, None, {}, 'whole', wrong)
+        return Part(file, [], {}, 'whole', wrong)
     places = greatest(valid)
-    place = next((it for it in places if question.files[it].name == told.get('trust_anchor')), places[0])
-    anchor = walks.Path((place,), ref.verify(TA, valid[place], None, question.now, rsa.verifier))
-    return Part(file, place, *walk(its, anchor, question), {})
+    places.sort(key=lambda it: question.files[it].name != told.get('trust_anchor'))
+    anchor = walks.Path((places[0],), ref.verify(TA, valid[places[0]], None, question.now, rsa.verifier))
+    return Part(file, places, *walk(its, anchor, question), {})
 
 
 # ---- what the parts say together
 
 def rank(part, place):
     """How much a part tells of a certificate: the least number tells most."""
-    if part.anchor is None:
+    if not part.anchors:
         return 5
-    if place == part.anchor:
+    if place in part.anchors:
         return 0
     some = part.verdicts.get(place)
     if not some:
@@ -276,21 +282,23 @@ def row_of(file, cert):
 
 
 def find(question, told):
-    """What is found of the files, if this JSON is told of them."""
+    """What is found of the files, if this JSON is told of them all."""
     fault = verdicts.locator_fault(question)
     if fault:
         return fault
     its = walks.Walks([it.octets for it in question.files], rsa.verifier, question.names, question.strict,
                       question.now)
     its.lists = [ref.decode_crl(it.octets) for it in question.files if verdicts.is_list(it)]
+    lines = told.get('files', [])
+    lines += [{}] * (len(question.files) - len(lines))
     tals = {it['tal']: it for it in told.get('tals', [])}
     parts = [part_of(its, question, file, key, tals.get(file.name, {}))
              for key, file in firsts_of_keys(question).items()]
-    certs, lines = dict(its.certs), {it['file']: it for it in told.get('files', [])}
+    certs = dict(its.certs)
     rows = [row_of(file, certs.get(place)) for place, file in enumerate(question.files)]
     found = Found(parts, its.certs, rows)
     for place, cert in its.certs:
-        rows[place] = rows[place]._replace(said=said_of(found, place, cert, lines.get(rows[place].file.name, {})))
+        rows[place] = rows[place]._replace(said=said_of(found, place, cert, lines[place]))
     return found
 
 
@@ -314,7 +322,7 @@ def status_of(question, found):
     file is damaged and there is more than trust anchors."""
     if isinstance(found, Fault):
         return 1
-    is_good = bool(found.parts) and all(it.anchor is not None for it in found.parts)
+    is_good = bool(found.parts) and all(it.anchors for it in found.parts)
     is_good &= worst_end(found.parts) == 'whole' and not any(it.said.word in UNACCEPTED for it in found.rows)
     if question.strict_exit:
         is_good &= damage(question) == (0, 0) and not are_anchors(found)
@@ -326,15 +334,15 @@ def status_of(question, found):
 def say_tals(answer, found):
     answer.array(('tals',))
     for number, part in enumerate(found.parts):
-        its, key = ('tals', number), 'fault' if part.anchor is None else 'ended'
+        its = 'tals', number
         name = doc.inner((*its, 'tal'), part.locator.name)
-        if part.anchor is None:
-            answer.head('TAL', name, ': no valid trust anchor (', doc.text((*its, key), 'NoAnchor'), ', ',
-                        doc.text((*its, 'standard'), 'RFC 8630 3'), ')')
-        else:
+        if part.anchors:
             answer.head('TAL', name, ', trust anchor ',
-                        doc.text((*its, 'trust_anchor'), found.rows[part.anchor].file.name))
-            answer.keep(doc.word((*its, key), '', part.ended))
+                        doc.text((*its, 'trust_anchor'), found.rows[part.anchors[0]].file.name))
+            answer.keep(doc.word((*its, 'ended'), '', part.ended))
+        else:
+            answer.head('TAL', name, ': no valid trust anchor (', doc.text((*its, 'fault'), 'NoAnchor'), ', ',
+                        doc.text((*its, 'standard'), 'RFC 8630 3'), ')')
 
 
 def say_accepted(answer, its, found, row):
