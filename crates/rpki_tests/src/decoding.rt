@@ -2,6 +2,7 @@
 //! 5.1).
 
 use crate::anchors::octets;
+use crate::checks::{check, check_shown, check_text};
 use crate::lists::TWO;
 use crate::samples;
 use bytes::Bytes;
@@ -18,11 +19,10 @@ fn assert_misread<T: Drop>(
     wanted: &str,
 ) {
     let why = answer.err().expect(rt, "they begin with none");
-    let told = format!(in alloc; "{why}").expect(rt, "memory");
-    assert_eq!(rt; told.as_str(), printed);
-    assert!(rt; !why.is_memory());
+    check_shown(rt, alloc, &why, printed);
+    check(rt, !why.is_memory(), "an error of the octets");
     let place = why.place().expect(rt, "a place");
-    assert_eq!(rt; place.wanted, wanted);
+    check_text(rt, place.wanted, wanted);
     drop(why);
 }
 
@@ -41,7 +41,7 @@ const SEQUENCE: &str = "a SEQUENCE that ends within the file (RFC 5280 4.1, 5.1)
 // That these octets stand at this place.
 fn assert_stands(rt: &impl Abort, octets: &[u8], place: usize, wanted: &[u8]) {
     let behind = octets.get(place..).expect(rt, "the place");
-    assert!(rt; behind.starts_with(wanted));
+    check(rt, behind.starts_with(wanted), "octets at the place");
 }
 
 // The octets with another one at this place.
@@ -53,42 +53,46 @@ fn altered(rt: &impl Abort, alloc: Global, octets: &[u8], place: usize, octet: u
 
 #[test]
 fn of_no_octets(rt: HostRuntime) {
+    let alloc = rt.alloc();
     let none = Bytes::from_static(b"");
-    assert_no_cert(&rt, rt.alloc(), &none, CUT, SEQUENCE);
-    assert_no_list(&rt, rt.alloc(), &none, CUT, SEQUENCE);
+    assert_no_cert(&rt, alloc, &none, CUT, SEQUENCE);
+    assert_no_list(&rt, alloc, &none, CUT, SEQUENCE);
 }
 
 #[test]
 fn of_a_certificate_that_is_cut(rt: HostRuntime) {
-    let octets = octets(&rt, rt.alloc());
+    let alloc = rt.alloc();
+    let octets = octets(&rt, alloc);
     let last = octets.len().checked_sub(1).expect(&rt, "an octet");
     let cut = octets.slice(0..last).expect(&rt, "memory");
-    assert_no_cert(&rt, rt.alloc(), &cut, CUT, SEQUENCE);
+    assert_no_cert(&rt, alloc, &cut, CUT, SEQUENCE);
 }
 
 // Both headers have four octets, and the version five.
 #[test]
 fn of_a_negative_serial_number(rt: HostRuntime) {
-    let octets = octets(&rt, rt.alloc());
+    let alloc = rt.alloc();
+    let octets = octets(&rt, alloc);
     assert_stands(&rt, &octets, 13, b"\x02\x01\x0c");
-    let negative = altered(&rt, rt.alloc(), &octets, 15, 0x80);
+    let negative = altered(&rt, alloc, &octets, 15, 0x80);
     let wanted = "an INTEGER that isn't negative, of 20 octets at most (RFC 5280 4.1.2.2)";
     let printed = "bad value: the serial number, from octet 13";
-    assert_no_cert(&rt, rt.alloc(), &negative, printed, wanted);
+    assert_no_cert(&rt, alloc, &negative, printed, wanted);
 }
 
 // Its outer header has four octets, and the next one three.
 #[test]
 fn of_a_list_of_version_3(rt: HostRuntime) {
-    let octets = samples::shared(rt.alloc(), TWO).expect(&rt, "memory");
+    let alloc = rt.alloc();
+    let octets = samples::shared(alloc, TWO).expect(&rt, "memory");
     assert_stands(&rt, &octets, 7, b"\x02\x01\x01");
-    let altered = altered(&rt, rt.alloc(), &octets, 9, 2);
+    let altered = altered(&rt, alloc, &octets, 9, 2);
     let wanted = "version 2: the INTEGER 1 (RFC 6487 5)";
     let printed = "bad value: the version, from octet 7";
-    assert_no_list(&rt, rt.alloc(), &altered, printed, wanted);
+    assert_no_list(&rt, alloc, &altered, printed, wanted);
     let wanted = "version 3: 2 inside [0], and nothing behind it (RFC 6487 4.1)";
     let printed = "unexpected identifier: the version, from octet 7";
-    assert_no_cert(&rt, rt.alloc(), &octets, printed, wanted);
+    assert_no_cert(&rt, alloc, &octets, printed, wanted);
 }
 
 // That octets can't be read for the fault that is printed so.
@@ -100,7 +104,11 @@ fn assert_fault<T: Drop>(
 ) {
     let why = answer.err().expect(rt, "they begin with none");
     let told = format!(in alloc; "{why}").expect(rt, "memory");
-    assert!(rt; told.as_str().starts_with(printed));
+    check(
+        rt,
+        told.as_str().starts_with(printed),
+        "the error that is printed",
+    );
     drop(why);
 }
 

@@ -1,12 +1,12 @@
 //! Readers and writers that are slow, fail, never end, or count their calls.
 ghost use Rattle.std.specs.Prelude.{◌≡◌, IfOk};
 
+use crate::checks::{check, check_count, check_octets, check_text};
 use rpki_lines::{MAX_INPUT, RunFault, Status, Watched, program, run};
 use std::alloc::Global;
 use std::io;
 use std::io::{Error, ErrorKind, Read, Write};
 use std::process::{Abort, ExitCode};
-use std::test::Fail;
 
 // An entry of serial 12, revoked on 2019-05-01.
 const YES: &[u8] = b"revoked 3014301202010C170D3139303530313030303030305A 0C\n";
@@ -74,24 +74,47 @@ impl Write for Narrow {
     }
 }
 
+// That a run was answered well.
+fn check_done(rt: &impl Abort, answer: Result<Status, RunFault>) {
+    check(
+        rt,
+        matches!(&answer, Ok(Status::Done)),
+        "a run that is done",
+    );
+    drop(answer);
+}
+
 #[test]
-fn devices_may_be_slow(rt: HostRuntime) -> Result<(), Fail> {
+fn devices_may_be_slow(rt: HostRuntime) {
+    let alloc = rt.alloc();
     let mut reader = Watched::new(OneByOne {
         octets: YES,
         after: After::End,
     });
     let mut output = Narrow {
-        octets: Vec::new(rt.alloc()),
+        octets: Vec::new(alloc),
         room: 9,
         fails: true,
     };
     let mut writer = Watched::new(&mut output);
-    assert_eq!(rt; run(rt.alloc(), &mut reader, &mut writer)?, Status::Done);
-    assert!(rt; !reader.failed());
-    assert!(rt; !writer.failed());
-    assert_eq!(rt; output.octets.as_slice(), b"yes\n".as_slice());
+    check_done(&rt, run(alloc, &mut reader, &mut writer));
+    check(
+        &rt,
+        !reader.failed() && !writer.failed(),
+        "no device that failed",
+    );
+    check_octets(&rt, &output.octets, b"yes\n");
     drop(output);
-    Ok(())
+}
+
+// The name of a fault, if one ended the run.
+fn name_of(answer: Result<Status, RunFault>) -> &'static str {
+    let name = match &answer {
+        Ok(_) => "ok",
+        Err(fault) => fault.name(),
+    };
+    drop(answer);
+    name
 }
 
 // How the run ends that reads these octets, and whether the reader failed. The writer doesn't, and
@@ -100,51 +123,63 @@ fn fault_of(rt: &impl Abort, alloc: Global, octets: &[u8], after: After) -> (&'s
     let mut reader = Watched::new(OneByOne { octets, after });
     let mut output = Vec::new(alloc);
     let mut writer = Watched::new(&mut output);
-    let name = match run(alloc, &mut reader, &mut writer) {
-        Ok(_) => "ok",
-        Err(fault) => fault.name(),
-    };
-    assert!(rt; !writer.failed());
-    assert!(rt; output.is_empty());
+    let name = name_of(run(alloc, &mut reader, &mut writer));
+    check(
+        rt,
+        !writer.failed() && output.is_empty(),
+        "a writer that was asked for nothing",
+    );
     (name, reader.failed())
+}
+
+// How the run ends that reads this input at once, and whether the reader failed.
+fn fault_of_input(alloc: Global, input: &[u8]) -> (&'static str, bool) {
+    let mut reader = Watched::new(input);
+    let mut output = Vec::new(alloc);
+    let mut writer = Watched::new(&mut output);
+    let name = name_of(run(alloc, &mut reader, &mut writer));
+    (name, reader.failed())
+}
+
+// That a run ended by this name, and whether the device failed.
+fn check_end(rt: &impl Abort, found: (&str, bool), wanted: (&str, bool)) {
+    check_text(rt, found.0, wanted.0);
+    check(rt, found.1 == wanted.1, "whether the device failed");
 }
 
 #[test]
 fn a_reader_may_fail_at_each_read(rt: HostRuntime) {
+    let alloc = rt.alloc();
     for (reads, _) in YES.iter().enumerate() {
         let octets = YES.get(..reads).expect(&rt, "a front");
-        let (name, failed) = fault_of(&rt, rt.alloc(), octets, After::Fail);
-        assert_eq!(rt; name, "Read", "at {reads}");
-        assert!(rt; failed, "at {reads}");
+        let found = fault_of(&rt, alloc, octets, After::Fail);
+        check_end(&rt, found, ("Read", true));
     }
-    assert_eq!(rt; fault_of(&rt, rt.alloc(), YES, After::Fail), ("Read", true));
-    assert_eq!(rt;
-        fault_of(&rt, rt.alloc(), YES, After::Zeros),
-        ("TooLong", false)
-    );
+    let found = fault_of(&rt, alloc, YES, After::Fail);
+    check_end(&rt, found, ("Read", true));
+    let found = fault_of(&rt, alloc, YES, After::Zeros);
+    check_end(&rt, found, ("TooLong", false));
 }
 
-// What is answered to an input.
-fn answer(alloc: Global, input: &[u8]) -> Result<(Status, Vec<u8>), RunFault> {
+// That this is printed of an input.
+fn check_printed(rt: &impl Abort, alloc: Global, input: &[u8], wanted: &[u8]) {
     let mut output = Vec::new(alloc);
     let mut reader = Watched::new(input);
     let mut writer = Watched::new(&mut output);
-    let status = run(alloc, &mut reader, &mut writer)?;
-    Ok((status, output))
+    check_done(rt, run(alloc, &mut reader, &mut writer));
+    check_octets(rt, &output, wanted);
 }
 
 #[test]
-fn the_longest_input_is_read(rt: HostRuntime) -> Result<(), Fail> {
+fn the_longest_input_is_read(rt: HostRuntime) {
+    let alloc = rt.alloc();
     // One octet of 00 after another, as serial: a list, `revoked - `, and the digits.
-    let mut input = Vec::new(rt.alloc());
-    input.extend_from_slice(b"revoked - ")?;
-    input.resize(MAX_INPUT, b'0')?;
-    let (status, output) = answer(rt.alloc(), &input)?;
-    assert_eq!(rt; status, Status::Done);
-    assert_eq!(rt; output.as_slice(), b"no\n".as_slice());
-    input.push(b'\n')?;
-    assert!(rt; matches!(&answer(rt.alloc(), &input), Err(RunFault::TooLong)));
-    Ok(())
+    let mut input = Vec::from_slice(alloc, b"revoked - ").expect(&rt, "memory");
+    input.resize(MAX_INPUT, b'0').expect(&rt, "memory");
+    check_printed(&rt, alloc, &input, b"no\n");
+    input.push(b'\n').expect(&rt, "memory");
+    check_end(&rt, fault_of_input(alloc, &input), ("TooLong", false));
+    drop(input);
 }
 
 // How the run ends whose writer takes so many octets, one a write, and then fails or takes none;
@@ -157,25 +192,19 @@ fn fault_behind(alloc: Global, room: usize, fails: bool) -> (&'static str, bool)
         fails,
     };
     let mut writer = Watched::new(&mut output);
-    let name = match run(alloc, &mut reader, &mut writer) {
-        Ok(_) => "ok",
-        Err(fault) => fault.name(),
-    };
+    let name = name_of(run(alloc, &mut reader, &mut writer));
     (name, writer.failed())
 }
 
 #[test]
 fn a_writer_may_fail_at_each_write(rt: HostRuntime) {
+    let alloc = rt.alloc();
     // Four octets are written.
     for room in 0..4 {
-        assert_eq!(rt;
-            fault_behind(rt.alloc(), room, true),
-            ("Write", true),
-            "at {room}"
-        );
+        check_end(&rt, fault_behind(alloc, room, true), ("Write", true));
     }
-    assert_eq!(rt; fault_behind(rt.alloc(), 2, false), ("Write", true));
-    assert_eq!(rt; fault_behind(rt.alloc(), 4, true), ("ok", false));
+    check_end(&rt, fault_behind(alloc, 2, false), ("Write", true));
+    check_end(&rt, fault_behind(alloc, 4, true), ("ok", false));
 }
 
 // The status of the line program with this reader, and a writer of so much room.
@@ -190,22 +219,33 @@ fn status_of(alloc: Global, after: After, room: usize) -> ExitCode {
     program(alloc, &mut reader, &mut writer)
 }
 
-#[test]
-fn the_program_tells_of_a_fault(rt: HostRuntime) {
-    let told = ExitCode::from(3);
-    assert!(rt; status_of(rt.alloc(), After::End, 4) == ExitCode::SUCCESS);
-    assert!(rt; status_of(rt.alloc(), After::End, 3) == told);
-    assert!(rt; status_of(rt.alloc(), After::Fail, 4) == told);
-    assert!(rt; status_of(rt.alloc(), After::Zeros, 4) == told);
+fn check_status(rt: &impl Abort, alloc: Global, after: After, room: usize, wanted: ExitCode) {
+    check(
+        rt,
+        status_of(alloc, after, room) == wanted,
+        "the status of the line program",
+    );
 }
 
 #[test]
-fn nothing_is_written_of_nothing(rt: HostRuntime) -> Result<(), Fail> {
+fn the_program_tells_of_a_fault(rt: HostRuntime) {
+    let (alloc, told) = (rt.alloc(), ExitCode::from(3));
+    check_status(&rt, alloc, After::End, 4, ExitCode::SUCCESS);
+    check_status(&rt, alloc, After::End, 3, told);
+    check_status(&rt, alloc, After::Fail, 4, told);
+    check_status(&rt, alloc, After::Zeros, 4, told);
+}
+
+#[test]
+fn nothing_is_written_of_nothing(rt: HostRuntime) {
     let mut output = Vec::new(rt.alloc());
     let mut writer = Watched::new(&mut output);
-    assert_eq!(rt; writer.write(b"")?, 0);
-    assert!(rt; !writer.failed());
-    Ok(())
+    check(
+        &rt,
+        outcome(writer.write(b"")) == Ok(0),
+        "a write of nothing",
+    );
+    check(&rt, !writer.failed(), "a writer that didn't fail");
 }
 
 // Fails at its first call, and then works. It counts its calls, and keeps the length of the last
@@ -254,14 +294,14 @@ impl Write for FailsOnce {
     }
 }
 
-// The kind of the error that an answer is.
-fn kind_of(answer: io::Result<usize>) -> Option<ErrorKind> {
+// What a device answered: how many octets, or the kind of its error.
+fn outcome(answer: io::Result<usize>) -> Result<usize, ErrorKind> {
     match answer {
-        Ok(_) => None,
+        Ok(count) => Ok(count),
         Err(error) => {
             let kind = error.kind();
             drop(error);
-            Some(kind)
+            Err(kind)
         }
     }
 }
@@ -272,36 +312,52 @@ const KINDS: [ErrorKind; 3] = [
     ErrorKind::Other,
 ];
 
-#[test]
-fn a_reader_is_asked_once_a_call(rt: HostRuntime) -> Result<(), Fail> {
-    let mut buf = Vec::new(rt.alloc());
-    buf.resize(0x10000, 0)?;
-    for kind in KINDS {
-        let mut device = FailsOnce::new(kind);
-        let mut reader = Watched::new(&mut device);
-        assert!(rt; kind_of(reader.read(&mut buf)) == Some(kind));
-        assert!(rt; reader.failed());
-        assert_eq!(rt; reader.read(&mut buf)?, 0x10000);
-        assert!(rt; reader.failed());
-        assert_eq!(rt; device.calls, 2);
-        assert_eq!(rt; device.len, 0x10000);
-    }
-    Ok(())
+// That the first of two calls failed so, the second didn't, and the failure is kept.
+fn check_calls(
+    rt: &impl Abort,
+    kind: ErrorKind,
+    first: (Result<usize, ErrorKind>, bool),
+    second: (Result<usize, ErrorKind>, bool),
+) {
+    check(rt, first.0 == Err(kind), "the error of the first call");
+    check(rt, second.0 == Ok(0x10000), "all octets of the second call");
+    check(rt, first.1 && second.1, "a failure that is kept");
+}
+
+fn check_reader(rt: &impl Abort, buf: &mut [u8], kind: ErrorKind) {
+    let mut device = FailsOnce::new(kind);
+    let mut reader = Watched::new(&mut device);
+    let first = (outcome(reader.read(buf)), reader.failed());
+    let second = (outcome(reader.read(buf)), reader.failed());
+    check_calls(rt, kind, first, second);
+    check_count(rt, device.calls, 2);
+    check_count(rt, device.len, 0x10000);
 }
 
 #[test]
-fn a_writer_is_asked_once_a_call(rt: HostRuntime) -> Result<(), Fail> {
-    let mut octets = Vec::new(rt.alloc());
-    octets.resize(0x10000, 7)?;
+fn a_reader_is_asked_once_a_call(rt: HostRuntime) {
+    let mut buf = Vec::new(rt.alloc());
+    buf.resize(0x10000, 0).expect(&rt, "memory");
     for kind in KINDS {
-        let mut device = FailsOnce::new(kind);
-        let mut writer = Watched::new(&mut device);
-        assert!(rt; kind_of(writer.write(&octets)) == Some(kind));
-        assert!(rt; writer.failed());
-        assert_eq!(rt; writer.write(&octets)?, 0x10000);
-        assert!(rt; writer.failed());
-        assert_eq!(rt; device.calls, 2);
-        assert_eq!(rt; device.len, 0x10000);
+        check_reader(&rt, &mut buf, kind);
     }
-    Ok(())
+}
+
+fn check_writer(rt: &impl Abort, octets: &[u8], kind: ErrorKind) {
+    let mut device = FailsOnce::new(kind);
+    let mut writer = Watched::new(&mut device);
+    let first = (outcome(writer.write(octets)), writer.failed());
+    let second = (outcome(writer.write(octets)), writer.failed());
+    check_calls(rt, kind, first, second);
+    check_count(rt, device.calls, 2);
+    check_count(rt, device.len, 0x10000);
+}
+
+#[test]
+fn a_writer_is_asked_once_a_call(rt: HostRuntime) {
+    let mut octets = Vec::new(rt.alloc());
+    octets.resize(0x10000, 7).expect(&rt, "memory");
+    for kind in KINDS {
+        check_writer(&rt, &octets, kind);
+    }
 }

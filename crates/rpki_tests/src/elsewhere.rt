@@ -1,6 +1,7 @@
 //! Certificates and lists whose signatures come from elsewhere: prepared, signed, completed.
 
 use crate::anchors::{anchor, now};
+use crate::checks::{check, check_hash, check_octets, check_text};
 use crate::lists::data;
 use crate::samples::{self, day, rsa};
 use rpki_blocks::{AsBlock, Asn};
@@ -27,7 +28,7 @@ fn signed_by(rt: &impl Abort, alloc: Global, bits: &'static [u8], octets: &[u8])
 fn prepared(rt: &impl Abort, alloc: Global, tbs: &TbsCert, role: &Role<'_>) -> Prepared {
     let prepared = prepare(alloc, tbs, role, true, now(rt)).expect(rt, "it is ready");
     let written = samples::written(alloc, tbs).expect(rt, "memory");
-    assert!(rt; prepared.octets() == written.as_slice());
+    check_octets(rt, prepared.octets(), written.as_slice());
     prepared
 }
 
@@ -68,23 +69,24 @@ fn completed(
 fn assert_completed(rt: &impl Abort, alloc: Global, tbs: &TbsCert, role: &Role<'_>, hash: &str) {
     let prepared = prepared(rt, alloc, tbs, role);
     let answer = completed(rt, alloc, &prepared, role, b"abd");
-    assert_eq!(rt; fault(&answer), "BadSignature");
+    check_text(rt, fault(&answer), "BadSignature");
     drop(answer);
     let cert = completed(rt, alloc, &prepared, role, b"abc").expect(rt, "it is signed");
     let kept = cert.to_captured(alloc).expect(rt, "memory");
-    assert!(rt; samples::has_hash(alloc, &kept, hash));
+    check_hash(rt, alloc, &kept, hash);
     drop(cert);
     drop(prepared);
 }
 
 #[test]
 fn an_end_entity_is_completed(rt: HostRuntime) {
-    let issuer = anchor(&rt, rt.alloc());
-    let tbs = samples::end_entity(rt.alloc()).expect(&rt, "memory");
+    let alloc = rt.alloc();
+    let issuer = anchor(&rt, alloc);
+    let tbs = samples::end_entity(alloc).expect(&rt, "memory");
     let role = Role::Detached(&issuer);
-    assert_completed(&rt, rt.alloc(), &tbs, &role, samples::END_ENTITY);
-    let answer = prepare(rt.alloc(), &tbs, &Role::EndEntity(&issuer), true, now(&rt));
-    assert_eq!(rt; fault(&answer), "MissingSignedObject");
+    assert_completed(&rt, alloc, &tbs, &role, samples::END_ENTITY);
+    let answer = prepare(alloc, &tbs, &Role::EndEntity(&issuer), true, now(&rt));
+    check_text(&rt, fault(&answer), "MissingSignedObject");
     drop(answer);
     drop(tbs);
     drop(issuer);
@@ -92,23 +94,19 @@ fn an_end_entity_is_completed(rt: HostRuntime) {
 
 #[test]
 fn a_router_is_completed(rt: HostRuntime) {
-    let issuer = anchor(&rt, rt.alloc());
-    let tbs = samples::router(rt.alloc()).expect(&rt, "memory");
-    assert_completed(
-        &rt,
-        rt.alloc(),
-        &tbs,
-        &Role::Router(&issuer),
-        samples::ROUTER,
-    );
+    let alloc = rt.alloc();
+    let issuer = anchor(&rt, alloc);
+    let tbs = samples::router(alloc).expect(&rt, "memory");
+    assert_completed(&rt, alloc, &tbs, &Role::Router(&issuer), samples::ROUTER);
     drop(tbs);
     drop(issuer);
 }
 
 #[test]
 fn a_trust_anchor_is_completed(rt: HostRuntime) {
-    let tbs = samples::anchor(rt.alloc()).expect(&rt, "memory");
-    assert_completed(&rt, rt.alloc(), &tbs, &Role::Anchor, samples::ANCHOR);
+    let alloc = rt.alloc();
+    let tbs = samples::anchor(alloc).expect(&rt, "memory");
+    assert_completed(&rt, alloc, &tbs, &Role::Anchor, samples::ANCHOR);
     drop(tbs);
 }
 
@@ -135,10 +133,11 @@ fn authority(rt: &impl Abort, alloc: Global, up_to: u32) -> TbsCert {
 
 #[test]
 fn one_that_overclaims_is_not_prepared(rt: HostRuntime) {
-    let issuer = small_anchor(&rt, rt.alloc());
-    let tbs = authority(&rt, rt.alloc(), 51);
-    let answer = prepare(rt.alloc(), &tbs, &Role::Authority(&issuer), true, now(&rt));
-    assert_eq!(rt; fault(&answer), "OverclaimAs");
+    let alloc = rt.alloc();
+    let issuer = small_anchor(&rt, alloc);
+    let tbs = authority(&rt, alloc, 51);
+    let answer = prepare(alloc, &tbs, &Role::Authority(&issuer), true, now(&rt));
+    check_text(&rt, fault(&answer), "OverclaimAs");
     drop(answer);
     drop(tbs);
     drop(issuer);
@@ -195,16 +194,20 @@ fn completed_list(
 }
 
 fn assert_next(rt: &impl Abort, next: &Crl) {
-    assert!(rt; next.as_cert_list().crl_number() == Serial::from(13u64));
-    assert!(rt; next.contains(Serial::from(42u64)));
-    assert!(rt; next.contains(Serial::from(5u64)));
-    assert!(rt; !next.contains(Serial::from(12u64)));
+    check(
+        rt,
+        next.as_cert_list().crl_number() == Serial::from(13u64),
+        "the number of the list",
+    );
+    check(rt, next.contains(Serial::from(42u64)), "what is revoked");
+    check(rt, next.contains(Serial::from(5u64)), "what is revoked");
+    check(rt, !next.contains(Serial::from(12u64)), "what is revoked");
 }
 
 fn assert_next_is_completed(rt: &impl Abort, alloc: Global, list: &Crl, issuer: &ResourceCert) {
     let prepared = next(rt, alloc, list, issuer, 13).expect(rt, "a list");
     let answer = completed_list(rt, alloc, &prepared, issuer, b"abd");
-    assert_eq!(rt; list_fault(&answer), "BadSignature");
+    check_text(rt, list_fault(&answer), "BadSignature");
     drop(answer);
     let next = completed_list(rt, alloc, &prepared, issuer, b"abc").expect(rt, "it is signed");
     assert_next(rt, &next);
@@ -222,11 +225,16 @@ pub(crate) fn list_fault(answer: &Result<Crl, ListError>) -> &'static str {
 
 #[test]
 fn the_next_list_is_completed(rt: HostRuntime) {
-    let issuer = anchor(&rt, rt.alloc());
-    let list = list(&rt, rt.alloc());
-    assert_next_is_completed(&rt, rt.alloc(), &list, &issuer);
-    let same = next(&rt, rt.alloc(), &list, &issuer, 12);
-    assert!(rt; matches!(&same, Err(NextListError::Number)));
+    let alloc = rt.alloc();
+    let issuer = anchor(&rt, alloc);
+    let list = list(&rt, alloc);
+    assert_next_is_completed(&rt, alloc, &list, &issuer);
+    let same = next(&rt, alloc, &list, &issuer, 12);
+    check(
+        &rt,
+        matches!(&same, Err(NextListError::Number)),
+        "no greater number",
+    );
     drop(same);
     drop(list);
     drop(issuer);
@@ -244,7 +252,7 @@ fn assert_no_next(
     let Err(error) = next_fields(rt, alloc, list, number, until) else {
         rt.abort()
     };
-    assert_eq!(rt; error.name(), fault);
+    check_text(rt, error.name(), fault);
     drop(error);
 }
 
@@ -257,27 +265,37 @@ fn long_number(rt: &impl Abort, first: u8, others: u8) -> Serial {
 
 #[test]
 fn the_number_has_at_most_twenty_octets(rt: HostRuntime) {
-    let list = list(&rt, rt.alloc());
+    let alloc = rt.alloc();
+    let list = list(&rt, alloc);
     let greatest = long_number(&rt, 127, 255);
-    let fields = next_fields(&rt, rt.alloc(), &list, greatest, 2025).expect(&rt, "a list");
-    assert!(rt; fields.crl_number() == greatest);
+    let fields = next_fields(&rt, alloc, &list, greatest, 2025).expect(&rt, "a list");
+    check(
+        &rt,
+        fields.crl_number() == greatest,
+        "the number of the list",
+    );
     drop(fields);
     for (first, others) in [(128, 0), (255, 255)] {
         let number = long_number(&rt, first, others);
-        assert_no_next(&rt, rt.alloc(), &list, number, 2025, "LongNumber");
+        assert_no_next(&rt, alloc, &list, number, 2025, "LongNumber");
     }
     drop(list);
 }
 
 #[test]
 fn the_next_update_is_not_before_this_one(rt: HostRuntime) {
-    let list = list(&rt, rt.alloc());
+    let alloc = rt.alloc();
+    let list = list(&rt, alloc);
     let number = Serial::from(13u64);
-    let fields = next_fields(&rt, rt.alloc(), &list, number, 2024).expect(&rt, "a list");
-    assert!(rt; fields.this_update() == fields.next_update());
+    let fields = next_fields(&rt, alloc, &list, number, 2024).expect(&rt, "a list");
+    check(
+        &rt,
+        fields.this_update() == fields.next_update(),
+        "two equal times",
+    );
     drop(fields);
-    assert_no_next(&rt, rt.alloc(), &list, number, 2023, "UpdateOrder");
-    assert_no_next(&rt, rt.alloc(), &list, Serial::from(12u64), 2023, "Number");
+    assert_no_next(&rt, alloc, &list, number, 2023, "UpdateOrder");
+    assert_no_next(&rt, alloc, &list, Serial::from(12u64), 2023, "Number");
     drop(list);
 }
 
@@ -299,17 +317,20 @@ fn checked_answer(
     answer
 }
 
+fn is_bad<T>(answer: &Result<T, SigningError<CheckedError<()>>>) -> bool {
+    matches!(
+        answer,
+        Err(SigningError::Signer(CheckedError::BadSignature))
+    )
+}
+
 #[test]
 fn a_signature_by_another_key_is_held_back(rt: HostRuntime) {
-    let answer = checked_answer(rt.alloc(), b"abc").expect(&rt, "a signature");
-    assert_eq!(rt; answer.value(), b"abcmessage".as_slice());
+    let alloc = rt.alloc();
+    let answer = checked_answer(alloc, b"abc").expect(&rt, "a signature");
+    check_octets(&rt, answer.value(), b"abcmessage");
     drop(answer);
-    let answer = checked_answer(rt.alloc(), b"abd");
-    assert!(rt;
-        matches!(
-            &answer,
-            Err(SigningError::Signer(CheckedError::BadSignature))
-        )
-    );
+    let answer = checked_answer(alloc, b"abd");
+    check(&rt, is_bad(&answer), "a signature that is held back");
     drop(answer);
 }

@@ -1,5 +1,6 @@
 //! That faults have the names and print the texts that stand in their table.
 
+use crate::checks::check_text;
 use crate::errors::assert_told;
 use rpki_cert::VerificationError;
 use rpki_crl::RevocationError;
@@ -29,15 +30,19 @@ fn assert_fault<E: Display + Drop>(
         rt, "memory",
     );
     assert_told(rt, alloc, name, error, wanted.as_str());
-    assert!(rt; matches!(numbered(told.number), Some(found) if found.name == told.name));
+    match numbered(told.number) {
+        Some(found) => check_text(rt, found.name, told.name),
+        None => rt.abort(),
+    }
 }
 
 // That each fault has its line, which this call finds, and prints the name of the part behind it.
 macro_rules! assert_faults {
     ($rt:ident, $line:ident: $($fault:expr => $part:literal;)*) => {
+        let alloc = $rt.alloc();
         for (fault, part) in [$(($fault, $part)),*] {
             let told = $line(&fault);
-            assert_fault(&$rt, $rt.alloc(), fault.name(), fault, told, part);
+            assert_fault(&$rt, alloc, fault.name(), fault, told, part);
         }
     };
 }
@@ -79,22 +84,24 @@ const FIELDS: [Field; 13] = [
 
 #[test]
 fn of_parts(rt: HostRuntime) {
+    let alloc = rt.alloc();
     for field in FIELDS {
-        let shown = format!(in rt.alloc(); "{field:?}").expect(&rt, "memory");
-        let part = numbered_part(part_number(field));
-        assert!(rt; matches!(part, Some(part) if part.name == shown.as_str()));
+        let shown = format!(in alloc; "{field:?}").expect(&rt, "memory");
+        let part = numbered_part(part_number(field)).expect(&rt, "a part");
+        check_text(&rt, part.name, shown.as_str());
     }
 }
 
 // The texts of all others are compared where the sources are (tests/callers).
 #[test]
 fn of_inspection_alone(rt: HostRuntime) {
+    let alloc = rt.alloc();
     for fault in [
         InspectionError::AlgorithmMismatch,
         InspectionError::InheritedAsResources,
     ] {
         let told = of_inspection(fault);
-        assert_fault(&rt, rt.alloc(), fault.name(), fault, told, "");
+        assert_fault(&rt, alloc, fault.name(), fault, told, "");
     }
 }
 

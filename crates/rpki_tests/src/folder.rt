@@ -1,5 +1,6 @@
 //! Folders: loops of keys, bounds that are met, and what is kept of verdicts.
 
+use crate::checks::{check, check_count, check_text};
 use crate::counting::Counting;
 use crate::located::{OF_ANCHOR, OF_OTHER, locator};
 use crate::{anchors, lists, samples};
@@ -32,8 +33,18 @@ fn end_entity(rt: &impl Abort, alloc: Global) -> Bytes {
     samples::end_entity_octets(alloc).expect(rt, "memory")
 }
 
-fn add(rt: &impl Abort, folder: &mut Folder, octets: Bytes) -> Added {
-    folder.add(octets).expect(rt, "memory")
+// Adds these octets, which are this.
+fn add(rt: &impl Abort, folder: &mut Folder, octets: Bytes, wanted: Added) {
+    let added = folder.add(octets).expect(rt, "memory");
+    check(rt, added == wanted, "what was added");
+}
+
+// Adds so many authorities to an empty folder, and a list.
+fn fill(rt: &impl Abort, alloc: Global, folder: &mut Folder, authorities: usize) {
+    for place in 0..authorities {
+        add(rt, folder, authority(rt, alloc), Added::Certificate(place));
+    }
+    add(rt, folder, list_octets(rt, alloc), Added::List);
 }
 
 // A walk in 2024, to this depth and of so many steps.
@@ -84,17 +95,39 @@ fn line(lines: &Lines, place: usize) -> (usize, &'static str) {
     }
 }
 
+// That a walk through the folder, to this depth and of so many steps, ends so and has these lines.
+fn check_walk(
+    rt: &impl Abort,
+    alloc: Global,
+    folder: &Folder,
+    bounds: (usize, usize),
+    how: Ended,
+    wanted: &[(usize, &str)],
+) {
+    let (ended, lines) = walked(rt, alloc, folder, bounds.0, bounds.1);
+    check(rt, ended == how, "how the walk ended");
+    for (place, (step, name)) in wanted.iter().enumerate() {
+        let found = line(&lines, place);
+        check_text(rt, found.1, name);
+        check_count(rt, found.0, *step);
+    }
+    drop(lines);
+}
+
 // The authority has the anchor's key: it is judged, and nothing below it is.
 #[test]
 fn no_path_goes_in_a_circle(rt: HostRuntime) {
     let alloc = rt.alloc();
     let mut folder = Folder::new(alloc);
-    assert!(rt; add(&rt, &mut folder, authority(&rt, alloc)) == Added::Certificate(0));
-    assert!(rt; add(&rt, &mut folder, list_octets(&rt, alloc)) == Added::List);
-    let (ended, lines) = walked(&rt, alloc, &folder, 3, 1);
-    assert!(rt; ended == Ended::Whole);
-    assert!(rt; line(&lines, 0) == (0, "accepted"));
-    drop(lines);
+    fill(&rt, alloc, &mut folder, 1);
+    check_walk(
+        &rt,
+        alloc,
+        &folder,
+        (3, 1),
+        Ended::Whole,
+        &[(0, "accepted")],
+    );
     drop(folder);
 }
 
@@ -102,12 +135,15 @@ fn no_path_goes_in_a_circle(rt: HostRuntime) {
 fn a_walk_ends_at_the_depth(rt: HostRuntime) {
     let alloc = rt.alloc();
     let mut folder = Folder::new(alloc);
-    add(&rt, &mut folder, authority(&rt, alloc));
-    add(&rt, &mut folder, list_octets(&rt, alloc));
-    let (ended, lines) = walked(&rt, alloc, &folder, 0, 100);
-    assert!(rt; ended == Ended::TooDeep);
-    assert!(rt; line(&lines, 0) == (0, "unseen"));
-    drop(lines);
+    fill(&rt, alloc, &mut folder, 1);
+    check_walk(
+        &rt,
+        alloc,
+        &folder,
+        (0, 100),
+        Ended::TooDeep,
+        &[(0, "unseen")],
+    );
     drop(folder);
 }
 
@@ -115,56 +151,89 @@ fn a_walk_ends_at_the_depth(rt: HostRuntime) {
 fn a_walk_ends_with_the_steps(rt: HostRuntime) {
     let alloc = rt.alloc();
     let mut folder = Folder::new(alloc);
-    for _ in 0..40 {
-        add(&rt, &mut folder, authority(&rt, alloc));
+    for place in 0..40 {
+        add(
+            &rt,
+            &mut folder,
+            authority(&rt, alloc),
+            Added::Certificate(place),
+        );
     }
     let list = lists::plain(&rt, alloc, b"abc");
     folder.add_list(list).expect(&rt, "memory");
-    let (ended, lines) = walked(&rt, alloc, &folder, 20, 39);
-    assert!(rt; ended == Ended::OutOfSteps);
-    assert!(rt; line(&lines, 0) == (0, "unseen"));
-    drop(lines);
-    let (ended, lines) = walked(&rt, alloc, &folder, 20, 40);
-    assert!(rt; ended == Ended::Whole);
-    assert!(rt; line(&lines, 0) == (0, "accepted"));
-    drop(lines);
+    check_walk(
+        &rt,
+        alloc,
+        &folder,
+        (20, 39),
+        Ended::OutOfSteps,
+        &[(0, "unseen")],
+    );
+    check_walk(
+        &rt,
+        alloc,
+        &folder,
+        (20, 40),
+        Ended::Whole,
+        &[(0, "accepted")],
+    );
     drop(folder);
+}
+
+// Adds an end entity that was read before.
+fn add_read(rt: &impl Abort, alloc: Global, folder: &mut Folder) {
+    let octets = end_entity(rt, alloc);
+    let shared = octets.clone().expect(rt, "memory");
+    let cert = Cert::decode_shared(alloc, shared).expect(rt, "a certificate");
+    let said = Said::of(&cert);
+    drop(cert);
+    check_count(rt, folder.add_cert(octets, said).expect(rt, "memory"), 0);
 }
 
 #[test]
 fn the_order_of_a_folder_does_not_matter(rt: HostRuntime) {
     let alloc = rt.alloc();
     let mut folder = Folder::new(alloc);
-    assert!(rt; add(&rt, &mut folder, Bytes::from_static(b"\x30\x00")) == Added::Neither);
-    assert!(rt; add(&rt, &mut folder, list_octets(&rt, alloc)) == Added::List);
-    let octets = end_entity(&rt, alloc);
-    let shared = octets.clone().expect(&rt, "memory");
-    let cert = Cert::decode_shared(alloc, shared).expect(&rt, "a certificate");
-    let said = Said::of(&cert);
-    drop(cert);
-    assert_eq!(rt; folder.add_cert(octets, said).expect(&rt, "memory"), 0);
-    let (ended, lines) = walked(&rt, alloc, &folder, 3, 100);
-    assert!(rt; ended == Ended::Whole);
-    assert!(rt; line(&lines, 0) == (0, "accepted"));
-    assert!(rt; line(&lines, 1) == (0, "none"));
-    drop(lines);
+    add(
+        &rt,
+        &mut folder,
+        Bytes::from_static(b"\x30\x00"),
+        Added::Neither,
+    );
+    add(&rt, &mut folder, list_octets(&rt, alloc), Added::List);
+    add_read(&rt, alloc, &mut folder);
+    let wanted = [(0, "accepted"), (0, "none")];
+    check_walk(&rt, alloc, &folder, (3, 100), Ended::Whole, &wanted);
     drop(folder);
+}
+
+fn lacks_list(lines: &Lines) -> bool {
+    matches!(
+        lines.as_slice().get(0),
+        Some(Line::Rejected(_, PathFault::Revocation(RevocationError::NoCrl)))
+    )
 }
 
 #[test]
 fn without_a_list_nothing_is_accepted(rt: HostRuntime) {
     let alloc = rt.alloc();
     let mut folder = Folder::new(alloc);
-    add(&rt, &mut folder, end_entity(&rt, alloc));
-    let (ended, lines) = walked(&rt, alloc, &folder, 3, 100);
-    assert!(rt; ended == Ended::Whole);
-    assert!(rt; line(&lines, 0) == (1, "Revocation"));
-    assert!(rt;
-        matches!(
-            lines.as_slice().get(0),
-            Some(Line::Rejected(_, PathFault::Revocation(RevocationError::NoCrl)))
-        )
+    add(
+        &rt,
+        &mut folder,
+        end_entity(&rt, alloc),
+        Added::Certificate(0),
     );
+    check_walk(
+        &rt,
+        alloc,
+        &folder,
+        (3, 100),
+        Ended::Whole,
+        &[(1, "Revocation")],
+    );
+    let (_, lines) = walked(&rt, alloc, &folder, 3, 100);
+    check(&rt, lacks_list(&lines), "no list");
     drop(lines);
     drop(folder);
 }
@@ -180,18 +249,37 @@ fn found(rt: &impl Abort, alloc: Global, folder: &Folder, file: &[u8]) -> Result
     found
 }
 
+// Whether a path was found, and its end entity is right below the trust anchor.
+fn is_found(rt: &impl Abort, alloc: Global, folder: &Folder) -> bool {
+    let answer = found(rt, alloc, folder, OF_ANCHOR).expect(rt, "an anchor");
+    let is_found = match &answer {
+        Found::NotFound(how) => {
+            check(rt, *how == Ended::Whole, "a whole walk");
+            false
+        }
+        Found::Valid(path) => path.above.is_empty(),
+    };
+    drop(answer);
+    is_found
+}
+
 #[test]
 fn a_path_is_found(rt: HostRuntime) {
     let alloc = rt.alloc();
     let mut folder = Folder::new(alloc);
-    add(&rt, &mut folder, end_entity(&rt, alloc));
-    let found_none = found(&rt, alloc, &folder, OF_ANCHOR).expect(&rt, "an anchor");
-    assert!(rt; matches!(&found_none, Found::NotFound(Ended::Whole)));
-    drop(found_none);
-    add(&rt, &mut folder, list_octets(&rt, alloc));
-    let found_one = found(&rt, alloc, &folder, OF_ANCHOR).expect(&rt, "an anchor");
-    assert!(rt; matches!(&found_one, Found::Valid(path) if path.above.is_empty()));
-    drop(found_one);
+    add(
+        &rt,
+        &mut folder,
+        end_entity(&rt, alloc),
+        Added::Certificate(0),
+    );
+    check(
+        &rt,
+        !is_found(&rt, alloc, &folder),
+        "no path without a list",
+    );
+    add(&rt, &mut folder, list_octets(&rt, alloc), Added::List);
+    check(&rt, is_found(&rt, alloc, &folder), "a path");
     drop(folder);
 }
 
@@ -202,7 +290,7 @@ fn an_anchor_of_another_key_begins_no_walk(rt: HostRuntime) {
     let Err(error) = found(&rt, alloc, &folder, OF_OTHER) else {
         rt.abort()
     };
-    assert!(rt; !error.is_memory());
+    check(&rt, !error.is_memory(), "another key");
     drop(error);
     drop(folder);
 }
@@ -213,17 +301,10 @@ fn an_anchor_of_another_key_begins_no_walk(rt: HostRuntime) {
 fn renewals_that_lie_side_by_side_are_both_judged(rt: HostRuntime) {
     let alloc = rt.alloc();
     let mut folder = Folder::new(alloc);
-    add(&rt, &mut folder, authority(&rt, alloc));
-    add(&rt, &mut folder, authority(&rt, alloc));
-    add(&rt, &mut folder, list_octets(&rt, alloc));
-    let (ended, lines) = walked(&rt, alloc, &folder, 2, 1);
-    assert!(rt; ended == Ended::OutOfSteps);
-    drop(lines);
-    let (ended, lines) = walked(&rt, alloc, &folder, 2, 2);
-    assert!(rt; ended == Ended::Whole);
-    assert!(rt; line(&lines, 0) == (0, "accepted"));
-    assert!(rt; line(&lines, 1) == (0, "accepted"));
-    drop(lines);
+    fill(&rt, alloc, &mut folder, 2);
+    check_walk(&rt, alloc, &folder, (2, 1), Ended::OutOfSteps, &[]);
+    let wanted = [(0, "accepted"), (0, "accepted")];
+    check_walk(&rt, alloc, &folder, (2, 2), Ended::Whole, &wanted);
     drop(folder);
 }
 
@@ -256,7 +337,10 @@ fn a_copy_takes_no_step(rt: HostRuntime) {
     add(&rt, &mut folder, octets);
     add(&rt, &mut folder, authority(&rt, alloc));
     let firsts = Firsts::of(alloc, &folder).expect(&rt, "memory");
-    assert_eq!(rt; (firsts.first_of(0), firsts.first_of(1), firsts.first_of(2)), (0, 0, 2));
+    assert_eq!(rt;
+        (firsts.first_of(0), firsts.first_of(1), firsts.first_of(2)),
+        (0, 0, 2)
+    );
     let mut lines = Lines::new(alloc, 3).expect(&rt, "memory");
     let tal = locator(&rt, alloc, OF_ANCHOR);
     let anchor = anchors::octets(&rt, alloc);
@@ -292,7 +376,11 @@ fn verified(rt: &impl Abort, alloc: Global, folder: &Folder) -> usize {
     let bounds = Bounds { depth: 3, steps: 9 };
     let walk = walk(rt, alloc, folder, bounds, &verifier);
     let ended = walk.from_anchor(&tal, &Member::of(&anchor), &mut lines);
-    assert!(rt; ended.expect(rt, "an anchor") == Ended::Whole);
+    check(
+        rt,
+        ended.expect(rt, "an anchor") == Ended::Whole,
+        "a whole walk",
+    );
     drop(lines);
     drop(tal);
     verifier.calls.get()
@@ -304,13 +392,14 @@ fn verified(rt: &impl Abort, alloc: Global, folder: &Folder) -> usize {
 fn a_list_is_verified_once(rt: HostRuntime) {
     let alloc = rt.alloc();
     let mut folder = Folder::new(alloc);
-    add(&rt, &mut folder, list_octets(&rt, alloc));
+    add(&rt, &mut folder, list_octets(&rt, alloc), Added::List);
     let other = samples::shared(alloc, lists::TWO).expect(&rt, "digits");
-    assert!(rt; add(&rt, &mut folder, other) == Added::List);
-    assert_eq!(rt; verified(&rt, alloc, &folder), 1);
-    for children in 1..5 {
-        add(&rt, &mut folder, end_entity(&rt, alloc));
-        assert_eq!(rt; verified(&rt, alloc, &folder), 2 + children);
+    add(&rt, &mut folder, other, Added::List);
+    check_count(&rt, verified(&rt, alloc, &folder), 1);
+    for children in 0..4 {
+        let octets = end_entity(&rt, alloc);
+        add(&rt, &mut folder, octets, Added::Certificate(children));
+        check_count(&rt, verified(&rt, alloc, &folder), 3 + children);
     }
     drop(folder);
 }

@@ -1,6 +1,7 @@
 //! Authorities are issued under an anchor, and lists are verified under it.
 
 use crate::anchors::now;
+use crate::checks::{check, check_count, check_text};
 use crate::samples::{self, Refusal, Refusing, rsa};
 use rpki_blocks::{AsBlock, Asn};
 use rpki_cert::{
@@ -57,20 +58,22 @@ fn name(answer: &Issued) -> &'static str {
 
 #[test]
 fn one_that_overclaims_is_not_issued(rt: HostRuntime) {
-    let anchor = anchor(&rt, rt.alloc());
-    let answer = issued(&rt, rt.alloc(), &anchor, Overclaim::Refuse);
-    assert_eq!(rt; name(&answer), "OverclaimAs");
+    let alloc = rt.alloc();
+    let anchor = anchor(&rt, alloc);
+    let answer = issued(&rt, alloc, &anchor, Overclaim::Refuse);
+    check_text(&rt, name(&answer), "OverclaimAs");
     drop(answer);
     drop(anchor);
 }
 
 #[test]
 fn another_key_does_not_issue(rt: HostRuntime) {
-    let anchor = anchor(&rt, rt.alloc());
-    let tbs = authority(&rt, rt.alloc(), Overclaim::Trim);
-    let (alloc, now, key) = (rt.alloc(), now(&rt), rsa(b"a"));
+    let alloc = rt.alloc();
+    let anchor = anchor(&rt, alloc);
+    let tbs = authority(&rt, alloc, Overclaim::Trim);
+    let (now, key) = (now(&rt), rsa(b"a"));
     let answer = issue_ca(alloc, tbs, &StandIn, &key, &anchor, true, now, &StandIn);
-    assert_eq!(rt; name(&answer), "BadSignature");
+    check_text(&rt, name(&answer), "BadSignature");
     drop(answer);
     drop(key);
     drop(anchor);
@@ -90,14 +93,19 @@ fn refused(rt: &impl Abort, alloc: Global, issuer: &ResourceCert) -> u32 {
     let answer = issue_ca(alloc, tbs, &signer, &7, issuer, true, now(rt), &StandIn);
     let key = refused_with(&answer);
     drop(answer);
-    assert_eq!(rt; signer.calls(), 1);
+    check_count(rt, signer.calls(), 1);
     key
 }
 
 #[test]
 fn a_refusing_signer_does_not_issue(rt: HostRuntime) {
-    let anchor = anchor(&rt, rt.alloc());
-    assert_eq!(rt; refused(&rt, rt.alloc(), &anchor), 7);
+    let alloc = rt.alloc();
+    let anchor = anchor(&rt, alloc);
+    check(
+        &rt,
+        refused(&rt, alloc, &anchor) == 7,
+        "the key of the refusal",
+    );
     drop(anchor);
 }
 
@@ -109,12 +117,13 @@ fn fault(answer: Result<(), VerificationError>) -> &'static str {
 }
 
 fn assert_claim(rt: &impl Abort, anchor: &ResourceCert, list: &Crl, name: &str) {
-    assert_eq!(rt; fault(list.verify_issuer_claim(anchor, true)), name);
+    check_text(rt, fault(list.verify_issuer_claim(anchor, true)), name);
     let key = anchor.as_cert().as_tbs().subject_public_key_info();
-    assert_eq!(rt; fault(list.verify_signature(key, &StandIn)), "Ok");
-    assert_eq!(rt;
+    check_text(rt, fault(list.verify_signature(key, &StandIn)), "Ok");
+    check_text(
+        rt,
         fault(list.verify_signature(&rsa(b"a"), &StandIn)),
-        "BadSignature"
+        "BadSignature",
     );
 }
 
@@ -125,9 +134,10 @@ fn made(rt: &impl Abort, alloc: Global, data: TbsCertList<Vec<CrlEntry>>) -> Crl
 
 #[test]
 fn a_list_names_its_issuer(rt: HostRuntime) {
-    let anchor = anchor(&rt, rt.alloc());
-    let data = crate::lists::data(&rt, rt.alloc());
-    let list = made(&rt, rt.alloc(), data);
+    let alloc = rt.alloc();
+    let anchor = anchor(&rt, alloc);
+    let data = crate::lists::data(&rt, alloc);
+    let list = made(&rt, alloc, data);
     assert_claim(&rt, &anchor, &list, "Ok");
     drop(list);
     drop(anchor);
@@ -135,10 +145,11 @@ fn a_list_names_its_issuer(rt: HostRuntime) {
 
 #[test]
 fn a_list_of_another_is_told(rt: HostRuntime) {
-    let anchor = anchor(&rt, rt.alloc());
-    let mut data = crate::lists::data(&rt, rt.alloc());
+    let alloc = rt.alloc();
+    let anchor = anchor(&rt, alloc);
+    let mut data = crate::lists::data(&rt, alloc);
     data.set_authority_key_identifier(rsa(b"a").key_identifier());
-    let list = made(&rt, rt.alloc(), data);
+    let list = made(&rt, alloc, data);
     assert_claim(&rt, &anchor, &list, "WrongKeyId");
     drop(list);
     drop(anchor);

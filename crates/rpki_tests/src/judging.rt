@@ -1,5 +1,6 @@
 //! The verdict on paths: each kind of last member, and a caller's own answer for revocation.
 
+use crate::checks::{check, check_count};
 use crate::{anchors, samples};
 use bytes::Bytes;
 use rpki_cert::{Cert, InspectionError, Kind, ResourceCert};
@@ -75,29 +76,48 @@ fn serials(rt: &impl Abort, answer: Result<Judged, PathError>) -> (Serial, Optio
 
 #[test]
 fn a_router_is_answered_with_the_authority_above_it(rt: HostRuntime) {
-    let last = router(&rt, rt.alloc());
-    let answer = judged(&rt, rt.alloc(), last, Kind::Router, &NobodyAsked);
+    let alloc = rt.alloc();
+    let last = router(&rt, alloc);
+    let answer = judged(&rt, alloc, last, Kind::Router, &NobodyAsked);
     let (holder, router) = serials(&rt, answer);
-    assert!(rt; holder == Serial::from(13u64));
-    assert!(rt; router == Some(Serial::from(42u64)));
+    check(
+        &rt,
+        holder == Serial::from(13u64),
+        "the holder of the resources",
+    );
+    check(
+        &rt,
+        router == Some(Serial::from(42u64)),
+        "the router of the path",
+    );
 }
 
 #[test]
 fn an_authority_holds_for_itself(rt: HostRuntime) {
-    let last = samples::authority_octets(rt.alloc()).expect(&rt, "memory");
-    let answer = judged(&rt, rt.alloc(), last, Kind::Authority, &NobodyAsked);
+    let alloc = rt.alloc();
+    let last = samples::authority_octets(alloc).expect(&rt, "memory");
+    let answer = judged(&rt, alloc, last, Kind::Authority, &NobodyAsked);
     let (holder, router) = serials(&rt, answer);
-    assert!(rt; holder == Serial::from(13u64));
-    assert!(rt; router.is_none());
+    check(
+        &rt,
+        holder == Serial::from(13u64),
+        "the holder of the resources",
+    );
+    check(&rt, router.is_none(), "the router of the path");
 }
 
 #[test]
 fn a_detached_end_entity_holds_for_itself(rt: HostRuntime) {
-    let last = samples::end_entity_octets(rt.alloc()).expect(&rt, "memory");
-    let answer = judged(&rt, rt.alloc(), last, Kind::Detached, &NobodyAsked);
+    let alloc = rt.alloc();
+    let last = samples::end_entity_octets(alloc).expect(&rt, "memory");
+    let answer = judged(&rt, alloc, last, Kind::Detached, &NobodyAsked);
     let (holder, router) = serials(&rt, answer);
-    assert!(rt; holder != Serial::from(13u64));
-    assert!(rt; router.is_none());
+    check(
+        &rt,
+        holder != Serial::from(13u64),
+        "the holder of the resources",
+    );
+    check(&rt, router.is_none(), "the router of the path");
 }
 
 // The place and the fault of a path that isn't valid.
@@ -113,42 +133,72 @@ fn fault(rt: &impl Abort, answer: Result<Judged, PathError>) -> (usize, PathFaul
 
 #[test]
 fn a_router_is_no_end_entity(rt: HostRuntime) {
-    let last = router(&rt, rt.alloc());
-    let (index, fault) = fault(
+    let alloc = rt.alloc();
+    let last = router(&rt, alloc);
+    let (index, fault) = fault(&rt, judged(&rt, alloc, last, Kind::EndEntity, &NobodyAsked));
+    check_count(&rt, index, 2);
+    check(
         &rt,
-        judged(&rt, rt.alloc(), last, Kind::EndEntity, &NobodyAsked),
+        matches!(&fault, PathFault::Inspect(InspectionError::KeyAlgorithm)),
+        "the error of the path",
     );
-    assert_eq!(rt; index, 2);
-    assert!(rt; matches!(&fault, PathFault::Inspect(InspectionError::KeyAlgorithm)));
+    drop(fault);
 }
 
 fn assert_revoked(rt: &impl Abort, answer: Result<Judged, PathError>, place: usize) {
     let (index, fault) = fault(rt, answer);
-    assert_eq!(rt; index, place);
-    assert!(rt; matches!(&fault, PathFault::Revocation(RevocationError::Revoked)));
+    check_count(rt, index, place);
+    check(
+        rt,
+        matches!(&fault, PathFault::Revocation(RevocationError::Revoked)),
+        "the error of the path",
+    );
+    drop(fault);
 }
 
 #[test]
 fn a_source_of_the_callers_own_is_asked_of_each_member(rt: HostRuntime) {
-    let last = router(&rt, rt.alloc());
+    let alloc = rt.alloc();
+    let last = router(&rt, alloc);
     let asked = Revoking(Serial::from(13u64));
-    assert_revoked(&rt, judged(&rt, rt.alloc(), last, Kind::Router, &asked), 1);
+    assert_revoked(&rt, judged(&rt, alloc, last, Kind::Router, &asked), 1);
 }
 
 #[test]
 fn a_source_of_the_callers_own_is_asked_of_the_router(rt: HostRuntime) {
-    let last = router(&rt, rt.alloc());
+    let alloc = rt.alloc();
+    let last = router(&rt, alloc);
     let asked = Revoking(Serial::from(42u64));
-    assert_revoked(&rt, judged(&rt, rt.alloc(), last, Kind::Router, &asked), 2);
+    assert_revoked(&rt, judged(&rt, alloc, last, Kind::Router, &asked), 2);
 }
 
 #[test]
 fn members_are_too_few(rt: HostRuntime) {
-    assert!(rt; GivenPath::of(&[], Kind::Authority).is_none());
+    check(
+        &rt,
+        GivenPath::of(&[], Kind::Authority).is_none(),
+        "too few certificates",
+    );
     let octets = samples::anchor_octets(rt.alloc()).expect(&rt, "memory");
     let alone = [Member::of(&octets)];
-    assert!(rt; GivenPath::of(&alone, Kind::Anchor).is_some());
-    assert!(rt; GivenPath::of(&alone, Kind::Authority).is_some());
-    assert!(rt; GivenPath::of(&alone, Kind::EndEntity).is_none());
-    assert!(rt; GivenPath::of(&alone, Kind::Router).is_none());
+    check(
+        &rt,
+        GivenPath::of(&alone, Kind::Anchor).is_some(),
+        "enough certificates",
+    );
+    check(
+        &rt,
+        GivenPath::of(&alone, Kind::Authority).is_some(),
+        "enough certificates",
+    );
+    check(
+        &rt,
+        GivenPath::of(&alone, Kind::EndEntity).is_none(),
+        "too few certificates",
+    );
+    check(
+        &rt,
+        GivenPath::of(&alone, Kind::Router).is_none(),
+        "too few certificates",
+    );
 }

@@ -9,6 +9,8 @@ mod anchors;
 #[cfg(test)]
 mod certificates;
 #[cfg(test)]
+mod checks;
+#[cfg(test)]
 mod counting;
 #[cfg(test)]
 mod decoding;

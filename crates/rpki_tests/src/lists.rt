@@ -1,5 +1,6 @@
 //! Revocation lists that are made, and entries that are added to them.
 
+use crate::checks::{check_count, check_hash};
 use crate::samples;
 use rpki_crl::{Crl, CrlEntry, TbsCertList};
 use rpki_der::Serial;
@@ -42,14 +43,15 @@ pub(crate) fn plain(rt: &impl Abort, alloc: Global, key: &'static [u8]) -> Crl {
 
 fn assert_made(rt: &impl Abort, alloc: Global, list: &Crl) {
     let kept = list.to_captured(alloc).expect(rt, "memory");
-    assert!(rt; samples::has_hash(alloc, kept.as_slice(), MADE));
+    check_hash(rt, alloc, kept.as_slice(), MADE);
 }
 
 #[test]
 fn a_list_is_made(rt: HostRuntime) {
-    let made = data(&rt, rt.alloc()).into_crl(rt.alloc(), &StandIn, &samples::rsa(b"abc"));
+    let alloc = rt.alloc();
+    let made = data(&rt, alloc).into_crl(alloc, &StandIn, &samples::rsa(b"abc"));
     let made = made.expect(&rt, "a list");
-    assert_made(&rt, rt.alloc(), &made);
+    assert_made(&rt, alloc, &made);
     drop(made);
 }
 
@@ -64,6 +66,6 @@ fn revoke(rt: &impl Abort, entries: &mut Vec<CrlEntry>, number: u64) {
 fn entries_are_added_in_place(rt: HostRuntime) {
     let mut data = data(&rt, rt.alloc());
     revoke(&rt, data.revoked_certs_mut(), 43);
-    assert_eq!(rt; data.revoked_certs().len(), 3);
+    check_count(&rt, data.revoked_certs().len(), 3);
     drop(data);
 }

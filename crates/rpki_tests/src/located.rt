@@ -1,6 +1,7 @@
 //! Paths below the trust anchor of a locator.
 
 use crate::anchors;
+use crate::checks::{check, check_text};
 use bytes::Bytes;
 use rpki_cert::{Cert, ResourceCert};
 use rpki_crl::CrlStore;
@@ -44,23 +45,29 @@ fn validated(
 
 #[test]
 fn an_anchor_of_the_locators_key_is_accepted(rt: HostRuntime) {
-    let anchor = anchors::octets(&rt, rt.alloc());
-    let answer = validated(&rt, rt.alloc(), OF_ANCHOR, &anchor, &[]);
+    let alloc = rt.alloc();
+    let anchor = anchors::octets(&rt, alloc);
+    let answer = validated(&rt, alloc, OF_ANCHOR, &anchor, &[]);
     let last = answer.expect(&rt, "a path");
-    assert_eq!(rt; last.tal().name(), "example");
+    check_text(&rt, last.tal().name(), "example");
     drop(last);
 }
 
 #[test]
 fn a_key_is_asked_of_what_was_read_too(rt: HostRuntime) {
-    let octets = anchors::octets(&rt, rt.alloc());
+    let alloc = rt.alloc();
+    let octets = anchors::octets(&rt, alloc);
     let shared = octets.clone().expect(&rt, "memory");
-    let cert = Cert::decode_shared(rt.alloc(), shared).expect(&rt, "a certificate");
+    let cert = Cert::decode_shared(alloc, shared).expect(&rt, "a certificate");
     for (file, wanted) in [(OF_ANCHOR, true), (OF_OTHER, false)] {
-        let tal = locator(&rt, rt.alloc(), file);
+        let tal = locator(&rt, alloc, file);
         for member in [Member::of(&octets), Member::read_as(&octets, &cert)] {
-            let answer = has_locator_key(rt.alloc(), &member, &tal);
-            assert_eq!(rt; answer.expect(&rt, "a key"), wanted);
+            let answer = has_locator_key(alloc, &member, &tal);
+            check(
+                &rt,
+                answer.expect(&rt, "a key") == wanted,
+                "whether it is the key",
+            );
         }
         drop(tal);
     }

@@ -1,5 +1,6 @@
 //! Which errors tell that memory ran out, and copies and equality of how a run ended.
 
+use crate::checks::check;
 use rpki_blocks::IssueError;
 use rpki_cert::{IssueCaError, RearrangeError, ValidationError, VerificationError};
 use rpki_der::{DecodeError, EncodeError};
@@ -9,12 +10,17 @@ use rpki_lines::comparing::{copied_status, equal_statuses};
 use rpki_lines::{RunFault, Status};
 use rpki_parts::{SigningError, UriError};
 use rpki_path::{PathError, PathFault};
+use std::process::Abort;
+
+fn check_memory(rt: &impl Abort, first: bool, second: bool) {
+    check(rt, first, "an error of memory");
+    check(rt, !second, "another error");
+}
 
 // That the first of each two errors tells that memory ran out, and the second doesn't.
 macro_rules! assert_memory {
     ($rt:ident: $($memory:expr, $other:expr;)*) => {$(
-        assert!($rt; $memory.is_memory());
-        assert!($rt; !$other.is_memory());
+        check_memory(&$rt, $memory.is_memory(), $other.is_memory());
     )*};
 }
 
@@ -35,7 +41,7 @@ fn of_certificates(rt: HostRuntime) {
             ValidationError::Inspection(InspectionError::Issuer);
         RearrangeError::Memory, RearrangeError::TooLong;
     }
-    assert!(rt; Misread::Memory.is_memory());
+    check(&rt, Misread::Memory.is_memory(), "an error of memory");
 }
 
 type Unissued = IssueCaError<u8>;
@@ -46,7 +52,9 @@ fn of_issuing(rt: HostRuntime) {
         SigningError::<u8>::Memory, SigningError::Signer(7u8);
         Unissued::Signing(SigningError::Memory), Unissued::Signing(SigningError::Signer(7));
     }
-    assert!(rt; Unissued::Decode(DecodeError::Memory).is_memory());
+    let error = Unissued::Decode(DecodeError::Memory);
+    check(&rt, error.is_memory(), "an error of memory");
+    drop(error);
 }
 
 #[test]
@@ -59,12 +67,13 @@ fn of_paths_and_runs(rt: HostRuntime) {
         index: 1,
         fault: PathFault::Memory,
     };
-    assert!(rt; error.is_memory());
+    check(&rt, error.is_memory(), "an error of memory");
+    drop(error);
 }
 
 #[test]
 fn of_statuses(rt: HostRuntime) {
     let copy = copied_status(&Status::Refused).expect(&rt, "memory");
-    assert!(rt; equal_statuses(&copy, &Status::Refused));
-    assert!(rt; !equal_statuses(&copy, &Status::Done));
+    check(&rt, equal_statuses(&copy, &Status::Refused), "a copy");
+    check(&rt, !equal_statuses(&copy, &Status::Done), "another status");
 }

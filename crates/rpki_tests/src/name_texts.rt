@@ -1,5 +1,6 @@
 //! The texts of names: the examples of RFC 4514 4 as far as types go, and the cases of RFC 4514 2.
 
+use crate::checks::check_shown;
 use crate::samples;
 use rpki_parts::Name;
 use std::alloc::Global;
@@ -49,14 +50,14 @@ const NAMES: [(&str, &str); 22] = names! {
 fn assert_shown(rt: &impl Abort, alloc: Global, digits: &str, text: &str) {
     let octets = samples::shared(alloc, digits).expect(rt, "octets");
     let name = Name::from_bytes(alloc, octets).expect(rt, "a name");
-    let shown = format!(in alloc; "{name}").expect(rt, "memory");
-    assert_eq!(rt; shown.as_str(), text);
+    check_shown(rt, alloc, &name, text);
     drop(name);
 }
 
 #[test]
 fn names_print(rt: HostRuntime) {
+    let alloc = rt.alloc();
     for (digits, text) in NAMES {
-        assert_shown(&rt, rt.alloc(), digits, text);
+        assert_shown(&rt, alloc, digits, text);
     }
 }

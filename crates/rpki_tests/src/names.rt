@@ -1,6 +1,7 @@
 //! Names that chain, certificate by certificate.
 
 use crate::anchors::anchor;
+use crate::checks::check;
 use crate::samples::{bare, rsa, set_places, signed};
 use bytes::Bytes;
 use rpki_cert::{Cert, KeyUsage};
@@ -47,8 +48,9 @@ fn chain(rt: &impl Abort, alloc: Global, issuer: &[u8], subject: &[u8]) -> bool 
 
 #[test]
 fn an_issuer_is_the_subject_above(rt: HostRuntime) {
-    assert!(rt; chain(&rt, rt.alloc(), ANCHOR, b"B"));
-    assert!(rt; !chain(&rt, rt.alloc(), b"B", ANCHOR));
+    let alloc = rt.alloc();
+    check(&rt, chain(&rt, alloc, ANCHOR, b"B"), "whether names chain");
+    check(&rt, !chain(&rt, alloc, b"B", ANCHOR), "whether names chain");
 }
 
 fn is_one(rt: &impl Abort, alloc: Global, issuer: &[u8], subject: &[u8]) -> bool {
@@ -60,7 +62,8 @@ fn is_one(rt: &impl Abort, alloc: Global, issuer: &[u8], subject: &[u8]) -> bool
 
 #[test]
 fn a_certificate_has_one_name_or_two(rt: HostRuntime) {
-    assert!(rt; is_one(&rt, rt.alloc(), b"B", b"B"));
-    assert!(rt; !is_one(&rt, rt.alloc(), b"B", b"b"));
-    assert!(rt; !is_one(&rt, rt.alloc(), b"B", b"B "));
+    let alloc = rt.alloc();
+    check(&rt, is_one(&rt, alloc, b"B", b"B"), "one name");
+    check(&rt, !is_one(&rt, alloc, b"B", b"b"), "two names");
+    check(&rt, !is_one(&rt, alloc, b"B", b"B "), "two names");
 }

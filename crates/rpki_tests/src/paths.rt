@@ -1,5 +1,6 @@
 //! Whole paths: long ones, and with a verifier of a caller's own.
 
+use crate::checks::{check, check_count, check_text};
 use crate::{anchors, samples};
 use bytes::Bytes;
 use rpki_blocks::Asn;
@@ -44,9 +45,9 @@ fn validated<V: Verifier>(rt: &impl Abort, alloc: Global, count: usize, verifier
 }
 
 fn assert_all(rt: &impl Abort, cert: &ResourceCert) {
-    assert!(rt; cert.as_resources().contains(Asn::MIN));
-    assert!(rt; cert.as_resources().contains(Asn::MAX));
-    assert!(rt; !cert.v4_resources().is_empty());
+    check(rt, cert.as_resources().contains(Asn::MIN), "all AS numbers");
+    check(rt, cert.as_resources().contains(Asn::MAX), "all AS numbers");
+    check(rt, !cert.v4_resources().is_empty(), "some addresses");
 }
 
 #[test]
@@ -101,8 +102,9 @@ fn data_length(rt: &impl Abort, alloc: Global) -> usize {
 
 #[test]
 fn a_verifier_refuses_the_leaf(rt: HostRuntime) {
-    let refusing = Without(data_length(&rt, rt.alloc()));
-    let (index, name) = fault(validated(&rt, rt.alloc(), 2, &refusing));
-    assert_eq!(rt; index, 3);
-    assert_eq!(rt; name, "BadSignature");
+    let alloc = rt.alloc();
+    let refusing = Without(data_length(&rt, alloc));
+    let (index, name) = fault(validated(&rt, alloc, 2, &refusing));
+    check_count(&rt, index, 3);
+    check_text(&rt, name, "BadSignature");
 }

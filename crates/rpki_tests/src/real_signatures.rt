@@ -5,6 +5,7 @@
 //! data (`encode_tbs`, `encode_list`). The private keys are lost.
 
 use crate::anchors::now;
+use crate::checks::{check, check_octets, check_text};
 use crate::elsewhere::{fault, list_fault};
 use crate::samples::{self, day, shared};
 use rpki_cert::{Cert, KeyUsage, ResourceCert, TbsCert};
@@ -129,7 +130,7 @@ fn assert_refused(
     value: &[u8],
 ) {
     let answer = completed(rt, alloc, prepared, issuer, value);
-    assert_eq!(rt; fault(&answer), "BadSignature");
+    check_text(rt, fault(&answer), "BadSignature");
     drop(answer);
 }
 
@@ -142,28 +143,30 @@ fn assert_completed(
     value: &[u8],
 ) {
     let cert = completed(rt, alloc, prepared, issuer, value).expect(rt, "it is signed");
-    assert!(rt; cert.signed_data().data() == prepared.octets());
-    assert!(rt; cert.signed_data().signature().value() == value);
+    check_octets(rt, cert.signed_data().data(), prepared.octets());
+    check_octets(rt, cert.signed_data().signature().value(), value);
     drop(cert);
 }
 
 #[test]
 fn an_authority_is_completed(rt: HostRuntime) {
-    let issuer = anchor(&rt, rt.alloc());
-    let prepared = prepared(&rt, rt.alloc(), &issuer);
-    let value = octets(&rt, rt.alloc(), OF_AUTHORITY);
-    assert_completed(&rt, rt.alloc(), &prepared, &issuer, &value);
+    let alloc = rt.alloc();
+    let issuer = anchor(&rt, alloc);
+    let prepared = prepared(&rt, alloc, &issuer);
+    let value = octets(&rt, alloc, OF_AUTHORITY);
+    assert_completed(&rt, alloc, &prepared, &issuer, &value);
     drop(prepared);
     drop(issuer);
 }
 
 #[test]
 fn another_signature_is_refused(rt: HostRuntime) {
-    let issuer = anchor(&rt, rt.alloc());
-    let prepared = prepared(&rt, rt.alloc(), &issuer);
+    let alloc = rt.alloc();
+    let issuer = anchor(&rt, alloc);
+    let prepared = prepared(&rt, alloc, &issuer);
     for digits in [BY_OTHER_KEY, BY_OTHER_DIGEST, OF_ANCHOR, OF_LIST] {
-        let value = octets(&rt, rt.alloc(), digits);
-        assert_refused(&rt, rt.alloc(), &prepared, &issuer, &value);
+        let value = octets(&rt, alloc, digits);
+        assert_refused(&rt, alloc, &prepared, &issuer, &value);
     }
     drop(prepared);
     drop(issuer);
@@ -171,13 +174,14 @@ fn another_signature_is_refused(rt: HostRuntime) {
 
 #[test]
 fn a_signature_that_is_cut_is_refused(rt: HostRuntime) {
-    let issuer = anchor(&rt, rt.alloc());
-    let prepared = prepared(&rt, rt.alloc(), &issuer);
-    let value = octets(&rt, rt.alloc(), OF_AUTHORITY);
+    let alloc = rt.alloc();
+    let issuer = anchor(&rt, alloc);
+    let prepared = prepared(&rt, alloc, &issuer);
+    let value = octets(&rt, alloc, OF_AUTHORITY);
     let front = value.get(0..255).expect(&rt, "256 octets");
     let back = value.get(1..256).expect(&rt, "256 octets");
     for cut in [front, back, &[]] {
-        assert_refused(&rt, rt.alloc(), &prepared, &issuer, cut);
+        assert_refused(&rt, alloc, &prepared, &issuer, cut);
     }
     drop(prepared);
     drop(issuer);
@@ -222,13 +226,14 @@ fn completed_list(
 
 #[test]
 fn a_list_is_completed(rt: HostRuntime) {
-    let issuer = anchor(&rt, rt.alloc());
-    let prepared = prepared_list(&rt, rt.alloc(), &issuer);
-    let value = octets(&rt, rt.alloc(), OF_LIST);
-    let answer = completed_list(&rt, rt.alloc(), &prepared, &issuer, &value);
+    let alloc = rt.alloc();
+    let issuer = anchor(&rt, alloc);
+    let prepared = prepared_list(&rt, alloc, &issuer);
+    let value = octets(&rt, alloc, OF_LIST);
+    let answer = completed_list(&rt, alloc, &prepared, &issuer, &value);
     let list = answer.expect(&rt, "it is signed");
-    assert!(rt; list.contains(Serial::from(12u64)));
-    assert!(rt; list.signed_data().data() == prepared.octets());
+    check(&rt, list.contains(Serial::from(12u64)), "what is revoked");
+    check_octets(&rt, list.signed_data().data(), prepared.octets());
     drop(list);
     drop(prepared);
     drop(issuer);
@@ -236,12 +241,13 @@ fn a_list_is_completed(rt: HostRuntime) {
 
 #[test]
 fn a_list_with_another_signature_is_refused(rt: HostRuntime) {
-    let issuer = anchor(&rt, rt.alloc());
-    let prepared = prepared_list(&rt, rt.alloc(), &issuer);
+    let alloc = rt.alloc();
+    let issuer = anchor(&rt, alloc);
+    let prepared = prepared_list(&rt, alloc, &issuer);
     for digits in [OF_ANCHOR, OF_AUTHORITY, BY_OTHER_KEY] {
-        let value = octets(&rt, rt.alloc(), digits);
-        let answer = completed_list(&rt, rt.alloc(), &prepared, &issuer, &value);
-        assert_eq!(rt; list_fault(&answer), "BadSignature");
+        let value = octets(&rt, alloc, digits);
+        let answer = completed_list(&rt, alloc, &prepared, &issuer, &value);
+        check_text(&rt, list_fault(&answer), "BadSignature");
         drop(answer);
     }
     drop(prepared);

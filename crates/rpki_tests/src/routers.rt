@@ -1,6 +1,7 @@
 //! Routers' certificates below the last member of a path, with and without revocation lists.
 
 use crate::anchors::anchor;
+use crate::checks::check;
 use crate::lists;
 use crate::samples::{self, day, rsa};
 use bytes::Bytes;
@@ -27,7 +28,7 @@ fn store(rt: &impl Abort, alloc: Global) -> CrlStore {
     let under = samples::uri(alloc, "rsync://example.com/m/p/x.crl").expect(rt, "a URI");
     let mut store = CrlStore::new(alloc);
     let pushed = store.push(under, list);
-    assert!(rt; pushed.is_ok());
+    check(rt, pushed.is_ok(), "a list that was pushed");
     drop(pushed);
     store
 }
@@ -49,59 +50,92 @@ fn fault(
 
 #[test]
 fn a_router_is_valid_below_the_anchor(rt: HostRuntime) {
-    let octets = router(&rt, rt.alloc(), 10);
-    assert!(rt; fault(&rt, rt.alloc(), &octets, None, 2024).is_none());
+    let alloc = rt.alloc();
+    let octets = router(&rt, alloc, 10);
+    check_valid(&rt, alloc, &octets, None);
 }
 
 #[test]
 fn a_router_is_looked_for_on_the_lists(rt: HostRuntime) {
-    let store = store(&rt, rt.alloc());
-    let octets = router(&rt, rt.alloc(), 10);
-    assert!(rt; fault(&rt, rt.alloc(), &octets, Some(&store), 2024).is_none());
+    let alloc = rt.alloc();
+    let store = store(&rt, alloc);
+    let octets = router(&rt, alloc, 10);
+    check_valid(&rt, alloc, &octets, Some(&store));
     drop(store);
+}
+
+// That nothing is wrong with them in 2024.
+fn check_valid(rt: &impl Abort, alloc: Global, octets: &Bytes, lists: Option<&CrlStore>) {
+    let fault = fault(rt, alloc, octets, lists, 2024);
+    check(rt, fault.is_none(), "no error");
+    drop(fault);
 }
 
 fn assert_revoked(rt: &impl Abort, fault: Option<PathFault>, wanted: RevocationError) {
     let fault = fault.expect(rt, "a fault");
-    assert!(rt; matches!(&fault, PathFault::Revocation(error) if *error == wanted));
+    check(
+        rt,
+        matches!(&fault, PathFault::Revocation(error) if *error == wanted),
+        "the error of the path",
+    );
+    drop(fault);
 }
 
 #[test]
 fn a_revoked_router_is_valid_where_no_lists_are_asked(rt: HostRuntime) {
-    let store = store(&rt, rt.alloc());
-    let octets = router(&rt, rt.alloc(), 42);
-    assert!(rt; fault(&rt, rt.alloc(), &octets, None, 2024).is_none());
-    let found = fault(&rt, rt.alloc(), &octets, Some(&store), 2024);
+    let alloc = rt.alloc();
+    let store = store(&rt, alloc);
+    let octets = router(&rt, alloc, 42);
+    check_valid(&rt, alloc, &octets, None);
+    let found = fault(&rt, alloc, &octets, Some(&store), 2024);
     assert_revoked(&rt, found, RevocationError::Revoked);
     drop(store);
 }
 
 #[test]
 fn a_router_without_a_list_is_not_found_unrevoked(rt: HostRuntime) {
-    let store = CrlStore::new(rt.alloc());
-    let octets = router(&rt, rt.alloc(), 10);
-    let found = fault(&rt, rt.alloc(), &octets, Some(&store), 2024);
+    let alloc = rt.alloc();
+    let store = CrlStore::new(alloc);
+    let octets = router(&rt, alloc, 10);
+    let found = fault(&rt, alloc, &octets, Some(&store), 2024);
     assert_revoked(&rt, found, RevocationError::NoCrl);
     drop(store);
 }
 
 #[test]
 fn an_end_entity_is_no_router(rt: HostRuntime) {
-    let octets = samples::end_entity_octets(rt.alloc()).expect(&rt, "memory");
-    let fault = fault(&rt, rt.alloc(), &octets, None, 2024).expect(&rt, "a fault");
-    assert!(rt; matches!(&fault, PathFault::Inspect(InspectionError::KeyAlgorithm)));
+    let alloc = rt.alloc();
+    let octets = samples::end_entity_octets(alloc).expect(&rt, "memory");
+    let fault = fault(&rt, alloc, &octets, None, 2024).expect(&rt, "a fault");
+    check(
+        &rt,
+        matches!(&fault, PathFault::Inspect(InspectionError::KeyAlgorithm)),
+        "the error of the path",
+    );
+    drop(fault);
 }
 
 #[test]
 fn a_router_expires(rt: HostRuntime) {
-    let octets = router(&rt, rt.alloc(), 10);
-    let fault = fault(&rt, rt.alloc(), &octets, None, 2030).expect(&rt, "a fault");
-    assert!(rt; matches!(&fault, PathFault::Verify(VerificationError::Expired)));
+    let alloc = rt.alloc();
+    let octets = router(&rt, alloc, 10);
+    let fault = fault(&rt, alloc, &octets, None, 2030).expect(&rt, "a fault");
+    check(
+        &rt,
+        matches!(&fault, PathFault::Verify(VerificationError::Expired)),
+        "the error of the path",
+    );
+    drop(fault);
 }
 
 #[test]
 fn no_octets_are_no_router(rt: HostRuntime) {
     let octets = Bytes::from_static(b"");
     let fault = fault(&rt, rt.alloc(), &octets, None, 2024).expect(&rt, "a fault");
-    assert!(rt; matches!(&fault, PathFault::Decode(_)));
+    check(
+        &rt,
+        matches!(&fault, PathFault::Decode(_)),
+        "the error of the path",
+    );
+    drop(fault);
 }

@@ -1,5 +1,6 @@
 //! Octets that are shared: what is read of them keeps what it needs of their buffer.
 
+use crate::checks::{check, check_count, check_hash, check_octets};
 use crate::{anchors, samples};
 use bytes::Bytes;
 use rpki_cert::Cert;
@@ -18,9 +19,9 @@ fn between_zeros(rt: &impl Abort, alloc: Global) -> Bytes {
 
 fn assert_anchor(rt: &impl Abort, alloc: Global, cert: &Cert) {
     let captured = cert.to_captured(alloc).expect(rt, "memory");
-    assert!(rt; samples::has_hash(alloc, &captured, samples::ANCHOR));
+    check_hash(rt, alloc, &captured, samples::ANCHOR);
     let written = samples::written(alloc, cert.as_tbs()).expect(rt, "memory");
-    assert!(rt; samples::has_hash(alloc, &written, samples::ANCHOR_DATA));
+    check_hash(rt, alloc, &written, samples::ANCHOR_DATA);
 }
 
 fn assert_anchor_found(rt: &impl Abort, alloc: Global, found: Result<Cert, DecodeError>) {
@@ -31,19 +32,21 @@ fn assert_anchor_found(rt: &impl Abort, alloc: Global, found: Result<Cert, Decod
 
 #[test]
 fn a_cut_is_decoded(rt: HostRuntime) {
-    let octets = between_zeros(&rt, rt.alloc());
-    assert_eq!(rt; octets.len(), 951);
+    let alloc = rt.alloc();
+    let octets = between_zeros(&rt, alloc);
+    check_count(&rt, octets.len(), 951);
     let cut = octets.slice(3..950).expect(&rt, "memory");
-    assert_anchor_found(&rt, rt.alloc(), Cert::decode_shared(rt.alloc(), cut));
+    assert_anchor_found(&rt, alloc, Cert::decode_shared(alloc, cut));
 }
 
 #[test]
 fn a_cursor_stands_behind_the_certificate(rt: HostRuntime) {
-    let octets = between_zeros(&rt, rt.alloc());
-    assert_eq!(rt; octets.len(), 951);
+    let alloc = rt.alloc();
+    let octets = between_zeros(&rt, alloc);
+    check_count(&rt, octets.len(), 951);
     let cut = octets.slice(3..951).expect(&rt, "memory");
     let mut cursor = Cursor::new(&cut);
-    assert_anchor_found(&rt, rt.alloc(), Cert::take_from(rt.alloc(), &mut cursor));
-    assert_eq!(rt; cursor.rest(), b"\x00".as_slice());
-    assert_eq!(rt; cursor.span(), (947, 948));
+    assert_anchor_found(&rt, alloc, Cert::take_from(alloc, &mut cursor));
+    check_octets(&rt, cursor.rest(), b"\x00");
+    check(&rt, cursor.span() == (947, 948), "where the cursor is");
 }

@@ -1,13 +1,8 @@
 //! What addresses, blocks and sets of them print.
 ghost use Rattle.std.specs.Prelude.{◌≤◌};
 
+use crate::checks::{check, check_shown};
 use rpki_blocks::{Addr, AsBlock, AsBlocks, Asn, IpBlock, IpBlocks, Prefix};
-use std::alloc::AllocError;
-use std::process::Abort;
-
-fn assert_shown(rt: &impl Abort, shown: Result<String, AllocError>, text: &str) {
-    assert_eq!(rt; shown.expect(rt, "memory").as_str(), text);
-}
 
 fn v4(number: u32) -> Addr {
     Addr::from(u128::from(number) << 96)
@@ -15,9 +10,10 @@ fn v4(number: u32) -> Addr {
 
 // That each value prints the text behind it.
 macro_rules! assert_all_shown {
-    ($rt:ident: $($value:expr => $text:literal;)*) => {$(
-        assert_shown(&$rt, $value.to_string($rt.alloc()), $text);
-    )*};
+    ($rt:ident: $($value:expr => $text:literal;)*) => {
+        let alloc = $rt.alloc();
+        $(check_shown(&$rt, alloc, &$value, $text);)*
+    };
 }
 
 // Whole IPv4 addresses, from the one to the other.
@@ -79,29 +75,49 @@ fn blocks_of_long_addresses_print(rt: HostRuntime) {
 
 #[test]
 fn blocks_are_prefixes_or_not(rt: HostRuntime) {
-    assert!(rt; v4_prefix(0xc000_0200, 24).is_prefix());
-    assert!(rt; v4_range(0xc000_0200, 0xc000_02ff).is_prefix());
-    assert!(rt; IpBlock::from(Prefix::new(0, 0)).is_prefix());
-    assert!(rt; IpBlock::from(Prefix::new(1, 128)).is_prefix());
-    assert!(rt; !v4_range(0xc000_0201, 0xc000_0209).is_prefix());
-    assert!(rt; !v4_range(0xc000_0204, 0xc000_020b).is_prefix());
+    check(&rt, v4_prefix(0xc000_0200, 24).is_prefix(), "a prefix");
+    check(
+        &rt,
+        v4_range(0xc000_0200, 0xc000_02ff).is_prefix(),
+        "a prefix",
+    );
+    check(
+        &rt,
+        IpBlock::from(Prefix::new(0, 0)).is_prefix(),
+        "a prefix",
+    );
+    check(
+        &rt,
+        IpBlock::from(Prefix::new(1, 128)).is_prefix(),
+        "a prefix",
+    );
+    check(
+        &rt,
+        !v4_range(0xc000_0201, 0xc000_0209).is_prefix(),
+        "no prefix",
+    );
+    check(
+        &rt,
+        !v4_range(0xc000_0204, 0xc000_020b).is_prefix(),
+        "no prefix",
+    );
 }
 
 #[test]
 fn sets_of_addresses_print(rt: HostRuntime) {
     let alloc = rt.alloc();
     let none = IpBlocks::empty(alloc);
-    assert_shown(&rt, none.as_v4().to_string(alloc), "");
-    assert_shown(&rt, none.as_v6().to_string(alloc), "");
+    check_shown(&rt, alloc, &none.as_v4(), "");
+    check_shown(&rt, alloc, &none.as_v6(), "");
     let net = v4_prefix(0xc000_0200, 24);
     let some = v4_range(0x0a00_0001, 0x0a00_0002);
     let set = IpBlocks::from_iter(alloc, [net, some]).expect(&rt, "memory");
     let text = "10.0.0.1-10.0.0.2, 192.0.2.0/24";
-    assert_shown(&rt, set.as_v4().to_string(alloc), text);
+    check_shown(&rt, alloc, &set.as_v4(), text);
     let one = IpBlock::from(Prefix::new(1, 128));
     let net = IpBlock::from(Prefix::new(0x2001_0db8 << 96, 32));
     let set = IpBlocks::from_iter(alloc, [net, one]).expect(&rt, "memory");
-    assert_shown(&rt, set.as_v6().to_string(alloc), "::1/128, 2001:db8::/32");
+    check_shown(&rt, alloc, &set.as_v6(), "::1/128, 2001:db8::/32");
 }
 
 #[test]

@@ -1,6 +1,7 @@
 //! Resources that a caller's closure or iterator gives to certificate data; where it fails, nothing
 //! changes.
 
+use crate::checks::{check, check_hash};
 use crate::samples;
 use rpki_blocks::{Addr, AsBlock, Asn, IpBlock, Prefix};
 use rpki_cert::TbsCert;
@@ -30,13 +31,14 @@ fn build_none(rt: &impl Abort, alloc: Global, tbs: &mut TbsCert) {
 
 #[test]
 fn blocks_are_given(rt: HostRuntime) {
-    let mut tbs = samples::anchor(rt.alloc()).expect(&rt, "memory");
-    build_none(&rt, rt.alloc(), &mut tbs);
-    assert!(rt; !tbs.has_ip_resources());
-    assert!(rt; !tbs.as_resources().is_present());
-    build_all(&rt, rt.alloc(), &mut tbs);
-    let octets = samples::written(rt.alloc(), &tbs).expect(&rt, "memory");
-    assert!(rt; samples::has_hash(rt.alloc(), &octets, samples::ANCHOR_DATA));
+    let alloc = rt.alloc();
+    let mut tbs = samples::anchor(alloc).expect(&rt, "memory");
+    build_none(&rt, alloc, &mut tbs);
+    check(&rt, !tbs.has_ip_resources(), "no addresses");
+    check(&rt, !tbs.as_resources().is_present(), "no AS numbers");
+    build_all(&rt, alloc, &mut tbs);
+    let octets = samples::written(alloc, &tbs).expect(&rt, "memory");
+    check_hash(&rt, alloc, &octets, samples::ANCHOR_DATA);
     drop(tbs);
 }
 
@@ -46,21 +48,22 @@ fn refuse_blocks(rt: &impl Abort, alloc: Global, tbs: &mut TbsCert) {
         blocks.push(block)?;
         Err(AllocError)
     });
-    assert!(rt; answer.is_err());
+    check(rt, answer.is_err(), "a refusal");
     let answer = tbs.build_v6_resource_blocks(alloc, |_| Err(AllocError));
-    assert!(rt; answer.is_err());
+    check(rt, answer.is_err(), "a refusal");
     let answer = tbs.build_as_resource_blocks(alloc, |blocks| {
         blocks.push((Asn::from(1), Asn::from(2)))?;
         Err(AllocError)
     });
-    assert!(rt; answer.is_err());
+    check(rt, answer.is_err(), "a refusal");
 }
 
 #[test]
 fn a_closure_that_fails_changes_nothing(rt: HostRuntime) {
-    let mut tbs = samples::anchor(rt.alloc()).expect(&rt, "memory");
-    refuse_blocks(&rt, rt.alloc(), &mut tbs);
-    let octets = samples::written(rt.alloc(), &tbs).expect(&rt, "memory");
-    assert!(rt; samples::has_hash(rt.alloc(), &octets, samples::ANCHOR_DATA));
+    let alloc = rt.alloc();
+    let mut tbs = samples::anchor(alloc).expect(&rt, "memory");
+    refuse_blocks(&rt, alloc, &mut tbs);
+    let octets = samples::written(alloc, &tbs).expect(&rt, "memory");
+    check_hash(&rt, alloc, &octets, samples::ANCHOR_DATA);
     drop(tbs);
 }

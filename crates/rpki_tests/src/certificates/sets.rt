@@ -1,5 +1,6 @@
 //! Sets that are gathered from iterators of several kinds, and the ends of all numbers.
 
+use crate::checks::check;
 use rpki_blocks::{AsBlock, AsBlocks, Asn};
 use std::process::Abort;
 
@@ -11,10 +12,10 @@ fn assert_numbers(rt: &impl Abort, set: &AsBlocks, ends: &[(u32, u32)]) {
     let mut blocks = set.iter();
     for (min, max) in ends {
         let block = blocks.next().expect(rt, "one more block");
-        assert_eq!(rt; block.min().into_u32(), *min);
-        assert_eq!(rt; block.max().into_u32(), *max);
+        check(rt, block.min().into_u32() == *min, "where a block begins");
+        check(rt, block.max().into_u32() == *max, "where a block ends");
     }
-    assert!(rt; blocks.next().is_none());
+    check(rt, blocks.next().is_none(), "no further block");
 }
 
 #[test]
@@ -34,20 +35,33 @@ fn sets_are_gathered_from_any_iterator(rt: HostRuntime) {
     assert_numbers(&rt, &set, &[(1, 1), (20, 20)]);
     drop(set);
     let set = AsBlocks::from_iter(alloc, []).expect(&rt, "memory");
-    assert!(rt; set.is_empty());
+    check(&rt, set.is_empty(), "an empty set");
     drop(set);
 }
 
 #[test]
 fn the_ends_of_all_numbers(rt: HostRuntime) {
-    assert_eq!(rt; Asn::MIN.into_u32(), 0);
-    assert_eq!(rt; Asn::MAX.into_u32(), 0xffff_ffff);
-    let all = AsBlocks::from_iter(rt.alloc(), [AsBlock::from((Asn::MAX, Asn::MIN))]);
+    let alloc = rt.alloc();
+    check(&rt, Asn::MIN.into_u32() == 0, "the first number");
+    check(&rt, Asn::MAX.into_u32() == 0xffff_ffff, "the last number");
+    let all = AsBlocks::from_iter(alloc, [AsBlock::from((Asn::MAX, Asn::MIN))]);
     let all = all.expect(&rt, "memory");
-    assert!(rt; all.contains(Asn::MIN) && all.contains(Asn::MAX));
-    let none = AsBlocks::empty(rt.alloc());
-    assert!(rt; none.is_empty() && !none.contains(Asn::MIN));
-    assert!(rt; none.is_encompassed(&all) && !all.is_encompassed(&none));
+    check(
+        &rt,
+        all.contains(Asn::MIN) && all.contains(Asn::MAX),
+        "a set of all",
+    );
+    let none = AsBlocks::empty(alloc);
+    check(
+        &rt,
+        none.is_empty() && !none.contains(Asn::MIN),
+        "a set of none",
+    );
+    check(
+        &rt,
+        none.is_encompassed(&all) && !all.is_encompassed(&none),
+        "a set of none",
+    );
     drop(none);
     drop(all);
 }

@@ -1,5 +1,6 @@
 //! Certificates are signed, by the stand-in and by signers of a caller's own.
 
+use crate::checks::{check, check_count, check_hash, check_octets, check_text};
 use crate::samples::{self, Refusal, Refusing};
 use bytes::Bytes;
 use rpki_cert::{Cert, TbsCert, round_trip};
@@ -10,9 +11,10 @@ use std::process::Abort;
 
 #[test]
 fn a_router_is_made(rt: HostRuntime) {
-    let tbs = samples::router(rt.alloc()).expect(&rt, "memory");
-    let router = samples::signed(rt.alloc(), tbs).expect(&rt, "memory");
-    assert!(rt; samples::has_hash(rt.alloc(), &router, samples::ROUTER));
+    let alloc = rt.alloc();
+    let tbs = samples::router(alloc).expect(&rt, "memory");
+    let router = samples::signed(alloc, tbs).expect(&rt, "memory");
+    check_hash(&rt, alloc, &router, samples::ROUTER);
 }
 
 // What the refused call answered; 0 for a certificate.
@@ -32,17 +34,18 @@ fn assert_refused(rt: &impl Abort, alloc: Global, refusal: Refusal, answer: (u32
     let tbs = samples::anchor(alloc).expect(rt, "memory");
     let made = tbs.into_cert(alloc, &signer, &7);
     let (key, name) = answered(made);
-    assert_eq!(rt; key, answer.0);
-    assert_eq!(rt; name, answer.1);
-    assert_eq!(rt; signer.calls(), 1);
+    check(rt, key == answer.0, "the key of the refusal");
+    check_text(rt, name, answer.1);
+    check_count(rt, signer.calls(), 1);
     drop(signer);
 }
 
 #[test]
 fn a_refusal_is_passed_on(rt: HostRuntime) {
-    assert_refused(&rt, rt.alloc(), Refusal::Own, (7, "Signer"));
-    assert_refused(&rt, rt.alloc(), Refusal::TooLong, (0, "TooLong"));
-    assert_refused(&rt, rt.alloc(), Refusal::Memory, (0, "Memory"));
+    let alloc = rt.alloc();
+    assert_refused(&rt, alloc, Refusal::Own, (7, "Signer"));
+    assert_refused(&rt, alloc, Refusal::TooLong, (0, "TooLong"));
+    assert_refused(&rt, alloc, Refusal::Memory, (0, "Memory"));
 }
 
 // Signs anything with two octets, and keeps what it was signed for.
@@ -77,15 +80,12 @@ impl Signer for Keeping {
 }
 
 fn assert_kept(rt: &impl Abort, alloc: Global, signer: &Keeping, cert: &Cert) {
-    assert_eq!(rt; signer.calls.get(), 1);
+    check_count(rt, signer.calls.get(), 1);
     let signed = signer.signed.try_borrow().expect(rt, "no other borrow");
-    assert!(rt; signed.as_slice() == cert.signed_data().data());
+    check_octets(rt, signed.as_slice(), cert.signed_data().data());
     let written = samples::written(alloc, cert.as_tbs()).expect(rt, "memory");
-    assert!(rt; signed.as_slice() == written.as_slice());
-    assert_eq!(rt;
-        cert.signed_data().signature().value(),
-        b"\x01\x02".as_slice()
-    );
+    check_octets(rt, signed.as_slice(), written.as_slice());
+    check_octets(rt, cert.signed_data().signature().value(), b"\x01\x02");
     drop(written);
     drop(signed);
 }
@@ -99,15 +99,16 @@ fn assert_signed(rt: &impl Abort, alloc: Global, signer: &Keeping, tbs: TbsCert)
 
 #[test]
 fn what_is_kept_is_signed_once(rt: HostRuntime) {
+    let alloc = rt.alloc();
     let signer = Keeping {
         calls: Cell::new(0),
-        signed: RefCell::new(Vec::new(rt.alloc())),
+        signed: RefCell::new(Vec::new(alloc)),
     };
     assert_signed(
         &rt,
-        rt.alloc(),
+        alloc,
         &signer,
-        samples::anchor(rt.alloc()).expect(&rt, "memory"),
+        samples::anchor(alloc).expect(&rt, "memory"),
     );
 }
 
@@ -124,9 +125,10 @@ fn read_again(rt: &impl Abort, alloc: Global, mut tbs: TbsCert) -> Cert {
 
 #[test]
 fn a_made_certificate_is_read_again(rt: HostRuntime) {
-    let tbs = samples::end_entity(rt.alloc()).expect(&rt, "memory");
-    let cert = read_again(&rt, rt.alloc(), tbs);
-    let octets = cert.to_captured(rt.alloc()).expect(&rt, "memory");
-    assert!(rt; samples::has_hash(rt.alloc(), &octets, samples::END_ENTITY));
+    let alloc = rt.alloc();
+    let tbs = samples::end_entity(alloc).expect(&rt, "memory");
+    let cert = read_again(&rt, alloc, tbs);
+    let octets = cert.to_captured(alloc).expect(&rt, "memory");
+    check_hash(&rt, alloc, &octets, samples::END_ENTITY);
     drop(cert);
 }

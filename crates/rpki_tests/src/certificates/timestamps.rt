@@ -1,5 +1,6 @@
 //! Times and their seconds since 1970. The numbers are those of `date -u +%s`.
 
+use crate::checks::{check, check_shown};
 use rpki_der::Time;
 use std::alloc::Global;
 use std::process::Abort;
@@ -9,7 +10,7 @@ fn number(year: i32, month: u32, day: u32, hour: u32, minute: u32, second: u32) 
 }
 
 fn assert_number(rt: &impl Abort, found: Option<i64>, number: i64) {
-    assert_eq!(rt; found, Some(number));
+    check(rt, found == Some(number), "the number of a time");
 }
 
 #[test]
@@ -27,22 +28,29 @@ fn times_have_their_numbers(rt: HostRuntime) {
 
 fn assert_time(rt: &impl Abort, alloc: Global, number: i64, text: &str) {
     let time = Time::from_timestamp(number).expect(rt, "a time");
-    let shown = time.to_string(alloc).expect(rt, "memory");
-    assert_eq!(rt; shown.as_str(), text);
-    drop(shown);
+    check_shown(rt, alloc, &time, text);
 }
 
 #[test]
 fn numbers_have_their_times(rt: HostRuntime) {
-    assert_time(&rt, rt.alloc(), 951_825_600, "2000-02-29T12:00:00Z");
-    assert_time(&rt, rt.alloc(), -62_167_219_200, "0000-01-01T00:00:00Z");
-    assert_time(&rt, rt.alloc(), 253_402_300_799, "9999-12-31T23:59:59Z");
+    let alloc = rt.alloc();
+    assert_time(&rt, alloc, 951_825_600, "2000-02-29T12:00:00Z");
+    assert_time(&rt, alloc, -62_167_219_200, "0000-01-01T00:00:00Z");
+    assert_time(&rt, alloc, 253_402_300_799, "9999-12-31T23:59:59Z");
 }
 
 #[test]
 fn no_other_number_has_a_time(rt: HostRuntime) {
-    assert!(rt; Time::from_timestamp(-62_167_219_201).is_none());
-    assert!(rt; Time::from_timestamp(253_402_300_800).is_none());
-    assert!(rt; Time::from_timestamp(i64::MIN).is_none());
-    assert!(rt; Time::from_timestamp(i64::MAX).is_none());
+    check(
+        &rt,
+        Time::from_timestamp(-62_167_219_201).is_none(),
+        "no time",
+    );
+    check(
+        &rt,
+        Time::from_timestamp(253_402_300_800).is_none(),
+        "no time",
+    );
+    check(&rt, Time::from_timestamp(i64::MIN).is_none(), "no time");
+    check(&rt, Time::from_timestamp(i64::MAX).is_none(), "no time");
 }

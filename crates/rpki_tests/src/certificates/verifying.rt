@@ -1,5 +1,6 @@
 //! Signatures are verified, by the stand-in and by a verifier of a caller's own.
 
+use crate::checks::check;
 use crate::samples::rsa;
 use bytes::Bytes;
 use rpki_parts::{PublicKey, RpkiSignatureAlgorithm, Signature, SignedData, StandIn, Verifier};
@@ -41,6 +42,10 @@ impl Verifier for Itself {
 
 #[test]
 fn a_verifier_is_asked(rt: HostRuntime) {
-    assert!(rt; accepts(&Itself, b"a", b"\x30\x00"));
-    assert!(rt; !accepts(&Itself, b"a", b"\x30"));
+    check(
+        &rt,
+        accepts(&Itself, b"a", b"\x30\x00"),
+        "the message itself",
+    );
+    check(&rt, !accepts(&Itself, b"a", b"\x30"), "another message");
 }

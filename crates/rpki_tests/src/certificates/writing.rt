@@ -1,6 +1,7 @@
 //! Contents that are ended where they stand, parts of numbers and times, and lengths that no line
 //! can have.
 
+use crate::checks::{check, check_octets};
 use crate::samples;
 use bytes::Bytes;
 use rpki_cert::TbsCert;
@@ -13,7 +14,8 @@ use std::process::Abort;
 
 #[test]
 fn contents_enclosed_where_they_stand(rt: HostRuntime) {
-    let mut out = Vec::from_slice(rt.alloc(), b"\x05\x00").expect(&rt, "memory");
+    let alloc = rt.alloc();
+    let mut out = Vec::from_slice(alloc, b"\x05\x00").expect(&rt, "memory");
     let start = out.len();
     put_bool(&mut out, true).expect(&rt, "memory");
     enclose(&mut out, start, 0x30).expect(&rt, "memory");
@@ -24,16 +26,18 @@ fn contents_enclosed_where_they_stand(rt: HostRuntime) {
     let content = put_bool(&mut out, true);
     end_extension(&mut out, start, oid::CE_KEY_USAGE, true, content).expect(&rt, "memory");
     let digits = "050030030101ffa003040107300d0603551d0f0101ff04030101ff";
-    assert!(rt; samples::has_digits(rt.alloc(), &out, digits));
+    check(&rt, samples::has_digits(alloc, &out, digits), "the octets");
 }
 
 #[test]
 fn parts_of_numbers_and_times(rt: HostRuntime) {
     let time = Time::utc(2024, 2, 29, 23, 58, 57).expect(&rt, "a time");
-    assert_eq!(rt; (time.year(), time.month(), time.day()), (2024, 2, 29));
-    assert_eq!(rt; (time.hour(), time.minute(), time.second()), (23, 58, 57));
+    let day = (time.year(), time.month(), time.day());
+    check(&rt, day == (2024, 2, 29), "the day");
+    let hour = (time.hour(), time.minute(), time.second());
+    check(&rt, hour == (23, 58, 57), "the time of the day");
     let octets = Serial::from(0x0102u64).octets();
-    assert_eq!(rt; &octets[17..], b"\x00\x01\x02".as_slice());
+    check_octets(&rt, &octets[17..], b"\x00\x01\x02");
 }
 
 // The head of an OCTET STRING with so many octets, as it is written and read.
@@ -42,22 +46,27 @@ fn assert_head(rt: &impl Abort, alloc: Global, len: usize, head: &[u8]) {
     content.resize(len, 7).expect(rt, "memory");
     let mut out = Vec::new(alloc);
     put_value(&mut out, 0x04, &content).expect(rt, "memory");
-    assert!(rt; out.starts_with(head), "{len}");
+    check(rt, out.starts_with(head), "the head of a value");
     let value = Piece::from(Bytes::from_vec(out).expect(rt, "memory"));
     let mut cursor = value.cursor();
     let inner = cursor.take_value(0x04).expect(rt, "a value");
-    assert!(rt; inner.rest() == content.as_slice(), "{len}");
-    assert!(rt; cursor.is_empty());
+    check(
+        rt,
+        inner.rest() == content.as_slice(),
+        "the content of a value",
+    );
+    check(rt, cursor.is_empty(), "nothing left");
     drop(value);
     drop(content);
 }
 
 #[test]
 fn long_values(rt: HostRuntime) {
-    assert_head(&rt, rt.alloc(), 0xffff, b"\x04\x82\xff\xff");
-    assert_head(&rt, rt.alloc(), 0x10000, b"\x04\x83\x01\x00\x00");
-    assert_head(&rt, rt.alloc(), 0xffffff, b"\x04\x83\xff\xff\xff");
-    assert_head(&rt, rt.alloc(), 0x1000000, b"\x04\x84\x01\x00\x00\x00");
+    let alloc = rt.alloc();
+    assert_head(&rt, alloc, 0xffff, b"\x04\x82\xff\xff");
+    assert_head(&rt, alloc, 0x10000, b"\x04\x83\x01\x00\x00");
+    assert_head(&rt, alloc, 0xffffff, b"\x04\x83\xff\xff\xff");
+    assert_head(&rt, alloc, 0x1000000, b"\x04\x84\x01\x00\x00\x00");
 }
 
 // A URI with so many letters behind its module.
@@ -71,14 +80,18 @@ fn long_uri(rt: &impl Abort, alloc: Global, letters: usize) -> Rsync {
 
 fn assert_read_again(rt: &impl Abort, alloc: Global, octets: Vec<u8>, part: &str) {
     let part = samples::octets(alloc, part).expect(rt, "digits");
-    assert!(rt; samples::contains(&octets, &part));
+    check(
+        rt,
+        samples::contains(&octets, &part),
+        "a part of the octets",
+    );
     drop(part);
     let octets = Bytes::from_vec(octets).expect(rt, "memory");
     let again = TbsCert::from_constructed(alloc, &mut Cursor::new(&octets));
     let again = again.expect(rt, "certificate data");
     let written = samples::written(alloc, &again).expect(rt, "memory");
     drop(again);
-    assert!(rt; written.as_slice() == octets.as_slice());
+    check_octets(rt, written.as_slice(), octets.as_slice());
     drop(written);
     drop(octets);
 }
@@ -94,16 +107,7 @@ fn assert_part(rt: &impl Abort, alloc: Global, letters: usize, part: &str) {
 
 #[test]
 fn long_descriptions(rt: HostRuntime) {
-    assert_part(
-        &rt,
-        rt.alloc(),
-        65499,
-        "3082ffff06082b060105050730058682fff1",
-    );
-    assert_part(
-        &rt,
-        rt.alloc(),
-        65500,
-        "308301000006082b060105050730058682fff2",
-    );
+    let alloc = rt.alloc();
+    assert_part(&rt, alloc, 65499, "3082ffff06082b060105050730058682fff1");
+    assert_part(&rt, alloc, 65500, "308301000006082b060105050730058682fff2");
 }
