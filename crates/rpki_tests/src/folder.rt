@@ -321,8 +321,9 @@ fn a_list_with_octets_behind_is_none(rt: HostRuntime) {
     let alloc = rt.alloc();
     let mut folder = Folder::new(alloc);
     let list = list_octets(&rt, alloc);
-    assert!(rt; add(&rt, &mut folder, longer(&rt, alloc, &list)) == Added::Neither);
-    assert!(rt; add(&rt, &mut folder, list) == Added::List);
+    let more = longer(&rt, alloc, &list);
+    add(&rt, &mut folder, more, Added::Neither);
+    add(&rt, &mut folder, list, Added::List);
     drop(folder);
 }
 
@@ -331,16 +332,21 @@ fn a_list_with_octets_behind_is_none(rt: HostRuntime) {
 fn a_copy_takes_no_step(rt: HostRuntime) {
     let alloc = rt.alloc();
     let mut folder = Folder::new(alloc);
-    add(&rt, &mut folder, list_octets(&rt, alloc));
+    add(&rt, &mut folder, list_octets(&rt, alloc), Added::List);
     let octets = end_entity(&rt, alloc);
-    add(&rt, &mut folder, longer(&rt, alloc, &octets));
-    add(&rt, &mut folder, octets);
-    add(&rt, &mut folder, authority(&rt, alloc));
-    let firsts = Firsts::of(alloc, &folder).expect(&rt, "memory");
-    assert_eq!(rt;
-        (firsts.first_of(0), firsts.first_of(1), firsts.first_of(2)),
-        (0, 0, 2)
+    let more = longer(&rt, alloc, &octets);
+    add(&rt, &mut folder, more, Added::Certificate(0));
+    add(&rt, &mut folder, octets, Added::Certificate(1));
+    add(
+        &rt,
+        &mut folder,
+        authority(&rt, alloc),
+        Added::Certificate(2),
     );
+    let firsts = Firsts::of(alloc, &folder).expect(&rt, "memory");
+    for (place, first) in [0, 0, 2].iter().enumerate() {
+        check_count(&rt, firsts.first_of(place), *first);
+    }
     let mut lines = Lines::new(alloc, 3).expect(&rt, "memory");
     let tal = locator(&rt, alloc, OF_ANCHOR);
     let anchor = anchors::octets(&rt, alloc);
