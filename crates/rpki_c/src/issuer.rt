@@ -76,14 +76,14 @@ pub(crate) fn issuer_of(
     }
 }
 
-/// The certificates of the issuer's path, and the CRLs, if they are asked.
+/// The certificates of the issuer's path, and the CRLs, if they are checked.
 #[derive(Drop)]
 pub(crate) struct Above {
     pub(crate) path: Vec<Bytes>,
     pub(crate) lists: Vec<Crl>,
 }
 
-// The CRLs of a question, if they are asked.
+// The CRLs of a question, if they are checked.
 fn lists_given(
     alloc: Global,
     question: &RpkiQuestion<'_>,
@@ -102,7 +102,7 @@ fn lists_given(
     lists
 }
 
-/// Returns the certificates of the issuer's path, and the CRLs, if they are asked.
+/// Returns the certificates of the issuer's path, and the CRLs, if they are checked.
 pub(crate) fn above_of(
     alloc: Global,
     question: &RpkiQuestion<'_>,

@@ -1,5 +1,5 @@
 use Rattle.std.specs.Prelude.{Err}
-use Rattle.std.proofs.Common.{◌≡◌, inl, inr, refl, rules}
+use Rattle.std.proofs.Common.{◌≡◌, inl, refl, rules}
 use Rattle.rpki_c.proofs.completing.completed.Goals as goal
 
 pub returns-in_err-issuer : goal.returns-in_err-issuer

@@ -1,4 +1,4 @@
-use Rattle.std.proofs.Common.{◌≡◌, ◌+◌, ◌++◌, ◌∷◌, [], List, map, take, get_or, sym, ap, ◌∙◌, append_assoc}
+use Rattle.std.proofs.Common.{◌≡◌, ◌++◌, ◌∷◌, [], List, map, take, get_or, sym, ap, ◌∙◌, append_assoc}
 use Rattle.rpki_c.specs.Writing.{ip_struct}
 use Rattle.rpki_c.specs.declared.copying.RpkiIpRange.{RpkiIpRange}
 use Rattle.rpki_c.proofs.OneMore.{map_more}

@@ -1,10 +1,10 @@
-use Rattle.std.proofs.Common.{◌≡◌, ℕ, ◌<◌, length, sym, subst, ◌∙◌, arith}
+use Rattle.std.proofs.Common.{arith}
 use Rattle.std.proofs.lemmas.Bool.{false≢true}
 use Rattle.std.proofs.lemmas.List.{length-map}
 use Rattle.std.proofs.lemmas.List.Sorted.{Contains-permutation, IsPermutation-sym}
 use Rattle.rpki_crl.specs.SerialTables.{serials_of}
-use Rattle.rpki_c.specs.ListTables.{IsTableOf, serials_in, serial_of}
-use Rattle.rpki_crl.proofs.Halvings.{IsBetween, go_up, go_down, not_there, there}
+use Rattle.rpki_c.specs.ListTables.{serials_in, serial_of}
+use Rattle.rpki_crl.proofs.Halvings.{go_up, go_down, not_there, there}
 use Rattle.rpki_c.proofs.tables.has.Goals as goal
 
 pub loop-low-init : goal.loop-low-init

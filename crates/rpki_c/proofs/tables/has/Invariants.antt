@@ -1,4 +1,4 @@
-use Rattle.std.proofs.Common.{◌-◌, ◌≤◌, ℕ, length}
+use Rattle.std.proofs.Common.{◌-◌, ◌≤◌, length}
 use Rattle.rpki_crl.specs.SerialTables.{AreAscending}
 use Rattle.rpki_c.specs.ListTables.{serials_in}
 use Rattle.rpki_crl.proofs.Halvings.{IsBetween}

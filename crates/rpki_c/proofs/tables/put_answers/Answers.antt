@@ -1,4 +1,4 @@
-use Rattle.std.proofs.Common.{◌≡◌, ◌≢◌, ◌∙◌, ℕ, ◌+◌, ◌<◌, List, length, set, get_or, sym, subst, below_more, arith}
+use Rattle.std.proofs.Common.{◌≢◌, ◌∙◌, ℕ, ◌+◌, ◌<◌, List, length, set, get_or, sym, subst, below_more, arith}
 use Rattle.std.proofs.lemmas.List.{get_or-set_other, get_or-set_same, length-set}
 use Rattle.rpki_crl.specs.RevokedEntries.{Entry, IsRevoked}
 use Rattle.rpki_c.specs.Contents.{IsFlag, serial_in}
