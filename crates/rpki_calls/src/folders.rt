@@ -8,7 +8,7 @@ use bytes::Bytes;
 use rpki_cert::{Cert, KeyUsage, ResourceCert, Said, TbsCert};
 use rpki_crl::Crl;
 use rpki_folder::{
-    Accepted, Added, AllAdmitted, Bounds, Ended, Folder, Found, Line, Lines, Visitor, Walk,
+    Accepted, Added, AllAdmitted, Bounds, Ended, Firsts, Folder, Found, Line, Lines, Visitor, Walk,
 };
 use rpki_keys::tal::Tal;
 use rpki_parts::StandIn;
@@ -154,6 +154,19 @@ fn read_again(alloc: Global) -> Option<Told> {
         Err(_) => None,
     };
     ended_without(alloc, folder, outcome)
+}
+
+// The first places of four certificates.
+fn first_places(alloc: Global, folder: &mut Folder) -> Option<Told> {
+    begun(alloc, folder)?;
+    called!(alloc, Firsts::of(alloc, folder), firsts => firsts.first_of(3) == 3)
+}
+
+fn firsts_of(alloc: Global) -> Option<Told> {
+    let mut folder = Folder::new(alloc);
+    let told = first_places(alloc, &mut folder);
+    drop(folder);
+    told
 }
 
 fn add_list(alloc: Global, folder: &mut Folder, list: Crl) -> Outcome {
@@ -385,6 +398,7 @@ fn of_walk(alloc: Global, path: &str) -> Option<Told> {
 pub fn told(alloc: Global, path: &str) -> Option<Told> {
     match path {
         "rpki_folder::Filed::cert" => read_again(alloc),
+        "rpki_folder::Firsts::of" => firsts_of(alloc),
         "rpki_folder::Folder::new" => empty(alloc),
         "rpki_folder::Lines::new" => lines_made(alloc),
         "rpki_folder::Lines::tell" => line_told(alloc),
