@@ -1,0 +1,54 @@
+#!/usr/bin/env python3
+"""Makes a cache with a CA that works against another one, in three directories of the folder TO.
+
+    python3 bench/strangers.py COUNT MANY TO
+
+`honest` has a trust anchor with its TAL, two CAs `a` and `b` below it, and COUNT end entities below
+`b`. `anchors` has MANY certificates by which `a` certifies the trust anchor's key, each time with
+another name; `siblings` has MANY by which it certifies the key and the name of `b`.
+"""
+import base64
+import sys
+from pathlib import Path
+
+TOP = Path(__file__).resolve().parent.parent
+sys.path.insert(0, str(TOP / 'reference'))
+
+import random_folders as made
+import reference as ref
+from parts import OID_COMMON_NAME, put_name
+from tree import Repository
+from worked import ALL_ADDRESSES
+
+
+def named(number):
+    """The octets of a name with this number."""
+    return put_name([[(OID_COMMON_NAME, ref.enc(0x13, b'%d' % number))]])
+
+
+def main(count, many, to):
+    folder = Path(to)
+    honest, anchors, siblings = (Repository(folder / it) for it in ('honest', 'anchors', 'siblings'))
+    for it in (honest, anchors, siblings):
+        it.folder.mkdir(parents=True, exist_ok=True)
+    anchor, a, b, leaf = (made.Signer() for _ in range(4))
+    inherited = {'v4': ref.INHERIT, 'v6': ref.INHERIT, 'asn': ref.INHERIT}
+    honest.certificate('ta.cer', anchor.key, anchor, crl_uri=None, ca_issuer=None,
+                       v4=ALL_ADDRESSES, v6=ALL_ADDRESSES, asn=((1, 1000),))
+    honest.revocations('ta.crl', anchor)
+    for name, signer in (('a', a), ('b', b)):
+        honest.certificate(f'{name}.cer', signer.key, anchor, **inherited)
+        honest.revocations(f'{name}.crl', signer)
+    bare = {'key_usage': 'Ee', 'basic_ca': None, 'ca_repository': None, 'rpki_manifest': None,
+            'signed_object': b'rsync://example.com/m/c/x.roa'}
+    for place in range(int(count)):
+        honest.certificate(f'ee{place}.cer', leaf.key, b, **inherited, **bare)
+    for place in range(int(many)):
+        anchors.certificate(f'{place}.cer', anchor.key, a, subject=named(place), **inherited)
+        siblings.certificate(f'{place}.cer', b.key, a, **inherited)
+    info = base64.b64encode(ref.put_key(anchor.key)).decode()
+    honest.write('ta.tal', f'rsync://example.com/m/ta.cer\n\n{info}\n'.encode())
+
+
+if __name__ == '__main__':
+    main(*sys.argv[1:])
