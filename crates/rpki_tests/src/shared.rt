@@ -1,6 +1,6 @@
 //! Octets that are shared: what is read of them keeps what it needs of their buffer.
 
-use crate::checks::{check, check_count, check_hash, check_octets};
+use crate::checks::{check, check_hash, check_octets};
 use crate::{anchors, samples};
 use bytes::Bytes;
 use rpki_cert::Cert;
@@ -34,7 +34,7 @@ fn assert_anchor_found(rt: &impl Abort, alloc: Global, found: Result<Cert, Decod
 fn a_cut_is_decoded(rt: HostRuntime) {
     let alloc = rt.alloc();
     let octets = between_zeros(&rt, alloc);
-    check_count(&rt, octets.len(), 951);
+    assert_eq!(rt; octets.len(), 951);
     let cut = octets.slice(3..950).expect(&rt, "memory");
     assert_anchor_found(&rt, alloc, Cert::decode_shared(alloc, cut));
 }
@@ -43,7 +43,7 @@ fn a_cut_is_decoded(rt: HostRuntime) {
 fn a_cursor_stands_behind_the_certificate(rt: HostRuntime) {
     let alloc = rt.alloc();
     let octets = between_zeros(&rt, alloc);
-    check_count(&rt, octets.len(), 951);
+    assert_eq!(rt; octets.len(), 951);
     let cut = octets.slice(3..951).expect(&rt, "memory");
     let mut cursor = Cursor::new(&cut);
     assert_anchor_found(&rt, alloc, Cert::take_from(alloc, &mut cursor));
