@@ -317,6 +317,8 @@ def say_locator(answer, name, locator):
     for number, uri in enumerate(locator.uris):
         answer.line('URI', doc.visible(('trust_anchor_locations', number), uri))
     say_key(answer, locator.key, locator.key.format == RSA and keys.is_used(False, locator.key.bits), TAL_ASKED)
+    if locator.key.format == P256:
+        answer.keep(doc.identifier(('key', 'point'), locator.key.bits))
     answer.line('Subject key identifier', doc.identifier(('ski',), locator.key.identifier()))
 
 
