@@ -29,5 +29,5 @@ returns-in-Ok c =
     let whole : end - 0 ≡ end = omega arith in
     let count : end ≡ length octets - length rest = ap (λ (n : ℕ). n - length c.rest.result.now) c.len.ensures.value ∙ ap (λ (l : List ℕ). length octets - length l) c.rest.ensures.remaining in
     rw (← c.self.view_is) (ok_if (IsCertificateOctets octets) c.slice.result (λ own is.
-        own_octets octets rest own c.in-Ok.cert begins
-        (if_ok (λ b. b ≡ slice_range octets 0 end) c.slice.result own is c.slice.ensures.ok ∙ ap (λ (n : ℕ). take n octets) (whole ∙ count))))
+    own_octets octets rest own c.in-Ok.cert begins
+    (if_ok (λ b. b ≡ slice_range octets 0 end) c.slice.result own is c.slice.ensures.ok ∙ ap (λ (n : ℕ). take n octets) (whole ∙ count))))
