@@ -250,7 +250,7 @@ def share_wrongs(folder, told, walk):
             else:
                 yield f'{name} is accepted by a path that isn\'t told'
         elif some and cert.tbs.signature == cert.signed.algorithm and folder.walks.verified(
-                *signed_by(folder, some)):
+                *signed_by(folder, some, cert)):
             yield f'{name} is {line["verdict"]}, and a path accepts it'
     if (told.answer.get('ended') == 'whole') != (not met):
         yield f'the walk ended {told.answer.get("ended")}, and met a bound below {len(met)} paths'
@@ -274,11 +274,12 @@ def isolation_wrongs(question, folder, grown, told, told_then):
         yield f'{sorted(won)} are accepted by a path without the stranger, and weren\'t'
 
 
-def signed_by(folder, accepting):
-    """The signature of the last certificate of a path, with the key above it."""
-    *_, above, last = next(iter(accepting))
+def signed_by(folder, accepting, cert):
+    """The signature of a certificate, with the key above the last one of a path. A copy with another signature
+    has the same path."""
+    *_, above, _ = next(iter(accepting))
     certs = {it.signed.data: it for _, it in folder.walks.certs}
-    signed = certs[last].signed
+    signed = cert.signed
     return certs[above].tbs.key, signed.algorithm, signed.data, signed.signature
 
 
