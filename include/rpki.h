@@ -780,8 +780,12 @@ uint32_t rpki_path_names(const struct rpki_strings *members, uint64_t *place);
 /* ---- directories */
 
 /* Describes a question about a directory: which of its certificates are valid below the trust anchor
- * of a TAL. The strings are certificates, CRLs and other bytes, in any order. The trust anchor is the
- * first string that starts with a certificate of the TAL's key (RFC 8630 3).
+ * of a TAL. The strings are certificates, CRLs and other bytes, in any order.
+ *
+ * The trust anchor is a string that starts with a certificate of the TAL's key and is valid (RFC 8630
+ * 3). If several are, it is the one that is valid longest, then the one whose validity starts last,
+ * then the one whose to-be-signed bytes are greatest, then the one whose signature is. Copies of a
+ * certificate, also with other bytes behind it, have one line, and take the steps of one.
  *
  * Each certificate that an accepted CA signed is validated below it as the kind that it says: a
  * router's, a CA's, or else an end entity's. The CRLs among the strings are used for revocation, as
@@ -808,7 +812,7 @@ enum rpki_fate {
     RPKI_LINE_UNSEEN = 0,   /* a certificate without a verdict: no accepted CA has the key that it
                              * names as its issuer's and, if names are checked, the name of its
                              * issuer; or a limit was reached before */
-    RPKI_LINE_ANCHOR = 1,   /* the trust anchor, which is valid */
+    RPKI_LINE_ANCHOR = 1,   /* the trust anchor, which is valid, or a copy of it */
     RPKI_LINE_ACCEPTED = 2, /* the last certificate of a valid path */
     RPKI_LINE_REJECTED = 3, /* a certificate that is wrong below each valid path that was tried */
     RPKI_LINE_LIST = 4,     /* a CRL, whether it was used or not */
@@ -863,8 +867,9 @@ struct rpki_walk {
  *
  * After an error no line and no range is written, and *out is valid. The error is RPKI_BAD_CALL if
  * `size` is another, lengths don't add up, the time doesn't exist, or a number of the question is of
- * none of its enums; the TAL's; RPKI_OTHER_KEY if no string has its key; or what is wrong with the
- * trust anchor, as RPKI_NO_RESOURCES, or RPKI_OTHER_NAME if it has two names. */
+ * none of its enums; the TAL's; RPKI_OTHER_KEY if no string has its key; or, if no string is a valid
+ * trust anchor, what is wrong with the first that has the TAL's key, as RPKI_NO_RESOURCES, or
+ * RPKI_OTHER_NAME if it has two names. */
 uint32_t rpki_folder_judge(const struct rpki_folder_question *question, struct rpki_line *lines,
                            size_t lines_room, struct rpki_room *room, struct rpki_walk *out);
 

@@ -46,7 +46,7 @@ from verdicts import Fault, File
 TOP = Path(__file__).resolve().parent.parent
 KEYS = 9
 MOST_SECONDS = 3600
-SKIPPED = r'rpki: passed over in folders: (\d+) files? whose names? ends? neither in \.cer nor in \.crl\n'
+SKIPPED = r'rpki: skipped in directories: (\d+) files? whose names? ends? neither in \.cer nor in \.crl\n'
 
 
 # ---- what is asked

@@ -46,13 +46,13 @@ def content_of(octets, tag):
 def of_serial(octets):
     content = content_of(octets, INTEGER)
     if content == b'':
-        return 'an INTEGER without octets'
+        return 'an INTEGER without bytes'
     if content[0] >= 0x80:
         return 'a negative number'
     if len(content) > 1 and content[0] == 0 and content[1] < 0x80:
         return "a number that isn't in the shortest form"
     is_large = int.from_bytes(content, 'big') >= SERIAL_LIMIT
-    return 'a number of more than 20 octets' if is_large else None
+    return 'a number of more than 20 bytes' if is_large else None
 
 
 def of_version(octets, is_list):

@@ -152,7 +152,7 @@ NOTES = {
     'AsNotCritical': lambda raw: is_not_critical(raw, OID_AS),
     'IpForm': lambda raw: is_other_form(raw, OID_IP),
     'AsForm': lambda raw: is_other_form(raw, OID_AS),
-    'OctetsBehind': lambda raw: any(is_not_one_value(content) for it, _, content in raw.extensions if it in KNOWN),
+    'BytesAfterValue': lambda raw: any(is_not_one_value(content) for it, _, content in raw.extensions if it in KNOWN),
     'FlagForm': lambda raw: any(it and it.rest() == b'\0' for it in raw.flags),
     'ExtensionTwice': lambda raw: len({it for it, _, _ in raw.extensions}) < len(raw.extensions),
 }

@@ -28,7 +28,7 @@ from refusals import LocatorError, Refusal
 FEW = 5
 TYPES = {TA: 'ca_cert', CA: 'ca_cert', EE: 'ee_cert', DETACHED: 'ee_cert', ROUTER: 'router_key'}
 USAGES = {'Ca': ('keyCertSign, cRLSign', 'ca'), 'Ee': ('digitalSignature', 'ee')}
-OVERCLAIMS = {ref.REFUSE: ('refused (RFC 6484 policy)', 'refuse'), ref.TRIM: ('trimmed (RFC 8360 policy)', 'trim')}
+OVERCLAIMS = {ref.REFUSE: ('rejected (RFC 6484 policy)', 'reject'), ref.TRIM: ('trimmed (RFC 8360 policy)', 'trim')}
 PLACES = (('Authority info access', 'aia', 'ca_issuer'), ('CRL distribution point', 'crl', 'crl_uri'),
           ('Repository', 'carepository', 'ca_repository'), ('Manifest', 'manifest', 'rpki_manifest'),
           ('Signed object', 'signed_object', 'signed_object'), ('Notify URL', 'notify_url', 'rpki_notify'))
@@ -40,9 +40,9 @@ FURTHER = {'unknown_extension': 'Unknown extension', 'practice_statement': 'Prac
            'further_signed_object': 'Further signed object', 'further_notify_url': 'Further notify URL',
            'unknown_access_method': 'Unknown access method', 'method_uri': 'URI of that method'}
 RSA_FORMS = {'even-modulus': ('an even modulus', 'even modulus'), 'no-rsa-key': ('no RSAPublicKey', 'no RSAPublicKey')}
-RSA_ASKED = 'RFC 7935 3 asks 2048 bits, exponent 65537'
-POINT_ASKED = 'RFC 8608 3.1 asks an uncompressed point of the curve'
-TAL_ASKED = 'every path is rejected: RFC 7935 3 asks RSA, 2048 bits, exponent 65537'
+RSA_ASKED = 'RFC 7935 3 requires 2048 bits, exponent 65537'
+POINT_ASKED = 'RFC 8608 3.1 requires an uncompressed point of the curve'
+TAL_ASKED = 'every path is rejected: RFC 7935 3 requires RSA, 2048 bits, exponent 65537'
 
 
 class Options(NamedTuple):
@@ -124,8 +124,9 @@ def rule_of(octets, reading, is_list):
     says, section = texts.fault('reading', reading.name)
     if is_list:
         return {'Missing': texts.Rule('an extension that must be there is missing', 'RFC 6487 5'),
-                'Duplicate': texts.Rule('an extension stands twice', 'RFC 5280 4.2'),
-                'InvalidExtension': texts.Rule('a list has no other extensions than two', 'RFC 6487 5')}.get(
+                'Duplicate': texts.Rule('an extension appears twice', 'RFC 5280 4.2'),
+                'InvalidExtension': texts.Rule(
+                    'a CRL has no extensions but Authority Key Identifier and CRL Number', 'RFC 6487 5')}.get(
                     reading.name, texts.Rule('it doesn\'t begin with a list of the profile', 'RFC 6487 5'))
     if reading.name == 'WrongResources' and not verdicts.has_policies(octets):
         return texts.Rule('Certificate Policies are missing', 'RFC 6487 4.8.9')
@@ -358,7 +359,7 @@ def say_object(answer, file, options, told):
             say(answer, found, options)
             left = verdicts.behind(file.octets)
             if left:
-                answer.line('Bytes after its end', doc.count(('octets_after_end',), left), ', not read')
+                answer.line('Bytes after its end', doc.count(('bytes_after_end',), left), ', not read')
             return
     try:
         say_locator(answer, file.name, ref.decode_locator(file.octets, options.strict))

@@ -26,13 +26,12 @@ APART = ('.crl', '.roa', '.mft', '.gbr', '.asa', '.tak', '.sig', '.spl')
 ENDS = ('out_of_steps', 'too_deep', 'whole')
 # the word of a file in the JSON, and in a line
 WORDS = {'trust_anchor': 'trust anchor', 'accepted': 'accepted', 'rejected': 'rejected',
-         'below_rejected': 'below a rejected CA', 'below_unseen': 'below a CA without a verdict',
+         'below_rejected': 'below a rejected CA', 'below_unseen': 'below an unjudged CA',
          'not_looked_at': 'not looked at', 'not_issued': 'not issued by a CA here',
          'no_issuer': 'no issuer here', 'crl': 'CRL', 'neither': 'neither certificate nor CRL'}
-COUNTS = {'trust_anchor': 'Trust anchors', 'accepted': 'Accepted', 'rejected': 'Rejected',
-          'below_rejected': 'Below a rejected CA', 'below_unseen': 'Below another CA',
-          'not_looked_at': 'Not looked at', 'not_issued': 'Not issued by a CA',
-          'no_issuer': 'No issuer here', 'crl': 'CRLs', 'neither': 'Other files'}
+# and of the line that counts such files
+COUNTS = {**{key: it[0].upper() + it[1:] for key, it in WORDS.items()},
+          'trust_anchor': 'Trust anchors', 'crl': 'CRLs', 'neither': 'Other files'}
 UNACCEPTED = ('rejected', 'below_rejected', 'below_unseen', 'not_looked_at', 'not_issued', 'no_issuer')
 
 
@@ -58,12 +57,20 @@ class Verdict(NamedTuple):
     is_child: bool
 
 
+class Limit(NamedTuple):
+    """A limit that was reached at a CA, by its word in the JSON; and how many steps of the walk are needed."""
+    word: str
+    steps: Optional[int] = None
+
+
 class Part(NamedTuple):
     """What is found of a TAL: the places of the trust anchor and its copies, that which is told first, with
-    the verdicts on places, and how far the walk went; or, of none, what is wrong at the places with its key."""
+    the verdicts on places, the limits that the walk reached at them, one for each path, and how far it went; or,
+    of none, what is wrong at the places with its key."""
     locator: File
     anchors: list
     verdicts: dict
+    limits: dict
     ended: str
     wrong: dict
 
@@ -74,12 +81,14 @@ class Said(NamedTuple):
     verdict: Optional[Verdict] = None
     fault: Optional[Fault] = None
     issuer: Optional[int] = None
+    limit: Optional[Limit] = None
 
 
 class Row(NamedTuple):
     file: File
     left: int
     said: Said
+    limit: Optional[Limit] = None
 
 
 class Found(NamedTuple):
@@ -97,7 +106,7 @@ def lists_some(tbs):
 def wrong_anchor(question, cert):
     """What is wrong of a certificate with a TAL's key as its trust anchor, or nothing."""
     if not lists_some(cert.tbs):
-        return Fault('locator', 'NoResources', texts.fault('locator', 'NoResources'), 0)
+        return Fault('tal', 'NoResources', texts.fault('locator', 'NoResources'), 0)
     step = 'profile'
     try:
         ref.inspect(TA, question.strict, cert)
@@ -128,9 +137,13 @@ def copies(its):
 
 
 def walk(its, anchor, question):
-    """The verdicts on places, and how far the walk went: like that of walks.py, but of each place, and with
-    what names a CA's key and isn't its child. Of copies the first is judged, and the verdict is that on all."""
+    """The verdicts on places, the limits reached at them, and how far the walk went: like that of walks.py, but
+    of each place, and with what names a CA's key and isn't its child. Of copies the first is judged, and the
+    verdict is that on all.
+
+    With `base` + `factor` * n steps the CAs of a path have a share of n."""
     told, ends, firsts = collections.defaultdict(list), {'whole'}, copies(its)
+    limits = collections.defaultdict(list)
 
     def tell(path, place, cert, is_child):
         kind, result, faults = its.faults(place, cert, path.result)
@@ -140,7 +153,11 @@ def walk(its, anchor, question):
             raise walks.TooMany
         return walks.Path((*path.places, place), result, path) if result and kind == CA else None
 
-    def below(path, share):
+    def reach(path, end, limit):
+        ends.add(end)
+        limits[firsts[path.places[-1]]].append(limit)
+
+    def below(path, share, base, factor):
         named = [(place, cert, its.is_child(cert, path.result)) for place, cert in its.below(path.result)
                  if firsts[place] == place]
         for place, cert, is_child in named:
@@ -148,21 +165,23 @@ def walk(its, anchor, question):
                 tell(path, place, cert, False)
         count = sum(is_child for _, _, is_child in named)
         if count and len(path.certs) > question.depth:
-            ends.add('too_deep')
+            reach(path, 'too_deep', Limit('depth'))
         elif count > share:
-            ends.add('out_of_steps')
+            need = base + factor * count
+            reach(path, 'out_of_steps', Limit('steps', need if need < 1 << 64 else None))
         elif count:
             judged = [tell(path, place, cert, True) for place, cert, is_child in named if is_child]
-            go_on(path, [it for it in judged if it], share - count)
+            go_on(path, [it for it in judged if it], share - count, base + factor * count, factor)
 
-    def go_on(path, cas, left):
+    def go_on(path, cas, left, base, factor):
         above = {its.entity(it) for it in path.certs}
         for ca in cas:
             if its.entity(ca.certs[-1]) not in above:
-                below(ca, left // len(cas))
+                below(ca, left // len(cas), base, factor * len(cas))
 
-    below(anchor, question.steps)
-    return {place: told[it] for place, it in firsts.items()}, next(it for it in ENDS if it in ends)
+    below(anchor, question.steps, 0, 1)
+    return ({place: told[it] for place, it in firsts.items()}, {place: limits[it] for place, it in firsts.items()},
+            next(it for it in ENDS if it in ends))
 
 
 def firsts_of_keys(question):
@@ -184,7 +203,7 @@ def part_of(its, question, file, key, told):
             else:
                 valid[place] = cert
     if not valid:
-        return Part(file, [], {}, 'whole', wrong)
+        return Part(file, [], {}, {}, 'whole', wrong)
     places = greatest(valid)
     places.sort(key=lambda it: question.files[it].name != told.get('trust_anchor'))
     anchor = walks.Path((places[0],), ref.verify(TA, valid[places[0]], None, question.now, rsa.verifier))
@@ -217,11 +236,27 @@ def wrong_at(parts, place):
     return next((it.wrong[place] for it in parts if place in it.wrong), None)
 
 
+def is_looked_at(part, place):
+    """Whether the walk looked below a CA: it reached a limit there at fewer paths than lead to it."""
+    paths = sum(bool(it.accepted) and it.kind == CA for it in part.verdicts.get(place, []))
+    return len(part.limits.get(place, [])) < paths + (place in part.anchors)
+
+
+def limit_at(parts, place):
+    """Of the limits that were reached at a CA the one that asks for least: the fewest steps, and else the depth."""
+    limits = [it for part in parts for it in part.limits.get(place, [])]
+    steps = [it for it in limits if it.steps is not None]
+    return min(steps, default=min(limits, default=None))
+
+
 def standing(parts, place):
-    """How a certificate stands as an issuer: accepted, rejected, or neither."""
+    """How a certificate stands as an issuer: a CA below which a walk looked, one at which it reached a limit,
+    another that is accepted, one that is rejected, or neither."""
     if best_rank(parts, place) <= 1:
-        return 0
-    return 1 if best_rank(parts, place) == 2 or wrong_at(parts, place) else 2
+        if any(is_looked_at(it, place) for it in parts):
+            return 0
+        return 1 if limit_at(parts, place) else 2
+    return 3 if best_rank(parts, place) == 2 or wrong_at(parts, place) else 4
 
 
 def unseen(found, cert, told):
@@ -233,9 +268,8 @@ def unseen(found, cert, told):
     best = min(standing(found.parts, it) for it in named)
     issuers = [it for it in named if standing(found.parts, it) == best]
     issuer = next((it for it in issuers if found.rows[it].file.name == told.get('issuer')), issuers[0])
-    if best == 0:
-        return Said('not_issued' if worst_end(found.parts) == 'whole' else 'not_looked_at', issuer=issuer)
-    return Said('below_rejected' if best == 1 else 'below_unseen', issuer=issuer)
+    words = 'not_issued', 'not_looked_at', 'not_issued', 'below_rejected', 'below_unseen'
+    return Said(words[best], issuer=issuer, limit=limit_at(found.parts, issuer) if best == 1 else None)
 
 
 def names_at(found, places):
@@ -255,7 +289,7 @@ def rejected(some, cert, told):
     faults = [(len(it.above), *fault) for it in some for fault in it.faults
               if len(it.above) == longest or not it.is_child]
     faults.sort(key=lambda it: -it[0])
-    said = told.get('member'), told.get('step'), told.get('fault')
+    said = told.get('index'), told.get('step'), told.get('fault')
     index, step, name = said if said in faults else faults[0]
     return Said('rejected', fault=Fault(step, name, verdicts.rule_of(step, name, cert), index))
 
@@ -298,7 +332,8 @@ def find(question, told):
     rows = [row_of(file, certs.get(place)) for place, file in enumerate(question.files)]
     found = Found(parts, its.certs, rows)
     for place, cert in its.certs:
-        rows[place] = rows[place]._replace(said=said_of(found, place, cert, lines[place]))
+        rows[place] = rows[place]._replace(said=said_of(found, place, cert, lines[place]),
+                                           limit=limit_at(parts, place))
     return found
 
 
@@ -362,7 +397,17 @@ def say_rejected(answer, its, row):
     answer.head(WORDS['rejected'], doc.inner((*its, 'file'), row.file.name), ': ',
                 doc.text((*its, 'why'), fault.rule.says), ' (', doc.text((*its, 'fault'), fault.name), ', ',
                 doc.text((*its, 'standard'), fault.rule.section), ')')
-    answer.keep(doc.count((*its, 'member'), fault.index), doc.text((*its, 'step'), fault.step))
+    answer.keep(doc.count((*its, 'index'), fault.index), doc.text((*its, 'step'), fault.step))
+
+
+def limit_pieces(its, limit):
+    """That a limit was reached below a CA, and what is needed to go on there."""
+    said = doc.word((*its, 'limit'), f'limit of {limit.word} reached below it, ', limit.word)
+    if limit.word == 'depth':
+        return [said, 'a greater --depth is needed']
+    if limit.steps is None:
+        return [said, 'more than any --steps is needed']
+    return [said, '--steps ', doc.count((*its, 'steps_needed'), limit.steps), ' is needed']
 
 
 def say_row(answer, found, row):
@@ -375,11 +420,16 @@ def say_row(answer, found, row):
         last = doc.inner if word == 'no_issuer' else doc.text
         answer.head(WORDS[word], last((*its, 'file'), row.file.name))
     else:
+        last = doc.inner if row.said.limit else doc.text
         answer.head(WORDS[word], doc.inner((*its, 'file'), row.file.name), ', issuer ',
-                    doc.text((*its, 'issuer'), found.rows[row.said.issuer].file.name))
+                    last((*its, 'issuer'), found.rows[row.said.issuer].file.name),
+                    *([': ', *limit_pieces(its, row.said.limit)] if row.said.limit else []))
     answer.keep(doc.word((*its, 'verdict'), '', word))
+    if row.limit:
+        answer.further(*limit_pieces(its, row.limit))
     if row.left:
-        answer.further(doc.count((*its, 'octets_after_end'), row.left), ' bytes after its end')
+        answer.further(doc.count((*its, 'bytes_after_end'), row.left),
+                       f' byte{"" if row.left == 1 else "s"} after its end')
 
 
 def say_counts(answer, found):
@@ -411,8 +461,8 @@ def say_end(answer, question, found):
     if not question.names:
         answer.line('Not checked', 'name chaining (RFC 5280 6.1.3)')
     answer.line('Not checked', 'whether the RPKI uses the last keys')
-    answer.keep(doc.flag(('names_asked',), question.names), doc.flag(('manifests_asked',), False),
-                doc.flag(('last_keys_asked',), False))
+    answer.keep(doc.flag(('names_checked',), question.names), doc.flag(('manifests_checked',), False),
+                doc.flag(('last_keys_checked',), False))
 
 
 def answer_of(question, found):
@@ -421,14 +471,14 @@ def answer_of(question, found):
     if isinstance(found, Fault):
         verdicts.say_unjudged(answer, found)
         verdicts.say_no_locators(answer, question)
-        answer.line('Validation time', doc.time(('moment',), question.now))
+        answer.line('Validation time', doc.time(('validation_time',), question.now))
         return answer
     say_tals(answer, found)
     answer.array(('files',))
     for row in found.rows:
         if row.said.word in UNACCEPTED or not question.only:
             say_row(answer, found, row)
-    answer.line('Validation time', doc.time(('moment',), question.now))
+    answer.line('Validation time', doc.time(('validation_time',), question.now))
     say_counts(answer, found)
     say_damage(answer, question, found)
     say_end(answer, question, found)

@@ -23,7 +23,7 @@ from refusals import Refusal, RevocationError
 KINDS = {TA: ('trust anchor', 'ta'), CA: ('CA', 'ca'), EE: ('EE', 'ee'),
          DETACHED: ('detached EE', 'detached_ee'), ROUTER: ('BGPsec router', 'router')}
 SIGNATURES = 'checked (RSASSA-PKCS1-v1_5 with SHA-256, RFC 7935)'
-NOT_A_LIST = texts.Rule('a file given as a CRL is none', 'RFC 6487 5')
+NOT_A_LIST = texts.Rule("a file given as a CRL isn't one", 'RFC 6487 5')
 SELF_NAMED = texts.Rule('the trust anchor\'s issuer isn\'t its subject', 'RFC 8630 2.3')
 
 
@@ -79,7 +79,7 @@ def locator_fault(question):
         try:
             ref.decode_locator(file.octets, question.strict)
         except ref.LocatorError as error:
-            return Fault('locator', error.name, texts.fault('tal', error.name))
+            return Fault('tal', error.name, texts.fault('tal', error.name))
     return None
 
 
@@ -185,9 +185,9 @@ def anchor_fault(question):
     if not question.locators or cert is None:
         return None
     if located(question, cert) is None:
-        return Fault('locator', 'OtherKey', texts.fault('locator', 'OtherKey'), 0)
+        return Fault('tal', 'OtherKey', texts.fault('locator', 'OtherKey'), 0)
     if not any(ref.is_set(it) and it for it in (cert.tbs.v4, cert.tbs.v6, cert.tbs.asn)):
-        return Fault('locator', 'NoResources', texts.fault('locator', 'NoResources'), 0)
+        return Fault('tal', 'NoResources', texts.fault('locator', 'NoResources'), 0)
     return None
 
 
@@ -212,7 +212,7 @@ def find(question):
     """What is found of a path."""
     fault = locator_fault(question)
     if fault is None and not all(map(is_list, question.lists)):
-        fault = Fault('lists', 'NotAList', NOT_A_LIST)
+        fault = Fault('crls', 'NotACrl', NOT_A_LIST)
     fault = fault or anchor_fault(question)
     if fault:
         return fault
@@ -346,11 +346,12 @@ def say_cause(answer, question, fault):
             answer.line(label, doc.identifier((*its, name), octets))
 
     def say_end(label, name, moment):
-        answer.line(label, doc.time((*its, name), moment), ', validation time ', doc.time((*its, 'moment'), question.now))
+        answer.line(label, doc.time((*its, name), moment), ', validation time ',
+                    doc.time((*its, 'validation_time'), question.now))
     cause = fault.step, fault.name
     if cause == ('revocation', 'NoCrl'):
         if f.crl_uri is not None:
-            answer.line('CRL needed', doc.visible((*its, 'wanted_crl'), f.crl_uri))
+            answer.line('CRL needed', doc.visible((*its, 'crl_needed'), f.crl_uri))
         say_key('Issuer\'s key', 'aki', f.authority_key_identifier)
     elif cause == ('verification', 'WrongKeyId'):
         above = certificate(question.members[fault.index - 1]).tbs
@@ -377,7 +378,7 @@ def say_advice(answer, question, fault):
         return cert is not None and first_fault(TA, question.strict, cert) is None
     if is_anchor(question.members[-1]) and not is_anchor(question.members[0]):
         answer.line('Order', doc.text(
-            (*its, 'order'), 'the files stand from the trust anchor down; here the last one is a trust anchor'))
+            (*its, 'order'), 'expected the files from the trust anchor down, but the last one is a trust anchor'))
 
 
 def say_rejected(answer, question, fault):
@@ -387,7 +388,7 @@ def say_rejected(answer, question, fault):
     answer.head('rejected', *file, f'{says} ({fault.name}, {section})')
     answer.keep(doc.flag(('accepted',), False))
     step = doc.text((*its, 'step'), fault.step)
-    answer.line('Step', step, *([' (path index ', doc.count((*its, 'member'), fault.index), ')'] if is_at else []))
+    answer.line('Step', step, *([' (path index ', doc.count((*its, 'index'), fault.index), ')'] if is_at else []))
     answer.keep(*(doc.word((*its, key), '', data) for key, data in (
         ('fault', fault.name), ('why', says), ('standard', section))))
     if is_at:
@@ -432,26 +433,26 @@ def say_notes(answer, question):
 def say_files(answer, question):
     say_certificates(answer, question)
     say_notes(answer, question)
-    answer.array(('octets_after_end',))
+    answer.array(('bytes_after_end',))
     both = [(it, ref.decode_cert, ', not read: ') for it in question.members]
     both += [(it, ref.decode_crl, ', so it is not a CRL (if it has two, give each in a file of its own): ')
              for it in question.lists]
     for file, decode, means in both:
         if folders.read(decode, file.octets) is not None and (left := behind(file.octets)):
-            its = ('octets_after_end', len(answer.data['octets_after_end']))
-            answer.line('Bytes after its end', doc.count((*its, 'octets'), left), means, doc.text((*its, 'file'), file.name))
-    answer.array(('not_lists',))
+            its = ('bytes_after_end', len(answer.data['bytes_after_end']))
+            answer.line('Bytes after its end', doc.count((*its, 'bytes'), left), means, doc.text((*its, 'file'), file.name))
+    answer.array(('not_crls',))
     for file in question.lists:
         if not is_list(file):
-            answer.line('Not a CRL', doc.text(('not_lists', len(answer.data['not_lists'])), file.name))
+            answer.line('Not a CRL', doc.text(('not_crls', len(answer.data['not_crls'])), file.name))
     say_no_locators(answer, question)
 
 
 def say_no_locators(answer, question):
-    answer.array(('not_locators',))
+    answer.array(('not_tals',))
     for file in question.locators:
         if folders.read(lambda it: ref.decode_locator(it, question.strict), file.octets) is None:
-            answer.line('Not a TAL', doc.text(('not_locators', len(answer.data['not_locators'])), file.name))
+            answer.line('Not a TAL', doc.text(('not_tals', len(answer.data['not_tals'])), file.name))
 
 
 def answer_of(question, found):
@@ -463,10 +464,10 @@ def answer_of(question, found):
         answer.head('accepted', doc.text(None, question.members[-1].name))
         answer.keep(doc.flag(('accepted',), True))
     say_files(answer, question)
-    answer.line('Validation time', doc.time(('moment',), question.now))
+    answer.line('Validation time', doc.time(('validation_time',), question.now))
     answer.keep(*(doc.text(('path', index), file.name) for index, file in enumerate(question.members)))
-    answer.keep(doc.flag(('locator_asked',), bool(question.locators)), doc.flag(('names_asked',), question.names),
-                doc.flag(('revocation_asked',), bool(question.lists)), doc.flag(('manifests_asked',), False))
+    answer.keep(doc.flag(('tal_checked',), bool(question.locators)), doc.flag(('names_checked',), question.names),
+                doc.flag(('revocation_checked',), bool(question.lists)), doc.flag(('manifests_checked',), False))
     if not isinstance(found, Fault):
         say_accepted(answer, question, found)
     return answer

@@ -1584,8 +1584,8 @@ static void folders(const char *examples) {
     free(it.files[7].octets);
     it.files[7] = anchor, it.files[8] = it.files[0];
     check(judge_folder(&it, question, 9) == RPKI_OK && it.walk.anchor == 3 && it.lines[3].what == RPKI_LINE_ANCHOR
-              && it.lines[7].what != RPKI_LINE_ANCHOR && is_line(it.lines[8], RPKI_LINE_ACCEPTED, 0, 3, 1),
-          "the first of several anchors is taken, and each of several certificates is judged");
+              && it.lines[7].what == RPKI_LINE_ANCHOR && is_line(it.lines[8], RPKI_LINE_ACCEPTED, 0, 3, 1),
+          "the first of several copies of the anchor is taken, and each copy of a certificate has its line");
     it.count = 4;
     check(judge_folder(&it, question, 9) == RPKI_OK && it.walk.ended == RPKI_WHOLE
               && is_line(it.lines[2], RPKI_LINE_REJECTED, RPKI_REVOCATION_NO_CRL, 1, 0)

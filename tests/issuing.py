@@ -695,7 +695,7 @@ LISTS_REFUSED = [
      '--crl behind.crl: not a CRL, or bytes follow it; expected one CRL in each file'),
     ({'issuer': ['anchor.cer', 'ca.cer'], 'crl': ['zero.crl']},
      '--crl zero.crl: not a CRL, or bytes follow it; expected one CRL in each file'),
-    ({'previous': 'last.crl'}, 'the number of the list has more than 20 octets'),
+    ({'previous': 'last.crl'}, 'the CRL number has more than 20 bytes'),
     ({'previous': 'last.crl', 'number': GREATEST}, "the number isn't greater"),
     ({'next-update': '2026-06-30T23:59:60Z'}, '--next-update'),
     ({'at': '2026-06-01T00:00:60Z'}, '--at'),
@@ -761,7 +761,7 @@ REVOKED = [
 OTHER_LISTS = [
     ({'this_update': (2026, 6, 1, 0, 0, 1)}, 'Stale: '),
     ({'this_update': (2026, 6, 3, 0, 0, 0), 'next_update': (2026, 6, 2, 0, 0, 0)}, 'Stale: '),
-    ({'crl_number': 1 << 159}, 'the number of the list has more than 20 octets'),
+    ({'crl_number': 1 << 159}, 'the CRL number has more than 20 bytes'),
 ]
 
 
@@ -864,7 +864,7 @@ def try_out():
     is_written('--out', prepare('ca', **wanted), octets)
     Path('made.tbs').write_bytes(b'before')
     fails('--out of a file that is there', prepare('ca', **wanted),
-          'rpki: made.tbs: is there already (--force overwrites it)')
+          'rpki: made.tbs: exists already (--force replaces it)')
     check('it stays as it was', Path('made.tbs').read_bytes() == b'before')
     is_refused('a request that is refused', rpki('prepare', 'ca', *words_of(
         WANTED['ca'] | {'ipv4': '11.0.0.0/8', 'at': AT} | wanted), '--force'), 'OverclaimV4: ')
@@ -982,7 +982,7 @@ def try_force(octets, is_written, fails):
             fails(f'--out {out} of an issuer', done, f'rpki: {out}: is read too')
         stays(f'--out {out} of an issuer', held, 'anchor.cer')
     key = Path('ca.pub').read_bytes()
-    fails('--out of the key', force('ca.pub'), 'rpki: ca.pub: is read too: --out has to name another file')
+    fails('--out of the key', force('ca.pub'), 'rpki: ca.pub: is read too; expected another file for --out')
     stays('--out of the key', key, 'ca.pub')
     sign(octets, 'anchor')
     for out in ['signed.tbs', './signed.sig']:

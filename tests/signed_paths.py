@@ -264,7 +264,7 @@ class Command:
         if not said['accepted']:
             fault = said['rejected']
             is_read = fault['step'] != 'reading'
-            return Answer(fault['member'], fault['fault'] if is_read else '-')
+            return Answer(fault['index'], fault['fault'] if is_read else '-')
         return Answer(held=ranges_of(said['holds']))
 
 

@@ -989,10 +989,11 @@ def judge_folder(
     """Validates all certificates of a directory below the trust anchor of a TAL, and returns a line
     for each string of `octets`.
 
-    `octets` are certificates and CRLs in any order, and may be others. The trust anchor is the first
-    certificate that has the key of `locator`, the file of a TAL (RFC 8630). Each certificate that an
-    accepted CA signed is validated below it as the kind that it says. It may not be revoked by the
-    CRLs among the octets, as for `validate`, which accepts what is accepted here.
+    `octets` are certificates and CRLs in any order, and may be others. The trust anchor is a valid
+    certificate that has the key of `locator`, the file of a TAL (RFC 8630); if several are valid, the
+    one that is valid longest. Each certificate that an accepted CA signed is validated below it as the
+    kind that it says. It may not be revoked by the CRLs among the octets, as for `validate`, which
+    accepts what is accepted here. Copies of a certificate have one line, and take the steps of one.
 
     `at`, `strict` and `chain_names` are as for `validate`, and so is `check_key`, for each
     certificate. A path has at most `depth` certificates below the trust anchor. `steps` are those of
@@ -1000,9 +1001,10 @@ def judge_folder(
     to it, and they are divided evenly among the CAs below each CA. `is_whole` of the answer says
     whether that was enough.
 
-    Raises LocatorFault if the file is no TAL or no certificate has its key, and the Fault of a
-    trust anchor that is wrong, with its index in `octets` as the `member`; ValueError if `depth` or
-    `steps` is out of range; TypeError if an argument has another type.
+    Raises LocatorFault if the file is no TAL or no certificate has its key. If no trust anchor is
+    valid, raises the Fault of the first certificate with the key, with its index in `octets` as the
+    `member`; ValueError if `depth` or `steps` is out of range; TypeError if an argument has another
+    type.
 
     Not checked: manifests. A withheld file isn't detected: a caller who reads manifests leaves out the
     files that they don't list.

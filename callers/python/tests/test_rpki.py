@@ -618,7 +618,7 @@ class Paths(unittest.TestCase):
             path = [self.members[0], damaged]
             validate(path, last=Kind.AUTHORITY, lists=None, at=self.noon)
         fault = caught.exception
-        wanted = "an INTEGER that isn't negative, of 20 octets at most (RFC 5280 4.1.2.2)"
+        wanted = "an INTEGER that isn't negative, of at most 20 bytes (RFC 5280 4.1.2.2)"
         self.assertEqual((fault.member, fault.octet, fault.wanted), (1, 13, wanted))
         self.assertEqual(fault.found, "a negative number")
 
@@ -742,6 +742,50 @@ class Folders(unittest.TestCase):
         with self.assertRaises(rpki.NamesFault) as caught:
             judge_folder(given, **asked)
         self.assertEqual((caught.exception.name, caught.exception.member), ("OtherName", 0))
+
+    def anchors(self, *names: str) -> list[bytes]:
+        """Files of tests/anchors, of which reference/anchors.py says."""
+        return [(TOP / "tests" / "anchors" / it).read_bytes() for it in names]
+
+    def test_anchors(self) -> None:
+        """What has the TAL's key hides no valid trust anchor, and no older one takes its place."""
+        (tal,) = self.anchors("ta.tal")
+        anchor, older, expired, unsigned = self.anchors("ta.cer", "older.cer", "expired.cer", "unsigned.cer")
+        below = self.anchors("ca.cer", "ca2.cer", "ee.cer")
+        rest = [*below, *self.anchors("ta.crl", "ca.crl", "ca2.crl")]
+        asked: dict[str, Any] = {"locator": tal, "at": datetime(2025, 6, 1, tzinfo=timezone.utc)}
+        for other in (older, expired, unsigned, anchor + b"behind"):
+            for given in ([other, anchor, *rest], [anchor, other, *rest]):
+                folder = judge_folder(given, **asked)
+                line = dict(zip(given, folder.lines))
+                self.assertTrue(given[folder.anchor].startswith(anchor))
+                self.assertEqual(line[anchor], Line(State.ANCHOR))
+                self.assertEqual(line[other].is_valid, other.startswith(anchor))
+                self.assertEqual({line[it].state for it in below}, {State.ACCEPTED})
+        # an older one is the trust anchor if it is the only valid one
+        folder = judge_folder([unsigned, older, expired, *rest], **asked)
+        self.assertEqual((folder.anchor, folder.lines[1]), (1, Line(State.ANCHOR)))
+        # if none is valid, the first with the key is told
+        for wrong, name in (([unsigned, expired], "BadSignature"), ([expired, unsigned], "Expired")):
+            with self.assertRaises(rpki.Fault) as caught:
+                judge_folder([*rest, *wrong], **asked)
+            self.assertEqual((caught.exception.name, caught.exception.member), (name, len(rest)))
+
+    def test_copies(self) -> None:
+        """Copies of a certificate, also with bytes behind it, take no steps, and have its line."""
+        (tal,) = self.anchors("ta.tal")
+        anchor, ca, *below = self.anchors("ta.cer", "ca.cer", "ca2.cer", "ee.cer")
+        lists = self.anchors("ta.crl", "ca.crl", "ca2.crl")
+        copies = [ca + bytes(it) for it in range(200)]
+        asked: dict[str, Any] = {"locator": tal, "at": datetime(2025, 6, 1, tzinfo=timezone.utc)}
+        for given in ([*copies, anchor, *below, *lists], [anchor, *below, *lists, *copies]):
+            # ta.cer, which names its own key, ca.cer, ca2.cer and ee.cer take a step each
+            folder = judge_folder(given, steps=4, **asked)
+            self.assertTrue(folder.is_whole)
+            line = dict(zip(given, folder.lines))
+            self.assertEqual({line[it].state for it in (*copies, *below)}, {State.ACCEPTED})
+            self.assertEqual({(line[it].step, line[it].issuer) for it in copies}, {(1, folder.anchor)})
+            self.assertFalse(judge_folder(given, steps=3, **asked).is_whole)
 
     def test_read_octets(self) -> None:
         members = [Certificate(it) for it in self.members]

@@ -122,8 +122,9 @@ pub struct Folder<'a> {
 }
 
 impl<'a> Folder<'a> {
-    /// Makes a directory of these strings, such as `&Vec<Vec<u8>>`. The trust anchor is the first
-    /// certificate among them with the key of this TAL file (RFC 8630).
+    /// Makes a directory of these strings, such as `&Vec<Vec<u8>>`. The trust anchor is a valid
+    /// certificate among them with the key of this TAL file (RFC 8630); if several are valid, the one
+    /// that is valid longest.
     pub fn new<T>(octets: impl IntoIterator<Item = &'a T>, locator: &'a [u8]) -> Folder<'a>
     where
         T: AsRef<[u8]> + ?Sized + 'a,
@@ -174,12 +175,13 @@ impl<'a> Folder<'a> {
 
     /// Validates each certificate that an accepted CA signed, as the kind that it says, with signatures
     /// (RFC 7935) and by the CRLs among the strings. [`Path::validate`](crate::Path::validate) accepts
-    /// what is accepted here.
+    /// what is accepted here. Copies of a certificate have one line, and take the steps of one.
     ///
     /// # Errors
     ///
-    /// Returns an error if the TAL isn't one, if no certificate has its key, or if the trust anchor is
-    /// wrong (`Place::Member`, its index among the strings).
+    /// Returns an error if the TAL isn't one, or if no certificate has its key. If no trust anchor is
+    /// valid, returns what is wrong with the first certificate that has the key (`Place::Member`, its
+    /// index among the strings).
     ///
     /// # Not checked
     ///

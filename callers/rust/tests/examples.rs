@@ -131,7 +131,7 @@ fn where_reading_stops_is_told() {
     let mut damaged = cert.clone();
     damaged[15] = 0x80;
     let fault = Certificate::read(&damaged).unwrap_err();
-    let wanted = "an INTEGER that isn't negative, of 20 octets at most (RFC 5280 4.1.2.2)";
+    let wanted = "an INTEGER that isn't negative, of at most 20 bytes (RFC 5280 4.1.2.2)";
     assert_eq!(fault.wanted(), Some(wanted));
     assert_eq!(fault.found(), Some("a negative number"));
     assert_eq!(stop(fault), (13, SERIAL.to_owned()));

@@ -175,6 +175,7 @@ pub use Rattle.rpki_folder.specs.declared.bounds.Ended
 pub use Rattle.rpki_folder.specs.declared.find.Found
 pub use Rattle.rpki_folder.specs.declared.find.FoundPath
 pub use Rattle.rpki_folder.specs.declared.folder.Added
+pub use Rattle.rpki_folder.specs.declared.lines.AcceptedPaths
 pub use Rattle.rpki_folder.specs.declared.lines.Line
 pub use Rattle.rpki_folder.specs.declared.walk_error.WalkError
 -- ---- the line program

@@ -3,7 +3,7 @@ use Rattle.std.specs.Prelude.{All, IsFalse, IsTrue, slice_get, Option, Some, Non
 use Rattle.std.proofs.Common.{◌≡◌, ◌↔◌, ◌&&◌, ◌∷◌, ℕ, Bool, true, false, List, inl, inr, ⊎_elim, refl, sym, subst, ◌∙◌}
 use Rattle.std.proofs.lemmas.Bool.{and_from, and_parts, false≢true}
 use Rattle.std.proofs.lemmas.List.Elements.{All-cons, All-head, All-tail}
-use Rattle.rpki_files.specs.Contents.{CanBeShown}
+use Rattle.rpki_answers.specs.Outcomes.{CanBeShown}
 use Rattle.rpki_files.specs.FileSorts.{IsToldSort}
 use Rattle.rpki_files.specs.Files.{FileFields}
 use Rattle.rpki_files.specs.declared.sorts.Sort.{Sort}

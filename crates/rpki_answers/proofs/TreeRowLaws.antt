@@ -1,13 +1,15 @@
 -- The lines of rows, and their counts.
 use Rattle.std.specs.List.{AllByRecursion}
-use Rattle.std.specs.Prelude.{Bool, true, false, cond, suc, if◌then◌else◌}
-use Rattle.std.proofs.Common.{◌≡◌, ◌∙◌, ◌+◌, ◌==◌, ℕ, List, [], ◌∷◌, ◌++◌, length, refl, sym, ap, append_assoc, arith}
+use Rattle.std.specs.Prelude.{Bool, true, false, cond, suc, if◌then◌else◌, Option, None, Some}
+use Rattle.std.proofs.Common.{◌≡◌, ◌∙◌, ◌+◌, ◌==◌, ℕ, List, [], ◌∷◌, ◌++◌, length, refl, sym, ap, subst, append_assoc, arith}
 use Rattle.std.proofs.lemmas.List.Sums.{sum_by-cons}
 use Rattle.rpki_document.specs.Documents.{Node, head, document_of, spans_text}
 use Rattle.rpki_document.specs.Lines.{Row as Line, labelled, document_rows, node_rows}
 use Rattle.rpki_files.specs.Files.{FileFields}
+use Rattle.rpki_folder.proofs.Descent.{all_append}
+use Rattle.rpki_folder.specs.declared.bounds.Limit.{Limit}
 use Rattle.rpki_verdicts.specs.Trees.{certs_of}
-use Rattle.rpki_answers.specs.TreeDocuments.{AreSaid, above_nodes, accepted_head, count_of, file_first, file_last, has_word, is_word, issuer_at, issuer_spans, left_line, left_nodes, rejected_head, row_head, unseen_word, word_label, word_of}
+use Rattle.rpki_answers.specs.TreeDocuments.{AreSaid, above_nodes, accepted_head, count_of, file_first, file_last, has_word, is_word, left_line, left_nodes, limit_nodes, rejected_head, row_head, unseen_spans, unseen_word, word_label, word_of}
 use Rattle.rpki_answers.specs.TreeLaws.{CountsAddUp, IsUnder, RowsBeginWithTheirWord}
 use Rattle.rpki_answers.specs.declared.tree_rows.Said.{Said}
 use Rattle.rpki_answers.specs.declared.tree_rows.Said.TheVariants as said
@@ -25,6 +27,10 @@ rows_of_both (p ∷ a) b =
 under_if : (b : Bool) (left : ℕ) → AllByRecursion IsUnder (document_rows (document_of (if b then [] else left_line left ∷ [])))
 under_if true left = tt
 under_if false left = (tt, tt)
+
+under_limit : (limit : Option Limit) → AllByRecursion IsUnder (document_rows (document_of (limit_nodes limit)))
+under_limit None = tt
+under_limit (Some limit) = (tt, tt)
 
 no_rows : (certs : List FileFields) (places : List ℕ) → document_rows (document_of (above_nodes certs places)) ≡ []
 no_rows certs [] = refl
@@ -46,7 +52,7 @@ said_rows certs name (said.Accepted t p kind) nodes (held, are, is) = (
 said_rows certs name (said.Rejected fault) nodes is =
     (behind_of (rejected_head name fault.rule.says.now fault.name.now fault.rule.section.now), ap (λ (l : List Node). document_rows (document_of l)) is)
 said_rows certs name (said.Unseen why) nodes is =
-    (behind_of (row_head (unseen_word why) (file_first name (issuer_spans certs (issuer_at why)))), ap (λ (l : List Node). document_rows (document_of l)) is)
+    (behind_of (row_head (unseen_word why) (file_first name (unseen_spans certs why))), ap (λ (l : List Node). document_rows (document_of l)) is)
 said_rows certs name said.Anchor nodes is = (behind_of (row_head word.Anchor (file_last name)), ap (λ (l : List Node). document_rows (document_of l)) is)
 said_rows certs name said.Crl nodes is = (behind_of (row_head word.Crl (file_last name)), ap (λ (l : List Node). document_rows (document_of l)) is)
 said_rows certs name said.Neither nodes is = (behind_of (row_head word.Neither (file_last name)), ap (λ (l : List Node). document_rows (document_of l)) is)
@@ -54,11 +60,14 @@ said_rows certs name said.Neither nodes is = (behind_of (row_head word.Neither (
 pub begin_with_word : RowsBeginWithTheirWord
 begin_with_word certs row nodes (of_it, are, is) =
     let first = said_rows certs row.file.now.name row.said of_it are in
-    let more = document_rows (document_of (left_nodes row.left)) in (
+    let below = limit_nodes row.limit ++ left_nodes row.left in
+    let more = document_rows (document_of below) in
+    let both = sym (rows_of_both (limit_nodes row.limit) (left_nodes row.left)) in (
       first.0,
       more,
-      under_if (row.left == 0) row.left,
-      ap (λ (l : List Node). document_rows (document_of l)) is ∙ rows_of_both of_it (left_nodes row.left) ∙ ap (λ (l : List Line). l ++ more) first.1,
+      subst (λ (l : List Line). AllByRecursion IsUnder l) both
+          (all_append IsUnder (document_rows (document_of (limit_nodes row.limit))) (document_rows (document_of (left_nodes row.left))) (under_limit row.limit) (under_if (row.left == 0) row.left)),
+      ap (λ (l : List Node). document_rows (document_of l)) is ∙ rows_of_both of_it below ∙ ap (λ (l : List Line). l ++ more) first.1,
     )
 
 -- ---- counts

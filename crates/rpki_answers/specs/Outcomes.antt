@@ -11,7 +11,7 @@ use Rattle.rpki_answers.specs.declared.outcomes.Outcome.TheVariants.{Success, Re
 use Rattle.rpki_verdicts.specs.declared.path.Verdict.TheVariants.{Accepted, Rejected}
 use Rattle.rpki_verdicts.specs.declared.path.Fault.{Fault}
 use Rattle.rpki_text.specs.CommandLines.{RequestFields}
-use Rattle.rpki_files.specs.Contents.{CanBeShown, IsList}
+use Rattle.rpki_files.specs.Contents.{BeginsWithEither, IsList}
 use Rattle.rpki_files.specs.Files.{FileFields, file_names, contents}
 use Rattle.rpki_files.specs.LocatorFiles.{AreLocator}
 use Rattle.rpki_verdicts.specs.PathAnswers.{IsVerdictBy}
@@ -28,6 +28,10 @@ run_status (Ok Unread) = 3
 run_status (Err failure) = 3
 
 -- ---- the outcome
+
+-- what `rpki show` shows: a certificate or a list, or the locator that the octets are
+abbrev pub CanBeShown : Bool → List ℕ → Type 0
+CanBeShown strict octets = BeginsWithEither octets ⊎ AreLocator strict octets
 
 -- of files that are to be shown: success where each begins with a certificate or a list, or is a
 -- locator, else rejection

@@ -94,7 +94,7 @@ uri_nodes label key (Some uri) = told_line label key (characters uri) ∷ []
 -- an end of a period, and the time at which is judged
 abbrev pub bound_node : List ℕ → List ℕ → Moment → Moment → Node
 bound_node label key bound at = line label (
-    tell key (moment_told bound) ∷ say (codes ", validation time ") ∷ tell (codes "moment") (moment_told at) ∷ [])
+    tell key (moment_told bound) ∷ say (codes ", validation time ") ∷ tell (codes "validation_time") (moment_told at) ∷ [])
 
 -- the identifier of the issuer's key, and that of the certificate's own
 abbrev pub issuer_key : CertFields → Option (List ℕ)
@@ -107,7 +107,7 @@ own_key c = c.fields.extensions.subject_key_identifier
 -- the keys that should be one; the end of the period that is over or hasn't begun
 abbrev pub cause_nodes : Cause → Moment → CertFields → Option CertFields → List Node
 cause_nodes NoList at c above =
-    uri_nodes (codes "CRL needed") (codes "wanted_crl") c.fields.extensions.crl_uri
+    uri_nodes (codes "CRL needed") (codes "crl_needed") c.fields.extensions.crl_uri
     ++ identifier_nodes (codes "Issuer's key") (codes "aki") (issuer_key c)
 cause_nodes OtherKey at c above =
     identifier_nodes (codes "Issuer's key") (codes "aki") (issuer_key c)
@@ -125,7 +125,7 @@ member_nodes cause at (Some c) above = cause_nodes cause at c above
 
 -- what is said of files that stand the other way round
 abbrev pub order_text : List ℕ
-order_text = codes "the files stand from the trust anchor down; here the last one is a trust anchor"
+order_text = codes "expected the files from the trust anchor down, but the last one is a trust anchor"
 
 abbrev pub order_nodes : Bool → List Node
 order_nodes is_turned = if is_turned then told_line (codes "Order") (codes "order") (text order_text) ∷ [] else []

@@ -91,7 +91,7 @@ place_nodes x =
 
 -- what becomes of resources beyond the issuer's
 abbrev pub overclaim_told : Overclaim → Told
-overclaim_told Refuse = words (codes "refused (RFC 6484 policy)") (codes "refuse")
+overclaim_told Refuse = words (codes "rejected (RFC 6484 policy)") (codes "reject")
 overclaim_told Trim = words (codes "trimmed (RFC 8360 policy)") (codes "trim")
 
 abbrev pub own_resource_nodes : ExtensionFields → List Node

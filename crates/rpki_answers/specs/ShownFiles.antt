@@ -106,7 +106,7 @@ file_nodes file = told_line (codes "File") (codes "file") (text file.name) ∷ h
 -- how many octets stand behind an object
 abbrev pub left_line : ℕ → Node
 left_line left = line (codes "Bytes after its end") (
-    tell (codes "octets_after_end") (count left) ∷ say (codes ", not read") ∷ [])
+    tell (codes "bytes_after_end") (count left) ∷ say (codes ", not read") ∷ [])
 
 -- if some do
 abbrev pub behind_nodes : ℕ → List Node

@@ -7,6 +7,8 @@ use Rattle.rpki_document.specs.Documents.{text, inner, count, flag, Span, say, t
 use Rattle.rpki_files.specs.Files.{FileFields}
 use Rattle.rpki_folder.specs.declared.bounds.Ended.{Ended}
 use Rattle.rpki_folder.specs.declared.bounds.Ended.TheVariants.{Whole, TooDeep, OutOfSteps}
+use Rattle.rpki_folder.specs.declared.bounds.Limit.{Limit}
+use Rattle.rpki_folder.specs.declared.bounds.Limit.TheVariants.{Depth, Steps as steps}
 use Rattle.rpki_folder.specs.declared.find.FoundPath.{FoundPath}
 use Rattle.rpki_cert.specs.declared.inspect.Kind.{Kind}
 use Rattle.rpki_text.specs.declared.command_line.arguments.Format.{Format}
@@ -41,7 +43,7 @@ pub mod Steps
 abbrev pub unseen_word : Why → Word
 unseen_word why.NoIssuer = word.NoIssuer
 unseen_word (why.NotBelow issuer) = word.NotIssued
-unseen_word (why.NotLookedAt issuer) = word.NotLookedAt
+unseen_word (why.NotLookedAt issuer limit) = word.NotLookedAt
 unseen_word (why.BelowRejected issuer) = word.BelowRejected
 unseen_word (why.BelowUnseen issuer) = word.BelowUnseen
 
@@ -60,7 +62,7 @@ word_label word.Anchor = codes "trust anchor"
 word_label word.Accepted = codes "accepted"
 word_label word.Rejected = codes "rejected"
 word_label word.BelowRejected = codes "below a rejected CA"
-word_label word.BelowUnseen = codes "below a CA without a verdict"
+word_label word.BelowUnseen = codes "below an unjudged CA"
 word_label word.NotLookedAt = codes "not looked at"
 word_label word.NotIssued = codes "not issued by a CA here"
 word_label word.NoIssuer = codes "no issuer here"
@@ -102,9 +104,11 @@ abbrev pub file_first : List ℕ → List Span → List Span
 file_first name spans = tell (codes "file") (inner name) ∷ spans
 
 -- how many octets stand behind the certificate or the CRL that a file begins with
+abbrev pub left_words : ℕ → List ℕ
+left_words left = if left == 1 then codes " byte after its end" else codes " bytes after its end"
+
 abbrev pub left_line : ℕ → Node
-left_line left =
-    further (tell (codes "octets_after_end") (count left) ∷ say (codes " bytes after its end") ∷ [])
+left_line left = further (tell (codes "bytes_after_end") (count left) ∷ say (left_words left) ∷ [])
 
 -- if some do
 abbrev pub left_nodes : ℕ → List Node
@@ -118,7 +122,7 @@ rejected_head file says name section =
 -- how many certificates are above it, and in which step it is rejected
 abbrev pub index_node : ℕ → List ℕ → Node
 index_node index step =
-    unsaid (keep (codes "member") (count index) ∷ keep (codes "step") (text step) ∷ [])
+    unsaid (keep (codes "index") (count index) ∷ keep (codes "step") (text step) ∷ [])
 
 abbrev pub rejected_row : List ℕ → Fault → List Node
 rejected_row file f =
@@ -131,24 +135,45 @@ rejected_row file f =
 abbrev pub name_of : List FileFields → ℕ → List ℕ
 name_of certs place = unwrap_or (file_name_at certs place) []
 
--- the place of the issuer of a certificate on which there is no verdict
-abbrev pub issuer_at : Why → Option ℕ
-issuer_at why.NoIssuer = None
-issuer_at (why.NotBelow issuer) = Some issuer
-issuer_at (why.NotLookedAt issuer) = Some issuer
-issuer_at (why.BelowRejected issuer) = Some issuer
-issuer_at (why.BelowUnseen issuer) = Some issuer
+-- that a limit was reached below a CA, and what it takes to go on there
+abbrev pub limit_spans : Limit → List Span
+limit_spans Depth =
+    keep (codes "limit") (text (codes "depth"))
+    ∷ say (codes "limit of depth reached below it, a greater --depth is needed") ∷ []
+limit_spans (steps None) =
+    keep (codes "limit") (text (codes "steps"))
+    ∷ say (codes "limit of steps reached below it, more than any --steps is needed") ∷ []
+limit_spans (steps (Some needed)) =
+    keep (codes "limit") (text (codes "steps"))
+    ∷ say (codes "limit of steps reached below it, --steps ")
+    ∷ tell (codes "steps_needed") (count needed) ∷ say (codes " is needed") ∷ []
 
--- its name
-abbrev pub issuer_spans : List FileFields → Option ℕ → List Span
-issuer_spans certs None = []
-issuer_spans certs (Some place) =
-    say (codes ", issuer ") ∷ tell (codes "issuer") (text (name_of certs place)) ∷ []
+-- below the row of that CA
+abbrev pub limit_nodes : Option Limit → List Node
+limit_nodes None = []
+limit_nodes (Some limit) = further (limit_spans limit) ∷ []
 
--- such a certificate, among these
+-- the issuer of a certificate on which there is no verdict
+abbrev pub issuer_spans : List ℕ → List Span
+issuer_spans issuer = say (codes ", issuer ") ∷ tell (codes "issuer") (text issuer) ∷ []
+
+-- and the limit that was reached below it
+abbrev pub limited_spans : List ℕ → Limit → List Span
+limited_spans issuer limit =
+    say (codes ", issuer ") ∷ tell (codes "issuer") (inner issuer) ∷ say (codes ": ")
+    ∷ limit_spans limit
+
+-- of such a certificate, among these
+abbrev pub unseen_spans : List FileFields → Why → List Span
+unseen_spans certs why.NoIssuer = []
+unseen_spans certs (why.NotBelow issuer) = issuer_spans (name_of certs issuer)
+unseen_spans certs (why.NotLookedAt issuer limit) = limited_spans (name_of certs issuer) limit
+unseen_spans certs (why.BelowRejected issuer) = issuer_spans (name_of certs issuer)
+unseen_spans certs (why.BelowUnseen issuer) = issuer_spans (name_of certs issuer)
+
 abbrev pub unseen_row : List FileFields → List ℕ → Why → List Node
 unseen_row certs name reason =
-    row_head (unseen_word reason) (file_first name (issuer_spans certs (issuer_at reason))) ∷ []
+    row_head (unseen_word reason) (file_first name (unseen_spans certs reason)) ∷ []
 
 -- the names of the CAs at these places, each behind an arrow
 abbrev pub below_spans : List FileFields → List ℕ → List Span
@@ -188,7 +213,7 @@ AreSaid certs name said.Neither nodes = nodes ≡ row_head word.Neither (file_la
 abbrev pub IsRowDocument : List FileFields → Row → List Node → Type 0
 IsRowDocument certs row nodes =
     (of_it : List Node) × AreSaid certs row.file.now.name row.said of_it
-    × (nodes ≡ of_it ++ left_nodes row.left)
+    × (nodes ≡ of_it ++ (limit_nodes row.limit ++ left_nodes row.left))
 
 -- the row is printed, where only certificates that aren't accepted are
 abbrev pub is_printed : Bool → Row → Bool
@@ -265,9 +290,9 @@ count_lines rows =
     ∷ count_line (codes "Accepted") word.Accepted rows
     ∷ count_line (codes "Rejected") word.Rejected rows
     ∷ count_line (codes "Below a rejected CA") word.BelowRejected rows
-    ∷ count_line (codes "Below another CA") word.BelowUnseen rows
+    ∷ count_line (codes "Below an unjudged CA") word.BelowUnseen rows
     ∷ count_line (codes "Not looked at") word.NotLookedAt rows
-    ∷ count_line (codes "Not issued by a CA") word.NotIssued rows
+    ∷ count_line (codes "Not issued by a CA here") word.NotIssued rows
     ∷ count_line (codes "No issuer here") word.NoIssuer rows
     ∷ count_line (codes "CRLs") word.Crl rows
     ∷ count_line (codes "Other files") word.Neither rows
@@ -347,8 +372,8 @@ tree_unchecked q =
 -- what was asked, for a program
 abbrev pub tree_asked : Bool → Node
 tree_asked names =
-    unsaid (keep (codes "names_asked") (flag names) ∷ keep (codes "manifests_asked") (flag false)
-    ∷ keep (codes "last_keys_asked") (flag false) ∷ [])
+    unsaid (keep (codes "names_checked") (flag names) ∷ keep (codes "manifests_checked") (flag false)
+    ∷ keep (codes "last_keys_checked") (flag false) ∷ [])
 
 -- what is said behind the rows
 abbrev pub end_nodes : TreeFields → Trees → List Row → List Node
@@ -361,7 +386,7 @@ end_nodes q trees rows =
 abbrev pub no_locator_nodes : TreeFields → Fault → List Node
 no_locator_nodes q f =
     unjudged_nodes f.step.now f.rule.says.now f.name.now f.rule.section.now
-    ++ each (codes "not_locators") (document_of (not_locators q.locators)) ∷ time_node q.at ∷ []
+    ++ each (codes "not_tals") (document_of (not_locators q.locators)) ∷ time_node q.at ∷ []
 
 -- a document in a format
 abbrev pub rendered : Format → List Node → List ℕ

@@ -4,6 +4,7 @@ use Rattle.std.specs.Prelude.{◌≡◌, ◌+◌, ◌⊎◌, ℕ, Bool, IsTrue, 
 use Rattle.rpki_cert.specs.SaidKinds.{SaysKind}
 use Rattle.rpki_cert.specs.Verification.{Context}
 use Rattle.rpki_path.specs.Judging.{last_certificate}
+use Rattle.rpki_folder.specs.declared.bounds.Limit.{Limit}
 use Rattle.rpki_folder.specs.declared.lines.Line.{Line}
 use Rattle.rpki_folder.specs.declared.lines.Line.TheVariants as line
 use Rattle.rpki_files.specs.Contents.{BeginsWithCertificate, IsList, StandBehind}
@@ -14,7 +15,7 @@ use Rattle.rpki_verdicts.specs.PathAnswers.{IsNoLocator, reason_of}
 use Rattle.rpki_verdicts.specs.Reasons.{IsReason}
 use Rattle.rpki_verdicts.specs.TreeParts.{AreAllAccepted, AreDamaged, AreTreesOf, shown_part, wrong_at}
 use Rattle.rpki_verdicts.specs.Trees.{TreeFields, is_anchor_at, line_at}
-use Rattle.rpki_verdicts.specs.UnseenCertificates.{IsUnseen}
+use Rattle.rpki_verdicts.specs.UnseenCertificates.{IsUnseen, limit_at}
 use Rattle.rpki_verdicts.specs.declared.issuers.Unseen.{Unseen as Why}
 use Rattle.rpki_verdicts.specs.declared.parts.TreePart.{TreePart}
 use Rattle.rpki_verdicts.specs.declared.parts.Trees.{Trees}
@@ -53,10 +54,10 @@ SaysUnseen trees file None said = (why : Why) × IsUnseen trees file why × (sai
 
 -- by its line in a tree, where no verdict says this
 abbrev pub SaysLine : Tree → FileFields → Option Line → (Said → Type 0) → Said → Type 0
-SaysLine tree file (Some (line.Accepted path)) Unsaid (Accepted t p kind) =
-    (t.now ≡ tree) × (p.now ≡ path)
-    × SaysKind kind (last_certificate path.judged.holder path.judged.router).fields
-SaysLine tree file (Some (line.Accepted path)) Unsaid _ = ⊥
+SaysLine tree file (Some (line.Accepted paths)) Unsaid (Accepted t path kind) =
+    (t.now ≡ tree) × (path.now ≡ paths.first)
+    × SaysKind kind (last_certificate path.now.judged.holder path.now.judged.router).fields
+SaysLine tree file (Some (line.Accepted paths)) Unsaid _ = ⊥
 SaysLine tree file (Some (line.Rejected index error)) Unsaid (Rejected fault) =
     (fault.index ≡ index) × IsReason error file.octets (reason_of fault)
 SaysLine tree file (Some (line.Rejected index error)) Unsaid _ = ⊥
@@ -82,20 +83,22 @@ SaysCertificate trees place file said =
 
 -- ---- files
 
--- what is said of a file, where the next certificate stands at this place, and one behind it at the
--- next
-abbrev pub SaysFile : Trees → ℕ → ℕ → FileFields → Said → Type 0
-SaysFile trees place next file said =
-    (BeginsWithCertificate file.octets × SaysCertificate trees place file said × (next ≡ place + 1))
-    ⊎ ((IsList file.octets × (said ≡ Crl) × (next ≡ place))
+-- what is said of a file, and the limit that was reached below its certificate, where the next
+-- certificate stands at this place, and one behind it at the next
+abbrev pub SaysFile : Trees → ℕ → ℕ → FileFields → Said → Option Limit → Type 0
+SaysFile trees place next file said limit =
+    (BeginsWithCertificate file.octets × SaysCertificate trees place file said
+    × (limit ≡ limit_at trees place) × (next ≡ place + 1))
+    ⊎ ((IsList file.octets × (said ≡ Crl) × (limit ≡ None) × (next ≡ place))
     ⊎ ((BeginsWithCertificate file.octets → ⊥) × (IsList file.octets → ⊥)
-    × (said ≡ Neither) × (next ≡ place)))
+    × (said ≡ Neither) × (limit ≡ None) × (next ≡ place)))
 
--- a row: the file, how many octets stand behind what it begins with, and what is said of it
+-- a row: the file, how many octets stand behind what it begins with, what is said of it, and the limit
+-- that was reached below it
 pub record IsRow (trees : Trees) (place next : ℕ) (file : FileFields) (row : Row) : Type 0 where
   pub file_is : row.file.now ≡ file
   pub left_is : StandBehind file.octets row.left
-  pub says : SaysFile trees place next file row.said
+  pub says : SaysFile trees place next file row.said row.limit
 
 -- the rows of files, one after the other, with the places before and behind them
 abbrev pub AreRowsFrom : Trees → ℕ → ℕ → List FileFields → List Row → Type 0

@@ -106,7 +106,7 @@ AreNoted file nodes = (notes : List Note) × AreNotes file.octets notes × (node
 abbrev pub left_node : List ℕ → List ℕ → ℕ → Node
 left_node means name left = inside [] (document_of (
     line (codes "Bytes after its end") (
-    tell (codes "octets") (count left) ∷ say means ∷ tell (codes "file") (text name) ∷ [])
+    tell (codes "bytes") (count left) ∷ say means ∷ tell (codes "file") (text name) ∷ [])
     ∷ []))
 
 -- if there are some
@@ -271,7 +271,7 @@ faulty_file (Some name) = kept (codes "file") (text name) ∷ []
 -- in which step, and which certificate is wrong
 abbrev pub step_line : List ℕ → ℕ → Node
 step_line step index = line (codes "Step") (
-    tell (codes "step") (text step) ∷ say (codes " (path index ") ∷ tell (codes "member") (count index)
+    tell (codes "step") (text step) ∷ say (codes " (path index ") ∷ tell (codes "index") (count index)
     ∷ say (codes ")") ∷ [])
 
 -- the same, and why, and what is told beside
@@ -307,7 +307,7 @@ abbrev pub IsOpening : QuestionFields → Finding → List Node → Type 0
 IsOpening question (NotALocator fault) nodes =
     nodes ≡ unjudged_nodes fault.step.now fault.rule.says.now fault.name.now fault.rule.section.now
 IsOpening question NotAList nodes =
-    nodes ≡ unjudged_nodes (codes "lists") (codes "a file given as a CRL is none") (codes "NotAList") (codes "RFC 6487 5")
+    nodes ≡ unjudged_nodes (codes "crls") (codes "a file given as a CRL isn't one") (codes "NotACrl") (codes "RFC 6487 5")
 IsOpening question (Decided None) nodes = nodes ≡ rejected_head (say (codes "no certificate was given") ∷ []) ∷ []
 IsOpening question (Decided (Some (Accepted j))) nodes = nodes ≡ accepted_head (last_name question.members) ∷ []
 IsOpening question (Decided (Some (Rejected fault))) nodes = AreRejection question fault nodes
@@ -327,15 +327,15 @@ abbrev pub asked_nodes : QuestionFields → List Node
 asked_nodes question =
     each (codes "path") (document_of (map (λ file. kept [] (text file.name)) question.members))
     ∷ unsaid (
-    keep (codes "locator_asked") (flag (are_some question.locators))
-    ∷ keep (codes "names_asked") (flag question.names)
-    ∷ keep (codes "revocation_asked") (flag (are_some question.lists))
-    ∷ keep (codes "manifests_asked") (flag false) ∷ [])
+    keep (codes "tal_checked") (flag (are_some question.locators))
+    ∷ keep (codes "names_checked") (flag question.names)
+    ∷ keep (codes "revocation_checked") (flag (are_some question.lists))
+    ∷ keep (codes "manifests_checked") (flag false) ∷ [])
     ∷ []
 
 -- the time at which is judged
 abbrev pub time_node : Moment → Node
-time_node at = told_line (codes "Validation time") (codes "moment") (moment_told at)
+time_node at = told_line (codes "Validation time") (codes "validation_time") (moment_told at)
 
 -- what is said of the files: of those of the path, and of those given as TALs and as CRLs that are
 -- none
@@ -353,9 +353,9 @@ pub record AreFiles (question : QuestionFields) (nodes : List Node) : Type 0 whe
   pub nodes_are : nodes ≡
       each (codes "certificates") (document_of certificates)
       ∷ each (codes "notes") (document_of noted)
-      ∷ each (codes "octets_after_end") (document_of (of_members ++ of_lists))
-      ∷ each (codes "not_lists") (document_of others)
-      ∷ each (codes "not_locators") (document_of (not_locators question.locators))
+      ∷ each (codes "bytes_after_end") (document_of (of_members ++ of_lists))
+      ∷ each (codes "not_crls") (document_of others)
+      ∷ each (codes "not_tals") (document_of (not_locators question.locators))
       ∷ []
 
 -- a verdict: what is found, the files, the time, what was asked, and what is held

@@ -14,7 +14,7 @@ use std::alloc::{AllocError, Global};
 
 /// What is said of files in the reverse order.
 pub const ORDER: &str =
-    "the files stand from the trust anchor down; here the last one is a trust anchor";
+    "expected the files from the trust anchor down, but the last one is a trust anchor";
 
 /// The errors that have more to say than their rule.
 #[derive(Clone, Copy)]
@@ -216,7 +216,7 @@ fn add_needed<'p>(
         parts,
         alloc,
         "CRL needed",
-        "wanted_crl",
+        "crl_needed",
         cert.as_tbs().crl_uri(),
     )?;
     add_identifier(
@@ -266,7 +266,7 @@ fn add_bound<'p>(
     let pieces = vec![in alloc;
         Piece::Tell(key, bound),
         Piece::Say(", validation time "),
-        Piece::Tell("moment", at),
+        Piece::Tell("validation_time", at),
     ]?;
     add_line(parts, label, pieces)
 }

@@ -1,7 +1,7 @@
 //! What files are: the answer of `show`, as text or as JSON.
 ghost use Rattle.std.specs.Prelude.{◌≡◌, ◌≢◌, ◌↔◌, All, IfOk, IsTrue, OnOk, map, string_bytes};
 ghost use Rattle.serde_json.specs.View.{view};
-ghost use Rattle.rpki_files.specs.Contents.{CanBeShown};
+ghost use Rattle.rpki_answers.specs.Outcomes.{CanBeShown};
 ghost use Rattle.rpki_files.specs.Files.{contents};
 ghost use Rattle.rpki_answers.specs.Outcomes.{IsOutcomeOfShow};
 ghost use Rattle.rpki_answers.specs.ShownFiles.{Grows, IsFileItem, IsFileText, IsFileValue, IsFurtherText, IsJsonOfFiles, IsTextOfFiles};

@@ -3,8 +3,8 @@ ghost use Rattle.std.specs.List.{list_any};
 ghost use Rattle.std.specs.Str.{bytes_eq};
 ghost use Rattle.std.specs.Prelude.{◌≡◌, ◌++◌, ◌∷◌, [], Some, codes, count_by, map, option_map, IfOk, OnOk};
 ghost use Rattle.rpki_document.specs.Building.{Adds, AddsSome, nodes_of, spans_of};
-ghost use Rattle.rpki_document.specs.Documents.{inner, keep, say, show, tell, text};
-ghost use Rattle.rpki_answers.specs.TreeDocuments.{AreSaid, IsAccepted, IsRowDocument, above_nodes, accepted_head, anchor_head, below_spans, count_line, count_lines, count_of, counts_node, damage_nodes, end_nodes, ended_word, error_node, errors_node, errors_of, file_first, file_last, has_error, has_word, index_node, left_line, left_nodes, name_of, no_anchor_head, no_locator_nodes, rejected_head, rejected_row, row_head, searched_line, limited_line, whole_line, tal_head, tal_node, tals_node, tree_asked, tree_unchecked, unseen_row, with_error};
+ghost use Rattle.rpki_document.specs.Documents.{count, further, inner, keep, say, show, tell, text};
+ghost use Rattle.rpki_answers.specs.TreeDocuments.{AreSaid, IsAccepted, IsRowDocument, above_nodes, accepted_head, anchor_head, below_spans, count_line, count_lines, count_of, counts_node, damage_nodes, end_nodes, ended_word, error_node, errors_node, errors_of, file_first, file_last, has_error, has_word, index_node, issuer_spans, left_line, left_nodes, left_words, limit_nodes, limit_spans, limited_spans, name_of, no_anchor_head, no_locator_nodes, rejected_head, rejected_row, row_head, searched_line, limited_line, whole_line, tal_head, tal_node, tals_node, tree_asked, tree_unchecked, unseen_row, with_error};
 ghost use Rattle.rpki_verdicts.specs.Trees.{asked_of};
 
 use crate::told::kind_leaf;
@@ -19,7 +19,7 @@ use rpki_document::{
     add_told, add_unsaid,
 };
 use rpki_files::BareObject;
-use rpki_folder::{Ended, FoundPath};
+use rpki_folder::{Ended, FoundPath, Limit};
 use rpki_verdicts::{Fault, Tree, TreeAnswer, TreePart, TreeQuestion, Trees, Unseen};
 use std::alloc::{AllocError, Global};
 
@@ -79,7 +79,7 @@ fn add_index<'p>(
         (Adds (index_node index step.now ∷ []) parts.old.items parts.new.items) }
 {
     let pieces = vec![in alloc;
-        Piece::Keep("member", Leaf::Count(index as u64)),
+        Piece::Keep("index", Leaf::Count(index as u64)),
         Piece::Keep("step", Leaf::Text(step)),
     ]?;
     add_unsaid(parts, pieces)
@@ -137,9 +137,7 @@ fn add_issued<'p>(
     name: &'p str,
     issuer: &'p str,
 ) -> Result<(), AllocError>
-    ensures { let spans = say (codes ", issuer ")
-        ∷ tell (codes "issuer") (text issuer.now) ∷ [] in
-        let its = row_head word (file_first name.now spans) in
+    ensures { let its = row_head word (file_first name.now (issuer_spans issuer.now)) in
         OnOk result (Adds (its ∷ []) parts.old.items parts.new.items) }
 {
     let pieces = vec![in alloc;
@@ -149,6 +147,87 @@ fn add_issued<'p>(
         Piece::Tell("issuer", Leaf::Text(issuer)),
     ]?;
     add_head(parts, word.label(), pieces)
+}
+
+// That a limit was reached, which is no number of steps.
+fn push_limit_word<'p>(
+    pieces: &mut Vec<Piece<'p>>,
+    word: &'p str,
+    says: &'p str,
+) -> Result<(), AllocError>
+    ensures { let its = keep (codes "limit") (text word.now) ∷ say says.now ∷ [] in
+        OnOk result (spans_of pieces.new.items ≡ spans_of pieces.old.items ++ its) }
+{
+    pieces.push(Piece::Keep("limit", Leaf::Text(word)))?;
+    pieces.push(Piece::Say(says))?;
+    Ok(())
+}
+
+// How many steps it takes to go on.
+fn push_steps(pieces: &mut Vec<Piece<'_>>, steps: usize) -> Result<(), AllocError>
+    ensures { let its = tell (codes "steps_needed") (count steps)
+        ∷ say (codes " is needed") ∷ [] in
+        OnOk result (spans_of pieces.new.items ≡ spans_of pieces.old.items ++ its) }
+{
+    pieces.push(Piece::Tell("steps_needed", Leaf::Count(steps as u64)))?;
+    pieces.push(Piece::Say(" is needed"))?;
+    Ok(())
+}
+
+// That the limit of steps was reached below a CA, and how many it takes to go on there.
+fn push_steps_limit(pieces: &mut Vec<Piece<'_>>, needed: Option<usize>) -> Result<(), AllocError>
+    ensures { let its = limit_spans (Limit.Steps needed) in
+        OnOk result (spans_of pieces.new.items ≡ spans_of pieces.old.items ++ its) }
+{
+    match needed {
+        None => push_limit_word(
+            pieces,
+            "steps",
+            "limit of steps reached below it, more than any --steps is needed",
+        ),
+        Some(steps) => {
+            push_limit_word(pieces, "steps", "limit of steps reached below it, --steps ")?;
+            push_steps(pieces, steps)
+        }
+    }
+}
+
+// That a limit was reached below a CA, and what it takes to go on there.
+fn push_limit(pieces: &mut Vec<Piece<'_>>, limit: Limit) -> Result<(), AllocError>
+    ensures { OnOk result
+        (spans_of pieces.new.items ≡ spans_of pieces.old.items ++ limit_spans limit) }
+{
+    match limit {
+        Limit::Depth => push_limit_word(
+            pieces,
+            "depth",
+            "limit of depth reached below it, a greater --depth is needed",
+        ),
+        Limit::Steps(needed) => push_steps_limit(pieces, needed),
+    }
+}
+
+// Adds the row of a certificate that wasn't looked at, and its issuer.
+fn add_limited_row<'p>(
+    parts: &mut Vec<Part<'p>>,
+    alloc: Global,
+    name: &'p str,
+    issuer: &'p str,
+    limit: Limit,
+) -> Result<(), AllocError>
+    ensures { let its = row_head Word.NotLookedAt
+        (file_first name.now (limited_spans issuer.now limit)) in
+        OnOk result (Adds (its ∷ []) parts.old.items parts.new.items) }
+{
+    let mut pieces = vec![in alloc;
+        Piece::Keep("verdict", Leaf::Text(Word::NotLookedAt.key())),
+        Piece::Tell("file", Leaf::Inner(name)),
+        Piece::Say(", issuer "),
+        Piece::Tell("issuer", Leaf::Inner(issuer)),
+        Piece::Say(": "),
+    ]?;
+    push_limit(&mut pieces, limit)?;
+    add_head(parts, Word::NotLookedAt.label(), pieces)
 }
 
 // A certificate on which there is no verdict.
@@ -165,10 +244,10 @@ fn add_unseen<'p>(
     let word = unseen_word(why);
     match why {
         Unseen::NoIssuer => add_alone(parts, alloc, word, name),
-        Unseen::NotBelow(issuer)
-        | Unseen::NotLookedAt(issuer)
-        | Unseen::BelowRejected(issuer)
-        | Unseen::BelowUnseen(issuer) => {
+        Unseen::NotLookedAt(issuer, limit) => {
+            add_limited_row(parts, alloc, name, name_of(certs, issuer), limit)
+        }
+        Unseen::NotBelow(issuer) | Unseen::BelowRejected(issuer) | Unseen::BelowUnseen(issuer) => {
             add_issued(parts, alloc, word, name, name_of(certs, issuer))
         }
     }
@@ -283,15 +362,38 @@ fn add_said<'p>(
     }
 }
 
+fn left_words(left: usize) -> &'static str
+    ensures { result.now ≡ left_words left }
+{
+    if left == 1 {
+        " byte after its end"
+    } else {
+        " bytes after its end"
+    }
+}
+
+fn add_left_words<'p>(
+    parts: &mut Vec<Part<'p>>,
+    alloc: Global,
+    left: usize,
+    words: &'p str,
+) -> Result<(), AllocError>
+    ensures { let its = further (tell (codes "bytes_after_end") (count left)
+        ∷ say words.now ∷ []) in
+        OnOk result (Adds (its ∷ []) parts.old.items parts.new.items) }
+{
+    let pieces = vec![in alloc;
+        Piece::Tell("bytes_after_end", Leaf::Count(left as u64)),
+        Piece::Say(words),
+    ]?;
+    add_further(parts, pieces)
+}
+
 // That so many octets stand behind what it begins with.
 fn add_left_line(parts: &mut Vec<Part<'_>>, alloc: Global, left: usize) -> Result<(), AllocError>
     ensures { OnOk result (Adds (left_line left ∷ []) parts.old.items parts.new.items) }
 {
-    let pieces = vec![in alloc;
-        Piece::Tell("octets_after_end", Leaf::Count(left as u64)),
-        Piece::Say(" bytes after its end"),
-    ]?;
-    add_further(parts, pieces)
+    add_left_words(parts, alloc, left, left_words(left))
 }
 
 // If some do.
@@ -305,6 +407,22 @@ fn add_left(parts: &mut Vec<Part<'_>>, alloc: Global, left: usize) -> Result<(),
     }
 }
 
+// The limit that was reached below it, if one was.
+fn add_limit(
+    parts: &mut Vec<Part<'_>>,
+    alloc: Global,
+    limit: Option<Limit>,
+) -> Result<(), AllocError>
+    ensures { OnOk result (Adds (limit_nodes limit) parts.old.items parts.new.items) }
+{
+    let Some(limit) = limit else {
+        return Ok(());
+    };
+    let mut pieces = Vec::new(alloc);
+    push_limit(&mut pieces, limit)?;
+    add_further(parts, pieces)
+}
+
 /// Makes the document of a row.
 pub fn row_document<'p>(
     alloc: Global,
@@ -316,6 +434,7 @@ pub fn row_document<'p>(
 {
     let mut parts = Vec::new(alloc);
     add_said(&mut parts, alloc, certs, row.file.name(), &row.said)?;
+    add_limit(&mut parts, alloc, row.limit)?;
     add_left(&mut parts, alloc, row.left)?;
     Ok(parts)
 }
@@ -466,9 +585,21 @@ fn add_counts<'p>(
         Word::BelowRejected,
         rows,
     )?;
-    add_count(parts, alloc, "Below another CA", Word::BelowUnseen, rows)?;
+    add_count(
+        parts,
+        alloc,
+        "Below an unjudged CA",
+        Word::BelowUnseen,
+        rows,
+    )?;
     add_count(parts, alloc, "Not looked at", Word::NotLookedAt, rows)?;
-    add_count(parts, alloc, "Not issued by a CA", Word::NotIssued, rows)?;
+    add_count(
+        parts,
+        alloc,
+        "Not issued by a CA here",
+        Word::NotIssued,
+        rows,
+    )?;
     add_count(parts, alloc, "No issuer here", Word::NoIssuer, rows)?;
     add_count(parts, alloc, "CRLs", Word::Crl, rows)?;
     add_count(parts, alloc, "Other files", Word::Neither, rows)
@@ -697,9 +828,9 @@ fn add_tree_asked(parts: &mut Vec<Part<'_>>, alloc: Global, names: bool) -> Resu
     ensures { OnOk result (Adds (tree_asked names ∷ []) parts.old.items parts.new.items) }
 {
     let pieces = vec![in alloc;
-        Piece::Keep("names_asked", Leaf::Flag(names)),
-        Piece::Keep("manifests_asked", Leaf::Flag(false)),
-        Piece::Keep("last_keys_asked", Leaf::Flag(false)),
+        Piece::Keep("names_checked", Leaf::Flag(names)),
+        Piece::Keep("manifests_checked", Leaf::Flag(false)),
+        Piece::Keep("last_keys_checked", Leaf::Flag(false)),
     ]?;
     add_unsaid(parts, pieces)
 }
@@ -744,7 +875,7 @@ pub fn no_locator_document<'p>(
     )?;
     let mut others = Vec::new(alloc);
     add_not_locators(&mut others, alloc, question.locators)?;
-    add_each(&mut parts, "not_locators", others)?;
+    add_each(&mut parts, "not_tals", others)?;
     add_time(&mut parts, alloc, question.at)?;
     Ok(parts)
 }

@@ -7,11 +7,11 @@ ghost use Rattle.rpki_verdicts.specs.Reasons.{IsReason};
 ghost use Rattle.rpki_verdicts.specs.TreeParts.{wrong_at};
 ghost use Rattle.rpki_verdicts.specs.UnseenCertificates.{AreIssuers};
 ghost use Rattle.rpki_answers.specs.TreeDocuments.{is_unaccepted, said_error, unseen_word, word_key, word_label, word_of};
-ghost use Rattle.rpki_answers.specs.TreeRows.{AreRows, SaysAnswer, SaysCertificate, SaysFile, SaysLine, SaysUnseen};
+ghost use Rattle.rpki_answers.specs.TreeRows.{AreRows, IsRow, SaysAnswer, SaysCertificate, SaysLine, SaysUnseen};
 
 use rpki_cert::{Kind, said_kind};
 use rpki_files::{BareObject, Front};
-use rpki_folder::{FoundPath, Line};
+use rpki_folder::{FoundPath, Limit, Line};
 use rpki_path::{Judged, PathFault};
 use rpki_verdicts::reasons::of_path;
 use rpki_verdicts::{Fault, Issuers, Tree, TreeAnswer, Trees, Unseen};
@@ -34,12 +34,14 @@ pub enum Said<'t, 'q, 'n> {
     Neither,
 }
 
-/// A file, how many bytes follow what it starts with, and what is said of it.
+/// A file, how many bytes follow what it starts with, what is said of it, and the limit that a walk
+/// reached below its certificate.
 #[derive(Drop)]
 pub struct Row<'t, 'q, 'n> {
     pub file: &'q BareObject<'n>,
     pub left: usize,
     pub said: Said<'t, 'q, 'n>,
+    pub limit: Option<Limit>,
 }
 
 /// The word for what is said of a file.
@@ -67,7 +69,7 @@ impl Word {
             Word::Accepted => "accepted",
             Word::Rejected => "rejected",
             Word::BelowRejected => "below a rejected CA",
-            Word::BelowUnseen => "below a CA without a verdict",
+            Word::BelowUnseen => "below an unjudged CA",
             Word::NotLookedAt => "not looked at",
             Word::NotIssued => "not issued by a CA here",
             Word::NoIssuer => "no issuer here",
@@ -115,7 +117,7 @@ pub(crate) fn unseen_word(why: Unseen) -> Word
     match why {
         Unseen::NoIssuer => Word::NoIssuer,
         Unseen::NotBelow(_) => Word::NotIssued,
-        Unseen::NotLookedAt(_) => Word::NotLookedAt,
+        Unseen::NotLookedAt(..) => Word::NotLookedAt,
         Unseen::BelowRejected(_) => Word::BelowRejected,
         Unseen::BelowUnseen(_) => Word::BelowUnseen,
     }
@@ -202,7 +204,10 @@ fn said_by_line<'t, 'q, 'n>(
         (SaysUnseen trees.now file.now (wrong_at trees.now.parts.items place)) result }
 {
     match line {
-        Some(Line::Accepted(path)) => Said::Accepted(tree, path, judged_as(&path.judged)),
+        Some(Line::Accepted(paths)) => {
+            let path = &paths.first;
+            Said::Accepted(tree, path, judged_as(&path.judged))
+        }
         Some(Line::Rejected(index, error)) => Said::Rejected(fault_of(*index, error, file)),
         Some(Line::Unseen) | None => said_unseen(trees, issuers, place, file),
     }
@@ -247,24 +252,34 @@ fn said_of_certificate<'t, 'q, 'n>(
     }
 }
 
-// What is said of a file, where the next certificate is at this place; and the place of one after
-// it.
-fn said_of_file<'t, 'q, 'n>(
+// A row, where the next certificate is at this place; and the place of one after it.
+fn row_of<'t, 'q, 'n>(
     trees: &'t Trees<'q, 'n>,
     issuers: &Issuers,
     place: usize,
-    file: &BareObject<'_>,
-) -> (usize, Said<'t, 'q, 'n>)
+    file: &'q BareObject<'n>,
+) -> (usize, Row<'t, 'q, 'n>)
     requires issuers { AreIssuers trees.now issuers.now }
     requires place { place + 1 < 2 ^ 64 }
     ensures next { result.0 ≤ place + 1 }
-    ensures said { SaysFile trees.now place result.0 file.now result.1 }
+    ensures row { IsRow trees.now place result.0 file.now result.1 }
 {
-    match file.front() {
-        Front::Certificate(_) => (place + 1, said_of_certificate(trees, issuers, place, file)),
-        Front::List => (place, Said::Crl),
-        Front::Neither => (place, Said::Neither),
-    }
+    let left = file.left();
+    let (next, said, limit) = match file.front() {
+        Front::Certificate(_) => {
+            let said = said_of_certificate(trees, issuers, place, file);
+            (place + 1, said, trees.limit_at(place))
+        }
+        Front::List => (place, Said::Crl, None),
+        Front::Neither => (place, Said::Neither, None),
+    };
+    let row = Row {
+        file,
+        left,
+        said,
+        limit,
+    };
+    (next, row)
 }
 
 /// Finds what is said of each file.
@@ -284,9 +299,8 @@ pub fn rows_of<'t, 'q, 'n>(
     let mut rows = Vec::new(alloc);
     let mut place = 0;
     for file in files {
-        let (next, said) = said_of_file(trees, issuers, place, file);
-        let left = file.left();
-        rows.push(Row { file, left, said })?;
+        let (next, row) = row_of(trees, issuers, place, file);
+        rows.push(row)?;
         place = next;
     }
     Ok(rows)

@@ -36,8 +36,8 @@ const BEHIND_CERTIFICATE: &str = ", not read: ";
 
 const BEHIND_LIST: &str = ", so it is not a CRL (if it has two, give each in a file of its own): ";
 
-/// What is said where a file given as a CRL is none.
-const NO_LIST: &str = "a file given as a CRL is none";
+/// What is said where a file given as a CRL isn't one.
+const NO_LIST: &str = "a file given as a CRL isn't one";
 
 // ---- the certificates of the path
 
@@ -232,7 +232,7 @@ fn add_left_file<'p>(
 {
     let mut own = Vec::new(alloc);
     let pieces = vec![in alloc;
-        Piece::Tell("octets", Leaf::Count(left as u64)),
+        Piece::Tell("bytes", Leaf::Count(left as u64)),
         Piece::Say(means),
         Piece::Tell("file", Leaf::Text(name)),
     ]?;
@@ -388,13 +388,13 @@ fn add_files<'p>(
     let mut left = Vec::new(alloc);
     add_left_of_members(&mut left, alloc, question.members)?;
     add_left_of_lists(&mut left, alloc, question.lists)?;
-    add_each(parts, "octets_after_end", left)?;
+    add_each(parts, "bytes_after_end", left)?;
     let mut others = Vec::new(alloc);
     add_not_lists(&mut others, alloc, question.lists)?;
-    add_each(parts, "not_lists", others)?;
+    add_each(parts, "not_crls", others)?;
     let mut others = Vec::new(alloc);
     add_not_locators(&mut others, alloc, question.locators)?;
-    add_each(parts, "not_locators", others)
+    add_each(parts, "not_tals", others)
 }
 
 // ---- an accepted path
@@ -827,7 +827,7 @@ fn add_step<'p>(
     let pieces = vec![in alloc;
         Piece::Tell("step", Leaf::Text(step)),
         Piece::Say(" (path index "),
-        Piece::Tell("member", Leaf::Count(index as u64)),
+        Piece::Tell("index", Leaf::Count(index as u64)),
         Piece::Say(")"),
     ]?;
     add_line(parts, "Step", pieces)
@@ -978,7 +978,7 @@ fn add_opening<'p>(
             )
         }
         Finding::NotAList => {
-            add_unjudged(parts, alloc, "lists", NO_LIST, "NotAList", "RFC 6487 5")
+            add_unjudged(parts, alloc, "crls", NO_LIST, "NotACrl", "RFC 6487 5")
         }
         Finding::Decided(verdict) => add_verdict_line(parts, alloc, question, verdict),
     }
@@ -1042,10 +1042,10 @@ fn add_asked<'p>(
     add_path(&mut path, alloc, question.members)?;
     add_each(parts, "path", path)?;
     let pieces = vec![in alloc;
-        Piece::Keep("locator_asked", Leaf::Flag(has_locators(question.locators))),
-        Piece::Keep("names_asked", Leaf::Flag(question.names)),
-        Piece::Keep("revocation_asked", Leaf::Flag(has_lists(question.lists))),
-        Piece::Keep("manifests_asked", Leaf::Flag(false)),
+        Piece::Keep("tal_checked", Leaf::Flag(has_locators(question.locators))),
+        Piece::Keep("names_checked", Leaf::Flag(question.names)),
+        Piece::Keep("revocation_checked", Leaf::Flag(has_lists(question.lists))),
+        Piece::Keep("manifests_checked", Leaf::Flag(false)),
     ]?;
     add_unsaid(parts, pieces)
 }
@@ -1054,7 +1054,7 @@ pub(crate) fn add_time(parts: &mut Vec<Part<'_>>, alloc: Global, at: Time) -> Re
     ensures { OnOk result (Adds (time_node at ∷ []) parts.old.items parts.new.items) }
 {
     let leaf = moment_leaf(alloc, at)?;
-    add_told(parts, alloc, "Validation time", "moment", leaf)
+    add_told(parts, alloc, "Validation time", "validation_time", leaf)
 }
 
 /// Makes the document of the verdict on a path.

@@ -1,6 +1,6 @@
 -- From the lines that a walk kept to what becomes of the strings.
 use Rattle.std.specs.List.{AllByRecursion, AllZip}
-use Rattle.std.specs.Prelude.{Bool, true, Any, Option, None, Some, Result, Ok, Err, IsOk, IfOk, IfErr, IsTrue, if◌then◌else◌}
+use Rattle.std.specs.Prelude.{◌==◌, Bool, true, Any, Option, None, Some, Result, Ok, Err, IsOk, IsTrue, if◌then◌else◌}
 use Rattle.std.proofs.Common.{◌≡◌, ◌+◌, ◌<◌, ℕ, List, [], ◌∷◌, ◌++◌, length, get_or, map, refl, sym, ap, subst, ◌∙◌, inl, inr, arith}
 use Rattle.std.proofs.lemmas.Bool.{cases_lt, cases_eq, eq-eqb, ne_eqb}
 use Rattle.std.proofs.lemmas.List.{append-nil, length-map, map-append, get_or_past}
@@ -13,7 +13,6 @@ use Rattle.rpki_cert.specs.Verification.{Context, ResourceFields}
 use Rattle.rpki_cert.specs.declared.inspect.Kind.{Kind}
 use Rattle.rpki_cert.specs.declared.inspect.Kind.TheVariants.{Anchor, Authority, EndEntity, Detached, Router}
 use Rattle.rpki_path.specs.Asking.{RevocationChecks}
-use Rattle.rpki_crl.specs.Lists.{CrlState}
 use Rattle.rpki_path.specs.AskedLists.{by_named_lists}
 use Rattle.rpki_path.specs.Judging.{IsRouterIfAny}
 use Rattle.rpki_keys.specs.Locators.{NamedTal, TalFields}
@@ -25,30 +24,38 @@ use Rattle.rpki_path.specs.declared.judging.Judged.{Judged}
 use Rattle.rpki_path.specs.declared.located.LocatedError.TheVariants.{OtherKey, NoResources, Path as path}
 use Rattle.rpki_path.specs.declared.path_fault.PathError.{PathError}
 use Rattle.rpki_path.specs.declared.path_fault.PathFault.{PathFault}
-use Rattle.rpki_folder.specs.Folders.{octets_at, cas_at}
-use Rattle.rpki_folder.specs.KeptLines.{step, IsRejectedWithin, IsLine}
+use Rattle.rpki_folder.specs.FirstPlaces.{AreFirstsIn, IsFirstIn, first_of}
+use Rattle.rpki_folder.specs.Folders.{AreOneAt, octets_at, cas_at}
+use Rattle.rpki_folder.specs.FoundAnchors.{AreWrongAnchors, HasNoValid, IsAnchorAt, IsFound, IsValidAt}
+use Rattle.rpki_folder.specs.KeptLines.{step, AreLines, IsRejectedWithin, IsLine}
 use Rattle.rpki_cert.specs.SaidKinds.{BeginsWithKind}
-use Rattle.rpki_folder.specs.Walks.{Root, at_anchor, members_at, LeadsTo, IsAcceptedAs, IsReached, IsRightOf, IsRight, IsLetIn, Told, IsTold, Covers, AreAdmitted, StandsAt, IsLookedAt, IsWhyNone}
+use Rattle.rpki_folder.specs.Walks.{Root, at_anchor, members_at, LeadsTo, IsAcceptedAs, IsReached, IsRightOf, IsRight, IsLetIn, Told, IsTold, Covers, AreAdmitted, StandsAt, IsLookedAt, IsShort, IsValidAnchor, IsWhyNone, TellsBelow}
+use Rattle.rpki_folder.specs.declared.anchors.FoundAnchor.TheVariants.{Valid}
+use Rattle.rpki_folder.specs.declared.anchors.WrongCandidate.{WrongCandidate}
 use Rattle.rpki_folder.specs.declared.bounds.Ended.{Ended}
 use Rattle.rpki_folder.specs.declared.bounds.Ended.TheVariants.{TooDeep}
+use Rattle.rpki_folder.specs.declared.firsts.Firsts.{Firsts}
 use Rattle.rpki_folder.specs.declared.folder.Added.{Added}
 use Rattle.rpki_folder.specs.declared.folder.Added.TheVariants.{Certificate, List as list_added, Neither}
 use Rattle.rpki_folder.specs.declared.lines.Line.{Line}
 use Rattle.rpki_folder.specs.declared.lines.Line.TheVariants.{Unseen, Accepted, Rejected}
 use Rattle.rpki_folder.specs.declared.walk_error.WalkError.{WalkError}
 use Rattle.rpki_folder.specs.declared.walk_error.WalkError.TheVariants.{Anchor as at_fault, OtherName, Memory}
+use Rattle.rpki_folder.proofs.AlikeOctets.{AreAlike, accepted_alike, are_alike, chained_alike, kind_alike, rejected_alike}
 use Rattle.rpki_folder.proofs.AnchorSteps.{anchor_is}
-use Rattle.rpki_folder.proofs.Descent.{no_certificate}
+use Rattle.rpki_folder.proofs.Descent.{no_certificate, there as inside_at}
+use Rattle.rpki_folder.proofs.FirstPaths.{first_same, looked_firsts, reached_firsts, stands_first}
+use Rattle.rpki_folder.proofs.KeptPaths.{first_told}
 use Rattle.rpki_folder.proofs.Renamed.{all_looked_there}
+use Rattle.rpki_folder.proofs.TriedAnchors.{begins_anchor, least_place}
 use Rattle.rpki_folder.proofs.WalkedNames.{walked_chain}
-use Rattle.rpki_c.specs.FolderFates.{Fate, anchor, AreListsAmong, IsFirstWithKey, IsFate, IsJudgedAt, IsValidFate, StandsBelow, AreFates, AreJudged}
-use Rattle.rpki_c.specs.FolderFates.Steps.{IsAddedAs, IsSorted, origin_of, kept_fate, added_fate, fate_at, IsWalked, refusal_of}
+use Rattle.rpki_c.specs.FolderFates.{Fate, anchor, HasNoAnchor, IsFirstWithKey, NoneHasKey, IsFate, IsJudgedAt, IsValidFate, StandsBelow, AreFates, AreJudged}
+use Rattle.rpki_c.specs.FolderFates.Steps.{IsAddedAs, IsSorted, origin_of, kept_fate, added_fate, fate_at, IsWalked, refusal_of, wrong_first}
 use Rattle.rpki_folder.specs.UsualBounds.{usual_steps}
 use Rattle.rpki_c.specs.FolderQuestions.{asked_or}
 use Rattle.rpki_c.specs.FolderTelling.{AreLinesOf, AnswersBelow}
+use Rattle.rpki_c.specs.declared.folder_lines.WalkLines.{WalkLines}
 use Rattle.rpki_c.specs.declared.folder_question.FolderTerms.{FolderTerms}
-use Rattle.rpki_c.specs.declared.refusal.Refusal.{Refusal}
-use Rattle.rpki_c.specs.declared.refusal.Refusal.TheVariants as refusal
 use Rattle.rpki_c.specs.declared.walking.Walked.{Walked}
 use Rattle.rpki_c.specs.declared.sorting.Sorted.{Sorted}
 
@@ -65,9 +72,120 @@ of_told P Q ts all h = (h.1, subst P h.3 (All-from_recursion P ts all h.0 h.1 h.
 line_accepts : (origin : ℕ → ℕ) (ts : List Told) (above : List ℕ) (place : ℕ) (l : Line) → IsLine ts place l → IsTold ts above place → IsValidFate (kept_fate origin l)
 line_accepts origin ts above place Unseen h told =
     let w = of_told (λ t. t.place ≡ place → ⊥) (λ t. (t.above ≡ above) × (t.place ≡ place) × IsOk t.verdict) ts h told in absurd (w.1 w.2.1)
-line_accepts origin ts above place (Accepted found) h told = tt
+line_accepts origin ts above place (Accepted paths) h told = tt
 line_accepts origin ts above place (Rejected n fault) h told =
     let w = of_told (IsRejectedWithin place n) (λ t. (t.above ≡ above) × (t.place ≡ place) × IsOk t.verdict) ts h.1 told in absurd ((w.1 w.2.1).0 w.2.2)
+
+-- ---- certificates among the strings
+
+module _ (s : Sorted) (sorted : IsSorted s) where
+  abbrev all_strings : List (List ℕ)
+  all_strings = s.strings.now
+
+  abbrev all_certs : List (List ℕ)
+  all_certs = s.folder.certs
+
+  -- the certificate at a place is the string there
+  filed_same : (p : ℕ) → octets_at all_strings (origin_of s p) ≡ octets_at all_certs p
+  filed_same p = elim (cases_lt p (length all_certs)) [
+    | inl low ↦ sorted.came_from p (length s.added.items) low
+    | inr high ↦
+        let few = sorted.origin_count in
+        let past : origin_of s p ≡ length s.added.items = get_or_past s.origins.items p (length s.added.items) (omega (arith, high, few)) in
+        let n = sorted.count in
+        ap (λ (i : ℕ). octets_at all_strings i) past ∙ get_or_past all_strings (length s.added.items) [] (omega (arith, n)) ∙ sym (get_or_past all_certs p [] high)
+  ]
+
+  -- a string that begins with a certificate was added as one
+  record IsAddedAt (i : ℕ) (c : CertFields) : Type 0 where
+    low : i < length all_strings
+    place : ℕ
+    added_is : get_or s.added.items i Neither ≡ Certificate place
+    inside : place < length all_certs
+    from : origin_of s place ≡ i
+    stands : StandsAt all_certs place c
+
+  added_as : (i : ℕ) (c : CertFields) → i < length all_strings → StandsAt all_strings i c → (a : Added) → get_or s.added.items i Neither ≡ a → IsAddedAs (octets_at all_strings i) a → IsAddedAt i c
+  added_as i c low stands (Certificate p) is says =
+      let at = sorted.placed i p Neither low is in
+      let from = at.1 (length s.added.items) in
+      record {
+        low = low;
+        place = p;
+        added_is = is;
+        inside = at.0;
+        from = from;
+        stands = subst (λ (o : List ℕ). Means IsCertificate c o) (ap (λ (n : ℕ). octets_at all_strings n) (sym from) ∙ filed_same p) stands;
+      }
+  added_as i c low stands list_added is says = absurd (says.1.no_certificate c stands)
+  added_as i c low stands Neither is says = absurd (says.0 c stands)
+
+  added_at : (i : ℕ) (c : CertFields) → StandsAt all_strings i c → IsAddedAt i c
+  added_at i c stands = elim (cases_lt i (length all_strings)) [
+    | inl low ↦ added_as i c low stands (get_or s.added.items i Neither) refl (sorted.begins i Neither low)
+    | inr high ↦ absurd (no_certificate c (octets_at all_strings i) stands (get_or_past all_strings i [] high))
+  ]
+
+  -- ---- the trust anchor
+
+  module _ (x : Context) (asked : RevocationChecks) (names : Bool) (t : NamedTal) where
+    -- a string that is a valid one is one in the folder
+    valid_filed : (i : ℕ) (c : CertFields) → IsValidAt x asked names t all_strings i c → (p : ℕ) × IsValidAt x asked names t all_certs p c
+    valid_filed i c valid =
+        let at = added_at i c valid.stands in (
+          at.place,
+          record {
+            inside = at.inside;
+            stands = at.stands;
+            is_valid = subst (λ (o : List ℕ). IsValidAnchor x asked names t o) (ap (λ (n : ℕ). octets_at all_strings n) (sym at.from) ∙ filed_same at.place) valid.is_valid;
+          },
+        )
+
+    none_among : HasNoValid x asked names t all_certs → HasNoValid x asked names t all_strings
+    none_among none i c valid = let p = valid_filed i c valid in none p.0 c p.1
+
+    anchor_among : (p : ℕ) → IsAnchorAt x asked names t all_certs p → IsAnchorAt x asked names t all_strings (origin_of s p)
+    anchor_among p is = record {
+      cert = is.cert;
+      valid = record {
+        inside = sorted.inside p (length s.added.items) is.valid.inside;
+        stands = subst (λ (o : List ℕ). Means IsCertificate is.cert o) (sym (filed_same p)) is.valid.stands;
+        is_valid = subst (λ (o : List ℕ). IsValidAnchor x asked names t o) (sym (filed_same p)) is.valid.is_valid;
+      };
+      greatest = λ i d valid less. let q = valid_filed i d valid in is.greatest q.0 d q.1 less;
+    }
+
+    -- a string with the locator's key is one of those that are wrong
+    module _ (wrong : List WrongCandidate) (are : AreWrongAnchors x asked names t all_certs (length all_certs) wrong) where
+      wrong_among : (i : ℕ) → BeginsWithKey t.tal (octets_at all_strings i) → (p : ℕ) × Any (λ w. w.place ≡ p) wrong × (origin_of s p ≡ i)
+      wrong_among i key =
+          let at = added_at i key.cert key.begins in
+          (at.place, are.all at.place at.inside (record { cert = key.cert; begins = at.stands; key_is = key.key_is }), at.from)
+
+    none_has_key : AreWrongAnchors x asked names t all_certs (length all_certs) [] → NoneHasKey t.tal all_strings
+    none_has_key are i low key = let w = wrong_among [] are i key in let none = w.1.2 in absurd (omega (arith, none))
+
+    first_among : (w : WrongCandidate) (more : List WrongCandidate) → AreWrongAnchors x asked names t all_certs (length all_certs) (w ∷ more) → IsFirstWithKey t.tal all_strings (origin_of s w.place)
+    unfolding wrong_among added_at
+    first_among w more are = record {
+      inside = sorted.inside w.place (length s.added.items) are.inside.0;
+      has_key = subst (λ (o : List ℕ). BeginsWithKey t.tal o) (sym (filed_same w.place)) are.each.0.has_key;
+      none_before = λ i less key.
+          let k = wrong_among (w ∷ more) are i key in
+          let least = least_place w more are.ascending k.0 k.1 in
+          let from = k.2 in
+          elim (cases_eq w.place k.0) [
+            | inl same ↦
+                let here : origin_of s w.place ≡ i = ap (origin_of s) same ∙ from in
+                absurd (omega (arith, less, here))
+            | inr apart ↦
+                let before : w.place < k.0 = omega (arith, least, apart) in
+                let at = added_at i key.cert key.begins in
+                let q : k.0 < length all_certs = at.inside in
+                let later = sorted.ascend w.place k.0 (length s.added.items) (length s.added.items) before q in
+                absurd (omega (arith, later, less, from))
+          ];
+    }
 
 -- ---- the same certificates at other places
 
@@ -146,104 +264,104 @@ module _ (x : Context) (asked : RevocationChecks) (t : NamedTal) (top_octets : L
 
   -- ---- from the folder to the strings
 
-  module _ (names : Bool) (s : Sorted) (sorted : IsSorted s) (top depth steps : ℕ) (kept : List Line) (count : length kept ≡ length s.folder.certs) (ended : Ended) (w : IsWalked x asked names root s.folder.certs depth steps kept ended) (law : IsUnambiguous IsCertificate) where
-    abbrev strings : List (List ℕ)
-    strings = s.strings.now
+  module _ (names : Bool) (w : WalkLines) (sorted : IsSorted w.sorted.now) (depth steps : ℕ) (count : length w.kept.now ≡ length w.sorted.now.folder.certs) (ended : Ended) (k : IsWalked x asked names root w.sorted.now.folder.certs w.firsts.now depth steps w.kept.now ended) (law : IsUnambiguous IsCertificate) (are : AreFirstsIn w.sorted.now.folder.certs w.firsts.now) (there : top_octets ≡ octets_at w.sorted.now.folder.certs w.anchor) where
+    abbrev s : Sorted
+    s = w.sorted.now
 
-    abbrev certs : List (List ℕ)
-    certs = s.folder.certs
+    abbrev strings_of : List (List ℕ)
+    strings_of = s.strings.now
 
-    origin_same : (p : ℕ) → octets_at strings (origin_of s p) ≡ octets_at certs p
-    origin_same p = elim (cases_lt p (length certs)) [
-      | inl low ↦ sorted.came_from p (length s.added.items) low
-      | inr high ↦
-          let few = sorted.origin_count in
-          let past : origin_of s p ≡ length s.added.items = get_or_past s.origins.items p (length s.added.items) (omega (arith, high, few)) in
-          let n = sorted.count in
-          ap (λ (i : ℕ). octets_at strings i) past ∙ get_or_past strings (length s.added.items) [] (omega (arith, n)) ∙ sym (get_or_past certs p [] high)
-    ]
+    abbrev certs_of : List (List ℕ)
+    certs_of = s.folder.certs
 
-    origin_cas : (above : List ℕ) → cas_at strings (map (origin_of s) above) ≡ cas_at certs above
-    origin_cas above = same_cas certs strings (origin_of s) above (all_of (λ q. octets_at strings (origin_of s q) ≡ octets_at certs q) origin_same above)
+    abbrev first_table : Firsts
+    first_table = w.firsts.now
+
+    abbrev top : ℕ
+    top = origin_of s w.anchor
+
+    abbrev first : ℕ → ℕ
+    first = first_of first_table
+
+    origin_same : (p : ℕ) → octets_at strings_of (origin_of s p) ≡ octets_at certs_of p
+    origin_same p = filed_same s sorted p
+
+    origin_cas : (above : List ℕ) → cas_at strings_of (map (origin_of s) above) ≡ cas_at certs_of above
+    origin_cas above = same_cas certs_of strings_of (origin_of s) above (all_of (λ q. octets_at strings_of (origin_of s q) ≡ octets_at certs_of q) origin_same above)
 
     abbrev looked_at : List ℕ → ℕ → Type 0
-    looked_at = IsLookedAt names (λ l p. Unit {0}) w.holder.cert certs
+    looked_at = IsLookedAt names (IsFirstIn first_table) k.holder.cert certs_of
 
     -- a path of which each certificate was looked at chains, if names are asked
     walked_names : (above : List ℕ) (p : ℕ) (kind : Kind) (way : Path)
-        → IsPathOf top_octets (cas_at certs above ++ candidate kind (octets_at certs p) ∷ []) way
+        → IsPathOf top_octets (cas_at certs_of above ++ candidate kind (octets_at certs_of p) ∷ []) way
         → AreAdmitted looked_at [] (above ++ p ∷ []) → IsTrue names
-        → BeginChained top_octets (cas_at certs above ++ candidate kind (octets_at certs p) ∷ [])
+        → BeginChained top_octets (cas_at certs_of above ++ candidate kind (octets_at certs_of p) ∷ [])
     walked_names above p kind way way_of by asks =
-        let is = anchor_is x asked t top_octets w.holder w.holds law way.anchor way_of.anchor_begins in
-        let here : AreAdmitted (IsLookedAt true (λ l p. Unit {0}) way.anchor certs) [] (above ++ p ∷ []) =
-        subst (λ (b : Bool). AreAdmitted (IsLookedAt b (λ l p. Unit {0}) way.anchor certs) [] (above ++ p ∷ [])) asks
-        (subst (λ (c : CertFields). AreAdmitted (IsLookedAt names (λ l p. Unit {0}) c certs) [] (above ++ p ∷ [])) is by) in
+        let is = anchor_is x asked t top_octets k.holder k.holds law way.anchor way_of.anchor_begins in
+        let here : AreAdmitted (IsLookedAt true (IsFirstIn first_table) way.anchor certs_of) [] (above ++ p ∷ []) =
+        subst (λ (b : Bool). AreAdmitted (IsLookedAt b (IsFirstIn first_table) way.anchor certs_of) [] (above ++ p ∷ [])) asks
+        (subst (λ (c : CertFields). AreAdmitted (IsLookedAt names (IsFirstIn first_table) c certs_of) [] (above ++ p ∷ [])) is by) in
         record {
           path = way;
           path_of = way_of;
-          chain = walked_chain (λ l p. Unit {0}) top_octets certs above p kind way way_of
-              (subst (λ (c : CertFields). IsSelfNamed c) is (w.named asks)) here;
+          chain = walked_chain (IsFirstIn first_table) top_octets certs_of above p kind way way_of
+              (subst (λ (c : CertFields). IsSelfNamed c) is (k.named asks)) here;
         }
 
-    -- a certificate that was told as accepted is judged so
-    module _ (above : List ℕ) (p i : ℕ) (at : origin_of s p ≡ i) where
-      octets_here : octets_at certs p ≡ octets_at strings i
-      octets_here = sym (ap (λ (n : ℕ). octets_at strings n) (sym at) ∙ origin_same p)
-
-      judged_there : (j : Judged) → IsRightOf x asked root (cas_at certs above) (octets_at certs p) (Ok j)
+    -- a certificate that was told as accepted is judged so, also where a copy of it stands
+    module _ (above : List ℕ) (p i : ℕ) (alike : AreAlike (octets_at certs_of p) (octets_at strings_of i)) where
+      judged_there : (j : Judged) → IsRightOf x asked root (cas_at certs_of above) (octets_at certs_of p) (Ok j)
           → AreAdmitted looked_at [] (above ++ p ∷ [])
-          → IsJudgedAt x asked names root strings (map (origin_of s) above) i j
+          → IsJudgedAt x asked names root strings_of (map (origin_of s) above) i j
       judged_there j right by =
           let kind = right.0 in
-          let way = path_to (cas_at certs above) kind (octets_at certs p) j right.1 right.2 in
+          let way = path_to (cas_at certs_of above) kind (octets_at certs_of p) j right.1 right.2 in
           let cas = sym (origin_cas above) in
           record {
             kind = kind;
-            says = subst (λ (o : List ℕ). BeginsWithKind kind o) octets_here right.1;
-            accepted_is = subst (λ (l : List Candidate). IsAcceptedAs x asked root l kind (octets_at strings i) j) cas
-                (subst (λ (o : List ℕ). IsAcceptedAs x asked root (cas_at certs above) kind o j) octets_here right.2);
+            says = kind_alike (octets_at certs_of p) (octets_at strings_of i) alike kind right.1;
+            accepted_is = subst (λ (l : List Candidate). IsAcceptedAs x asked root l kind (octets_at strings_of i) j) cas
+                (accepted_alike (octets_at certs_of p) (octets_at strings_of i) alike x asked root (cas_at certs_of above) kind j right.2);
             chained = λ asks.
-                subst (λ (l : List Candidate). BeginChained top_octets (l ++ candidate kind (octets_at strings i) ∷ [])) cas
-                (subst (λ (o : List ℕ). BeginChained top_octets (cas_at certs above ++ candidate kind o ∷ [])) octets_here
-                (walked_names above p kind way.0 way.1 by asks));
+                subst (λ (l : List Candidate). BeginChained top_octets (l ++ candidate kind (octets_at strings_of i) ∷ [])) cas
+                (chained_alike (octets_at certs_of p) (octets_at strings_of i) alike top_octets (cas_at certs_of above) kind (walked_names above p kind way.0 way.1 by asks));
           }
 
-      told_judged : (j : Judged) → Any (λ t. (t.above ≡ above) × (t.place ≡ p) × (t.verdict ≡ Ok j)) w.tells
-          → IsJudgedAt x asked names root strings (map (origin_of s) above) i j
+      told_judged : (j : Judged) → Any (λ t. (t.above ≡ above) × (t.place ≡ p) × (t.verdict ≡ Ok j)) k.tells
+          → IsJudgedAt x asked names root strings_of (map (origin_of s) above) i j
       told_judged j h =
-          let u = of_told (λ (t : Told). IsRight x asked root certs t × IsLetIn looked_at [] t)
-          (λ t. (t.above ≡ above) × (t.place ≡ p) × (t.verdict ≡ Ok j)) w.tells
-          (all_both (IsRight x asked root certs) (IsLetIn looked_at []) w.tells w.right w.let_in) h in
-          let right : IsRightOf x asked root (cas_at certs above) (octets_at certs p) (Ok j) =
-          subst (λ (v : Result Judged PathFault). IsRightOf x asked root (cas_at certs above) (octets_at certs p) v) u.2.2
-          (subst (λ (q : ℕ). IsRightOf x asked root (cas_at certs above) (octets_at certs q) u.0.verdict) u.2.1
-          (subst (λ (l : List ℕ). IsRightOf x asked root (cas_at certs l) (octets_at certs u.0.place) u.0.verdict) u.2.0 u.1.0)) in
+          let u = of_told (λ (t : Told). IsRight x asked root certs_of t × IsLetIn looked_at [] t)
+          (λ t. (t.above ≡ above) × (t.place ≡ p) × (t.verdict ≡ Ok j)) k.tells
+          (all_both (IsRight x asked root certs_of) (IsLetIn looked_at []) k.tells k.right k.let_in) h in
+          let right : IsRightOf x asked root (cas_at certs_of above) (octets_at certs_of p) (Ok j) =
+          subst (λ (v : Result Judged PathFault). IsRightOf x asked root (cas_at certs_of above) (octets_at certs_of p) v) u.2.2
+          (subst (λ (q : ℕ). IsRightOf x asked root (cas_at certs_of above) (octets_at certs_of q) u.0.verdict) u.2.1
+          (subst (λ (l : List ℕ). IsRightOf x asked root (cas_at certs_of l) (octets_at certs_of u.0.place) u.0.verdict) u.2.0 u.1.0)) in
           let by : AreAdmitted looked_at [] (above ++ p ∷ []) =
           subst (λ (q : ℕ). AreAdmitted looked_at [] (above ++ q ∷ [])) u.2.1
           (subst (λ (l : List ℕ). AreAdmitted looked_at [] (l ++ u.0.place ∷ [])) (sym u.1.1.1 ∙ u.2.0) u.1.1.2) in
           judged_there j right by
 
     -- a certificate that was told as rejected is rejected
-    told_rejected : (p i n : ℕ) (fault : PathFault) → origin_of s p ≡ i → Any (λ t. (t.place ≡ p) × (step t ≡ n) × (t.verdict ≡ Err fault)) w.tells
-        → (above : List ℕ) × (n ≡ length above + 1) × IsRightOf x asked root (members_at root strings above) (octets_at strings i) (Err fault)
-    told_rejected p i n fault at h =
-        let u = of_told (IsRight x asked root certs) (λ t. (t.place ≡ p) × (step t ≡ n) × (t.verdict ≡ Err fault)) w.tells w.right h in
+    told_rejected : (p i n : ℕ) (fault : PathFault) → AreAlike (octets_at certs_of p) (octets_at strings_of i) → Any (λ t. (t.place ≡ p) × (step t ≡ n) × (t.verdict ≡ Err fault)) k.tells
+        → (above : List ℕ) × (n ≡ length above + 1) × IsRightOf x asked root (members_at root strings_of above) (octets_at strings_of i) (Err fault)
+    told_rejected p i n fault alike h =
+        let u = of_told (IsRight x asked root certs_of) (λ t. (t.place ≡ p) × (step t ≡ n) × (t.verdict ≡ Err fault)) k.tells k.right h in
         let above = u.0.above in
-        let octets : octets_at certs p ≡ octets_at strings i = sym (ap (λ (n : ℕ). octets_at strings n) (sym at) ∙ origin_same p) in
-        let right : IsRightOf x asked root (cas_at certs above) (octets_at certs p) (Err fault) =
-        subst (λ (v : Result Judged PathFault). IsRightOf x asked root (cas_at certs above) (octets_at certs p) v) u.2.2
-        (subst (λ (q : ℕ). IsRightOf x asked root (cas_at certs above) (octets_at certs q) u.0.verdict) u.2.0 u.1) in (
+        let right : IsRightOf x asked root (cas_at certs_of above) (octets_at certs_of p) (Err fault) =
+        subst (λ (v : Result Judged PathFault). IsRightOf x asked root (cas_at certs_of above) (octets_at certs_of p) v) u.2.2
+        (subst (λ (q : ℕ). IsRightOf x asked root (cas_at certs_of above) (octets_at certs_of q) u.0.verdict) u.2.0 u.1) in (
           map (origin_of s) above,
-          sym u.2.1 ∙ ap (λ (k : ℕ). k + 1) (sym (length-map above (origin_of s))),
-          subst (λ (l : List Candidate). IsRightOf x asked root l (octets_at strings i) (Err fault)) (sym (origin_cas above))
-              (subst (λ (o : List ℕ). IsRightOf x asked root (cas_at certs above) o (Err fault)) octets right),
+          sym u.2.1 ∙ ap (λ (m : ℕ). m + 1) (sym (length-map above (origin_of s))),
+          subst (λ (l : List Candidate). IsRightOf x asked root l (octets_at strings_of i) (Err fault)) (sym (origin_cas above))
+              (rejected_alike (octets_at certs_of p) (octets_at strings_of i) alike x asked root (cas_at certs_of above) fault right),
         )
 
     -- a bound that is said to have been met was
-    stands_below : ended ≡ TooDeep → StandsBelow x asked root strings depth
+    stands_below : ended ≡ TooDeep → StandsBelow x asked root strings_of depth
     stands_below is =
-        let f = w.too_deep is in
+        let f = k.too_deep is in
         let h = f.2 in
         let child = h.child in (
           map (origin_of s) f.0,
@@ -263,128 +381,214 @@ module _ (x : Context) (asked : RevocationChecks) (t : NamedTal) (top_octets : L
           },
         )
 
+    -- ---- fates
+
+    abbrev by_first : ℕ → Fate
+    by_first p = if p == first w.anchor then anchor else kept_fate (origin_of s) (get_or w.kept.now p Unseen)
+
+    fate_of : (i : ℕ) (c : CertFields) (at : IsAddedAt s sorted i c) → fate_at w i ≡ by_first (first at.place)
+    fate_of i c at = ap (λ (a : Added). added_fate w a) at.added_is
+
+    at_top : (p : ℕ) → p ≡ first w.anchor → by_first p ≡ anchor
+    at_top p is = ap (λ (b : Bool). if b then anchor else kept_fate (origin_of s) (get_or w.kept.now p Unseen)) (eq-eqb p (first w.anchor) is)
+
+    beside_top : (p : ℕ) → (p ≡ first w.anchor → ⊥) → by_first p ≡ kept_fate (origin_of s) (get_or w.kept.now p Unseen)
+    beside_top p apart = ap (λ (b : Bool). if b then anchor else kept_fate (origin_of s) (get_or w.kept.now p Unseen)) (ne_eqb p (first w.anchor) apart)
+
+    -- the trust anchor's certificate
+    anchor_stands : StandsAt certs_of w.anchor k.holder.cert
+    anchor_stands = subst (λ (o : List ℕ). Means IsCertificate k.holder.cert o) there (begins_anchor x asked t top_octets k.holder k.holds)
+
+    top_stands : StandsAt strings_of top k.holder.cert
+    top_stands = subst (λ (o : List ℕ). Means IsCertificate k.holder.cert o) (sym (origin_same w.anchor)) anchor_stands
+
+    -- copies have one fate
+    copies_same : (i j : ℕ) → AreOneAt strings_of i j → fate_at w i ≡ fate_at w j
+    copies_same i j one =
+        let here = added_at s sorted i one.0 one.1 in
+        let other = added_at s sorted j one.0 one.2 in
+        fate_of i one.0 here ∙ ap by_first (first_same law certs_of first_table are here.place other.place one.0 here.stands other.stands) ∙ sym (fate_of j one.0 other)
+
+    top_fate : fate_at w top ≡ anchor
+    top_fate =
+        let at = added_at s sorted top k.holder.cert top_stands in
+        fate_of top k.holder.cert at ∙ at_top (first at.place) (first_same law certs_of first_table are at.place w.anchor k.holder.cert at.stands anchor_stands)
+
+    -- a certificate whose first place is the trust anchor's is that
+    one_with_top : (i p : ℕ) (c : CertFields) → StandsAt strings_of i c → StandsAt certs_of p c → first p ≡ first w.anchor → AreOneAt strings_of i top
+    one_with_top i p c stands filed is =
+        let here : StandsAt certs_of (first w.anchor) c = subst (λ (n : ℕ). StandsAt certs_of n c) is (stands_first law certs_of first_table are p c filed) in
+        let same : c ≡ k.holder.cert = one_meant IsCertificate law c k.holder.cert (octets_at certs_of (first w.anchor)) here (stands_first law certs_of first_table are w.anchor k.holder.cert anchor_stands) in
+        (c, stands, subst (λ (d : CertFields). StandsAt strings_of top d) (sym same) top_stands)
+
     -- what is kept of a certificate is right
-    kept_right : (p i : ℕ) → origin_of s p ≡ i → BeginsCertificate (octets_at strings i) → (l : Line) → IsLine w.tells p l → IsFate x asked names root strings top i (kept_fate (origin_of s) l)
-    kept_right p i at begins Unseen h = begins
-    kept_right p i at begins (Accepted found) h = told_judged found.above.items p i at found.judged h
-    kept_right p i at begins (Rejected n fault) h = told_rejected p i n fault at h.0
+    kept_right : (p i : ℕ) → AreAlike (octets_at certs_of p) (octets_at strings_of i) → BeginsCertificate (octets_at strings_of i) → (l : Line) → IsLine k.tells p l → IsFate x asked names root strings_of top i (kept_fate (origin_of s) l)
+    kept_right p i alike begins Unseen h = begins
+    kept_right p i alike begins (Accepted paths) h = told_judged paths.first.above.items p i alike paths.first.judged (first_told k.tells p paths h)
+    kept_right p i alike begins (Rejected n fault) h = told_rejected p i n fault alike h.0
 
-    added_right : (i : ℕ) → i < length strings → (a : Added) → get_or s.added.items i Neither ≡ a → IsAddedAs (octets_at strings i) a → IsFate x asked names root strings top i (added_fate (origin_of s) kept a)
-    added_right i low (Certificate p) is says =
-        let at = sorted.placed i p Neither low is in
-        kept_right p i (at.1 (length s.added.items)) says (get_or kept p Unseen) (w.lines_are p Unseen (subst (λ (n : ℕ). p < n) (sym count) at.0))
-    added_right i low list_added is says = says
-    added_right i low Neither is says = says
+    cert_right : (i : ℕ) (c : CertFields) → StandsAt strings_of i c → IsFate x asked names root strings_of top i (fate_at w i)
+    cert_right i c stands =
+        let at = added_at s sorted i c stands in
+        let filed = stands_first law certs_of first_table are at.place c at.stands in
+        let low : first at.place < length w.kept.now = subst (λ (n : ℕ). first at.place < n) (sym count) (inside_at certs_of c (first at.place) filed) in
+        subst (λ (f : Fate). IsFate x asked names root strings_of top i f) (sym (fate_of i c at))
+        (elim (cases_eq (first at.place) (first w.anchor)) [
+          | inl is ↦ subst (λ (f : Fate). IsFate x asked names root strings_of top i f) (sym (at_top (first at.place) is)) (one_with_top i at.place c stands at.stands is)
+          | inr apart ↦ subst (λ (f : Fate). IsFate x asked names root strings_of top i f) (sym (beside_top (first at.place) apart))
+              (kept_right (first at.place) i (are_alike law c (octets_at certs_of (first at.place)) (octets_at strings_of i) filed stands) (c, stands) (get_or w.kept.now (first at.place) Unseen) (k.lines_are (first at.place) Unseen low))
+        ])
 
-    -- ---- from the strings to the folder
+    added_right : (i : ℕ) (a : Added) → get_or s.added.items i Neither ≡ a → IsAddedAs (octets_at strings_of i) a → IsFate x asked names root strings_of top i (fate_at w i)
+    added_right i (Certificate p) is says = cert_right i says.0 says.1
+    added_right i list_added is says = subst (λ (b : Added). IsFate x asked names root strings_of top i (added_fate w b)) (sym is) says
+    added_right i Neither is says = subst (λ (b : Added). IsFate x asked names root strings_of top i (added_fate w b)) (sym is) says
+
+    -- ---- from the strings_of to the folder
 
     -- the place in the folder of a string that was added so; behind all where it is no certificate
     abbrev place_in : Added → ℕ
     place_in (Certificate p) = p
-    place_in list_added = length certs
-    place_in Neither = length certs
+    place_in list_added = length certs_of
+    place_in Neither = length certs_of
 
     abbrev moved : ℕ → ℕ
     moved i = place_in (get_or s.added.items i Neither)
 
-    moved_added : (q : ℕ) (a : Added) → q < length strings → get_or s.added.items q Neither ≡ a → IsAddedAs (octets_at strings q) a → BeginsCertificate (octets_at strings q) → octets_at certs (place_in a) ≡ octets_at strings q
+    moved_added : (q : ℕ) (a : Added) → q < length strings_of → get_or s.added.items q Neither ≡ a → IsAddedAs (octets_at strings_of q) a → BeginsCertificate (octets_at strings_of q) → octets_at certs_of (place_in a) ≡ octets_at strings_of q
     moved_added q (Certificate p) low is says begins =
         let at = sorted.placed q p Neither low is in
-        sym (origin_same p) ∙ ap (λ (n : ℕ). octets_at strings n) (at.1 (length s.added.items))
+        sym (origin_same p) ∙ ap (λ (n : ℕ). octets_at strings_of n) (at.1 (length s.added.items))
     moved_added q list_added low is says begins = absurd (says.1.no_certificate begins.0 begins.1)
     moved_added q Neither low is says begins = absurd (says.0 begins.0 begins.1)
 
-    moved_same : (q : ℕ) → BeginsCertificate (octets_at strings q) → octets_at certs (moved q) ≡ octets_at strings q
-    moved_same q begins = elim (cases_lt q (length strings)) [
+    moved_same : (q : ℕ) → BeginsCertificate (octets_at strings_of q) → octets_at certs_of (moved q) ≡ octets_at strings_of q
+    moved_same q begins = elim (cases_lt q (length strings_of)) [
       | inl low ↦ moved_added q (get_or s.added.items q Neither) low refl (sorted.begins q Neither low) begins
       | inr high ↦
           let n = sorted.count in
           let past : get_or s.added.items q Neither ≡ Neither = get_or_past s.added.items q Neither (omega (arith, n, high)) in
-          ap (λ (a : Added). octets_at certs (place_in a)) past ∙ get_or_past certs (length certs) [] (omega arith) ∙ sym (get_or_past strings q [] high)
+          ap (λ (a : Added). octets_at certs_of (place_in a)) past ∙ get_or_past certs_of (length certs_of) [] (omega arith) ∙ sym (get_or_past strings_of q [] high)
     ]
 
-    moved_cas : (above : List ℕ) → AllByRecursion (λ q. BeginsCertificate (octets_at strings q)) above → cas_at certs (map moved above) ≡ cas_at strings above
+    moved_cas : (above : List ℕ) → AllByRecursion (λ q. BeginsCertificate (octets_at strings_of q)) above → cas_at certs_of (map moved above) ≡ cas_at strings_of above
     moved_cas above begins =
-        same_cas strings certs moved above (all_weaker (λ (q : ℕ). BeginsCertificate (octets_at strings q)) (λ (q : ℕ). octets_at certs (moved q) ≡ octets_at strings q) moved_same above begins)
+        same_cas strings_of certs_of moved above (all_weaker (λ (q : ℕ). BeginsCertificate (octets_at strings_of q)) (λ (q : ℕ). octets_at certs_of (moved q) ≡ octets_at strings_of q) moved_same above begins)
 
-    -- what stands in the folder stood among the strings
-    stood_added : (q : ℕ) (a : Added) → get_or s.added.items q Neither ≡ a → (c : CertFields) → Means IsCertificate c (octets_at certs (place_in a)) → StandsAt strings q c
-    stood_added q (Certificate p) is c stands = elim (cases_lt q (length strings)) [
+    -- what stands in the folder stood among the strings_of
+    stood_added : (q : ℕ) (a : Added) → get_or s.added.items q Neither ≡ a → (c : CertFields) → Means IsCertificate c (octets_at certs_of (place_in a)) → StandsAt strings_of q c
+    stood_added q (Certificate p) is c stands = elim (cases_lt q (length strings_of)) [
       | inl low ↦
           let at = sorted.placed q p Neither low is in
-          subst (λ (o : List ℕ). Means IsCertificate c o) (sym (origin_same p) ∙ ap (λ (n : ℕ). octets_at strings n) (at.1 (length s.added.items))) stands
+          subst (λ (o : List ℕ). Means IsCertificate c o) (sym (origin_same p) ∙ ap (λ (n : ℕ). octets_at strings_of n) (at.1 (length s.added.items))) stands
       | inr high ↦
           let n = sorted.count in
           let past : get_or s.added.items q Neither ≡ Neither = get_or_past s.added.items q Neither (omega (arith, n, high)) in
           absurd (cc (is, past))
     ]
-    stood_added q list_added is c stands = absurd (no_certificate c (octets_at certs (length certs)) stands (get_or_past certs (length certs) [] (omega arith)))
-    stood_added q Neither is c stands = absurd (no_certificate c (octets_at certs (length certs)) stands (get_or_past certs (length certs) [] (omega arith)))
+    stood_added q list_added is c stands = absurd (no_certificate c (octets_at certs_of (length certs_of)) stands (get_or_past certs_of (length certs_of) [] (omega arith)))
+    stood_added q Neither is c stands = absurd (no_certificate c (octets_at certs_of (length certs_of)) stands (get_or_past certs_of (length certs_of) [] (omega arith)))
 
-    stood : (q : ℕ) (c : CertFields) → StandsAt certs (moved q) c → StandsAt strings q c
+    stood : (q : ℕ) (c : CertFields) → StandsAt certs_of (moved q) c → StandsAt strings_of q c
     stood q c stands = stood_added q (get_or s.added.items q Neither) refl c stands
 
     abbrev looked : CertFields → List (List ℕ) → List ℕ → List ℕ → Type 0
     looked c all above places = AreAdmitted (IsLookedAt names (λ l p. Unit {0}) c all) above places
 
-    looked_in : (c : CertFields) (above : List ℕ) (i : ℕ) → Means IsCertificate c top_octets → looked c strings [] (above ++ i ∷ []) → looked w.holder.cert certs [] (map moved above ++ moved i ∷ [])
+    looked_in : (c : CertFields) (above : List ℕ) (i : ℕ) → Means IsCertificate c top_octets → looked c strings_of [] (above ++ i ∷ []) → looked k.holder.cert certs_of [] (map moved above ++ moved i ∷ [])
     looked_in c above i begins h =
-        let is = anchor_is x asked t top_octets w.holder w.holds law c begins in
-        subst (λ (d : CertFields). looked d certs [] (map moved above ++ moved i ∷ [])) (sym is)
-        (subst (λ (l : List ℕ). looked c certs [] l) (map-append moved above (i ∷ [])) (all_looked_there moved strings certs stood names c [] (above ++ i ∷ []) h))
+        let is = anchor_is x asked t top_octets k.holder k.holds law c begins in
+        subst (λ (d : CertFields). looked d certs_of [] (map moved above ++ moved i ∷ [])) (sym is)
+        (subst (λ (l : List ℕ). looked c certs_of [] l) (map-append moved above (i ∷ [])) (all_looked_there moved strings_of certs_of stood names c [] (above ++ i ∷ []) h))
 
-    valid_added : (i : ℕ) (a : Added) → i < length strings → get_or s.added.items i Neither ≡ a → IsAddedAs (octets_at strings i) a → BeginsCertificate (octets_at strings i) → (above : List ℕ) → IsTold w.tells above (place_in a) → IsValidFate (added_fate (origin_of s) kept a)
-    valid_added i (Certificate p) low is says begins above told =
-        let at = sorted.placed i p Neither low is in
-        line_accepts (origin_of s) w.tells above p (get_or kept p Unseen) (w.lines_are p Unseen (subst (λ (n : ℕ). p < n) (sym count) at.0)) told
-    valid_added i list_added low is says begins above told = absurd (says.1.no_certificate begins.0 begins.1)
-    valid_added i Neither low is says begins above told = absurd (says.0 begins.0 begins.1)
+    -- a certificate to which a path leads that was looked at is accepted
+    valid_first : (p : ℕ) (above : List ℕ) → p < length w.kept.now → IsTold k.tells above p → IsValidFate (by_first p)
+    valid_first p above low told = elim (cases_eq p (first w.anchor)) [
+      | inl is ↦ subst (λ (f : Fate). IsValidFate f) (sym (at_top p is)) tt
+      | inr apart ↦ subst (λ (f : Fate). IsValidFate f) (sym (beside_top p apart)) (line_accepts (origin_of s) k.tells above p (get_or w.kept.now p Unseen) (k.lines_are p Unseen low) told)
+    ]
 
-    reached_valid : (c : CertFields) (above : List ℕ) (i : ℕ) → i < length strings → Means IsCertificate c top_octets → Covers ended depth (length above + 1) → looked c strings [] (above ++ i ∷ []) → IsReached x asked root strings above i → IsValidFate (added_fate (origin_of s) kept (get_or s.added.items i Neither))
-    reached_valid c above i low starts covers by h =
-        let begins = accepted_begins strings above h.0 (octets_at strings i) h.1 h.2 h.3 in
-        let itself : BeginsCertificate (octets_at strings i) = (h.2.0, h.2.1) in
-        let there = reached_there strings certs above (map moved above) i (moved i) (moved_cas above begins) (moved_same i itself) h in
-        let told = w.complete (map moved above) (moved i) (subst (λ (n : ℕ). Covers ended depth (n + 1)) (sym (length-map above moved)) covers) (looked_in c above i starts by) there in
-        valid_added i (get_or s.added.items i Neither) low refl (sorted.begins i Neither low) itself (map moved above) told
+    reached_valid : (c : CertFields) (above : List ℕ) (i : ℕ) → Means IsCertificate c top_octets → Covers ended depth (length above + 1) → looked c strings_of [] (above ++ i ∷ []) → IsReached x asked root strings_of above i → IsValidFate (fate_at w i)
+    reached_valid c above i starts covers by h =
+        let begins = accepted_begins strings_of above h.0 (octets_at strings_of i) h.1 h.2 h.3 in
+        let itself : BeginsCertificate (octets_at strings_of i) = (h.2.0, h.2.1) in
+        let reached = reached_there strings_of certs_of above (map moved above) i (moved i) (moved_cas above begins) (moved_same i itself) h in
+        let all_firsts = map first (map moved above) in
+        let covered : Covers ended depth (length all_firsts + 1) = subst (λ (n : ℕ). Covers ended depth (n + 1)) (sym (length-map (map moved above) first ∙ length-map above moved)) covers in
+        let told = k.complete all_firsts (first (moved i)) covered
+        (looked_firsts law certs_of first_table are x asked t top_octets (map moved above) (moved i) reached names k.holder.cert (looked_in c above i starts by))
+        (reached_firsts law certs_of first_table are x asked t top_octets (map moved above) (moved i) reached) in
+        let at = added_at s sorted i h.2.0 h.2.1 in
+        let place : moved i ≡ at.place = ap place_in at.added_is in
+        let filed = stands_first law certs_of first_table are at.place h.2.0 at.stands in
+        let low : first at.place < length w.kept.now = subst (λ (n : ℕ). first at.place < n) (sym count) (inside_at certs_of h.2.0 (first at.place) filed) in
+        subst (λ (f : Fate). IsValidFate f) (sym (fate_of i h.2.0 at))
+        (valid_first (first at.place) all_firsts low (subst (λ (n : ℕ). IsTold k.tells all_firsts (first n)) place told))
 
     -- ---- all of them
 
-    at_top : (i : ℕ) → i ≡ top → fate_at s kept top i ≡ anchor
-    at_top i is = ap (λ (b : Bool). if b then anchor else added_fate (origin_of s) kept (get_or s.added.items i Neither)) (eq-eqb i top is)
-
-    beside_top : (i : ℕ) → (i ≡ top → ⊥) → fate_at s kept top i ≡ added_fate (origin_of s) kept (get_or s.added.items i Neither)
-    beside_top i apart = ap (λ (b : Bool). if b then anchor else added_fate (origin_of s) kept (get_or s.added.items i Neither)) (ne_eqb i top apart)
-
-    pub fates_found : AreFates x asked names root strings top depth ended (fate_at s kept top)
+    pub fates_found : AreFates x asked names root strings_of top depth ended (fate_at w)
     fates_found = record {
-      anchor_is = at_top top refl;
-      right = λ i low. elim (cases_eq i top) [
-        | inl is ↦ subst (λ (f : Fate). IsFate x asked names root strings top i f) (sym (at_top i is)) is
-        | inr apart ↦ subst (λ (f : Fate). IsFate x asked names root strings top i f) (sym (beside_top i apart)) (added_right i low (get_or s.added.items i Neither) refl (sorted.begins i Neither low))
-      ];
-      complete = λ c above i low starts covers by h. elim (cases_eq i top) [
-        | inl is ↦ subst (λ (f : Fate). IsValidFate f) (sym (at_top i is)) tt
-        | inr apart ↦ subst (λ (f : Fate). IsValidFate f) (sym (beside_top i apart)) (reached_valid c above i low starts covers by h)
-      ];
+      anchor_is = top_fate;
+      right = λ i low. added_right i (get_or s.added.items i Neither) refl (sorted.begins i Neither low);
+      copies = copies_same;
+      complete = λ c above i low starts covers by h. reached_valid c above i starts covers by h;
       too_deep = stands_below;
     }
 
+-- what a walk below the trust anchor that was found told is kept
+pub walked_found : {E : Type 0} (x : Context) (asked : RevocationChecks) (names : Bool) (t : NamedTal) (certs : List (List ℕ)) (firsts : Firsts) (place : ℕ) (issuer : ResourceFields) → IsUnambiguous IsCertificate → IsFound x asked names t certs (Valid place issuer)
+    → (depth steps : ℕ) (kept : List Line) (ended : Ended) (ts : List Told) → AreLines ts kept → TellsBelow {E = E} x asked (IsLookedAt names (IsFirstIn firsts) issuer.cert certs) issuer certs [] depth steps (Ok ended) ts
+    → IsWalked x asked names (at_anchor t (octets_at certs place)) certs firsts depth steps kept ended
+walked_found x asked names t certs firsts place issuer law found depth steps kept ended ts lines below =
+    let octets = octets_at certs place in
+    let tells = below (at_anchor t octets) found.0 in
+    let valid = found.1.valid.is_valid in
+    let same : valid.0.cert ≡ issuer.cert = anchor_is x asked t octets valid.0 valid.1 law issuer.cert (begins_anchor x asked t octets issuer found.0) in
+    record {
+      holder = issuer;
+      holds = found.0;
+      named = λ asks. subst (λ (c : CertFields). IsSelfNamed c) same (valid.2 asks);
+      tells = ts;
+      lines_are = lines;
+      right = tells.right;
+      let_in = tells.let_in;
+      short = tells.short;
+      too_deep = tells.too_deep;
+      complete = tells.complete;
+    }
+
 -- what becomes of sorted strings, where the lists among them are asked
-pub judged_found : (x : Context) (names : Bool) (t : NamedTal) (s : Sorted) (sorted : IsSorted s) (top depth steps : ℕ) (kept : List Line) (count : length kept ≡ length s.folder.certs) (ended : Ended) → IsUnambiguous IsCertificate
-    → IsFirstWithKey t.tal s.strings.now top → IsWalked x (by_named_lists names x s.folder.lists) names (at_anchor t (octets_at s.strings.now top)) s.folder.certs depth (asked_or steps usual_steps) kept ended
-    → AreJudged x names t s.strings.now top depth steps ended (fate_at s kept top)
-judged_found x names t s sorted top depth steps kept count ended law first w = record {
-  top_is = first;
-  lists = s.folder.lists;
-  lists_are = sorted.lists_are;
-  holder = w.holder;
-  holds = w.holds;
-  certs = s.folder.certs;
-  certs_are = sorted.certs_are;
-  fates = fates_found x (by_named_lists names x s.folder.lists) t (octets_at s.strings.now top) names s sorted top depth (asked_or steps usual_steps) kept count ended w law;
-  short = w.short;
-}
+module _ (x : Context) (names : Bool) (t : NamedTal) (w : WalkLines) (sorted : IsSorted w.sorted.now) (depth steps : ℕ) (count : length w.kept.now ≡ length w.sorted.now.folder.certs) (ended : Ended) (law : IsUnambiguous IsCertificate) (are : AreFirstsIn w.sorted.now.folder.certs w.firsts.now) where
+  abbrev by_lists : RevocationChecks
+  by_lists = by_named_lists names x w.sorted.now.folder.lists
+
+  abbrev folder_certs : List (List ℕ)
+  folder_certs = w.sorted.now.folder.certs
+
+  judged_found : IsAnchorAt x by_lists names t folder_certs w.anchor → IsWalked x by_lists names (at_anchor t (octets_at folder_certs w.anchor)) folder_certs w.firsts.now depth (asked_or steps usual_steps) w.kept.now ended
+      → AreJudged x names t w.sorted.now.strings.now (origin_of w.sorted.now w.anchor) depth steps ended (fate_at w)
+  unfolding anchor_among
+  judged_found anchor_is_at k =
+      let s = w.sorted.now in
+      let top = origin_of s w.anchor in
+      let octets = octets_at folder_certs w.anchor in
+      let same : octets ≡ octets_at s.strings.now top = sym (filed_same s sorted w.anchor) in
+      let is = anchor_is x by_lists t octets k.holder k.holds law anchor_is_at.cert anchor_is_at.valid.stands in
+      record {
+        lists = s.folder.lists;
+        lists_are = sorted.lists_are;
+        anchor_is = anchor_among s sorted x by_lists names t w.anchor anchor_is_at;
+        fates = subst (λ (o : List ℕ). AreFates x by_lists names (at_anchor t o) s.strings.now top depth ended (fate_at w)) same
+            (fates_found x by_lists t octets names w sorted depth (asked_or steps usual_steps) count ended k law are refl);
+        certs = s.folder.certs;
+        certs_are = sorted.certs_are;
+        firsts = w.firsts.now;
+        firsts_are = are;
+        short = λ out.
+            subst (λ (o : List ℕ). IsShort x by_lists (IsLookedAt names (IsFirstIn w.firsts.now) anchor_is_at.cert folder_certs) (at_anchor t o) folder_certs [] (asked_or steps usual_steps)) same
+            (subst (λ (c : CertFields). IsShort x by_lists (IsLookedAt names (IsFirstIn w.firsts.now) c folder_certs) (at_anchor t octets) folder_certs [] (asked_or steps usual_steps)) is (k.short out));
+      }
 
 -- ---- a wrong trust anchor
 
@@ -402,51 +606,47 @@ alone x asked octets e h = elim h [
 ]
 
 -- why a walk didn't begin
-module _ (x : Context) (t : NamedTal) (all : List (List ℕ)) (top : ℕ) (f : FolderTerms) (lists : List CrlState) where
-  abbrev pub given : RevocationChecks
-  given = by_named_lists f.asks_names x lists
-
-  refused_right : AreListsAmong all lists → IsUnambiguous IsCertificate → IsFirstWithKey t.tal all top
-      → (e : WalkError) → IsWhyNone x given f.asks_names t (octets_at all top) e
+module _ (x : Context) (t : NamedTal) (all : List (List ℕ)) (top : ℕ) (f : FolderTerms) (n : HasNoAnchor x f.asks_names t all top) where
+  refused_right : IsUnambiguous IsCertificate → (e : WalkError) → IsWhyNone x (by_named_lists f.asks_names x n.lists) f.asks_names t (octets_at all top) e
       → AnswersBelow x f t all (Err (refusal_of top e))
-  refused_right among law first Memory h = tt
-  refused_right among law first OtherName h = (first, (lists, among, h))
-  refused_right among law first (at_fault OtherKey) h =
-      absurd (not_both t.tal (octets_at all top) law first.has_key h.1)
-  refused_right among law first (at_fault NoResources) h = (first, h.1.1)
-  refused_right among law first (at_fault (path e)) h =
-      (first, h.0, alone x given (octets_at all top) e h.1.0)
+  refused_right law Memory h = tt
+  refused_right law OtherName h = (n, (n.lists, n.lists_are, h))
+  refused_right law (at_fault OtherKey) h =
+      absurd (not_both t.tal (octets_at all top) law n.first.has_key h.1)
+  refused_right law (at_fault NoResources) h = (n, h.1.1)
+  refused_right law (at_fault (path e)) h =
+      (n, h.0, alone x (by_named_lists f.asks_names x n.lists) (octets_at all top) e h.1.0)
 
 -- ---- answers
 
-module _ (x : Context) (t : NamedTal) (s : Sorted) (top : ℕ) (f : FolderTerms) (first : IsFirstWithKey t.tal s.strings.now top) (octets : List ℕ) (there : octets ≡ octets_at s.strings.now top) where
+module _ (x : Context) (t : NamedTal) (f : FolderTerms) (law : IsUnambiguous IsCertificate) where
+  abbrev asked_in : Sorted → RevocationChecks
+  asked_in s = by_named_lists f.asks_names x s.folder.lists
+
   -- the answer of a walk that ended
-  pub walk_answered : IsUnambiguous IsCertificate → (sorted : IsSorted s) (kept : List Line) (count : length kept ≡ length s.folder.certs) (ended : Ended) (within : ℕ) → within ≡ f.depth → (most : ℕ) → most ≡ asked_or f.steps usual_steps
-      → IsWalked x (by_named_lists f.asks_names x s.folder.lists) f.asks_names (at_anchor t octets) s.folder.certs within most kept ended
-      → (r : Result Walked Refusal) → IfOk r (λ it. AreLinesOf f.asks_key top s.strings.now (fate_at s kept top) (length s.strings.now) it.told) → IfOk r (λ it. it.ended ≡ ended) → IfOk r (λ it. it.anchor ≡ top)
-      → IfErr r (λ e. e ≡ refusal.Memory) → AnswersBelow x f t s.strings.now r
-  walk_answered law sorted kept count ended within same most as_many w (Ok it) lines ended_is anchor_is memory =
-      let fate = λ (i : ℕ). fate_at s kept top i in
-      let limit = asked_or f.steps usual_steps in
-      let walked : IsWalked x (by_named_lists f.asks_names x s.folder.lists) f.asks_names (at_anchor t (octets_at s.strings.now top)) s.folder.certs f.depth limit kept ended =
-      subst (λ (o : List ℕ). IsWalked x (by_named_lists f.asks_names x s.folder.lists) f.asks_names (at_anchor t o) s.folder.certs f.depth limit kept ended) there
-      (subst (λ (n : ℕ). IsWalked x (by_named_lists f.asks_names x s.folder.lists) f.asks_names (at_anchor t octets) s.folder.certs f.depth n kept ended) as_many
-      (subst (λ (n : ℕ). IsWalked x (by_named_lists f.asks_names x s.folder.lists) f.asks_names (at_anchor t octets) s.folder.certs n most kept ended) same w)) in
-      record {
-        fate = fate;
-        judged = subst (λ (n : ℕ). AreJudged x f.asks_names t s.strings.now n f.depth f.steps it.ended fate) (sym anchor_is)
-            (subst (λ (e : Ended). AreJudged x f.asks_names t s.strings.now top f.depth f.steps e fate) (sym ended_is) (judged_found x f.asks_names t s sorted top f.depth f.steps kept count ended law first walked));
-        lines_are = subst (λ (n : ℕ). AreLinesOf f.asks_key n s.strings.now fate (length s.strings.now) it.told) (sym anchor_is) lines;
-      }
-  walk_answered law sorted kept count ended within same most as_many w (Err e) lines ended_is anchor_is memory =
-      subst (λ (r : Refusal). AnswersBelow x f t s.strings.now (Err r)) (sym memory) tt
+  pub walk_answered : (w : WalkLines) (sorted : IsSorted w.sorted.now) (count : length w.kept.now ≡ length w.sorted.now.folder.certs) (it : Walked) → AreFirstsIn w.sorted.now.folder.certs w.firsts.now
+      → IsAnchorAt x (asked_in w.sorted.now) f.asks_names t w.sorted.now.folder.certs w.anchor
+      → IsWalked x (asked_in w.sorted.now) f.asks_names (at_anchor t (octets_at w.sorted.now.folder.certs w.anchor)) w.sorted.now.folder.certs w.firsts.now f.depth (asked_or f.steps usual_steps) w.kept.now it.ended
+      → AreLinesOf f.asks_key (origin_of w.sorted.now w.anchor) w.sorted.now.strings.now (fate_at w) (length w.sorted.now.strings.now) it.told → it.anchor ≡ origin_of w.sorted.now w.anchor
+      → AnswersBelow x f t w.sorted.now.strings.now (Ok it)
+  walk_answered w sorted count it are at k lines same = record {
+    fate = fate_at w;
+    judged = subst (λ (n : ℕ). AreJudged x f.asks_names t w.sorted.now.strings.now n f.depth f.steps it.ended (fate_at w)) (sym same)
+        (judged_found x f.asks_names t w sorted f.depth f.steps count it.ended law are at k);
+    lines_are = subst (λ (n : ℕ). AreLinesOf f.asks_key n w.sorted.now.strings.now (fate_at w) (length w.sorted.now.strings.now) it.told) (sym same) lines;
+  }
 
   -- the answer where there was none
-  pub fault_answered : IsUnambiguous IsCertificate → IsSorted s → (e : WalkError)
-      → IsWhyNone x (by_named_lists f.asks_names x s.folder.lists) f.asks_names t octets e
-      → (r : Refusal) → r ≡ refusal_of top e → AnswersBelow x f t s.strings.now (Err r)
-  fault_answered law sorted e why r is =
-      let lists = s.folder.lists in
-      subst (λ (q : Refusal). AnswersBelow x f t s.strings.now (Err q)) (sym is)
-      (refused_right x t s.strings.now top f lists sorted.lists_are law first e
-      (subst (λ (o : List ℕ). IsWhyNone x (by_named_lists f.asks_names x lists) f.asks_names t o e) there why))
+  pub wrong_answered : (s : Sorted) → IsSorted s → (wrong : List WrongCandidate) → AreWrongAnchors x (asked_in s) f.asks_names t s.folder.certs (length s.folder.certs) wrong
+      → HasNoValid x (asked_in s) f.asks_names t s.folder.certs → AnswersBelow x f t s.strings.now (Err (wrong_first s wrong))
+  wrong_answered s sorted [] are none = none_has_key s sorted x (asked_in s) f.asks_names t are
+  wrong_answered s sorted (w ∷ more) are none =
+      let top = origin_of s w.place in
+      let n : HasNoAnchor x f.asks_names t s.strings.now top = record {
+        first = first_among s sorted x (asked_in s) f.asks_names t w more are;
+        lists = s.folder.lists;
+        lists_are = sorted.lists_are;
+        none = none_among s sorted x (asked_in s) f.asks_names t none;
+      } in
+      refused_right x t s.strings.now top f n law w.error
+      (subst (λ (o : List ℕ). IsWhyNone x (asked_in s) f.asks_names t o w.error) (sym (filed_same s sorted w.place)) are.each.0.why)

@@ -10,7 +10,7 @@ pub no_folder_size : (q : RpkiFolderQuestion) → q.size ≢ folder_question_siz
 no_folder_size q h t terms = h terms.size_is
 
 pub no_folder_moment : (q : RpkiFolderQuestion) → (IsMoment (moment_of_parts q.moment) → ⊥) → HasNoFolderTerms q
-no_folder_moment q h t terms = h (subst IsMoment terms.now_is terms.now_exists)
+no_folder_moment q h t terms = h (subst IsMoment terms.at_is terms.at_exists)
 
 pub no_folder_key : (q : RpkiFolderQuestion) → 1 < q.key → HasNoFolderTerms q
 no_folder_key q h t terms = omega (arith, h, terms.key_is, choice_small t.asks_key)

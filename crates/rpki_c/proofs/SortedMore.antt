@@ -1,17 +1,13 @@
 -- One string more, sorted into a folder.
-use Rattle.std.specs.Prelude.{◌⊎◌, ◌↔◌, Bool, false, IsTrue}
+use Rattle.std.specs.Prelude.{◌⊎◌}
 use Rattle.std.proofs.Common.{◌≡◌, ◌+◌, ◌<◌, ◌≤◌, ℕ, List, [], ◌∷◌, ◌++◌, length, get_or, refl, sym, ap, subst, ◌∙◌, inl, inr, arith}
 use Rattle.std.proofs.Math.ListN.{get_or-append}
 use Rattle.std.proofs.Math.Nat.{eq-or-lt_of_le}
 use Rattle.std.proofs.Math.Seq.{get_or-append_seam}
 use Rattle.std.proofs.lemmas.List.{length-append}
-use Rattle.rpki_der.specs.Values.{IsUnambiguous}
-use Rattle.rpki_der.proofs.Formats.{one_meant}
 use Rattle.rpki_ext.specs.Kinds.{Means}
 use Rattle.rpki_cert.specs.Certificates.{CertFields, IsCertificate}
 use Rattle.rpki_crl.specs.Lists.{CrlState}
-use Rattle.rpki_keys.specs.Locators.{TalFields}
-use Rattle.rpki_path.specs.LocatedPaths.{BeginsWithKey}
 use Rattle.rpki_folder.specs.Folders.{FolderFields, with_cert, with_list, octets_at, BeginsNoCertificate}
 use Rattle.rpki_folder.specs.declared.folder.Added.{Added}
 use Rattle.rpki_folder.specs.declared.folder.Added.TheVariants.{Certificate, List as list_added, Neither}
@@ -123,6 +119,7 @@ module _ (strings : List (List ℕ)) (octets : List ℕ) where
         count = count_more;
         origin_count = old.origin_count ∙ ap (λ (l : List (List ℕ)). length l) (sym same);
         inside = still_inside;
+        ascend = λ place other d e less h. old.ascend place other d e less (subst (λ (l : List (List ℕ)). other < length l) same h);
         came_from = still_from;
         begins = begins_more says;
         placed = still_placed never;
@@ -178,6 +175,22 @@ module _ (strings : List (List ℕ)) (octets : List ℕ) (f : FolderFields) (add
     | inr low ↦ let there = old.inside place d low in let same = old_origin place d low in omega (arith, longer strings octets, there, same)
   ]
 
+  cert_ascend : (place other d e : ℕ) → place < other → other < length g.certs → get_or froms place d < get_or froms other e
+  cert_ascend place other d e less h = elim (old_or_last other h) [
+    | inl is ↦
+        let before : place < length f.certs = omega (arith, less, is) in
+        let here = old_origin place d before in
+        let there : get_or froms other e ≡ length strings = ap (λ (n : ℕ). get_or froms n e) is ∙ new_origin e in
+        let within = old.inside place d before in
+        omega (arith, here, there, within)
+    | inr low ↦
+        let before : place < length f.certs = omega (arith, less, low) in
+        let here = old_origin place d before in
+        let there = old_origin other e low in
+        let later = old.ascend place other d e less low in
+        omega (arith, here, there, later)
+  ]
+
   cert_from : (place d : ℕ) → place < length g.certs → octets_at (strings ++ octets ∷ []) (get_or froms place d) ≡ octets_at g.certs place
   cert_from place d h = elim (old_or_last place h) [
     | inl is ↦ ap (λ (n : ℕ). octets_at (strings ++ octets ∷ []) n) (ap (λ (n : ℕ). get_or froms n d) is ∙ new_origin d) ∙ new_string strings octets
@@ -203,6 +216,7 @@ module _ (strings : List (List ℕ)) (octets : List ℕ) (f : FolderFields) (add
     count = count_more strings octets f added origins old one;
     origin_count = let e = old.origin_count in omega (arith, more_certs, more_origins, e);
     inside = cert_inside;
+    ascend = cert_ascend;
     came_from = cert_from;
     begins = begins_more strings octets f added origins old one (c, means);
     placed = cert_placed;
@@ -217,18 +231,7 @@ module _ (strings : List (List ℕ)) (octets : List ℕ) (f : FolderFields) (add
       (subst (λ (l : List Added). AreSorted (strings ++ octets ∷ []) h l froms) (sym items)
       (subst (λ (k : FolderFields). AreSorted (strings ++ octets ∷ []) k (added ++ one ∷ []) froms) (sym folder) cert_more))
 
--- ---- the locator's key
-
--- whether the certificate with which octets begin has the key
-pub tells_key : (t : TalFields) (octets : List ℕ) (c : CertFields) (b : Bool) → IsUnambiguous IsCertificate → Means IsCertificate c octets → (IsTrue b ↔ (c.fields.key ≡ t.key)) → (IsTrue b ↔ BeginsWithKey t octets)
-tells_key t octets c b law means h = (
-  (λ e. record { cert = c; begins = means; key_is = h.0 e }),
-  (λ k. h.1 (ap (λ (d : CertFields). d.fields.key) (one_meant IsCertificate law c k.cert octets means k.begins) ∙ k.key_is)),
-)
-
--- octets that begin with no certificate have no key
-pub no_key : (t : TalFields) (octets : List ℕ) → BeginsNoCertificate octets → (IsTrue false ↔ BeginsWithKey t octets)
-no_key t octets never = ((λ e. absurd cc), (λ k. absurd (never k.cert k.begins)))
+-- ---- places
 
 -- a certificate that was added stands in the folder as the string at its place
 pub filed_at : (s : Sorted) → IsSorted s → (place at : ℕ) → place < length s.strings.now → get_or s.added.items place Neither ≡ Certificate at

@@ -1,10 +1,10 @@
 -- What becomes of strings, which are certificates and revocation lists in any order, below the
--- trust anchor among them that has a locator's key (own).
+-- trust anchor among them that is a locator's (own).
 use Rattle.std.specs.Prelude.{◌≡◌, ◌⊎◌, ◌+◌, ◌<◌, ℕ, Bool, List, [], ◌∷◌, ◌++◌, length, Err, IsTrue}
 use Rattle.rpki_ext.specs.Kinds.{Means}
 use Rattle.rpki_cert.specs.Certificates.{CertFields, IsCertificate}
 use Rattle.rpki_cert.specs.SaidKinds.{BeginsWithKind}
-use Rattle.rpki_cert.specs.Verification.{Context, ResourceFields}
+use Rattle.rpki_cert.specs.Verification.{Context}
 use Rattle.rpki_cert.specs.declared.inspect.Kind.{Kind}
 use Rattle.rpki_crl.specs.Lists.{CrlState, IsCertificateList}
 use Rattle.rpki_path.specs.Asking.{RevocationChecks}
@@ -15,9 +15,12 @@ use Rattle.rpki_path.specs.NameChains.{BeginChained}
 use Rattle.rpki_path.specs.Paths.{candidate}
 use Rattle.rpki_path.specs.declared.judging.Judged.{Judged}
 use Rattle.rpki_path.specs.declared.path_fault.PathFault.{PathFault}
-use Rattle.rpki_folder.specs.Folders.{octets_at, BeginsNoCertificate}
-use Rattle.rpki_folder.specs.Walks.{Root, at_anchor, members_at, LeadsTo, IsAcceptedAs, IsReached, IsRightOf, Covers, AreAdmitted, IsLookedAt, HasBelow, IsShort}
+use Rattle.rpki_folder.specs.FirstPlaces.{AreFirstsIn, IsFirstIn}
+use Rattle.rpki_folder.specs.Folders.{octets_at, AreOneAt, BeginsNoCertificate}
+use Rattle.rpki_folder.specs.FoundAnchors.{HasNoValid, IsAnchorAt}
+use Rattle.rpki_folder.specs.Walks.{Root, at_anchor, members_at, IsAcceptedAs, IsReached, IsRightOf, Covers, AreAdmitted, IsLookedAt, HasBelow, IsShort}
 use Rattle.rpki_folder.specs.declared.bounds.Ended.{Ended}
+use Rattle.rpki_folder.specs.declared.firsts.Firsts.{Firsts}
 use Rattle.rpki_folder.specs.declared.bounds.Ended.TheVariants.{TooDeep, OutOfSteps}
 use Rattle.rpki_folder.specs.UsualBounds.{usual_steps}
 use Rattle.rpki_c.specs.FolderQuestions.{asked_or}
@@ -61,6 +64,15 @@ pub record IsFirstWithKey (t : TalFields) (strings : List (List ℕ)) (place : �
 abbrev pub NoneHasKey : TalFields → List (List ℕ) → Type 0
 NoneHasKey t strings = (i : ℕ) → i < length strings → BeginsWithKey t (octets_at strings i) → ⊥
 
+-- no string is a valid trust anchor of the locator, and the one at the place is the first that has its
+-- key
+pub record HasNoAnchor (x : Context) (names : Bool) (t : NamedTal) (strings : List (List ℕ))
+    (place : ℕ) : Type 0 where
+  pub first : IsFirstWithKey t.tal strings place
+  pub lists : List CrlState
+  pub lists_are : AreListsAmong strings lists
+  pub none : HasNoValid x (by_named_lists names x lists) names t strings
+
 -- ---- fates
 
 -- a valid path leads, by the CAs at these places, to the certificate at the place, which is judged so
@@ -75,7 +87,7 @@ pub record IsJudgedAt (x : Context) (asked : RevocationChecks) (names : Bool) (r
   pub chained : IsTrue names → BeginChained root.anchor
       (members_at root strings above ++ candidate kind (octets_at strings place) ∷ [])
 
--- what becomes of a string: it is the trust anchor, a list, neither a list nor a certificate, or a
+-- what becomes of a string: it is the trust anchor or a copy of it, a list, neither a list nor a certificate, or a
 -- certificate which no CA of a valid path signed; or one that is accepted, below the CAs at these
 -- places, and judged so; or one that is rejected, at this step below the trust anchor
 pub data Fate : Type 0 where
@@ -85,7 +97,7 @@ pub data Fate : Type 0 where
 
 -- it is what becomes of the string at the place
 abbrev pub IsFate : Context → RevocationChecks → Bool → Root → List (List ℕ) → ℕ → ℕ → Fate → Type 0
-IsFate x asked names root strings top place anchor = place ≡ top
+IsFate x asked names root strings top place anchor = AreOneAt strings place top
 IsFate x asked names root strings top place list =
     (l : CrlState) × IsTakenFor (octets_at strings place) l
 IsFate x asked names root strings top place neither =
@@ -110,36 +122,38 @@ StandsBelow x asked root strings n =
     (above : List ℕ) × (length above ≡ n)
     × HasBelow x asked (λ places place. Unit {0}) root strings [] above
 
--- What becomes of the strings below the trust anchor at a place: each fate is right, and each
--- certificate is accepted to which a path leads that was looked at, on which no issuer stands twice.
--- The walk is said to have been too deep only where a certificate stands below so many CAs.
+-- What becomes of the strings below the trust anchor at a place: each fate is right, that of a copy is
+-- that of the certificate, whatever is behind either, and each certificate is accepted to which a path
+-- leads that was looked at, on which no issuer stands twice. The walk is said to have been too deep
+-- only where a certificate stands below so many CAs.
 pub record AreFates (x : Context) (asked : RevocationChecks) (names : Bool) (root : Root)
     (strings : List (List ℕ)) (top depth : ℕ) (ended : Ended) (fate : ℕ → Fate) : Type 0 where
   pub anchor_is : fate top ≡ anchor
   pub right : (place : ℕ) → place < length strings
       → IsFate x asked names root strings top place (fate place)
+  pub copies : (place other : ℕ) → AreOneAt strings place other → fate place ≡ fate other
   pub complete : (c : CertFields) (above : List ℕ) (place : ℕ) → place < length strings
       → Means IsCertificate c root.anchor → Covers ended depth (length above + 1)
       → AreAdmitted (IsLookedAt names (λ l p. Unit {0}) c strings) [] (above ++ place ∷ [])
       → IsReached x asked root strings above place → IsValidFate (fate place)
   pub too_deep : ended ≡ TooDeep → StandsBelow x asked root strings depth
 
--- what becomes of the strings at a moment, by a walk that ended so: the first that has the
--- locator's key is a valid trust anchor, and the lists among them are asked for revocation, which have
--- to have their issuers' names if names are asked (RFC 5280 6.3.3 (b) (1)); the steps are those that
--- are asked for, or else the usual ones. The walk is said to be out of steps only where the share of
--- a CA is less than its children
+-- what becomes of the strings at a moment, by a walk that ended so: the string at the place is the
+-- trust anchor of the locator, the greatest of those that are valid; and the lists among them are asked
+-- for revocation, which have to have their issuers' names if names are asked (RFC 5280 6.3.3 (b) (1));
+-- the steps are those that are asked for, or else the usual ones. The walk is said to be out of steps
+-- only where the share of a CA is less than its children, of which copies don't count
 pub record AreJudged (x : Context) (names : Bool) (t : NamedTal) (strings : List (List ℕ))
     (top depth steps : ℕ) (ended : Ended) (fate : ℕ → Fate) : Type 0 where
-  pub top_is : IsFirstWithKey t.tal strings top
   pub lists : List CrlState
   pub lists_are : AreListsAmong strings lists
-  pub holder : ResourceFields
-  pub holds : LeadsTo x (by_named_lists names x lists) (at_anchor t (octets_at strings top)) [] holder
-  pub certs : List (List ℕ)
-  pub certs_are : AreCertificatesAmong strings certs
+  pub anchor_is : IsAnchorAt x (by_named_lists names x lists) names t strings top
   pub fates : AreFates x (by_named_lists names x lists) names (at_anchor t (octets_at strings top))
       strings top depth ended fate
+  pub certs : List (List ℕ)
+  pub certs_are : AreCertificatesAmong strings certs
+  pub firsts : Firsts
+  pub firsts_are : AreFirstsIn certs firsts
   pub short : ended ≡ OutOfSteps → IsShort x (by_named_lists names x lists)
-      (IsLookedAt names (λ above place. Unit {0}) holder.cert certs)
+      (IsLookedAt names (IsFirstIn firsts) anchor_is.cert certs)
       (at_anchor t (octets_at strings top)) certs [] (asked_or steps usual_steps)

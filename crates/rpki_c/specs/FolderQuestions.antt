@@ -22,8 +22,8 @@ usual_depth = 32
 pub record HasFolderTerms (q : RpkiFolderQuestion) (t : FolderTerms) : Type 0 where
   pub size_is : q.size ≡ folder_question_size
   pub strict_is : IsTrue t.strict ↔ (q.strict ≢ 0)
-  pub now_is : t.now ≡ moment_of_parts q.moment
-  pub now_exists : IsMoment t.now
+  pub at_is : t.at ≡ moment_of_parts q.moment
+  pub at_exists : IsMoment t.at
   pub depth_is : t.depth ≡ asked_or q.depth usual_depth
   pub steps_is : t.steps ≡ q.steps
   pub key_is : q.key ≡ choice_number t.asks_key

@@ -17,7 +17,7 @@ use Rattle.rpki_folder.specs.Walks.{HasOtherName}
 use Rattle.rpki_folder.specs.declared.bounds.Ended.{Ended}
 use Rattle.rpki_folder.specs.declared.bounds.Ended.TheVariants.{Whole, TooDeep, OutOfSteps}
 use Rattle.rpki_c.specs.FaultNumbers.{path_number, refusal_number}
-use Rattle.rpki_c.specs.FolderFates.{Fate, anchor, list, neither, unseen, accepted, rejected, AreListsAmong, IsFirstWithKey, NoneHasKey, AreJudged}
+use Rattle.rpki_c.specs.FolderFates.{Fate, anchor, list, neither, unseen, accepted, rejected, AreListsAmong, HasNoAnchor, NoneHasKey, AreJudged}
 use Rattle.rpki_c.specs.FolderQuestions.{HasFolderTerms, HasNoFolderTerms}
 use Rattle.rpki_c.specs.HeldRanges.{AreHeldAt, nothing_held}
 use Rattle.rpki_c.specs.Questions.{kind_number}
@@ -118,18 +118,18 @@ IsTwoNamed x names t strings place =
     (lists : List CrlState) × AreListsAmong strings lists
     × HasOtherName x (by_named_lists names x lists) names t (octets_at strings place)
 
--- the answer of the strings below this locator: what became of them; or none has its key, or what
--- is wrong of the first that has it
+-- the answer of the strings below this locator: what became of them; or none has its key; or, where
+-- none is a valid trust anchor, what is wrong of the first that has it
 abbrev pub AnswersBelow : Context → FolderTerms → NamedTal → List (List ℕ) → Result Walked Refusal
     → Type 0
 AnswersBelow x f t strings (Ok w) = IsWalkOf x f t strings w
 AnswersBelow x f t strings (Err refusal.OtherKey) = NoneHasKey t.tal strings
 AnswersBelow x f t strings (Err (refusal.NoResources place)) =
-    IsFirstWithKey t.tal strings place × BeginsWithNoNumber (octets_at strings place)
+    HasNoAnchor x f.asks_names t strings place × BeginsWithNoNumber (octets_at strings place)
 AnswersBelow x f t strings (Err (refusal.OtherName place)) =
-    IsFirstWithKey t.tal strings place × IsTwoNamed x f.asks_names t strings place
+    HasNoAnchor x f.asks_names t strings place × IsTwoNamed x f.asks_names t strings place
 AnswersBelow x f t strings (Err (refusal.Member e)) =
-    IsFirstWithKey t.tal strings e.index × (e.fault ≢ Memory)
+    HasNoAnchor x f.asks_names t strings e.index × (e.fault ≢ Memory)
     × Finds x (trust_anchor_demand x) (octets_at strings e.index) e.fault
 AnswersBelow x f t strings (Err refusal.Memory) = Unit {0}
 AnswersBelow x f t strings _ = ⊥
@@ -147,7 +147,7 @@ abbrev pub AnswersGiven : Verifies → RpkiFolderQuestion → FolderTerms → Re
 AnswersGiven verifies q t r =
     Refused (IsUncalled (DontAddUp q.strings)) r
     ⊎ ((strings : List (List ℕ)) × AreStringsOf q.strings strings
-    × AnswersLocated (context verifies t.now t.strict) t q.locator.now strings r)
+    × AnswersLocated (context verifies t.at t.strict) t q.locator.now strings r)
 
 -- the answer to a question about a folder, by this relation of signatures
 abbrev pub AnswersFolder : Verifies → RpkiFolderQuestion → Result Walked Refusal → Type 0

@@ -51,7 +51,7 @@ const BAD_URI: u32 = 802;
 const NO_NAME: u32 = 803;
 // No certificate has the fields.
 const UNWRITABLE: u32 = 804;
-// The certificate or the list would be too long.
+// The certificate or the CRL would be too long.
 const TOO_LONG: u32 = 805;
 // What was signed is none of what is to be signed.
 const NOT_TO_SIGN: u32 = 806;

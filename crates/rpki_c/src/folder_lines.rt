@@ -9,7 +9,7 @@ use crate::judging::has_key_asked;
 use crate::ranges::{Ranges, RpkiHeld};
 use crate::sorting::Sorted;
 use rpki_cert::Kind;
-use rpki_folder::{Added, FoundPath, Line};
+use rpki_folder::{Added, Firsts, FoundPath, Line};
 use std::alloc::{AllocError, Global};
 
 /// The result for a string.
@@ -104,22 +104,24 @@ fn plain(what: u32) -> RpkiLine
     }
 }
 
+/// The lines that a walk below a trust anchor kept, through each certificate of sorted strings at its
+/// first place.
+#[derive(Clone, Copy)]
+pub(crate) struct WalkLines<'w, 's> {
+    pub(crate) sorted: &'w Sorted<'s>,
+    pub(crate) firsts: &'w Firsts,
+    /// The line of each place.
+    pub(crate) kept: &'w [Line],
+    /// The place of the trust anchor.
+    pub(crate) anchor: usize,
+}
+
 impl<'s> Sorted<'s> {
     ghost use Rattle.std.specs.Prelude.{◌≡◌, ◌<◌, length, map, IfOk, OnOk};
     ghost use Rattle.rpki_folder.specs.Folders.{octets_at};
-    ghost use Rattle.rpki_c.specs.FolderFates.Steps.{IsSorted, origin_of, kept_fate, fate_at};
-    ghost use Rattle.rpki_c.specs.FolderTelling.{issuer_of, AreLinesOf, IsAcceptedLine, IsKindSaid, IsLineOf};
+    ghost use Rattle.rpki_c.specs.FolderFates.Steps.{origin_of, kept_fate};
+    ghost use Rattle.rpki_c.specs.FolderTelling.{issuer_of, IsAcceptedLine, IsKindSaid, IsLineOf};
     ghost use Rattle.rpki_c.specs.HeldRanges.{HaveGrown};
-
-    // The place of the string that the certificate at a place of the folder was.
-    fn origin(&self, place: usize) -> usize
-        ensures { result ≡ origin_of self.now place }
-    {
-        match self.origins.get(place) {
-            Some(&origin) => origin,
-            None => self.added.len(),
-        }
-    }
 
     // The place of the issuer's string, below the CAs at these places of the folder.
     fn issuer(&self, above: &[usize], anchor: usize) -> usize
@@ -188,8 +190,42 @@ impl<'s> Sorted<'s> {
         let kind = self.kind(at);
         match kept {
             Line::Unseen => Ok(plain(UNSEEN)),
-            Line::Accepted(path) => self.accepted(kind, path, anchor, asks_key, ranges),
+            Line::Accepted(paths) => self.accepted(kind, &paths.first, anchor, asks_key, ranges),
             Line::Rejected(step, fault) => Ok(rejected(kind, *step, of_path(fault))),
+        }
+    }
+}
+
+impl<'w, 's> WalkLines<'w, 's> {
+    ghost use Rattle.std.specs.Prelude.{◌≡◌, ◌<◌, length, IfOk, IsTrue, OnOk};
+    ghost use Rattle.rpki_folder.specs.Folders.{octets_at};
+    ghost use Rattle.rpki_c.specs.FolderFates.Steps.{IsSorted, origin_of, cert_fate, fate_at};
+    ghost use Rattle.rpki_c.specs.FolderTelling.{AreLinesOf, IsLineOf};
+    ghost use Rattle.rpki_c.specs.HeldRanges.{HaveGrown};
+
+    // The line of the certificate at a place of the folder: that of its first place.
+    #[tactic(auto, using(crate::proofs::HeldLines::not_grown))]
+    fn cert_line(
+        &self,
+        at: usize,
+        asks_key: bool,
+        ranges: &mut Ranges,
+    ) -> Result<RpkiLine, AllocError>
+        requires { at < length self.now.sorted.now.folder.certs }
+        ensures line { let sorted = self.now.sorted.now in
+            let octets = octets_at sorted.folder.certs at in
+            let top = origin_of sorted self.now.anchor in
+            IfOk result (IsLineOf asks_key top octets (cert_fate self.now at) ranges.new) }
+        ensures grown { OnOk result (HaveGrown ranges.old ranges.new) }
+    {
+        let first = self.firsts.first_of(at);
+        if first == self.firsts.first_of(self.anchor) {
+            return Ok(plain(ANCHOR));
+        }
+        let top = self.sorted.origin(self.anchor);
+        match self.kept.get(first) {
+            Some(kept) => self.sorted.line(at, kept, top, asks_key, ranges),
+            None => Ok(plain(UNSEEN)),
         }
     }
 
@@ -197,48 +233,37 @@ impl<'s> Sorted<'s> {
     #[tactic(auto, using(crate::proofs::HeldLines::not_grown))]
     fn line_at(
         &self,
-        kept: &[Line],
-        anchor: usize,
         asks_key: bool,
         place: usize,
         ranges: &mut Ranges,
     ) -> Result<RpkiLine, AllocError>
-        requires sorted { IsSorted self.now }
-        requires kept { length kept.now ≡ length self.now.folder.certs }
-        requires inside { place < length self.now.strings.now }
-        ensures line { let octets = octets_at self.now.strings.now place in
-            let fate = fate_at self.now kept.now anchor place in
-            IfOk result (IsLineOf asks_key anchor octets fate ranges.new) }
+        requires sorted { IsSorted self.now.sorted.now }
+        requires inside { place < length self.now.sorted.now.strings.now }
+        ensures line { let sorted = self.now.sorted.now in
+            let octets = octets_at sorted.strings.now place in
+            let top = origin_of sorted self.now.anchor in
+            IfOk result (IsLineOf asks_key top octets (fate_at self.now place) ranges.new) }
         ensures grown { OnOk result (HaveGrown ranges.old ranges.new) }
     {
-        if place == anchor {
-            return Ok(plain(ANCHOR));
-        }
-        match self.added[place] {
-            Added::Certificate(at) => self.line(at, &kept[at], anchor, asks_key, ranges),
+        match self.sorted.added[place] {
+            Added::Certificate(at) => self.cert_line(at, asks_key, ranges),
             Added::List => Ok(plain(LIST)),
             Added::Neither => Ok(plain(NEITHER)),
         }
     }
 
-    /// Returns the line of each string, by the lines that are kept of the certificates.
-    pub(crate) fn lines(
-        &self,
-        alloc: Global,
-        kept: &[Line],
-        anchor: usize,
-        asks_key: bool,
-    ) -> Result<ToldLines, AllocError>
-        requires sorted { IsSorted self.now }
-        requires kept { length kept.now ≡ length self.now.folder.certs }
-        ensures { let strings = self.now.strings.now in
-            let fate = fate_at self.now kept.now anchor in
-            IfOk result (AreLinesOf asks_key anchor strings fate (length strings)) }
+    /// Returns the line of each string.
+    pub(crate) fn told(&self, alloc: Global, asks_key: bool) -> Result<ToldLines, AllocError>
+        requires { IsSorted self.now.sorted.now }
+        ensures { let sorted = self.now.sorted.now in
+            let strings = sorted.strings.now in
+            let top = origin_of sorted self.now.anchor in
+            IfOk result (AreLinesOf asks_key top strings (fate_at self.now) (length strings)) }
     {
         let mut lines = Vec::new(alloc);
         let mut ranges = Ranges::new(alloc);
-        for place in 0..self.strings.len() {
-            let line = self.line_at(kept, anchor, asks_key, place, &mut ranges)?;
+        for place in 0..self.sorted.strings.len() {
+            let line = self.line_at(asks_key, place, &mut ranges)?;
             lines.push(line)?;
         }
         Ok(ToldLines { lines, ranges })

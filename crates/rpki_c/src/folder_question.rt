@@ -40,7 +40,7 @@ const USUAL_DEPTH: usize = 32;
 pub(crate) struct FolderTerms {
     /// Whether names may only have the profile's string types.
     pub(crate) strict: bool,
-    pub(crate) now: Time,
+    pub(crate) at: Time,
     /// The most certificates that a path may have below the trust anchor.
     pub(crate) depth: usize,
     /// The steps of the walk; 0 for the default.
@@ -64,9 +64,9 @@ impl FolderTerms {
     ghost use Rattle.rpki_c.specs.FolderQuestions.{asked_or};
 
     /// Returns the limits of the walk.
-    pub(crate) fn bounds(self) -> Bounds
-        ensures depth { result.depth ≡ self.depth }
-        ensures steps { result.steps ≡ asked_or self.steps usual_steps }
+    pub(crate) fn bounds(&self) -> Bounds
+        ensures depth { result.depth ≡ self.now.depth }
+        ensures steps { result.steps ≡ asked_or self.now.steps usual_steps }
     {
         Bounds {
             depth: self.depth,
@@ -87,7 +87,7 @@ pub(crate) fn folder_terms_of(question: &RpkiFolderQuestion<'_>) -> Option<Folde
     }
     Some(FolderTerms {
         strict: question.strict != 0,
-        now: moment_of(&question.moment)?,
+        at: moment_of(&question.moment)?,
         depth: asked_or(question.depth, USUAL_DEPTH),
         steps: question.steps,
         asks_key: is_asked(question.key)?,

@@ -1,27 +1,35 @@
 //! The walk over a directory's strings, below the trust anchor among them.
-ghost use Rattle.std.specs.Prelude.{◌≡◌, ◌<◌, [], length, Err, IfOk, IfErr};
+ghost use Rattle.std.specs.Prelude.{◌≡◌, [], List, Err, IfOk};
 ghost use Rattle.rpki_cert.specs.Verification.{context};
 ghost use Rattle.rpki_path.specs.AskedLists.{by_named_lists};
+ghost use Rattle.rpki_keys.specs.Locators.{NamedTal};
 ghost use Rattle.rpki_keys.specs.RsaSignatures.{IsSignedByRsa};
-ghost use Rattle.rpki_folder.specs.KeptLines.{AreLines};
-ghost use Rattle.rpki_folder.specs.Walks.{at_anchor, IsWhyNone};
-ghost use Rattle.rpki_c.specs.FolderFates.{IsFirstWithKey};
-ghost use Rattle.rpki_c.specs.FolderFates.Steps.{IsSorted, IsWalked, fate_at, refusal_of};
-ghost use Rattle.rpki_c.specs.FolderTelling.{AreLinesOf, AnswersBelow, AnswersLocated, AnswersGiven, AnswersFolder};
-ghost use Rattle.rpki_c.specs.declared.refusal.Refusal.TheVariants.{Memory};
+ghost use Rattle.rpki_folder.specs.FirstPlaces.{IsFirstIn};
+ghost use Rattle.rpki_folder.specs.FoundAnchors.{IsFound};
+ghost use Rattle.rpki_folder.specs.KeptLines.{BecameLines};
+ghost use Rattle.rpki_folder.specs.ReachedLimits.{ended_of};
+ghost use Rattle.rpki_folder.specs.UsualBounds.{usual_steps};
+ghost use Rattle.rpki_folder.specs.Walks.{IsLookedAt, TellsBelow, Told};
+ghost use Rattle.rpki_folder.specs.declared.anchors.FoundAnchor.TheVariants.{Valid};
+ghost use Rattle.rpki_c.specs.FolderFates.Steps.{IsSorted, refusal_of, wrong_first};
+ghost use Rattle.rpki_c.specs.FolderQuestions.{asked_or};
+ghost use Rattle.rpki_c.specs.FolderTelling.{AnswersBelow, AnswersLocated, AnswersGiven, AnswersFolder};
 
-use crate::folder_lines::ToldLines;
+use crate::folder_lines::{ToldLines, WalkLines};
 use crate::folder_question::{FolderTerms, RpkiFolderQuestion, folder_terms_of};
 use crate::judging::strings_of;
 use crate::refusal::Refusal;
 use crate::sorting::Sorted;
 use bytes::Bytes;
-use rpki_cert::laws;
-use rpki_folder::{AllAdmitted, Ended, Lines, Walk, WalkError};
+use rpki_cert::{ResourceCert, laws};
+use rpki_folder::{
+    Admission, AllAdmitted, Ended, Firsts, FoundAnchor, Lines, Walk, WalkError,
+    Walked as FolderWalk, WrongCandidate,
+};
 use rpki_keys::RsaVerifier;
 use rpki_keys::tal::Tal;
-use rpki_path::{LocatedError, Member, PathError};
-use std::alloc::Global;
+use rpki_path::{LocatedError, PathError};
+use std::alloc::{AllocError, Global};
 
 /// The results for a directory's strings.
 #[derive(Drop)]
@@ -52,51 +60,98 @@ fn refused(error: WalkError, place: usize) -> Refusal
     }
 }
 
-// Walks below a trust anchor, and keeps a line of each certificate.
-fn walk_below(
-    walk: &Walk<'_, AllAdmitted, RsaVerifier>,
-    tal: &Tal,
-    anchor: &Member<'_>,
-    kept: &mut Lines,
-) -> Result<Ended, WalkError>
-    ensures walked { let w = walk.now in
-        let x = context IsSignedByRsa w.at w.strict in
-        let asked = by_named_lists w.names x w.folder.now.lists in
-        let root = at_anchor tal.now anchor.now in
-        let certs = w.folder.now.certs in
-        AreLines [] kept.old
-        → IfOk result (IsWalked x asked w.names root certs w.bounds.depth w.bounds.steps kept.new) }
-    ensures fault { let w = walk.now in
-        let x = context IsSignedByRsa w.at w.strict in
-        let asked = by_named_lists w.names x w.folder.now.lists in
-        IfErr result (IsWhyNone x asked w.names tal.now anchor.now) }
-    ensures count { length kept.new ≡ length kept.old }
+// The walk that is asked for, through the certificates that are admitted.
+fn walk_of<'w, A: Admission>(
+    alloc: Global,
+    sorted: &'w Sorted<'_>,
+    admission: &'w A,
+    terms: &FolderTerms,
+) -> Walk<'w, A, RsaVerifier>
+    ensures folder { result.folder.now ≡ sorted.now.folder }
+    ensures admission { result.admission.now ≡ admission.now }
+    ensures names { result.names ≡ terms.now.asks_names }
+    ensures strict { result.strict ≡ terms.now.strict }
+    ensures at { result.at ≡ terms.now.at }
+    ensures depth { result.bounds.depth ≡ terms.now.depth }
+    ensures steps { result.bounds.steps ≡ asked_or terms.now.steps usual_steps }
 {
-    let issuer = walk.trust_anchor(tal, anchor)?;
-    let ended = walk.below(&issuer, kept);
-    drop(issuer);
-    Ok(ended?)
+    let names = terms.asks_names;
+    Walk {
+        alloc,
+        folder: &sorted.folder,
+        admission,
+        bounds: terms.bounds(),
+        names,
+        strict: terms.strict,
+        at: terms.at,
+        verifier: &RsaVerifier,
+    }
 }
 
-// What becomes of the strings below the trust anchor at a place, of which this is kept.
-fn with_lines(
+// The trust anchor among sorted strings.
+fn anchor_of(
     alloc: Global,
     sorted: &Sorted<'_>,
-    kept: &Lines,
+    tal: &Tal,
+    terms: &FolderTerms,
+) -> Result<FoundAnchor, AllocError>
+    ensures { let x = context IsSignedByRsa terms.now.at terms.now.strict in
+        let asked = by_named_lists terms.now.asks_names x sorted.now.folder.lists in
+        let certs = sorted.now.folder.certs in
+        IfOk result (IsFound x asked terms.now.asks_names tal.now certs) }
+{
+    walk_of(alloc, sorted, &AllAdmitted, terms).find_anchor(tal)
+}
+
+// Walks below a trust anchor, through each certificate at its first place, and keeps the lines.
+fn walk_below(
+    alloc: Global,
+    sorted: &Sorted<'_>,
+    firsts: &Firsts,
+    terms: &FolderTerms,
+    issuer: &ResourceCert,
+    kept: &mut Lines,
+) -> Result<FolderWalk, AllocError>
+    ensures { let x = context IsSignedByRsa terms.now.at terms.now.strict in
+        let asked = by_named_lists terms.now.asks_names x sorted.now.folder.lists in
+        let certs = sorted.now.folder.certs in
+        let steps = asked_or terms.now.steps usual_steps in
+        (told : List Told) × BecameLines kept.old told kept.new × TellsBelow x asked
+        (IsLookedAt terms.now.asks_names (IsFirstIn firsts.now) issuer.now.cert certs) issuer.now
+        certs [] terms.now.depth steps (ended_of result) told }
+{
+    walk_of(alloc, sorted, firsts, terms).below(issuer, kept)
+}
+
+// The answer of sorted strings below the trust anchor at a place of their folder.
+fn walk_from(
+    alloc: Global,
+    sorted: &Sorted<'_>,
     anchor: usize,
-    asks_key: bool,
-    ended: Ended,
+    issuer: &ResourceCert,
+    terms: &FolderTerms,
 ) -> Result<Walked, Refusal>
     requires sorted { IsSorted sorted.now }
-    requires kept { length kept.now ≡ length sorted.now.folder.certs }
-    ensures lines { let strings = sorted.now.strings.now in
-        let fate = fate_at sorted.now kept.now anchor in
-        IfOk result (λ it. AreLinesOf asks_key anchor strings fate (length strings) it.told) }
-    ensures ended { IfOk result (λ it. it.ended ≡ ended) }
-    ensures anchor { IfOk result (λ it. it.anchor ≡ anchor) }
-    ensures memory { IfErr result (λ r. r ≡ Memory) }
+    ensures { let x = context IsSignedByRsa terms.now.at terms.now.strict in
+        let asked = by_named_lists terms.now.asks_names x sorted.now.folder.lists in
+        let certs = sorted.now.folder.certs in (t : NamedTal)
+        → IsFound x asked terms.now.asks_names t certs (Valid anchor issuer.now)
+        → AnswersBelow x terms.now t sorted.now.strings.now result }
 {
-    let told = sorted.lines(alloc, kept.as_slice(), anchor, asks_key)?;
+    laws::unambiguous();
+    let firsts = Firsts::of(alloc, &sorted.folder)?;
+    let mut kept = Lines::new(alloc, sorted.folder.certs().len())?;
+    let walk = walk_below(alloc, sorted, &firsts, terms, issuer, &mut kept)?;
+    let FolderWalk { ended, limited } = walk;
+    drop(limited);
+    let lines = WalkLines {
+        sorted,
+        firsts: &firsts,
+        kept: kept.as_slice(),
+        anchor,
+    };
+    let told = lines.told(alloc, terms.asks_key)?;
+    let anchor = sorted.origin(anchor);
     Ok(Walked {
         told,
         ended,
@@ -104,47 +159,18 @@ fn with_lines(
     })
 }
 
-// The answer of sorted strings, of which the one at this place has the locator's key.
-fn walk_from(
-    alloc: Global,
-    sorted: &Sorted<'_>,
-    tal: &Tal,
-    anchor: usize,
-    terms: FolderTerms,
-) -> Result<Walked, Refusal>
-    requires sorted { IsSorted sorted.now }
-    requires anchor { IsFirstWithKey tal.now.tal sorted.now.strings.now anchor }
-    ensures { let x = context IsSignedByRsa terms.now terms.strict in
-        AnswersBelow x terms tal.now sorted.now.strings.now result }
+// Why there was no walk, if no string is a valid trust anchor: what is wrong with the first of those
+// that have the locator's key.
+fn wrong_of(sorted: &Sorted<'_>, mut candidates: Vec<WrongCandidate>) -> Refusal
+    ensures { result ≡ wrong_first sorted.now candidates.items }
 {
-    laws::unambiguous();
-    let count = sorted.folder.certs().len();
-    let (strict, at, asks_key) = (terms.strict, terms.now, terms.asks_key);
-    let names = terms.asks_names;
-    let bounds = terms.bounds();
-    let walk = Walk {
-        alloc,
-        folder: &sorted.folder,
-        admission: &AllAdmitted,
-        bounds,
-        names,
-        strict,
-        at,
-        verifier: &RsaVerifier,
-    };
-    let mut kept = Lines::new(alloc, count)?;
-    let member = Member::of(&sorted.strings[anchor]);
-    match walk_below(&walk, tal, &member, &mut kept) {
-        Ok(ended) => {
-            let answer = with_lines(alloc, sorted, &kept, anchor, asks_key, ended);
-            drop(kept);
-            answer
-        }
-        Err(error) => {
-            drop(kept);
-            Err(refused(error, anchor))
-        }
+    if candidates.is_empty() {
+        drop(candidates);
+        return Refusal::OtherKey;
     }
+    let WrongCandidate { place, error } = candidates.remove(0);
+    drop(candidates);
+    refused(error, sorted.origin(place))
 }
 
 // The answer of sorted strings below a locator.
@@ -155,13 +181,17 @@ fn walk_sorted(
     terms: FolderTerms,
 ) -> Result<Walked, Refusal>
     requires { IsSorted sorted.now }
-    ensures { let x = context IsSignedByRsa terms.now terms.strict in
+    ensures { let x = context IsSignedByRsa terms.at terms.strict in
         AnswersBelow x terms tal.now sorted.now.strings.now result }
 {
-    let found = sorted.anchor(alloc, tal)?;
-    match found {
-        Some(anchor) => walk_from(alloc, sorted, tal, anchor, terms),
-        None => Err(Refusal::OtherKey),
+    laws::unambiguous();
+    match anchor_of(alloc, sorted, tal, &terms)? {
+        FoundAnchor::Valid(anchor, issuer) => {
+            let answer = walk_from(alloc, sorted, anchor, &issuer, &terms);
+            drop(issuer);
+            answer
+        }
+        FoundAnchor::Wrong(candidates) => Err(wrong_of(sorted, candidates)),
     }
 }
 
@@ -172,7 +202,7 @@ fn walk_strings(
     tal: &Tal,
     terms: FolderTerms,
 ) -> Result<Walked, Refusal>
-    ensures { let x = context IsSignedByRsa terms.now terms.strict in
+    ensures { let x = context IsSignedByRsa terms.at terms.strict in
         AnswersBelow x terms tal.now strings.now result }
 {
     let sorted = Sorted::of(alloc, strings)?;
@@ -188,7 +218,7 @@ fn walk_located(
     file: &[u8],
     terms: FolderTerms,
 ) -> Result<Walked, Refusal>
-    ensures { let x = context IsSignedByRsa terms.now terms.strict in
+    ensures { let x = context IsSignedByRsa terms.at terms.strict in
         AnswersLocated x terms file.now strings.now result }
 {
     let tal = Tal::read_named(alloc, String::new(alloc), file, terms.strict)?;

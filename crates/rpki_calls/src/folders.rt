@@ -9,6 +9,7 @@ use rpki_cert::{Cert, KeyUsage, ResourceCert, Said, TbsCert};
 use rpki_crl::Crl;
 use rpki_folder::{
     Accepted, Added, AllAdmitted, Bounds, Ended, Firsts, Folder, Found, Line, Lines, Visitor, Walk,
+    Walked,
 };
 use rpki_keys::tal::Tal;
 use rpki_parts::StandIn;
@@ -230,7 +231,7 @@ fn lines_made(alloc: Global) -> Option<Told> {
 // and 9 where nothing was told.
 fn kept(lines: &Lines, place: usize) -> usize {
     match lines.as_slice().get(place) {
-        Some(Line::Accepted(path)) => path.above.len(),
+        Some(Line::Accepted(paths)) => paths.first.above.len(),
         Some(Line::Rejected(1, PathFault::Revocation(_))) => 8,
         Some(Line::Unseen) => 9,
         _ => 10,
@@ -294,9 +295,9 @@ fn are_kept(lines: &Lines, is_whole: bool) -> bool {
     is_line(0, 0) && is_line(1, 1) && is_line(2, 0) && is_line(3, 8)
 }
 
-fn ended_with<E: Fault>(answer: &Result<Ended, E>, lines: &Lines) -> Outcome {
+fn ended_with<E: Fault>(answer: &Result<Walked, E>, lines: &Lines) -> Outcome {
     let stands = match answer {
-        Ok(how) => *how == Ended::Whole && are_kept(lines, true),
+        Ok(walked) => walked.ended == Ended::Whole && are_kept(lines, true),
         Err(_) => are_kept(lines, false),
     };
     Some((name_of(answer), stands))
@@ -317,7 +318,9 @@ fn walk_from(
 ) -> Outcome {
     begin(alloc);
     let answer = walk.from_anchor(tal, anchor, lines);
-    ended_with(&answer, lines)
+    let outcome = ended_with(&answer, lines);
+    drop(answer);
+    outcome
 }
 
 fn walked_from(alloc: Global, walk: &Down<'_>, tal: &Tal, anchor: &Member<'_>) -> Option<Told> {
@@ -329,7 +332,9 @@ fn walked_from(alloc: Global, walk: &Down<'_>, tal: &Tal, anchor: &Member<'_>) -
 fn walk_below(alloc: Global, walk: &Down<'_>, issuer: &ResourceCert, lines: &mut Lines) -> Outcome {
     begin(alloc);
     let answer = walk.below(issuer, lines);
-    ended_with(&answer, lines)
+    let outcome = ended_with(&answer, lines);
+    drop(answer);
+    outcome
 }
 
 fn walked_below(alloc: Global, walk: &Down<'_>, issuer: &ResourceCert) -> Option<Told> {

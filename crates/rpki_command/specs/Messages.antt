@@ -5,6 +5,7 @@ use Rattle.rpki_folder.specs.declared.bounds.Ended.{Ended}
 use Rattle.rpki_folder.specs.declared.bounds.Ended.TheVariants.{Whole, TooDeep, OutOfSteps}
 use Rattle.rpki_text.specs.Misuses.{IsMisuse}
 use Rattle.rpki_text.specs.MisuseTexts as line
+use Rattle.rpki_text.specs.Pages.{count_text}
 use Rattle.rpki_text.specs.declared.command_line.arguments.Misuse as arguments
 use Rattle.rpki_answers.specs.declared.outcomes.Outcome.{Outcome}
 use Rattle.rpki_answers.specs.declared.outcomes.Outcome.TheVariants.{Rejection, WrongUse}
@@ -66,7 +67,9 @@ refusal_outcome why = Rejection
 -- how many files of folders were passed over, if some were, in a line
 abbrev pub passed_message : ℕ → List ℕ
 passed_message passed =
-    if passed == 0 then [] else codes "rpki: passed over in folders: " ++ (decimal passed ++ codes " files whose names end neither in .cer nor in .crl\n")
+    if passed == 0 then []
+    else codes "rpki: skipped in directories: "
+    ++ (count_text passed (codes " file whose name ends") (codes " files whose names end") ++ codes " neither in .cer nor in .crl\n")
 
 -- how many of how many files were read, over the line before; the line ends with the last file
 abbrev pub progress_message : ℕ → ℕ → List ℕ

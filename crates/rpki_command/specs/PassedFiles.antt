@@ -34,7 +34,7 @@ SaysOfOthers (file ∷ others) said = SaysOfEach SaysIfPassed others said
 -- where there is no list, that no path is sought, in a line; and else nothing
 abbrev pub no_list_message : List (List ℕ) → List ℕ
 no_list_message [] =
-    codes "rpki: none of the files is a revocation list: no path is sought, and the file is judged alone\n"
+    codes "rpki: none of the files is a CRL: no path is searched, and the file is validated alone\n"
 no_list_message (name ∷ names) = []
 
 -- what is said of the files, of which those are lists that have these names

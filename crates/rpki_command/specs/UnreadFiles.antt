@@ -53,19 +53,19 @@ failure_text _ = None
 abbrev pub unread_text : Unread → Option (List ℕ)
 unread_text unread.OtherName = Some (codes "a file whose name isn't UTF-8 can't be opened")
 unread_text (unread.TooLong most) =
-    Some (codes "more than " ++ (decimal most ++ codes " octets (--max-size sets the limit)"))
-unread_text (unread.AboveLimit most) = Some (codes "more than " ++ (decimal most ++ codes " octets"))
+    Some (codes "more than " ++ (decimal most ++ codes " bytes (--max-size sets the limit)"))
+unread_text (unread.AboveLimit most) = Some (codes "more than " ++ (decimal most ++ codes " bytes"))
 unread_text (unread.Failed error) = failure_text (error_kind error)
 unread_text unread.Memory = Some (codes "out of memory")
 
 -- and why it didn't make one, which may be there already
 abbrev pub making_text : ErrorKind → Option (List ℕ)
-making_text AlreadyExists = Some (codes "is there already (--force overwrites it)")
+making_text AlreadyExists = Some (codes "exists already (--force replaces it)")
 making_text kind = failure_text kind
 
 abbrev pub unmade_text : Unmade → Option (List ℕ)
-unmade_text unmade.WasRead = Some (codes "is read too: --out has to name another file")
-unmade_text unmade.WasReadAs = Some (codes "is read too, under another name: --out has to name another file")
+unmade_text unmade.WasRead = Some (codes "is read too; expected another file for --out")
+unmade_text unmade.WasReadAs = Some (codes "is read too, under another name; expected another file for --out")
 unmade_text unmade.OtherName = Some (codes "a file whose name isn't UTF-8 can't be opened")
 unmade_text (unmade.Failed error) = making_text (error_kind error)
 

@@ -13,6 +13,7 @@ ghost use Rattle.rpki_command.specs.Messages.{passed_message};
 use crate::files::{FileSource, Unread};
 use crate::reading::tell;
 use anyhow::{Result, anyhow};
+use rpki_text::Count;
 use rpki_text::command_line::{Request, Task};
 use std::alloc::{AllocError, Global};
 use std::io;
@@ -245,9 +246,14 @@ fn tell_passed<E: Write>(err: &mut E, passed: usize) -> io::Result<()>
     if passed == 0 {
         return Ok(());
     }
+    let count = Count {
+        number: passed as u64,
+        one: " file whose name ends",
+        others: " files whose names end",
+    };
     writeln!(
         err,
-        "rpki: passed over in folders: {passed} files whose names end neither in .cer nor in .crl"
+        "rpki: skipped in directories: {count} neither in .cer nor in .crl"
     )
 }
 

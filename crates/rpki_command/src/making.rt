@@ -28,12 +28,12 @@ impl fmt::Display for Unmade {
     fn fmt<W: fmt::Write>(&self, f: &mut fmt::Formatter<W>) -> fmt::Result {
         match self {
             Unmade::OtherName => f.write_str("a file whose name isn't UTF-8 can't be opened"),
-            Unmade::WasRead => f.write_str("is read too: --out has to name another file"),
+            Unmade::WasRead => f.write_str("is read too; expected another file for --out"),
             Unmade::WasReadAs => {
-                f.write_str("is read too, under another name: --out has to name another file")
+                f.write_str("is read too, under another name; expected another file for --out")
             }
             Unmade::Failed(error) => match error.kind() {
-                ErrorKind::AlreadyExists => f.write_str("is there already (--force overwrites it)"),
+                ErrorKind::AlreadyExists => f.write_str("exists already (--force replaces it)"),
                 _ => write_failure(f, error),
             },
         }

@@ -93,7 +93,7 @@ pub fn tell_no_list<E: Write>(err: &mut E, lists: &[Vec<u8>]) -> io::Result<()>
     if lists.is_empty() {
         return writeln!(
             err,
-            "rpki: none of the files is a revocation list: no path is sought, and the file is judged alone"
+            "rpki: none of the files is a CRL: no path is searched, and the file is validated alone"
         );
     }
     Ok(())

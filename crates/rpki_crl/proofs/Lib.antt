@@ -15,3 +15,4 @@ pub mod GivenEntries
 pub mod DeeperLists
 pub mod Earliest
 pub mod NamedLists
+pub mod NamedKeys

@@ -1,14 +1,14 @@
 -- The formats of revocation lists are lawful.
 use Rattle.std.proofs.Common.{◌≡◌, ℕ, List, [], ◌∷◌, refl, arith}
 use Rattle.rpki_der.specs.BasicFormats.{time_format}
-use Rattle.rpki_der.specs.Formats.{any_octets, then}
+use Rattle.rpki_der.specs.Formats.{Format, any_octets, then}
 use Rattle.rpki_der.specs.Skipping.{levels}
 use Rattle.rpki_der.specs.Tags.{CONTEXT_CONSTRUCTED, INTEGER, SEQUENCE}
 use Rattle.rpki_der.specs.Values.{IsEnc, IsValue, enc, length_octets}
 use Rattle.rpki_der.proofs.BasicFormats.{time_lawful}
 use Rattle.rpki_der.proofs.FormatAnswers.{IsAlone, then_alone}
 use Rattle.rpki_der.proofs.FormatChoices.{such_that_lawful}
-use Rattle.rpki_der.proofs.FormatLaws.{any_octets_lawful, fields_lawful, only_lawful, tagged_lawful, then_lawful}
+use Rattle.rpki_der.proofs.FormatLaws.{any_octets_lawful, fields_lawful, only_lawful, optional_lawful, tagged_lawful, then_lawful}
 use Rattle.rpki_der.proofs.Formats.{of_enc}
 use Rattle.rpki_parts.specs.Algorithms.{algorithm_format}
 use Rattle.rpki_parts.specs.Names.{name_format}
@@ -16,7 +16,8 @@ use Rattle.rpki_parts.proofs.NameReads.{name_alone}
 use Rattle.rpki_parts.proofs.PartFormats.{algorithm_alone, algorithm_fits}
 use Rattle.rpki_parts.proofs.SignedFormats.{signed_lawful}
 use Rattle.rpki_crl.specs.ListExtensions.{FitListExtensions, list_extensions_format}
-use Rattle.rpki_crl.specs.Lists.{IsTbsCertList, ListFields, ListFits, IsTbsCertListWithin, list_content, list_encoding, certificate_list_content_format, certificate_list_format, has_one_algorithm, list_content_format, list_format, tagged_extensions_format, version_2}
+use Rattle.rpki_crl.specs.ListHeads.{head_format, skipped_format}
+use Rattle.rpki_crl.specs.Lists.{IsTbsCertList, ListFields, ListFits, IsTbsCertListWithin, list_content, list_encoding, certificate_list_content_format, certificate_list_format, content_with, has_one_algorithm, list_content_format, list_format, tagged_extensions_format, version_2}
 use Rattle.rpki_crl.specs.RevokedEntries.{Revoked, revoked_format}
 use Rattle.rpki_crl.proofs.ListExtensionsReads.{list_extensions_lawful}
 use Rattle.rpki_crl.proofs.ListReads.{revoked_fits, revoked_lawful}
@@ -36,14 +37,30 @@ entries_and_extensions = record {
 time_alone : IsAlone time_format
 time_alone = record { law = time_lawful; none = refl }
 
+skipped_and_extensions : IsAlone (then skipped_format tagged_extensions_format)
+skipped_and_extensions = record {
+  law = then_lawful skipped_format tagged_extensions_format refl
+      (optional_lawful SEQUENCE (any_octets SEQUENCE) refl refl (omega arith) (any_octets_lawful SEQUENCE (omega arith) (omega arith)))
+      (tagged_lawful (CONTEXT_CONSTRUCTED 0) list_extensions_format (omega arith) (omega arith) list_extensions_lawful);
+  none = refl;
+}
+
 module _ (depth : ℕ) where
+  content_alone : {C : Type 0} (entries : Format C) → IsAlone (then entries tagged_extensions_format) → IsAlone (content_with entries depth)
+  content_alone entries last =
+      let times = then_alone time_format _ time_alone (then_alone time_format _ time_alone last) in
+      let parts = then_alone version_2 _ version_alone (then_alone algorithm_format _ algorithm_alone (then_alone (name_format depth) _ (name_alone depth) times)) in
+      record { law = fields_lawful _ _ (λ x. refl) (λ f. refl) parts.law; none = parts.none }
+
   -- anything may follow the content of a TBSCertList
   pub list_content_alone : IsAlone (list_content_format depth)
   unfolding list_content_format
-  list_content_alone =
-      let times = then_alone time_format _ time_alone (then_alone time_format _ time_alone entries_and_extensions) in
-      let parts = then_alone version_2 _ version_alone (then_alone algorithm_format _ algorithm_alone (then_alone (name_format depth) _ (name_alone depth) times)) in
-      record { law = fields_lawful _ _ (λ x. refl) (λ f. refl) parts.law; none = parts.none }
+  list_content_alone = content_alone revoked_format entries_and_extensions
+
+  -- anything may follow a TBSCertList whose entries aren't looked at
+  pub head_alone : IsAlone (head_format depth)
+  unfolding head_format
+  head_alone = record { law = tagged_lawful SEQUENCE (content_with skipped_format depth) (omega arith) (omega arith) (content_alone skipped_format skipped_and_extensions).law; none = refl }
 
   -- anything may follow a TBSCertList
   pub list_alone : IsAlone (list_format depth)

@@ -4,6 +4,7 @@ pub mod SerialBuckets
 pub mod SerialSearches
 pub mod ListExtensions
 pub mod Lists
+pub mod ListHeads
 pub mod Stores
 pub mod ListMaking
 pub mod Revocation

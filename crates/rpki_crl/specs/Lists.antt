@@ -39,17 +39,22 @@ tagged_extensions_format = tagged (CONTEXT_CONSTRUCTED 0) list_extensions_format
 --   thisUpdate Time, nextUpdate Time OPTIONAL,
 --   revokedCertificates SEQUENCE OF SEQUENCE { .. } OPTIONAL,
 --   crlExtensions [0] EXPLICIT Extensions OPTIONAL }
--- restricted to v2 with nextUpdate and crlExtensions (RFC 5280 5.1.2.5, RFC 6487 5)
-unfoldable pub list_content_format : ℕ → Format (ListFields Revoked)
-list_content_format depth = fields
+-- restricted to v2 with nextUpdate and crlExtensions (RFC 5280 5.1.2.5, RFC 6487 5), with
+-- revokedCertificates in this format
+abbrev pub content_with : {C : Type 0} → Format C → ℕ → Format (ListFields C)
+content_with entries depth = fields
     (λ x. record { algorithm = x.1.0; issuer = x.1.1.0; this_update = x.1.1.1.0; next_update = x.1.1.1.1.0; revoked = x.1.1.1.1.1.0; extensions = x.1.1.1.1.1.1 })
     ((λ f. tt) ∶ version_2
     ⨟ (λ f. f.algorithm) ∶ algorithm_format
     ⨟ (λ f. f.issuer) ∶ name_format depth
     ⨟ (λ f. f.this_update) ∶ time_format
     ⨟ (λ f. f.next_update) ∶ time_format
-    ⨟ (λ f. f.revoked) ∶ revoked_format
+    ⨟ (λ f. f.revoked) ∶ entries
     ⨟ (λ f. f.extensions) ∶ tagged_extensions_format)
+
+-- the content of TBSCertList, with its entries
+unfoldable pub list_content_format : ℕ → Format (ListFields Revoked)
+list_content_format = content_with revoked_format
 
 -- TBSCertList
 unfoldable pub list_format : ℕ → Format (ListFields Revoked)

@@ -64,7 +64,7 @@ impl Crl {
     }
 
     // Reads the content of the SEQUENCE, by the reading function.
-    #[tactic(auto, unfolding(crate::specs::Lists::certificate_list_content_format))]
+    #[tactic(auto, unfolding(crate::specs::Lists::certificate_list_content_format, crate::specs::Lists::list_format, crate::specs::Lists::list_content_format))]
     fn read_content(alloc: Global, content: &mut Cursor<'_>) -> Result<Crl, DecodeError>
         ensures reads { let format = certificate_list_content_format levels in
             TookOrMemoryBy (λ c. c.list) format.read content.old result content.new }

@@ -6,6 +6,7 @@ ghost use Rattle.rpki_der.specs.Encoding.{Begins, BeginsOrAbsent};
 ghost use Rattle.rpki_der.specs.Tags.{SEQUENCE};
 ghost use Rattle.rpki_der.specs.Values.{IsUnambiguous};
 ghost use Rattle.rpki_parts.specs.SignedDatas.{signed_data};
+ghost use Rattle.rpki_crl.specs.ListHeads.{NamesKey};
 ghost use Rattle.rpki_crl.specs.Lists.{CrlFields, ListFields, ListFits, IsMadeList, IsTbsCertList, IsCertificateList, IsCertificateListWithin, list_encoding};
 ghost use Rattle.rpki_crl.specs.RevokedEntries.{Entry, Revoked, AreEntries, IsRevokedCertificates, FitsEntry, entries};
 
@@ -52,4 +53,12 @@ pub fn still_read()
     ensures to_32 { (r : CrlFields) (octets rest : List ℕ)
         → Begins (IsCertificateListWithin 16) octets r rest
         → Begins IsCertificateList octets r rest }
+{}
+
+/// States that a CRL's bytes name the key of its authority key identifier, without a look at its
+/// entries, and that no bytes name two keys ([`crate::named_key`]).
+pub fn names_one_key()
+    ensures own { (r : CrlFields) (b : List ℕ) → IsCertificateList r b
+        → NamesKey r.fields.extensions.authority_key_identifier b }
+    ensures one { (k j b : List ℕ) → NamesKey k b → NamesKey j b → k ≡ j }
 {}

@@ -7,6 +7,7 @@ mod crl;
 mod entry;
 mod extensions;
 mod fields;
+mod head;
 mod invalid_extension;
 pub mod laws;
 mod making;
@@ -21,6 +22,7 @@ mod writing;
 
 pub use crl::Crl;
 pub use entry::CrlEntry;
+pub use head::named_key;
 pub use invalid_extension::InvalidExtension;
 pub use revocation_error::RevocationError;
 pub use revoked::{RevokedCertificates, RevokedCertificatesIter};

@@ -4,13 +4,16 @@ ghost use Rattle.std.specs.Borrow.{sem};
 ghost use Rattle.rpki_der.specs.Answers.{AnswersOrMemory};
 ghost use Rattle.rpki_der.specs.Place.{remaining, Keeps};
 ghost use Rattle.rpki_der.specs.Place.Reading.{Took, TookOrMemory, TookOrMemoryBy};
+ghost use Rattle.rpki_der.specs.Formats.{tagged};
 ghost use Rattle.rpki_der.specs.Skipping.{levels};
+ghost use Rattle.rpki_der.specs.Tags.{SEQUENCE};
 ghost use Rattle.rpki_der.specs.Values.{AreOctets};
 ghost use Rattle.rpki_crl.specs.ListExtensions.Views.{extensions_view};
-ghost use Rattle.rpki_crl.specs.Lists.{version_2, list_content_format, list_format, tagged_extensions_format};
+ghost use Rattle.rpki_crl.specs.Lists.{version_2, content_with, list_format, tagged_extensions_format};
 ghost use Rattle.rpki_crl.specs.Lists.Lending.{LendsRevoked};
 
 use crate::extensions::CrlExtensions;
+use crate::head::ReadEntries;
 use crate::revoked::RevokedCertificates;
 use rpki_der::{Cursor, DecodeError, Serial, Time, tag};
 use rpki_ext::beside;
@@ -76,14 +79,10 @@ fn take_extensions(alloc: Global, cursor: &mut Cursor<'_>) -> Result<CrlExtensio
     Ok(extensions)
 }
 
-impl TbsCertList<RevokedCertificates> {
+impl<C: ReadEntries> TbsCertList<C> {
     // Reads the content of the SEQUENCE, by the reading function.
-    #[tactic(auto, unfolding(crate::specs::Lists::list_content_format))]
-    fn take_content(
-        alloc: Global,
-        content: &mut Cursor<'_>,
-    ) -> Result<TbsCertList<RevokedCertificates>, DecodeError>
-        ensures reads { TookOrMemory (list_content_format levels).read
+    fn take_content(alloc: Global, content: &mut Cursor<'_>) -> Result<TbsCertList<C>, DecodeError>
+        ensures reads { TookOrMemory (content_with C.format levels).read
             content.old result content.new }
         ensures keeps { Keeps result content.old content.new }
     {
@@ -93,7 +92,7 @@ impl TbsCertList<RevokedCertificates> {
         let issuer = Name::take_from(alloc, &mut ahead)?;
         let (issuer, this_update) = beside(issuer, Time::take_from(&mut ahead))?;
         let (issuer, next_update) = beside(issuer, Time::take_from(&mut ahead))?;
-        let both = beside(issuer, RevokedCertificates::read(alloc, &mut ahead))?;
+        let both = beside(issuer, C::take_entries(alloc, &mut ahead))?;
         let (both, extensions) = beside(both, take_extensions(alloc, &mut ahead))?;
         let (issuer, revoked_certs) = both;
         *content = ahead;
@@ -107,13 +106,13 @@ impl TbsCertList<RevokedCertificates> {
         })
     }
 
-    /// Reads the data, by the reading function.
-    #[tactic(auto, unfolding(crate::specs::Lists::list_format))]
+    /// Reads the data, with its entries in the form of `C`, by the reading function.
     pub(crate) fn read(
         alloc: Global,
         cursor: &mut Cursor<'_>,
-    ) -> Result<TbsCertList<RevokedCertificates>, DecodeError>
-        ensures reads { TookOrMemory (list_format levels).read cursor.old result cursor.new }
+    ) -> Result<TbsCertList<C>, DecodeError>
+        ensures reads { TookOrMemory (tagged SEQUENCE (content_with C.format levels)).read
+            cursor.old result cursor.new }
         ensures keeps { Keeps result cursor.old cursor.new }
         ensures octets { AreOctets (remaining cursor.old) }
     {
@@ -127,7 +126,9 @@ impl TbsCertList<RevokedCertificates> {
         *cursor = ahead;
         Ok(list)
     }
+}
 
+impl TbsCertList<RevokedCertificates> {
     /// Reads the next TBSCertList, one SEQUENCE with its extensions in any order (RFC 5280 5.1.2,
     /// RFC 6487 5).
     ///
@@ -135,7 +136,6 @@ impl TbsCertList<RevokedCertificates> {
     ///
     /// Returns an error if the remaining bytes start with no TBSCertList (which one is
     /// unspecified), and `Memory`.
-    #[tactic(auto, using(rpki_der::proofs::FormatAnswers::answers_or_memory_alone, crate::proofs::ListFormats::list_alone))]
     pub fn take_from(
         alloc: Global,
         cursor: &mut Cursor<'_>,

@@ -8,7 +8,6 @@ use Rattle.rpki_der.specs.Values.{IsEnc}
 use Rattle.rpki_cert.specs.Certificates.{CertFields, IsCertificate}
 use Rattle.rpki_crl.specs.Lists.{CrlFields, IsCertificateList}
 use Rattle.rpki_cert.specs.SaidKinds.{BeginsWithSaid}
-use Rattle.rpki_files.specs.LocatorFiles.{AreLocator}
 use Rattle.rpki_files.specs.declared.bare.Front.{Front}
 use Rattle.rpki_files.specs.declared.bare.Front.TheVariants as front
 use Rattle.rpki_files.specs.declared.contents.Content.{Content}
@@ -30,10 +29,6 @@ IsList octets = (l : CrlFields) × IsCertificateList l octets
 -- one of the two
 abbrev pub BeginsWithEither : List ℕ → Type 0
 BeginsWithEither octets = BeginsWithCertificate octets ⊎ BeginsWithList octets
-
--- what `rpki show` shows: a certificate or a list, or the locator that the octets are
-abbrev pub CanBeShown : Bool → List ℕ → Type 0
-CanBeShown strict octets = BeginsWithEither octets ⊎ AreLocator strict octets
 
 -- the octets begin with an encoding of the value, behind which so many octets stand
 abbrev pub BeginsBefore : {V : Type 0} → (V → List ℕ → Type 0) → List ℕ → V → ℕ → Type 0

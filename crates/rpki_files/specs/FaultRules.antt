@@ -125,13 +125,13 @@ reading_rule e policies = fault_rule (reading_fault e)
 
 -- octets that don't begin with a list
 abbrev pub no_list : RuleFields
-no_list = rule "it doesn't begin with a list of the profile" "RFC 6487 5"
+no_list = rule "it doesn't begin with a CRL of the profile" "RFC 6487 5"
 
 -- of octets that should begin with a list
 abbrev pub list_rule : DecodeError → RuleFields
 list_rule (decoding.Missing field) = rule "an extension that must be there is missing" "RFC 6487 5"
-list_rule (decoding.Duplicate field) = rule "an extension stands twice" "RFC 5280 4.2"
-list_rule (decoding.InvalidExtension oid) = rule "a list has no other extensions than two" "RFC 6487 5"
+list_rule (decoding.Duplicate field) = rule "an extension appears twice" "RFC 5280 4.2"
+list_rule (decoding.InvalidExtension oid) = rule "a CRL has no extensions but Authority Key Identifier and CRL Number" "RFC 6487 5"
 list_rule decoding.Memory = no_memory
 list_rule e = no_list
 

@@ -95,22 +95,24 @@ reading_faults =
     fault 108 "InvalidExtension" "invalid extension"
     "it doesn't begin with a certificate of the profile" "RFC 6487 4" ∷
     part_fault 120 "Missing" "missing " "" "an extension that must be there is missing" "" ∷
-    part_fault 140 "Duplicate" "duplicate " "" "an extension stands twice" "RFC 5280 4.2" ∷
+    part_fault 140 "Duplicate" "duplicate " "" "an extension appears twice" "RFC 5280 4.2" ∷
     part_fault 160 "Critical" "" " is critical" "an extension that must not be critical is" "" ∷
     part_fault 180 "NotCritical" "" " is not critical"
     "an extension that must be critical isn't" "" ∷
     part_fault 200 "WrongResources" "wrong identifier of " ""
-    "the resources stand under identifiers that its policy doesn't have" "RFC 8360 4.2" ∷ []
+    "the resources are in extensions that its policy doesn't use" "RFC 8360 4.2" ∷ []
 
 -- why a certificate doesn't meet its profile
 unfoldable pub inspection_faults : List FaultFields
 inspection_faults =
     fault 300 "AlgorithmMismatch" "signature algorithm mismatch"
-    "the signature algorithm inside what is signed isn't that of the signature" "RFC 5280 4.1.1.2" ∷
-    fault 301 "Issuer" "invalid issuer" "the issuer's name has another form" "RFC 6487 4.4" ∷
-    fault 302 "Subject" "invalid subject" "the subject's name has another form" "RFC 6487 4.5" ∷
+    "the signature algorithm in the to-be-signed part isn't that of the signature" "RFC 5280 4.1.1.2" ∷
+    fault 301 "Issuer" "invalid issuer"
+    "the issuer's name isn't a CommonName, with a serialNumber at most, in PrintableStrings" "RFC 6487 4.4" ∷
+    fault 302 "Subject" "invalid subject"
+    "the subject's name isn't a CommonName, with a serialNumber at most, in PrintableStrings" "RFC 6487 4.5" ∷
     fault 303 "KeyAlgorithm" "invalid key algorithm"
-    "the key has another algorithm" "RFC 6487 4.7" ∷
+    "the key must be RSA, or on P-256 for a router" "RFC 6487 4.7" ∷
     fault 304 "SubjectKeyIdentifier" "subject key identifier mismatch"
     "the subject key identifier isn't the SHA-1 hash of the key" "RFC 6487 4.8.2" ∷
     fault 305 "ExtendedKeyUsagePresent" "extended key usage present"
@@ -119,7 +121,8 @@ inspection_faults =
     "Basic Constraints don't say that it is a CA" "RFC 6487 4.8.1, RFC 5280 4.2.1.9" ∷
     fault 307 "MissingBasicConstraints" "missing basic constraints"
     "Basic Constraints are missing" "RFC 6487 4.8.1" ∷
-    fault 308 "KeyUsage" "wrong key usage" "the key usage is another" "RFC 6487 4.8.4" ∷
+    fault 308 "KeyUsage" "wrong key usage"
+    "the key usage must be keyCertSign and cRLSign for a CA, digitalSignature for others" "RFC 6487 4.8.4" ∷
     fault 309 "MissingCaRepository" "missing CA repository"
     "the URI of the repository is missing" "RFC 6487 4.8.8.1" ∷
     fault 310 "MissingManifest" "missing manifest"
@@ -129,13 +132,13 @@ inspection_faults =
     fault 312 "SignedObjectPresent" "signed object present"
     "the URI of a signed object must be absent" "own rule" ∷
     fault 313 "AuthorityKeyIdentifier" "authority key identifier mismatch"
-    "the authority key identifier of a trust anchor is another key's" "RFC 6487 4.8.3" ∷
+    "the authority key identifier of a trust anchor isn't its own key's" "RFC 6487 4.8.3" ∷
     fault 314 "CrlUriPresent" "CRL URI present"
-    "the URI of a revocation list must be absent" "RFC 6487 4.8.6" ∷
+    "the URI of a CRL must be absent" "RFC 6487 4.8.6" ∷
     fault 315 "CaIssuerPresent" "CA issuer present"
     "the URI of the issuer's certificate must be absent" "RFC 6487 4.8.7" ∷
     fault 316 "MissingCrlUri" "missing CRL URI"
-    "the URI of the issuer's revocation list is missing" "RFC 6487 4.8.6" ∷
+    "the URI of the issuer's CRL is missing" "RFC 6487 4.8.6" ∷
     fault 317 "BasicConstraintsPresent" "basic constraints present"
     "Basic Constraints must be absent" "RFC 6487 4.8.1" ∷
     fault 318 "CaRepositoryPresent" "CA repository present"
@@ -175,7 +178,7 @@ verification_faults =
     fault 407 "MissingIssuerUri" "missing URI of the issuer's certificate"
     "the URI of the issuer's certificate is missing" "RFC 6487 4.8.7" ∷
     fault 408 "BadSignature" "bad signature"
-    "the signature isn't that of the key above" "RFC 6487 7.2" ∷
+    "the signature doesn't verify with the issuer's key" "RFC 6487 7.2" ∷
     fault 409 "OverclaimV4" "overclaimed IPv4 resources"
     "it lists IPv4 addresses that its issuer doesn't hold" "RFC 6487 7.2" ∷
     fault 410 "OverclaimV6" "overclaimed IPv6 resources"
@@ -187,16 +190,16 @@ verification_faults =
 unfoldable pub revocation_faults : List FaultFields
 revocation_faults =
     fault 500 "NoCrl" "missing revocation list"
-    "its issuer's list isn't among those given" "RFC 6487 7.2" ∷
+    "its issuer's CRL isn't among those given" "RFC 6487 7.2" ∷
     fault 501 "WrongKeyId" "wrong authority key identifier of the revocation list"
-    "the list that is asked names another key than its issuer's" "RFC 6487 5" ∷
+    "the authority key identifier of the CRL isn't its issuer's" "RFC 6487 5" ∷
     fault 502 "BadSignature" "bad signature of the revocation list"
-    "the signature of its issuer's list isn't that of the issuer's key" "RFC 6487 5" ∷
+    "the signature of its issuer's CRL doesn't verify with the issuer's key" "RFC 6487 5" ∷
     fault 503 "Stale" "stale revocation list"
-    "its issuer's list isn't current" "RFC 5280 5.1.2.4, 5.1.2.5" ∷
+    "its issuer's CRL isn't current" "RFC 5280 5.1.2.4, 5.1.2.5" ∷
     fault 504 "Revoked" "certificate revoked" "its issuer has revoked it" "RFC 6487 7.2" ∷
     fault 505 "WrongIssuer" "wrong issuer of the revocation list"
-    "the list that its issuer's key signed has another issuer" "RFC 5280 6.3.3" ∷ []
+    "the CRL that its issuer's key signed names another issuer" "RFC 5280 6.3.3" ∷ []
 
 -- why a path's names, its trust anchor or its last key aren't those that are asked
 unfoldable pub path_faults : List FaultFields
@@ -204,7 +207,7 @@ path_faults =
     fault 600 "OtherName" "the issuer isn't the subject of the certificate above"
     "its issuer isn't the subject of the certificate above" "RFC 6487 7.2" ∷
     fault 601 "OtherKey" "the trust anchor's key isn't the locator's"
-    "its key is that of no locator that was given" "RFC 8630 3" ∷
+    "its key is that of no TAL that was given" "RFC 8630 3" ∷
     fault 602 "NoResources" "the trust anchor lists no resources"
     "it lists no IP address and no AS number" "RFC 8630 2.3" ∷
     fault 603 "BadKey" "the last certificate's key isn't one that the RPKI uses"
@@ -213,13 +216,13 @@ path_faults =
 -- why a file isn't a locator
 unfoldable pub locator_faults : List FaultFields
 locator_faults =
-    fault 700 "NoText" "not UTF-8 text" "the locator isn't UTF-8" "RFC 8630 2.2" ∷
+    fault 700 "NoText" "not UTF-8 text" "the TAL isn't UTF-8" "RFC 8630 2.2" ∷
     fault 701 "BadUri" "bad URI"
-    "a line of the locator's URIs is no rsync or https URI" "RFC 8630 2.2" ∷
-    fault 702 "NoUri" "no URI" "the locator has no URI" "RFC 8630 2.2" ∷
-    fault 703 "NoKey" "no key" "no empty line stands behind the locator's URIs" "RFC 8630 2.2" ∷
+    "a line of the TAL's URIs isn't an rsync or https URI" "RFC 8630 2.2" ∷
+    fault 702 "NoUri" "no URI" "the TAL has no URI" "RFC 8630 2.2" ∷
+    fault 703 "NoKey" "no key" "no empty line follows the TAL's URIs" "RFC 8630 2.2" ∷
     fault 704 "BadKey" "bad key"
-    "what stands behind the locator's empty line is no key in base64" "RFC 8630 2.2" ∷ []
+    "what follows the TAL's empty line isn't a key in base64" "RFC 8630 2.2" ∷ []
 
 -- why no certificate and no list is issued
 unfoldable pub issuing_faults : List FaultFields

@@ -50,10 +50,10 @@ value_named identifier = text_among (universal_values ++ tagged_values) (codes "
 
 -- of a serial number
 abbrev pub serial_flaw_text : SerialFlaw → List ℕ
-serial_flaw_text Empty = codes "an INTEGER without octets"
+serial_flaw_text Empty = codes "an INTEGER without bytes"
 serial_flaw_text Negative = codes "a negative number"
 serial_flaw_text Padded = codes "a number that isn't in the shortest form"
-serial_flaw_text Large = codes "a number of more than 20 octets"
+serial_flaw_text Large = codes "a number of more than 20 bytes"
 
 -- of a version
 abbrev pub version_flaw_text : VersionFlaw → List ℕ

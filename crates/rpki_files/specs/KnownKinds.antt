@@ -154,9 +154,9 @@ kind_name known.NoList = codes "an unknown extension"
 -- what is wanted of an extension of a kind, with the section that asks it; in lists no flag is
 abbrev pub kind_wanted : Kind → List ℕ
 kind_wanted known.BasicConstraints = codes "critical, that it is a CA, and no path length (RFC 6487 4.8.1)"
-kind_wanted known.SubjectKeyIdentifier = codes "not critical, 20 octets (RFC 6487 4.8.2)"
+kind_wanted known.SubjectKeyIdentifier = codes "not critical, 20 bytes (RFC 6487 4.8.2)"
 kind_wanted known.AuthorityKeyIdentifier =
-    codes "not critical, a key identifier of 20 octets alone (RFC 6487 4.8.3)"
+    codes "not critical, a key identifier of 20 bytes alone (RFC 6487 4.8.3)"
 kind_wanted known.KeyUsage =
     codes "critical, keyCertSign with cRLSign, or digitalSignature (RFC 6487 4.8.4)"
 kind_wanted known.ExtendedKeyUsage = codes "not critical, purposes (RFC 6487 4.8.5)"
@@ -165,10 +165,10 @@ kind_wanted known.CrlDistributionPoints =
 kind_wanted known.AuthorityInformationAccess =
     codes "not critical, one rsync URI of the issuer's certificate (RFC 6487 4.8.7; own: only one)"
 kind_wanted known.SubjectInformationAccess =
-    codes "not critical, places by rsync URIs, rpkiNotify by https (RFC 6487 4.8.8)"
+    codes "not critical, rsync URIs, and https for rpkiNotify (RFC 6487 4.8.8)"
 kind_wanted known.CertificatePolicies = codes "critical, the policy of the RPKI alone (RFC 6487 4.8.9)"
 kind_wanted known.IpResources = codes "addresses by family, or inherit (RFC 3779 2.2.3)"
 kind_wanted known.AsResources = codes "AS numbers, or inherit (RFC 3779 3.2.3)"
 kind_wanted known.CrlNumber = codes "an INTEGER that isn't negative (RFC 5280 5.2.3)"
 kind_wanted known.Unknown = codes "not critical (RFC 6487 4.8)"
-kind_wanted known.NoList = codes "none but two in a list (RFC 6487 5)"
+kind_wanted known.NoList = codes "of a CRL, Authority Key Identifier and CRL Number alone (RFC 6487 5)"

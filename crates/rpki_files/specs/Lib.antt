@@ -2,6 +2,7 @@
 pub mod PemFiles
 pub mod Files
 pub mod Contents
+pub mod ToBeSigned
 pub mod LocatorFiles
 pub mod StopPlaces
 pub mod NamedFaults

@@ -20,10 +20,10 @@ told name wanted = record { name = codes name; wanted = codes wanted }
 
 -- of a field
 abbrev pub field_text : Field → PartFields
-field_text field.Version = told "the version" "version 3: 2 inside [0], and nothing behind it (RFC 6487 4.1)"
+field_text field.Version = told "the version" "version 3: the INTEGER 2 in [0], and nothing after it (RFC 6487 4.1)"
 field_text field.ListVersion = told "the version" "version 2: the INTEGER 1 (RFC 6487 5)"
 field_text field.Serial =
-    told "the serial number" "an INTEGER that isn't negative, of 20 octets at most (RFC 5280 4.1.2.2)"
+    told "the serial number" "an INTEGER that isn't negative, of at most 20 bytes (RFC 5280 4.1.2.2)"
 field_text field.Algorithm = told "the signature algorithm" "sha256WithRSAEncryption (RFC 7935 2)"
 field_text field.Issuer = told "the issuer" "a Name (RFC 5280 4.1.2.4)"
 field_text field.Validity =
@@ -45,18 +45,18 @@ kind_text k = record { name = kind_name k; wanted = kind_wanted k }
 -- of a part
 abbrev pub part_text : Part → PartFields
 part_text part.Outer = told "the outer SEQUENCE" "a SEQUENCE that ends within the file (RFC 5280 4.1, 5.1)"
-part_text part.Signed = told "what is signed" "a SEQUENCE (RFC 5280 4.1, 5.1)"
+part_text part.Signed = told "the to-be-signed part" "a SEQUENCE (RFC 5280 4.1, 5.1)"
 part_text (part.Field f) = field_text f
 part_text part.Entries = told "the revoked certificates" "a SEQUENCE (RFC 5280 5.1.2.6)"
 part_text part.Entry =
-    told "a revoked certificate" "a serial number and a time, and nothing behind them (RFC 6487 5)"
+    told "a revoked certificate" "a serial number and a time, and nothing after them (RFC 6487 5)"
 part_text part.Extensions = told "the extensions" "a SEQUENCE of all that must be there (RFC 6487 4.8, 5)"
 part_text part.Extension =
-    told "an extension" "an identifier, a flag where it is true, and an OCTET STRING (RFC 5280 4.1)"
+    told "an extension" "an identifier, TRUE if it is critical, and an OCTET STRING (RFC 5280 4.1)"
 part_text (part.Kind k) = kind_text k
 part_text (part.Second k) = kind_text k
 part_text part.Behind = told "what follows the extensions" "nothing (RFC 5280 4.1, 5.1)"
 part_text part.OtherAlgorithm =
-    told "the algorithm of the signature" "the one inside what is signed (RFC 5280 5.1.1.2)"
+    told "the algorithm of the signature" "the one in the to-be-signed part (RFC 5280 5.1.1.2)"
 part_text part.Signature =
-    told "the signature" "a BIT STRING of whole octets, and nothing behind it (RFC 5280 4.1.1.3, 5.1.1.3)"
+    told "the signature" "a BIT STRING of whole bytes, and nothing after it (RFC 5280 4.1.1.3, 5.1.1.3)"

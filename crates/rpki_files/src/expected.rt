@@ -74,10 +74,11 @@ impl Field {
         ensures { result.now ≡ (field_text self).wanted }
     {
         match self {
-            Field::Version => "version 3: 2 inside [0], and nothing behind it (RFC 6487 4.1)",
+            Field::Version =>
+                "version 3: the INTEGER 2 in [0], and nothing after it (RFC 6487 4.1)",
             Field::ListVersion => "version 2: the INTEGER 1 (RFC 6487 5)",
             Field::Serial => {
-                "an INTEGER that isn't negative, of 20 octets at most (RFC 5280 4.1.2.2)"
+                "an INTEGER that isn't negative, of at most 20 bytes (RFC 5280 4.1.2.2)"
             }
             Field::Algorithm => "sha256WithRSAEncryption (RFC 7935 2)",
             Field::Issuer => "a Name (RFC 5280 4.1.2.4)",
@@ -98,7 +99,7 @@ impl Part {
     {
         match self {
             Part::Outer => "the outer SEQUENCE",
-            Part::Signed => "what is signed",
+            Part::Signed => "the to-be-signed part",
             Part::Field(field) => field.name(),
             Part::Entries => "the revoked certificates",
             Part::Entry => "a revoked certificate",
@@ -120,16 +121,16 @@ impl Part {
             Part::Signed => "a SEQUENCE (RFC 5280 4.1, 5.1)",
             Part::Field(field) => field.wanted(),
             Part::Entries => "a SEQUENCE (RFC 5280 5.1.2.6)",
-            Part::Entry => "a serial number and a time, and nothing behind them (RFC 6487 5)",
+            Part::Entry => "a serial number and a time, and nothing after them (RFC 6487 5)",
             Part::Extensions => "a SEQUENCE of all that must be there (RFC 6487 4.8, 5)",
             Part::Extension => {
-                "an identifier, a flag where it is true, and an OCTET STRING (RFC 5280 4.1)"
+                "an identifier, TRUE if it is critical, and an OCTET STRING (RFC 5280 4.1)"
             }
             Part::Kind(kind) | Part::Second(kind) => kind.wanted(),
             Part::Behind => "nothing (RFC 5280 4.1, 5.1)",
-            Part::OtherAlgorithm => "the one inside what is signed (RFC 5280 5.1.1.2)",
+            Part::OtherAlgorithm => "the one in the to-be-signed part (RFC 5280 5.1.1.2)",
             Part::Signature => {
-                "a BIT STRING of whole octets, and nothing behind it (RFC 5280 4.1.1.3, 5.1.1.3)"
+                "a BIT STRING of whole bytes, and nothing after it (RFC 5280 4.1.1.3, 5.1.1.3)"
             }
         }
     }

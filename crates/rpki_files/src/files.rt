@@ -309,8 +309,12 @@ fn with_sort<'a>(
     }
 }
 
-// The object of this name and of these octets, with what is read of them.
-fn object_of<'a>(alloc: Global, name: &'a str, octets: Bytes) -> Result<Object<'a>, AllocError>
+/// Reads what is at the start of the bytes of the object with this name.
+pub(crate) fn object_of<'a>(
+    alloc: Global,
+    name: &'a str,
+    octets: Bytes,
+) -> Result<Object<'a>, AllocError>
     ensures name { IfOk result (λ object. object.name ≡ name.now) }
     ensures octets { IfOk result (λ object. object.octets ≡ octets) }
 {

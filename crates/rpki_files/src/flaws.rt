@@ -109,10 +109,10 @@ fn serial(flaw: SerialFlaw) -> &'static str
     ensures { result.now ≡ serial_flaw_text flaw }
 {
     match flaw {
-        SerialFlaw::Empty => "an INTEGER without octets",
+        SerialFlaw::Empty => "an INTEGER without bytes",
         SerialFlaw::Negative => "a negative number",
         SerialFlaw::Padded => "a number that isn't in the shortest form",
-        SerialFlaw::Large => "a number of more than 20 octets",
+        SerialFlaw::Large => "a number of more than 20 bytes",
     }
 }
 

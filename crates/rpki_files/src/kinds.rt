@@ -177,9 +177,9 @@ impl Kind {
             Kind::BasicConstraints => {
                 "critical, that it is a CA, and no path length (RFC 6487 4.8.1)"
             }
-            Kind::SubjectKeyIdentifier => "not critical, 20 octets (RFC 6487 4.8.2)",
+            Kind::SubjectKeyIdentifier => "not critical, 20 bytes (RFC 6487 4.8.2)",
             Kind::AuthorityKeyIdentifier => {
-                "not critical, a key identifier of 20 octets alone (RFC 6487 4.8.3)"
+                "not critical, a key identifier of 20 bytes alone (RFC 6487 4.8.3)"
             }
             Kind::KeyUsage => {
                 "critical, keyCertSign with cRLSign, or digitalSignature (RFC 6487 4.8.4)"
@@ -192,14 +192,14 @@ impl Kind {
                 "not critical, one rsync URI of the issuer's certificate (RFC 6487 4.8.7; own: only one)"
             }
             Kind::SubjectInformationAccess => {
-                "not critical, places by rsync URIs, rpkiNotify by https (RFC 6487 4.8.8)"
+                "not critical, rsync URIs, and https for rpkiNotify (RFC 6487 4.8.8)"
             }
             Kind::CertificatePolicies => "critical, the policy of the RPKI alone (RFC 6487 4.8.9)",
             Kind::IpResources => "addresses by family, or inherit (RFC 3779 2.2.3)",
             Kind::AsResources => "AS numbers, or inherit (RFC 3779 3.2.3)",
             Kind::CrlNumber => "an INTEGER that isn't negative (RFC 5280 5.2.3)",
             Kind::Unknown => "not critical (RFC 6487 4.8)",
-            Kind::NoList => "none but two in a list (RFC 6487 5)",
+            Kind::NoList => "of a CRL, Authority Key Identifier and CRL Number alone (RFC 6487 5)",
         }
     }
 

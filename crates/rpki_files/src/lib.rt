@@ -19,6 +19,7 @@ mod places;
 mod policies;
 pub mod rules;
 mod sorts;
+mod unsigned;
 
 pub use bare::{BareObject, Front, read_bare_object};
 pub use contents::{Content, Form, looks_like};
@@ -29,3 +30,4 @@ pub use locators::{looks_like_locator, read_locator};
 pub use places::Place;
 pub use policies::extensions_in;
 pub use sorts::{Description, Sort, describe};
+pub use unsigned::as_unsigned;

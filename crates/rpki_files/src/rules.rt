@@ -180,9 +180,9 @@ fn of_list(fault: &DecodeError) -> Rule
     }
     rules! { fault: DecodeError;
         Missing(_) => "an extension that must be there is missing", "RFC 6487 5";
-        Duplicate(_) => "an extension stands twice", "RFC 5280 4.2";
-        InvalidExtension(_) => "a list has no other extensions than two", "RFC 6487 5";
-        _ => "it doesn't begin with a list of the profile", "RFC 6487 5";
+        Duplicate(_) => "an extension appears twice", "RFC 5280 4.2";
+        InvalidExtension(_) => "a CRL has no extensions but Authority Key Identifier and CRL Number", "RFC 6487 5";
+        _ => "it doesn't begin with a CRL of the profile", "RFC 6487 5";
     }
 }
 

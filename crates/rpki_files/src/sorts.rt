@@ -302,53 +302,53 @@ pub fn describe(sort: Sort) -> Description
 {
     descriptions! { sort:
         Empty => "empty file",
-            "it has no octets", "RFC 5280 4.1", "fetch or copy it again";
+            "it has no bytes", "RFC 5280 4.1", "fetch or copy it again";
         Base64 => "base64 without the lines of PEM",
-            "no line that begins with -----BEGIN stands before it", "RFC 7468 2",
+            "no line that begins with -----BEGIN is before it", "RFC 7468 2",
             "put the lines of PEM around it, or decode it: base64 -d";
         SeveralPem => "PEM with several objects",
             "more than one object begins in it, and a file is read as one", "RFC 7468 2",
             "put each object into a file of its own";
         UnendedPem => "PEM without its end",
-            "no line that begins with -----END stands behind its first object", "RFC 7468 2",
+            "no line that begins with -----END follows its first object", "RFC 7468 2",
             "copy it again, as a whole";
         DamagedPem => "damaged PEM",
-            "what stands between its lines isn't base64", "RFC 7468 3",
+            "what is between its lines isn't base64", "RFC 7468 3",
             "copy it again, as a whole";
-        Locator => "trust anchor locator",
+        Locator => "trust anchor locator (TAL)",
             "it says where a trust anchor is and which key that has", "RFC 8630 2.2",
             "give it with --tal, and the trust anchor as the first file";
         Roa => "signed object: a route origin authorization (ROA)",
-            "it is signed data of CMS, inside which its end entity's certificate stands",
+            "it is CMS signed data, and its EE certificate is inside",
             "RFC 9582 3", "take the certificate out: openssl pkcs7 -inform DER -print_certs";
         Manifest => "signed object: a manifest",
-            "it is signed data of CMS, inside which its end entity's certificate stands",
+            "it is CMS signed data, and its EE certificate is inside",
             "RFC 9286 4.1", "take the certificate out: openssl pkcs7 -inform DER -print_certs";
         Ghostbusters => "signed object: a Ghostbusters record",
-            "it is signed data of CMS, inside which its end entity's certificate stands",
+            "it is CMS signed data, and its EE certificate is inside",
             "RFC 6493 5", "take the certificate out: openssl pkcs7 -inform DER -print_certs";
-        SignedData => "signed data of CMS",
-            "it may have certificates inside, and is none itself",
+        SignedData => "CMS signed data",
+            "certificates may be inside, but it isn't one itself",
             "RFC 5652 5.1", "take the certificates out: openssl pkcs7 -inform DER -print_certs";
         PrivateKey => "private key (PKCS #8)",
-            "it is a secret key, and no certificate of its public key", "RFC 5958 2",
+            "it is a secret key, not a certificate of its public key", "RFC 5958 2",
             "keep it secret, and give the certificate";
         RsaPrivateKey => "private key of RSA (PKCS #1)",
-            "it is a secret key, and no certificate of its public key", "RFC 8017 A.1.2",
+            "it is a secret key, not a certificate of its public key", "RFC 8017 A.1.2",
             "keep it secret, and give the certificate";
         CurvePrivateKey => "private key on a curve",
-            "it is a secret key, and no certificate of its public key", "RFC 5915 3",
+            "it is a secret key, not a certificate of its public key", "RFC 5915 3",
             "keep it secret, and give the certificate";
         PublicKey => "public key",
-            "it is a SubjectPublicKeyInfo, as certificates and locators have one inside",
+            "it is a SubjectPublicKeyInfo, which certificates and TALs contain",
             "RFC 5280 4.1", "give the certificate of the key";
         Request => "certification request (PKCS #10)",
             "it asks for a certificate, and no issuer has signed it", "RFC 2986 4",
             "give the certificate that was issued";
-        Version1 => "certificate of X.509, of version 1",
+        Version1 => "X.509 certificate of version 1",
             "those of the RPKI are of version 3", "RFC 6487 4.1",
             "give a certificate of the RPKI; openssl x509 -text shows this one";
-        OtherCertificate => "certificate of X.509 that isn't of the RPKI",
+        OtherCertificate => "X.509 certificate that isn't of the RPKI",
             "it lists no resources, and doesn't name the policy of the RPKI",
             "RFC 6487 4.8.9, 4.8.10, 4.8.11",
             "give a certificate of the RPKI; openssl x509 -text shows this one";

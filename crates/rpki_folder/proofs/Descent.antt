@@ -22,7 +22,7 @@ use Rattle.rpki_folder.specs.declared.bounds.Ended.{Ended}
 use Rattle.rpki_folder.specs.declared.bounds.Ended.TheVariants.{Whole, TooDeep, OutOfSteps}
 use Rattle.rpki_folder.specs.Folders.{octets_at, NamesSigner}
 use Rattle.rpki_folder.specs.IssuerLists.{ArePicked}
-use Rattle.rpki_folder.specs.Walks.{Root, members_at, LeadsTo, Told, told, IsRight, IsTold, StandsAt, worse, Covers, AreAdmitted, IsLetIn, IsChildOf, TakesStep, AreFew}
+use Rattle.rpki_folder.specs.Walks.{Root, members_at, LeadsTo, Told, told, IsRight, IsTold, IsVerdictTold, StandsAt, worse, Covers, AreAdmitted, IsLetIn, IsChildOf, TakesStep, AreFew}
 use Rattle.rpki_folder.specs.Walks.Steps.{IsAnswer, IsOutcome, IsToldOf}
 use Rattle.rpki_folder.proofs.PathsDown.{members_next, leads_further, one_holder}
 use Rattle.rpki_folder.proofs.Outcomes.{right_answer}
@@ -39,6 +39,16 @@ told_behind ts more above place h = let c = Contains-append_right ts more h.1 (h
 -- a verdict that is among these, and accepts
 pub told_here : (ts : List Told) (above : List ℕ) (place : ℕ) (verdict : Result Judged PathFault) → Contains ts (told above place verdict) → IsOk verdict → IsTold ts above place
 told_here ts above place verdict at ok = (at.0, told above place verdict, at.1, at.2, (refl, refl, ok))
+
+-- so does a verdict
+pub has_more : (ts more : List Told) (above : List ℕ) (place : ℕ) → IsVerdictTold ts above place → IsVerdictTold (ts ++ more) above place
+has_more ts more above place h = let c = Contains-append_left ts more h.1 (h.0, h.2, h.3) in (c.0, h.1, c.1, c.2, h.4)
+
+pub has_behind : (ts more : List Told) (above : List ℕ) (place : ℕ) → IsVerdictTold more above place → IsVerdictTold (ts ++ more) above place
+has_behind ts more above place h = let c = Contains-append_right ts more h.1 (h.0, h.2, h.3) in (c.0, h.1, c.1, c.2, h.4)
+
+pub has_here : (ts : List Told) (above : List ℕ) (place : ℕ) (verdict : Result Judged PathFault) → Contains ts (told above place verdict) → IsVerdictTold ts above place
+has_here ts above place verdict at = (at.0, told above place verdict, at.1, at.2, (refl, refl))
 
 pub all_append : {X : Type 0} (P : X → Type 0) (xs ys : List X) → AllByRecursion P xs → AllByRecursion P ys → AllByRecursion P (xs ++ ys)
 all_append P [] ys p q = q

@@ -1,6 +1,6 @@
 -- One verdict more, in the lines that are kept.
 use Rattle.std.specs.List.{AllByRecursion}
-use Rattle.std.specs.Prelude.{Any, Result, Ok, Err, IsOk, OnOk}
+use Rattle.std.specs.Prelude.{Any, Result, Ok, Err, IsOk, OnErr, OnOk}
 use Rattle.std.proofs.Common.{◌≡◌, ◌+◌, ◌<◌, ◌≤◌, ℕ, List, [], ◌∷◌, ◌++◌, length, get_or, refl, sym, ap, subst, ◌∙◌, inl, inr, arith}
 use Rattle.std.proofs.Math.ListN.{set, get_or-append}
 use Rattle.std.proofs.Math.Nat.{eq-or-lt_of_le}
@@ -13,9 +13,11 @@ use Rattle.rpki_path.specs.declared.path_fault.PathFault.{PathFault}
 use Rattle.rpki_folder.specs.Walks.{Told, told, IsTold}
 use Rattle.rpki_folder.specs.KeptLines.{step, IsRejectedWithin, IsToldBy, IsLine, AreLines, Stays}
 use Rattle.rpki_folder.specs.declared.find.FoundPath.{FoundPath}
+use Rattle.rpki_folder.specs.declared.lines.AcceptedPaths.{AcceptedPaths}
 use Rattle.rpki_folder.specs.declared.lines.Line.{Line}
 use Rattle.rpki_folder.specs.declared.lines.Line.TheVariants.{Unseen, Accepted, Rejected}
 use Rattle.rpki_folder.proofs.Descent.{all_append, less-or-not}
+use Rattle.rpki_folder.proofs.KeptPaths.{paths_first, paths_same}
 
 any_more : (P : Told → Type 0) (ts more : List Told) → Any P ts → Any P (ts ++ more)
 any_more P ts more h = let c = Contains-append_left ts more h.1 (h.0, h.2, h.3) in (c.0, h.1, c.1, c.2, h.4)
@@ -32,19 +34,42 @@ pub when_ok : {T E : Type 0} (P N Q : Type 0) (r : Result T E) → P → (N → 
 when_ok P N Q (Ok x) p f = (p, f)
 when_ok P N Q (Err e) p f = tt
 
--- the verdict accepts the certificate at the place by this path
-abbrev IsAcceptance : ℕ → FoundPath → Told → Type 0
-IsAcceptance place path t = (t.above ≡ path.above.items) × (t.place ≡ place) × (t.verdict ≡ Ok path.judged)
+pub when_err : {T E : Type 0} (P N Q : Type 0) (r : Result T E) → P → (N → OnErr r Q) → OnErr r (P × (N → Q))
+when_err P N Q (Ok x) p f = tt
+when_err P N Q (Err e) p f = (p, f)
+
+-- what follows of either
+pub ok_gives : {T E : Type 0} (P Q : Type 0) (r : Result T E) → (P → Q) → OnOk r P → OnOk r Q
+ok_gives P Q (Ok x) f p = f p
+ok_gives P Q (Err e) f p = tt
+
+pub err_gives : {T E : Type 0} (P Q : Type 0) (r : Result T E) → (P → Q) → OnErr r P → OnErr r Q
+err_gives P Q (Ok x) f p = tt
+err_gives P Q (Err e) f p = f p
+
+pub then_err : {T E : Type 0} (P : Type 0) (r : Result T E) → P → OnErr r P
+then_err P (Ok x) p = tt
+then_err P (Err e) p = p
 
 -- what is told so is told
 pub told_so : (ts : List Told) (place : ℕ) (path : FoundPath) → IsToldBy ts place path → IsTold ts path.above.items place
 told_so ts place path h = (h.0, h.1, h.2, h.3, (h.4.0, h.4.1, subst (λ (r : Result Judged PathFault). IsOk r) (sym h.4.2) refl))
 
+-- lines of which one was replaced by such a line, where nothing was told
+pub line_again : (ts : List Told) (lines : List Line) (place : ℕ) (l : Line) → place < length lines → AreLines ts lines → IsLine ts place l → AreLines ts (set lines place l)
+line_again ts lines place l here old new = λ p d low.
+    let short : p < length lines = omega (arith, length-set lines place l) in
+    elim (cases_eq p place) [
+      | inl is ↦ subst (λ (k : ℕ). IsLine ts k (get_or (set lines place l) k d)) (sym is)
+          (subst (λ (k : Line). IsLine ts place k) (sym (get_or-set_same lines place l d here)) new)
+      | inr apart ↦ subst (λ (k : Line). IsLine ts p k) (sym (get_or-set_other lines place p l d apart)) (old p d short)
+    ]
+
 module _ (ts : List Told) (t : Told) where
   -- the line of another place
   other_line : (place : ℕ) (l : Line) → (t.place ≡ place → ⊥) → IsLine ts place l → IsLine (ts ++ t ∷ []) place l
   other_line place Unseen apart h = all_append (λ (u : Told). u.place ≡ place → ⊥) ts (t ∷ []) h (apart, tt)
-  other_line place (Accepted path) apart h = any_more (IsAcceptance place path) ts (t ∷ []) h
+  other_line place (Accepted paths) apart h = paths_same place t ts paths h (λ f. apart f.0)
   other_line place (Rejected n fault) apart h = (
     any_more (λ u. (u.place ≡ place) × (step u ≡ n) × (u.verdict ≡ Err fault)) ts (t ∷ []) h.0,
     all_append (IsRejectedWithin place n) ts (t ∷ []) h.1 ((λ is. absurd (apart is)), tt),
@@ -70,13 +95,19 @@ module _ (ts : List Told) (t : Told) where
   ]
 
 module _ (ts : List Told) (above : List ℕ) (place : ℕ) where
-  -- an accepted certificate has its line
-  pub accepted_now : (j : Judged) (path : FoundPath) → path.above.items ≡ above → path.judged ≡ j → IsLine (ts ++ told above place (Ok j) ∷ []) place (Accepted path)
-  accepted_now j path is holds = any_last (IsAcceptance place path) ts (told above place (Ok j)) (sym is, refl, ap (λ (k : Judged). Ok k) (sym holds))
+  -- a line of no accepting verdict says so
+  pub none_accepted : (l : Line) → ((paths : AcceptedPaths) → l ≡ Accepted paths → ⊥) → IsLine ts place l → AllByRecursion (λ u. u.place ≡ place → IsOk u.verdict → ⊥) ts
+  none_accepted Unseen other h = all_weaker (λ (u : Told). u.place ≡ place → ⊥) (λ (u : Told). u.place ≡ place → IsOk u.verdict → ⊥) (λ u never same ok. never same) ts h
+  none_accepted (Accepted paths) other h = absurd (other paths refl)
+  none_accepted (Rejected n fault) other h = all_weaker (IsRejectedWithin place n) (λ (u : Told). u.place ≡ place → IsOk u.verdict → ⊥) (λ u old same ok. (old same).0 ok) ts h.1
 
-  -- and keeps it
-  pub accepted_before : (t : Told) (path : FoundPath) → IsLine ts place (Accepted path) → IsLine (ts ++ t ∷ []) place (Accepted path)
-  accepted_before t path h = any_more (IsAcceptance place path) ts (t ∷ []) h
+  -- an accepted certificate has its line
+  pub accepted_now : (j : Judged) (paths : AcceptedPaths) (l : Line) → ((paths : AcceptedPaths) → l ≡ Accepted paths → ⊥) → IsLine ts place l → paths.first.above.items ≡ above → paths.first.judged ≡ j → paths.others.items ≡ [] → paths.more ≡ 0 → IsLine (ts ++ told above place (Ok j) ∷ []) place (Accepted paths)
+  accepted_now j paths l other h is holds others more = paths_first place (told above place (Ok j)) ts paths (sym is, refl, ap (λ (k : Judged). Ok k) (sym holds)) others more (none_accepted l other h)
+
+  -- and keeps it where it is rejected
+  pub accepted_before : (fault : PathFault) (paths : AcceptedPaths) → IsLine ts place (Accepted paths) → IsLine (ts ++ told above place (Err fault) ∷ []) place (Accepted paths)
+  accepted_before fault paths h = paths_same place (told above place (Err fault)) ts paths h (λ f. let ok = f.1 in absurd cc)
 
   module _ (fault : PathFault) where
     abbrev t : Told
@@ -111,13 +142,13 @@ module _ (ts : List Told) (above : List ℕ) (place : ℕ) where
     -- a line that stays
     pub kept_line : (l : Line) → Stays (length above + 1) l → IsLine ts place l → IsLine (ts ++ t ∷ []) place l
     kept_line Unseen stays h = absurd stays
-    kept_line (Accepted path) stays h = accepted_before t path h
+    kept_line (Accepted paths) stays h = accepted_before fault paths h
     kept_line (Rejected m other) stays h = rejected_lower m other stays h
 
     -- one that doesn't
     pub new_line : (l : Line) → (Stays (length above + 1) l → ⊥) → IsLine ts place l → IsLine (ts ++ t ∷ []) place (Rejected (length above + 1) fault)
     new_line Unseen goes h = rejected_first (length above + 1) refl h
-    new_line (Accepted path) goes h = absurd (goes tt)
+    new_line (Accepted paths) goes h = absurd (goes tt)
     new_line (Rejected m other) goes h = let less : m < length above + 1 = elim (less-or-not m (length above + 1)) [ inl low ↦ low | inr high ↦ absurd (goes high) ] in rejected_higher (length above + 1) m other refl less h
 
 -- ---- lines

@@ -15,10 +15,11 @@ use Rattle.rpki_cert.specs.declared.inspect.Kind.TheVariants.{Authority}
 use Rattle.rpki_folder.specs.declared.bounds.Ended.{Ended}
 use Rattle.rpki_folder.specs.declared.bounds.Ended.TheVariants.{Whole, TooDeep, OutOfSteps}
 use Rattle.rpki_folder.specs.declared.walk.Ca.{Ca}
-use Rattle.rpki_folder.specs.Folders.{octets_at, ArePlacesOf}
-use Rattle.rpki_folder.specs.Walks.{Root, members_at, LeadsTo, IsReached, Told, IsRight, IsTold, worse, Covers, AreAdmitted, IsLetIn, IsChildOf, AreChildren, IsAcceptedCa, AreAcceptedCas, IsHandedDown, HasShare, HasEnough, IsShort, TakesStep, AreFew, HasBelow, IsTooDeep, IsComplete, IsCompleteInShares, IsEnough, Tells, TellsBelow}
+use Rattle.rpki_folder.specs.Folders.{octets_at, cas_at, ArePlacesOf}
+use Rattle.rpki_folder.specs.Walks.{Root, members_at, LeadsTo, IsReached, Told, IsRight, IsTold, worse, Covers, AreAdmitted, IsLetIn, IsChildOf, AreChildren, IsAcceptedCa, AreAcceptedCas, IsHandedDown, HasShare, HasEnough, IsShort, TakesStep, AreFew, HasBelow, IsTooDeep, IsChildAt, IsComplete, IsCompleteInShares, IsJudgedInShares, IsVerdictTold, IsEnough, Tells, TellsBelow}
 use Rattle.rpki_folder.specs.Walks.Steps.{AreChildrenAmong, places_of, AreJudged, down_to, TellsBelowEach, WalksBelowEach}
-use Rattle.rpki_folder.proofs.Descent.{told_more, told_behind, told_here, all_append, all_weaker, if_err, if_ok, ok_if, covers_first, covers_second, covers_below, worse_out, worse_deep, there, child_names, most_append, most_more, most_all, IsSound, sound_append, sound_more, let_in_above, ca_leads}
+use Rattle.rpki_folder.proofs.ChildPaths.{passing, child_here, child_on}
+use Rattle.rpki_folder.proofs.Descent.{has_more, has_behind, has_here, told_more, told_behind, told_here, all_append, all_weaker, if_err, if_ok, ok_if, covers_first, covers_second, covers_below, worse_out, worse_deep, there, child_names, most_append, most_more, most_all, IsSound, sound_append, sound_more, let_in_above, ca_leads}
 use Rattle.rpki_folder.proofs.OnceLists.{once_length, once_shorter}
 use Rattle.rpki_folder.proofs.PathsDown.{members_next, one_holder, is_child}
 use Rattle.rpki_folder.proofs.Outcomes.{outcome_ok, outcome_goes_on, reached_passes, reached_child}
@@ -100,6 +101,7 @@ module _ (x : Context) (asked : RevocationChecks) (admits : List ℕ → ℕ →
     too_deep = λ is. absurd (cc is);
     complete = λ ca at. absurd (in_none ca at);
     in_shares = λ ca at. absurd (in_none ca at);
+    judged = λ ca at. absurd (in_none ca at);
     enough = λ ca at. absurd (in_none ca at);
   }
 
@@ -132,6 +134,7 @@ module _ (x : Context) (asked : RevocationChecks) (admits : List ℕ → ℕ →
     too_deep = if_err (λ ended. ended ≡ TooDeep → (ca : Ca) × Contains cas ca × IsTooDeep x asked admits root certs (down_to above ca) depth ended) q err;
     complete = if_err (λ ended. (ca : Ca) → Contains cas ca → IsComplete x asked admits root certs (down_to above ca) depth ts ended) q err;
     in_shares = if_err (λ ended. (ca : Ca) → Contains cas ca → IsCompleteInShares x asked admits root certs (down_to above ca) depth share ts) q err;
+    judged = if_err (λ ended. (ca : Ca) → Contains cas ca → IsJudgedInShares x asked admits root certs (down_to above ca) depth share ts) q err;
     enough = if_err (λ ended. (ca : Ca) → Contains cas ca → IsEnough x asked admits root certs (down_to above ca) depth share ended) q err;
   }
 
@@ -171,6 +174,12 @@ module _ (x : Context) (asked : RevocationChecks) (admits : List ℕ → ℕ →
             let here : IsCompleteInShares x asked admits root certs (down_to above ca) depth share us = subst (λ (c : Ca). IsCompleteInShares x asked admits root certs (down_to above c) depth share us) is t.in_shares in
             told_behind ts us (down_to above ca ++ between) place (here between place enough admitted reached)
       ];
+      judged = λ ca at between place enough admitted child. elim (Contains-push_cases cas one ca at) [
+        | inl before ↦ has_more ts us (down_to above ca ++ between) place (h.judged ca before between place enough admitted child)
+        | inr is ↦
+            let here : IsJudgedInShares x asked admits root certs (down_to above ca) depth share us = subst (λ (c : Ca). IsJudgedInShares x asked admits root certs (down_to above c) depth share us) is t.judged in
+            has_behind ts us (down_to above ca ++ between) place (here between place enough admitted child)
+      ];
       enough = λ ca at between place covers admitted reached. elim (Contains-push_cases cas one ca at) [
         | inl before ↦ h.enough ca before between place (covers_first ended end depth (length between + 1) covers) admitted reached
         | inr is ↦
@@ -194,6 +203,7 @@ module _ (x : Context) (asked : RevocationChecks) (admits : List ℕ → ℕ →
         too_deep = if_err (λ ended. ended ≡ TooDeep → (ca : Ca) × Contains (take index cas ++ one ∷ []) ca × IsTooDeep x asked admits root certs (down_to above ca) depth ended) e err;
         complete = if_err (λ ended. (ca : Ca) → Contains (take index cas ++ one ∷ []) ca → IsComplete x asked admits root certs (down_to above ca) depth (ts ++ us) ended) e err;
         in_shares = if_err (λ ended. (ca : Ca) → Contains (take index cas ++ one ∷ []) ca → IsCompleteInShares x asked admits root certs (down_to above ca) depth share (ts ++ us)) e err;
+        judged = if_err (λ ended. (ca : Ca) → Contains (take index cas ++ one ∷ []) ca → IsJudgedInShares x asked admits root certs (down_to above ca) depth share (ts ++ us)) e err;
         enough = if_err (λ ended. (ca : Ca) → Contains (take index cas ++ one ∷ []) ca → IsEnough x asked admits root certs (down_to above ca) depth share ended) e err;
       })
       err
@@ -227,12 +237,17 @@ module _ (x : Context) (asked : RevocationChecks) (admits : List ℕ → ℕ →
     too_deep = if_err (IsTooDeep x asked admits root certs above depth) r err;
     complete = if_err (IsComplete x asked admits root certs above depth ts) r err;
     in_shares = if_err (λ ended. IsCompleteInShares x asked admits root certs above depth share ts) r err;
+    judged = if_err (λ ended. IsJudgedInShares x asked admits root certs above depth share ts) r err;
     enough = if_err (IsEnough x asked admits root certs above depth share) r err;
   }
 
   reached_none : ((place : ℕ) → admits above place → IsChildOf x.verifies issuer.cert certs place → ⊥) → (between : List ℕ) (place : ℕ) → AreAdmitted admits above (between ++ place ∷ []) → IsReached x asked root certs (above ++ between) place → ⊥
   reached_none none [] place admitted reached = none place admitted.0 (reached_child x asked root law certs above place issuer a [] place refl reached)
   reached_none none (p ∷ rest) place admitted reached = none p admitted.0 (reached_child x asked root law certs above p issuer a (p ∷ rest) place refl reached)
+
+  child_none : ((place : ℕ) → admits above place → IsChildOf x.verifies issuer.cert certs place → ⊥) → (between : List ℕ) (place : ℕ) → AreAdmitted admits above (between ++ place ∷ []) → IsChildAt x asked root certs (above ++ between) place → ⊥
+  child_none none [] place admitted child = none place admitted.0 (child_here x asked root law certs above issuer a child.0 place child.1 child.2)
+  child_none none (p ∷ rest) place admitted child = none p admitted.0 (child_on x asked root law certs above issuer a p rest child.0 child.1)
 
   -- where no child is let in
   pub ended_none : {E : Type 0} (ts : List Told) → ((place : ℕ) → admits above place → IsChildOf x.verifies issuer.cert certs place → ⊥) → Sound share ts → Told_so {E = E} (Ok Whole) ts
@@ -244,13 +259,14 @@ module _ (x : Context) (asked : RevocationChecks) (admits : List ℕ → ℕ →
     too_deep = λ is. absurd (cc is);
     complete = λ between place covers admitted reached. absurd (reached_none none between place admitted reached);
     in_shares = λ between place enough admitted reached. absurd (reached_none none between place admitted reached);
+    judged = λ between place enough admitted child. absurd (child_none none between place admitted child);
     enough = λ between place covers admitted reached. absurd (reached_none none between place admitted reached);
   }
 
   module _ (lets_in : ℕ → Type 0) (there_in : (place : ℕ) → lets_in place → admits above place) (in_there : (place : ℕ) → admits above place → lets_in place)
       (places : List ℕ) (are : ArePlacesOf certs issuer.cert.fields.extensions.subject_key_identifier places)
       (children : List ℕ) (c : AreChildrenAmong x.verifies lets_in issuer.cert certs places children) where
-    child_in : (place : ℕ) → admits above place → IsChildOf x.verifies issuer.cert certs place → Contains children place
+    pub child_in : (place : ℕ) → admits above place → IsChildOf x.verifies issuer.cert certs place → Contains children place
     child_in place admitted child =
         let names = child_names x.verifies issuer.cert certs place child in
         c.all place (are.all place (there certs child.cert place child.stands) names) (in_there place admitted) child
@@ -258,7 +274,7 @@ module _ (x : Context) (asked : RevocationChecks) (admits : List ℕ → ℕ →
     child_only : (place : ℕ) → Contains children place → admits above place × IsChildOf x.verifies issuer.cert certs place
     child_only place at = let h = c.only place at in (there_in place h.0, h.1)
 
-    are_children : AreChildren x asked admits root certs above children
+    pub are_children : AreChildren x asked admits root certs above children
     are_children = record {
       issuer = issuer;
       leads = a;
@@ -298,6 +314,7 @@ module _ (x : Context) (asked : RevocationChecks) (admits : List ℕ → ℕ →
           );
           complete = λ between place covers admitted reached. absurd (omega (arith, covers, deep));
           in_shares = λ between place enough admitted reached. let within = enough.within in absurd (omega (arith, within, deep));
+          judged = λ between place enough admitted child. let within = enough.within in absurd (omega (arith, within, deep));
           enough = λ between place covers admitted reached. absurd (omega (arith, covers, deep));
         }
 
@@ -337,13 +354,14 @@ module _ (x : Context) (asked : RevocationChecks) (admits : List ℕ → ℕ →
       too_deep = λ is. absurd (cc is);
       complete = λ between place covers admitted reached. absurd covers;
       in_shares = λ between place enough admitted reached. let low = few_enough between enough in absurd (omega (arith, low, short));
+      judged = λ between place enough admitted child. let low = few_enough between enough in absurd (omega (arith, low, short));
       enough = λ between place covers admitted reached. absurd covers;
     }
 
     -- ---- where the children were judged
 
     module _ (enough : length children ≤ share) (cas : List Ca) (us : List Told) (j : AreJudged x asked issuer certs above children cas us) where
-      ca_admitted : (ca : Ca) → Contains cas ca → admits above ca.place
+      pub ca_admitted : (ca : Ca) → Contains cas ca → admits above ca.place
       ca_admitted ca at = there_in ca.place (c.only ca.place (j.only ca at).0).0
 
       -- a valid path leads to each of the CAs
@@ -351,7 +369,7 @@ module _ (x : Context) (asked : RevocationChecks) (admits : List ℕ → ℕ →
       each_leads ca at = let o = (j.only ca at).1 in ca_leads x asked admits root certs above law issuer a ca.place o.0 ca.holder o.1
 
       -- a place through which a valid path goes is that of one of the CAs
-      goes_through : (place : ℕ) → Contains children place → (after : List Candidate) (r : ResourceFields) → LeadsTo x asked root (members_at root certs above ++ candidate Authority (octets_at certs place) ∷ after) r → Contains (places_of cas) place
+      pub goes_through : (place : ℕ) → Contains children place → (after : List Candidate) (r : ResourceFields) → LeadsTo x asked root (members_at root certs above ++ candidate Authority (octets_at certs place) ∷ after) r → Contains (places_of cas) place
       goes_through place at after r leads =
           let v = j.all place at in
           some_holder (Contains (places_of cas) place) v.1 (outcome_goes_on x asked root law (members_at root certs above) issuer a (octets_at certs place) v.0 v.1 v.2 after r leads) v.4
@@ -361,7 +379,7 @@ module _ (x : Context) (asked : RevocationChecks) (admits : List ℕ → ℕ →
           let leads = subst (λ (l : List Candidate). LeadsTo x asked root l accepted.0) (members_next root certs above place) accepted.1 in
           is_child x asked root law (members_at root certs above) issuer a Authority (octets_at certs place) [] accepted.0 leads certs place refl
 
-      are_cas : AreAcceptedCas x asked admits root certs above (places_of cas)
+      pub are_cas : AreAcceptedCas x asked admits root certs above (places_of cas)
       are_cas = record {
         only = λ place at.
             let ca = ca_at cas place at in
@@ -446,6 +464,19 @@ module _ (x : Context) (asked : RevocationChecks) (admits : List ℕ → ℕ →
               let deeper : Covers ended depth (length rest + 1 + 1) = subst (λ (n : ℕ). Covers ended depth n) one covers in
               told_each p rest place (here rest place (covers_below ended depth (length rest + 1) deeper) admitted.1 (subst (λ (l : List ℕ). IsReached x asked root certs l place) (sym (grouped p rest)) reached))
 
+          enough_below : (p : ℕ) → Contains (places_of cas) p → (rest : List ℕ) → HasEnough x asked admits root certs above share depth (p ∷ rest) → HasEnough x asked admits root certs (above ++ p ∷ []) next (depth - 1) rest
+          enough_below p at rest given =
+              let same : given.has.0 ≡ next = one_share x asked admits root certs law above share given.has.0 next given.has.1 (handed (some_place p at)) in
+              let within = given.within in
+              record {
+                within = omega (arith, within);
+                last = given.last;
+                has = subst (λ (n : ℕ). HasShare x asked admits root certs (above ++ p ∷ []) n rest given.last) same given.has.2;
+                children = given.children;
+                are_children = subst (λ (l : List ℕ). AreChildren x asked admits root certs l given.children) (sym (grouped p rest)) given.are_children;
+                enough = given.enough;
+              }
+
           shares_at : ((ca : Ca) → Contains cas ca → IsCompleteInShares x asked admits root certs (down_to above ca) (depth - 1) next vs)
               → (between : List ℕ) (place : ℕ) → HasEnough x asked admits root certs above share depth between → AreAdmitted admits above (between ++ place ∷ []) → IsReached x asked root certs (above ++ between) place → IsTold all (above ++ between) place
           shares_at h [] place given admitted reached = child_told place admitted.0 reached
@@ -453,17 +484,26 @@ module _ (x : Context) (asked : RevocationChecks) (admits : List ℕ → ℕ →
               let at = ca_of p rest place admitted.0 reached in
               let ca = ca_at cas p at in
               let here : IsCompleteInShares x asked admits root certs (above ++ p ∷ []) (depth - 1) next vs = subst (λ (q : ℕ). IsCompleteInShares x asked admits root certs (above ++ q ∷ []) (depth - 1) next vs) ca.2 (h ca.0 ca.1) in
-              let same : given.has.0 ≡ next = one_share x asked admits root certs law above share given.has.0 next given.has.1 (handed (some_place p at)) in
-              let within = given.within in
-              let below : HasEnough x asked admits root certs (above ++ p ∷ []) next (depth - 1) rest = record {
-                within = omega (arith, within);
-                last = given.last;
-                has = subst (λ (n : ℕ). HasShare x asked admits root certs (above ++ p ∷ []) n rest given.last) same given.has.2;
-                children = given.children;
-                are_children = subst (λ (l : List ℕ). AreChildren x asked admits root certs l given.children) (sym (grouped p rest)) given.are_children;
-                enough = given.enough;
-              } in
-              told_each p rest place (here rest place below admitted.1 (subst (λ (l : List ℕ). IsReached x asked root certs l place) (sym (grouped p rest)) reached))
+              told_each p rest place (here rest place (enough_below p at rest given) admitted.1 (subst (λ (l : List ℕ). IsReached x asked root certs l place) (sym (grouped p rest)) reached))
+
+          has_child : (place : ℕ) → admits above place → IsChildAt x asked root certs (above ++ []) place → IsVerdictTold all (above ++ []) place
+          has_child place admitted child =
+              let v = j.all place (child_in place admitted (child_here x asked root law certs above issuer a child.0 place child.1 child.2)) in
+              subst (λ (l : List ℕ). IsVerdictTold all l place) (sym (append-nil above))
+              (has_behind ts (us ++ vs) above place (has_more us vs above place (has_here us above place v.0 v.3)))
+
+          has_each : (p : ℕ) (rest : List ℕ) (place : ℕ) → IsVerdictTold vs ((above ++ p ∷ []) ++ rest) place → IsVerdictTold all (above ++ p ∷ rest) place
+          has_each p rest place h =
+              has_behind ts (us ++ vs) (above ++ p ∷ rest) place (has_behind us vs (above ++ p ∷ rest) place (subst (λ (l : List ℕ). IsVerdictTold vs l place) (grouped p rest) h))
+
+          judged_at : ((ca : Ca) → Contains cas ca → IsJudgedInShares x asked admits root certs (down_to above ca) (depth - 1) next vs)
+              → (between : List ℕ) (place : ℕ) → HasEnough x asked admits root certs above share depth between → AreAdmitted admits above (between ++ place ∷ []) → IsChildAt x asked root certs (above ++ between) place → IsVerdictTold all (above ++ between) place
+          judged_at h [] place given admitted child = has_child place admitted.0 child
+          judged_at h (p ∷ rest) place given admitted child =
+              let at = goes_through p (child_in p admitted.0 (child_on x asked root law certs above issuer a p rest child.0 child.1)) (cas_at certs rest) child.0 (passing x asked root law certs above p rest child.0 child.1) in
+              let ca = ca_at cas p at in
+              let here : IsJudgedInShares x asked admits root certs (above ++ p ∷ []) (depth - 1) next vs = subst (λ (q : ℕ). IsJudgedInShares x asked admits root certs (above ++ q ∷ []) (depth - 1) next vs) ca.2 (h ca.0 ca.1) in
+              has_each p rest place (here rest place (enough_below p at rest given) admitted.1 (subst (λ (l : List ℕ). IsChildAt x asked root certs l place) (sym (grouped p rest)) child))
 
           enough_at : (ended : Ended) → ((ca : Ca) → Contains cas ca → IsEnough x asked admits root certs (down_to above ca) (depth - 1) next ended)
               → (between : List ℕ) (place : ℕ) → Covers ended depth (length between + 1) → AreAdmitted admits above (between ++ place ∷ []) → IsReached x asked root certs (above ++ between) place → HasEnough x asked admits root certs above share depth between
@@ -542,6 +582,8 @@ module _ (x : Context) (asked : RevocationChecks) (admits : List ℕ → ℕ →
                 (λ ended is. complete_at ended (if_ok (λ (e : Ended). (ca : Ca) → Contains cas ca → IsComplete x asked admits root certs (down_to above ca) (depth - 1) vs e) r ended is e.complete));
             in_shares = ok_if (λ (ended : Ended). IsCompleteInShares x asked admits root certs above depth share all) r
                 (λ ended is. shares_at (if_ok (λ (e : Ended). (ca : Ca) → Contains cas ca → IsCompleteInShares x asked admits root certs (down_to above ca) (depth - 1) next vs) r ended is e.in_shares));
+            judged = ok_if (λ (ended : Ended). IsJudgedInShares x asked admits root certs above depth share all) r
+                (λ ended is. judged_at (if_ok (λ (e : Ended). (ca : Ca) → Contains cas ca → IsJudgedInShares x asked admits root certs (down_to above ca) (depth - 1) next vs) r ended is e.judged));
             enough = ok_if (IsEnough x asked admits root certs above depth share) r
                 (λ ended is. enough_at ended (if_ok (λ (e : Ended). (ca : Ca) → Contains cas ca → IsEnough x asked admits root certs (down_to above ca) (depth - 1) next e) r ended is e.enough));
           }

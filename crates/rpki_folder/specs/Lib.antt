@@ -4,8 +4,10 @@ pub mod FirstPlaces
 pub mod IssuerLists
 pub mod UsualBounds
 pub mod Walks
+pub mod ReachedLimits
 pub mod IssuerTables
 pub mod WalkFaults
 pub mod KeptLines
 pub mod Searches
 pub mod Strangers
+pub mod FoundAnchors

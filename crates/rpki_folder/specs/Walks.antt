@@ -120,6 +120,10 @@ IsRight x asked root certs t =
 abbrev pub IsTold : List Told → List ℕ → ℕ → Type 0
 IsTold ts above place = Any (λ t. (t.above ≡ above) × (t.place ≡ place) × IsOk t.verdict) ts
 
+-- among what was told is a verdict on the certificate at the place below the CAs at these places
+abbrev pub IsVerdictTold : List Told → List ℕ → ℕ → Type 0
+IsVerdictTold ts above place = Any (λ t. (t.above ≡ above) × (t.place ≡ place)) ts
+
 -- ---- what is looked at
 
 -- the octets at the place begin with this certificate
@@ -306,11 +310,26 @@ IsLetIn admits above t =
     (between : List ℕ) × (t.above ≡ above ++ between)
     × AreAdmitted admits above (between ++ t.place ∷ [])
 
+-- a valid path leads to the last of the CAs at these places, and the certificate at the place is its child
+abbrev pub IsChildAt : Context → RevocationChecks → Root → List (List ℕ) → List ℕ → ℕ → Type 0
+IsChildAt x asked root certs above place =
+    (issuer : ResourceFields) × LeadsTo x asked root (members_at root certs above) issuer
+    × IsChildOf x.verifies issuer.cert certs place
+
+-- however the walk ended, each child that is let in below CAs that have enough has a verdict, whether it
+-- is accepted or rejected
+abbrev pub IsJudgedInShares : Context → RevocationChecks → (List ℕ → ℕ → Type 0) → Root
+    → List (List ℕ) → List ℕ → ℕ → ℕ → List Told → Type 0
+IsJudgedInShares x asked admits root certs above depth share ts =
+    (between : List ℕ) (place : ℕ)
+    → HasEnough x asked admits root certs above share depth between
+    → AreAdmitted admits above (between ++ place ∷ [])
+    → IsChildAt x asked root certs (above ++ between) place
+    → IsVerdictTold ts (above ++ between) place
+
 -- the verdict takes a step: it is on a child of the last of the CAs above it
 abbrev pub TakesStep : Context → RevocationChecks → Root → List (List ℕ) → Told → Type 0
-TakesStep x asked root certs t =
-    (issuer : ResourceFields) × LeadsTo x asked root (members_at root certs t.above) issuer
-    × IsChildOf x.verifies issuer.cert certs t.place
+TakesStep x asked root certs t = IsChildAt x asked root certs t.above t.place
 
 -- no more of the verdicts take a step
 abbrev pub AreFew : Context → RevocationChecks → Root → List (List ℕ) → ℕ → List Told → Type 0
@@ -338,8 +357,9 @@ IsTooDeep x asked admits root certs above depth ended =
 
 -- What a walk tells below the CAs at these places, which have this share: each verdict is right and on
 -- a certificate that is let in, no more of them take a step than the share, and each path was looked
--- at whose CAs have enough. Where the walk ended, it looked at each path that its end says, and the CAs
--- of each have enough. It says that a bound was met only where it was.
+-- at whose CAs have enough: each child that is let in below them has a verdict. Where the walk ended, it
+-- looked at each path that its end says, and the CAs of each have enough. It says that a bound was met
+-- only where it was.
 pub record Tells {E : Type 0} (x : Context) (asked : RevocationChecks)
     (admits : List ℕ → ℕ → Type 0) (root : Root) (certs : List (List ℕ)) (above : List ℕ)
     (depth share : ℕ) (result : Result Ended E) (ts : List Told) : Type 0 where
@@ -352,6 +372,8 @@ pub record Tells {E : Type 0} (x : Context) (asked : RevocationChecks)
   pub complete : IfOk result (IsComplete x asked admits root certs above depth ts)
   pub in_shares : IfOk result (λ ended.
       IsCompleteInShares x asked admits root certs above depth share ts)
+  pub judged : IfOk result (λ ended.
+      IsJudgedInShares x asked admits root certs above depth share ts)
   pub enough : IfOk result (IsEnough x asked admits root certs above depth share)
 
 -- the same, wherever the issuer stands at the end of a valid path

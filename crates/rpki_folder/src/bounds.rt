@@ -1,4 +1,4 @@
-//! The limits of a walk, and how it ended.
+//! The limits of a walk, how it ended, and the CAs at which it reached a limit.
 ghost use Rattle.std.specs.Prelude.{◌≡◌};
 ghost use Rattle.rpki_folder.specs.Walks.{worse};
 
@@ -28,6 +28,36 @@ pub enum Ended {
     /// The share of a CA is less than its children, so none of these was judged. Below every other
     /// CA the walk went on.
     OutOfSteps,
+}
+
+/// The limit that a walk reached at a CA.
+#[derive(Clone, Copy, Debug, PartialEq, Eq)]
+pub enum Limit {
+    /// The CA is at the greatest depth, and has a child.
+    Depth,
+    /// The share of the CA is less than its children. A walk of the same depth judges them if and
+    /// only if it has at least this number of steps; `None` if a `usize` has no such number.
+    Steps(Option<usize>),
+}
+
+/// A CA at which a walk reached a limit: none of its children was judged there.
+#[derive(Drop)]
+pub struct LimitedCa {
+    /// The places of the CAs from the top down, the CA itself last. It is empty for the certificate
+    /// below which the walk started.
+    pub above: Vec<usize>,
+    /// The limit that the walk reached.
+    pub limit: Limit,
+}
+
+/// How a walk ended, and each CA at which it reached a limit.
+#[derive(Drop)]
+pub struct Walked {
+    /// How the walk ended: `Whole` if and only if no CA is limited, `OutOfSteps` if and only if the
+    /// limit of one is [`Limit::Steps`].
+    pub ended: Ended,
+    /// The CAs at which the walk reached a limit.
+    pub limited: Vec<LimitedCa>,
 }
 
 impl Ended {

@@ -162,7 +162,9 @@ impl<'w, A: Admission, V: Verifier> Walk<'w, A, V> {
             place,
             found: None,
         };
-        let ended = self.from_anchor(tal, anchor, &mut sought)?;
+        let walked = self.from_anchor(tal, anchor, &mut sought)?;
+        let ended = walked.ended;
+        drop(walked);
         match sought.into_found() {
             Some(path) => Ok(Found::Valid(path)),
             None => Ok(Found::NotFound(ended)),

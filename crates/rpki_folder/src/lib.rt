@@ -3,6 +3,7 @@
 #![tactic(auto)]
 
 mod admission;
+mod anchors;
 mod bounds;
 mod entity;
 mod filed;
@@ -15,17 +16,19 @@ mod keys;
 mod known;
 pub mod laws;
 mod lines;
+mod share;
 mod visitor;
 mod walk;
 mod walk_error;
 
 pub use admission::{Admission, AllAdmitted};
-pub use bounds::{Bounds, Ended, USUAL_STEPS};
+pub use anchors::{FoundAnchor, WrongCandidate};
+pub use bounds::{Bounds, Ended, Limit, LimitedCa, USUAL_STEPS, Walked};
 pub use filed::Filed;
 pub use find::{Found, FoundPath};
 pub use firsts::Firsts;
 pub use folder::{Added, Folder};
-pub use lines::{Line, Lines};
+pub use lines::{AcceptedPaths, Line, Lines};
 pub use visitor::{Accepted, Visitor};
 pub use walk::Walk;
 pub use walk_error::WalkError;

@@ -22,16 +22,19 @@ ghost use Rattle.rpki_folder.specs.IssuerLists.{AreIssuers, ArePicked};
 ghost use Rattle.rpki_folder.specs.Walks.{Root, at_anchor, members_at, LeadsTo, IsValidAnchor, Told, told, StandsAt, IsLastOf, IsNamedUnder, IsRepeated, EndsNoCircle, IsLookedAt, IsChildOf, TellsBelow, TellsFrom, IsWhyNone};
 ghost use Rattle.rpki_folder.specs.Walks.Steps.{IsAnswer, IsOutcome, Hands, IsAtTop, AreJudged, ClaimIs, IsChildAdded, IsClaim, IsOther, IsToldOf, WalksBelowEach};
 ghost use Rattle.rpki_folder.specs.IssuerTables.{AreAllChildren, AreKept, IsKeptOf};
+ghost use Rattle.rpki_folder.specs.ReachedLimits.{AreLimited, AreLimitedFrom, end_of, ended_of};
+ghost use Rattle.rpki_folder.specs.ReachedLimits.Steps.{IsAdded, KeepsBelow, KeepsBelowEach};
 ghost use Rattle.rpki_folder.specs.declared.issuers.Issuer.{Issuer as Kept};
 ghost use Rattle.rpki_folder.specs.declared.walk.Ca.{Ca};
 
 use crate::admission::Admission;
-use crate::bounds::{Bounds, Ended};
+use crate::bounds::{Bounds, Ended, Limit, LimitedCa, Walked};
 use crate::entity::are_one_entity;
 use crate::folder::Folder;
 use crate::issuer_lists::IssuerLists;
 use crate::issuers::{Issuer, Issuers};
 use crate::known::Known;
+use crate::share::Share;
 use crate::visitor::{Accepted, Visitor};
 use crate::walk_error::WalkError;
 use rpki_cert::{Cert, Kind, ResourceCert, laws};
@@ -69,10 +72,42 @@ pub struct Walk<'w, A, V> {
     pub verifier: &'w V,
 }
 
-// Where a walk is: the places of the CAs above, from the top down.
+// Where a walk is: the places of the CAs above, from the top down; and the CAs at which it has reached
+// a limit.
 #[derive(Drop)]
 struct Trail {
     above: Vec<usize>,
+    limited: Vec<LimitedCa>,
+}
+
+impl Trail {
+    // Keeps that the walk reached this limit at the last of the CAs above.
+    fn reach(&mut self, alloc: Global, limit: Limit) -> Result<(), AllocError>
+        ensures above { self.new.above.items ≡ self.old.above.items }
+        ensures limited { OnOk result (IsAdded self.old.limited.items self.old.above.items limit
+            self.new.limited.items) }
+    {
+        let mut above = Vec::new(alloc);
+        above.extend_from_slice(&self.above)?;
+        self.limited.push(LimitedCa { above, limit })?;
+        Ok(())
+    }
+
+    // How the walk ended, with the CAs at which it reached a limit.
+    fn walked(self, ended: Result<Ended, AllocError>) -> Result<Walked, AllocError>
+        ensures ended { ended_of result ≡ ended }
+        ensures limited { IfOk result (λ walked. walked.limited ≡ self.limited) }
+    {
+        let Trail { above, limited } = self;
+        drop(above);
+        match ended {
+            Ok(ended) => Ok(Walked { ended, limited }),
+            Err(error) => {
+                drop(limited);
+                Err(error)
+            }
+        }
+    }
 }
 
 // What a certificate that names an issuer's key is to the issuer.
@@ -744,7 +779,7 @@ impl<'w, A: Admission, V: Verifier> Walk<'w, A, V> {
     }
 
     // The walk below each of these CAs, which stand below those on the trail, for this depth and
-    // share. It began below the certificate at the top.
+    // share. It began below the certificate at the top. The trail keeps where it reached a limit.
     #[cycle(descend)]
     fn each_below<W: Visitor>(
         &self,
@@ -752,7 +787,7 @@ impl<'w, A: Admission, V: Verifier> Walk<'w, A, V> {
         cas: &[Ca],
         trail: &mut Trail,
         issuers: &mut Issuers<'w>,
-        share: usize,
+        share: Share,
         depth: usize,
         visitor: &mut W,
     ) -> Result<Ended, AllocError>
@@ -770,8 +805,15 @@ impl<'w, A: Admission, V: Verifier> Walk<'w, A, V> {
             let admits = IsLookedAt w.names (A.admits w.admission.now) top.now.cert certs in
             (v : W) (ts : List Told) → W.became v ts visitor.old
             → (more : List Told) × W.became v (ts ++ more) visitor.new
-            × WalksBelowEach x asked admits certs trail.old.above.items depth share cas.now result
+            × WalksBelowEach x asked admits certs trail.old.above.items depth share.steps cas.now result
             more }
+        ensures limits { let w = self.now in
+            let x = context (V.verifies w.verifier.now) w.at w.strict in
+            let asked = by_named_lists w.names x w.folder.now.lists in
+            let certs = w.folder.now.certs in
+            let admits = IsLookedAt w.names (A.admits w.admission.now) top.now.cert certs in
+            IfOk result (KeepsBelowEach x asked admits certs trail.old.above.items depth share
+            cas.now trail.old.limited.items trail.new.limited.items) }
         ensures trail { OnOk result (trail.new.above.items ≡ trail.old.above.items) }
         ensures kept { let w = self.now in
             let x = context (V.verifies w.verifier.now) w.at w.strict in
@@ -798,7 +840,7 @@ impl<'w, A: Admission, V: Verifier> Walk<'w, A, V> {
         issuer: &ResourceCert,
         trail: &mut Trail,
         issuers: &mut Issuers<'w>,
-        share: usize,
+        share: Share,
         depth: usize,
         visitor: &mut W,
     ) -> Result<Ended, AllocError>
@@ -816,8 +858,15 @@ impl<'w, A: Admission, V: Verifier> Walk<'w, A, V> {
             let admits = IsLookedAt w.names (A.admits w.admission.now) top.now.cert certs in
             (v : W) (ts : List Told) → W.became v ts visitor.old
             → (more : List Told) × W.became v (ts ++ more) visitor.new
-            × TellsBelow x asked admits issuer.now certs trail.old.above.items depth share result
+            × TellsBelow x asked admits issuer.now certs trail.old.above.items depth share.steps result
             more }
+        ensures limits { let w = self.now in
+            let x = context (V.verifies w.verifier.now) w.at w.strict in
+            let asked = by_named_lists w.names x w.folder.now.lists in
+            let certs = w.folder.now.certs in
+            let admits = IsLookedAt w.names (A.admits w.admission.now) top.now.cert certs in
+            IfOk result (KeepsBelow x asked admits issuer.now certs trail.old.above.items depth
+            share trail.old.limited.items trail.new.limited.items) }
         ensures trail { OnOk result (trail.new.above.items ≡ trail.old.above.items) }
         ensures kept { let w = self.now in
             let x = context (V.verifies w.verifier.now) w.at w.strict in
@@ -840,21 +889,24 @@ impl<'w, A: Admission, V: Verifier> Walk<'w, A, V> {
             return Ok(Ended::Whole);
         }
         if depth == 0 {
+            trail.reach(self.alloc, Limit::Depth)?;
             return Ok(Ended::TooDeep);
         }
-        if children.len() > share {
+        if children.len() > share.steps {
+            trail.reach(self.alloc, Limit::Steps(share.needed(children.len())))?;
             return Ok(Ended::OutOfSteps);
         }
         let cas = self.judge_children(issuer, &kept.lists, &trail.above, &children, visitor)?;
         if cas.is_empty() {
             return Ok(Ended::Whole);
         }
-        let next = (share - children.len()) / cas.len();
+        let next = share.below(children.len(), cas.len());
         self.each_below(top, &cas, trail, issuers, next, depth - 1, visitor)
     }
 
     /// Walks below an issuer that was validated before, and calls the visitor with each verdict.
-    /// Returns how the walk ended: every certificate was judged, or which limit was reached.
+    /// Returns how the walk ended: every certificate was judged, or which limit was reached; and each
+    /// CA at which it was reached.
     ///
     /// The walk judges a certificate of the folder below an accepted CA if
     ///
@@ -879,18 +931,31 @@ impl<'w, A: Admission, V: Verifier> Walk<'w, A, V> {
         &self,
         issuer: &ResourceCert,
         visitor: &mut W,
-    ) -> Result<Ended, AllocError>
+    ) -> Result<Walked, AllocError>
         ensures tells { let w = self.now in
             let x = context (V.verifies w.verifier.now) w.at w.strict in
             let asked = by_named_lists w.names x w.folder.now.lists in
             let certs = w.folder.now.certs in
             let admits = IsLookedAt w.names (A.admits w.admission.now) issuer.now.cert certs in
             (more : List Told) × W.became visitor.old more visitor.new
-            × TellsBelow x asked admits issuer.now certs [] w.bounds.depth w.bounds.steps result
-            more }
+            × TellsBelow x asked admits issuer.now certs [] w.bounds.depth w.bounds.steps
+            (ended_of result) more }
+        // It tells each CA at which it reached a limit, and no other.
+        ensures limited { let w = self.now in
+            let x = context (V.verifies w.verifier.now) w.at w.strict in
+            let asked = by_named_lists w.names x w.folder.now.lists in
+            let certs = w.folder.now.certs in
+            let admits = IsLookedAt w.names (A.admits w.admission.now) issuer.now.cert certs in
+            IfOk result (λ walked. (root : Root)
+            → LeadsTo x asked root (members_at root certs []) issuer.now
+            → AreLimited x asked admits root certs w.bounds.depth w.bounds.steps
+            walked.limited.items) }
+        // It ended as these say.
+        ensures ended { IfOk result (λ walked. walked.ended ≡ end_of walked.limited.items) }
     {
         let mut trail = Trail {
             above: Vec::new(self.alloc),
+            limited: Vec::new(self.alloc),
         };
         let mut issuers = Issuers::new(self.alloc);
         let bounds = self.bounds;
@@ -899,13 +964,12 @@ impl<'w, A: Admission, V: Verifier> Walk<'w, A, V> {
             issuer,
             &mut trail,
             &mut issuers,
-            bounds.steps,
+            Share::whole(bounds.steps),
             bounds.depth,
             visitor,
         );
-        drop(trail);
         drop(issuers);
-        ended
+        trail.walked(ended)
     }
 
     // The trust anchor with its resources; it has to have the TAL's key and to list a number.
@@ -981,7 +1045,7 @@ impl<'w, A: Admission, V: Verifier> Walk<'w, A, V> {
         tal: &Tal,
         anchor: &Member<'_>,
         visitor: &mut W,
-    ) -> Result<Ended, WalkError>
+    ) -> Result<Walked, WalkError>
         // Each verdict is right, and the walk judged each path that its end covers.
         ensures tells { let w = self.now in
             let x = context (V.verifies w.verifier.now) w.at w.strict in
@@ -990,7 +1054,16 @@ impl<'w, A: Admission, V: Verifier> Walk<'w, A, V> {
             let certs = w.folder.now.certs in
             (more : List Told) × W.became visitor.old more visitor.new
             × TellsFrom x asked w.names admits tal.now anchor.now certs w.bounds.depth
-            w.bounds.steps result more }
+            w.bounds.steps (ended_of result) more }
+        // It tells each CA at which it reached a limit, and no other.
+        ensures limited { let w = self.now in
+            let x = context (V.verifies w.verifier.now) w.at w.strict in
+            let asked = by_named_lists w.names x w.folder.now.lists in
+            let admits = A.admits w.admission.now in
+            IfOk result (λ walked. AreLimitedFrom x asked w.names admits tal.now anchor.now
+            w.folder.now.certs w.bounds.depth w.bounds.steps walked.limited.items) }
+        // It ended as these say.
+        ensures ended { IfOk result (λ walked. walked.ended ≡ end_of walked.limited.items) }
         // It starts at a valid trust anchor.
         ensures anchor { let w = self.now in
             let x = context (V.verifies w.verifier.now) w.at w.strict in
@@ -1004,8 +1077,8 @@ impl<'w, A: Admission, V: Verifier> Walk<'w, A, V> {
     {
         laws::unambiguous();
         let issuer = self.trust_anchor(tal, anchor)?;
-        let ended = self.below(&issuer, visitor);
+        let walked = self.below(&issuer, visitor);
         drop(issuer);
-        Ok(ended?)
+        Ok(walked?)
     }
 }

@@ -21,7 +21,7 @@ use Rattle.rpki_folder.proofs.Descent.{there as inside_at}
 
 -- ---- places
 
-default_same : {X : Type 0} (l : List X) (k : ℕ) (d e : X) → k < length l → get_or l k d ≡ get_or l k e
+pub default_same : {X : Type 0} (l : List X) (k : ℕ) (d e : X) → k < length l → get_or l k d ≡ get_or l k e
 default_same [] k d e low = absurd (omega (arith, low))
 default_same (y ∷ l) zero d e low = refl
 default_same (y ∷ l) (suc k) d e low = default_same l k d e (omega (arith, low))

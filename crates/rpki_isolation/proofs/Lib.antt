@@ -1,6 +1,7 @@
 pub mod RelatedLists
 pub mod LookedAlike
 pub mod Carried
+mod ChosenAnchors
 pub mod FolderPaths
 pub mod AlikeFaults
 pub mod IsolatedShares

@@ -8,11 +8,13 @@ ghost use Rattle.rpki_cert.specs.Certificates.{CertFields, IsCertificate};
 ghost use Rattle.rpki_cert.specs.Verification.{context};
 ghost use Rattle.rpki_crl.specs.Lists.{CrlState};
 ghost use Rattle.rpki_keys.specs.Locators.{NamedTal};
+ghost use Rattle.rpki_path.specs.AskedLists.{by_named_lists};
 ghost use Rattle.rpki_path.specs.Paths.{Path, last};
 ghost use Rattle.rpki_path.specs.declared.judging.Judged.{Judged};
 ghost use Rattle.rpki_path.specs.declared.path_fault.PathFault.{PathFault};
 ghost use Rattle.rpki_folder.specs.FirstPlaces.{AreFirstsIn, IsFirstIn};
-ghost use Rattle.rpki_folder.specs.Folders.{FolderFields, with_cert, with_list};
+ghost use Rattle.rpki_folder.specs.Folders.{FolderFields, octets_at, with_cert, with_list};
+ghost use Rattle.rpki_folder.specs.FoundAnchors.{IsAnchorAt};
 ghost use Rattle.rpki_folder.specs.declared.firsts.Firsts.{Firsts};
 ghost use Rattle.rpki_folder.specs.Strangers.{AddsOnly, IsFreeOf, IsSignedByOnly};
 ghost use Rattle.rpki_folder.specs.Walks.{Covers};
@@ -22,13 +24,21 @@ ghost use Rattle.rpki_isolation.specs.ToldWalks.{BeginAlike, HasLookedBelow, IsA
 use rpki_folder::Admission;
 use rpki_parts::Verifier;
 
-/// States that files of strangers change no valid trust anchor of a TAL whose key is none of theirs.
-/// Added files are as in [`rpki_folder::laws::isolated`].
+/// States that files of strangers change no valid trust anchor of a TAL whose key is none of theirs
+/// (`valid`), and not which of them is chosen: in both directories the chosen file starts with one
+/// certificate (`chosen`). Added files are as in [`rpki_folder::laws::isolated`].
 pub fn isolated_anchors<V: Verifier>()
-    ensures { (verifier : V) (now : Moment) (strict names : Bool) (keys : List KeyFields)
+    ensures valid { (verifier : V) (now : Moment) (strict names : Bool) (keys : List KeyFields)
         (old new : FolderFields) → let x = context (V.verifies verifier) now strict in
         AddsOnly x.verifies keys old new → (t : NamedTal) → (Contains keys t.tal.key → ⊥)
         → (c : CertFields) → IsAnchorIn x names t old c ↔ IsAnchorIn x names t new c }
+    ensures chosen { (verifier : V) (now : Moment) (strict names : Bool) (keys : List KeyFields)
+        (old new : FolderFields) → let x = context (V.verifies verifier) now strict in
+        AddsOnly x.verifies keys old new → (t : NamedTal) → (Contains keys t.tal.key → ⊥)
+        → (place other : ℕ)
+        → IsAnchorAt x (by_named_lists names x old.lists) names t old.certs place
+        → IsAnchorAt x (by_named_lists names x new.lists) names t new.certs other
+        → BeginAlike (octets_at old.certs place) (octets_at new.certs other) }
 {
     rpki_cert::laws::unambiguous();
 }

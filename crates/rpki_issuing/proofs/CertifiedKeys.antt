@@ -1,9 +1,10 @@
 -- Keys of the certificates that strings begin with.
-use Rattle.std.specs.Prelude.{◌↔◌, All, Bool, false, IsTrue}
+use Rattle.std.specs.Prelude.{◌↔◌, All, Bool, false, IfOk, IsTrue, Option, Result, Ok, Err}
 use Rattle.std.proofs.Common.{◌≡◌, ◌≢◌, ◌<◌, ◌+◌, ℕ, List, get_or, length, take, sym, ap, subst, ◌∙◌}
 use Rattle.std.proofs.lemmas.Bool.{false≢true}
 use Rattle.std.proofs.lemmas.List.Elements.{All-get_or, All-more}
 use Rattle.rpki_cert.specs.Certificates.{CertFields, IsCertificate}
+use Rattle.rpki_cert.specs.Verification.{ResourceFields}
 use Rattle.rpki_der.proofs.Answering.{memory_alone}
 use Rattle.rpki_der.proofs.Formats.{one_meant}
 use Rattle.rpki_der.specs.Place.{Rejects}
@@ -11,7 +12,7 @@ use Rattle.rpki_der.specs.Values.{IsUnambiguous}
 use Rattle.rpki_der.specs.declared.error.DecodeError.{DecodeError}
 use Rattle.rpki_der.specs.declared.error.DecodeError.TheVariants as decoding
 use Rattle.rpki_ext.specs.Kinds.{Means}
-use Rattle.rpki_issuing.specs.IssuingRules.{CertifiesKey, IsNoKeyOf}
+use Rattle.rpki_issuing.specs.IssuingRules.{CertifiesKey, IsNoKeyOf, IsNotIssuersKey}
 use Rattle.rpki_parts.specs.Keys.{KeyFields}
 
 module _ (key : KeyFields) where
@@ -45,3 +46,9 @@ module _ (key : KeyFields) where
     -- one string more of which it isn't
     pub none_further : All Apart (take i path) → Apart octets → All Apart (take (i + 1) path)
     none_further all not = All-more Apart path i octets low all (subst Apart is not)
+
+  -- the issuer hasn't the key either
+  pub own_too : {E : Type 0} (issuer : Option ResourceFields) (path : List (List ℕ)) → IsNotIssuersKey issuer key → (r : Result Bool E) → IfOk r (λ is. IsTrue is ↔ IsNoKeyOf path key)
+      → IfOk r (λ is. IsTrue is ↔ IsNotIssuersKey issuer key × IsNoKeyOf path key)
+  own_too issuer path not (Ok is) h = ((λ yes. (not, h.0 yes)), (λ both. h.1 both.1))
+  own_too issuer path not (Err e) h = tt

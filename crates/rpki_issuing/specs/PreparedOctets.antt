@@ -46,7 +46,7 @@ pub record IsPrepared (kind : Kind) (issuer : Option ResourceFields) (path : Lis
     (octets : List ℕ) : Type 0 where
   pub role : Role
   pub role_is : IsRoleOf kind issuer role
-  pub rules : KeepsRules kind path f
+  pub rules : KeepsRules kind issuer path f
   pub ready : IsReady at strict role f
   pub unrevoked : IsUnrevokedIn asked issuer (unsigned f)
   pub octets_are : octets ≡ encoding f
@@ -63,7 +63,7 @@ abbrev pub IsUnprepared : Kind → Option ResourceFields → List (List ℕ) →
     → Bool → TbsFields → WantedError → Type 0
 IsUnprepared kind issuer path asked at strict f error.NoRole = HasNoRole kind issuer
 IsUnprepared kind issuer path asked at strict f (error.Broken rule) =
-    IsFirstFalse (RuleCheck kind path f) issuing_rules rule
+    IsFirstFalse (RuleCheck kind issuer path f) issuing_rules rule
 IsUnprepared kind issuer path asked at strict f (error.Listed e) =
     IsFirstFalse (AskedIn asked issuer (unsigned f)) revocation_checks e
 IsUnprepared kind issuer path asked at strict f error.Memory = Unit {0}
@@ -84,7 +84,7 @@ pub record IsCompleted (kind : Kind) (issuer : Option ResourceFields) (path : Li
     (prepared signature octets : List ℕ) : Type 0 where
   pub role : Role
   pub role_is : IsRoleOf kind issuer role
-  pub rules : KeepsRules kind path f
+  pub rules : KeepsRules kind issuer path f
   pub ready : IsReady at strict role f
   pub prepared_is : prepared ≡ encoding f
   pub signed : IsSignatureOf IsSignedByRsa role f signature

@@ -1,7 +1,7 @@
 -- What is prepared or completed below an issuer is so below each that has its certificate and holds
 -- its numbers.
 use Rattle.std.specs.Prelude.{option_map}
-use Rattle.std.proofs.Common.{◌≡◌, ℕ, Bool, List, [], ◌∷◌, Bor, Option, Some, None, refl, sym, ap, subst, ◌∙◌}
+use Rattle.std.proofs.Common.{◌≡◌, ◌≢◌, ℕ, Bool, List, [], ◌∷◌, Bor, Option, Some, None, refl, sym, ap, subst, ◌∙◌}
 use Rattle.rpki_cert.specs.Certificates.{TbsFields, CertFields, encoding}
 use Rattle.rpki_cert.specs.declared.inspect.Kind.{Kind}
 use Rattle.rpki_issuing.specs.Acceptance.{IsUnrevokedIn}
@@ -9,6 +9,8 @@ use Rattle.rpki_issuing.specs.Readiness.{IsReady, but_signature, signed_with, un
 use Rattle.rpki_path.specs.Asking.{RevocationChecks, IsUnrevokedBy}
 use Rattle.rpki_issuing.specs.declared.role.Role.{Role}
 use Rattle.rpki_issuing.specs.declared.role.Role.TheVariants.{Anchor, Authority, EndEntity, Detached, Router}
+use Rattle.rpki_issuing.specs.IssuingRules.{HasOwnKey, KeepsRules}
+use Rattle.rpki_cert.specs.declared.inspect.Kind.TheVariants as said
 use Rattle.rpki_issuing.specs.Roles.{kind_of, signing_key}
 use Rattle.rpki_keys.specs.RsaSignatures.{IsSignedByRsa}
 use Rattle.rpki_parts.specs.Keys.{KeyFields}
@@ -102,9 +104,19 @@ module _ (r : ResourceFields) (issuer : Bor ResourceFields) (same : HoldSame r i
     ready_moved (Detached a) is h = record { fields_are = h.fields_are; short = h.short; valid = record { meets = h.valid.meets; checks = checks_moved (but_signature at strict) a.now issuer.now (same_as a.now is) (unsigned f) issued_checks h.valid.checks } }
     ready_moved (Router a) is h = record { fields_are = h.fields_are; short = h.short; valid = record { meets = h.valid.meets; checks = checks_moved (but_signature at strict) a.now issuer.now (same_as a.now is) (unsigned f) router_checks h.valid.checks } }
 
+    own_moved : (kind : Kind) (path : List (List ℕ)) → HasOwnKey kind (Some r) path f → HasOwnKey kind (Some issuer.now) path f
+    own_moved said.Anchor path h = h
+    own_moved said.Authority path h = (subst (λ (c : CertFields). c.fields.key ≢ f.key) same.cert_is h.0, h.1)
+    own_moved said.EndEntity path h = h
+    own_moved said.Detached path h = h
+    own_moved said.Router path h = h
+
+    rules_moved : (kind : Kind) (path : List (List ℕ)) → KeepsRules kind (Some r) path f → KeepsRules kind (Some issuer.now) path f
+    rules_moved kind path h = (h.0, (h.1.0, (own_moved kind path h.1.1.0, h.1.1.1)))
+
     prepared_moved : (kind : Kind) (path : List (List ℕ)) (checks : RevocationChecks) (octets : List ℕ) → IsPrepared kind (Some r) path checks at strict f octets → IsPrepared kind (Some issuer.now) path checks at strict f octets
     prepared_moved kind path checks octets p = record {
-      rules = p.rules;
+      rules = rules_moved kind path p.rules;
       unrevoked = unrevoked_moved checks (unsigned f) p.unrevoked;
       role = moved p.role issuer;
       role_is = record { kind_is = kind_moved p.role issuer ∙ p.role_is.kind_is; issuer_is = issuer_moved p.role p.role_is.issuer_is };
@@ -114,7 +126,7 @@ module _ (r : ResourceFields) (issuer : Bor ResourceFields) (same : HoldSame r i
 
     completed_moved : (kind : Kind) (path : List (List ℕ)) (checks : RevocationChecks) (prepared signature octets : List ℕ) → IsCompleted kind (Some r) path checks at strict f prepared signature octets → IsCompleted kind (Some issuer.now) path checks at strict f prepared signature octets
     completed_moved kind path checks prepared signature octets p = record {
-      rules = p.rules;
+      rules = rules_moved kind path p.rules;
       unrevoked = unrevoked_moved checks (signed_with f signature) p.unrevoked;
       role = moved p.role issuer;
       role_is = record { kind_is = kind_moved p.role issuer ∙ p.role_is.kind_is; issuer_is = issuer_moved p.role p.role_is.issuer_is };

@@ -87,15 +87,15 @@ issuing_text issuing.Memory = codes "out of memory"
 
 -- why no such list may follow the one before
 abbrev pub next_text : NextListError → List ℕ
-next_text next.Number = codes "the number isn't greater than that of the previous list"
-next_text next.LongNumber = codes "the number of the list has more than 20 octets"
+next_text next.Number = codes "the CRL number isn't greater than that of the previous CRL"
+next_text next.LongNumber = codes "the CRL number has more than 20 bytes"
 next_text next.UpdateOrder = codes "the next update is before this one"
 next_text next.Memory = codes "out of memory"
 
 -- why a list isn't ready, or why a signature isn't its own
 abbrev pub list_text : ListError → List ℕ
 list_text (listing.Invalid e) = fault_text (revocation_error_name e) (revocation_rule e)
-list_text listing.TooLong = codes "the list would be too long"
+list_text listing.TooLong = codes "the CRL would be too long"
 list_text listing.Memory = codes "out of memory"
 
 -- which rule for whoever issues isn't kept
@@ -110,7 +110,7 @@ abbrev pub wanted_text : WantedError → List ℕ
 wanted_text wanted.NoRole = codes "a trust anchor has no issuer, and other certificates have one"
 wanted_text (wanted.Broken rule) = rule_text rule
 wanted_text (wanted.Unready e) = issuing_text e
-wanted_text wanted.OtherOctets = codes "the first file isn't what is prepared of its fields"
+wanted_text wanted.OtherOctets = codes "the first file isn't what rpki prepare writes of its fields"
 wanted_text (wanted.Unsigned e) = issuing_text e
 wanted_text (wanted.Listed e) = fault_text (revocation_error_name e) (revocation_rule e)
 wanted_text (wanted.NoList e) = next_text e

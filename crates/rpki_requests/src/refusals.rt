@@ -115,8 +115,8 @@ fn write_next<W: fmt::Write>(f: &mut fmt::Formatter<W>, error: &NextListError) -
     ensures { WritesOnOk W.write_str_gives f.old result (next_text error.now) f.new }
 {
     f.write_str(match error {
-        NextListError::Number => "the number isn't greater than that of the previous list",
-        NextListError::LongNumber => "the number of the list has more than 20 octets",
+        NextListError::Number => "the CRL number isn't greater than that of the previous CRL",
+        NextListError::LongNumber => "the CRL number has more than 20 bytes",
         NextListError::UpdateOrder => "the next update is before this one",
         NextListError::Memory => "out of memory",
     })
@@ -128,7 +128,7 @@ fn write_list<W: fmt::Write>(f: &mut fmt::Formatter<W>, error: &ListError) -> fm
 {
     match error {
         ListError::Invalid(fault) => write_listed(f, fault),
-        ListError::TooLong => f.write_str("the list would be too long"),
+        ListError::TooLong => f.write_str("the CRL would be too long"),
         ListError::Memory => f.write_str("out of memory"),
     }
 }
@@ -173,7 +173,7 @@ fn write_wanted<W: fmt::Write>(f: &mut fmt::Formatter<W>, error: &WantedError) -
         WantedError::Broken(rule) => write_rule(f, *rule),
         WantedError::Listed(error) => write_listed(f, error),
         WantedError::OtherOctets => {
-            f.write_str("the first file isn't what is prepared of its fields")
+            f.write_str("the first file isn't what rpki prepare writes of its fields")
         }
         WantedError::Unready(error) | WantedError::Unsigned(error) => write_issuing(f, error),
         WantedError::NoList(error) => write_next(f, error),

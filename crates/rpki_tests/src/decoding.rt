@@ -75,7 +75,7 @@ fn of_a_negative_serial_number(rt: HostRuntime) {
     let octets = octets(&rt, alloc);
     assert_stands(&rt, &octets, 13, b"\x02\x01\x0c");
     let negative = altered(&rt, alloc, &octets, 15, 0x80);
-    let wanted = "an INTEGER that isn't negative, of 20 octets at most (RFC 5280 4.1.2.2)";
+    let wanted = "an INTEGER that isn't negative, of at most 20 bytes (RFC 5280 4.1.2.2)";
     let printed = "bad value: the serial number, from octet 13";
     assert_no_cert(&rt, alloc, &negative, printed, wanted);
 }
@@ -90,7 +90,7 @@ fn of_a_list_of_version_3(rt: HostRuntime) {
     let wanted = "version 2: the INTEGER 1 (RFC 6487 5)";
     let printed = "bad value: the version, from octet 7";
     assert_no_list(&rt, alloc, &altered, printed, wanted);
-    let wanted = "version 3: 2 inside [0], and nothing behind it (RFC 6487 4.1)";
+    let wanted = "version 3: the INTEGER 2 in [0], and nothing after it (RFC 6487 4.1)";
     let printed = "unexpected identifier: the version, from octet 7";
     assert_no_cert(&rt, alloc, &octets, printed, wanted);
 }

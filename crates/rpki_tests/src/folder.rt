@@ -8,7 +8,8 @@ use bytes::Bytes;
 use rpki_cert::{Cert, Said};
 use rpki_crl::RevocationError;
 use rpki_folder::{
-    Added, AllAdmitted, Bounds, Ended, Firsts, Folder, Found, Line, Lines, Walk, WalkError,
+    Added, AllAdmitted, Bounds, Ended, Firsts, Folder, Found, Limit, Line, Lines, Walk, WalkError,
+    Walked,
 };
 use rpki_parts::{StandIn, Verifier};
 use rpki_path::{Member, PathFault};
@@ -74,15 +75,15 @@ fn walked(
     folder: &Folder,
     depth: usize,
     steps: usize,
-) -> (Ended, Lines) {
+) -> (Walked, Lines) {
     let mut lines = Lines::new(alloc, folder.certs().len()).expect(rt, "memory");
     let tal = locator(rt, alloc, OF_ANCHOR);
     let anchor = anchors::octets(rt, alloc);
     let walk = walk(rt, alloc, folder, Bounds { depth, steps }, &StandIn);
-    let ended = walk.from_anchor(&tal, &Member::of(&anchor), &mut lines);
-    let ended = ended.expect(rt, "an anchor");
+    let walked = walk.from_anchor(&tal, &Member::of(&anchor), &mut lines);
+    let walked = walked.expect(rt, "an anchor");
     drop(tal);
-    (ended, lines)
+    (walked, lines)
 }
 
 // How many CAs stand above an accepted certificate; or the step and the name of its fault.
@@ -90,7 +91,7 @@ fn line(lines: &Lines, place: usize) -> (usize, &'static str) {
     match lines.as_slice().get(place) {
         None => (0, "none"),
         Some(Line::Unseen) => (0, "unseen"),
-        Some(Line::Accepted(path)) => (path.above.len(), "accepted"),
+        Some(Line::Accepted(paths)) => (paths.first.above.len(), "accepted"),
         Some(Line::Rejected(step, fault)) => (*step, fault.name()),
     }
 }
@@ -104,14 +105,38 @@ fn check_walk(
     how: Ended,
     wanted: &[(usize, &str)],
 ) {
-    let (ended, lines) = walked(rt, alloc, folder, bounds.0, bounds.1);
-    check(rt, ended == how, "how the walk ended");
+    let (walked, lines) = walked(rt, alloc, folder, bounds.0, bounds.1);
+    check(rt, walked.ended == how, "how the walk ended");
+    check(
+        rt,
+        walked.limited.is_empty() == (how == Ended::Whole),
+        "whether a CA is limited",
+    );
+    drop(walked);
     for (place, (step, name)) in wanted.iter().enumerate() {
         let found = line(&lines, place);
         check_text(rt, found.1, name);
         check_count(rt, found.0, *step);
     }
     drop(lines);
+}
+
+// That a walk through the folder reaches this limit at the trust anchor, and no other.
+fn check_limited(
+    rt: &impl Abort,
+    alloc: Global,
+    folder: &Folder,
+    bounds: (usize, usize),
+    limit: Limit,
+) {
+    let (walked, lines) = walked(rt, alloc, folder, bounds.0, bounds.1);
+    check_count(rt, walked.limited.len(), 1);
+    for limited in &walked.limited {
+        check(rt, limited.above.is_empty(), "at the trust anchor");
+        check(rt, limited.limit == limit, "which limit");
+    }
+    drop(lines);
+    drop(walked);
 }
 
 // The authority has the anchor's key: it is judged, and nothing below it is.
@@ -144,6 +169,7 @@ fn a_walk_ends_at_the_depth(rt: HostRuntime) {
         Ended::TooDeep,
         &[(0, "unseen")],
     );
+    check_limited(&rt, alloc, &folder, (0, 100), Limit::Depth);
     drop(folder);
 }
 
@@ -169,6 +195,9 @@ fn a_walk_ends_with_the_steps(rt: HostRuntime) {
         Ended::OutOfSteps,
         &[(0, "unseen")],
     );
+    let needed = Limit::Steps(Some(40));
+    check_limited(&rt, alloc, &folder, (20, 39), needed);
+    check_limited(&rt, alloc, &folder, (20, 0), needed);
     check_walk(
         &rt,
         alloc,
@@ -232,8 +261,9 @@ fn without_a_list_nothing_is_accepted(rt: HostRuntime) {
         Ended::Whole,
         &[(1, "Revocation")],
     );
-    let (_, lines) = walked(&rt, alloc, &folder, 3, 100);
+    let (walked, lines) = walked(&rt, alloc, &folder, 3, 100);
     check(&rt, lacks_list(&lines), "no list");
+    drop(walked);
     drop(lines);
     drop(folder);
 }
@@ -360,8 +390,10 @@ fn a_copy_takes_no_step(rt: HostRuntime) {
         at: anchors::now(&rt),
         verifier: &StandIn,
     };
-    let ended = walk.from_anchor(&tal, &Member::of(&anchor), &mut lines);
-    assert!(rt; ended.expect(&rt, "an anchor") == Ended::Whole);
+    let walked = walk.from_anchor(&tal, &Member::of(&anchor), &mut lines);
+    let walked = walked.expect(&rt, "an anchor");
+    assert!(rt; walked.ended == Ended::Whole);
+    drop(walked);
     assert!(rt; line(&lines, 0) == (0, "accepted"));
     assert!(rt; line(&lines, 1) == (0, "unseen"));
     assert!(rt; line(&lines, 2) == (0, "accepted"));
@@ -381,12 +413,10 @@ fn verified(rt: &impl Abort, alloc: Global, folder: &Folder) -> usize {
     };
     let bounds = Bounds { depth: 3, steps: 9 };
     let walk = walk(rt, alloc, folder, bounds, &verifier);
-    let ended = walk.from_anchor(&tal, &Member::of(&anchor), &mut lines);
-    check(
-        rt,
-        ended.expect(rt, "an anchor") == Ended::Whole,
-        "a whole walk",
-    );
+    let walked = walk.from_anchor(&tal, &Member::of(&anchor), &mut lines);
+    let walked = walked.expect(rt, "an anchor");
+    check(rt, walked.ended == Ended::Whole, "a whole walk");
+    drop(walked);
     drop(lines);
     drop(tal);
     verifier.calls.get()

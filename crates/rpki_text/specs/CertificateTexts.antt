@@ -1,5 +1,5 @@
 -- What is found of a certificate beyond its fields.
-use Rattle.std.specs.Prelude.{ℕ, Bool, List, codes, Option, Some, None}
+use Rattle.std.specs.Prelude.{Bool, Option, Some, None}
 use Rattle.rpki_cert.specs.Certificates.{CertFields}
 use Rattle.rpki_ext.specs.declared.inspection.InspectionError.{InspectionError}
 use Rattle.rpki_cert.specs.declared.inspect.Kind.{Kind}
@@ -39,11 +39,3 @@ pub record AreFindings (strict : Bool) (c : CertFields) (found : Findings) : Typ
   pub kind_is : IsKindOf found.kind strict c
   pub answers_are : AreAnswers strict c found.answers
   pub key_is : IsKeyAnswer c.fields.key found.key
-
--- the name of a kind
-abbrev pub certificate_kind_text : Kind → List ℕ
-certificate_kind_text Anchor = codes "trust anchor"
-certificate_kind_text Authority = codes "authority (CA)"
-certificate_kind_text EndEntity = codes "end entity"
-certificate_kind_text Detached = codes "detached end entity"
-certificate_kind_text Router = codes "BGPsec router"

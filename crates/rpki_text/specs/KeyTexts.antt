@@ -38,10 +38,10 @@ form_text NoPoint = codes "ECDSA P-256, no point"
 
 -- what is asked of a key with this algorithm
 abbrev pub asked_text : KeyForm → List ℕ
-asked_text (RsaKey count exponent) = codes "RFC 7935 3 asks 2048 bits, exponent 65537"
-asked_text EvenModulus = codes "RFC 7935 3 asks 2048 bits, exponent 65537"
-asked_text NoRsaKey = codes "RFC 7935 3 asks 2048 bits, exponent 65537"
-asked_text _ = codes "RFC 8608 3.1 asks an uncompressed point of the curve"
+asked_text (RsaKey count exponent) = codes "RFC 7935 3 requires 2048 bits, exponent 65537"
+asked_text EvenModulus = codes "RFC 7935 3 requires 2048 bits, exponent 65537"
+asked_text NoRsaKey = codes "RFC 7935 3 requires 2048 bits, exponent 65537"
+asked_text _ = codes "RFC 8608 3.1 requires an uncompressed point of the curve"
 
 -- the octets of an ECDSA key, which are to be a point of the curve (RFC 8608 3.1)
 abbrev pub point_of : PublicKeyFormat → List ℕ → Option (List ℕ)
@@ -62,4 +62,4 @@ key_text key =
 abbrev pub locator_key_text : KeyAnswer → List ℕ
 locator_key_text key =
     if key.is_usable then form_text key.form
-    else form_text key.form ++ codes " (every path is rejected: RFC 7935 3 asks RSA, 2048 bits, exponent 65537)"
+    else form_text key.form ++ codes " (every path is rejected: RFC 7935 3 requires RSA, 2048 bits, exponent 65537)"

@@ -329,7 +329,7 @@ Breaks note.IpNotCritical octets f xs = HaveOne (identifiers_by_mode ip_resource
 Breaks note.AsNotCritical octets f xs = HaveOne (identifiers_by_mode as_resources) IsNotCritical xs
 Breaks note.IpForm octets f xs = HaveOne (identifiers_by_mode ip_resources) (IsOtherThan (canonical_addresses f.extensions)) xs
 Breaks note.AsForm octets f xs = HaveOne (identifiers_by_mode as_resources) (IsOtherThan (canonical_systems f.extensions)) xs
-Breaks note.OctetsBehind octets f xs = HaveOne known IsNotOneValue xs
+Breaks note.BytesAfterValue octets f xs = HaveOne known IsNotOneValue xs
 Breaks note.FlagForm octets f xs = StatesFalse octets
 Breaks note.ExtensionTwice octets f xs = HaveAgain [] xs
 
@@ -353,7 +353,7 @@ every_note =
     note.SerialZero ∷ note.SerialLong ∷ note.IssuerForm ∷ note.TimeForm ∷ note.SubjectForm
     ∷ note.NameCharacters ∷ note.EndEntityNotify ∷ note.EndEntityMethod ∷ note.EndEntityObjects
     ∷ note.NotifyForm ∷ note.NotifyScheme ∷ note.QualifierForm ∷ note.IpNotCritical ∷ note.AsNotCritical
-    ∷ note.IpForm ∷ note.AsForm ∷ note.OctetsBehind ∷ note.FlagForm ∷ note.ExtensionTwice ∷ []
+    ∷ note.IpForm ∷ note.AsForm ∷ note.BytesAfterValue ∷ note.FlagForm ∷ note.ExtensionTwice ∷ []
 
 -- exactly the notes of the octets, in that order
 unfoldable pub AreNotes : List ℕ → List Note → Type 0

@@ -1,6 +1,6 @@
 //! What is found of a certificate beyond its fields.
 ghost use Rattle.std.specs.Prelude.{◌≡◌};
-ghost use Rattle.rpki_text.specs.CertificateTexts.{AreAnswers, AreFindings, answer_for, certificate_kind_text};
+ghost use Rattle.rpki_text.specs.CertificateTexts.{AreAnswers, AreFindings, answer_for};
 
 use crate::keys::{self, KeyAnswer};
 use rpki_cert::{Cert, InspectionError, Kind, kind_of};
@@ -40,19 +40,6 @@ impl Answers {
             Kind::Detached => self.detached,
             Kind::Router => self.router,
         }
-    }
-}
-
-/// Returns the name of a kind.
-pub fn kind_name(kind: Kind) -> &'static str
-    ensures { result.now ≡ certificate_kind_text kind }
-{
-    match kind {
-        Kind::Anchor => "trust anchor",
-        Kind::Authority => "authority (CA)",
-        Kind::EndEntity => "end entity",
-        Kind::Detached => "detached end entity",
-        Kind::Router => "BGPsec router",
     }
 }
 

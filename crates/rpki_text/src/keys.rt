@@ -94,10 +94,10 @@ impl fmt::Display for Asked {
     fn fmt<W: fmt::Write>(&self, f: &mut fmt::Formatter<W>) -> fmt::Result {
         match self.0 {
             KeyForm::RsaKey { .. } | KeyForm::EvenModulus | KeyForm::NoRsaKey => {
-                f.write_str("RFC 7935 3 asks 2048 bits, exponent 65537")
+                f.write_str("RFC 7935 3 requires 2048 bits, exponent 65537")
             }
             KeyForm::Point | KeyForm::OffCurve | KeyForm::CompressedPoint | KeyForm::NoPoint => {
-                f.write_str("RFC 8608 3.1 asks an uncompressed point of the curve")
+                f.write_str("RFC 8608 3.1 requires an uncompressed point of the curve")
             }
         }
     }
@@ -131,7 +131,7 @@ impl fmt::Display for LocatorKey {
         }
         write!(
             f,
-            "{form} (every path is rejected: RFC 7935 3 asks RSA, 2048 bits, exponent 65537)"
+            "{form} (every path is rejected: RFC 7935 3 requires RSA, 2048 bits, exponent 65537)"
         )
     }
 }

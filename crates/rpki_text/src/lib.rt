@@ -14,5 +14,5 @@ pub mod notes;
 mod page;
 
 pub use identifiers::Identifier;
-pub use lines::{Characters, Colons, FileName, InnerName};
+pub use lines::{Characters, Colons, Count, FileName, InnerName};
 pub use page::Page;

@@ -5,7 +5,7 @@ use crate::locators::locator_of;
 use crate::paths::named;
 use crate::words::{Words, moment};
 use bytes::Bytes;
-use rpki_folder::{AllAdmitted, Bounds, Ended, Folder, Line, Lines, Walk, WalkError};
+use rpki_folder::{AllAdmitted, Bounds, Ended, Folder, Line, Lines, Walk, WalkError, Walked};
 use rpki_keys::tal::Tal;
 use rpki_parts::{StandIn, Verifier};
 use rpki_path::Member;
@@ -41,9 +41,12 @@ fn ended(out: &mut Answer, how: Ended, lines: &Lines) {
     }
 }
 
-fn told(out: &mut Answer, answer: Result<Ended, WalkError>, lines: &Lines) {
+fn told(out: &mut Answer, answer: Result<Walked, WalkError>, lines: &Lines) {
     match answer {
-        Ok(how) => ended(out, how, lines),
+        Ok(walked) => {
+            ended(out, walked.ended, lines);
+            drop(walked);
+        }
         Err(WalkError::Anchor(error)) => refused(out, error),
         Err(WalkError::OtherName) => out.text("refused names OtherName"),
         Err(WalkError::Memory) => out.fail(),

@@ -2,11 +2,12 @@
 mod CountedFiles
 mod FiledFiles
 mod FilesAbove
+mod FilesAt
 mod FirstItems
 mod FirstOfKeys
-mod FirstPaths
 mod FoundLocators
 mod GivenKinds
+mod IsolatedQuestions
 mod IssuersByKey
 pub mod MappedItems
 pub mod OneVerdict
@@ -16,5 +17,5 @@ mod ReachedFiles
 mod ReadLocators
 mod SearchSteps
 mod TreeAnchors
-mod TriedAnchors
 mod UnrevokedFiles
+mod WrongFiles

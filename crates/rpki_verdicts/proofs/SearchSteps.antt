@@ -5,6 +5,7 @@ use Rattle.std.proofs.Common.{◌≡◌, ◌+◌, ◌<◌, ℕ, Bool, true, fals
 use Rattle.std.proofs.lemmas.List.{append_assoc, length-map}
 use Rattle.std.proofs.lemmas.List.Elements.{All-contains, All-from_recursion}
 use Rattle.std.proofs.lemmas.Option.{slice_get_within, get_or_from_slice_get}
+use Rattle.rpki_der.specs.Encoding.{Means}
 use Rattle.rpki_der.specs.Values.{IsUnambiguous}
 use Rattle.rpki_path.specs.AskedLists.{by_named_lists}
 use Rattle.rpki_path.specs.Asking.{RevocationChecks}
@@ -23,6 +24,7 @@ use Rattle.rpki_cert.specs.Verification.{Context}
 use Rattle.rpki_folder.specs.Walks.{Root, Covers, IsAcceptedAs, IsLookedAt, IsReached, IsRight, IsRightOf, IsTold, Tells, Told, at_anchor, members_at}
 use Rattle.rpki_folder.specs.declared.walk_error.WalkError.{WalkError}
 use Rattle.rpki_folder.proofs.KeptLineSteps.{told_so}
+use Rattle.rpki_folder.proofs.KeptPaths.{first_told}
 use Rattle.rpki_folder.proofs.SearchSteps.{told_let_in}
 use Rattle.rpki_folder.specs.FirstPlaces.{IsFirstIn, first_of}
 use Rattle.rpki_folder.specs.Folders.{octets_at}
@@ -30,9 +32,10 @@ use Rattle.rpki_files.specs.Contents.{BeginsWithCertificate}
 use Rattle.rpki_files.specs.Files.{FileFields, contents}
 use Rattle.rpki_verdicts.specs.Searches.{DeniesFirst, DoesNotReach, HasNoValidIn, HasNoValidPath, IsAcceptedIn, IsNamedAmong, IsNamedIn, IsSoughtPath, alone, no_anchor, valid, invalid, IsTreeWith, IsUnanchored, IsValidAmong, IsValidPathTo, Leads, StandsAlone, above_by, files_at, first_wrong}
 use Rattle.rpki_verdicts.specs.GivenLocators.{LocatorFields}
-use Rattle.rpki_verdicts.specs.TreeParts.{AreTreesOf, IsPartOf, of_locator, worst_end, wrong_of}
+use Rattle.rpki_verdicts.specs.TreeParts.{AreTreesOf, IsPartOf, worst_end, wrong_of}
 use Rattle.rpki_verdicts.specs.Trees.{AreCertificatesOf, IsTreeAnswer, IsTreeOf, TreeFields, certs_of, line_at}
-use Rattle.rpki_verdicts.proofs.FirstPaths.{first_zero, let_in_all, looked_first, reached_first}
+use Rattle.rpki_folder.proofs.FirstPaths.{first_zero, let_in_all, looked_first, reached_first}
+use Rattle.rpki_verdicts.proofs.FilesAt.{octets_there}
 use Rattle.rpki_verdicts.proofs.ReachedFiles.{reached_files}
 use Rattle.rpki_verdicts.specs.declared.unordered.Tree.{Tree}
 use Rattle.rpki_verdicts.specs.declared.parts.Trees.{Trees}
@@ -84,9 +87,9 @@ module _ (ts : List Told) (place : ℕ) where
   pub line_tells : (o : Option Line) (above : List ℕ) → above_by o ≡ Some above → ((l : Line) → o ≡ Some l → IsLine ts place l) → IsTold ts above place
   line_tells None above e kept = absurd cc
   line_tells (Some line.Unseen) above e kept = absurd cc
-  line_tells (Some (line.Accepted path)) above e kept =
-      let same : path.above.items ≡ above = cc in
-      subst (λ (l : List ℕ). IsTold ts l place) same (told_so ts place path (kept (line.Accepted path) refl))
+  line_tells (Some (line.Accepted paths)) above e kept =
+      let same : paths.first.above.items ≡ above = cc in
+      subst (λ (l : List ℕ). IsTold ts l place) same (told_so ts place paths.first (first_told ts place paths (kept (line.Accepted paths) refl)))
   line_tells (Some (line.Rejected n f)) above e kept = absurd cc
 
   never : (P : Told → Type 0) → AllByRecursion P ts → (above : List ℕ) (h : IsTold ts above place) → P h.1
@@ -97,7 +100,7 @@ module _ (ts : List Told) (place : ℕ) where
   line_denies None l is e kept above h = absurd cc
   line_denies (Some line.Unseen) l is e kept above h =
       never (λ t. t.place ≡ place → ⊥) (kept line.Unseen refl) above h h.4.1
-  line_denies (Some (line.Accepted path)) l is e kept above h = absurd cc
+  line_denies (Some (line.Accepted paths)) l is e kept above h = absurd cc
   line_denies (Some (line.Rejected n f)) l is e kept above h =
       (never (IsRejectedWithin place n) (kept (line.Rejected n f) refl).1 above h h.4.1).0 h.4.2
 
@@ -112,7 +115,7 @@ line_kept ts lines place are l is =
 
 -- ---- the path
 
-module _ (law : IsUnambiguous IsCertificate) (x : Context) (q : TreeFields) (file : FileFields) (tree : Tree) (is : IsTreeWith x q file tree) where
+module _ (law : IsUnambiguous IsCertificate) (x : Context) (q : TreeFields) (l : LocatorFields) (file : FileFields) (tree : Tree) (is : IsTreeWith x q l file tree) where
   abbrev tree_certs : List (List ℕ)
   tree_certs = contents (certs_of tree)
 
@@ -142,19 +145,21 @@ module _ (law : IsUnambiguous IsCertificate) (x : Context) (q : TreeFields) (fil
   admits = IsLookedAt q.names (IsFirstIn tree.firsts) top tree_certs
 
   tells : Tells {E = WalkError} x asked admits (at_anchor is.grown.locator is.grown.anchor.octets) tree_certs [] q.depth q.steps (Ok tree.ended) is.grown.told
-  tells = is.grown.tells top is.grown.anchor_is.valid.begins
+  tells =
+      let begins : Means IsCertificate top is.grown.anchor.octets = subst (λ (o : List ℕ). Means IsCertificate top o) (octets_there (certs_of tree) tree.anchor is.grown.anchor is.grown.stands) is.grown.anchor_is.valid.stands in
+      is.grown.tells top begins
 
   -- the line of the file accepts it: a valid path leads to it
-  pub leads_by : (above : List ℕ) → above_by (line_at tree 0) ≡ Some above → Leads x q tree is.grown above
+  pub leads_by : (above : List ℕ) → above_by (line_at tree 0) ≡ Some above → Leads x q l tree is.grown above
   leads_by above e =
       let told = line_tells is.grown.told 0 (line_at tree 0) above e kept_first in (
         told_reached x asked (at_anchor is.grown.locator is.grown.anchor.octets) tree_certs is.grown.told tells.right above 0 told,
         let_in_all q.names top tree_certs tree.firsts [] (above ++ 0 ∷ []) (told_let_in admits 0 is.grown.told above tells.let_in told),
       )
 
-  pub valid_by : (above : List ℕ) (path : List FileFields) → above_by (line_at tree 0) ≡ Some above → path ≡ files_at (certs_of tree) (tree.anchor ∷ above) ++ file ∷ [] → IsValidPathTo x q file path
+  pub valid_by : (above : List ℕ) (path : List FileFields) → above_by (line_at tree 0) ≡ Some above → path ≡ files_at (certs_of tree) (tree.anchor ∷ above) ++ file ∷ [] → IsValidPathTo x q l file path
   valid_by above path e path_is =
-      let files = path_is ∙ ap (λ (o : Option FileFields). cons_option o (files_at (certs_of tree) above) ++ file ∷ []) is.grown.anchor_is.valid.candidate.file_is in
+      let files = path_is ∙ ap (λ (o : Option FileFields). cons_option o (files_at (certs_of tree) above) ++ file ∷ []) is.grown.stands in
       record {
         tree = tree;
         is = is;
@@ -172,7 +177,7 @@ module _ (law : IsUnambiguous IsCertificate) (x : Context) (q : TreeFields) (fil
       (there.0, first_line_at ∙ there.1)
 
   -- it doesn't: none leads there, by whichever places
-  pub invalid_by : above_by (line_at tree 0) ≡ None → HasNoValidPath x q file tree
+  pub invalid_by : above_by (line_at tree 0) ≡ None → HasNoValidPath x q l file tree
   invalid_by e = record {
     is = is;
     none = λ above covers leads.
@@ -207,8 +212,8 @@ pub first_certificate : (file : FileFields) (more certs : List FileFields) → B
 first_certificate file more certs begins (inl h) = absurd (h.0 begins)
 first_certificate file more certs begins (inr h) = ap (λ (l : List FileFields). slice_get l 0) h.3
 
-pub with_first : (x : Context) (q : TreeFields) (file : FileFields) (more : List FileFields) (tree : Tree) → q.files ≡ file ∷ more → BeginsWithCertificate file.octets → IsTreeOf x q tree → IsTreeWith x q file tree
-with_first x q file more tree files_are begins grown = record {
+pub with_first : (x : Context) (q : TreeFields) (l : LocatorFields) (file : FileFields) (more : List FileFields) (tree : Tree) → q.files ≡ file ∷ more → BeginsWithCertificate file.octets → IsTreeOf x q l tree → IsTreeWith x q l file tree
+with_first x q l file more tree files_are begins grown = record {
   grown = grown;
   first_is = first_certificate file more (certs_of tree) begins (subst (λ (l : List FileFields). AreCertificatesOf l (certs_of tree)) files_are grown.certs_are);
 }
@@ -217,15 +222,15 @@ with_first x q file more tree files_are begins grown = record {
 
 module _ (law : IsUnambiguous IsCertificate) (x : Context) (q : TreeFields) (file : FileFields) (more : List FileFields) (files_are : q.files ≡ file ∷ more) (begins : BeginsWithCertificate file.octets) where
   -- of one of them
-  valid_of : (l : LocatorFields) (answer : TreeAnswer) → IsTreeAnswer x (of_locator q l) answer → (path : List FileFields) → IsAcceptedIn file path answer → IsValidPathTo x (of_locator q l) file path
+  valid_of : (l : LocatorFields) (answer : TreeAnswer) → IsTreeAnswer x q l answer → (path : List FileFields) → IsAcceptedIn file path answer → IsValidPathTo x q l file path
   valid_of l (NoAnchor wrong) is path h = absurd h
   valid_of l (Walked tree) is path h =
-      valid_by law x (of_locator q l) file tree (with_first x (of_locator q l) file more tree files_are begins is) h.0 path h.1 h.2
+      valid_by law x q l file tree (with_first x q l file more tree files_are begins is) h.0 path h.1 h.2
 
-  none_of : (l : LocatorFields) (answer : TreeAnswer) → IsTreeAnswer x (of_locator q l) answer → DeniesFirst answer → HasNoValidIn x (of_locator q l) file answer
+  none_of : (l : LocatorFields) (answer : TreeAnswer) → IsTreeAnswer x q l answer → DeniesFirst answer → HasNoValidIn x q l file answer
   none_of l (NoAnchor wrong) is denies = tt
   none_of l (Walked tree) is denies =
-      invalid_by law x (of_locator q l) file tree (with_first x (of_locator q l) file more tree files_are begins is) denies
+      invalid_by law x q l file tree (with_first x q l file more tree files_are begins is) denies
 
   module _ (trees : Trees) (are : AreTreesOf x q trees) (path : List FileFields) where
     pub valid_among : Any (λ part. IsAcceptedIn file path part.answer) trees.parts.items → IsSoughtPath x q file path Whole

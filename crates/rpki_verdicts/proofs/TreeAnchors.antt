@@ -1,8 +1,6 @@
 -- The locator of a file's certificate.
-use Rattle.std.specs.Option.{option_map}
-use Rattle.std.specs.Prelude.{Any, IfNone, IfSome, IsOkAnd, Option, Some, None, Result, slice_get}
-use Rattle.std.proofs.Common.{◌≡◌, ℕ, List, map, sym, ap, subst, ◌∙◌}
-use Rattle.std.proofs.lemmas.Option.{slice_get-map}
+use Rattle.std.specs.Prelude.{Any, IfNone, IfSome, IsOkAnd, Option, Some, None, Result}
+use Rattle.std.proofs.Common.{◌≡◌, List, sym, ap, subst, ◌∙◌}
 use Rattle.rpki_cert.specs.Certificates.{CertFields, IsCertificate}
 use Rattle.rpki_der.specs.Encoding.{Means}
 use Rattle.rpki_parts.specs.Keys.{KeyFields}
@@ -11,8 +9,7 @@ use Rattle.rpki_keys.specs.declared.tal.tal_error.TalError.{TalError}
 use Rattle.rpki_der.specs.Values.{IsUnambiguous}
 use Rattle.rpki_der.proofs.Formats.{one_meant}
 use Rattle.rpki_files.specs.Files.{FileFields}
-use Rattle.rpki_verdicts.specs.GivenLocators.{LocatorFields, HasKeyRead, HasTalRead}
-use Rattle.rpki_verdicts.specs.Trees.{HasLocator, IsAnchorOf}
+use Rattle.rpki_verdicts.specs.GivenLocators.{LocatorFields, HasKeyRead, HasLocator, HasTalRead, IsAnchorOf}
 
 module _ (locators : List LocatorFields) (file : FileFields) (cert : CertFields) (begins : Means IsCertificate cert file.octets) (key : KeyFields) (key_is : key ≡ cert.fields.key) where
   -- what was read of a locator of its key
@@ -37,9 +34,3 @@ module _ (locators : List LocatorFields) (file : FileFields) (cert : CertFields)
 -- a file without a certificate has none
 pub none_of_no_certificate : (locators : List LocatorFields) (file : FileFields) → ((c : CertFields) → Means IsCertificate c file.octets → ⊥) → HasLocator locators file → ⊥
 none_of_no_certificate locators file none has = none has.1.1.cert has.1.1.begins
-
--- ---- certificates at places
-
--- the file at a place, by the reference there
-pub mapped_at : {R : Type 0} (now : R → FileFields) (xs : List R) (k : ℕ) (x : R) → slice_get xs k ≡ Some x → slice_get (map now xs) k ≡ Some (now x)
-mapped_at now xs k x is = slice_get-map now xs k ∙ ap (option_map now) is

@@ -1,7 +1,7 @@
 -- Files that are given as locators, and whether a trust anchor is one's (RFC 8630 3).
 use Rattle.std.specs.Prelude.{◌≡◌, ◌<◌, ℕ, Bool, Any, IsOkAnd, List, [], ◌∷◌, map, slice_get, Option, Some, None, Result, Ok}
 use Rattle.rpki_parts.specs.Keys.{KeyFields}
-use Rattle.rpki_path.specs.LocatedPaths.{BeginsWithNumbers, IsLocatorOf}
+use Rattle.rpki_path.specs.LocatedPaths.{BeginsWithKey, BeginsWithNumbers, IsLocatorOf}
 use Rattle.rpki_keys.specs.Locators.{NamedTal}
 use Rattle.rpki_keys.specs.declared.tal.tal_error.TalError.{TalError}
 use Rattle.rpki_files.specs.Files.{FileFields, contents}
@@ -35,6 +35,14 @@ abbrev pub HasTalRead : List LocatorFields → KeyFields → NamedTal → Type 0
 HasTalRead locators key t = Any (λ l. l.read ≡ Ok t) locators × (key ≡ t.tal.key)
 
 -- ---- the trust anchor
+
+-- the file begins with a certificate that has the key of one of the locators, of which this was
+-- read (RFC 8630 3)
+abbrev pub IsAnchorOf : List LocatorFields → NamedTal → FileFields → Type 0
+IsAnchorOf locators t file = Any (λ l. l.read ≡ Ok t) locators × BeginsWithKey t.tal file.octets
+
+abbrev pub HasLocator : List LocatorFields → FileFields → Type 0
+HasLocator locators file = (t : NamedTal) × IsAnchorOf locators t file
 
 -- one of the files is the trust anchor's locator; where none is given, that isn't asked
 abbrev pub IsLocated : Bool → List (List ℕ) → List ℕ → Type 0

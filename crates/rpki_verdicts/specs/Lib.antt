@@ -4,8 +4,10 @@ pub mod PathFiles
 pub mod Reasons
 pub mod PathAnswers
 pub mod UnrevokedMembers
+pub mod ReachedLimits
 pub mod Trees
 pub mod Damage
 pub mod TreeParts
 pub mod Searches
 pub mod UnseenCertificates
+pub mod IsolatedTrees

@@ -36,15 +36,15 @@ IsReason path.Memory octets r = r ≡ reason (codes "memory") (path_fault_name p
 
 -- of a trust anchor whose key no locator has that is given
 abbrev pub locator_reason : ReasonFields
-locator_reason = reason (codes "locator") (codes "OtherKey") other_key
+locator_reason = reason (codes "tal") (codes "OtherKey") other_key
 
 -- of a trust anchor that has a locator's key, and lists no number
 abbrev pub resources_reason : ReasonFields
-resources_reason = reason (codes "locator") (codes "NoResources") no_resources
+resources_reason = reason (codes "tal") (codes "NoResources") no_resources
 
 -- of a file that is given as a locator, and is none
 abbrev pub tal_reason : TalError → ReasonFields
-tal_reason e = reason (codes "locator") (tal_error_name e) (tal_rule e)
+tal_reason e = reason (codes "tal") (tal_error_name e) (tal_rule e)
 
 -- of the member at this place, where the path is valid but its names don't chain
 abbrev pub name_reason : ℕ → ReasonFields

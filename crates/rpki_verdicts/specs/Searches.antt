@@ -17,9 +17,10 @@ use Rattle.rpki_cert.specs.Verification.{Context}
 use Rattle.rpki_folder.specs.Walks.{AreAdmitted, Covers, IsLookedAt, IsReached, at_anchor}
 use Rattle.rpki_files.specs.Contents.{BeginsWithCertificate, IsList}
 use Rattle.rpki_files.specs.Files.{FileFields, contents}
+use Rattle.rpki_verdicts.specs.GivenLocators.{LocatorFields, HasLocator}
 use Rattle.rpki_verdicts.specs.PathFiles.{IsGivenBy}
-use Rattle.rpki_verdicts.specs.TreeParts.{AreTreesOf, of_locator, worst_end, wrong_of}
-use Rattle.rpki_verdicts.specs.Trees.{HasLocator, IsTreeOf, TreeFields, certs_of, line_at}
+use Rattle.rpki_verdicts.specs.TreeParts.{AreTreesOf, worst_end, wrong_of}
+use Rattle.rpki_verdicts.specs.Trees.{IsTreeOf, TreeFields, certs_of, line_at}
 use Rattle.rpki_verdicts.specs.declared.parts.TreePart.{TreePart}
 use Rattle.rpki_verdicts.specs.declared.parts.Trees.{Trees}
 use Rattle.rpki_verdicts.specs.declared.unordered.Tree.{Tree}
@@ -34,8 +35,9 @@ abbrev pub files_at : List FileFields → List ℕ → List FileFields
 files_at certs places = filter_map (slice_get certs) places
 
 -- the tree of the files, in which the file is the first certificate
-pub record IsTreeWith (x : Context) (q : TreeFields) (file : FileFields) (tree : Tree) : Type 0 where
-  pub grown : IsTreeOf x q tree
+pub record IsTreeWith (x : Context) (q : TreeFields) (l : LocatorFields) (file : FileFields)
+    (tree : Tree) : Type 0 where
+  pub grown : IsTreeOf x q l tree
   pub first_is : slice_get (certs_of tree) 0 ≡ Some file
 
 -- every certificate is looked at, wherever it stands
@@ -45,8 +47,9 @@ every above place = Unit {0}
 -- a valid path leads from the trust anchor of the tree, by the CAs at these places, to the first
 -- certificate, where all lists among the files are asked; its names chain, if they are asked, and no
 -- issuer stands on it twice
-abbrev pub Leads : (x : Context) (q : TreeFields) (tree : Tree) → IsTreeOf x q tree → List ℕ → Type 0
-Leads x q tree is above =
+abbrev pub Leads : (x : Context) (q : TreeFields) (l : LocatorFields) (tree : Tree)
+    → IsTreeOf x q l tree → List ℕ → Type 0
+Leads x q l tree is above =
     IsReached x (by_named_lists q.names x is.lists) (at_anchor is.locator is.anchor.octets)
     (contents (certs_of tree)) above 0
     × AreAdmitted (IsLookedAt q.names every is.anchor_is.cert (contents (certs_of tree))) []
@@ -61,26 +64,27 @@ pub record IsValidAmong (x : Context) (asked : RevocationChecks) (files : List (
   pub accepted : IsAcceptedWith x asked strings judged
 
 -- these are the files of such a path, which is valid as the verdict on it has it too
-pub record IsValidPathTo (x : Context) (q : TreeFields) (file : FileFields) (path : List FileFields) : Type 0 where
+pub record IsValidPathTo (x : Context) (q : TreeFields) (l : LocatorFields) (file : FileFields)
+    (path : List FileFields) : Type 0 where
   pub tree : Tree
-  pub is : IsTreeWith x q file tree
+  pub is : IsTreeWith x q l file tree
   pub above : List ℕ
-  pub leads : Leads x q tree is.grown above
+  pub leads : Leads x q l tree is.grown above
   pub path_is : path ≡ is.grown.anchor ∷ (files_at (certs_of tree) above ++ file ∷ [])
   pub is_valid : IsValidAmong x (by_named_lists q.names x is.grown.lists) (contents path)
 
 -- there is none, of those that the walk of the tree looked at
-pub record HasNoValidPath (x : Context) (q : TreeFields) (file : FileFields)
+pub record HasNoValidPath (x : Context) (q : TreeFields) (l : LocatorFields) (file : FileFields)
     (tree : Tree) : Type 0 where
-  pub is : IsTreeWith x q file tree
+  pub is : IsTreeWith x q l file tree
   pub none : (above : List ℕ) → Covers tree.ended q.depth (length above + 1)
-      → Leads x q tree is.grown above → ⊥
+      → Leads x q l tree is.grown above → ⊥
 
 -- ---- lines
 
 -- the places of the CAs above a certificate, where its line accepts it
 abbrev pub above_by : Option Line → Option (List ℕ)
-above_by (Some (line.Accepted path)) = Some path.above.items
+above_by (Some (line.Accepted paths)) = Some paths.first.above.items
 above_by _ = None
 
 -- the answer accepts the first certificate, which is that of the file, and this is the path to it
@@ -204,9 +208,9 @@ IsUnanchored (NoAnchor wrong) = Unit {0}
 IsUnanchored (Walked tree) = ⊥
 
 -- the answer on one locator has no tree, or no valid path there
-abbrev pub HasNoValidIn : Context → TreeFields → FileFields → TreeAnswer → Type 0
-HasNoValidIn x q file (NoAnchor wrong) = Unit {0}
-HasNoValidIn x q file (Walked tree) = HasNoValidPath x q file tree
+abbrev pub HasNoValidIn : Context → TreeFields → LocatorFields → FileFields → TreeAnswer → Type 0
+HasNoValidIn x q l file (NoAnchor wrong) = Unit {0}
+HasNoValidIn x q l file (Walked tree) = HasNoValidPath x q l file tree
 
 -- The path that is sought to the first of the files: that one alone; where no locator has a valid
 -- trust anchor, below one that is wrong, or alone if there is none; a valid path from the trust
@@ -220,10 +224,10 @@ pub data IsSoughtPath (x : Context) (q : TreeFields) (file : FileFields)
       → All (λ part. IsUnanchored part.answer) trees.parts.items
       → IsSoughtPath x q file (first_wrong (wrong_of trees.parts.items) ++ file ∷ []) Whole
   valid : (path : List FileFields) (trees : Trees) → AreTreesOf x q trees
-      → Any (λ part. IsValidPathTo x (of_locator q part.locator.now) file path) trees.parts.items
+      → Any (λ part. IsValidPathTo x q part.locator.now file path) trees.parts.items
       → IsSoughtPath x q file path Whole
   invalid : (path : List FileFields) (trees : Trees) → AreTreesOf x q trees
-      → All (λ part. HasNoValidIn x (of_locator q part.locator.now) file part.answer)
+      → All (λ part. HasNoValidIn x q part.locator.now file part.answer)
       trees.parts.items
       → IsNamedAmong trees.parts.items file path
       → IsSoughtPath x q file path (worst_end trees.parts.items)

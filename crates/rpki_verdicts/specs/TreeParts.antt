@@ -35,13 +35,9 @@ AreFirstOfKeys before (l ∷ more) firsts =
     ⊎ ((rest : List LocatorFields) × IsOfNewKey before l
     × AreFirstOfKeys (before ++ l ∷ []) more rest × (firsts ≡ l ∷ rest))
 
--- what is asked of one locator alone
-abbrev pub of_locator : TreeFields → LocatorFields → TreeFields
-of_locator q l = record q { locators = l ∷ [] }
-
 -- what is answered of a locator is the answer of that one alone
 abbrev pub IsPartOf : Context → TreeFields → TreePart → Type 0
-IsPartOf x q part = IsTreeAnswer x (of_locator q part.locator.now) part.answer
+IsPartOf x q part = IsTreeAnswer x q part.locator.now part.answer
 
 -- the certificates of the files
 abbrev pub files_of : Trees → List FileFields
@@ -64,7 +60,7 @@ unseen_rank _ = 3
 
 -- and by its line, where there is one: most, that it is accepted
 abbrev pub line_rank : Ended → Option Line → ℕ
-line_rank ended (Some (line.Accepted path)) = 1
+line_rank ended (Some (line.Accepted paths)) = 1
 line_rank ended (Some (line.Rejected step fault)) = 2
 line_rank ended _ = unseen_rank ended
 

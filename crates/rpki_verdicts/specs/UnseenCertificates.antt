@@ -1,19 +1,27 @@
 -- Why there is no verdict on a certificate among files: how the certificate stands whose key it names
 -- as its signer's (own).
-use Rattle.std.specs.Prelude.{◌≡◌, ◌<◌, ◌≤◌, ◌||◌, ℕ, Bool, true, false, if◌then◌else◌, List, length, is_some, slice_get, Option, None, Some}
+use Rattle.std.specs.List.{list_any}
+use Rattle.std.specs.Prelude.{◌≡◌, ◌+◌, ◌<◌, ◌≤◌, ◌&&◌, ◌||◌, ℕ, Bool, true, false, if◌then◌else◌, fold, List, length, is_none, is_some, nat_lt, slice_get, unwrap_or, Option, None, Some}
 use Rattle.std.specs.BTreeMap.{get}
 use Rattle.std.specs.Cmp.Lexicographic.{slice_cmp}
 use Rattle.std.specs.Ordering.{nat_cmp}
 use Rattle.rpki_files.specs.Files.{FileFields}
 use Rattle.rpki_folder.specs.Folders.{NamesSigner}
-use Rattle.rpki_folder.specs.declared.bounds.Ended.{Ended}
-use Rattle.rpki_folder.specs.declared.bounds.Ended.TheVariants.{Whole}
+use Rattle.rpki_folder.specs.declared.bounds.Limit.{Limit}
+use Rattle.rpki_folder.specs.declared.lines.Line.{Line}
+use Rattle.rpki_folder.specs.declared.lines.Line.TheVariants as line
+use Rattle.rpki_path.specs.declared.judging.Judged.{Judged}
+use Rattle.rpki_verdicts.specs.ReachedLimits.{least_with}
 use Rattle.rpki_verdicts.specs.Searches.{HasKeyNamed}
-use Rattle.rpki_verdicts.specs.TreeParts.{files_of, is_told, worst_end, wrong_at}
+use Rattle.rpki_verdicts.specs.TreeParts.{files_of, is_told, wrong_at}
+use Rattle.rpki_verdicts.specs.Trees.{is_anchor_at, line_at, reached_in}
 use Rattle.rpki_verdicts.specs.declared.issuers.Issuers.{Issuers}
 use Rattle.rpki_verdicts.specs.declared.issuers.Unseen.{Unseen}
 use Rattle.rpki_verdicts.specs.declared.issuers.Unseen.TheVariants.{NoIssuer, NotBelow, NotLookedAt, BelowRejected, BelowUnseen}
 use Rattle.rpki_verdicts.specs.declared.parts.Trees.{Trees}
+use Rattle.rpki_verdicts.specs.declared.unordered.Tree.{Tree}
+use Rattle.rpki_verdicts.specs.declared.unordered.TreeAnswer.{TreeAnswer}
+use Rattle.rpki_verdicts.specs.declared.unordered.TreeAnswer.TheVariants.{NoAnchor, Walked}
 
 -- the certificate at a place is rejected: by a verdict, or as the trust anchor of a locator that has
 -- no valid one
@@ -21,11 +29,56 @@ abbrev pub is_rejected_at : Trees → ℕ → Bool
 is_rejected_at trees place =
     is_told trees.parts.items 2 place || is_some (wrong_at trees.parts.items place)
 
--- how it stands as an issuer, the least number best: a trust anchor or accepted, rejected, or neither
+-- the certificate was accepted as a CA's
+abbrev pub is_ca : Judged → Bool
+is_ca j = unwrap_or j.holder.cert.fields.extensions.basic_ca false && is_none j.router
+
+-- how many paths lead to it as a CA, by its line
+abbrev pub paths_by : Option Line → ℕ
+paths_by (Some (line.Accepted paths)) =
+    if is_ca paths.first.judged then length paths.others.items + paths.more + 1 else 0
+paths_by _ = 0
+
+-- and in a tree, where the trust anchor has one
+abbrev pub paths_to : Tree → ℕ → ℕ
+paths_to tree place =
+    (if is_anchor_at tree place then 1 else 0) + paths_by (line_at tree place)
+
+-- The walk looked below the CA at a place: it reached a limit there at fewer paths than lead to it.
+-- What this key signed and the walk lets in has a verdict then, wherever else a limit was reached
+abbrev pub is_looked_below : ℕ → TreeAnswer → Bool
+is_looked_below place (NoAnchor wrong) = false
+is_looked_below place (Walked tree) = nat_lt (reached_in tree place).paths (paths_to tree place)
+
+-- a walk below one of the trust anchors did
+abbrev pub is_looked_at : Trees → ℕ → Bool
+is_looked_at trees place = list_any (λ part. is_looked_below place part.answer) trees.parts.items
+
+-- the limit that was reached at a certificate: of those of all trees the one that asks for least
+abbrev pub limit_in : ℕ → TreeAnswer → Option Limit
+limit_in place (NoAnchor wrong) = None
+limit_in place (Walked tree) = (reached_in tree place).least
+
+abbrev pub least_of : Option Limit → Option Limit → Option Limit
+least_of least None = least
+least_of least (Some limit) = Some (least_with least limit)
+
+abbrev pub limit_at : Trees → ℕ → Option Limit
+limit_at trees place =
+    fold (λ least part. least_of least (limit_in place part.answer)) None trees.parts.items
+
+-- how it stands as an issuer, the least number best: a trust anchor or accepted CA below which a walk
+-- looked; one at which it reached a limit; another accepted one; rejected; or neither
+abbrev pub standing_of : Bool → Option Limit → ℕ
+standing_of true limit = 0
+standing_of false (Some limit) = 1
+standing_of false None = 2
+
 abbrev pub standing : Trees → ℕ → ℕ
 standing trees place =
-    if is_told trees.parts.items 1 place then 0
-    else if is_rejected_at trees place then 1 else 2
+    if is_told trees.parts.items 1 place
+    then standing_of (is_looked_at trees place) (limit_at trees place)
+    else if is_rejected_at trees place then 3 else 4
 
 -- the certificate at a place has the key of this identifier
 abbrev pub HasKeyIn : Trees → List ℕ → ℕ → Type 0
@@ -63,18 +116,19 @@ IsIssuerOf trees file (Some place) =
     (key : List ℕ) × NamesSigner key file.octets
     × IsIssuerAmong trees (length (files_of trees)) key (Some place)
 
--- no walk met a bound
-abbrev pub is_whole : Ended → Bool
-is_whole Whole = true
-is_whole _ = false
+-- why there is no verdict on a certificate with this accepted issuer: a limit was reached there, and a
+-- walk looked below it nowhere; or it isn't one that this CA issued
+abbrev pub below_accepted : Bool → Option Limit → ℕ → Unseen
+below_accepted false (Some limit) issuer = NotLookedAt issuer limit
+below_accepted _ _ issuer = NotBelow issuer
 
 -- why there is no verdict on a certificate with this issuer: there is none; it is rejected; it has no
--- verdict either; or it is accepted, and isn't a CA or has another name, or a bound was met
+-- verdict either; or it is accepted
 abbrev pub why_unseen : Trees → Option ℕ → Unseen
 why_unseen trees None = NoIssuer
 why_unseen trees (Some place) =
-    if is_told trees.parts.items 1 place then (
-    if is_whole (worst_end trees.parts.items) then NotBelow place else NotLookedAt place)
+    if is_told trees.parts.items 1 place
+    then below_accepted (is_looked_at trees place) (limit_at trees place) place
     else if is_rejected_at trees place then BelowRejected place else BelowUnseen place
 
 -- why there is no verdict on the certificate of a file

@@ -1,22 +1,26 @@
 //! Why there is no verdict on a certificate: what became of its issuer.
-ghost use Rattle.std.specs.Prelude.{◌≡◌, ◌↔◌, ◌+◌, ℕ, List, Some, None, option_copied, slice_get, map, IfOk, OnOk, IsTrue};
+ghost use Rattle.std.specs.Prelude.{◌≡◌, ◌↔◌, ◌+◌, ◌^◌, ◌<◌, ℕ, List, Some, None, option_copied, slice_get, map, IfOk, OnOk, IsTrue};
 ghost use Rattle.std.specs.BTreeMap.{get};
 ghost use Rattle.std.specs.Cmp.Lexicographic.{slice_cmp};
 ghost use Rattle.std.specs.Ordering.{nat_cmp};
 ghost use Rattle.rpki_verdicts.specs.Searches.{HasKeyNamed};
 ghost use Rattle.rpki_verdicts.specs.TreeParts.{files_of};
-ghost use Rattle.rpki_verdicts.specs.UnseenCertificates.{AreIssuers, IsIssuerAmong, IsUnseen, StandsBetter, is_rejected_at, is_whole, issuer_in, standing, why_unseen};
+ghost use Rattle.rpki_verdicts.specs.UnseenCertificates.{AreIssuers, IsIssuerAmong, IsUnseen, StandsBetter, below_accepted, is_ca, is_looked_at, is_looked_below, is_rejected_at, issuer_in, least_of, limit_at, limit_in, paths_by, standing, standing_of, why_unseen};
 
+use crate::limits::least_with;
 use crate::parts::{Trees, is_told};
 use crate::search::signer_of;
+use crate::unordered::TreeAnswer;
 use rpki_cert::laws;
 use rpki_files::{BareObject, Front};
-use rpki_folder::Ended;
+use rpki_folder::{Limit, Line};
 use rpki_parts::KeyIdentifier;
+use rpki_path::Judged;
 use std::alloc::{AllocError, Global};
 use std::collections::BTreeMap;
 
-/// For each key of certificates, the place of one that has it: an accepted one if there is one, or
+/// For each key of certificates, the place of one that has it: an accepted one if there is one (a CA
+/// below which a walk looked before one at which it reached a limit, and both before others), or
 /// else a rejected one.
 #[derive(Drop)]
 pub struct Issuers {
@@ -29,10 +33,11 @@ pub struct Issuers {
 pub enum Unseen {
     /// It names no key, or no certificate here has the key.
     NoIssuer,
-    /// The issuer is accepted, and isn't a CA or has another name.
+    /// The issuer is accepted, and didn't issue it: it isn't a CA, has another name, or its key
+    /// didn't sign the certificate.
     NotBelow(usize),
-    /// The issuer is accepted, and a limit was reached.
-    NotLookedAt(usize),
+    /// The issuer is an accepted CA at which this limit was reached.
+    NotLookedAt(usize, Limit),
     /// The issuer is rejected.
     BelowRejected(usize),
     /// There is no verdict on the issuer either.
@@ -111,13 +116,83 @@ impl Issuers {
     }
 }
 
-// Whether no walk met a limit.
-fn is_whole(ended: Ended) -> bool
-    ensures { result ≡ is_whole ended }
+// Whether the certificate was accepted as a CA's.
+fn is_ca(judged: &Judged) -> bool
+    ensures { result ≡ is_ca judged.now }
 {
-    match ended {
-        Ended::Whole => true,
-        Ended::TooDeep | Ended::OutOfSteps => false,
+    let is_ca = judged.holder.as_cert().as_tbs().basic_ca().unwrap_or(false);
+    is_ca && judged.router.is_none()
+}
+
+// How many paths lead to a CA by its line: how many are kept, and how many are counted.
+fn paths_by(line: Option<&Line>) -> (usize, usize)
+    ensures paths { result.0 + result.1 ≡ paths_by (option_copied line.entry) }
+    ensures kept { result.0 < 2 ^ 63 + 1 }
+    ensures more { result.0 ≡ 0 → result.1 ≡ 0 }
+{
+    match line {
+        Some(Line::Accepted(paths)) => {
+            if is_ca(&paths.first.judged) {
+                return (paths.others.len() + 1, paths.more);
+            }
+            (0, 0)
+        }
+        Some(Line::Rejected(..)) | Some(Line::Unseen) | None => (0, 0),
+    }
+}
+
+// Whether the walk below a trust anchor looked below the CA at a place, on a path to it.
+fn is_looked_below(answer: &TreeAnswer<'_, '_>, place: usize) -> bool
+    ensures { result ≡ is_looked_below place answer.now }
+{
+    match answer {
+        TreeAnswer::NoAnchor(_) => false,
+        TreeAnswer::Walked(tree) => {
+            let (kept, more) = paths_by(tree.line(place));
+            let of_anchor = usize::from(tree.is_anchor_at(place));
+            tree.reached(place).paths.saturating_sub(more) < of_anchor + kept
+        }
+    }
+}
+
+// The limit that was reached at the certificate at a place, below a trust anchor.
+fn limit_in(answer: &TreeAnswer<'_, '_>, place: usize) -> Option<Limit>
+    ensures { result ≡ limit_in place answer.now }
+{
+    match answer {
+        TreeAnswer::NoAnchor(_) => None,
+        TreeAnswer::Walked(tree) => tree.reached(place).least,
+    }
+}
+
+// Of two limits the one at which less has to be changed, where they are there.
+fn least_of(least: Option<Limit>, limit: Option<Limit>) -> Option<Limit>
+    ensures { result ≡ least_of least limit }
+{
+    match limit {
+        Some(limit) => Some(least_with(least, limit)),
+        None => least,
+    }
+}
+
+// How an accepted certificate stands as an issuer, the least number best.
+fn standing_of(is_looked_at: bool, limit: Option<Limit>) -> u8
+    ensures { result ≡ standing_of is_looked_at limit }
+{
+    match (is_looked_at, limit) {
+        (true, _) => 0,
+        (false, Some(_)) => 1,
+        (false, None) => 2,
+    }
+}
+
+// Why there is no verdict on a certificate with this accepted issuer.
+fn below_accepted(is_looked_at: bool, limit: Option<Limit>, issuer: usize) -> Unseen
+    ensures { result ≡ below_accepted is_looked_at limit issuer }
+{
+    match (is_looked_at, limit) {
+        (false, Some(limit)) => Unseen::NotLookedAt(issuer, limit),
+        (true, _) | (false, None) => Unseen::NotBelow(issuer),
     }
 }
 
@@ -128,16 +203,35 @@ impl<'q, 'n> Trees<'q, 'n> {
     {
         is_told(&self.parts, place, 2) || self.wrong_at(place).is_some()
     }
+    // Whether a walk looked below the CA at a place.
+    fn is_looked_at(&self, place: usize) -> bool
+        ensures { result ≡ is_looked_at self.now place }
+    {
+        self.parts
+            .iter()
+            .any(|part| is_looked_below(&part.answer, place))
+    }
+    /// Returns the limit that a walk reached at the CA at a place. If there are several, at several
+    /// paths to the CA or below several trust anchors, the one that takes the fewest steps.
+    pub fn limit_at(&self, place: usize) -> Option<Limit>
+        ensures { result ≡ limit_at self.now place }
+    {
+        let mut least = None;
+        for part in &self.parts {
+            least = least_of(least, limit_in(&part.answer, place));
+        }
+        least
+    }
     // How the certificate at a place stands as an issuer, the least number best.
     fn standing(&self, place: usize) -> u8
         ensures { result ≡ standing self.now place }
     {
         if is_told(&self.parts, place, 1) {
-            0
+            standing_of(self.is_looked_at(place), self.limit_at(place))
         } else if self.is_rejected_at(place) {
-            1
+            3
         } else {
-            2
+            4
         }
     }
     // Why there is no verdict on a certificate with this issuer.
@@ -148,10 +242,7 @@ impl<'q, 'n> Trees<'q, 'n> {
             return Unseen::NoIssuer;
         };
         if is_told(&self.parts, place, 1) {
-            if is_whole(self.ended()) {
-                return Unseen::NotBelow(place);
-            }
-            return Unseen::NotLookedAt(place);
+            return below_accepted(self.is_looked_at(place), self.limit_at(place), place);
         }
         if self.is_rejected_at(place) {
             return Unseen::BelowRejected(place);

@@ -5,6 +5,8 @@
 
 mod damage;
 mod issuers;
+pub mod laws;
+mod limits;
 mod locators;
 mod parts;
 mod path;
@@ -13,6 +15,7 @@ mod search;
 mod unordered;
 
 pub use issuers::{Issuers, Unseen, issuers_of};
+pub use limits::Reached;
 pub use locators::GivenLocator;
 pub use parts::{TreePart, Trees, judge_all};
 pub use path::{

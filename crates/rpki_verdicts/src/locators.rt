@@ -1,8 +1,9 @@
 //! Files that are given as TALs of the trust anchor.
 ghost use Rattle.std.specs.Prelude.{◌≡◌, ◌↔◌, Any, Ok, Err, IfOk, IfErr, IfNone, IfSome, IsTrue};
-ghost use Rattle.rpki_verdicts.specs.GivenLocators.{HasKeyRead, HasTalRead, IsFirst, IsRead};
+ghost use Rattle.rpki_verdicts.specs.GivenLocators.{HasKeyRead, HasLocator, HasTalRead, IsAnchorOf, IsFirst, IsRead};
 
-use rpki_files::read_locator;
+use rpki_cert::laws;
+use rpki_files::{BareObject, read_locator};
 use rpki_keys::tal::{Tal, TalError};
 use rpki_parts::PublicKey;
 use std::alloc::{AllocError, Global};
@@ -101,6 +102,27 @@ pub fn tal_of_key<'q>(locators: &'q [GivenLocator<'_>], key: &PublicKey) -> Opti
         }
     }
     None
+}
+
+// The first of the locators whose key the certificate has with which a file begins.
+pub(crate) fn locator_of<'q>(
+    alloc: Global,
+    locators: &'q [GivenLocator<'_>],
+    file: &BareObject<'_>,
+) -> Result<Option<&'q Tal>, AllocError>
+    ensures found { IfOk result (λ tal.
+        IfSome tal (λ t. IsAnchorOf locators.now t.now file.now)) }
+    ensures none { IfOk result (λ tal. IfNone tal (HasLocator locators.now file.now → ⊥)) }
+{
+    laws::unambiguous();
+    match file.certificate(alloc)? {
+        Some(cert) => {
+            let found = tal_of_key(locators, cert.as_tbs().subject_public_key_info());
+            drop(cert);
+            Ok(found)
+        }
+        None => Ok(None),
+    }
 }
 
 /// Returns the index of the first TAL with this key.

@@ -1,7 +1,8 @@
 //! The trees of files, one for each key of which a TAL is given.
 ghost use Rattle.std.specs.List.{list_any};
 ghost use Rattle.std.specs.Option.{option_or};
-ghost use Rattle.std.specs.Prelude.{◌≡◌, ◌==◌, ◌↔◌, [], All, find, map, option_copied, IfOk, IsTrue};
+ghost use Rattle.std.specs.Prelude.{◌≡◌, ◌==◌, ◌↔◌, [], All, find, map, option_copied, IfOk, IsTrue, Ok};
+ghost use Rattle.rpki_keys.specs.Locators.{NamedTal};
 ghost use Rattle.rpki_keys.specs.RsaSignatures.{IsSignedByRsa};
 ghost use Rattle.rpki_cert.specs.Verification.{context};
 ghost use Rattle.rpki_verdicts.specs.Trees.{IsFolderOf, asked_of};
@@ -13,7 +14,6 @@ use crate::unordered::{TreeAnswer, TreeQuestion, WrongAnchor, filed, grown};
 use rpki_files::BareObject;
 use rpki_folder::{Ended, Folder, Line};
 use std::alloc::{AllocError, Global};
-use std::slice;
 
 /// The answer for one TAL.
 #[derive(Drop)]
@@ -67,22 +67,19 @@ fn part_of<'q, 'n>(
     certs: &[&'q BareObject<'n>],
     locator: &'q GivenLocator<'n>,
 ) -> Result<TreePart<'q, 'n>, AllocError>
-    requires { IsFolderOf question.now.files.now (map (λ f. f.now) certs.now) folder.now }
+    requires folder { IsFolderOf question.now.files.now (map (λ f. f.now) certs.now) folder.now }
+    requires read { (t : NamedTal) × (locator.now.read ≡ Ok t) }
     ensures locator { IfOk result (λ part. part.locator.now ≡ locator.now) }
     ensures part { let x = context IsSignedByRsa question.now.at question.now.strict in
         IfOk result (IsPartOf x (asked_of question.now)) }
 {
-    let alone = TreeQuestion {
-        files: question.files,
-        locators: slice::from_ref(locator),
-        names: question.names,
-        strict: question.strict,
-        at: question.at,
-        depth: question.depth,
-        steps: question.steps,
-    };
-    let answer = grown(alloc, &alone, folder, copied(alloc, certs)?)?;
-    Ok(TreePart { locator, answer })
+    match locator.tal() {
+        Ok(tal) => {
+            let answer = grown(alloc, question, tal, folder, copied(alloc, certs)?)?;
+            Ok(TreePart { locator, answer })
+        }
+        Err(_) => unreachable!(),
+    }
 }
 
 // What is answered of each locator whose key none before it has.

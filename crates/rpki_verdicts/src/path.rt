@@ -287,7 +287,7 @@ fn no_locator(index: usize, fault: &TalError) -> Fault
 {
     Fault {
         index,
-        step: "locator",
+        step: "tal",
         name: fault.name(),
         rule: of_tal(fault),
     }
@@ -315,7 +315,7 @@ pub(crate) fn other_key() -> Fault
 {
     Fault {
         index: 0,
-        step: "locator",
+        step: "tal",
         name: "OtherKey",
         rule: of_other_key(),
     }
@@ -328,7 +328,7 @@ pub(crate) fn no_resources() -> Fault
 {
     Fault {
         index: 0,
-        step: "locator",
+        step: "tal",
         name: "NoResources",
         rule: of_no_resources(),
     }

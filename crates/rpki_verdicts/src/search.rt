@@ -9,8 +9,9 @@ ghost use Rattle.rpki_verdicts.specs.Searches.{AreAbove, DeniesFirst, HasKeyAt, 
 ghost use Rattle.rpki_verdicts.specs.TreeParts.{AreTreesOf, wrong_in, wrong_of};
 ghost use Rattle.rpki_verdicts.specs.Trees.{asked_of, certs_of, line_at};
 
+use crate::locators::locator_of;
 use crate::parts::{TreePart, Trees, judge_all};
-use crate::unordered::{Tree, TreeAnswer, TreeQuestion, locator_of};
+use crate::unordered::{Tree, TreeAnswer, TreeQuestion};
 use rpki_cert::laws;
 use rpki_files::{BareObject, Front};
 use rpki_folder::{Ended, Line};
@@ -138,7 +139,7 @@ fn above_at<'t>(tree: &'t Tree<'_, '_>, place: usize) -> Option<&'t [usize]>
     ensures { option_map (λ above. above.now) result ≡ above_by (line_at tree.now place) }
 {
     match tree.line(place) {
-        Some(Line::Accepted(path)) => Some(path.above.as_slice()),
+        Some(Line::Accepted(paths)) => Some(paths.first.above.as_slice()),
         Some(_) | None => None,
     }
 }

@@ -1,36 +1,40 @@
 //! Files in any order: the trust anchor among them, and the verdict on every certificate below it,
 //! with real signatures and with the CRLs among them.
-ghost use Rattle.std.specs.Prelude.{◌≡◌, ◌↔◌, ◌++◌, ◌∷◌, [], true, List, length, map, option_copied, IfOk, IfSome, IfNone, OnOk, IsTrue};
+ghost use Rattle.std.specs.List.{AllByRecursion, AllZip};
+ghost use Rattle.std.specs.Prelude.{◌≡◌, ◌<◌, ◌++◌, ◌∷◌, [], true, List, length, map, option_copied, IfOk, Ok, OnOk};
 ghost use Rattle.rpki_path.specs.AskedLists.{by_named_lists};
 ghost use Rattle.rpki_folder.specs.FirstPlaces.{IsFirstIn};
 ghost use Rattle.rpki_folder.specs.Folders.{with_cert, with_list};
+ghost use Rattle.rpki_folder.specs.FoundAnchors.{IsFound};
 ghost use Rattle.rpki_folder.specs.KeptLines.{BecameLines};
 ghost use Rattle.rpki_crl.specs.Lists.{CrlState, IsCertificateList};
 ghost use Rattle.rpki_keys.specs.RsaSignatures.{IsSignedByRsa};
+ghost use Rattle.rpki_folder.specs.ReachedLimits.{AreLimited, ended_of};
 ghost use Rattle.rpki_cert.specs.SaidKinds.{BeginsWithSaid};
 ghost use Rattle.rpki_cert.specs.Verification.{context};
-ghost use Rattle.rpki_folder.specs.Walks.{IsLookedAt, Told, TellsBelow};
+ghost use Rattle.rpki_folder.specs.Walks.{IsLookedAt, LeadsTo, Root, Told, TellsBelow, members_at};
 ghost use Rattle.rpki_files.specs.Contents.{IsList};
 ghost use Rattle.rpki_files.specs.Files.{FileFields};
-ghost use Rattle.rpki_verdicts.specs.Trees.{anchor_order, asked_of, HasLocator, IsAnchorOf, IsAnchorReason, IsFolderOf, IsTreeAnswer, is_anchor_at, line_at};
-ghost use Rattle.rpki_verdicts.specs.Trees.Steps.{AreTried, IsKept, IsTried, TakesPlace};
+ghost use Rattle.rpki_verdicts.specs.GivenLocators.{LocatorFields};
+ghost use Rattle.rpki_verdicts.specs.Trees.{asked_of, IsAnchorReason, IsFolderOf, IsTreeAnswer, is_anchor_at, line_at, reached_in};
+ghost use Rattle.rpki_verdicts.specs.Trees.Steps.{IsToldOf};
 
-use crate::locators::{GivenLocator, tal_of_key};
+use crate::limits::{Reached, table_of};
+use crate::locators::GivenLocator;
 use crate::path::{Fault, no_resources, other_key, other_name, with_table};
 use crate::reasons::of_path;
-use rpki_cert::{Cert, ResourceCert, Said, laws};
+use rpki_cert::{ResourceCert, Said, laws};
 use rpki_crl::Crl;
 use rpki_der::Time;
 use rpki_files::{BareObject, Front};
 use rpki_folder::{
-    Admission, AllAdmitted, Bounds, Ended, Firsts, Folder, Line, Lines, Walk, WalkError,
+    Admission, AllAdmitted, Bounds, Ended, Firsts, Folder, FoundAnchor, Line, Lines, Walk,
+    WalkError, Walked, WrongCandidate,
 };
 use rpki_keys::RsaVerifier;
 use rpki_keys::tal::Tal;
-use rpki_path::{LocatedError, Member};
+use rpki_path::LocatedError;
 use std::alloc::{AllocError, Global};
-use std::cmp::Ordering;
-use std::mem;
 
 /// A question about files in any order: the files, the TALs, whether names are checked, the mode,
 /// the validation time, the most certificates of a path below the trust anchor, and the most
@@ -57,6 +61,8 @@ pub struct Tree<'q, 'n> {
     pub(crate) firsts: Firsts,
     // The line of each certificate at its first place, with what its verdicts came to.
     pub(crate) lines: Lines,
+    // The limits that were reached at each certificate, at its first place.
+    pub(crate) limits: Vec<Reached>,
     /// Whether every certificate was judged, or which limit was reached.
     pub ended: Ended,
 }
@@ -78,32 +84,6 @@ pub enum TreeAnswer<'q, 'n> {
     Walked(Tree<'q, 'n>),
 }
 
-// A valid trust anchor: its place, its file, the locator, and what it holds.
-#[derive(Drop)]
-struct ValidAnchor<'q, 'n> {
-    place: usize,
-    file: &'q BareObject<'n>,
-    tal: &'q Tal,
-    issuer: ResourceCert,
-}
-
-// What was found of certificates as trust anchors: which of the valid ones is taken, and those that
-// are wrong.
-#[derive(Drop)]
-struct Candidates<'q, 'n> {
-    best: Option<ValidAnchor<'q, 'n>>,
-    wrong: Vec<WrongAnchor<'q, 'n>>,
-}
-
-// What is found of a certificate: it has the key of no locator; it is a valid trust anchor of this
-// one, and holds this; or it is wrong so.
-#[derive(Drop)]
-enum Tried<'q> {
-    OtherKey,
-    Valid(&'q Tal, ResourceCert),
-    Wrong(Fault),
-}
-
 impl<'q, 'n> Tree<'q, 'n> {
     /// Returns the line of the certificate at a place, with what its verdicts came to. A copy, also
     /// with other bytes behind it, has the line of the certificate's first place.
@@ -111,6 +91,17 @@ impl<'q, 'n> Tree<'q, 'n> {
         ensures { option_copied result ≡ line_at self.now place }
     {
         self.lines.as_slice().get(self.firsts.first_of(place))
+    }
+
+    /// Returns the limits that the walk reached at the certificate at a place. A copy has those of
+    /// the certificate's first place.
+    pub fn reached(&self, place: usize) -> Reached
+        ensures { result ≡ reached_in self.now place }
+    {
+        match self.limits.get(self.firsts.first_of(place)) {
+            Some(reached) => *reached,
+            None => Reached::nothing(),
+        }
     }
 
     /// Returns whether the certificate at a place is the trust anchor, or a copy of it.
@@ -201,27 +192,6 @@ pub(crate) fn filed<'q, 'n>(
     Ok(certs)
 }
 
-// The first of the locators whose key the certificate has with which a file begins.
-pub(crate) fn locator_of<'q>(
-    alloc: Global,
-    locators: &'q [GivenLocator<'_>],
-    file: &BareObject<'_>,
-) -> Result<Option<&'q Tal>, AllocError>
-    ensures found { IfOk result (λ tal.
-        IfSome tal (λ t. IsAnchorOf locators.now t.now file.now)) }
-    ensures none { IfOk result (λ tal. IfNone tal (HasLocator locators.now file.now → ⊥)) }
-{
-    laws::unambiguous();
-    match file.certificate(alloc)? {
-        Some(cert) => {
-            let found = tal_of_key(locators, cert.as_tbs().subject_public_key_info());
-            drop(cert);
-            Ok(found)
-        }
-        None => Ok(None),
-    }
-}
-
 // The walk that a question asks for, through the certificates that are admitted.
 fn walk_of<'w, A: Admission>(
     alloc: Global,
@@ -252,9 +222,24 @@ fn walk_of<'w, A: Admission>(
     }
 }
 
+// The trust anchor of a TAL among the certificates of a folder.
+fn anchor_of(
+    alloc: Global,
+    question: &TreeQuestion<'_, '_>,
+    tal: &Tal,
+    folder: &Folder,
+) -> Result<FoundAnchor, AllocError>
+    ensures { let q = question.now in
+        let x = context IsSignedByRsa q.at q.strict in
+        let asked = by_named_lists q.names x folder.now.lists in
+        IfOk result (IsFound x asked q.names tal.now folder.now.certs) }
+{
+    walk_of(alloc, question, folder, &AllAdmitted).find_anchor(tal)
+}
+
 // What is told of the trust anchor, unless memory ran out.
-fn wrong_anchor(error: WalkError, anchor: &BareObject<'_>) -> Result<Fault, AllocError>
-    ensures { IfOk result (IsAnchorReason anchor.now.octets error) }
+fn wrong_anchor(error: &WalkError, anchor: &BareObject<'_>) -> Result<Fault, AllocError>
+    ensures { IfOk result (IsAnchorReason anchor.now.octets error.now) }
 {
     match error {
         WalkError::Memory => Err(AllocError),
@@ -263,7 +248,6 @@ fn wrong_anchor(error: WalkError, anchor: &BareObject<'_>) -> Result<Fault, Allo
         WalkError::Anchor(LocatedError::NoResources) => Ok(no_resources()),
         WalkError::Anchor(LocatedError::Path(error)) => {
             let (step, name, rule) = of_path(&error.fault, anchor.octets());
-            drop(error);
             Ok(Fault {
                 index: 0,
                 step,
@@ -274,117 +258,35 @@ fn wrong_anchor(error: WalkError, anchor: &BareObject<'_>) -> Result<Fault, Allo
     }
 }
 
-// What is found of the certificate with which a file begins, as a trust anchor.
-fn try_anchor<'q, 'n>(
-    alloc: Global,
-    question: &TreeQuestion<'q, 'n>,
-    folder: &Folder,
-    file: &BareObject<'_>,
-) -> Result<Tried<'q>, AllocError>
-    ensures { let x = context IsSignedByRsa question.now.at question.now.strict in
-        let q = question.now in
-        let asked = by_named_lists q.names x folder.now.lists in
-        IfOk result (IsTried x asked q.names q.locators.now file.now) }
-{
-    let Some(tal) = locator_of(alloc, question.locators, file)? else {
-        return Ok(Tried::OtherKey);
-    };
-    let walk = walk_of(alloc, question, folder, &AllAdmitted);
-    match walk.trust_anchor(tal, &Member::of(file.octets())) {
-        Ok(issuer) => Ok(Tried::Valid(tal, issuer)),
-        Err(error) => Ok(Tried::Wrong(wrong_anchor(error, file)?)),
-    }
-}
-
-// How two certificates stand as trust anchors: that which is valid longer is the greater one, then
-// that which began later, and then that whose signed octets are greater.
-fn order(one: &Cert, other: &Cert) -> Ordering
-    ensures { result ≡ anchor_order one.now other.now }
-{
-    let validity = one.as_tbs().validity();
-    let others = other.as_tbs().validity();
-    validity
-        .not_after()
-        .cmp(&others.not_after())
-        .then(validity.not_before().cmp(&others.not_before()))
-        .then(one.signed_data().data().cmp(other.signed_data().data()))
-}
-
-// Whether the first of two is the lesser one.
-fn is_less(order: Ordering) -> bool
-    ensures { IsTrue result ↔ (order ≡ Ordering.Less) }
-{
-    match order {
-        Ordering::Less => true,
-        Ordering::Equal | Ordering::Greater => false,
-    }
-}
-
-// Whether a valid trust anchor takes the place of the one that was found before.
-fn takes_place(best: &Option<ValidAnchor<'_, '_>>, issuer: &ResourceCert) -> bool
-    ensures { IsTrue result ↔ TakesPlace best.now issuer.now }
-{
-    match best {
-        Some(anchor) => is_less(order(anchor.issuer.as_cert(), issuer.as_cert())),
-        None => true,
-    }
-}
-
-// Keeps what was found of the certificate at a place.
-fn keep<'q, 'n>(
-    found: &mut Candidates<'q, 'n>,
-    place: usize,
-    file: &'q BareObject<'n>,
-    tried: Tried<'q>,
-) -> Result<(), AllocError>
-    ensures { OnOk result (IsKept found.old place file.now tried.entry found.new) }
-{
-    match tried {
-        Tried::OtherKey => Ok(()),
-        Tried::Wrong(fault) => {
-            found.wrong.push(WrongAnchor { place, file, fault })?;
-            Ok(())
-        }
-        Tried::Valid(tal, issuer) => {
-            if !takes_place(&found.best, &issuer) {
-                drop(issuer);
-                return Ok(());
-            }
-            let anchor = ValidAnchor {
-                place,
-                file,
-                tal,
-                issuer,
-            };
-            drop(mem::replace(&mut found.best, Some(anchor)));
-            Ok(())
-        }
-    }
-}
-
-// What is found of the certificates as trust anchors.
-fn find_anchors<'q, 'n>(
-    alloc: Global,
-    question: &TreeQuestion<'q, 'n>,
-    folder: &Folder,
+// What is told of a certificate that is wrong as the trust anchor.
+fn told_of<'q, 'n>(
     certs: &[&'q BareObject<'n>],
-) -> Result<Candidates<'q, 'n>, AllocError>
-    ensures { let x = context IsSignedByRsa question.now.at question.now.strict in
-        let files = map (λ f. f.now) certs.now in
-        let q = question.now in
-        let asked = by_named_lists q.names x folder.now.lists in
-        IfOk result (AreTried x asked q.names q.locators.now files (length files)) }
+    candidate: &WrongCandidate,
+) -> Result<WrongAnchor<'q, 'n>, AllocError>
+    requires { candidate.now.place < length certs.now }
+    ensures { IfOk result (IsToldOf (map (λ f. f.now) certs.now) candidate.now) }
 {
-    laws::unambiguous();
-    let mut found = Candidates {
-        best: None,
-        wrong: Vec::new(alloc),
-    };
-    for (place, file) in certs.iter().enumerate() {
-        let tried = try_anchor(alloc, question, folder, *file)?;
-        keep(&mut found, place, *file, tried)?;
+    let place = candidate.place;
+    let file = certs[place];
+    let fault = wrong_anchor(&candidate.error, file)?;
+    Ok(WrongAnchor { place, file, fault })
+}
+
+// What is told of those that are.
+fn told_of_each<'q, 'n>(
+    alloc: Global,
+    certs: &[&'q BareObject<'n>],
+    candidates: &[WrongCandidate],
+) -> Result<Vec<WrongAnchor<'q, 'n>>, AllocError>
+    requires { AllByRecursion (λ candidate. candidate.place < length certs.now) candidates.now }
+    ensures { IfOk result (λ wrong.
+        AllZip (IsToldOf (map (λ f. f.now) certs.now)) candidates.now wrong.items) }
+{
+    let mut wrong = Vec::new(alloc);
+    for candidate in candidates {
+        wrong.push(told_of(certs, candidate)?)?;
     }
-    Ok(found)
+    Ok(wrong)
 }
 
 // Walks down from the trust anchor, through each certificate at its first place, and keeps the lines.
@@ -395,44 +297,63 @@ fn walked(
     firsts: &Firsts,
     anchor: &ResourceCert,
     lines: &mut Lines,
-) -> Result<Ended, AllocError>
-    ensures { let q = question.now in
+) -> Result<Walked, AllocError>
+    ensures tells { let q = question.now in
         let x = context IsSignedByRsa q.at q.strict in
         let asked = by_named_lists q.names x folder.now.lists in
         (told : List Told) × BecameLines lines.old told lines.new
         × TellsBelow x asked
         (IsLookedAt q.names (IsFirstIn firsts.now) anchor.now.cert folder.now.certs) anchor.now
-        folder.now.certs [] q.depth q.steps result told }
+        folder.now.certs [] q.depth q.steps (ended_of result) told }
+    ensures limited { let q = question.now in
+        let x = context IsSignedByRsa q.at q.strict in
+        let asked = by_named_lists q.names x folder.now.lists in
+        let certs = folder.now.certs in
+        let admits = IsLookedAt q.names (IsFirstIn firsts.now) anchor.now.cert certs in
+        IfOk result (λ walked. (root : Root)
+        → LeadsTo x asked root (members_at root certs []) anchor.now
+        → AreLimited x asked admits root certs q.depth q.steps walked.limited.items) }
 {
     walk_of(alloc, question, folder, firsts).below(anchor, lines)
 }
 
-/// Grows the tree of the files that a folder was filled with.
+/// Grows the tree of the files that a folder was filled with, below the trust anchor of a TAL.
 pub(crate) fn grown<'q, 'n>(
     alloc: Global,
     question: &TreeQuestion<'q, 'n>,
+    tal: &Tal,
     folder: &Folder,
     certs: Vec<&'q BareObject<'n>>,
 ) -> Result<TreeAnswer<'q, 'n>, AllocError>
     requires { IsFolderOf question.now.files.now (map (λ f. f.now) certs.items) folder.now }
     ensures { let x = context IsSignedByRsa question.now.at question.now.strict in
-        IfOk result (IsTreeAnswer x (asked_of question.now)) }
+        (l : LocatorFields) → l.read ≡ Ok tal.now
+        → IfOk result (IsTreeAnswer x (asked_of question.now) l) }
 {
     laws::unambiguous();
-    let Candidates { best, wrong } = find_anchors(alloc, question, folder, &certs)?;
-    let Some(anchor) = best else {
-        drop(certs);
-        return Ok(TreeAnswer::NoAnchor(wrong));
-    };
-    drop(wrong);
-    let firsts = Firsts::of(alloc, folder)?;
-    let mut lines = Lines::new(alloc, certs.len())?;
-    let ended = walked(alloc, question, folder, &firsts, &anchor.issuer, &mut lines)?;
-    Ok(TreeAnswer::Walked(Tree {
-        certs,
-        anchor: anchor.place,
-        firsts,
-        lines,
-        ended,
-    }))
+    match anchor_of(alloc, question, tal, folder)? {
+        FoundAnchor::Wrong(candidates) => {
+            let wrong = told_of_each(alloc, &certs, &candidates);
+            drop(candidates);
+            drop(certs);
+            Ok(TreeAnswer::NoAnchor(wrong?))
+        }
+        FoundAnchor::Valid(anchor, issuer) => {
+            let firsts = Firsts::of(alloc, folder)?;
+            let count = certs.len();
+            let mut lines = Lines::new(alloc, count)?;
+            let walked = walked(alloc, question, folder, &firsts, &issuer, &mut lines);
+            drop(issuer);
+            let walk = walked?;
+            let limits = table_of(alloc, &firsts, anchor, count, &walk.limited)?;
+            Ok(TreeAnswer::Walked(Tree {
+                certs,
+                anchor,
+                firsts,
+                lines,
+                limits,
+                ended: walk.ended,
+            }))
+        }
+    }
 }

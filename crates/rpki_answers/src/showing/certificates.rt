@@ -182,7 +182,7 @@ fn overclaim_leaf(overclaim: Overclaim) -> Leaf<'static>
     ensures { leaf_view result ≡ overclaim_told overclaim }
 {
     match overclaim {
-        Overclaim::Refuse => Leaf::Words("refused (RFC 6484 policy)", "refuse"),
+        Overclaim::Refuse => Leaf::Words("rejected (RFC 6484 policy)", "reject"),
         Overclaim::Trim => Leaf::Words("trimmed (RFC 8360 policy)", "trim"),
     }
 }

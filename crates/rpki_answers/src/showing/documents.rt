@@ -74,7 +74,7 @@ fn add_left(parts: &mut Vec<Part<'_>>, alloc: Global, left: usize) -> Result<(),
     ensures { OnOk result (Adds (left_line left ∷ []) parts.old.items parts.new.items) }
 {
     let pieces = vec![in alloc;
-        Piece::Tell("octets_after_end", Leaf::Count(left as u64)),
+        Piece::Tell("bytes_after_end", Leaf::Count(left as u64)),
         Piece::Say(", not read"),
     ]?;
     add_line(parts, "Bytes after its end", pieces)

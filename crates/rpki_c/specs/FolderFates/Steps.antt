@@ -1,5 +1,5 @@
 -- What the steps give by which strings are judged.
-use Rattle.std.specs.Prelude.{◌≡◌, ◌==◌, ◌<◌, ℕ, Bool, List, [], length, map, slice_index_or, if◌then◌else◌, IsTrue}
+use Rattle.std.specs.Prelude.{◌≡◌, ◌==◌, ◌<◌, ℕ, Bool, List, [], ◌∷◌, length, map, slice_index_or, if◌then◌else◌, IsTrue}
 use Rattle.std.specs.List.{AllByRecursion}
 use Rattle.rpki_ext.specs.Kinds.{Means}
 use Rattle.rpki_cert.specs.Certificates.{CertFields, IsCertificate}
@@ -8,11 +8,14 @@ use Rattle.rpki_crl.specs.Lists.{CrlState}
 use Rattle.rpki_path.specs.Asking.{RevocationChecks}
 use Rattle.rpki_path.specs.NameChains.{IsSelfNamed}
 use Rattle.rpki_path.specs.declared.located.LocatedError.TheVariants.{OtherKey, NoResources, Path as path}
+use Rattle.rpki_folder.specs.FirstPlaces.{IsFirstIn, first_of}
 use Rattle.rpki_folder.specs.Folders.{FolderFields, octets_at, BeginsNoCertificate}
 use Rattle.rpki_folder.specs.KeptLines.{AreLines}
 use Rattle.rpki_folder.specs.Walks.{Root, LeadsTo, Told, IsRight, IsLetIn, IsShort, IsTooDeep, IsComplete, IsLookedAt}
+use Rattle.rpki_folder.specs.declared.anchors.WrongCandidate.{WrongCandidate}
 use Rattle.rpki_folder.specs.declared.bounds.Ended.{Ended}
 use Rattle.rpki_folder.specs.declared.bounds.Ended.TheVariants.{OutOfSteps}
+use Rattle.rpki_folder.specs.declared.firsts.Firsts.{Firsts}
 use Rattle.rpki_folder.specs.declared.folder.Added.{Added}
 use Rattle.rpki_folder.specs.declared.folder.Added.TheVariants.{Certificate, List as list_added, Neither}
 use Rattle.rpki_folder.specs.declared.lines.Line.{Line}
@@ -21,19 +24,12 @@ use Rattle.rpki_folder.specs.declared.walk_error.WalkError.{WalkError}
 use Rattle.rpki_folder.specs.declared.walk_error.WalkError.TheVariants.{Anchor, OtherName, Memory}
 use Rattle.rpki_c.specs.Verdicts.{AreNoList}
 use Rattle.rpki_c.specs.FolderFates.{Fate, anchor, list, neither, unseen, accepted, rejected, IsTakenFor, AreListsAmong, AreCertificatesAmong}
+use Rattle.rpki_c.specs.declared.folder_lines.WalkLines.{WalkLines}
 use Rattle.rpki_c.specs.declared.refusal.Refusal.{Refusal}
 use Rattle.rpki_c.specs.declared.refusal.Refusal.TheVariants as refusal
-use Rattle.rpki_c.specs.declared.sorting.Front.{Front}
-use Rattle.rpki_c.specs.declared.sorting.Front.TheVariants as front
 use Rattle.rpki_c.specs.declared.sorting.Sorted.{Sorted}
 
 -- ---- sorting
-
--- the octets begin with this certificate, or are this list
-abbrev pub BeginsAs : List ℕ → Front → Type 0
-BeginsAs octets (front.Certificate c) = Means IsCertificate c octets
-BeginsAs octets (front.List l) = IsTakenFor octets l
-BeginsAs octets front.Neither = BeginsNoCertificate octets × AreNoList octets
 
 -- the octets are what they were added as
 abbrev pub IsAddedAs : List ℕ → Added → Type 0
@@ -42,11 +38,13 @@ IsAddedAs octets list_added = (l : CrlState) × IsTakenFor octets l
 IsAddedAs octets Neither = BeginsNoCertificate octets × AreNoList octets
 
 -- the strings are sorted into the folder: what each was added as, and at each certificate's place
--- the place of its string
+-- the place of its string, in the order of the strings
 pub record AreSorted (strings : List (List ℕ)) (f : FolderFields) (added : List Added) (origins : List ℕ) : Type 0 where
   pub count : length added ≡ length strings
   pub origin_count : length origins ≡ length f.certs
   pub inside : (place d : ℕ) → place < length f.certs → slice_index_or origins place d < length strings
+  pub ascend : (place other d e : ℕ) → place < other → other < length f.certs
+      → slice_index_or origins place d < slice_index_or origins other e
   pub came_from : (place d : ℕ) → place < length f.certs
       → octets_at strings (slice_index_or origins place d) ≡ octets_at f.certs place
   pub begins : (i : ℕ) (d : Added) → i < length strings → IsAddedAs (octets_at strings i) (slice_index_or added i d)
@@ -71,35 +69,42 @@ origin_of s place = slice_index_or s.origins.items place (length s.added.items)
 -- of a certificate, by the strings of the CAs above it
 abbrev pub kept_fate : (ℕ → ℕ) → Line → Fate
 kept_fate origin Unseen = unseen
-kept_fate origin (Accepted found) = accepted (map origin found.above.items) found.judged
+kept_fate origin (Accepted paths) = accepted (map origin paths.first.above.items) paths.first.judged
 kept_fate origin (Rejected step fault) = rejected step fault
 
+-- of the certificate at a place of the folder: that of its first place, or the trust anchor's
+abbrev pub cert_fate : WalkLines → ℕ → Fate
+cert_fate w place =
+    let first = first_of w.firsts.now place in
+    if first == first_of w.firsts.now w.anchor then anchor else
+    kept_fate (origin_of w.sorted.now) (slice_index_or w.kept.now first Unseen)
+
 -- of what was added
-abbrev pub added_fate : (ℕ → ℕ) → List Line → Added → Fate
-added_fate origin kept (Certificate place) = kept_fate origin (slice_index_or kept place Unseen)
-added_fate origin kept list_added = list
-added_fate origin kept Neither = neither
+abbrev pub added_fate : WalkLines → Added → Fate
+added_fate w (Certificate place) = cert_fate w place
+added_fate w list_added = list
+added_fate w Neither = neither
 
 -- of the string at a place
-abbrev pub fate_at : Sorted → List Line → ℕ → ℕ → Fate
-fate_at s kept top place = if place == top then anchor else added_fate (origin_of s) kept (slice_index_or s.added.items place Neither)
+abbrev pub fate_at : WalkLines → ℕ → Fate
+fate_at w place = added_fate w (slice_index_or w.sorted.now.added.items place Neither)
 
 -- the lines that are kept of a walk below a trust anchor, which ended so
 pub record IsWalked (x : Context) (asked : RevocationChecks) (names : Bool) (root : Root)
-    (certs : List (List ℕ)) (depth steps : ℕ) (kept : List Line) (ended : Ended) : Type 0 where
+    (certs : List (List ℕ)) (firsts : Firsts) (depth steps : ℕ) (kept : List Line)
+    (ended : Ended) : Type 0 where
   pub holder : ResourceFields
   pub holds : LeadsTo x asked root [] holder
   pub named : IsTrue names → IsSelfNamed holder.cert
   pub tells : List Told
   pub lines_are : AreLines tells kept
   pub right : AllByRecursion (IsRight x asked root certs) tells
-  pub let_in : AllByRecursion
-      (IsLetIn (IsLookedAt names (λ above place. Unit {0}) holder.cert certs) []) tells
+  pub let_in : AllByRecursion (IsLetIn (IsLookedAt names (IsFirstIn firsts) holder.cert certs) []) tells
   pub short : ended ≡ OutOfSteps → IsShort x asked
-      (IsLookedAt names (λ above place. Unit {0}) holder.cert certs) root certs [] steps
-  pub too_deep : IsTooDeep x asked (IsLookedAt names (λ above place. Unit {0}) holder.cert certs) root
+      (IsLookedAt names (IsFirstIn firsts) holder.cert certs) root certs [] steps
+  pub too_deep : IsTooDeep x asked (IsLookedAt names (IsFirstIn firsts) holder.cert certs) root
       certs [] depth ended
-  pub complete : IsComplete x asked (IsLookedAt names (λ above place. Unit {0}) holder.cert certs) root
+  pub complete : IsComplete x asked (IsLookedAt names (IsFirstIn firsts) holder.cert certs) root
       certs [] depth tells ended
 
 -- why there was no walk below the trust anchor at a place
@@ -109,3 +114,8 @@ refusal_of place OtherName = refusal.OtherName place
 refusal_of place (Anchor OtherKey) = refusal.OtherKey
 refusal_of place (Anchor NoResources) = refusal.NoResources place
 refusal_of place (Anchor (path e)) = refusal.Member (record { index = place; fault = e.fault })
+
+-- why there was none, where none of these is valid
+abbrev pub wrong_first : Sorted → List WrongCandidate → Refusal
+wrong_first s [] = refusal.OtherKey
+wrong_first s (w ∷ more) = refusal_of (origin_of s w.place) w.error

@@ -23,7 +23,7 @@ use Rattle.rpki_folder.specs.declared.walk.Ca.{Ca}
 use Rattle.rpki_folder.specs.declared.walk.Claim.{Claim}
 use Rattle.rpki_folder.specs.declared.walk.Claim.TheVariants.{OtherName, Child, Other}
 use Rattle.rpki_folder.specs.Folders.{octets_at, IsOnce}
-use Rattle.rpki_folder.specs.Walks.{Root, members_at, LeadsTo, Told, told, demand_as, StandsAt, IsNamedUnder, IsChildOf, IsRight, IsLetIn, AreFew, IsShort, IsTooDeep, IsComplete, IsCompleteInShares, IsEnough}
+use Rattle.rpki_folder.specs.Walks.{Root, members_at, LeadsTo, Told, told, demand_as, StandsAt, IsNamedUnder, IsChildOf, IsRight, IsLetIn, AreFew, IsShort, IsTooDeep, IsComplete, IsCompleteInShares, IsJudgedInShares, IsEnough}
 
 -- what is answered of octets that are judged as this kind below the issuer
 abbrev pub IsAnswer : Context → RevocationChecks → ResourceFields → List ℕ → Kind
@@ -162,6 +162,8 @@ pub record TellsBelowEach {E : Type 0} (x : Context) (asked : RevocationChecks)
       → IsComplete x asked admits root certs (down_to above ca) depth ts ended)
   pub in_shares : IfOk result (λ ended. (ca : Ca) → Contains cas ca
       → IsCompleteInShares x asked admits root certs (down_to above ca) depth share ts)
+  pub judged : IfOk result (λ ended. (ca : Ca) → Contains cas ca
+      → IsJudgedInShares x asked admits root certs (down_to above ca) depth share ts)
   pub enough : IfOk result (λ ended. (ca : Ca) → Contains cas ca
       → IsEnough x asked admits root certs (down_to above ca) depth share ended)
 

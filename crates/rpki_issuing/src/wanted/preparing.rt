@@ -188,7 +188,7 @@ pub fn prepare_octets<R: RevocationSource>(
     let Some(role) = role_of(kind, issuer) else {
         return Err(WantedError::NoRole);
     };
-    if let Some(rule) = first_broken(alloc, tbs, kind, path)? {
+    if let Some(rule) = first_broken(alloc, tbs, kind, issuer, path)? {
         return Err(WantedError::Broken(rule));
     }
     let prepared = prepared(alloc, tbs, &role, strict, at)?;
@@ -328,7 +328,7 @@ pub fn complete_octets<R: RevocationSource>(
     let Some(role) = role_of(kind, issuer) else {
         return Err(WantedError::NoRole);
     };
-    if let Some(rule) = first_broken(alloc, tbs, kind, path)? {
+    if let Some(rule) = first_broken(alloc, tbs, kind, issuer, path)? {
         return Err(WantedError::Broken(rule));
     }
     let prepared = prepared(alloc, tbs, &role, strict, at)?;

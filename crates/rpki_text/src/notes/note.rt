@@ -40,7 +40,7 @@ pub enum Note {
     /// AS resources aren't in their canonical form.
     AsForm,
     /// Bytes follow the value in the OCTET STRING of an extension that certificates may have.
-    OctetsBehind,
+    BytesAfterValue,
     /// An extension states FALSE, the default of its flag.
     FlagForm,
     /// An extension of an unknown kind appears twice.
@@ -69,7 +69,7 @@ impl Note {
             Note::AsNotCritical => "AsNotCritical",
             Note::IpForm => "IpForm",
             Note::AsForm => "AsForm",
-            Note::OctetsBehind => "OctetsBehind",
+            Note::BytesAfterValue => "BytesAfterValue",
             Note::FlagForm => "FlagForm",
             Note::ExtensionTwice => "ExtensionTwice",
         }
@@ -81,7 +81,7 @@ impl Note {
     {
         match self {
             Note::SerialZero => "the serial number is 0",
-            Note::SerialLong => "the serial number takes more than 20 octets",
+            Note::SerialLong => "the serial number has more than 20 bytes",
             Note::IssuerForm =>
                 "the issuer's name isn't a CommonName, with a serialNumber at most, in PrintableStrings",
             Note::TimeForm => "a time from 1950 to 2049 is a GeneralizedTime",
@@ -99,7 +99,7 @@ impl Note {
             Note::AsNotCritical => "AS resources aren't critical",
             Note::IpForm => "IP resources aren't sorted, merged and written in the shortest form",
             Note::AsForm => "AS resources aren't sorted, merged and written in the shortest form",
-            Note::OctetsBehind => "an extension holds octets behind its value",
+            Note::BytesAfterValue => "an extension has bytes after its value",
             Note::FlagForm => "an extension states FALSE, the default of its flag",
             Note::ExtensionTwice => "an extension appears twice",
         }
@@ -126,7 +126,7 @@ impl Note {
             Note::AsNotCritical => "RFC 6487 4.8.11",
             Note::IpForm => "RFC 3779 2.2.3",
             Note::AsForm => "RFC 3779 3.2.3",
-            Note::OctetsBehind => "RFC 5280 4.2",
+            Note::BytesAfterValue => "RFC 5280 4.2",
             Note::FlagForm => "X.690 11.5",
             Note::ExtensionTwice => "RFC 5280 4.2",
         }

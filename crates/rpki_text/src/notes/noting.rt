@@ -38,7 +38,7 @@ const NOTES: [Note; 19] = [
     Note::AsNotCritical,
     Note::IpForm,
     Note::AsForm,
-    Note::OctetsBehind,
+    Note::BytesAfterValue,
     Note::FlagForm,
     Note::ExtensionTwice,
 ];
@@ -167,7 +167,7 @@ fn is_note(alloc: Global, octets: &Bytes, tbs: &TbsCert, note: Note) -> Result<b
                 content.as_bytes(),
             )
         }
-        Note::OctetsBehind => has_one(octets, Kinds::Known, Fault::NotOneValue, &[]),
+        Note::BytesAfterValue => has_one(octets, Kinds::Known, Fault::NotOneValue, &[]),
         Note::FlagForm => states_false(octets),
         Note::ExtensionTwice => is_one_twice(alloc, octets)?,
     })

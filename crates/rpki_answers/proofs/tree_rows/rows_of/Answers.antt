@@ -1,4 +1,4 @@
-use Rattle.std.proofs.Common.{◌+◌, List, take, arith, refl, sym, subst}
+use Rattle.std.proofs.Common.{◌+◌, List, take, arith, sym, subst}
 use Rattle.rpki_answers.proofs.TreeRowsInOrder.{all_rows, next_row}
 use Rattle.rpki_answers.specs.TreeRows.{AreRowsFrom}
 use Rattle.rpki_answers.specs.declared.tree_rows.Row.{Row}
@@ -10,14 +10,13 @@ loop-file-preserved c =
     let trees = c.args.trees.now in
     let files = c.args.files.now in
     let i = l.file-index in
-    let next = c.said_of_file-next.result.0 in
-    let few = c.said_of_file-next.ensures.next in
+    let next = c.row_of-next.result.0 in
+    let few = c.row_of-next.ensures.next in
     let before = l.invariant.few in
     record {
       few = omega arith;
       rows = subst (λ (rows : List Row). AreRowsFrom trees 0 next (take (i + 1) files) rows) (sym c.in_ok-push.ensures.items)
-          (next_row trees files i l.place next c.file-item.result l.rows.items _ c.loop-file-test.true c.file-item.is l.invariant.rows
-          (record { file_is = refl; left_is = c.left-left.ensures; says = c.said_of_file-next.ensures.said }));
+          (next_row trees files i l.place next c.file-item.result l.rows.items _ c.loop-file-test.true c.file-item.is l.invariant.rows c.row_of-next.ensures.row);
     }
 
 pub returns : goal.returns

@@ -20,9 +20,9 @@ returns c =
     (ended_some last _ (
     each (codes "certificates") (document_of certificates.0)
     ∷ each (codes "notes") (document_of noted.0)
-    ∷ each (codes "octets_after_end") (document_of (members.0 ++ lists.0))
-    ∷ each (codes "not_lists") (document_of others.0)
-    ∷ each (codes "not_locators") (document_of (not_locators c.question.inside.locators.now)) ∷ [])
+    ∷ each (codes "bytes_after_end") (document_of (members.0 ++ lists.0))
+    ∷ each (codes "not_crls") (document_of others.0)
+    ∷ each (codes "not_tals") (document_of (not_locators c.question.inside.locators.now)) ∷ [])
     c.args.parts.now.items c.add_each-5.new.parts.items
     (record {
       certificates = certificates.0;

@@ -1,27 +1,28 @@
-use Rattle.std.proofs.Common.{◌≡◌, [], length, ap, ◌∙◌}
-use Rattle.std.proofs.lemmas.List.{get_or_default}
+use Rattle.std.proofs.Common.{◌≡◌, List, length, ap, sym, subst, ◌∙◌}
 use Rattle.rpki_cert.specs.Verification.{context}
 use Rattle.rpki_keys.specs.RsaSignatures.{IsSignedByRsa}
-use Rattle.rpki_folder.specs.Folders.{octets_at}
-use Rattle.rpki_c.proofs.FatesFound.{walk_answered, fault_answered}
+use Rattle.rpki_path.specs.AskedLists.{by_named_lists}
+use Rattle.rpki_folder.specs.KeptLines.{AreLines}
+use Rattle.rpki_folder.specs.UsualBounds.{usual_steps}
+use Rattle.rpki_folder.specs.declared.lines.Line.{Line}
+use Rattle.rpki_c.specs.FolderQuestions.{asked_or}
+use Rattle.rpki_c.specs.declared.folder_lines.WalkLines.{WalkLines}
+use Rattle.rpki_c.proofs.FatesFound.{walk_answered, walked_found}
 use Rattle.rpki_c.proofs.walking.walk_from.Goals as goal
 
-pub returns-in-Ok : goal.returns-in-Ok
-returns-in-Ok c =
-    let x = context IsSignedByRsa c.args.terms.now c.args.terms.strict in
+pub returns : goal.returns
+returns c = λ t found.
+    let f = c.args.terms.now in
+    let x = context IsSignedByRsa f.at f.strict in
     let s = c.args.sorted.now in
-    let octets : c.of-member.result ≡ octets_at s.strings.now c.args.anchor =
-    c.of-member.ensures ∙ get_or_default s.strings.now c.args.anchor c.index-sorted-anchor.result [] c.requires.anchor.inside in
-    let count : length c.walk_below.new.kept ≡ length s.folder.certs = c.walk_below.ensures.count ∙ c.in_ok-kept.ensures.count ∙ ap length c.certs-count.ensures in
-    walk_answered x c.args.tal.now s c.args.anchor c.args.terms c.requires.anchor c.of-member.result octets c.unambiguous.ensures.certificate c.requires.sorted c.walk_below.new.kept count c.in-Ok.ended
-    c.bounds-bounds.result.depth c.bounds-bounds.ensures.depth c.bounds-bounds.result.steps c.bounds-bounds.ensures.steps (c.in-Ok.ensures.walked c.in_ok-kept.ensures.nothing)
-    c.with_lines-answer.result c.with_lines-answer.ensures.lines c.with_lines-answer.ensures.ended c.with_lines-answer.ensures.anchor c.with_lines-answer.ensures.memory
-
-pub returns-in-Err : goal.returns-in-Err
-returns-in-Err c =
-    let x = context IsSignedByRsa c.args.terms.now c.args.terms.strict in
-    let s = c.args.sorted.now in
-    let octets : c.of-member.result ≡ octets_at s.strings.now c.args.anchor =
-    c.of-member.ensures ∙ get_or_default s.strings.now c.args.anchor c.index-sorted-anchor.result [] c.requires.anchor.inside in
-    fault_answered x c.args.tal.now s c.args.anchor c.args.terms c.requires.anchor c.of-member.result octets c.unambiguous.ensures.certificate
-    c.requires.sorted c.in-Err.error c.in-Err.ensures.fault c.refused.result c.refused.ensures
+    let asked = by_named_lists f.asks_names x s.folder.lists in
+    let law = c.unambiguous.ensures.certificate in
+    let firsts = c.in_ok-firsts.firsts in
+    let told = c.in_ok-walk.ensures in
+    let walk = c.in_ok-walk.walk in
+    let kept = c.as_slice.result in
+    let lines = subst (λ (ls : List Line). AreLines told.0 ls) (sym c.as_slice.ensures) (told.1.1 c.in_ok-kept.ensures.nothing) in
+    let k = walked_found x asked f.asks_names t s.folder.certs firsts c.args.anchor c.args.issuer.now law found f.depth (asked_or f.steps usual_steps) kept.now walk.ended told.0 lines told.2 in
+    let count : length kept.now ≡ length s.folder.certs = ap length c.as_slice.ensures ∙ told.1.0 ∙ c.in_ok-kept.ensures.count ∙ ap length c.certs.ensures in
+    let w : WalkLines = record { sorted = c.args.sorted; firsts = record { ref_ptr = c.args.sorted.ref_ptr; now = firsts }; kept = kept; anchor = c.args.anchor } in
+    walk_answered x t f law w c.requires.sorted count (record { told = c.in_ok-told.told; ended = walk.ended; anchor = c.origin-anchor.result }) c.in_ok-firsts.ensures found.1 k c.in_ok-told.ensures c.origin-anchor.ensures

@@ -1,73 +1,90 @@
-use Rattle.std.specs.Prelude.{Ok, None, Some}
-use Rattle.std.proofs.Common.{◌≡◌, [], ℕ, List, length, map, sym, ap, subst, ◌∙◌}
+use Rattle.std.specs.List.{AllZip}
+use Rattle.std.specs.Prelude.{Ok}
+use Rattle.std.proofs.Common.{◌≡◌, ◌<◌, [], ℕ, List, length, map, sym, ap, subst, ◌∙◌, arith}
 use Rattle.std.proofs.lemmas.List.{length-map}
 use Rattle.rpki_cert.specs.Certificates.{CertFields}
 use Rattle.rpki_cert.specs.Verification.{context}
 use Rattle.rpki_keys.specs.RsaSignatures.{IsSignedByRsa}
 use Rattle.rpki_path.specs.AskedLists.{by_named_lists}
 use Rattle.rpki_folder.specs.FirstPlaces.{AreFirstsIn, IsFirstIn}
+use Rattle.rpki_folder.specs.Folders.{octets_at}
+use Rattle.rpki_folder.specs.FoundAnchors.{IsAnchorAt}
+use Rattle.rpki_folder.specs.ReachedLimits.{AreLimited, AreLimitedFrom}
 use Rattle.rpki_folder.specs.Walks.{IsLookedAt, Tells, TellsFrom, at_anchor}
+use Rattle.rpki_folder.specs.declared.anchors.WrongCandidate.{WrongCandidate}
+use Rattle.rpki_folder.specs.declared.bounds.LimitedCa.{LimitedCa}
 use Rattle.rpki_folder.specs.declared.walk_error.WalkError.{WalkError}
 use Rattle.rpki_folder.proofs.AnchorSteps.{anchor_is}
 use Rattle.rpki_files.specs.Files.{FileFields}
-use Rattle.rpki_verdicts.specs.Trees.Steps.{AreTried}
-use Rattle.rpki_verdicts.proofs.TriedAnchors.{all_wrong, anchor_at, none_valid}
+use Rattle.rpki_verdicts.specs.ReachedLimits.{AreReached}
+use Rattle.rpki_verdicts.specs.Trees.{asked_of}
+use Rattle.rpki_verdicts.specs.Trees.Steps.{IsToldOf}
+use Rattle.rpki_verdicts.proofs.FilesAt.{file_there, octets_there}
+use Rattle.rpki_verdicts.proofs.WrongFiles.{none_found}
 use Rattle.rpki_verdicts.proofs.unordered.grown.Goals as goal
 
-pub returns-in_default : goal.returns-in_default
-returns-in_default c =
+pub returns-in_ok-wrong-in-Wrong : goal.returns-in_ok-wrong-in-Wrong
+returns-in_ok-wrong-in-Wrong c = λ l read.
     let q = c.args.question.now in
     let x = context IsSignedByRsa q.at q.strict in
     let files = map (λ f. f.now) c.args.certs.items in
-    let folder = c.args.folder.now in
-    let asked = by_named_lists q.names x folder.lists in
-    let found = c.in_ok-best.field-0 in
-    let same = ap (λ (l : List _). map (λ f. f.now) l) c.deref.ensures.value in
-    let are = subst (λ (l : List FileFields). AreTried x asked q.names q.locators.now l (length l) found) same c.in_ok-best.ensures in
-    let no_best : found.best ≡ None = c.in_default.is in
-    record {
-      certs = files;
-      certs_are = c.requires.certs_are;
-      lists = folder.lists;
-      lists_are = c.requires.lists_are;
-      wrong_are = are.wrong_are;
-      wrong_stand = are.wrong_stand;
-      all = all_wrong x asked q.names q.locators.now files found are no_best;
-      none = none_valid x asked q.names q.locators.now files found are no_best;
-    }
+    let candidates = c.in-Wrong.candidates.items in
+    let found = rw c.in-Wrong.is at c.in_ok-candidates.ensures in
+    let ws = c.in_ok-wrong-in-Wrong.field-0.items in
+    let of_certs = subst (λ (l : List _). AllZip (IsToldOf (map (λ f. f.now) l)) c.deref-in-Wrong.result.now ws) c.deref.ensures.value c.in_ok-wrong-in-Wrong.ensures in
+    let told = subst (λ (cs : List WrongCandidate). AllZip (IsToldOf files) cs ws) c.deref-in-Wrong.ensures.value of_certs in
+    none_found files x (asked_of q) l c.args.tal.now c.args.folder.now c.requires read candidates found.0 found.1 ws told
 
-pub returns : goal.returns
-returns c =
+pub returns-in_ok-limits-in-Valid : goal.returns-in_ok-limits-in-Valid
+returns-in_ok-limits-in-Valid c = λ l read.
     let q = c.args.question.now in
     let x = context IsSignedByRsa q.at q.strict in
+    let t = c.args.tal.now in
     let files = map (λ f. f.now) c.args.certs.items in
     let folder = c.args.folder.now in
     let asked = by_named_lists q.names x folder.lists in
-    let found = c.in_ok-best.field-0 in
-    let same = ap (λ (l : List _). map (λ f. f.now) l) c.deref.ensures.value in
-    let are = subst (λ (l : List FileFields). AreTried x asked q.names q.locators.now l (length l) found) same c.in_ok-best.ensures in
-    let anchor = c.in-Some.anchor in
-    let best : found.best ≡ Some anchor = c.in-Some.is in
-    let taken = anchor_at x asked q.names q.locators.now files found are anchor best in
-    let root = at_anchor anchor.tal.now anchor.file.now.octets in
-    let walk = c.in_ok-ended.ensures in
-    let t = walk.2 root taken.0 in
-    let firsts = c.in_ok-firsts.firsts in
-    let tells : TellsFrom {E = WalkError} x asked q.names (IsFirstIn firsts) anchor.tal.now anchor.file.now.octets folder.certs q.depth q.steps (Ok c.in_ok-ended.ended) walk.0 =
+    let place = c.in-Valid.anchor in
+    let issuer = c.in-Valid.issuer in
+    let found = rw c.in-Valid.is at c.in_ok-candidates.ensures in
+    let octets = octets_at folder.certs place in
+    let same_certs = c.requires.octets_are in
+    let inside = found.1.valid.inside in
+    let low : place < length files = omega (arith, inside, ap length same_certs, length-map files (λ (f : FileFields). f.octets)) in
+    let file = file_there files place low in
+    let same : octets ≡ file.0.octets = ap (λ (o : List (List ℕ)). octets_at o place) same_certs ∙ octets_there files place file.0 file.1 in
+    let root = at_anchor t octets in
+    let firsts = c.in_ok-firsts-in-Valid.firsts in
+    let told = c.in_ok-walk-in-Valid.ensures.tells in
+    let walk = c.in_ok-walk-in-Valid.walk in
+    let tells = told.2 root found.0 in
+    let limits = c.in_ok-walk-in-Valid.ensures.limited root found.0 in
+    let law = c.unambiguous.ensures.certificate in
+    let from : TellsFrom {E = WalkError} x asked q.names (IsFirstIn firsts) t octets folder.certs q.depth q.steps (Ok walk.ended) told.0 =
     λ top begins.
-    let is = anchor_is x asked anchor.tal.now anchor.file.now.octets anchor.issuer taken.0 c.unambiguous.ensures.certificate top begins in
-    subst (λ (d : CertFields). Tells {E = WalkError} x asked (IsLookedAt q.names (IsFirstIn firsts) d folder.certs) root folder.certs [] q.depth q.steps (Ok c.in_ok-ended.ended) walk.0) is
-    (record { right = t.right; let_in = t.let_in; few = t.few; short = t.short; too_deep = t.too_deep; complete = t.complete; in_shares = t.in_shares; enough = t.enough }) in
+    subst (λ (d : CertFields). Tells {E = WalkError} x asked (IsLookedAt q.names (IsFirstIn firsts) d folder.certs) root folder.certs [] q.depth q.steps (Ok walk.ended) told.0) (anchor_is x asked t octets issuer found.0 law top begins)
+    (record { right = tells.right; let_in = tells.let_in; few = tells.few; short = tells.short; too_deep = tells.too_deep; complete = tells.complete; in_shares = tells.in_shares; judged = tells.judged; enough = tells.enough }) in
+    let limited : AreLimitedFrom x asked q.names (IsFirstIn firsts) t octets folder.certs q.depth q.steps walk.limited.items =
+    λ top begins.
+    subst (λ (d : CertFields). AreLimited x asked (IsLookedAt q.names (IsFirstIn firsts) d folder.certs) root folder.certs q.depth q.steps walk.limited.items) (anchor_is x asked t octets issuer found.0 law top begins) limits in
+    let count : c.len-count.result ≡ length files = c.len-count.ensures ∙ c.args.certs.ok.0 ∙ sym (length-map c.args.certs.items (λ f. f.now)) in
     record {
       certs_are = c.requires.certs_are;
       lists = folder.lists;
       lists_are = c.requires.lists_are;
-      anchor = anchor.file.now;
-      locator = anchor.tal.now;
-      anchor_is = taken.1;
-      firsts_are = subst (λ (l : List (List ℕ)). AreFirstsIn l firsts) c.requires.octets_are c.in_ok-firsts.ensures;
-      told = walk.0;
-      tells = subst (λ (l : List (List ℕ)). TellsFrom {E = WalkError} x asked q.names (IsFirstIn firsts) anchor.tal.now anchor.file.now.octets l q.depth q.steps (Ok c.in_ok-ended.ended) walk.0) c.requires.octets_are tells;
-      count_is = walk.1.0 ∙ c.in_ok-lines.ensures.count ∙ c.len.ensures ∙ c.args.certs.ok.0 ∙ sym (length-map c.args.certs.items (λ f. f.now));
-      lines_are = walk.1.1 c.in_ok-lines.ensures.nothing;
+      locator = t;
+      locator_is = read;
+      anchor_is = subst (λ (o : List (List ℕ)). IsAnchorAt x asked q.names t o place) same_certs found.1;
+      anchor = file.0;
+      stands = file.1;
+      firsts_are = subst (λ (o : List (List ℕ)). AreFirstsIn o firsts) same_certs c.in_ok-firsts-in-Valid.ensures;
+      told = told.0;
+      tells = subst (λ (o : List (List ℕ)). TellsFrom {E = WalkError} x asked q.names (IsFirstIn firsts) t file.0.octets o q.depth q.steps (Ok walk.ended) told.0) same_certs
+          (subst (λ (o : List ℕ). TellsFrom {E = WalkError} x asked q.names (IsFirstIn firsts) t o folder.certs q.depth q.steps (Ok walk.ended) told.0) same from);
+      count_is = told.1.0 ∙ c.in_ok-lines-in-Valid.ensures.count ∙ count;
+      lines_are = told.1.1 c.in_ok-lines-in-Valid.ensures.nothing;
+      limited = walk.limited.items;
+      limited_are = subst (λ (o : List (List ℕ)). AreLimitedFrom x asked q.names (IsFirstIn firsts) t file.0.octets o q.depth q.steps walk.limited.items) same_certs
+          (subst (λ (o : List ℕ). AreLimitedFrom x asked q.names (IsFirstIn firsts) t o folder.certs q.depth q.steps walk.limited.items) same limited);
+      limits_are = subst (λ (n : ℕ). AreReached firsts place walk.limited.items n c.in_ok-limits-in-Valid.limits.items) count
+          (subst (λ (ls : List LimitedCa). AreReached firsts place ls c.len-count.result c.in_ok-limits-in-Valid.limits.items) c.deref-in-Valid.ensures.value c.in_ok-limits-in-Valid.ensures);
     }

@@ -4,7 +4,7 @@ use Rattle.rpki_path.specs.declared.judging.Judged.{Judged}
 use Rattle.rpki_path.specs.declared.path_fault.PathFault.{PathFault}
 use Rattle.rpki_folder.specs.KeptLines.{AreLines}
 use Rattle.rpki_folder.specs.Walks.{told}
-use Rattle.rpki_folder.proofs.KeptLineSteps.{line_kept, when_ok}
+use Rattle.rpki_folder.proofs.KeptLineSteps.{line_kept, when_err, when_ok}
 use Rattle.rpki_folder.proofs.lines.LinesVisitor.tell.Goals as goal
 
 pub returns-then-place-len-clause-ok : goal.returns-then-place-len-clause-ok
@@ -19,6 +19,11 @@ returns-in-Ok-clause-ok c = λ v ts h.
     let lines = c.accept.new.self in
     subst (λ (r : Result Judged PathFault). OnOk c.accept.result ((length lines ≡ length v) × (AreLines [] v → AreLines (ts ++ told c.args.above.now c.args.place r ∷ []) lines))) (sym c.in-Ok.is)
     (when_ok (length lines ≡ length v) (AreLines [] v) (AreLines (ts ++ told c.args.above.now c.args.place (Ok c.in-Ok.accepted) ∷ []) lines) c.accept.result (c.accept.ensures.count ∙ h.0) (λ (none : AreLines [] v). c.accept.ensures.ok ts (h.1 none)))
+
+pub returns-in-Ok-clause-err : goal.returns-in-Ok-clause-err
+returns-in-Ok-clause-err c = λ v ts h.
+    let lines = c.accept.new.self in
+    when_err (length lines ≡ length v) (AreLines [] v) (AreLines ts lines) c.accept.result (c.accept.ensures.count ∙ h.0) (λ (none : AreLines [] v). c.accept.ensures.err ts (h.1 none))
 
 pub returns-in-Err-clause-ok : goal.returns-in-Err-clause-ok
 returns-in-Err-clause-ok c = λ v ts h. (

@@ -6,6 +6,7 @@ use Rattle.rpki_path.specs.AskedLists.{by_named_lists}
 use Rattle.rpki_folder.specs.IssuerTables.{AreKept}
 use Rattle.rpki_folder.specs.Walks.{Told, IsLookedAt}
 use Rattle.rpki_folder.specs.Walks.Steps.{WalksBelowEach}
+use Rattle.rpki_folder.specs.ReachedLimits.Steps.{KeepsBelowEach}
 use Rattle.rpki_folder.proofs.walk.Walk.+descend.Given as goal
 
 abbrev pub decreases-descend : goal.decreases-descend
@@ -22,4 +23,5 @@ invariant-each_below-loop-ca g l =
     (l.trail.above.items ≡ above)
     × AreKept w.names x w.folder.now l.issuers
     × ((v : _) (ts : List Told) → g.W.Visitor.became v ts l.fn.visitor → (more : List Told) × g.W.Visitor.became v (ts ++ more) l.visitor
-    × WalksBelowEach {E = AllocError} x (by_named_lists w.names x w.folder.now.lists) (IsLookedAt w.names (g.A.Admission.admits w.admission.now) l.top.cert w.folder.now.certs) w.folder.now.certs above l.depth l.share (take l.ca-index l.cas) (Ok l.ended) more)
+    × WalksBelowEach {E = AllocError} x (by_named_lists w.names x w.folder.now.lists) (IsLookedAt w.names (g.A.Admission.admits w.admission.now) l.top.cert w.folder.now.certs) w.folder.now.certs above l.depth l.share.steps (take l.ca-index l.cas) (Ok l.ended) more)
+    × KeepsBelowEach x (by_named_lists w.names x w.folder.now.lists) (IsLookedAt w.names (g.A.Admission.admits w.admission.now) l.top.cert w.folder.now.certs) w.folder.now.certs above l.depth l.share (take l.ca-index l.cas) l.fn.trail.limited.items l.trail.limited.items l.ended

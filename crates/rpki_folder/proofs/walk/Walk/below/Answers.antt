@@ -1,18 +1,65 @@
-use Rattle.std.proofs.Common.{ℕ, List, [], subst}
+use Rattle.std.specs.Prelude.{Result}
+use Rattle.std.specs.declared.alloc.AllocError.{AllocError}
+use Rattle.std.proofs.Common.{◌≡◌, ℕ, List, [], sym, ap, subst, ◌∙◌}
 use Rattle.rpki_cert.specs.Verification.{context}
 use Rattle.rpki_path.specs.AskedLists.{by_named_lists}
-use Rattle.rpki_folder.specs.Walks.{TellsBelow, IsLookedAt}
+use Rattle.rpki_folder.specs.declared.bounds.Ended.{Ended}
+use Rattle.rpki_folder.specs.declared.bounds.Walked.{Walked}
+use Rattle.rpki_folder.specs.ReachedLimits.{AreLimited, end_of, ended_of}
+use Rattle.rpki_folder.specs.ReachedLimits.Steps.{KeepsBelow}
+use Rattle.rpki_folder.specs.Walks.{Root, members_at, LeadsTo, TellsBelow, IsLookedAt}
+use Rattle.rpki_folder.proofs.Descent.{if_ok, ok_if}
+use Rattle.rpki_folder.proofs.KeptLimits.{kept_whole}
 use Rattle.rpki_folder.proofs.walk.Walk.below.Goals as goal
 
-pub returns : goal.returns
-returns g c =
+pub returns-clause-tells : goal.returns-clause-tells
+returns-clause-tells g c =
     let w = c.args.self.now in
     let x = context (g.V.Verifier.verifies w.verifier.now) w.at w.strict in
-    let d = c.descend-ended.ensures.tells c.args.visitor.now [] (g.met.W.Visitor.begins c.args.visitor.now) in
-    record {
-      tells = (
-        d.0,
-        d.1,
-        subst (λ (l : List ℕ). TellsBelow x (by_named_lists w.names x w.folder.now.lists) (IsLookedAt w.names (g.A.Admission.admits w.admission.now) c.args.issuer.now.cert w.folder.now.certs) c.args.issuer.now w.folder.now.certs l w.bounds.depth w.bounds.steps c.descend-ended.result d.0) c.new.ensures.items d.2,
-      );
-    }
+    let asked = by_named_lists w.names x w.folder.now.lists in
+    let admits = IsLookedAt w.names (g.A.Admission.admits w.admission.now) c.args.issuer.now.cert w.folder.now.certs in
+    let d = c.descend-ended.ensures.tells c.args.visitor.now [] (g.met.W.Visitor.begins c.args.visitor.now) in (
+      d.0,
+      d.1,
+      subst (λ (r : Result Ended AllocError). TellsBelow x asked admits c.args.issuer.now w.folder.now.certs [] w.bounds.depth w.bounds.steps r d.0) (sym c.walked.ensures.ended)
+          (subst (λ (n : ℕ). TellsBelow x asked admits c.args.issuer.now w.folder.now.certs [] w.bounds.depth n c.descend-ended.result d.0) c.whole.ensures.steps
+          (subst (λ (l : List ℕ). TellsBelow x asked admits c.args.issuer.now w.folder.now.certs l w.bounds.depth c.whole.result.steps c.descend-ended.result d.0) c.new.ensures.items d.2)),
+    )
+
+-- what the trail keeps of the walk, if it ended
+pub returns-clause-limited : goal.returns-clause-limited
+returns-clause-limited g c =
+    let w = c.args.self.now in
+    let x = context (g.V.Verifier.verifies w.verifier.now) w.at w.strict in
+    let asked = by_named_lists w.names x w.folder.now.lists in
+    let certs = w.folder.now.certs in
+    let issuer = c.args.issuer.now in
+    let admits = IsLookedAt w.names (g.A.Admission.admits w.admission.now) issuer.cert certs in
+    let new = c.descend-ended.new.trail.limited in
+    ok_if (λ (walked : Walked). (root : Root) → LeadsTo x asked root (members_at root certs []) issuer → AreLimited x asked admits root certs w.bounds.depth w.bounds.steps walked.limited.items) c.walked.result (λ walked is root a.
+    let all : walked.limited ≡ new = if_ok (λ (k : Walked). k.limited ≡ new) c.walked.result walked is c.walked.ensures.limited in
+    let ends : c.descend-ended.result ≡ ended_of c.walked.result = sym c.walked.ensures.ended in
+    let how = ends ∙ ap (λ (r : Result Walked AllocError). ended_of r) is in
+    let k = if_ok (λ (e : Ended). KeepsBelow x asked admits issuer certs c.new.result.items w.bounds.depth c.whole.result c.new-2.result.items new.items e) c.descend-ended.result walked.ended how c.descend-ended.ensures.limits in
+    let here = subst (λ (l : List ℕ). KeepsBelow x asked admits issuer certs l w.bounds.depth c.whole.result c.new-2.result.items new.items walked.ended) c.new.ensures.items k in
+    let r = kept_whole x asked admits issuer certs w.bounds.depth c.whole.result c.new-2.result.items new.items walked.ended c.new-2.ensures.items c.whole.ensures.cost here in
+    subst (λ (n : ℕ). AreLimited x asked admits root certs w.bounds.depth n walked.limited.items) c.whole.ensures.steps
+    (subst (λ (v : _). AreLimited x asked admits root certs w.bounds.depth c.whole.result.steps v.items) (sym all) (r.1 root a)))
+
+pub returns-clause-ended : goal.returns-clause-ended
+returns-clause-ended g c =
+    let w = c.args.self.now in
+    let x = context (g.V.Verifier.verifies w.verifier.now) w.at w.strict in
+    let asked = by_named_lists w.names x w.folder.now.lists in
+    let certs = w.folder.now.certs in
+    let issuer = c.args.issuer.now in
+    let admits = IsLookedAt w.names (g.A.Admission.admits w.admission.now) issuer.cert certs in
+    let new = c.descend-ended.new.trail.limited in
+    ok_if (λ (walked : Walked). walked.ended ≡ end_of walked.limited.items) c.walked.result (λ walked is.
+    let all : walked.limited ≡ new = if_ok (λ (k : Walked). k.limited ≡ new) c.walked.result walked is c.walked.ensures.limited in
+    let ends : c.descend-ended.result ≡ ended_of c.walked.result = sym c.walked.ensures.ended in
+    let how = ends ∙ ap (λ (r : Result Walked AllocError). ended_of r) is in
+    let k = if_ok (λ (e : Ended). KeepsBelow x asked admits issuer certs c.new.result.items w.bounds.depth c.whole.result c.new-2.result.items new.items e) c.descend-ended.result walked.ended how c.descend-ended.ensures.limits in
+    let here = subst (λ (l : List ℕ). KeepsBelow x asked admits issuer certs l w.bounds.depth c.whole.result c.new-2.result.items new.items walked.ended) c.new.ensures.items k in
+    let r = kept_whole x asked admits issuer certs w.bounds.depth c.whole.result c.new-2.result.items new.items walked.ended c.new-2.ensures.items c.whole.ensures.cost here in
+    r.0 ∙ ap (λ (v : _). end_of v.items) (sym all))

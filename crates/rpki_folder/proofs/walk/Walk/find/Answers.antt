@@ -18,8 +18,8 @@ returns-in-Some-clause-found g c =
     let t = c.args.tal.now in
     let anchor = c.args.anchor.now in
     let path = c.in-Some.path in
-    let b = c.in_ok-ended.ensures.tells in
-    let v = c.in_ok-ended.ensures.anchor in
+    let b = c.in_ok-walked.ensures.tells in
+    let v = c.in_ok-walked.ensures.anchor in
     let first = b.2 (top x asked t anchor v.0 v.1) (top_begins x asked t anchor v.0 v.1) in
     let sought : IsSought c.args.place b.0 (Some path) = subst (λ (f : Option FoundPath). IsSought c.args.place b.0 f) (sym c.into_found.ensures ∙ c.in-Some.is) (b.1.1 refl) in (
       found_right x asked (at_anchor t anchor) w.folder.now.certs c.args.place b.0 path first.right sought,
@@ -28,7 +28,7 @@ returns-in-Some-clause-found g c =
 
 pub returns-in-None-clause-found : goal.returns-in-None-clause-found
 returns-in-None-clause-found g c =
-    let b = c.in_ok-ended.ensures.tells in
+    let b = c.in_ok-walked.ensures.tells in
     let none : IsSought c.args.place b.0 None = subst (λ (f : Option FoundPath). IsSought c.args.place b.0 f) (sym c.into_found.ensures ∙ c.in-None.is) (b.1.1 refl) in (
       (λ d above begins covers admitted reached. none_told c.args.place b.0 above none ((b.2 d begins).complete above c.args.place covers admitted reached)),
       (b.0, b.2),

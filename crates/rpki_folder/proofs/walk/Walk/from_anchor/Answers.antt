@@ -4,11 +4,13 @@ use Rattle.rpki_cert.specs.Certificates.{CertFields}
 use Rattle.rpki_cert.specs.Verification.{Context, context}
 use Rattle.rpki_path.specs.Asking.{RevocationChecks}
 use Rattle.rpki_path.specs.AskedLists.{by_named_lists}
-use Rattle.rpki_folder.specs.Walks.{Root, at_anchor, Told, Tells, TakesStep, IsShort, IsTooDeep, IsComplete, IsCompleteInShares, IsEnough, IsLookedAt}
+use Rattle.rpki_folder.specs.Walks.{Root, at_anchor, Told, Tells, TakesStep, IsShort, IsTooDeep, IsComplete, IsCompleteInShares, IsJudgedInShares, IsEnough, IsLookedAt}
+use Rattle.rpki_folder.specs.ReachedLimits.{AreLimited, ended_of}
 use Rattle.rpki_folder.specs.declared.bounds.Ended.{Ended}
 use Rattle.rpki_folder.specs.declared.bounds.Ended.TheVariants.{OutOfSteps}
 use Rattle.rpki_folder.proofs.AnchorSteps.{anchor_is}
 use Rattle.rpki_folder.proofs.Descent.{if_err, most_all}
+use Rattle.rpki_folder.proofs.KeptLimits.{err_ended}
 use Rattle.rpki_folder.proofs.walk.Walk.from_anchor.Goals as goal
 
 pub returns-in_err-issuer-clause-tells : goal.returns-in_err-issuer-clause-tells
@@ -25,38 +27,40 @@ returns-in_err-issuer-clause-tells g c =
             right = tt;
             let_in = tt;
             few = most_all (TakesStep x (by_named_lists w.names x w.folder.now.lists) root certs) w.bounds.steps [] (omega arith);
-            short = if_err (λ (ended : Ended). ended ≡ OutOfSteps → IsShort x (by_named_lists w.names x w.folder.now.lists) admits root certs [] w.bounds.steps) c.from_residual.result c.from_residual.ensures.0;
-            too_deep = if_err (IsTooDeep x (by_named_lists w.names x w.folder.now.lists) admits root certs [] w.bounds.depth) c.from_residual.result c.from_residual.ensures.0;
-            complete = if_err (IsComplete x (by_named_lists w.names x w.folder.now.lists) admits root certs [] w.bounds.depth []) c.from_residual.result c.from_residual.ensures.0;
-            in_shares = if_err (λ (ended : Ended). IsCompleteInShares x (by_named_lists w.names x w.folder.now.lists) admits root certs [] w.bounds.depth w.bounds.steps []) c.from_residual.result c.from_residual.ensures.0;
-            enough = if_err (IsEnough x (by_named_lists w.names x w.folder.now.lists) admits root certs [] w.bounds.depth w.bounds.steps) c.from_residual.result c.from_residual.ensures.0;
+            short = if_err (λ (ended : Ended). ended ≡ OutOfSteps → IsShort x (by_named_lists w.names x w.folder.now.lists) admits root certs [] w.bounds.steps) (ended_of c.from_residual.result) (err_ended c.from_residual.result c.from_residual.ensures.0);
+            too_deep = if_err (IsTooDeep x (by_named_lists w.names x w.folder.now.lists) admits root certs [] w.bounds.depth) (ended_of c.from_residual.result) (err_ended c.from_residual.result c.from_residual.ensures.0);
+            complete = if_err (IsComplete x (by_named_lists w.names x w.folder.now.lists) admits root certs [] w.bounds.depth []) (ended_of c.from_residual.result) (err_ended c.from_residual.result c.from_residual.ensures.0);
+            in_shares = if_err (λ (ended : Ended). IsCompleteInShares x (by_named_lists w.names x w.folder.now.lists) admits root certs [] w.bounds.depth w.bounds.steps []) (ended_of c.from_residual.result) (err_ended c.from_residual.result c.from_residual.ensures.0);
+            judged = if_err (λ (ended : Ended). IsJudgedInShares x (by_named_lists w.names x w.folder.now.lists) admits root certs [] w.bounds.depth w.bounds.steps []) (ended_of c.from_residual.result) (err_ended c.from_residual.result c.from_residual.ensures.0);
+            enough = if_err (IsEnough x (by_named_lists w.names x w.folder.now.lists) admits root certs [] w.bounds.depth w.bounds.steps) (ended_of c.from_residual.result) (err_ended c.from_residual.result c.from_residual.ensures.0);
           }),
     )
 
-pub returns-in_err-ended-clause-tells : goal.returns-in_err-ended-clause-tells
-returns-in_err-ended-clause-tells g c =
+pub returns-in_err-walked-clause-tells : goal.returns-in_err-walked-clause-tells
+returns-in_err-walked-clause-tells g c =
     let w = c.args.self.now in
     let x = context (g.V.Verifier.verifies w.verifier.now) w.at w.strict in
     let asked = by_named_lists w.names x w.folder.now.lists in
     let root = at_anchor c.args.tal.now c.args.anchor.now in
     let certs = w.folder.now.certs in
-    let b = c.in_err-ended.ensures.tells in
+    let b = c.in_err-walked.ensures.tells in
     let leads = c.in_ok-issuer.ensures.ok in
     let t = b.2 root leads in (
       b.0,
       b.1,
       (λ top begins.
           let is = anchor_is x asked c.args.tal.now c.args.anchor.now c.in_ok-issuer.issuer leads c.unambiguous.ensures.certificate top begins in
-          subst (λ (d : CertFields). Tells x asked (IsLookedAt w.names (g.A.Admission.admits w.admission.now) d certs) root certs [] w.bounds.depth w.bounds.steps c.from_residual-in_err-ended.result b.0) is
+          subst (λ (d : CertFields). Tells x asked (IsLookedAt w.names (g.A.Admission.admits w.admission.now) d certs) root certs [] w.bounds.depth w.bounds.steps (ended_of c.from_residual-in_err-walked.result) b.0) is
           (record {
             right = t.right;
             let_in = t.let_in;
             few = t.few;
-            short = if_err (λ (ended : Ended). ended ≡ OutOfSteps → IsShort x asked (IsLookedAt w.names (g.A.Admission.admits w.admission.now) c.in_ok-issuer.issuer.cert certs) root certs [] w.bounds.steps) c.from_residual-in_err-ended.result c.from_residual-in_err-ended.ensures.0;
-            too_deep = if_err (IsTooDeep x asked (IsLookedAt w.names (g.A.Admission.admits w.admission.now) c.in_ok-issuer.issuer.cert certs) root certs [] w.bounds.depth) c.from_residual-in_err-ended.result c.from_residual-in_err-ended.ensures.0;
-            complete = if_err (IsComplete x asked (IsLookedAt w.names (g.A.Admission.admits w.admission.now) c.in_ok-issuer.issuer.cert certs) root certs [] w.bounds.depth b.0) c.from_residual-in_err-ended.result c.from_residual-in_err-ended.ensures.0;
-            in_shares = if_err (λ (ended : Ended). IsCompleteInShares x asked (IsLookedAt w.names (g.A.Admission.admits w.admission.now) c.in_ok-issuer.issuer.cert certs) root certs [] w.bounds.depth w.bounds.steps b.0) c.from_residual-in_err-ended.result c.from_residual-in_err-ended.ensures.0;
-            enough = if_err (IsEnough x asked (IsLookedAt w.names (g.A.Admission.admits w.admission.now) c.in_ok-issuer.issuer.cert certs) root certs [] w.bounds.depth w.bounds.steps) c.from_residual-in_err-ended.result c.from_residual-in_err-ended.ensures.0;
+            short = if_err (λ (ended : Ended). ended ≡ OutOfSteps → IsShort x asked (IsLookedAt w.names (g.A.Admission.admits w.admission.now) c.in_ok-issuer.issuer.cert certs) root certs [] w.bounds.steps) (ended_of c.from_residual-in_err-walked.result) (err_ended c.from_residual-in_err-walked.result c.from_residual-in_err-walked.ensures.0);
+            too_deep = if_err (IsTooDeep x asked (IsLookedAt w.names (g.A.Admission.admits w.admission.now) c.in_ok-issuer.issuer.cert certs) root certs [] w.bounds.depth) (ended_of c.from_residual-in_err-walked.result) (err_ended c.from_residual-in_err-walked.result c.from_residual-in_err-walked.ensures.0);
+            complete = if_err (IsComplete x asked (IsLookedAt w.names (g.A.Admission.admits w.admission.now) c.in_ok-issuer.issuer.cert certs) root certs [] w.bounds.depth b.0) (ended_of c.from_residual-in_err-walked.result) (err_ended c.from_residual-in_err-walked.result c.from_residual-in_err-walked.ensures.0);
+            in_shares = if_err (λ (ended : Ended). IsCompleteInShares x asked (IsLookedAt w.names (g.A.Admission.admits w.admission.now) c.in_ok-issuer.issuer.cert certs) root certs [] w.bounds.depth w.bounds.steps b.0) (ended_of c.from_residual-in_err-walked.result) (err_ended c.from_residual-in_err-walked.result c.from_residual-in_err-walked.ensures.0);
+            judged = if_err (λ (ended : Ended). IsJudgedInShares x asked (IsLookedAt w.names (g.A.Admission.admits w.admission.now) c.in_ok-issuer.issuer.cert certs) root certs [] w.bounds.depth w.bounds.steps b.0) (ended_of c.from_residual-in_err-walked.result) (err_ended c.from_residual-in_err-walked.result c.from_residual-in_err-walked.ensures.0);
+            enough = if_err (IsEnough x asked (IsLookedAt w.names (g.A.Admission.admits w.admission.now) c.in_ok-issuer.issuer.cert certs) root certs [] w.bounds.depth w.bounds.steps) (ended_of c.from_residual-in_err-walked.result) (err_ended c.from_residual-in_err-walked.result c.from_residual-in_err-walked.ensures.0);
           })),
     )
 
@@ -70,7 +74,7 @@ returns-clause-tells g c =
     let asked = by_named_lists w.names x w.folder.now.lists in
     let root = at_anchor c.args.tal.now c.args.anchor.now in
     let certs = w.folder.now.certs in
-    let b = c.in_ok-ended.ensures.tells in
+    let b = c.in_ok-walked.ensures.tells in
     let leads = c.in_ok-issuer.ensures.ok in
     let t = b.2 root leads in (
       b.0,
@@ -78,8 +82,19 @@ returns-clause-tells g c =
       (λ top begins.
           let is = anchor_is x asked c.args.tal.now c.args.anchor.now c.in_ok-issuer.issuer leads c.unambiguous.ensures.certificate top begins in
           let u = under x asked (λ (d : CertFields). IsLookedAt w.names (g.A.Admission.admits w.admission.now) d certs) root certs w.bounds.depth w.bounds.steps _ b.0 c.in_ok-issuer.issuer.cert top is t in
-          record { right = u.right; let_in = u.let_in; few = u.few; short = u.short; too_deep = u.too_deep; complete = u.complete; in_shares = u.in_shares; enough = u.enough }),
+          record { right = u.right; let_in = u.let_in; few = u.few; short = u.short; too_deep = u.too_deep; complete = u.complete; in_shares = u.in_shares; judged = u.judged; enough = u.enough }),
     )
+
+pub returns-clause-limited : goal.returns-clause-limited
+returns-clause-limited g c = λ top begins.
+    let w = c.args.self.now in
+    let x = context (g.V.Verifier.verifies w.verifier.now) w.at w.strict in
+    let asked = by_named_lists w.names x w.folder.now.lists in
+    let root = at_anchor c.args.tal.now c.args.anchor.now in
+    let certs = w.folder.now.certs in
+    let leads = c.in_ok-issuer.ensures.ok in
+    let is = anchor_is x asked c.args.tal.now c.args.anchor.now c.in_ok-issuer.issuer leads c.unambiguous.ensures.certificate top begins in
+    subst (λ (d : CertFields). AreLimited x asked (IsLookedAt w.names (g.A.Admission.admits w.admission.now) d certs) root certs w.bounds.depth w.bounds.steps c.in_ok-walked.field-0.limited.items) is (c.in_ok-walked.ensures.limited root leads)
 
 pub returns-clause-anchor : goal.returns-clause-anchor
 returns-clause-anchor g c = (c.in_ok-issuer.issuer, c.in_ok-issuer.ensures.ok, c.in_ok-issuer.ensures.named)

@@ -19,7 +19,7 @@ use Rattle.rpki_issuing.proofs.wanted.preparing.complete_octets.Goals as goal
 pub returns-in-Some-2-clause-refused : goal.returns-in-Some-2-clause-refused
 returns-in-Some-2-clause-refused g c = λ apart made p.
     let first = rw c.in-Some-2.is at c.in_ok-rule.ensures in
-    first_not_all (RuleCheck c.args.kind c.args.path.now c.args.tbs.now) issuing_rules c.in-Some-2.rule first p.rules
+    first_not_all (RuleCheck c.args.kind (option_map (λ (r : Bor ResourceFields). r.now) c.args.issuer) c.args.path.now c.args.tbs.now) issuing_rules c.in-Some-2.rule first p.rules
 
 pub returns-in-Some-2-clause-told : goal.returns-in-Some-2-clause-told
 returns-in-Some-2-clause-told g c = rw c.in-Some-2.is at c.in_ok-rule.ensures

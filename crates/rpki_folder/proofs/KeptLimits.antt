@@ -1,0 +1,170 @@
+-- What a walk keeps of the limits that it reaches below an issuer, wherever it ends there.
+use Rattle.std.specs.Prelude.{Bool, Contains, Option, Result, Ok, Err, IsErr}
+use Rattle.std.proofs.Common.{◌≡◌, ◌+◌, ◌-◌, ◌*◌, ◌/◌, ◌<◌, ◌≤◌, ℕ, List, [], ◌∷◌, ◌++◌, length, refl, sym, subst, ap, ◌∙◌, append_assoc, arith}
+use Rattle.std.proofs.lemmas.List.{append-nil}
+use Rattle.std.proofs.lemmas.List.Elements.{Contains-append_left, Contains-append_right}
+use Rattle.rpki_der.specs.Values.{IsUnambiguous}
+use Rattle.rpki_cert.specs.Certificates.{CertFields, IsCertificate}
+use Rattle.rpki_cert.specs.Verification.{Context, ResourceFields}
+use Rattle.rpki_path.specs.Asking.{RevocationChecks}
+use Rattle.rpki_folder.specs.declared.bounds.Ended.{Ended}
+use Rattle.rpki_folder.specs.declared.bounds.Ended.TheVariants.{Whole, TooDeep, OutOfSteps}
+use Rattle.rpki_folder.specs.declared.bounds.Limit.{Limit}
+use Rattle.rpki_folder.specs.declared.bounds.Limit.TheVariants.{Depth, Steps as steps}
+use Rattle.rpki_folder.specs.declared.bounds.LimitedCa.{LimitedCa}
+use Rattle.rpki_folder.specs.declared.bounds.Walked.{Walked}
+use Rattle.rpki_folder.specs.declared.share.Share.{Share}
+use Rattle.rpki_folder.specs.declared.walk.Ca.{Ca}
+use Rattle.rpki_folder.specs.Folders.{ArePlacesOf, cas_at}
+use Rattle.rpki_folder.specs.ReachedLimits.{IsNumber, AreLimited, end_at, end_of, ended_of}
+use Rattle.rpki_folder.specs.ReachedLimits.Steps.{CostIs, AreLimitedBelow, AreLimitedBelowEach, IsAdded, KeepsBelow, KeepsBelowEach}
+use Rattle.rpki_folder.specs.Walks.{Root, members_at, LeadsTo, Told, worse, IsLastOf, EndsNoCircle, IsLookedAt, IsChildOf, AreChildren}
+use Rattle.rpki_folder.specs.Walks.Steps.{AreChildrenAmong, AreJudged}
+use Rattle.rpki_folder.proofs.BelowIssuer.{LetsIn}
+use Rattle.rpki_folder.proofs.ChildPaths.{passing, child_on}
+use Rattle.rpki_folder.proofs.LimitSteps.{end_append, limits_below_none, limits_below_more, limits_none, limits_deep, limits_short, limits_each, limits_whole}
+use Rattle.rpki_folder.proofs.LookedAt.{looked_at, let_in}
+use Rattle.rpki_folder.proofs.PickedLists.{in_none, in_front}
+use Rattle.rpki_folder.proofs.Shares.{goes_through, child_in, are_children, are_cas, ca_admitted, each_leads}
+
+-- ---- below an issuer that has no child
+
+module _ (x : Context) (asked : RevocationChecks) (admits : List ℕ → ℕ → Type 0) (issuer : ResourceFields) (certs : List (List ℕ)) (above : List ℕ) (depth : ℕ) (share : Share) (law : IsUnambiguous IsCertificate) where
+  pub keeps_none : ((place : ℕ) → admits above place → IsChildOf x.verifies issuer.cert certs place → ⊥) → (old : List LimitedCa) → KeepsBelow x asked admits issuer certs above depth share old old Whole
+  keeps_none none old = record {
+    more = [];
+    new_is = sym (append-nil old);
+    ended_is = refl;
+    are = λ root a base factor cost. limits_none x asked admits root certs above depth share.steps base factor law issuer a none;
+  }
+
+-- ---- below several CAs
+
+module _ (x : Context) (asked : RevocationChecks) (admits : List ℕ → ℕ → Type 0) (certs : List (List ℕ)) (above : List ℕ) (depth : ℕ) (share : Share) where
+  pub keeps_each_none : (old : List LimitedCa) → KeepsBelowEach x asked admits certs above depth share [] old old Whole
+  keeps_each_none old = record {
+    more = [];
+    new_is = sym (append-nil old);
+    ended_is = refl;
+    are = λ root leads base factor cost. limits_below_none x asked admits root certs above depth share.steps base factor;
+  }
+
+  -- below one more
+  pub keeps_each_more : (cas : List Ca) (one : Ca) (old mid new : List LimitedCa) (ended end : Ended) → KeepsBelowEach x asked admits certs above depth share cas old mid ended
+      → KeepsBelow x asked admits one.holder certs (above ++ one.place ∷ []) depth share mid new end → KeepsBelowEach x asked admits certs above depth share (cas ++ one ∷ []) old new (worse ended end)
+  keeps_each_more cas one old mid new ended end h k = record {
+    more = h.more ++ k.more;
+    new_is = k.new_is ∙ ap (λ (l : List LimitedCa). l ++ k.more) h.new_is ∙ append_assoc old h.more k.more;
+    ended_is = ap (λ (e : Ended). worse e end) h.ended_is ∙ ap (λ (e : Ended). worse (end_of h.more) e) k.ended_is ∙ sym (end_append h.more k.more);
+    are = λ root leads base factor cost.
+        limits_below_more x asked admits root certs above depth share.steps base factor cas one h.more k.more
+        (h.are root (λ ca at. leads ca (Contains-append_left cas (one ∷ []) ca at)) base factor cost)
+        (k.are root (leads one (Contains-append_right cas (one ∷ []) one (in_front one [] one refl))) base factor cost);
+  }
+
+-- ---- below an issuer
+
+module _ (x : Context) (asked : RevocationChecks) (names : Bool) (admits : List ℕ → ℕ → Type 0) (top : CertFields) (certs : List (List ℕ)) (above : List ℕ) (depth : ℕ) (share : Share) (law : IsUnambiguous IsCertificate)
+    (issuer : ResourceFields) (last : IsLastOf top certs above issuer.cert) (none : EndsNoCircle names top certs above)
+    (places : List ℕ) (are : ArePlacesOf certs issuer.cert.fields.extensions.subject_key_identifier places) (children : List ℕ) (c : AreChildrenAmong x.verifies (LetsIn names admits issuer.cert certs above) issuer.cert certs places children) (old new : List LimitedCa) where
+  abbrev Looks : List ℕ → ℕ → Type 0
+  Looks = IsLookedAt names admits top certs
+
+  abbrev Here : ℕ → Type 0
+  Here = LetsIn names admits issuer.cert certs above
+
+  there_in : (place : ℕ) → Here place → Looks above place
+  there_in place h = looked_at top certs law names above issuer.cert last admits place none h
+
+  in_there : (place : ℕ) → Looks above place → Here place
+  in_there place h = let_in top certs law names above issuer.cert last admits place h
+
+  kids : (root : Root) → LeadsTo x asked root (members_at root certs above) issuer → AreChildren x asked Looks root certs above children
+  kids root a = are_children x asked Looks root certs above depth share.steps law issuer a Here there_in in_there places are children c
+
+  -- where there are no children
+  pub keeps_childless : children ≡ [] → KeepsBelow x asked Looks issuer certs above depth share old old Whole
+  keeps_childless is = record {
+    more = [];
+    new_is = sym (append-nil old);
+    ended_is = refl;
+    are = λ root a base factor cost.
+        limits_none x asked Looks root certs above depth share.steps base factor law issuer a
+        (λ place admitted child. in_none place (subst (λ (l : List ℕ). Contains l place) is (child_in x asked Looks root certs above depth share.steps law issuer a Here there_in in_there places are children c place admitted child)));
+  }
+
+  -- where the depth is used up
+  pub keeps_deep : depth ≡ 0 → 0 < length children → IsAdded old above Depth new → KeepsBelow x asked Looks issuer certs above depth share old new TooDeep
+  keeps_deep deep some (l, is, there, limit) = record {
+    more = l ∷ [];
+    new_is = is;
+    ended_is = sym (ap (λ (q : Limit). worse (end_at q) Whole) limit);
+    are = λ root a base factor cost. limits_deep x asked Looks root certs above depth share.steps base factor law children (kids root a) deep some l there limit;
+  }
+
+  module _ (low : 0 < depth) where
+    -- where the share is too small
+    pub keeps_short : share.steps < length children → (told : Option ℕ) → ((base factor : ℕ) → CostIs share.cost base factor → IsNumber told (base + factor * length children)) → IsAdded old above (steps told) new
+        → KeepsBelow x asked Looks issuer certs above depth share old new OutOfSteps
+    keeps_short short told number (l, is, there, limit) = record {
+      more = l ∷ [];
+      new_is = is;
+      ended_is = sym (ap (λ (q : Limit). worse (end_at q) Whole) limit);
+      are = λ root a base factor cost. limits_short x asked Looks root certs above depth share.steps base factor law children (kids root a) low short l there told limit (number base factor cost);
+    }
+
+    module _ (enough : length children ≤ share.steps) (cas : List Ca) (us : List Told) (j : AreJudged x asked issuer certs above children cas us) where
+      limits_at : (root : Root) (a : LeadsTo x asked root (members_at root certs above) issuer) (base factor next : ℕ) → (0 < length cas → next ≡ (share.steps - length children) / length cas) → (ls : List LimitedCa)
+          → AreLimitedBelowEach x asked Looks root certs above (depth - 1) next (base + factor * length children) (factor * length cas) cas ls → AreLimitedBelow x asked Looks root certs above depth share.steps base factor ls
+      limits_at root a base factor next next_is ls e =
+          limits_each x asked Looks root certs above depth share.steps base factor law children (kids root a) low enough cas
+          (are_cas x asked Looks root certs above depth share.steps law issuer a Here there_in in_there places are children c enough cas us j)
+          (ca_admitted x asked Looks root certs above depth share.steps law issuer a Here there_in in_there places are children c enough cas us j)
+          next next_is
+          (λ p admitted rest r leads.
+          goes_through x asked Looks root certs above depth share.steps law issuer a Here there_in in_there places are children c enough cas us j p
+          (child_in x asked Looks root certs above depth share.steps law issuer a Here there_in in_there places are children c p admitted (child_on x asked root law certs above issuer a p rest r leads))
+          (cas_at certs rest) r (passing x asked root law certs above p rest r leads))
+          ls e
+
+      -- below each of the CAs
+      pub keeps_each : (next : Share) → (0 < length cas → next.steps ≡ (share.steps - length children) / length cas)
+          → ((base factor : ℕ) → CostIs share.cost base factor → CostIs next.cost (base + factor * length children) (factor * length cas))
+          → (ended : Ended) → KeepsBelowEach x asked Looks certs above (depth - 1) next cas old new ended → KeepsBelow x asked Looks issuer certs above depth share old new ended
+      keeps_each next next_is cost_is ended k = record {
+        more = k.more;
+        new_is = k.new_is;
+        ended_is = k.ended_is;
+        are = λ root a base factor cost.
+            limits_at root a base factor next.steps next_is k.more
+            (k.are root (each_leads x asked Looks root certs above depth share.steps law issuer a Here there_in in_there places are children c enough cas us j) (base + factor * length children) (factor * length cas) (cost_is base factor cost));
+      }
+
+      -- where there is none
+      pub keeps_last : cas ≡ [] → KeepsBelow x asked Looks issuer certs above depth share old old Whole
+      keeps_last is = record {
+        more = [];
+        new_is = sym (append-nil old);
+        ended_is = refl;
+        are = λ root a base factor cost.
+            let each : AreLimitedBelowEach x asked Looks root certs above (depth - 1) 0 (base + factor * length children) (factor * length cas) cas [] =
+            subst (λ (l : List Ca). AreLimitedBelowEach x asked Looks root certs above (depth - 1) 0 (base + factor * length children) (factor * length cas) l []) (sym is) (limits_below_none x asked Looks root certs above (depth - 1) 0 (base + factor * length children) (factor * length cas)) in
+            limits_at root a base factor 0 (λ some. absurd (omega (arith, some, ap length is))) [] each;
+      }
+
+-- ---- below the certificate at which a walk starts
+
+-- at the start nothing is kept, and the share is that of the whole walk
+pub kept_whole : (x : Context) (asked : RevocationChecks) (admits : List ℕ → ℕ → Type 0) (issuer : ResourceFields) (certs : List (List ℕ)) (depth : ℕ) (share : Share) (old new : List LimitedCa) (ended : Ended) → old ≡ [] → CostIs share.cost 0 1
+    → KeepsBelow x asked admits issuer certs [] depth share old new ended
+    → (ended ≡ end_of new) × ((root : Root) → LeadsTo x asked root (members_at root certs []) issuer → AreLimited x asked admits root certs depth share.steps new)
+kept_whole x asked admits issuer certs depth share old new ended is cost k =
+    let all : new ≡ k.more = k.new_is ∙ ap (λ (l : List LimitedCa). l ++ k.more) is in (
+      k.ended_is ∙ ap (λ (l : List LimitedCa). end_of l) (sym all),
+      (λ root a. subst (λ (l : List LimitedCa). AreLimited x asked admits root certs depth share.steps l) (sym all) (limits_whole x asked admits root certs depth share.steps k.more (k.are root a 0 1 cost))),
+    )
+
+-- a walk that failed didn't end
+pub err_ended : {E : Type 0} (r : Result Walked E) → IsErr r → IsErr (ended_of r)
+err_ended (Ok walked) err = absurd cc
+err_ended (Err e) err = refl
