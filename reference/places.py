@@ -199,7 +199,7 @@ def take_signature(cursor):
 def read_whole(cursor):
     """A Certificate, or a CertificateList (RFC 5280 4.1, 5.1); anything may stand behind it."""
     outer = component('the outer SEQUENCE', Cursor.take_sequence, cursor)
-    tbs = component('what is signed', Cursor.take_sequence, outer)
+    tbs = component('the to-be-signed part', Cursor.take_sequence, outer)
     if begins_list(tbs):
         algorithm = components(TBS_CERT_LIST, tbs)['the signature algorithm']
         revoked_certificates(tbs)

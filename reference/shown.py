@@ -127,7 +127,7 @@ def rule_of(octets, reading, is_list):
                 'Duplicate': texts.Rule('an extension appears twice', 'RFC 5280 4.2'),
                 'InvalidExtension': texts.Rule(
                     'a CRL has no extensions but Authority Key Identifier and CRL Number', 'RFC 6487 5')}.get(
-                    reading.name, texts.Rule('it doesn\'t begin with a list of the profile', 'RFC 6487 5'))
+                    reading.name, texts.Rule('it doesn\'t begin with a CRL of the profile', 'RFC 6487 5'))
     if reading.name == 'WrongResources' and not verdicts.has_policies(octets):
         return texts.Rule('Certificate Policies are missing', 'RFC 6487 4.8.9')
     return texts.Rule(says, section or texts.parts()[reading.of])

@@ -8,8 +8,8 @@ use bytes::Bytes;
 use rpki_cert::{Cert, KeyUsage, ResourceCert, Said, TbsCert};
 use rpki_crl::Crl;
 use rpki_folder::{
-    Accepted, Added, AllAdmitted, Bounds, Ended, Firsts, Folder, Found, Line, Lines, Visitor, Walk,
-    Walked,
+    Accepted, Added, AllAdmitted, Bounds, Ended, Firsts, Folder, Found, FoundAnchor, Line, Lines,
+    Visitor, Walk, Walked,
 };
 use rpki_keys::tal::Tal;
 use rpki_parts::StandIn;
@@ -272,7 +272,8 @@ fn locator(alloc: Global) -> Option<Tal> {
     Tal::read_named(alloc, name, LOCATOR, true).ok()
 }
 
-// An authority, an end entity below it, one below the anchor, and one there that its list revokes.
+// An authority, an end entity below it, one below the anchor, one there that its list revokes, and
+// the anchor.
 fn fill(alloc: Global, folder: &mut Folder) -> Option<()> {
     folder.add(samples::signed(alloc, authority(alloc)?)?).ok()?;
     for (serial, bits) in [
@@ -282,6 +283,7 @@ fn fill(alloc: Global, folder: &mut Folder) -> Option<()> {
     ] {
         folder.add(end_entity(alloc, serial, bits)?).ok()?;
     }
+    folder.add(shared(alloc, ANCHOR)?).ok()?;
     folder.add_list(list_by(alloc, b"abc")?).ok()?;
     folder.add_list(list_by(alloc, b"a")?).ok()
 }
@@ -309,6 +311,18 @@ fn anchor_taken(alloc: Global, walk: &Down<'_>, tal: &Tal, anchor: &Member<'_>) 
     called!(alloc, walk.trust_anchor(tal, anchor), holder => holder.tal().name() == "example")
 }
 
+// Whether the anchor was found at its place.
+fn is_anchor(found: &FoundAnchor) -> bool {
+    match found {
+        FoundAnchor::Valid(place, _) => *place == 4,
+        FoundAnchor::Wrong(_) => false,
+    }
+}
+
+fn anchor_found(alloc: Global, walk: &Down<'_>, tal: &Tal) -> Option<Told> {
+    called!(alloc, walk.find_anchor(tal), found => is_anchor(found))
+}
+
 fn walk_from(
     alloc: Global,
     walk: &Down<'_>,
@@ -324,7 +338,7 @@ fn walk_from(
 }
 
 fn walked_from(alloc: Global, walk: &Down<'_>, tal: &Tal, anchor: &Member<'_>) -> Option<Told> {
-    let mut lines = Lines::new(alloc, 4).ok()?;
+    let mut lines = Lines::new(alloc, 5).ok()?;
     let outcome = walk_from(alloc, walk, tal, anchor, &mut lines);
     ended_without(alloc, lines, outcome)
 }
@@ -338,7 +352,7 @@ fn walk_below(alloc: Global, walk: &Down<'_>, issuer: &ResourceCert, lines: &mut
 }
 
 fn walked_below(alloc: Global, walk: &Down<'_>, issuer: &ResourceCert) -> Option<Told> {
-    let mut lines = Lines::new(alloc, 4).ok()?;
+    let mut lines = Lines::new(alloc, 5).ok()?;
     let outcome = walk_below(alloc, walk, issuer, &mut lines);
     ended_without(alloc, lines, outcome)
 }
@@ -378,6 +392,7 @@ fn down(alloc: Global, path: &str, folder: &Folder, tal: &Tal) -> Option<Told> {
     };
     match path {
         "rpki_folder::Walk::trust_anchor" => anchor_taken(alloc, &walk, tal, &anchor),
+        "rpki_folder::Walk::find_anchor" => anchor_found(alloc, &walk, tal),
         "rpki_folder::Walk::from_anchor" => walked_from(alloc, &walk, tal, &anchor),
         "rpki_folder::Walk::below" => walked(alloc, &walk, tal, &anchor),
         "rpki_folder::Walk::find" => found(alloc, &walk, tal, &anchor),

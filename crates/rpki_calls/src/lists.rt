@@ -1,11 +1,12 @@
 //! The data of revocation lists, and lists that are copied or read again.
 
 use crate::asking::{Told, begin, called, read, written};
-use crate::inputs::list;
+use crate::inputs::{LIST, list};
 use crate::stores::read_again;
 use bytes::Bytes;
-use rpki_crl::TbsCertList;
+use rpki_crl::{TbsCertList, named_key};
 use rpki_der::{Cursor, Serial};
+use rpki_tests::samples::shared;
 use std::alloc::Global;
 
 // With the table of its serials, which is copied too.
@@ -15,6 +16,17 @@ fn cached_copied(alloc: Global) -> Option<Told> {
     let told = called!(alloc, list.try_clone(alloc), copy => copy.contains(Serial::from(42u64)));
     drop(list);
     cached.ok()?;
+    told
+}
+
+// The key that the list names.
+fn named(alloc: Global) -> Option<Told> {
+    let list = list(alloc)?;
+    let wanted = *list.as_cert_list().authority_key_identifier();
+    drop(list);
+    let octets = shared(alloc, LIST)?;
+    let told = called!(alloc, named_key(alloc, &octets), key => *key == wanted);
+    drop(octets);
     told
 }
 
@@ -68,6 +80,7 @@ pub fn told(alloc: Global, path: &str) -> Option<Told> {
         "rpki_crl::TbsCertList::encode_ref" => data_written(alloc),
         "rpki_crl::TbsCertList::try_clone" => data_copied(alloc),
         "rpki_crl::Crl::try_clone/cached" => cached_copied(alloc),
+        "rpki_crl::named_key" => named(alloc),
         "rpki_crl::round_trip::read_again" => read_again(alloc),
         _ => None,
     }

@@ -8,8 +8,8 @@ use bytes::Bytes;
 use rpki_cert::{Cert, Said};
 use rpki_crl::RevocationError;
 use rpki_folder::{
-    Added, AllAdmitted, Bounds, Ended, Firsts, Folder, Found, Limit, Line, Lines, Walk, WalkError,
-    Walked,
+    Added, AllAdmitted, Bounds, Ended, Firsts, Folder, Found, FoundAnchor, Limit, Line, Lines,
+    Walk, WalkError, Walked,
 };
 use rpki_parts::{StandIn, Verifier};
 use rpki_path::{Member, PathFault};
@@ -322,6 +322,51 @@ fn an_anchor_of_another_key_begins_no_walk(rt: HostRuntime) {
     };
     check(&rt, !error.is_memory(), "another key");
     drop(error);
+    drop(folder);
+}
+
+// Checks that the folder has this trust anchor; or none, and so many wrong candidates.
+fn check_found_anchor(
+    rt: &impl Abort,
+    alloc: Global,
+    folder: &Folder,
+    file: &[u8],
+    wanted: Result<usize, usize>,
+) {
+    let tal = locator(rt, alloc, file);
+    let bounds = Bounds { depth: 0, steps: 0 };
+    let walk = walk(rt, alloc, folder, bounds, &StandIn);
+    match walk.find_anchor(&tal).expect(rt, "memory") {
+        FoundAnchor::Valid(place, holder) => {
+            drop(holder);
+            check(rt, wanted == Ok(place), "the place of the anchor");
+        }
+        FoundAnchor::Wrong(candidates) => {
+            check(rt, wanted == Err(candidates.len()), "wrong candidates");
+            drop(candidates);
+        }
+    }
+    drop(tal);
+}
+
+// A CA of the anchor's key is no trust anchor, wherever it stands; nor is a certificate of another
+// key a candidate.
+#[test]
+fn a_ca_of_the_anchors_key_hides_no_anchor(rt: HostRuntime) {
+    let alloc = rt.alloc();
+    let mut folder = Folder::new(alloc);
+    check_found_anchor(&rt, alloc, &folder, OF_ANCHOR, Err(0));
+    let anchor = anchors::octets(&rt, alloc);
+    for (octets, wanted) in [
+        (end_entity(&rt, alloc), Err(0)),
+        (authority(&rt, alloc), Err(1)),
+        (anchor, Ok(2)),
+        (authority(&rt, alloc), Ok(2)),
+    ] {
+        folder.add(octets).expect(&rt, "memory");
+        check_found_anchor(&rt, alloc, &folder, OF_ANCHOR, wanted);
+        check_found_anchor(&rt, alloc, &folder, OF_OTHER, Err(0));
+    }
     drop(folder);
 }
 
