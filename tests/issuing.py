@@ -696,7 +696,7 @@ LISTS_REFUSED = [
     ({'issuer': ['anchor.cer', 'ca.cer'], 'crl': ['zero.crl']},
      '--crl zero.crl: not a CRL, or bytes follow it; expected one CRL in each file'),
     ({'previous': 'last.crl'}, 'the CRL number has more than 20 bytes'),
-    ({'previous': 'last.crl', 'number': GREATEST}, "the number isn't greater"),
+    ({'previous': 'last.crl', 'number': GREATEST}, "the CRL number isn't greater"),
     ({'next-update': '2026-06-30T23:59:60Z'}, '--next-update'),
     ({'at': '2026-06-01T00:00:60Z'}, '--at'),
     ({'at': '2025-12-31T23:59:59Z'}, '--issuer anchor.cer: rejected at verification, NotYetValid: '),
@@ -706,8 +706,8 @@ LISTS_REFUSED = [
      '--issuer ca.cer: rejected at revocation, Stale: '),
     ({'issuer': ['anchor.cer', 'ca.cer'], 'crl': ['first.crl', 'next.crl'], 'at': '2026-06-02'},
      '--issuer ca.cer: rejected at revocation, Revoked: '),
-    ({'previous': 'next.crl', 'number': '02'}, "the number isn't greater"),
-    ({'previous': 'next.crl', 'number': '01'}, "the number isn't greater"),
+    ({'previous': 'next.crl', 'number': '02'}, "the CRL number isn't greater"),
+    ({'previous': 'next.crl', 'number': '01'}, "the CRL number isn't greater"),
     ({'number': '80' + 19 * '00'}, '--number'),
     ({'number': '0'}, '--number'),
     ({'next-update': '2026-05-31'}, 'the next update is before this one'),
@@ -875,7 +875,7 @@ def try_out():
                'OverclaimV4: ')
     check('and makes no file', not Path('none.tbs').exists())
     os.symlink('nowhere', 'link')
-    fails('a link to nowhere', prepare('ca', out='link'), 'rpki: link: is there already')
+    fails('a link to nowhere', prepare('ca', out='link'), 'rpki: link: exists already')
     check('and makes no file', not Path('nowhere').exists())
     fails('no name', prepare('ca', out=''), 'no such file or directory')
     fails('a folder that is missing', prepare('ca', out='none/made.tbs'),
@@ -1013,7 +1013,7 @@ def try_long_files():
         done = prepare('ca', **words)
         check(f'a file that is too long: status 3, and not {done.returncode}',
               done.returncode == 3 and not done.stdout
-              and done.stderr == b'rpki: long: more than 67108864 octets\n', done.stderr)
+              and done.stderr == b'rpki: long: more than 67108864 bytes\n', done.stderr)
     Path('long').unlink()
 
 
