@@ -691,8 +691,11 @@ enum rpki_names { RPKI_ASK_NAMES = 0, RPKI_ANY_NAMES = 1 };
  * `anchor`, `key` and `names`, CRLs, a TAL, a last key that the RPKI uses and names that chain are
  * required.
  *
- * CRLs may be of any issuers, in any order; where they were found doesn't matter. Of each
- * certificate below the trust anchor the issuer's newest CRL that has begun decides:
+ * CRLs may be of any issuers, in any order; where they were found doesn't matter. The keys of the
+ * path are those of its certificates, and those that these name as their issuers'. A CRL that names
+ * none of them is read up to its extensions: neither its entries nor its signature are looked at,
+ * so an error there isn't reported. Of each certificate below the trust anchor the issuer's newest
+ * CRL that has begun decides:
  *   - It names the key that signed the certificate, and is signed by that key.
  *   - With RPKI_ASK_NAMES its issuer is the subject of the certificate that has that key (RFC 5280
  *     6.3.3 (b) (1)).

@@ -2248,12 +2248,12 @@ static size_t whole(const uint8_t *at) {
     return at[1] < 128 ? 2u + at[1] : at[1] == 0x81 ? 3u + at[2] : 4u + (size_t)at[2] * 256 + at[3];
 }
 
-/* this list with so many entries in place of its own, under the same signature */
+/* this list with so many entries in place of its own, at least 2,850, under the same signature */
 static struct file with_entries(struct file list, size_t count) {
     const uint8_t *data = list.octets + (list.octets[1] == 0x82 ? 4 : 3), *from = data + (data[1] == 0x82 ? 4 : 3);
     const uint8_t *to = from, *end = data + whole(data);
     for (size_t i = 0; i < 5; i++) to += whole(to);
-    const uint8_t *more = to + whole(to);
+    const uint8_t *more = *to == 0x30 ? to + whole(to) : to;
     const size_t before = (size_t)(to - from), behind = (size_t)(end - more), own = 23 * count;
     const size_t signature = list.length - (size_t)(end - list.octets), inner = before + 5 + own + behind;
     const size_t sizes[] = {inner + 5 + signature, inner, own};
@@ -2275,30 +2275,76 @@ static struct file with_entries(struct file list, size_t count) {
     return it;
 }
 
-/* how long it takes at least to judge a path of so many certificates by this list */
-static clock_t fastest(struct file cert, size_t count, struct file list) {
-    struct file members[18];
+/* a CRL that names no key of the path is read up to its extensions: beside one of 100,000 entries a path
+ * takes less time than that CRL takes to decode */
+static void lists_of_others(struct file anchor, struct file first, struct file own, struct file other) {
+    enum { COUNT = 100000 };
+    const struct file path[] = {anchor, first}, lists[] = {own, with_entries(other, COUNT)};
     struct rpki_verdict out;
-    clock_t least = 0;
-    for (size_t i = 0; i < count; i++) members[i] = cert;
+    struct rpki_list read;
+    clock_t judged = 0, decoded = 0;
     for (size_t i = 0; i < 12; i++) {
-        clock_t begin = clock();
-        check(listed(&list, 1, members, count, RPKI_AUTHORITY, &now, &out) != RPKI_OK && out.index == 1,
-              "a trust anchor is no CA below itself");
-        clock_t took = clock() - begin;
-        if (i == 0 || took < least) least = took;
+        const clock_t begin = clock();
+        check(listed(lists, 2, path, 2, RPKI_AUTHORITY, &now, &out) == RPKI_OK, "a long list of another CA");
+        const clock_t between = clock();
+        check(rpki_list_read(lists[1].octets, lists[1].length, &read) == RPKI_OK && read.entries == COUNT, "it is a list");
+        const clock_t end = clock();
+        if (i == 0 || between - begin < judged) judged = between - begin;
+        if (i == 0 || end - between < decoded) decoded = end - between;
     }
-    return least;
+    if (2 * judged >= decoded) printf("the path: %ld, the list: %ld\n", (long)judged, (long)decoded);
+    check(2 * judged < decoded, "the entries of a CRL of another CA aren't read");
+    free(lists[1].octets);
 }
 
-/* a CRL whose key no CA of a path has gets no table, however many CAs there are: a path of 17 CAs takes
- * about as long as one of 16 */
-static void lists_of_others(struct file anchor, struct file list) {
-    struct file others = with_entries(list, 20000);
-    clock_t few = fastest(anchor, 17, others), many = fastest(anchor, 18, others);
-    if (many >= 2 * few) printf("17 certificates: %ld, 18: %ld\n", (long)few, (long)many);
-    check(many < 2 * few, "no table is made of a CRL that no certificate asks");
-    free(others.octets);
+/* the first entry of such a list has no serial number */
+static void damage(struct file list) {
+    const uint8_t begin[] = {0x30, 21, 2, 4};
+    for (size_t at = 0; at + sizeof begin <= list.length; at++) {
+        if (memcmp(list.octets + at, begin, sizeof begin) == 0) {
+            list.octets[at + 2] = 4;
+            return;
+        }
+    }
+}
+
+/* of a list that names no key of the path the entries aren't looked at; of others they are */
+static void foreign(struct file anchor, struct file first, struct file own, struct file other) {
+    const struct file path[] = {anchor, first};
+    struct file theirs = with_entries(other, 3000), ours = with_entries(own, 3000);
+    struct rpki_verdict out;
+    struct rpki_list read;
+    check(rpki_list_read(theirs.octets, theirs.length, &read) == RPKI_OK && rpki_list_read(ours.octets, ours.length, &read) == RPKI_OK,
+          "lists of 3,000 entries");
+    damage(theirs);
+    damage(ours);
+    check(is_decoding(rpki_list_read(theirs.octets, theirs.length, &read)), "the entries of a list are damaged");
+    check(listed((struct file[]){own, theirs}, 2, path, 2, RPKI_AUTHORITY, &now, &out) == RPKI_OK && out.v4 == 2,
+          "damaged entries of a list that names no key of the path");
+    check(listed(&theirs, 1, path, 2, RPKI_AUTHORITY, &now, &out) == RPKI_REVOCATION_NO_CRL && out.index == 1,
+          "such a list alone");
+    check(is_decoding(listed((struct file[]){own, ours}, 2, path, 2, RPKI_AUTHORITY, &now, &out)) && out.index == 3,
+          "damaged entries of the issuer's list");
+    const struct file cut = {theirs.octets, theirs.length - 1};
+    check(is_decoding(listed((struct file[]){own, cut}, 2, path, 2, RPKI_AUTHORITY, &now, &out)) && out.index == 3,
+          "a cut list that names no key of the path");
+    struct rpki_wanted wanted = wanted_below(&anchor, &first);
+    struct rpki_issued told;
+    size_t parts[2];
+    struct file lists = joined((struct file[]){own, theirs}, 2, parts);
+    wanted.issuer.revocation = RPKI_ASK_LISTS;
+    wanted.issuer.lists = strings(lists.octets, lists.length, parts, 2);
+    check(rpki_prepare(&wanted, NULL, 0, &told) == RPKI_OK, "damaged entries of another CA's list, where a certificate is issued");
+    free(lists.octets);
+    lists = joined((struct file[]){own, ours}, 2, parts);
+    wanted.issuer.lists = strings(lists.octets, lists.length, parts, 2);
+    check(is_decoding(rpki_prepare(&wanted, NULL, 0, &told)) && told.index == 2, "damaged entries of the issuer's list, where one is issued");
+    free(lists.octets);
+    theirs.octets[5 + 5 + 2] = 0;
+    check(is_decoding(listed((struct file[]){own, theirs}, 2, path, 2, RPKI_AUTHORITY, &now, &out)) && out.index == 3,
+          "a damaged head of such a list");
+    free(theirs.octets);
+    free(ours.octets);
 }
 
 static void issuing_lists(struct file anchor, struct file first, struct file empty, struct file list) {
@@ -2373,7 +2419,10 @@ int main(int count, char **words) {
     keys_above(anchor, first);
     lists_of_new(anchor, first, second, empty, list);
     issuing_lists(anchor, first, empty, list);
-    lists_of_others(anchor, list);
+    struct file object_list = contents(words[1], "object.crl");
+    lists_of_others(anchor, first, empty, object_list);
+    foreign(anchor, first, empty, object_list);
+    free(object_list.octets);
     const struct file files[] = {anchor, first, second, object, list, empty};
     for (size_t i = 0; i < sizeof files / sizeof *files; i++) free(files[i].octets);
     printf("%u passed, %u failed\n", passed, failed);

@@ -10,6 +10,7 @@ pub mod HeldRanges
 pub mod IssuedTelling
 pub mod ListAnswers
 pub mod ListTables
+pub mod PathKeys
 pub mod Questions
 pub mod StopTelling
 pub mod Strings

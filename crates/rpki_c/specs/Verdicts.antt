@@ -1,10 +1,11 @@
 -- What is answered to a question about a path, and what is then told of it (own).
-use Rattle.std.specs.Prelude.{◌≡◌, ◌≢◌, ◌⊎◌, ◌<◌, ℕ, Bool, true, false, List, [], length, sum, get_or, Result, Ok, Err, IfOk, IsTrue}
-use Rattle.std.specs.List.{AllZip}
+use Rattle.std.specs.Prelude.{◌≡◌, ◌≢◌, ◌⊎◌, ◌<◌, ℕ, Bool, true, false, List, [], ◌∷◌, Any, length, map, sum, get_or, Some, Result, Ok, Err, IfOk, IsTrue}
 use Rattle.rpki_ext.specs.Kinds.{Means}
 use Rattle.rpki_der.specs.Place.{Rejects}
 use Rattle.rpki_parts.specs.Signatures.{Verifies}
+use Rattle.rpki_cert.specs.Certificates.{CertFields, IsCertificate}
 use Rattle.rpki_cert.specs.Verification.{Context, context}
+use Rattle.rpki_crl.specs.ListHeads.{NamesKey}
 use Rattle.rpki_crl.specs.Lists.{CrlFields, CrlState, IsCertificateList}
 use Rattle.rpki_path.specs.Asking.{RevocationChecks, nobody}
 use Rattle.rpki_path.specs.AskedLists.{by_named_lists}
@@ -57,11 +58,56 @@ BeginsNoList octets = (l : CrlFields) → Means IsCertificateList l octets → �
 abbrev pub AreNoList : List ℕ → Type 0
 AreNoList octets = (l : CrlFields) → IsCertificateList l octets → ⊥
 
--- the octets of the list at this place are none
-abbrev pub IsUnreadList : List (List ℕ) → Refusal → Type 0
-IsUnreadList strings (refusal.List place e) = (place < length strings) × Rejects e (AreNoList (get_or strings place []))
-IsUnreadList strings refusal.Memory = Unit {0}
-IsUnreadList strings _ = ⊥
+-- ---- which of the caller's lists are asked
+
+-- the string begins with a certificate that has this key, or names it as its issuer's
+abbrev pub IsKeyIn : List ℕ → List ℕ → Type 0
+IsKeyIn key octets =
+    (c : CertFields) × Means IsCertificate c octets
+    × ((c.fields.extensions.subject_key_identifier ≡ key)
+    ⊎ (c.fields.extensions.authority_key_identifier ≡ Some key))
+
+-- one of the strings does
+abbrev pub IsKeyOf : List (List ℕ) → List ℕ → Type 0
+IsKeyOf strings key = Any (IsKeyIn key) strings
+
+-- all strings of a path
+abbrev pub all_strings : PathStrings → List (List ℕ)
+all_strings path = path.anchor ∷ map (λ s. s.octets) (strings_below path)
+
+-- the octets have the head of a list, which names none of these keys
+abbrev pub IsForeign : (List ℕ → Type 0) → List ℕ → Type 0
+IsForeign IsKey octets = (key : List ℕ) × NamesKey key octets × (IsKey key → ⊥)
+
+-- the octets are this list
+abbrev pub IsGiven : List ℕ → CrlState → Type 0
+IsGiven octets l = IsCertificateList l.list octets
+
+-- the lists that the strings are, in their order, but for strings that may be passed over
+abbrev pub AreListsBut : (List ℕ → Type 0) → List (List ℕ) → List CrlState → Type 0
+AreListsBut MayPass [] lists = lists ≡ []
+AreListsBut MayPass (octets ∷ strings) lists =
+    (MayPass octets × AreListsBut MayPass strings lists)
+    ⊎ ((l : CrlState) × (others : List CrlState) × (lists ≡ l ∷ others) × IsGiven octets l
+    × AreListsBut MayPass strings others)
+
+-- lists among which each is that names one of these keys
+abbrev pub AreListsNaming : (List ℕ → Type 0) → List (List ℕ) → List CrlState → Type 0
+AreListsNaming IsKey = AreListsBut (IsForeign IsKey)
+
+-- all lists: a string is passed over only where it is no list, and has the head of a foreign one
+abbrev pub AreAllLists : (List ℕ → Type 0) → List (List ℕ) → List CrlState → Type 0
+AreAllLists IsKey = AreListsBut (λ octets. AreNoList octets × IsForeign IsKey octets)
+
+-- the octets at this place are no list, and may not be passed over
+abbrev pub IsUnreadList : (List ℕ → Type 0) → List (List ℕ) → Refusal → Type 0
+IsUnreadList IsKey strings (refusal.List place e) =
+    let octets = get_or strings place [] in
+    (place < length strings) × Rejects e (AreNoList octets × (IsForeign IsKey octets → ⊥))
+IsUnreadList IsKey strings refusal.Memory = Unit {0}
+IsUnreadList IsKey strings _ = ⊥
+
+-- ---- why there is no trust anchor
 
 -- the locator's file is none, or the trust anchor's octets don't begin with a certificate that has
 -- its key and lists a number
@@ -85,17 +131,15 @@ AnswersJudged x asked path (Ok judged) = IsAcceptedWith x asked path judged
 AnswersJudged x asked path (Err (refusal.Member e)) = Judges x asked path (Err e)
 AnswersJudged x asked path _ = ⊥
 
--- the octets are this list
-abbrev pub IsGiven : List ℕ → CrlState → Type 0
-IsGiven octets l = IsCertificateList l.list octets
-
 -- the answer, where the lists that these octets are are asked; they have to have their issuers' names
--- if names are asked (RFC 5280 6.3.3 (b) (1))
+-- if names are asked (RFC 5280 6.3.3 (b) (1)). The entries of one that names no key of the path
+-- aren't looked at
 abbrev pub AnswersListed : Context → Bool → PathStrings → List (List ℕ) → Result Judged Refusal
     → Type 0
 AnswersListed x asks_names path octets r =
-    Refused (IsUnreadList octets) r
-    ⊎ ((lists : List CrlState) × AllZip IsGiven octets lists
+    let IsKey = IsKeyOf (all_strings path) in
+    Refused (IsUnreadList IsKey octets) r
+    ⊎ ((lists : List CrlState) × AreAllLists IsKey octets lists
     × AnswersJudged x (by_named_lists asks_names x lists) path r)
 
 -- the answer, where the caller's lists are asked

@@ -1,6 +1,5 @@
 -- What is answered to what a caller wants of a certificate: the octets that are to be signed, those
 -- of the certificate, or why there are none (own).
-use Rattle.std.specs.List.{AllZip}
 use Rattle.std.specs.Prelude.{◌≡◌, ◌≢◌, ◌⊎◌, ◌<◌, ℕ, Bool, true, false, List, [], Option, Some, None, Result, Ok, Err}
 use Rattle.rpki_cert.specs.Certificates.{TbsFields, IsTbsCertificate}
 use Rattle.rpki_cert.specs.Verification.{ResourceFields, context}
@@ -22,7 +21,7 @@ use Rattle.rpki_issuing.specs.PreparedOctets.{IsCompleted, IsPrepared, IsToSign,
 use Rattle.rpki_issuing.specs.declared.wanted.preparing.WantedError.{WantedError}
 use Rattle.rpki_issuing.specs.declared.wanted.preparing.WantedError.TheVariants as wanting
 use Rattle.rpki_issuing.specs.declared.wanted.wanted.Wanted.{Wanted}
-use Rattle.rpki_c.specs.Verdicts.{AnswersQuestion, AreStringsOf, DontAddUp, IsGiven, IsUncalled, IsUnreadList}
+use Rattle.rpki_c.specs.Verdicts.{AnswersQuestion, AreListsNaming, AreStringsOf, DontAddUp, IsKeyOf, IsUncalled, IsUnreadList}
 use Rattle.rpki_c.specs.WantedQuestions.{GivesWanted, HasCompletionTerms, HasNoCompletionTerms, HasNoWantedTerms, HasWantedTerms, IsKeyGiven}
 use Rattle.rpki_c.specs.declared.certificates.CertUri.{CertUri}
 use Rattle.rpki_c.specs.declared.certificates.CertUri.TheVariants as uri
@@ -114,26 +113,28 @@ IsNoIssuer kind q _ = ⊥
 
 -- ---- the issuer's path, and who is asked for revocation
 
--- the caller's lists, if they are asked; else there are none
-abbrev pub AreListsGiven : Bool → RpkiStrings → List CrlState → Type 0
-AreListsGiven true s lists =
-    (octets : List (List ℕ)) × AreStringsOf s octets × AllZip IsGiven octets lists
-AreListsGiven false s lists = lists ≡ []
+-- the caller's lists that name a key of this path, if lists are asked; else there are none
+abbrev pub AreListsGiven : Bool → List (List ℕ) → RpkiStrings → List CrlState → Type 0
+AreListsGiven true path s lists =
+    (octets : List (List ℕ)) × AreStringsOf s octets × AreListsNaming (IsKeyOf path) octets lists
+AreListsGiven false path s lists = lists ≡ []
 
 -- why they aren't read
-abbrev pub AreNoListsGiven : RpkiStrings → Refusal → Type 0
-AreNoListsGiven s r =
+abbrev pub AreNoListsGiven : List (List ℕ) → RpkiStrings → Refusal → Type 0
+AreNoListsGiven path s r =
     IsUncalled (DontAddUp s) r
-    ⊎ ((octets : List (List ℕ)) × AreStringsOf s octets × IsUnreadList octets r)
+    ⊎ ((octets : List (List ℕ)) × AreStringsOf s octets × IsUnreadList (IsKeyOf path) octets r)
 
 -- the certificates of the issuer's path, and the lists
 pub record GivesAbove (q : RpkiQuestion) (t : Terms) (above : Above) : Type 0 where
   pub path_is : AreStringsOf q.members above.path.items
-  pub lists_are : AreListsGiven t.asks_lists q.lists above.lists.items
+  pub lists_are : AreListsGiven t.asks_lists above.path.items q.lists above.lists.items
 
 -- why they aren't read
 abbrev pub GivesNoAbove : RpkiQuestion → Unissued → Type 0
-GivesNoAbove q (why.Issuer r) = IsUncalled (DontAddUp q.members) r ⊎ AreNoListsGiven q.lists r
+GivesNoAbove q (why.Issuer r) =
+    IsUncalled (DontAddUp q.members) r
+    ⊎ ((path : List (List ℕ)) × AreStringsOf q.members path × AreNoListsGiven path q.lists r)
 GivesNoAbove q _ = ⊥
 
 -- who is asked whether a certificate is revoked: the lists, as for the issuer's path, if they are

@@ -1,11 +1,12 @@
 //! The issuer: the CA in which a path ends, or none above a trust anchor.
 ghost use Rattle.std.specs.Prelude.{◌≡◌, ◌↔◌, Err, IfErr, IfOk, IsTrue};
 ghost use Rattle.rpki_cert.specs.declared.inspect.Kind.TheVariants.{Anchor};
-ghost use Rattle.rpki_c.specs.Verdicts.{AnswersQuestion};
+ghost use Rattle.rpki_c.specs.Verdicts.{AnswersQuestion, AreListsNaming, IsKeyOf, IsUnreadList};
 ghost use Rattle.rpki_c.specs.WantedAnswers.{AreListsGiven, AreNoListsGiven, GivesAbove, GivesNoAbove, IsAuthorityOf, IsHeld, IsIssuerOf, IsNoAuthority, IsNoIssuer};
 ghost use Rattle.rpki_keys.specs.RsaSignatures.{IsSignedByRsa};
 
 use crate::judging::{judge_question, strings_of};
+use crate::keys::keys_among;
 use crate::lists::lists_of;
 use crate::question::{RpkiQuestion, Terms};
 use crate::refusal::Refusal;
@@ -76,33 +77,47 @@ pub(crate) fn issuer_of(
     }
 }
 
-/// The certificates of the issuer's path, and the CRLs, if they are checked.
+/// The certificates of the issuer's path, and the CRLs that name a key of it, if they are checked.
 #[derive(Drop)]
 pub(crate) struct Above {
     pub(crate) path: Vec<Bytes>,
     pub(crate) lists: Vec<Crl>,
 }
 
-// The CRLs of a question, if they are checked.
+// The CRLs that name a key of this path.
+fn lists_naming(alloc: Global, path: &[Bytes], octets: &[Bytes]) -> Result<Vec<Crl>, Refusal>
+    ensures lists { IfOk result (λ lists.
+        AreListsNaming (IsKeyOf path.now) octets.now lists.items) }
+    ensures none { IfErr result (IsUnreadList (IsKeyOf path.now) octets.now) }
+{
+    let keys = keys_among(alloc, path)?;
+    let lists = lists_of(alloc, octets, &keys);
+    drop(keys);
+    lists
+}
+
+// The CRLs of a question that name a key of this path, if they are checked.
 fn lists_given(
     alloc: Global,
     question: &RpkiQuestion<'_>,
+    path: &[Bytes],
     asks_lists: bool,
 ) -> Result<Vec<Crl>, Refusal>
     ensures lists { IfOk result (λ lists.
-        AreListsGiven asks_lists question.now.lists lists.items) }
-    ensures none { IfErr result (AreNoListsGiven question.now.lists) }
+        AreListsGiven asks_lists path.now question.now.lists lists.items) }
+    ensures none { IfErr result (AreNoListsGiven path.now question.now.lists) }
 {
     if !asks_lists {
         return Ok(Vec::new(alloc));
     }
     let octets = strings_of(alloc, &question.lists)?;
-    let lists = lists_of(alloc, &octets, &[]);
+    let lists = lists_naming(alloc, path, &octets);
     drop(octets);
     lists
 }
 
-/// Returns the certificates of the issuer's path, and the CRLs, if they are checked.
+/// Returns the certificates of the issuer's path, and the CRLs that name a key of it, if they are
+/// checked.
 pub(crate) fn above_of(
     alloc: Global,
     question: &RpkiQuestion<'_>,
@@ -115,7 +130,7 @@ pub(crate) fn above_of(
         Ok(path) => path,
         Err(refusal) => return Err(Unissued::Issuer(refusal)),
     };
-    match lists_given(alloc, question, terms.asks_lists) {
+    match lists_given(alloc, question, &path, terms.asks_lists) {
         Ok(lists) => Ok(Above { path, lists }),
         Err(refusal) => {
             drop(path);

@@ -1,5 +1,4 @@
 //! The answer to a question about a path.
-ghost use Rattle.std.specs.List.{AllZip};
 ghost use Rattle.std.specs.Prelude.{◌≡◌, ◌↔◌, IfOk, IfErr, IsTrue, MatchOption, Err};
 ghost use Rattle.rpki_cert.specs.Verification.{context};
 ghost use Rattle.rpki_path.specs.Judging.{Judges};
@@ -7,18 +6,17 @@ ghost use Rattle.rpki_path.specs.AskedLists.{by_named_lists};
 ghost use Rattle.rpki_path.specs.NameChains.{BeginPath, IsUnchained, strings_below};
 ghost use Rattle.rpki_keys.specs.RsaSignatures.{IsSignedByRsa};
 ghost use Rattle.rpki_c.specs.declared.refusal.Refusal.TheVariants.{UnusedKey};
-ghost use Rattle.rpki_c.specs.Verdicts.{AreStringsOf, DontAddUp, IsUncalled, IsGiven, IsUnreadList, AnswersListed, AnswersWith, AnswersTrusted, AreChainedIf, IsOtherName, AnswersNamed, AnswersKeyed, AnswersPath, HasKeyAsked, AnswersStrings, AnswersMembers, AnswersQuestion};
+ghost use Rattle.rpki_c.specs.Verdicts.{AreStringsOf, DontAddUp, IsUncalled, AreListsNaming, IsKeyOf, IsUnreadList, all_strings, AnswersListed, AnswersWith, AnswersTrusted, AreChainedIf, IsOtherName, AnswersNamed, AnswersKeyed, AnswersPath, HasKeyAsked, AnswersStrings, AnswersMembers, AnswersQuestion};
 
-use crate::lists::{FEW, lists_of};
+use crate::keys::keys_of;
+use crate::lists::lists_of;
 use crate::locators::ask_locator;
 use crate::question::{RpkiQuestion, Terms, terms_of};
 use crate::refusal::Refusal;
 use crate::strings::{RpkiStrings, cut};
 use bytes::Bytes;
-use rpki_cert::Cert;
 use rpki_crl::Crl;
 use rpki_keys::{RsaVerifier, is_usable};
-use rpki_parts::KeyIdentifier;
 use rpki_path::revocation::{GivenLists, NobodyAsked};
 use rpki_path::{GivenPath, Judged, Member, PathError, first_unchained, judge};
 use std::alloc::{AllocError, Global};
@@ -48,41 +46,12 @@ fn judge_lists(
     judge(alloc, path, &asked, terms.strict, terms.now, &RsaVerifier)
 }
 
-// Adds the identifier of the key of the certificate that the octets begin with, if there is one.
-fn add_key(alloc: Global, keys: &mut Vec<KeyIdentifier>, octets: &Bytes) -> Result<(), AllocError> {
-    match Cert::decode_shared(alloc, octets.clone()?) {
-        Ok(cert) => {
-            let key = cert.as_tbs().subject_key_identifier();
-            drop(cert);
-            keys.push(key)?;
-            Ok(())
-        }
-        Err(error) => {
-            let is_memory = error.is_memory();
-            drop(error);
-            if is_memory { Err(AllocError) } else { Ok(()) }
-        }
-    }
-}
-
-// The identifiers of the keys of the path's CAs, where there are more than a few.
-fn keys_of(alloc: Global, path: &GivenPath<'_, '_>) -> Result<Vec<KeyIdentifier>, AllocError> {
-    let mut keys = Vec::new(alloc);
-    if path.cas.len() <= FEW {
-        return Ok(keys);
-    }
-    add_key(alloc, &mut keys, path.anchor.octets())?;
-    for ca in path.cas {
-        add_key(alloc, &mut keys, ca.octets())?;
-    }
-    Ok(keys)
-}
-
-// The lists that these octets are. Only one that more than a few certificates of the path ask gets
-// a table: a certificate asks its issuer's lists alone.
+// Reads the lists that these octets are, but for those that name no key of the path: a certificate
+// asks its issuer's lists alone.
 fn lists_for(alloc: Global, path: &GivenPath<'_, '_>, octets: &[Bytes]) -> Result<Vec<Crl>, Refusal>
-    ensures lists { IfOk result (λ it. AllZip IsGiven octets.now it.items) }
-    ensures unread { IfErr result (IsUnreadList octets.now) }
+    ensures lists { IfOk result (λ it.
+        AreListsNaming (IsKeyOf (all_strings path.now)) octets.now it.items) }
+    ensures unread { IfErr result (IsUnreadList (IsKeyOf (all_strings path.now)) octets.now) }
 {
     let keys = keys_of(alloc, path)?;
     let lists = lists_of(alloc, octets, &keys);

@@ -15,6 +15,7 @@ mod folders;
 mod issuer;
 mod issuing;
 mod judging;
+mod keys;
 mod list_completing;
 mod list_preparing;
 mod lists;

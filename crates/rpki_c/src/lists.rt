@@ -1,14 +1,13 @@
 //! CRLs for C.
 ghost use Rattle.std.specs.Int.Digits.{number_from_digits};
-ghost use Rattle.std.specs.Prelude.{◌≡◌, ◌≢◌, ◌≤◌, ◌+◌, ◌*◌, ◌^◌, ◌↔◌, ◌++◌, ◌∷◌, [], length, IsTrue, IsNone, OnOk, IfOk, IfErr, IfSome};
-ghost use Rattle.std.specs.List.{AllZip};
-ghost use Rattle.rpki_der.specs.Place.{MeansOrMemoryBy};
+ghost use Rattle.std.specs.Prelude.{◌≡◌, ◌≢◌, ◌≤◌, ◌+◌, ◌*◌, ◌^◌, ◌↔◌, ◌++◌, ◌∷◌, [], length, Contains, IsTrue, IsNone, MatchOption, OnOk, IfOk, IfErr, IfSome};
+ghost use Rattle.rpki_der.specs.Place.{MeansOrMemoryBy, Rejects};
 ghost use Rattle.rpki_ext.specs.Kinds.{Means};
 ghost use Rattle.rpki_crl.specs.Lists.{CrlFields, IsCertificateList};
 ghost use Rattle.rpki_crl.specs.RevokedEntries.{IsRevoked};
 ghost use Rattle.rpki_crl.specs.RevokedEntries.Views.{entry_of};
 ghost use Rattle.rpki_c.specs.Contents.{AreEntriesPut, AreTold, IsFlag, TellsEntry, TellsList, serial_in, told_count};
-ghost use Rattle.rpki_c.specs.Verdicts.{BeginsNoList, IsGiven, IsUnreadList};
+ghost use Rattle.rpki_c.specs.Verdicts.{AreListsNaming, AreNoList, BeginsNoList, IsForeign, IsGiven, IsUnreadList};
 ghost use Rattle.rpki_c.specs.Writing.{IsWritten};
 
 use crate::copying::put_octets;
@@ -16,13 +15,13 @@ use crate::faults::{BAD_CALL, MEMORY, NONE, of_decoding};
 use crate::moments::{RpkiTime, parts_of};
 use crate::refusal::Refusal;
 use bytes::Bytes;
-use rpki_crl::{Crl, CrlEntry, laws};
+use rpki_crl::{Crl, CrlEntry, laws, named_key};
 use rpki_der::{Cursor, DecodeError, Serial};
 use rpki_parts::KeyIdentifier;
 use std::alloc::{AllocError, Global};
 
 /// At most so many searches take less time than a table takes to make.
-pub(crate) const FEW: usize = 16;
+const FEW: usize = 16;
 
 /// The fields of a CRL that have a fixed size.
 #[repr(C)]
@@ -336,56 +335,79 @@ pub(crate) fn list_of(alloc: Global, octets: &Bytes) -> Result<Crl, DecodeError>
     tabled(alloc, list, octets)
 }
 
-// Whether more than a few of the keys are the one that the list names.
-fn names_often(list: &Crl, keys: &[KeyIdentifier]) -> bool {
-    let named = list.as_cert_list().authority_key_identifier();
+// Whether more than a few certificates may ask the list that names this key: each of these names
+// it, and the certificate above has it.
+fn is_named_often(named: &KeyIdentifier, keys: &[KeyIdentifier]) -> bool {
     let mut count = 0usize;
     for key in keys {
         if key == named {
             count = count.saturating_add(1);
         }
     }
-    count > FEW
+    count > 2 * FEW
 }
 
-// Reads the list that the octets are. One that more than a few certificates may ask gets a table.
-fn list_asked(alloc: Global, octets: &Bytes, keys: &[KeyIdentifier]) -> Result<Crl, DecodeError>
-    ensures { MeansOrMemoryBy (λ l. l.list) IsCertificateList result octets.now }
+// Reads the list that the octets are, if it names one of these keys: else no more than its head.
+// One that more than a few certificates may ask gets a table.
+fn list_naming(
+    alloc: Global,
+    octets: &Bytes,
+    keys: &[KeyIdentifier],
+) -> Result<Option<Crl>, DecodeError>
+    ensures list { IfOk result (λ o. MatchOption o
+        (IsForeign (Contains keys.now) octets.now) (IsGiven octets.now)) }
+    ensures unread { IfErr result (λ e. Rejects e
+        (AreNoList octets.now × (IsForeign (Contains keys.now) octets.now → ⊥))) }
 {
-    let list = whole_list(alloc, octets)?;
-    if names_often(&list, keys) {
-        return tabled(alloc, list, octets);
+    // Called for what it ensures alone.
+    laws::names_one_key();
+    let key = named_key(alloc, octets)?;
+    if !keys.contains(&key) {
+        return Ok(None);
     }
-    Ok(list)
+    let list = whole_list(alloc, octets)?;
+    if is_named_often(&key, keys) {
+        return Ok(Some(tabled(alloc, list, octets)?));
+    }
+    Ok(Some(list))
 }
 
-fn append(lists: &mut Vec<Crl>, list: Crl) -> Result<(), AllocError>
-    ensures { OnOk result (lists.new.items ≡ lists.old.items ++ list ∷ []) }
+// Adds the list, if there is one.
+fn keep(lists: &mut Vec<Crl>, list: Option<Crl>) -> Result<(), AllocError>
+    ensures { OnOk result (MatchOption list (lists.new.items ≡ lists.old.items)
+        (λ l. lists.new.items ≡ lists.old.items ++ l ∷ [])) }
 {
-    lists.push(list)?;
-    Ok(())
+    match list {
+        Some(list) => {
+            lists.push(list)?;
+            Ok(())
+        }
+        None => Ok(()),
+    }
 }
 
-/// Reads a list of each of these octets. A list gets a table if more than a few of these keys, those
-/// of the issuers on a path, are the one that it names: each certificate asks its issuer's lists.
+/// Reads a list of each of these octets, unless it names none of these keys. A list gets a table if
+/// more than a few certificates of the path whose keys these are may ask it.
 pub(crate) fn lists_of(
     alloc: Global,
     strings: &[Bytes],
     keys: &[KeyIdentifier],
 ) -> Result<Vec<Crl>, Refusal>
-    ensures lists { IfOk result (λ it. AllZip IsGiven strings.now it.items) }
-    ensures unread { IfErr result (IsUnreadList strings.now) }
+    ensures lists { IfOk result (λ it.
+        AreListsNaming (Contains keys.now) strings.now it.items) }
+    ensures unread { IfErr result (IsUnreadList (Contains keys.now) strings.now) }
 {
     let mut lists = Vec::new(alloc);
+    let mut place = 0usize;
     for octets in strings {
-        match list_asked(alloc, octets, keys) {
-            Ok(list) => append(&mut lists, list)?,
+        match list_naming(alloc, octets, keys) {
+            Ok(list) => keep(&mut lists, list)?,
             Err(error) => {
-                let place = lists.len();
                 drop(lists);
                 return Err(Refusal::List(place, error));
             }
         }
+        place += 1;
     }
     Ok(lists)
 }
