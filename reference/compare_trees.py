@@ -4,10 +4,11 @@ the one description in trees.py.
 
     python3 reference/compare_trees.py PROGRAM [--count N] [--seed WORD] [--only INDEX] [--save FOLDER]
 
-PROGRAM is the command, as the gate builds it or as `./rpki` compiles it. It is asked about examples/ and
-tests/circles/, and about N random sets of files (200 if it isn't said) as those of strangers.py: one or two
-trees of real certificates and CRLs, renewals and circles of keys, half of them with the files of a stranger,
-and damaged, foreign and misnamed ones, some in PEM, with any file names. There are several TALs, of one key
+PROGRAM is the command, as the gate builds it or as `./rpki` compiles it. It is asked about examples/,
+tests/circles/ and tests/several/, and about N random sets of files (200 if it isn't said) as those of
+strangers.py: one or two trees of real certificates and CRLs, renewals and circles of keys, half of them with the
+files of a stranger, and damaged, foreign and misnamed ones, some in PEM, with any file names; some have the names
+that caIssuers URIs name. There are several TALs, of one key
 too, of keys without a trust anchor, and files that are none. By chance the limits of depth and of steps are
 small, names aren't asked, the files are named by their directory, and --lenient, `--only rejected`,
 --strict-exit and -q are given. Compared are all three formats, to the byte, the status, and how many files
@@ -73,7 +74,7 @@ class Asked(NamedTuple):
     def write(self, room):
         for file in [*self.question.files, *self.skipped, *self.question.locators]:
             place = Path(room, file.name)
-            place.parent.mkdir(exist_ok=True)
+            place.parent.mkdir(parents=True, exist_ok=True)
             place.write_bytes(in_pem(file) if file.name in self.in_pem else file.octets)
 
     def names(self):
@@ -119,8 +120,8 @@ def wrongs_in(program, room, asked, rng):
 # ---- fixed files
 
 def fixed():
-    """Questions about the files of examples/ and of tests/circles/."""
-    for place, tals in (('examples', ['anchor']), ('tests/circles', ['ta'])):
+    """Questions about the files of examples/, tests/circles/ and tests/several/."""
+    for place, tals in (('examples', ['anchor']), ('tests/circles', ['ta']), ('tests/several', ['ta'])):
         folder = TOP / place
         files = [File(it.name, it.read_bytes()) for it in sorted(folder.iterdir()) if it.is_file()]
         few = [it for it in files if it.name != 'revoked.crl']
@@ -194,11 +195,20 @@ def random_locators(rng, pool, keys, maker):
     return some
 
 
+def named_by_uri(rng, files):
+    """Some of the files have the names that caIssuers URIs have behind `rsync://`."""
+    uris = [it.decode()[len('rsync://'):] for it in random_folders.ISSUER_URIS]
+    some = dict(zip(rng.sample(range(len(files)), min(len(files), len(uris))), uris))
+    return [it._replace(name=some.get(place, it.name)) for place, it in enumerate(files)]
+
+
 def random_question(rng, pool):
     """Random files, and what is asked of them."""
     some, keys, maker = random_files(rng, pool)
     is_folder = chance(rng, 0.33)
     files = [File(('d/' if is_folder else '') + random_name(rng, end), octets) for end, octets in some]
+    if not is_folder and chance(rng, 0.5):
+        files = named_by_uri(rng, files)
     files = list({it.name: it for it in files}.values())
     files += [rng.choice(files)] * chance(rng, 0.1 * (not is_folder))
     skipped = [it for it in files if is_folder and not it.name.endswith(('.cer', '.crl'))]

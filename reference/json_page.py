@@ -85,6 +85,8 @@ def of_tree(data):
     for it in data['files']:
         yield from unknown(it, 'A file of a tree', 'A rejected path', 'An accepted path')
         yield from of_accepted(it)
+        for path in it.get('paths', []):
+            yield from unknown(path, 'A path of a tree')
 
 
 def wrongs(command, data):

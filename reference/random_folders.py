@@ -13,11 +13,13 @@ from typing import NamedTuple
 import reference as ref
 import rsa
 from random_paths import chance
-from worked import ALL_ADDRESSES, CRL_URI, ISSUER_URI, ROUTER_PURPOSE
+from worked import ALL_ADDRESSES, CRL_URI, ROUTER_PURPOSE
 
 NOW = (2026, 6, 1, 0, 0, 0)
 START, END = (2024, 1, 1, 0, 0, 0), (2044, 1, 1, 0, 0, 0)
 PAST, FUTURE = (2025, 1, 1, 0, 0, 0), (2027, 1, 1, 0, 0, 0)
+# of the issuers' certificates; a certificate has the one of its serial number
+ISSUER_URIS = [b'rsync://example.com/m/%d.cer' % number for number in range(4)]
 # an octet string that is a point of P-256, uncompressed: the generator (SEC 2, 2.4.2)
 POINT = bytes.fromhex(
     '046B17D1F2E12C4247F8BCE6E563A440F277037D812DEB33A0F4A13945D898C296'
@@ -89,7 +91,8 @@ def fields(key, issuer, serial, **changes):
     return replace(ref.TbsCert(
         serial=serial, issuer=issuer.subject_name(), not_before=START, not_after=END,
         subject=key.subject_name(), key=key, key_usage='Ca', overclaim=ref.REFUSE, basic_ca=True,
-        authority_key_identifier=issuer.identifier(), crl_uri=CRL_URI, ca_issuer=ISSUER_URI,
+        authority_key_identifier=issuer.identifier(), crl_uri=CRL_URI,
+        ca_issuer=ISSUER_URIS[serial % len(ISSUER_URIS)],
         ca_repository=b'rsync://example.com/m/c/',
         rpki_manifest=b'rsync://example.com/m/c/c.mft'), **changes)
 

@@ -1,9 +1,9 @@
 """What `rpki tree` finds of files in no order, and what it says of that: one description, of which
 documents.py makes the text and the JSON.
 
-Where no page says which of several it tells (equal trust anchors, valid paths to one certificate, errors of the
-longest wrong paths, certificates with the key of an issuer that are judged alike), that is taken which the
-command told, if it is one of them, and else the first.
+Where no page says which of several it tells (equal trust anchors, errors of the longest wrong paths, certificates
+with the key of an issuer that are judged alike, which eight of more valid paths are kept), that is taken which
+the command told, if it is one of them, and else the first.
 """
 
 import collections
@@ -22,6 +22,7 @@ from refusals import Refusal
 from verdicts import Fault, File
 
 MOST = 4000                 # verdicts of a walk
+KEPT = 8                    # valid paths to a certificate
 APART = ('.crl', '.roa', '.mft', '.gbr', '.asa', '.tak', '.sig', '.spl')
 ENDS = ('out_of_steps', 'too_deep', 'whole')
 # the word of a file in the JSON, and in a line
@@ -76,9 +77,11 @@ class Part(NamedTuple):
 
 
 class Said(NamedTuple):
-    """What is said of a file: the word, and what the word needs."""
+    """What is said of a file: the word, and what the word needs; of an accepted certificate the verdicts on the
+    paths that are kept, the shown one first, and how many more accept it."""
     word: str
-    verdict: Optional[Verdict] = None
+    verdicts: tuple = ()
+    more: int = 0
     fault: Optional[Fault] = None
     issuer: Optional[int] = None
     limit: Optional[Limit] = None
@@ -92,9 +95,13 @@ class Row(NamedTuple):
 
 
 class Found(NamedTuple):
+    """What is found; of each place among the files the first one with the same certificate, and of each file's
+    name the first one that has it."""
     parts: list
     certs: list
     rows: list
+    firsts: dict
+    named: dict
 
 
 # ---- trust anchors
@@ -276,11 +283,36 @@ def names_at(found, places):
     return [found.rows[it].file.name for it in places]
 
 
-def accepted(found, some, told):
-    """By one of the valid paths, whose files' names are told."""
+def count_named(found, place, above):
+    """How many certificates from the bottom up have the URI of the file of the one above, or of a copy of it."""
+    certs = dict(found.certs)
+    for count, issuer in enumerate(reversed(above)):
+        named = found.named.get(certs[place].tbs.ca_issuer)
+        if named is None or found.firsts[named] != found.firsts[issuer]:
+            return count
+        place = issuer
+    return len(above)
+
+
+def rank_of_path(found, place, above):
+    """The path whose rank is least is shown."""
+    return (-count_named(found, place, above), len(above), [found.rows[it].file.octets for it in above[1:]])
+
+
+def kept(found, valid, told):
+    """Those of the valid paths that are kept: all, or as many as can be, whose files' names are told."""
+    if len(valid) <= KEPT:
+        return valid
+    names = [it.get('above') for it in told.get('paths', [])]
+    some = [it for it in valid if names_at(found, it.above) in names]
+    return some if len(some) == KEPT else valid[:KEPT]
+
+
+def accepted(found, some, place, told):
+    """By the valid paths, in the order of their ranks."""
     valid = [it for it in some if it.accepted]
-    said = told.get('above')
-    return Said('accepted', next((it for it in valid if names_at(found, it.above) == said), valid[0]))
+    its = sorted(kept(found, valid, told), key=lambda it: rank_of_path(found, place, it.above))
+    return Said('accepted', tuple(its), len(valid) - len(its))
 
 
 def rejected(some, cert, told):
@@ -301,7 +333,7 @@ def said_of(found, place, cert, told):
     if most == 0:
         return Said('trust_anchor')
     if most == 1:
-        return accepted(found, part.verdicts[place], told)
+        return accepted(found, part.verdicts[place], place, told)
     if most == 2:
         return rejected(part.verdicts[place], cert, told)
     wrong = wrong_at(found.parts, place)
@@ -330,7 +362,10 @@ def find(question, told):
              for key, file in firsts_of_keys(question).items()]
     certs = dict(its.certs)
     rows = [row_of(file, certs.get(place)) for place, file in enumerate(question.files)]
-    found = Found(parts, its.certs, rows)
+    named = {}
+    for place, _ in its.certs:
+        named.setdefault(b'rsync://' + question.files[place].name.encode(), place)
+    found = Found(parts, its.certs, rows, copies(its), named)
     for place, cert in its.certs:
         rows[place] = rows[place]._replace(said=said_of(found, place, cert, lines[place]),
                                            limit=limit_at(parts, place))
@@ -381,15 +416,38 @@ def say_tals(answer, found):
 
 
 def say_accepted(answer, its, found, row):
-    """With the files above it from the trust anchor down; for a program also what it holds."""
-    verdict = row.said.verdict
-    names = names_at(found, verdict.above)
-    above = [piece for number, it in enumerate(names)
-             for piece in (' > ' if number else ', below ', doc.inner(None, it))]
+    """With the files above it from the trust anchor down; for a program also what it holds, and all paths, if
+    there are several."""
+    shown, *others = row.said.verdicts
     answer.head(WORDS['accepted'], doc.inner((*its, 'file'), row.file.name), ', ',
-                doc.word((*its, 'judged_as'), *verdicts.KINDS[verdict.kind]), *above)
-    answer.keep(*(doc.text((*its, 'above', number), it) for number, it in enumerate(names)))
-    answer.aside(lambda: verdicts.say_held_by(answer, its, verdict.accepted))
+                doc.word((*its, 'judged_as'), *verdicts.KINDS[shown.kind]), ', below ', *arrows(found, shown))
+    keep_above(answer, its, found, shown)
+    answer.aside(lambda: verdicts.say_held_by(answer, its, shown.accepted))
+    if others:
+        keep_above(answer, (*its, 'paths', 0), found, shown)
+        answer.keep(doc.flag((*its, 'paths', 0, 'same_resources'), True))
+    for number, it in enumerate(others, 1):
+        path, is_same = (*its, 'paths', number), holds(it) == holds(shown)
+        keep_above(answer, path, found, it)
+        answer.keep(doc.flag((*path, 'same_resources'), is_same))
+        answer.further('also below ', *arrows(found, it), *([] if is_same else [': other resources']))
+    if row.said.more:
+        answer.further('and ', doc.count((*its, 'more_paths'), row.said.more), ' more')
+
+
+def arrows(found, verdict):
+    return [piece for number, it in enumerate(names_at(found, verdict.above))
+            for piece in (*([' > '] if number else []), doc.inner(None, it))]
+
+
+def keep_above(answer, its, found, verdict):
+    answer.keep(*(doc.text((*its, 'above', number), it) for number, it in enumerate(names_at(found, verdict.above))))
+
+
+def holds(verdict):
+    """What the certificate holds by a path, or the CA above a router's."""
+    holder = verdict.accepted.holder
+    return holder.v4, holder.v6, holder.asn
 
 
 def say_rejected(answer, its, row):

@@ -1,7 +1,7 @@
 -- The document of files in no order: a head for each TAL, a row for each file, and the counts (own).
 use Rattle.std.specs.Bool.{MatchBool}
-use Rattle.std.specs.List.{flat_map, list_any}
-use Rattle.std.specs.Prelude.{◌≡◌, ◌==◌, ℕ, Bool, true, false, if◌then◌else◌, fold, List, [], ◌∷◌, ◌++◌, length, map, count_by, codes, unwrap_or, Option, Some, None}
+use Rattle.std.specs.List.{AllZip, flat_map, list_any}
+use Rattle.std.specs.Prelude.{◌≡◌, ◌==◌, ◌↔◌, ℕ, Bool, IsTrue, true, false, if◌then◌else◌, fold, List, [], ◌∷◌, ◌++◌, length, map, count_by, codes, unwrap_or, Option, Some, None}
 use Rattle.std.specs.Str.{bytes_eq}
 use Rattle.rpki_document.specs.Documents.{text, inner, count, flag, Span, say, tell, show, keep, Node, head, line, further, unsaid, inside, each, aside, document_of, document_text, document_json, kept}
 use Rattle.rpki_files.specs.Files.{FileFields}
@@ -13,6 +13,7 @@ use Rattle.rpki_folder.specs.declared.find.FoundPath.{FoundPath}
 use Rattle.rpki_cert.specs.declared.inspect.Kind.{Kind}
 use Rattle.rpki_text.specs.declared.command_line.arguments.Format.{Format}
 use Rattle.rpki_text.specs.declared.command_line.arguments.Format.TheVariants.{Text, Json, JsonLines}
+use Rattle.rpki_verdicts.specs.ShownPaths.{HoldSame}
 use Rattle.rpki_verdicts.specs.TreeParts.{are_anchors, files_of, worst_end}
 use Rattle.rpki_verdicts.specs.Trees.{TreeFields, certs_of}
 use Rattle.rpki_verdicts.specs.declared.issuers.Unseen.{Unseen as Why}
@@ -20,6 +21,7 @@ use Rattle.rpki_verdicts.specs.declared.issuers.Unseen.TheVariants as why
 use Rattle.rpki_verdicts.specs.declared.parts.TreePart.{TreePart}
 use Rattle.rpki_verdicts.specs.declared.parts.Trees.{Trees}
 use Rattle.rpki_verdicts.specs.declared.path.Fault.{Fault}
+use Rattle.rpki_verdicts.specs.declared.shown_paths.ShownPaths.{ShownPaths}
 use Rattle.rpki_verdicts.specs.declared.unordered.Tree.{Tree}
 use Rattle.rpki_verdicts.specs.declared.unordered.TreeAnswer.{TreeAnswer}
 use Rattle.rpki_verdicts.specs.declared.unordered.TreeAnswer.TheVariants.{NoAnchor, Walked}
@@ -50,7 +52,7 @@ unseen_word (why.BelowUnseen issuer) = word.BelowUnseen
 -- that of a file
 abbrev pub word_of : Said → Word
 word_of said.Anchor = word.Anchor
-word_of (said.Accepted tree path kind) = word.Accepted
+word_of (said.Accepted tree paths kind) = word.Accepted
 word_of (said.Rejected fault) = word.Rejected
 word_of (said.Unseen reason) = unseen_word reason
 word_of said.Crl = word.Crl
@@ -191,18 +193,72 @@ accepted_head name tree above kind =
     ∷ say (codes ", below ") ∷ show (inner (name_of (certs_of tree) tree.anchor))
     ∷ below_spans (certs_of tree) above))
 
--- and, for a program, these and what it holds
-abbrev pub IsAccepted : List ℕ → Tree → FoundPath → Kind → List Node → Type 0
-IsAccepted name tree path kind nodes =
-    (held : List Node) × AreHeld path.judged.holder path.judged.router held
-    × (nodes ≡ accepted_head name tree path.above.items kind
-    ∷ each (codes "above") (document_of (above_nodes (certs_of tree) (tree.anchor ∷ path.above.items)))
-    ∷ aside (document_of held)
-    ∷ [])
+-- those, for a program
+abbrev pub above_node : Tree → List ℕ → Node
+above_node tree above =
+    each (codes "above") (document_of (above_nodes (certs_of tree) (tree.anchor ∷ above)))
+
+-- the shown path among all that are kept
+abbrev pub shown_node : Tree → List ℕ → Node
+shown_node tree above =
+    inside [] (document_of (above_node tree above ∷ kept (codes "same_resources") (flag true) ∷ []))
+
+-- whether another path gives the certificate the resources of the shown one
+abbrev pub same_spans : Bool → List Span
+same_spans true = []
+same_spans false = say (codes ": other resources") ∷ []
+
+-- the line of such a path, by the CAs at these places, and the path among all
+abbrev pub also_line : Tree → List ℕ → Bool → Node
+also_line tree above same = further (keep (codes "same_resources") (flag same)
+    ∷ say (codes "also below ") ∷ show (inner (name_of (certs_of tree) tree.anchor))
+    ∷ (below_spans (certs_of tree) above ++ same_spans same))
+
+abbrev pub also_node : Tree → List ℕ → Bool → Node
+also_node tree above same =
+    inside [] (document_of (above_node tree above ∷ also_line tree above same ∷ []))
+
+-- what is said of another path beside the shown one
+abbrev pub IsOther : Tree → FoundPath → FoundPath → Node → Type 0
+IsOther tree shown path node =
+    (same : Bool) × (IsTrue same ↔ HoldSame shown.judged.holder path.judged.holder)
+    × (node ≡ also_node tree path.above.items same)
+
+abbrev pub AreOthers : Tree → FoundPath → List FoundPath → List Node → Type 0
+AreOthers tree shown paths nodes = AllZip (IsOther tree shown) paths nodes
+
+-- all paths, if there are several
+abbrev pub AreAll : Tree → FoundPath → List FoundPath → List Node → Type 0
+AreAll tree shown [] nodes = nodes ≡ []
+AreAll tree shown (path ∷ paths) nodes =
+    (others : List Node) × AreOthers tree shown (path ∷ paths) others
+    × (nodes ≡ each (codes "paths") (document_of (shown_node tree shown.above.items ∷ others)) ∷ [])
+
+abbrev pub ArePaths : Tree → ShownPaths → List Node → Type 0
+ArePaths tree paths nodes = AreAll tree paths.shown.now (map (λ path. path.now) paths.others.items) nodes
+
+-- how many more there are
+abbrev pub more_line : ℕ → Node
+more_line more =
+    further (say (codes "and ") ∷ tell (codes "more_paths") (count more) ∷ say (codes " more") ∷ [])
+
+-- if there are some
+abbrev pub more_nodes : ℕ → List Node
+more_nodes more = if more == 0 then [] else more_line more ∷ []
+
+-- an accepted certificate, for a program with what it holds by the shown path
+abbrev pub IsAccepted : List ℕ → Tree → ShownPaths → Kind → List Node → Type 0
+IsAccepted name tree paths kind nodes =
+    (held : List Node) × (several : List Node)
+    × AreHeld paths.shown.now.judged.holder paths.shown.now.judged.router held
+    × ArePaths tree paths several
+    × (nodes ≡ accepted_head name tree paths.shown.now.above.items kind
+    ∷ above_node tree paths.shown.now.above.items ∷ aside (document_of held)
+    ∷ (several ++ more_nodes paths.more))
 
 -- what is said of a file
 abbrev pub AreSaid : List FileFields → List ℕ → Said → List Node → Type 0
-AreSaid certs name (said.Accepted tree path kind) nodes = IsAccepted name tree.now path.now kind nodes
+AreSaid certs name (said.Accepted tree paths kind) nodes = IsAccepted name tree.now paths kind nodes
 AreSaid certs name (said.Rejected fault) nodes = nodes ≡ rejected_row name fault
 AreSaid certs name (said.Unseen reason) nodes = nodes ≡ unseen_row certs name reason
 AreSaid certs name said.Anchor nodes = nodes ≡ row_head word.Anchor (file_last name) ∷ []

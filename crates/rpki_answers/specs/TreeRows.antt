@@ -4,7 +4,9 @@ use Rattle.std.specs.Prelude.{◌≡◌, ◌+◌, ◌⊎◌, ℕ, Bool, IsTrue, 
 use Rattle.rpki_cert.specs.SaidKinds.{SaysKind}
 use Rattle.rpki_cert.specs.Verification.{Context}
 use Rattle.rpki_path.specs.Judging.{last_certificate}
+use Rattle.rpki_path.specs.declared.path_fault.PathFault.{PathFault}
 use Rattle.rpki_folder.specs.declared.bounds.Limit.{Limit}
+use Rattle.rpki_folder.specs.declared.lines.AcceptedPaths.{AcceptedPaths}
 use Rattle.rpki_folder.specs.declared.lines.Line.{Line}
 use Rattle.rpki_folder.specs.declared.lines.Line.TheVariants as line
 use Rattle.rpki_files.specs.Contents.{BeginsWithCertificate, IsList, StandBehind}
@@ -13,7 +15,8 @@ use Rattle.rpki_files.specs.LocatorFiles.{AreLocator}
 use Rattle.rpki_verdicts.specs.GivenLocators.{locator_octets}
 use Rattle.rpki_verdicts.specs.PathAnswers.{IsNoLocator, reason_of}
 use Rattle.rpki_verdicts.specs.Reasons.{IsReason}
-use Rattle.rpki_verdicts.specs.TreeParts.{AreAllAccepted, AreDamaged, AreTreesOf, shown_part, wrong_at}
+use Rattle.rpki_verdicts.specs.ShownPaths.{AreShown}
+use Rattle.rpki_verdicts.specs.TreeParts.{AreAllAccepted, AreDamaged, AreTreesOf, files_of, shown_part, wrong_at}
 use Rattle.rpki_verdicts.specs.Trees.{TreeFields, is_anchor_at, line_at}
 use Rattle.rpki_verdicts.specs.UnseenCertificates.{IsUnseen, limit_at}
 use Rattle.rpki_verdicts.specs.declared.issuers.Unseen.{Unseen as Why}
@@ -52,34 +55,47 @@ abbrev pub SaysUnseen : Trees → FileFields → Option WrongAnchor → Said →
 SaysUnseen trees file (Some w) said = said ≡ Rejected w.fault
 SaysUnseen trees file None said = (why : Why) × IsUnseen trees file why × (said ≡ Unseen why)
 
--- by its line in a tree, where no verdict says this
-abbrev pub SaysLine : Tree → FileFields → Option Line → (Said → Type 0) → Said → Type 0
-SaysLine tree file (Some (line.Accepted paths)) Unsaid (Accepted t path kind) =
-    (t.now ≡ tree) × (path.now ≡ paths.first)
-    × SaysKind kind (last_certificate path.now.judged.holder path.now.judged.router).fields
-SaysLine tree file (Some (line.Accepted paths)) Unsaid _ = ⊥
-SaysLine tree file (Some (line.Rejected index error)) Unsaid (Rejected fault) =
+-- where no verdict says it
+abbrev pub IsUnsaid : Trees → ℕ → FileFields → Said → Type 0
+IsUnsaid trees place file said = SaysUnseen trees file (wrong_at trees.parts.items place) said
+
+-- of an accepted certificate in a tree over these files of certificates: the paths as they are shown,
+-- and as what it was judged by the shown one
+abbrev pub SaysAccepted : List FileFields → Tree → ℕ → AcceptedPaths → Said → Type 0
+SaysAccepted certs tree place paths (Accepted t shown kind) =
+    (t.now ≡ tree) × AreShown certs tree place paths shown
+    × SaysKind kind (last_certificate shown.shown.now.judged.holder shown.shown.now.judged.router).fields
+SaysAccepted certs tree place paths _ = ⊥
+
+-- of a rejected one
+abbrev pub SaysRejected : FileFields → ℕ → PathFault → Said → Type 0
+SaysRejected file index error (Rejected fault) =
     (fault.index ≡ index) × IsReason error file.octets (reason_of fault)
-SaysLine tree file (Some (line.Rejected index error)) Unsaid _ = ⊥
-SaysLine tree file _ Unsaid said = Unsaid said
+SaysRejected file index error _ = ⊥
+
+-- by its line in a tree
+abbrev pub SaysLine : Trees → Tree → ℕ → FileFields → Option Line → Said → Type 0
+SaysLine trees tree place file (Some (line.Accepted paths)) said =
+    SaysAccepted (files_of trees) tree place paths said
+SaysLine trees tree place file (Some (line.Rejected index error)) said = SaysRejected file index error said
+SaysLine trees tree place file _ said = IsUnsaid trees place file said
 
 -- by the answer on a TAL: that it is the trust anchor, or a copy of it; or its line
-abbrev pub SaysAnswer : ℕ → FileFields → TreeAnswer → (Said → Type 0) → Said → Type 0
-SaysAnswer place file (NoAnchor wrong) Unsaid said = Unsaid said
-SaysAnswer place file (Walked tree) Unsaid said =
+abbrev pub SaysAnswer : Trees → ℕ → FileFields → TreeAnswer → Said → Type 0
+SaysAnswer trees place file (NoAnchor wrong) said = IsUnsaid trees place file said
+SaysAnswer trees place file (Walked tree) said =
     MatchBool (is_anchor_at tree place) (said ≡ Anchor)
-    (SaysLine tree file (line_at tree place) Unsaid said)
+    (SaysLine trees tree place file (line_at tree place) said)
 
 -- by the part that tells most of it
-abbrev pub SaysPart : ℕ → FileFields → Option TreePart → (Said → Type 0) → Said → Type 0
-SaysPart place file None Unsaid said = Unsaid said
-SaysPart place file (Some part) Unsaid said = SaysAnswer place file part.answer Unsaid said
+abbrev pub SaysPart : Trees → ℕ → FileFields → Option TreePart → Said → Type 0
+SaysPart trees place file None said = IsUnsaid trees place file said
+SaysPart trees place file (Some part) said = SaysAnswer trees place file part.answer said
 
 -- what is said of the certificate of a file at a place
 abbrev pub SaysCertificate : Trees → ℕ → FileFields → Said → Type 0
 SaysCertificate trees place file said =
-    SaysPart place file (shown_part trees.parts.items place)
-    (SaysUnseen trees file (wrong_at trees.parts.items place)) said
+    SaysPart trees place file (shown_part trees.parts.items place) said
 
 -- ---- files
 

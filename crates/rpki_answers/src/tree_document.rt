@@ -4,7 +4,7 @@ ghost use Rattle.std.specs.Str.{bytes_eq};
 ghost use Rattle.std.specs.Prelude.{◌≡◌, ◌++◌, ◌∷◌, [], Some, codes, count_by, map, option_map, IfOk, OnOk};
 ghost use Rattle.rpki_document.specs.Building.{Adds, AddsSome, nodes_of, spans_of};
 ghost use Rattle.rpki_document.specs.Documents.{count, further, inner, keep, say, show, tell, text};
-ghost use Rattle.rpki_answers.specs.TreeDocuments.{AreSaid, IsAccepted, IsRowDocument, above_nodes, accepted_head, anchor_head, below_spans, count_line, count_lines, count_of, counts_node, damage_nodes, end_nodes, ended_word, error_node, errors_node, errors_of, file_first, file_last, has_error, has_word, index_node, issuer_spans, left_line, left_nodes, left_words, limit_nodes, limit_spans, limited_spans, name_of, no_anchor_head, no_locator_nodes, rejected_head, rejected_row, row_head, searched_line, limited_line, whole_line, tal_head, tal_node, tals_node, tree_asked, tree_unchecked, unseen_row, with_error};
+ghost use Rattle.rpki_answers.specs.TreeDocuments.{AreOthers, ArePaths, AreSaid, IsAccepted, IsRowDocument, above_node, above_nodes, also_line, also_node, more_line, more_nodes, same_spans, shown_node, accepted_head, anchor_head, below_spans, count_line, count_lines, count_of, counts_node, damage_nodes, end_nodes, ended_word, error_node, errors_node, errors_of, file_first, file_last, has_error, has_word, index_node, issuer_spans, left_line, left_nodes, left_words, limit_nodes, limit_spans, limited_spans, name_of, no_anchor_head, no_locator_nodes, rejected_head, rejected_row, row_head, searched_line, limited_line, whole_line, tal_head, tal_node, tals_node, tree_asked, tree_unchecked, unseen_row, with_error};
 ghost use Rattle.rpki_verdicts.specs.Trees.{asked_of};
 
 use crate::told::kind_leaf;
@@ -20,7 +20,9 @@ use rpki_document::{
 };
 use rpki_files::BareObject;
 use rpki_folder::{Ended, FoundPath, Limit};
-use rpki_verdicts::{Fault, Tree, TreeAnswer, TreePart, TreeQuestion, Trees, Unseen};
+use rpki_verdicts::{
+    Fault, ShownPaths, Tree, TreeAnswer, TreePart, TreeQuestion, Trees, Unseen, hold_same,
+};
 use std::alloc::{AllocError, Global};
 
 // ---- a row
@@ -317,26 +319,166 @@ fn add_accepted_head<'p>(
     add_head(parts, Word::Accepted.label(), pieces)
 }
 
+// The names of the trust anchor and of the CAs at these places.
+fn add_above<'p>(
+    parts: &mut Vec<Part<'p>>,
+    alloc: Global,
+    tree: &Tree<'p, '_>,
+    above: &[usize],
+) -> Result<(), AllocError>
+    ensures { let its = above_node tree.now above.now in
+        OnOk result (Adds (its ∷ []) parts.old.items parts.new.items) }
+{
+    let mut names = Vec::new(alloc);
+    let anchor = Leaf::Text(name_of(&tree.certs, tree.anchor));
+    add_kept(&mut names, alloc, "", anchor)?;
+    add_names(&mut names, alloc, &tree.certs, above)?;
+    add_each(parts, "above", names)
+}
+
+// The shown path among all.
+fn add_shown_path<'p>(
+    parts: &mut Vec<Part<'p>>,
+    alloc: Global,
+    tree: &Tree<'p, '_>,
+    above: &[usize],
+) -> Result<(), AllocError>
+    ensures { let its = shown_node tree.now above.now in
+        OnOk result (Adds (its ∷ []) parts.old.items parts.new.items) }
+{
+    let mut own = Vec::new(alloc);
+    add_above(&mut own, alloc, tree, above)?;
+    add_kept(&mut own, alloc, "same_resources", Leaf::Flag(true))?;
+    add_inside(parts, "", own)
+}
+
+// That another path gives other resources.
+fn push_same(pieces: &mut Vec<Piece<'_>>, same: bool) -> Result<(), AllocError>
+    ensures { OnOk result
+        (spans_of pieces.new.items ≡ spans_of pieces.old.items ++ same_spans same) }
+{
+    if !same {
+        pieces.push(Piece::Say(": other resources"))?;
+    }
+    Ok(())
+}
+
+// The line of another path, by the CAs at these places.
+fn add_also_below<'p>(
+    parts: &mut Vec<Part<'p>>,
+    alloc: Global,
+    tree: &Tree<'p, '_>,
+    above: &[usize],
+    same: bool,
+) -> Result<(), AllocError>
+    ensures { let its = also_line tree.now above.now same in
+        OnOk result (Adds (its ∷ []) parts.old.items parts.new.items) }
+{
+    let mut pieces = vec![in alloc;
+        Piece::Keep("same_resources", Leaf::Flag(same)),
+        Piece::Say("also below "),
+        Piece::Show(Leaf::Inner(name_of(&tree.certs, tree.anchor))),
+    ]?;
+    push_below(&mut pieces, &tree.certs, above)?;
+    push_same(&mut pieces, same)?;
+    add_further(parts, pieces)
+}
+
+// Another path, which gives the same resources as the shown one or others.
+fn add_path<'p>(
+    parts: &mut Vec<Part<'p>>,
+    alloc: Global,
+    tree: &Tree<'p, '_>,
+    above: &[usize],
+    same: bool,
+) -> Result<(), AllocError>
+    ensures { let its = also_node tree.now above.now same in
+        OnOk result (Adds (its ∷ []) parts.old.items parts.new.items) }
+{
+    let mut own = Vec::new(alloc);
+    add_above(&mut own, alloc, tree, above)?;
+    add_also_below(&mut own, alloc, tree, above, same)?;
+    add_inside(parts, "", own)
+}
+
+// The other paths.
+fn add_others<'p>(
+    parts: &mut Vec<Part<'p>>,
+    alloc: Global,
+    tree: &Tree<'p, '_>,
+    shown: &FoundPath,
+    others: &[&FoundPath],
+) -> Result<(), AllocError>
+    ensures { let Are = AreOthers tree.now shown.now (map (λ path. path.now) others.now) in
+        OnOk result (AddsSome Are parts.old.items parts.new.items) }
+{
+    for path in others {
+        add_path(parts, alloc, tree, &path.above, hold_same(shown, *path))?;
+    }
+    Ok(())
+}
+
+// All paths, if there are several.
+fn add_paths<'p>(
+    parts: &mut Vec<Part<'p>>,
+    alloc: Global,
+    tree: &Tree<'p, '_>,
+    paths: &ShownPaths<'_>,
+) -> Result<(), AllocError>
+    ensures { let Are = ArePaths tree.now paths.now in
+        OnOk result (AddsSome Are parts.old.items parts.new.items) }
+{
+    if paths.others.is_empty() {
+        return Ok(());
+    }
+    let mut all = Vec::new(alloc);
+    add_shown_path(&mut all, alloc, tree, &paths.shown.above)?;
+    add_others(&mut all, alloc, tree, paths.shown, &paths.others)?;
+    add_each(parts, "paths", all)
+}
+
+// How many paths aren't kept.
+fn add_more_line(parts: &mut Vec<Part<'_>>, alloc: Global, more: usize) -> Result<(), AllocError>
+    ensures { OnOk result (Adds (more_line more ∷ []) parts.old.items parts.new.items) }
+{
+    let pieces = vec![in alloc;
+        Piece::Say("and "),
+        Piece::Tell("more_paths", Leaf::Count(more as u64)),
+        Piece::Say(" more"),
+    ]?;
+    add_further(parts, pieces)
+}
+
+// If there are some.
+fn add_more(parts: &mut Vec<Part<'_>>, alloc: Global, more: usize) -> Result<(), AllocError>
+    ensures { OnOk result (Adds (more_nodes more) parts.old.items parts.new.items) }
+{
+    if more > 0 {
+        add_more_line(parts, alloc, more)
+    } else {
+        Ok(())
+    }
+}
+
 fn add_accepted<'p>(
     parts: &mut Vec<Part<'p>>,
     alloc: Global,
     name: &'p str,
     tree: &Tree<'p, '_>,
-    path: &FoundPath,
+    paths: &ShownPaths<'_>,
     kind: Kind,
 ) -> Result<(), AllocError>
-    ensures { let Are = IsAccepted name.now tree.now path.now kind in
+    ensures { let Are = IsAccepted name.now tree.now paths.now kind in
         OnOk result (AddsSome Are parts.old.items parts.new.items) }
 {
-    add_accepted_head(parts, alloc, name, tree, &path.above, kind)?;
-    let mut above = Vec::new(alloc);
-    let anchor = Leaf::Text(name_of(&tree.certs, tree.anchor));
-    add_kept(&mut above, alloc, "", anchor)?;
-    add_names(&mut above, alloc, &tree.certs, &path.above)?;
-    add_each(parts, "above", above)?;
+    let shown = paths.shown;
+    add_accepted_head(parts, alloc, name, tree, &shown.above, kind)?;
+    add_above(parts, alloc, tree, &shown.above)?;
     let mut held = Vec::new(alloc);
-    add_held(&mut held, alloc, &path.judged)?;
-    add_aside(parts, held)
+    add_held(&mut held, alloc, &shown.judged)?;
+    add_aside(parts, held)?;
+    add_paths(parts, alloc, tree, paths)?;
+    add_more(parts, alloc, paths.more)
 }
 
 // What is said of a file of this name.
@@ -351,9 +493,7 @@ fn add_said<'p>(
         OnOk result (AddsSome Are parts.old.items parts.new.items) }
 {
     match said {
-        Said::Accepted(tree, path, kind) => {
-            add_accepted(parts, alloc, name, *tree, *path, *kind)
-        }
+        Said::Accepted(tree, paths, kind) => add_accepted(parts, alloc, name, *tree, paths, *kind),
         Said::Rejected(fault) => add_rejected(parts, alloc, name, fault),
         Said::Unseen(why) => add_unseen(parts, alloc, certs, name, *why),
         Said::Anchor => add_plain(parts, alloc, Word::Anchor, name),

@@ -4,17 +4,17 @@ ghost use Rattle.rpki_cert.specs.SaidKinds.{SaysKind};
 ghost use Rattle.rpki_path.specs.Judging.{last_certificate};
 ghost use Rattle.rpki_verdicts.specs.PathAnswers.{reason_of};
 ghost use Rattle.rpki_verdicts.specs.Reasons.{IsReason};
-ghost use Rattle.rpki_verdicts.specs.TreeParts.{wrong_at};
+ghost use Rattle.rpki_verdicts.specs.TreeParts.{files_of, wrong_at};
 ghost use Rattle.rpki_verdicts.specs.UnseenCertificates.{AreIssuers};
 ghost use Rattle.rpki_answers.specs.TreeDocuments.{is_unaccepted, said_error, unseen_word, word_key, word_label, word_of};
-ghost use Rattle.rpki_answers.specs.TreeRows.{AreRows, IsRow, SaysAnswer, SaysCertificate, SaysLine, SaysUnseen};
+ghost use Rattle.rpki_answers.specs.TreeRows.{AreRows, IsRow, SaysAccepted, SaysAnswer, SaysCertificate, SaysLine, SaysUnseen};
 
 use rpki_cert::{Kind, said_kind};
 use rpki_files::{BareObject, Front};
-use rpki_folder::{FoundPath, Limit, Line};
+use rpki_folder::{AcceptedPaths, Limit, Line};
 use rpki_path::{Judged, PathFault};
 use rpki_verdicts::reasons::of_path;
-use rpki_verdicts::{Fault, Issuers, Tree, TreeAnswer, Trees, Unseen};
+use rpki_verdicts::{Fault, Issuers, ShownPaths, Tree, TreeAnswer, Trees, Unseen};
 use std::alloc::{AllocError, Global};
 
 /// What is said of a file.
@@ -22,8 +22,8 @@ use std::alloc::{AllocError, Global};
 pub enum Said<'t, 'q, 'n> {
     /// Its certificate is a trust anchor, or a copy of one.
     Anchor,
-    /// Its certificate is accepted in a tree, by a path, as a certificate of this kind.
-    Accepted(&'t Tree<'q, 'n>, &'t FoundPath, Kind),
+    /// Its certificate is accepted in a tree, by these paths, as a certificate of this kind.
+    Accepted(&'t Tree<'q, 'n>, ShownPaths<'t>, Kind),
     /// Its certificate is rejected.
     Rejected(Fault),
     /// There is no verdict on its certificate.
@@ -189,85 +189,101 @@ fn said_unseen<'t, 'q, 'n>(
     }
 }
 
+// That it is accepted, by the path that is shown of these.
+fn said_accepted<'t, 'q, 'n>(
+    alloc: Global,
+    trees: &'t Trees<'q, 'n>,
+    issuers: &Issuers,
+    tree: &'t Tree<'q, 'n>,
+    place: usize,
+    paths: &'t AcceptedPaths,
+) -> Result<Said<'t, 'q, 'n>, AllocError>
+    requires { AreIssuers trees.now issuers.now }
+    ensures { IfOk result (SaysAccepted (files_of trees.now) tree.now place paths.now) }
+{
+    let shown = trees.shown_paths(alloc, issuers, tree, place, paths)?;
+    let kind = judged_as(&shown.shown.judged);
+    Ok(Said::Accepted(tree, shown, kind))
+}
+
 // By its line.
 fn said_by_line<'t, 'q, 'n>(
+    alloc: Global,
     trees: &'t Trees<'q, 'n>,
     issuers: &Issuers,
     tree: &'t Tree<'q, 'n>,
     place: usize,
     file: &BareObject<'_>,
     line: Option<&'t Line>,
-) -> Said<'t, 'q, 'n>
+) -> Result<Said<'t, 'q, 'n>, AllocError>
     requires { AreIssuers trees.now issuers.now }
     ensures { let its = option_map (λ l. l.now) line.entry in
-        SaysLine tree.now file.now its
-        (SaysUnseen trees.now file.now (wrong_at trees.now.parts.items place)) result }
+        IfOk result (SaysLine trees.now tree.now place file.now its) }
 {
     match line {
-        Some(Line::Accepted(paths)) => {
-            let path = &paths.first;
-            Said::Accepted(tree, path, judged_as(&path.judged))
-        }
-        Some(Line::Rejected(index, error)) => Said::Rejected(fault_of(*index, error, file)),
-        Some(Line::Unseen) | None => said_unseen(trees, issuers, place, file),
+        Some(Line::Accepted(paths)) => said_accepted(alloc, trees, issuers, tree, place, paths),
+        Some(Line::Rejected(index, error)) => Ok(Said::Rejected(fault_of(*index, error, file))),
+        Some(Line::Unseen) | None => Ok(said_unseen(trees, issuers, place, file)),
     }
 }
 
 // By the answer on a TAL.
 fn said_by_answer<'t, 'q, 'n>(
+    alloc: Global,
     trees: &'t Trees<'q, 'n>,
     issuers: &Issuers,
     answer: &'t TreeAnswer<'q, 'n>,
     place: usize,
     file: &BareObject<'_>,
-) -> Said<'t, 'q, 'n>
+) -> Result<Said<'t, 'q, 'n>, AllocError>
     requires { AreIssuers trees.now issuers.now }
-    ensures { SaysAnswer place file.now answer.now
-        (SaysUnseen trees.now file.now (wrong_at trees.now.parts.items place)) result }
+    ensures { IfOk result (SaysAnswer trees.now place file.now answer.now) }
 {
     match answer {
-        TreeAnswer::NoAnchor(_) => said_unseen(trees, issuers, place, file),
+        TreeAnswer::NoAnchor(_) => Ok(said_unseen(trees, issuers, place, file)),
         TreeAnswer::Walked(tree) => {
             if tree.is_anchor_at(place) {
-                return Said::Anchor;
+                return Ok(Said::Anchor);
             }
-            said_by_line(trees, issuers, tree, place, file, tree.line(place))
+            said_by_line(alloc, trees, issuers, tree, place, file, tree.line(place))
         }
     }
 }
 
 // What is said of the certificate of a file at a place.
 fn said_of_certificate<'t, 'q, 'n>(
+    alloc: Global,
     trees: &'t Trees<'q, 'n>,
     issuers: &Issuers,
     place: usize,
     file: &BareObject<'_>,
-) -> Said<'t, 'q, 'n>
+) -> Result<Said<'t, 'q, 'n>, AllocError>
     requires { AreIssuers trees.now issuers.now }
-    ensures { SaysCertificate trees.now place file.now result }
+    ensures { IfOk result (SaysCertificate trees.now place file.now) }
 {
     match trees.shown_part(place) {
-        Some(part) => said_by_answer(trees, issuers, &part.answer, place, file),
-        None => said_unseen(trees, issuers, place, file),
+        Some(part) => said_by_answer(alloc, trees, issuers, &part.answer, place, file),
+        None => Ok(said_unseen(trees, issuers, place, file)),
     }
 }
 
 // A row, where the next certificate is at this place; and the place of one after it.
 fn row_of<'t, 'q, 'n>(
+    alloc: Global,
     trees: &'t Trees<'q, 'n>,
     issuers: &Issuers,
     place: usize,
     file: &'q BareObject<'n>,
-) -> (usize, Row<'t, 'q, 'n>)
+) -> Result<(usize, Row<'t, 'q, 'n>), AllocError>
     requires issuers { AreIssuers trees.now issuers.now }
     requires place { place + 1 < 2 ^ 64 }
-    ensures next { result.0 ≤ place + 1 }
-    ensures row { IsRow trees.now place result.0 file.now result.1 }
+    ensures next { IfOk result (λ it. it.0 ≤ place + 1) }
+    ensures row { IfOk result (λ it. IsRow trees.now place it.0 file.now it.1) }
 {
     let left = file.left();
     let (next, said, limit) = match file.front() {
         Front::Certificate(_) => {
-            let said = said_of_certificate(trees, issuers, place, file);
+            let said = said_of_certificate(alloc, trees, issuers, place, file)?;
             (place + 1, said, trees.limit_at(place))
         }
         Front::List => (place, Said::Crl, None),
@@ -279,7 +295,7 @@ fn row_of<'t, 'q, 'n>(
         said,
         limit,
     };
-    (next, row)
+    Ok((next, row))
 }
 
 /// Finds what is said of each file.
@@ -299,7 +315,7 @@ pub fn rows_of<'t, 'q, 'n>(
     let mut rows = Vec::new(alloc);
     let mut place = 0;
     for file in files {
-        let (next, row) = row_of(trees, issuers, place, file);
+        let (next, row) = row_of(alloc, trees, issuers, place, file)?;
         rows.push(row)?;
         place = next;
     }

@@ -1,6 +1,6 @@
 -- The trees of one question with the files of strangers and without them.
-use Rattle.std.specs.Prelude.{Some, slice_get, Ok}
-use Rattle.std.proofs.Common.{◌≡◌, ◌∙◌, ℕ, List, sym, subst}
+use Rattle.std.specs.Prelude.{Ok}
+use Rattle.std.proofs.Common.{◌≡◌, ℕ, List, subst}
 use Rattle.rpki_cert.specs.Verification.{Context}
 use Rattle.rpki_files.specs.Files.{FileFields, contents}
 use Rattle.rpki_folder.specs.FirstPlaces.{IsFirstIn}

@@ -11,11 +11,14 @@ mod IsolatedQuestions
 mod IssuersByKey
 pub mod MappedItems
 pub mod OneVerdict
+mod OrderedPaths
 mod PartByPart
+mod PathRanks
 mod ReadLists
 mod ReachedFiles
 mod ReadLocators
 mod SearchSteps
+mod ShownRanks
 mod TreeAnchors
 mod UnrevokedFiles
 mod WrongFiles

@@ -1,17 +1,16 @@
 -- What files that strangers add can change of the tree of files (own). Strangers of rpki_folder has what
 -- strangers add; ToldWalks of rpki_isolation, when two walks tell alike.
-use Rattle.std.specs.Prelude.{◌≡◌, ◌↔◌, ◌+◌, ℕ, List, Contains, Result}
+use Rattle.std.specs.Prelude.{List, Contains, Result}
 use Rattle.rpki_cert.specs.Certificates.{CertFields}
 use Rattle.rpki_cert.specs.Verification.{Context}
 use Rattle.rpki_files.specs.Files.{FileFields, contents}
 use Rattle.rpki_folder.specs.FirstPlaces.{IsFirstIn}
 use Rattle.rpki_folder.specs.Folders.{FolderFields}
 use Rattle.rpki_folder.specs.Strangers.{AddsOnly}
-use Rattle.rpki_folder.specs.Walks.{Covers}
 use Rattle.rpki_isolation.specs.PathShares.{HasEnoughOn}
-use Rattle.rpki_isolation.specs.ToldWalks.{IsAcceptedBelow, IsAllFreeOf, IsToldOf, SayAlike}
+use Rattle.rpki_isolation.specs.ToldWalks.{IsAcceptedBelow, IsToldOf}
 use Rattle.rpki_parts.specs.Keys.{KeyFields}
-use Rattle.rpki_path.specs.Paths.{Path, last}
+use Rattle.rpki_path.specs.Paths.{Path}
 use Rattle.rpki_path.specs.declared.judging.Judged.{Judged}
 use Rattle.rpki_path.specs.declared.path_fault.PathFault.{PathFault}
 use Rattle.rpki_verdicts.specs.GivenLocators.{LocatorFields}

@@ -9,5 +9,6 @@ pub mod Trees
 pub mod Damage
 pub mod TreeParts
 pub mod Searches
+pub mod ShownPaths
 pub mod UnseenCertificates
 pub mod IsolatedTrees

@@ -13,6 +13,7 @@ use Rattle.rpki_folder.specs.declared.lines.Line.TheVariants as line
 use Rattle.rpki_path.specs.declared.judging.Judged.{Judged}
 use Rattle.rpki_verdicts.specs.ReachedLimits.{least_with}
 use Rattle.rpki_verdicts.specs.Searches.{HasKeyNamed}
+use Rattle.rpki_verdicts.specs.ShownPaths.{AreNamedFiles}
 use Rattle.rpki_verdicts.specs.TreeParts.{files_of, is_told, wrong_at}
 use Rattle.rpki_verdicts.specs.Trees.{is_anchor_at, line_at, reached_in}
 use Rattle.rpki_verdicts.specs.declared.issuers.Issuers.{Issuers}
@@ -102,10 +103,12 @@ StandsBetter trees (Some before) place = standing trees place < standing trees b
 abbrev pub issuer_in : Issuers → List ℕ → Option ℕ
 issuer_in issuers key = get (slice_cmp nat_cmp) issuers.places key
 
--- each key has its issuer among all certificates, where there is one
-abbrev pub AreIssuers : Trees → Issuers → Type 0
-AreIssuers trees issuers =
-    (key : List ℕ) → IsIssuerAmong trees (length (files_of trees)) key (issuer_in issuers key)
+-- each key has its issuer among all certificates, where there is one; and each URI the file that it
+-- names
+pub record AreIssuers (trees : Trees) (issuers : Issuers) : Type 0 where
+  pub by_key : (key : List ℕ)
+      → IsIssuerAmong trees (length (files_of trees)) key (issuer_in issuers key)
+  pub by_uri : AreNamedFiles (files_of trees) issuers
 
 -- the issuer of a file: that of the key which it names as its signer's
 abbrev pub IsIssuerOf : Trees → FileFields → Option ℕ → Type 0

@@ -1,9 +1,12 @@
 //! Why there is no verdict on a certificate: what became of its issuer.
-ghost use Rattle.std.specs.Prelude.{◌≡◌, ◌↔◌, ◌+◌, ◌^◌, ◌<◌, ℕ, List, Some, None, option_copied, slice_get, map, IfOk, OnOk, IsTrue};
+ghost use Rattle.std.specs.Prelude.{◌≡◌, ◌↔◌, ◌+◌, ◌++◌, ◌∷◌, ◌^◌, ◌<◌, [], ℕ, List, Some, None, codes, option_copied, option_map, slice_get, length, map, IfOk, OnOk, IsTrue};
 ghost use Rattle.std.specs.BTreeMap.{get};
 ghost use Rattle.std.specs.Cmp.Lexicographic.{slice_cmp};
 ghost use Rattle.std.specs.Ordering.{nat_cmp};
+ghost use Rattle.rpki_files.specs.Files.{FileFields};
+ghost use Rattle.rpki_folder.specs.FirstPlaces.{first_from};
 ghost use Rattle.rpki_verdicts.specs.Searches.{HasKeyNamed};
+ghost use Rattle.rpki_verdicts.specs.ShownPaths.{AreNamedFiles, place_of, uri_of};
 ghost use Rattle.rpki_verdicts.specs.TreeParts.{files_of};
 ghost use Rattle.rpki_verdicts.specs.UnseenCertificates.{AreIssuers, IsIssuerAmong, IsUnseen, StandsBetter, below_accepted, is_ca, is_looked_at, is_looked_below, is_rejected_at, issuer_in, least_of, limit_at, limit_in, paths_by, standing, standing_of, why_unseen};
 
@@ -11,20 +14,24 @@ use crate::limits::least_with;
 use crate::parts::{Trees, is_told};
 use crate::search::signer_of;
 use crate::unordered::TreeAnswer;
+use bytes::Bytes;
 use rpki_cert::laws;
 use rpki_files::{BareObject, Front};
 use rpki_folder::{Limit, Line};
-use rpki_parts::KeyIdentifier;
+use rpki_parts::{KeyIdentifier, Rsync};
 use rpki_path::Judged;
 use std::alloc::{AllocError, Global};
 use std::collections::BTreeMap;
 
-/// For each key of certificates, the place of one that has it: an accepted one if there is one (a CA
-/// below which a walk looked before one at which it reached a limit, and both before others), or
-/// else a rejected one.
+/// The issuers among certificates, by their keys and by the URIs of their files.
+///
+/// For each key the place of a certificate that has it: an accepted one if there is one (a CA below
+/// which a walk looked before one at which it reached a limit, and both before others), or else a
+/// rejected one. And for each file's name, behind `rsync://`, the first place of a file that has it.
 #[derive(Drop)]
 pub struct Issuers {
     places: BTreeMap<[u8; 20], usize>,
+    files: BTreeMap<Bytes, usize>,
 }
 
 /// Why there is no verdict on a certificate. A place is that of its issuer: of the certificate whose
@@ -89,6 +96,62 @@ fn add_issuer(
     Ok(())
 }
 
+// The places of the issuers of all keys.
+fn places_by_key(
+    alloc: Global,
+    trees: &Trees<'_, '_>,
+) -> Result<BTreeMap<[u8; 20], usize>, AllocError>
+    ensures { IfOk result (λ places. (key : List ℕ)
+        → IsIssuerAmong trees.now (length (files_of trees.now)) key
+        (get (slice_cmp nat_cmp) places key)) }
+{
+    let mut places = BTreeMap::new(alloc);
+    for (place, file) in trees.certs.iter().enumerate() {
+        add_issuer(&mut places, trees, place, *file)?;
+    }
+    Ok(places)
+}
+
+// The URI that names a file, in a cache that is laid out by URI.
+fn uri_of(alloc: Global, file: &BareObject<'_>) -> Result<Bytes, AllocError>
+    ensures { IfOk result (λ uri. uri ≡ uri_of file.now) }
+{
+    let mut uri = String::from_str(alloc, "rsync://")?;
+    uri.push_str(file.name())?;
+    Bytes::copy_from_slice(alloc, uri.as_bytes())
+}
+
+// Adds a URI, at the place behind those of the others, unless it is there.
+fn add_uri(files: &mut BTreeMap<Bytes, usize>, place: usize, uri: Bytes) -> Result<(), AllocError>
+    ensures { (uris : List (List ℕ)) → length uris ≡ place
+        → ((s : List ℕ) → get (slice_cmp nat_cmp) files.old s ≡ first_from 0 uris s)
+        → OnOk result ((s : List ℕ)
+        → get (slice_cmp nat_cmp) files.new s ≡ first_from 0 (uris ++ uri ∷ []) s) }
+{
+    if files.contains_key(&uri) {
+        drop(uri);
+        return Ok(());
+    }
+    files.insert(uri, place)?;
+    Ok(())
+}
+
+// The first places of the URIs of files.
+fn places_by_uri(
+    alloc: Global,
+    certs: &[&BareObject<'_>],
+) -> Result<BTreeMap<Bytes, usize>, AllocError>
+    ensures { IfOk result (λ files. (uri : List ℕ) → get (slice_cmp nat_cmp) files uri
+        ≡ first_from 0 (map uri_of (map (λ f. f.now) certs.now)) uri) }
+{
+    let mut files = BTreeMap::new(alloc);
+    for (place, file) in certs.iter().enumerate() {
+        let uri = uri_of(alloc, *file)?;
+        add_uri(&mut files, place, uri)?;
+    }
+    Ok(files)
+}
+
 /// Finds the issuers among the certificates of trees.
 ///
 /// # Errors
@@ -97,11 +160,9 @@ fn add_issuer(
 pub fn issuers_of(alloc: Global, trees: &Trees<'_, '_>) -> Result<Issuers, AllocError>
     ensures { IfOk result (AreIssuers trees.now) }
 {
-    let mut places = BTreeMap::new(alloc);
-    for (place, file) in trees.certs.iter().enumerate() {
-        add_issuer(&mut places, trees, place, *file)?;
-    }
-    Ok(Issuers { places })
+    let places = places_by_key(alloc, trees)?;
+    let files = places_by_uri(alloc, &trees.certs)?;
+    Ok(Issuers { places, files })
 }
 
 impl Issuers {
@@ -112,6 +173,33 @@ impl Issuers {
         match self.places.get(key.as_octets()) {
             Some(place) => Some(*place),
             None => None,
+        }
+    }
+
+    // The first place of a file that a URI names, if there is one.
+    fn place_by(&self, alloc: Global, uri: &Rsync) -> Result<Option<usize>, AllocError>
+        ensures { IfOk result (λ place. place ≡ get (slice_cmp nat_cmp) self.now.files uri.now) }
+    {
+        let key = Bytes::copy_from_slice(alloc, uri.as_bytes())?;
+        let place = self.files.get(&key).copied();
+        drop(key);
+        Ok(place)
+    }
+
+    /// Returns the first place of the file that a URI names, if there is a URI and such a file: the
+    /// file's name is what follows `rsync://` in the URI.
+    pub(crate) fn place_of(
+        &self,
+        alloc: Global,
+        uri: Option<&Rsync>,
+    ) -> Result<Option<usize>, AllocError>
+        ensures { (certs : List FileFields) → AreNamedFiles certs self.now
+            → IfOk result (λ place.
+            place ≡ place_of certs (option_map (λ u. u.now) uri.entry)) }
+    {
+        match uri {
+            Some(uri) => self.place_by(alloc, uri),
+            None => Ok(None),
         }
     }
 }

@@ -12,6 +12,7 @@ ghost use Rattle.rpki_path.specs.declared.judging.Judged.{Judged};
 ghost use Rattle.rpki_path.specs.declared.path_fault.PathFault.{PathFault};
 ghost use Rattle.rpki_verdicts.specs.GivenLocators.{LocatorFields};
 ghost use Rattle.rpki_verdicts.specs.IsolatedTrees.{AreWithAndWithout, HasEnoughIn, IsAcceptedIn, IsVerdictIn, about, folder_of};
+ghost use Rattle.rpki_verdicts.specs.ShownPaths.{ShowByRanks};
 ghost use Rattle.rpki_verdicts.specs.Trees.{TreeFields};
 ghost use Rattle.rpki_verdicts.specs.declared.unordered.Tree.{Tree};
 
@@ -75,3 +76,11 @@ pub fn isolated_trees()
     rpki_isolation::laws::isolated_walks::<Firsts, Firsts, RsaVerifier>();
     rpki_isolation::laws::admitted_once::<RsaVerifier>();
 }
+
+/// States that the path which is shown to a certificate doesn't depend on the order of the paths, nor on
+/// that of the files. Take paths in one tree and paths in another one, as over the same files in another
+/// order. If the same ranks are among both, the paths that are shown have the same rank: as many
+/// certificates name the file of the one above, and the bytes of the CAs' files are the same.
+pub fn shown_by_ranks()
+    ensures { ShowByRanks }
+{}

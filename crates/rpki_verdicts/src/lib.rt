@@ -12,6 +12,7 @@ mod parts;
 mod path;
 pub mod reasons;
 mod search;
+mod shown_paths;
 mod unordered;
 
 pub use issuers::{Issuers, Unseen, issuers_of};
@@ -23,4 +24,5 @@ pub use path::{
     one_acceptance, one_answer,
 };
 pub use search::{Sought, seek};
+pub use shown_paths::{ShownPaths, hold_same};
 pub use unordered::{Tree, TreeAnswer, TreeQuestion, WrongAnchor};

@@ -1,5 +1,5 @@
 -- What the steps give by which a tree is grown.
-use Rattle.std.specs.Prelude.{◌≡◌, ℕ, List, Some, slice_get}
+use Rattle.std.specs.Prelude.{◌≡◌, List, Some, slice_get}
 use Rattle.rpki_files.specs.Files.{FileFields}
 use Rattle.rpki_folder.specs.declared.anchors.WrongCandidate.{WrongCandidate}
 use Rattle.rpki_verdicts.specs.Trees.{IsAnchorReason}

@@ -12,7 +12,7 @@ returns-in-Some c =
     let names = (c.signer_of.ensures key).1 c.in-Some.is in (
       issuer_in c.args.issuers.now key,
       issuer_of trees file key (issuer_in c.args.issuers.now key) names
-          (λ other others. let both = sym c.in-Some.is ∙ (c.signer_of.ensures other).0 others in cc) (c.requires key),
+          (λ other others. let both = sym c.in-Some.is ∙ (c.signer_of.ensures other).0 others in cc) (c.requires.by_key key),
       rw c.get.ensures at c.why_unseen.ensures,
     )
 

@@ -3,7 +3,7 @@ use Rattle.std.specs.Cmp.Lexicographic.{slice_cmp}
 use Rattle.std.specs.Ordering.{nat_cmp}
 use Rattle.std.proofs.Common.{ℕ, List}
 use Rattle.rpki_verdicts.specs.UnseenCertificates.{IsIssuerAmong}
-use Rattle.rpki_verdicts.proofs.issuers.issuers_of.Given as goal
+use Rattle.rpki_verdicts.proofs.issuers.places_by_key.Given as goal
 
 -- those so far
 abbrev pub invariant-loop-place : goal.invariant-loop-place

@@ -1,0 +1,173 @@
+-- Which of the valid paths to a certificate is shown (own). The kept paths are those that a walk found
+-- first; which of them is shown is a rule of these paths, whatever order they were found in: names of
+-- files, which strangers choose, decide nothing.
+use Rattle.std.specs.BTreeMap.{get}
+use Rattle.std.specs.Cmp.Lexicographic.{slice_cmp}
+use Rattle.std.specs.List.{AllByRecursion}
+use Rattle.std.specs.List.Sorted.{IsPermutation}
+use Rattle.std.specs.Bool.{MatchBool}
+use Rattle.std.specs.Option.{option_map}
+use Rattle.std.specs.Ordering.{nat_cmp, ordering_then}
+use Rattle.std.specs.declared.cmp.Ordering.{Ordering}
+use Rattle.std.specs.declared.cmp.Ordering.TheVariants.{Less}
+use Rattle.std.specs.Prelude.{◌≡◌, ◌==◌, ◌⊎◌, ◌+◌, ◌↔◌, ℕ, Bool, false, if◌then◌else◌, All, Any, Contains, List, [], ◌∷◌, ◌++◌, codes, length, map, reverse, slice_get, unwrap_or, MatchOption, Option, None, Some}
+use Rattle.rpki_blocks.specs.Sets.{AreIn, Block}
+use Rattle.rpki_cert.specs.Certificates.{CertFields, IsCertificate}
+use Rattle.rpki_cert.specs.Verification.{ResourceFields}
+use Rattle.rpki_der.specs.Encoding.{Means}
+use Rattle.rpki_files.specs.Contents.{BeginsWithCertificate}
+use Rattle.rpki_files.specs.Files.{FileFields}
+use Rattle.rpki_folder.specs.FirstPlaces.{first_from, first_of}
+use Rattle.rpki_folder.specs.KeptLines.{paths_in}
+use Rattle.rpki_folder.specs.declared.find.FoundPath.{FoundPath}
+use Rattle.rpki_folder.specs.declared.lines.AcceptedPaths.{AcceptedPaths}
+use Rattle.rpki_verdicts.specs.declared.issuers.Issuers.{Issuers}
+use Rattle.rpki_verdicts.specs.declared.shown_paths.ShownPaths.{ShownPaths}
+use Rattle.rpki_verdicts.specs.declared.unordered.Tree.{Tree}
+pub mod Steps
+
+-- ---- names of issuers
+
+-- the URI that names a file, in a cache that is laid out by URI: what follows `rsync://` is the whole
+-- name of the file. Were an end of the name enough, a directory of a stranger's could imitate it
+abbrev pub uri_of : FileFields → List ℕ
+uri_of file = codes "rsync://" ++ file.name
+
+-- the place of the first of the certificates' files that the URI names
+abbrev pub place_by : List FileFields → List ℕ → Option ℕ
+place_by certs uri = first_from 0 (map uri_of certs) uri
+
+-- the table has these places
+abbrev pub AreNamedFiles : List FileFields → Issuers → Type 0
+AreNamedFiles certs issuers =
+    (uri : List ℕ) → get (slice_cmp nat_cmp) issuers.files uri ≡ place_by certs uri
+
+-- that of a URI, where there is one
+abbrev pub place_of : List FileFields → Option (List ℕ) → Option ℕ
+place_of certs None = None
+place_of certs (Some uri) = place_by certs uri
+
+-- the place of the file that the certificate at the start of the octets names as its issuer's (RFC 6487
+-- 4.8.7), where it names one
+abbrev pub IsNamedIn : List FileFields → List ℕ → Option ℕ → Type 0
+IsNamedIn certs octets named =
+    ((c : CertFields) × Means IsCertificate c octets
+    × (named ≡ place_of certs c.fields.extensions.ca_issuer))
+    ⊎ ((BeginsWithCertificate octets → ⊥) × (named ≡ None))
+
+-- that of the certificate at a place
+abbrev pub IsNamedBy : List FileFields → ℕ → Option ℕ → Type 0
+IsNamedBy certs place named =
+    MatchOption (slice_get certs place) (named ≡ None) (λ file. IsNamedIn certs file.octets named)
+
+-- the file at the place, where there is one, is that of this issuer, or a copy of it
+abbrev pub is_of : Tree → Option ℕ → ℕ → Bool
+is_of tree None issuer = false
+is_of tree (Some named) issuer = first_of tree.firsts named == first_of tree.firsts issuer
+
+-- So many certificates, from the bottom up, name the file of the one above: that at a place, below the
+-- CAs at these places, which stand from the bottom up, and the trust anchor
+abbrev pub AreNamed : List FileFields → Tree → ℕ → List ℕ → ℕ → Type 0
+AreNamed certs tree place [] n =
+    (named : Option ℕ) × IsNamedBy certs place named
+    × (n ≡ if is_of tree named tree.anchor then 1 else 0)
+AreNamed certs tree place (issuer ∷ above) n =
+    (named : Option ℕ) × IsNamedBy certs place named
+    × MatchBool (is_of tree named issuer)
+    ((m : ℕ) × AreNamed certs tree issuer above m × (n ≡ m + 1)) (n ≡ 0)
+
+-- ---- the rule
+
+-- what decides of a path whether it is shown: how many of its certificates, from the bottom up, name
+-- the file of the one above, and the octets of its CAs, from the top down
+pub record Rank : Type 0 where
+  pub named : ℕ
+  pub cas : List (List ℕ)
+
+-- the octets of the file at a place, and of those at some places
+abbrev pub octets_of : List FileFields → ℕ → List ℕ
+octets_of certs place = unwrap_or (option_map (λ file. file.octets) (slice_get certs place)) []
+
+abbrev pub octets_along : List FileFields → List ℕ → List (List ℕ)
+octets_along certs places = map (octets_of certs) places
+
+-- how two paths stand: the one with more certificates named goes before, then the one with fewer CAs,
+-- then the one with the lesser octets. The octets behind a certificate decide nothing: no certificate's
+-- octets begin with another's
+abbrev pub rank_order : Rank → Rank → Ordering
+rank_order r s =
+    ordering_then (ordering_then (nat_cmp s.named r.named) (nat_cmp (length r.cas) (length s.cas)))
+    (slice_cmp (slice_cmp nat_cmp) r.cas s.cas)
+
+-- the rank of a path to the certificate at a place, in the tree over these files of certificates
+pub record IsRank (certs : List FileFields) (tree : Tree) (place : ℕ) (path : FoundPath)
+    (rank : Rank) : Type 0 where
+  pub named_are : AreNamed certs tree place (reverse path.above.items) rank.named
+  pub cas_are : rank.cas ≡ octets_along certs path.above.items
+
+-- a path goes before another one
+pub record Precedes (certs : List FileFields) (tree : Tree) (place : ℕ) (path other : FoundPath)
+    : Type 0 where
+  pub rank : Rank
+  pub other_rank : Rank
+  pub rank_is : IsRank certs tree place path rank
+  pub other_is : IsRank certs tree place other other_rank
+  pub before : rank_order rank other_rank ≡ Less
+
+-- of these paths it is the one that is shown: none goes before it
+pub record IsShownPath (certs : List FileFields) (tree : Tree) (place : ℕ) (paths : List FoundPath)
+    (path : FoundPath) : Type 0 where
+  pub kept : Contains paths path
+  pub first : All (λ other. Precedes certs tree place other path → ⊥) paths
+
+-- ---- what is shown
+
+-- none goes before one that stands in front of it
+abbrev pub AreInOrder : List FileFields → Tree → ℕ → List FoundPath → Type 0
+AreInOrder certs tree place [] = Unit {0}
+AreInOrder certs tree place (path ∷ more) =
+    AllByRecursion (λ other. Precedes certs tree place other path → ⊥) more
+    × AreInOrder certs tree place more
+
+-- the shown path, and the others behind it
+abbrev pub all_of : ShownPaths → List FoundPath
+all_of shown = shown.shown.now ∷ map (λ path. path.now) shown.others.items
+
+-- of the paths that are kept to the certificate at a place one is shown; all are there, in the order of
+-- the rule, and it is counted how many aren't kept
+pub record AreShown (certs : List FileFields) (tree : Tree) (place : ℕ) (paths : AcceptedPaths)
+    (shown : ShownPaths) : Type 0 where
+  pub all : IsPermutation (paths_in paths) (all_of shown)
+  pub in_order : AreInOrder certs tree place (all_of shown)
+  pub is_shown : IsShownPath certs tree place (paths_in paths) shown.shown.now
+  pub more_is : shown.more ≡ paths.more
+
+-- ---- resources
+
+-- each set is in the other
+abbrev pub AreSame : List Block → List Block → Type 0
+AreSame one other = AreIn one other × AreIn other one
+
+-- the same numbers of each kind are held
+pub record HoldSame (one other : ResourceFields) : Type 0 where
+  pub v4 : AreSame one.v4 other.v4
+  pub v6 : AreSame one.v6 other.v6
+  pub as_numbers : AreSame one.as_numbers other.as_numbers
+
+-- ---- that order doesn't matter
+
+-- some of the paths have these ranks, and no other ones
+abbrev pub HaveRank : List FileFields → Tree → ℕ → List FoundPath → Rank → Type 0
+HaveRank certs tree place paths rank = Any (λ path. IsRank certs tree place path rank) paths
+
+-- Two lists of paths, also in trees over files in another order, that have the same ranks, whatever the
+-- order of the paths, show paths of one rank: as many certificates are named, and the octets of the CAs
+-- are the same
+abbrev pub ShowByRanks : Type 0
+ShowByRanks =
+    (certs files : List FileFields) (tree other : Tree) (place at : ℕ) (paths ways : List FoundPath)
+    (path way : FoundPath)
+    → ((rank : Rank) → HaveRank certs tree place paths rank ↔ HaveRank files other at ways rank)
+    → IsShownPath certs tree place paths path → IsShownPath files other at ways way
+    → (rank other_rank : Rank) → IsRank certs tree place path rank
+    → IsRank files other at way other_rank → rank ≡ other_rank
