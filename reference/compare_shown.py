@@ -6,11 +6,12 @@ in shown.py.
 
 PROGRAM is the command, as the gate builds it or as `./rpki` compiles it. It is asked about the files of
 examples/, tests/files/ and tests/locators/, those of examples/ also in PEM; and about N files (2,000 if it
-isn't said): of six one is a sound certificate, CRL or TAL in one of the many encodings that the grammar
-allows, and the others are damaged as those of compare_places.py, and TALs as those of questions_locators.py.
-The files' names have any characters; the time is before, in and behind periods. Several files are asked at
-once, as json and as text, and by chance with --all, --lenient, as jsonl, and alone; all that is printed is
-compared, to the byte, and the status; and each key in the JSON has to be in the page rpki-json(5).
+isn't said): of three one is a sound certificate, CRL or TAL, or the to-be-signed part of one, in one of the
+many encodings that the grammar allows, and the others are damaged as those of compare_places.py, and TALs as
+those of questions_locators.py. The files' names have any characters; the time is before, in and behind
+periods. Several files are asked at once, as json and as text, and by chance with --all, --lenient, as jsonl,
+and alone; all that is printed is compared, to the byte, and the status; and each key in the JSON has to be in
+the page rpki-json(5).
 
 Prints each difference, what the files were, and at the end `N passed, M failed`.
 """
@@ -172,6 +173,9 @@ def random_file(rng, files):
         return 'a CRL', compare_places.random_list(rng)
     if kind == 2:
         return 'a TAL', questions_locators.a_locator(rng, questions_locators.a_key(rng))
+    if kind == 3:
+        made = rng.choice([compare_places.random_certificate, compare_places.random_list])(rng)
+        return 'a to-be-signed part', ref.Cursor(made).take_sequence().capture_one()
     return compare_places.damaged(rng, files)
 
 

@@ -26,6 +26,8 @@ from profiles import CA, DETACHED, EE, ROUTER, TA, first_fault
 from refusals import LocatorError, Refusal
 
 FEW = 5
+# the OBJECT IDENTIFIER of sha256WithRSAEncryption (RFC 4055 5)
+ALGORITHM = bytes.fromhex('06092A864886F70D01010B')
 TYPES = {TA: 'ca_cert', CA: 'ca_cert', EE: 'ee_cert', DETACHED: 'ee_cert', ROUTER: 'router_key'}
 USAGES = {'Ca': ('keyCertSign, cRLSign', 'ca'), 'Ee': ('digitalSignature', 'ee')}
 OVERCLAIMS = {ref.REFUSE: ('rejected (RFC 6484 policy)', 'reject'), ref.TRIM: ('trimmed (RFC 8360 policy)', 'trim')}
@@ -277,6 +279,11 @@ def say_signature(answer):
                                       'not checked'))
 
 
+def say_no_signature(answer):
+    answer.line('Signature', doc.word(('signature',), 'none, this is the to-be-signed part (RFC 5280 4.1, 5.1)',
+                                      'none'))
+
+
 def say_certificate(answer, cert, options):
     say_fields(answer, cert, options)
     say_own_key(answer, cert.tbs)
@@ -287,7 +294,6 @@ def say_certificate(answer, cert, options):
     say_resources(answer, cert.tbs)
     say_profiles(answer, cert, options)
     say_remarks(answer, cert)
-    say_signature(answer)
 
 
 # ---- CRLs, TALs and others
@@ -309,7 +315,6 @@ def say_list(answer, crl, options):
                        doc.time((*its, 'date'), it.date))
     if is_cut:
         answer.further('..')
-    say_signature(answer)
 
 
 def say_locator(answer, name, locator):
@@ -351,12 +356,28 @@ def say_unread(answer, found, options):
 
 # ---- a file
 
+DECODERS = (ref.decode_cert, say_certificate), (ref.decode_crl, say_list)
+
+
+def to_be_signed(octets):
+    """What a TBSCertificate or a TBSCertList is with a signature of no bytes (RFC 5280 4.1, 5.1), and how it is
+    said; or nothing of other octets."""
+    for parameters in (b'\x05\x00', b''):
+        whole = ref.enc(0x30, octets, ref.enc(0x30, ALGORITHM, parameters), ref.enc(0x03, b'\x00'))
+        for decode, say in DECODERS:
+            found = folders.read(decode, whole)
+            if found is not None:
+                return found, say
+    return None
+
+
 def say_object(answer, file, options, told):
     """What a file is, and what is said of it."""
-    for decode, say in ((ref.decode_cert, say_certificate), (ref.decode_crl, say_list)):
+    for decode, say in DECODERS:
         found = folders.read(decode, file.octets)
         if found is not None:
             say(answer, found, options)
+            say_signature(answer)
             left = verdicts.behind(file.octets)
             if left:
                 answer.line('Bytes after its end', doc.count(('bytes_after_end',), left), ', not read')
@@ -370,9 +391,20 @@ def say_object(answer, file, options, told):
             say_unread(answer, unread(file.octets, told), options)
 
 
+def is_signed(file):
+    return any(folders.read(decode, file.octets) is not None for decode, _ in DECODERS)
+
+
 def answer_of(file, options, told):
     """What is said of a file, whose octets are those of its object, if this is told of it in the JSON."""
     answer, digest = doc.Answer(), hashlib.sha256(file.octets).digest()
+    unsigned = None if is_signed(file) else to_be_signed(file.octets)
+    if unsigned is not None:
+        found, say = unsigned
+        say_no_signature(answer)
+        answer.line('File', doc.text(('file',), file.name))
+        say(answer, found, options)
+        return answer
     answer.line('File', doc.text(('file',), file.name))
     answer.line('SHA-256', digest.hex())
     answer.keep(doc.word(('hash_id',), '', base64.b64encode(digest).decode()))
@@ -381,6 +413,6 @@ def answer_of(file, options, told):
 
 
 def can_be_shown(file, strict):
-    """Whether a file is a certificate, a CRL or a TAL."""
-    decoders = (ref.decode_cert, ref.decode_crl, lambda it: ref.decode_locator(it, strict))
+    """Whether a file is a certificate or a CRL, also one that is to be signed, or a TAL."""
+    decoders = (ref.decode_cert, ref.decode_crl, to_be_signed, lambda it: ref.decode_locator(it, strict))
     return any(folders.read(it, file.octets) is not None for it in decoders)

@@ -116,6 +116,7 @@ BELOW = EVERY | {'issuer': ['anchor.cer'], 'issuer-uri': f'{SITE}/anchor.cer',
 HOLDS = {'ipv4': '10.1.0.0/16', 'ipv6': '2001:db8:1::/48', 'as': '64496'}
 PLACES = {'repository': f'{SITE}/ca/', 'manifest': f'{SITE}/ca/ca.mft'}
 GREATEST = '7f' + 19 * 'ff'    # of the numbers of 20 octets
+NOT_SIGNED = 'Signature:                none, this is the to-be-signed part (RFC 5280 4.1, 5.1)'
 WANTED = {
     'anchor': EVERY | PLACES | {'key': 'anchor.pub', 'ipv4': '10.0.0.0/8',
                                 'ipv6': '2001:db8::/32', 'as': '64496-64511'},
@@ -150,7 +151,7 @@ def complete(issuers, *more, at=AT):
 
 
 def make(name, kind, signer, **changes):
-    """Prepares, signs by a key, and completes."""
+    """Prepares, signs by a key, and completes; and shows what was signed as what it became."""
     done = prepare(kind, **changes)
     check(f'{name} is prepared', done.returncode == 0 and not done.stderr, done.stderr)
     sign(done.stdout, signer)
@@ -158,7 +159,28 @@ def make(name, kind, signer, **changes):
     done = complete(issuers, at=changes.get('at', AT))
     check(f'{name} is completed', done.returncode == 0 and not done.stderr, done.stderr)
     Path(name).write_bytes(done.stdout)
+    compare_shown(name)
     return done.stdout
+
+
+def shown(name, *words):
+    done = rpki('show', *words, '--at', AT, name)
+    check(f'{name} is shown', done.returncode == 0 and not done.stderr, done.stderr)
+    return done.stdout.decode()
+
+
+def compare_shown(name):
+    """What `show` prints of signed.tbs is that of the object that it became, but for the signature and
+    the hash."""
+    lines, whole = (shown(it, '--all').splitlines() for it in ('signed.tbs', name))
+    rest = [it for it in whole if not it.startswith(('File: ', 'Signature: ', 'SHA-256: '))]
+    check(f'show prints what is signed of {name}',
+          lines == [NOT_SIGNED, 'File:                     signed.tbs', *rest],
+          '\n'.join(lines).encode())
+    data, whole = (json.loads(shown(it, '-j')) for it in ('signed.tbs', name))
+    del whole['hash_id']
+    check(f'show -j prints what is signed of {name}', data == whole | {'file': 'signed.tbs', 'signature': 'none'},
+          json.dumps(data).encode())
 
 
 def is_refused(what, done, text):
@@ -227,8 +249,9 @@ def run_page():
     os.symlink(program, 'rpki')
     done = subprocess.run(['sh', '-eu'], input=lines_of_page().encode(), capture_output=True)
     check('the round of ISSUING.md ends with success', done.returncode == 0, done.stderr)
-    check('its path is accepted', done.stdout.startswith(b'accepted: '),
+    check('what is signed is shown', done.stdout.startswith(NOT_SIGNED.encode() + b'\nFile:                     ca.tbs\n'),
           done.stdout)
+    check('its path is accepted', b'\naccepted: ' in done.stdout, done.stdout)
     check('its router is revoked', b'(Revoked, ' in done.stdout, done.stdout)
 
 

@@ -3,9 +3,9 @@ use Rattle.std.specs.Prelude.{All, IsFalse, IsTrue, slice_get, Option, Some, Non
 use Rattle.std.proofs.Common.{◌≡◌, ◌↔◌, ◌&&◌, ◌∷◌, ℕ, Bool, true, false, List, inl, inr, ⊎_elim, refl, sym, subst, ◌∙◌}
 use Rattle.std.proofs.lemmas.Bool.{and_from, and_parts, false≢true}
 use Rattle.std.proofs.lemmas.List.Elements.{All-cons, All-head, All-tail}
-use Rattle.rpki_answers.specs.Outcomes.{CanBeShown}
 use Rattle.rpki_files.specs.FileSorts.{IsToldSort}
 use Rattle.rpki_files.specs.Files.{FileFields}
+use Rattle.rpki_files.specs.ToBeSigned.{CanBeShown}
 use Rattle.rpki_files.specs.declared.sorts.Sort.{Sort}
 use Rattle.std.specs.List.{AllByRecursion}
 use Rattle.serde_json.specs.Data.{Data}
@@ -45,8 +45,11 @@ sort_there files place file None here told = λ other there.
 
 -- what is shown is what can be
 pub subject_shown : (strict : Bool) (octets : List ℕ) (s : Subject) → IsSubject strict octets s → IsTrue (can_be_shown s) ↔ CanBeShown strict octets
-subject_shown strict octets (subject.Certificate cert left) is = ((λ yes. inl (inl (cert.now, (is.0, is.1)))), (λ shown. refl))
-subject_shown strict octets (subject.List list left) is = ((λ yes. inl (inr (list.now.list, (is.0, is.1)))), (λ shown. refl))
+subject_shown strict octets (subject.Certificate cert left) is =
+    ((λ yes. inl (inl (inl (cert.now, (is.0, is.1))))), (λ shown. refl))
+subject_shown strict octets (subject.List list left) is =
+    ((λ yes. inl (inl (inr (list.now.list, (is.0, is.1))))), (λ shown. refl))
+subject_shown strict octets (subject.ToBeSigned whole) is = ((λ yes. inl (inr (whole.octets, is.1))), (λ shown. refl))
 subject_shown strict octets (subject.Locator tal) is = ((λ yes. inr (tal.tal, is.1)), (λ shown. refl))
 subject_shown strict octets (subject.NotALocator error) is =
     ((λ no. absurd (false≢true no)), (λ shown. absurd (⊎_elim is.0.0 is.1.2 shown)))

@@ -11,9 +11,10 @@ use Rattle.rpki_answers.specs.declared.outcomes.Outcome.TheVariants.{Success, Re
 use Rattle.rpki_verdicts.specs.declared.path.Verdict.TheVariants.{Accepted, Rejected}
 use Rattle.rpki_verdicts.specs.declared.path.Fault.{Fault}
 use Rattle.rpki_text.specs.CommandLines.{RequestFields}
-use Rattle.rpki_files.specs.Contents.{BeginsWithEither, IsList}
+use Rattle.rpki_files.specs.Contents.{IsList}
 use Rattle.rpki_files.specs.Files.{FileFields, file_names, contents}
 use Rattle.rpki_files.specs.LocatorFiles.{AreLocator}
+use Rattle.rpki_files.specs.ToBeSigned.{CanBeShown}
 use Rattle.rpki_verdicts.specs.PathAnswers.{IsVerdictBy}
 use Rattle.rpki_verdicts.specs.PathFiles.{Demands}
 
@@ -29,12 +30,8 @@ run_status (Err failure) = 3
 
 -- ---- the outcome
 
--- what `rpki show` shows: a certificate or a list, or the locator that the octets are
-abbrev pub CanBeShown : Bool → List ℕ → Type 0
-CanBeShown strict octets = BeginsWithEither octets ⊎ AreLocator strict octets
-
--- of files that are to be shown: success where each begins with a certificate or a list, or is a
--- locator, else rejection
+-- of files that are to be shown: success if each begins with a certificate or a list, or is the
+-- to-be-signed part of one, or a locator, else rejection
 abbrev pub IsOutcomeOfShow : Bool → List (List ℕ) → Outcome → Type 0
 IsOutcomeOfShow strict files Success = All (CanBeShown strict) files
 IsOutcomeOfShow strict files Rejection = All (CanBeShown strict) files → ⊥

@@ -29,7 +29,7 @@ use Rattle.rpki_text.specs.declared.notes.fact.FactKind.TheVariants as fact
 use Rattle.rpki_text.specs.declared.notes.note.Note.{Note}
 use Rattle.rpki_answers.specs.declared.showing.Options.{Options}
 use Rattle.rpki_answers.specs.RejectionDetails.{identifier_nodes, uri_nodes}
-use Rattle.rpki_answers.specs.ToldValues.{identifier_told, key_nodes, kind_told, listed_nodes, moment_told, serial_told, signature_line, until_line}
+use Rattle.rpki_answers.specs.ToldValues.{identifier_told, key_nodes, kind_told, listed_nodes, moment_told, serial_told, until_line}
 
 -- ---- fields
 
@@ -205,7 +205,7 @@ certificate_nodes f now all found =
     ++ (own_resource_nodes f.extensions
     ++ profile_nodes all found)))))
 
--- what is shown of the certificate that the octets begin with
+-- what is shown of the certificate that the octets begin with, but for its signature
 pub record IsShownCertificate (options : Options) (octets : List ℕ) (c : CertFields) (nodes : List Node) : Type 0 where
   pub found : Findings
   pub found_is : AreFindings options.strict c found
@@ -214,4 +214,4 @@ pub record IsShownCertificate (options : Options) (octets : List ℕ) (c : CertF
   pub notes : List Note
   pub notes_are : AreNotes octets notes
   pub nodes_are : nodes ≡
-      certificate_nodes c.fields options.at options.all found ++ (remark_nodes facts notes ++ signature_line ∷ [])
+      certificate_nodes c.fields options.at options.all found ++ remark_nodes facts notes

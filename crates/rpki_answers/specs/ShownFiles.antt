@@ -4,8 +4,9 @@ use Rattle.hex.specs.Hex.{encode_lower}
 use Rattle.sha2.specs.Sha256.{sha256}
 use Rattle.serde_json.specs.Data.{Data}
 use Rattle.rpki_cert.specs.Certificates.{CertFields, IsCertificate}
-use Rattle.rpki_crl.specs.Lists.{IsCertificateList, ListFields}
+use Rattle.rpki_crl.specs.Lists.{CrlFields, IsCertificateList, ListFields}
 use Rattle.rpki_crl.specs.RevokedEntries.{Revoked}
+use Rattle.rpki_der.specs.Encoding.{Means}
 use Rattle.rpki_der.specs.declared.error.DecodeError.{DecodeError}
 use Rattle.rpki_der.specs.declared.error.DecodeError.TheVariants.{Memory}
 use Rattle.rpki_document.specs.Documents.{text, characters, words, count, say, tell, show, keep, Node, line, inside, each, document_of, document_json, document_text, kept, told_line}
@@ -17,6 +18,7 @@ use Rattle.rpki_files.specs.FlawTexts.{flaw_text}
 use Rattle.rpki_files.specs.LocatorFiles.{AreLocator, IsWhyNoLocator, looks_like_locator}
 use Rattle.rpki_files.specs.Misreads.{StopsFor}
 use Rattle.rpki_files.specs.SortTexts.{sort_rule}
+use Rattle.rpki_files.specs.ToBeSigned.{BeginsWithAny, IsUnsigned}
 use Rattle.rpki_files.specs.declared.flaws.Flaw.{Flaw}
 use Rattle.rpki_files.specs.declared.places.Place.{Place}
 use Rattle.rpki_files.specs.declared.rules.Rule.{Rule}
@@ -35,7 +37,7 @@ use Rattle.rpki_answers.specs.JsonTexts.{values_text}
 use Rattle.rpki_answers.specs.RejectionDetails.{sort_nodes}
 use Rattle.rpki_answers.specs.ShownCertificates.{IsShownCertificate}
 use Rattle.rpki_answers.specs.ShownLists.{list_nodes}
-use Rattle.rpki_answers.specs.ToldValues.{identifier_told, key_nodes}
+use Rattle.rpki_answers.specs.ToldValues.{identifier_told, key_nodes, signature_line, unsigned_line}
 use Rattle.rpki_answers.specs.VerdictTexts.{SaysOfEach}
 use Rattle.rpki_answers.specs.declared.showing.Options.{Options}
 use Rattle.rpki_answers.specs.declared.showing.subjects.Rejection.{Rejection}
@@ -71,26 +73,39 @@ pub record IsRejection (octets : List ℕ) (r : Rejection) : Type 0 where
   pub rule_is : IsToldRule r.sort is_list fault octets (rule_of r.rule)
   pub place_is : StopsFor is_list octets fault r.place
 
--- the octets are this: a certificate or a CRL, behind which so many octets stand; a TAL; or none of
--- them, why they are no TAL if they look like one, or else why they aren't read
+-- the octets are this: a certificate or a CRL, behind which so many octets stand; the to-be-signed part
+-- of one; a TAL; or none of them, why they are no TAL if they look like one, or else why they aren't
+-- read
 abbrev pub IsSubject : Bool → List ℕ → Subject → Type 0
 IsSubject strict octets (subject.Certificate cert left) = BeginsBefore IsCertificate octets cert.now left
 IsSubject strict octets (subject.List list left) = BeginsBefore IsCertificateList octets list.now.list left
+IsSubject strict octets (subject.ToBeSigned whole) =
+    (BeginsWithEither octets → ⊥) × IsUnsigned octets whole.octets
 IsSubject strict octets (subject.Locator tal) =
-    (BeginsWithEither octets → ⊥) × IsLocator strict tal.tal octets
+    (BeginsWithAny octets → ⊥) × IsLocator strict tal.tal octets
 IsSubject strict octets (subject.NotALocator error) =
-    ((BeginsWithEither octets → ⊥) × IsTrue (looks_like_locator octets)) × IsWhyNoLocator strict octets error
+    ((BeginsWithAny octets → ⊥) × IsTrue (looks_like_locator octets)) × IsWhyNoLocator strict octets error
 IsSubject strict octets (subject.Unread rejection) =
-    ((BeginsWithEither octets → ⊥) × (AreLocator strict octets → ⊥))
+    ((BeginsWithAny octets → ⊥) × (AreLocator strict octets → ⊥))
     × (IsFalse (looks_like_locator octets) × IsRejection octets rejection)
 
 -- whether `rpki show` shows it
 abbrev pub can_be_shown : Subject → Bool
 can_be_shown (subject.Certificate cert left) = true
 can_be_shown (subject.List list left) = true
+can_be_shown (subject.ToBeSigned whole) = true
 can_be_shown (subject.Locator tal) = true
 can_be_shown (subject.NotALocator error) = false
 can_be_shown (subject.Unread rejection) = false
+
+-- whether it is the to-be-signed part of a certificate or a CRL
+abbrev pub is_to_be_signed : Subject → Bool
+is_to_be_signed (subject.Certificate cert left) = false
+is_to_be_signed (subject.List list left) = false
+is_to_be_signed (subject.ToBeSigned whole) = true
+is_to_be_signed (subject.Locator tal) = false
+is_to_be_signed (subject.NotALocator error) = false
+is_to_be_signed (subject.Unread rejection) = false
 
 -- ---- its document
 
@@ -99,9 +114,21 @@ abbrev pub hash_line : List ℕ → Node
 hash_line octets = line (codes "SHA-256") (
     show (text (encode_lower (sha256 octets))) ∷ keep (codes "hash_id") (text (base64_of (sha256 octets))) ∷ [])
 
--- the name of a file, and the hash of its octets
-abbrev pub file_nodes : FileFields → List Node
-file_nodes file = told_line (codes "File") (codes "file") (text file.name) ∷ hash_line file.octets ∷ []
+-- the name of a file
+abbrev pub name_line : FileFields → Node
+name_line file = told_line (codes "File") (codes "file") (text file.name)
+
+-- that, and the hash of its octets
+abbrev pub hashed_nodes : FileFields → List Node
+hashed_nodes file = name_line file ∷ hash_line file.octets ∷ []
+
+-- that it isn't signed, and its name
+abbrev pub unsigned_nodes : FileFields → List Node
+unsigned_nodes file = unsigned_line ∷ name_line file ∷ []
+
+-- these of a to-be-signed part, those of another file
+abbrev pub file_nodes : FileFields → Bool → List Node
+file_nodes file to_be_signed = if to_be_signed then unsigned_nodes file else hashed_nodes file
 
 -- how many octets stand behind an object
 abbrev pub left_line : ℕ → Node
@@ -180,16 +207,23 @@ unread_nodes all r = sort_nodes r.sort ++ (stop_nodes (shows_stop all r.sort) r 
 -- the certificate that octets begin with, behind which so many octets stand
 abbrev pub IsShownBefore : Options → List ℕ → CertFields → ℕ → List Node → Type 0
 IsShownBefore options octets c left nodes =
-    (its : List Node) × IsShownCertificate options octets c its × (nodes ≡ its ++ behind_nodes left)
+    (its : List Node) × IsShownCertificate options octets c its × (nodes ≡ its ++ signature_line ∷ behind_nodes left)
 
 -- a CRL behind which so many octets stand
 abbrev pub whole_list_nodes : Options → ListFields Revoked → ℕ → List Node
-whole_list_nodes options list left = list_nodes list options.at options.all ++ behind_nodes left
+whole_list_nodes options list left = list_nodes list options.at options.all ++ signature_line ∷ behind_nodes left
+
+-- the certificate or the CRL that octets begin with, but for its signature
+abbrev pub IsShownUnsigned : Options → List ℕ → List Node → Type 0
+IsShownUnsigned options octets nodes =
+    ((c : CertFields) × Means IsCertificate c octets × IsShownCertificate options octets c nodes)
+    ⊎ ((l : CrlFields) × Means IsCertificateList l octets × (nodes ≡ list_nodes l.fields options.at options.all))
 
 -- what is said of a file that is this
 abbrev pub IsSaid : Options → FileFields → Subject → List Node → Type 0
 IsSaid options file (subject.Certificate cert left) nodes = IsShownBefore options file.octets cert.now left nodes
 IsSaid options file (subject.List list left) nodes = nodes ≡ whole_list_nodes options list.now.list.fields left
+IsSaid options file (subject.ToBeSigned whole) nodes = IsShownUnsigned options whole.octets nodes
 IsSaid options file (subject.Locator tal) nodes =
     (key : KeyAnswer) × IsLocatorKey tal.tal.key key × (nodes ≡ tal_nodes file.name tal.tal key)
 IsSaid options file (subject.NotALocator error) nodes =
@@ -202,7 +236,7 @@ pub record IsFileDocument (options : Options) (file : FileFields) (nodes : List 
   pub what_is : IsSubject options.strict file.octets what
   pub said : List Node
   pub said_is : IsSaid options file what said
-  pub nodes_are : nodes ≡ file_nodes file ++ said
+  pub nodes_are : nodes ≡ file_nodes file (is_to_be_signed what) ++ said
 
 -- ---- its two renderings
 

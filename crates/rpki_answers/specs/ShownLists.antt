@@ -5,7 +5,7 @@ use Rattle.rpki_crl.specs.RevokedEntries.{Entry, Revoked}
 use Rattle.rpki_der.specs.Times.{Moment}
 use Rattle.rpki_document.specs.Documents.{Told, words, count, printed, say, tell, show, Node, line, further, inside, each, document_of, told_line}
 use Rattle.rpki_parts.specs.NameTexts.{name_text}
-use Rattle.rpki_answers.specs.ToldValues.{identifier_told, moment_told, serial_told, signature_line, until_line}
+use Rattle.rpki_answers.specs.ToldValues.{identifier_told, moment_told, serial_told, until_line}
 
 -- how many revoked certificates are shown, unless all are asked for
 abbrev pub few : ℕ
@@ -47,9 +47,9 @@ update_nodes from until now =
     ∷ until_line (codes "Next update") (codes "valid_until") (codes "goes stale") (codes "went stale") from until now
     ∷ []
 
--- a CRL at a time
+-- a CRL at a time, but for its signature
 abbrev pub list_nodes : ListFields Revoked → Moment → Bool → List Node
 list_nodes l now all =
     list_head l
     ++ (update_nodes l.this_update l.next_update now
-    ++ (revoked_nodes all l.revoked.entries ++ signature_line ∷ []))
+    ++ revoked_nodes all l.revoked.entries)

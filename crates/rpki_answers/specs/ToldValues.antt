@@ -52,6 +52,11 @@ abbrev pub signature_line : Node
 signature_line = told_line (codes "Signature") (codes "signature") (
     words (codes "not checked (rpki validate checks those of a path)") (codes "not checked"))
 
+-- that there is none
+abbrev pub unsigned_line : Node
+unsigned_line = told_line (codes "Signature") (codes "signature") (
+    words (codes "none, this is the to-be-signed part (RFC 5280 4.1, 5.1)") (codes "none"))
+
 -- ---- keys
 
 -- the algorithm of a key of this form

@@ -1,8 +1,8 @@
 //! What files are: the answer of `show`, as text or as JSON.
 ghost use Rattle.std.specs.Prelude.{◌≡◌, ◌≢◌, ◌↔◌, All, IfOk, IsTrue, OnOk, map, string_bytes};
 ghost use Rattle.serde_json.specs.View.{view};
-ghost use Rattle.rpki_answers.specs.Outcomes.{CanBeShown};
 ghost use Rattle.rpki_files.specs.Files.{contents};
+ghost use Rattle.rpki_files.specs.ToBeSigned.{CanBeShown};
 ghost use Rattle.rpki_answers.specs.Outcomes.{IsOutcomeOfShow};
 ghost use Rattle.rpki_answers.specs.ShownFiles.{Grows, IsFileItem, IsFileText, IsFileValue, IsFurtherText, IsJsonOfFiles, IsTextOfFiles};
 ghost use Rattle.rpki_answers.specs.VerdictTexts.{SaysOfEach};
@@ -240,7 +240,7 @@ fn json_of_files(
 
 /// Writes what the files are, as lines for a person or as JSON, which is one value if exactly one
 /// file is named. The outcome is success if each file starts with a certificate or a CRL, or is a
-/// TAL.
+/// TAL or a to-be-signed part.
 ///
 /// # Errors
 ///

@@ -7,7 +7,7 @@ ghost use Rattle.rpki_document.specs.Views.{leaf_view};
 ghost use Rattle.rpki_text.specs.BlockLines.{family_address_text, family_text};
 ghost use Rattle.rpki_parts.specs.NameTexts.{name_text};
 ghost use Rattle.rpki_text.specs.KeyTexts.{point_text};
-ghost use Rattle.rpki_answers.specs.ToldValues.{addresses_node, algorithm_word, ends_node, exponent_nodes, form_nodes, form_word, identifier_told, key_nodes, kind_told, line_at, listed_nodes, moment_told, numbers_node, point_node, point_nodes, resource_nodes, set_nodes, signature_line, single_node, until_line};
+ghost use Rattle.rpki_answers.specs.ToldValues.{addresses_node, algorithm_word, ends_node, exponent_nodes, form_nodes, form_word, identifier_told, key_nodes, kind_told, line_at, listed_nodes, moment_told, numbers_node, point_node, point_nodes, resource_nodes, set_nodes, signature_line, single_node, unsigned_line, until_line};
 
 use rpki_blocks::{Addr, AsBlock, AsBlocks, AsResources, IpBlock, IpBlocks, IpResources};
 use rpki_cert::{Kind, TbsCert};
@@ -88,6 +88,22 @@ pub fn add_until<'p>(
         Piece::Say(")"),
     ]?;
     add_line(parts, label, pieces)
+}
+
+/// Adds that an object isn't signed.
+pub fn add_unsigned(parts: &mut Vec<Part<'_>>, alloc: Global) -> Result<(), AllocError>
+    ensures { OnOk result (Adds (unsigned_line ∷ []) parts.old.items parts.new.items) }
+{
+    add_told(
+        parts,
+        alloc,
+        "Signature",
+        "signature",
+        Leaf::Words(
+            "none, this is the to-be-signed part (RFC 5280 4.1, 5.1)",
+            "none",
+        ),
+    )
 }
 
 /// Adds that the signature of an object isn't checked.

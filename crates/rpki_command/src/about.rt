@@ -29,7 +29,7 @@ const USAGE: &str = "usage: rpki COMMAND [OPTION].. FILE..
 ";
 
 const SHOW: &str = "usage: rpki show [OPTION].. FILE..
-Prints what certificates, CRLs and TALs contain. It validates nothing.
+Prints what certificates, CRLs, TALs and to-be-signed parts contain. It validates nothing.
 FILE is DER or PEM; - is standard input; after -- each word is a FILE.
   --all                 prints all entries of a CRL, not only the first five
   --at TIME             the time for what expires when; if left out, the clock's

@@ -9,8 +9,7 @@ ghost use Rattle.rpki_answers.specs.ShownCertificates.{IsShownCertificate, all_p
 use crate::details::{add_https, add_identifier, add_uri};
 use crate::showing::Options;
 use crate::told::{
-    add_key, add_listed, add_signature, add_until, identifier_leaf, kind_leaf, moment_leaf,
-    name_leaf, printed,
+    add_key, add_listed, add_until, identifier_leaf, kind_leaf, moment_leaf, name_leaf, printed,
 };
 use rpki_cert::{Cert, InspectionError, KeyUsage, Kind, Overclaim, TbsCert};
 use rpki_der::Time;
@@ -473,7 +472,7 @@ fn add_found<'p>(
     add_profiles(parts, alloc, options.all, found)
 }
 
-/// Adds the certificate that a file starts with.
+/// Adds the certificate that a file starts with, but for its signature.
 pub fn add_certificate<'p>(
     parts: &mut Vec<Part<'p>>,
     alloc: Global,
@@ -489,6 +488,5 @@ pub fn add_certificate<'p>(
     let facts = facts_of(alloc, object)?;
     let notes = notes_of(alloc, object)?;
     add_found(parts, alloc, cert.as_tbs(), &found, options)?;
-    add_remarks(parts, alloc, &facts, &notes)?;
-    add_signature(parts, alloc)
+    add_remarks(parts, alloc, &facts, &notes)
 }

@@ -6,23 +6,23 @@ ghost use Rattle.rpki_document.specs.Building.{Adds, AddsSome, nodes_of};
 ghost use Rattle.rpki_keys.specs.Digits.{base64_of};
 ghost use Rattle.rpki_keys.specs.Locators.{uri_text};
 ghost use Rattle.rpki_cert.specs.Certificates.{IsCertificate};
-ghost use Rattle.rpki_files.specs.Contents.{BeginsBefore};
+ghost use Rattle.rpki_files.specs.Contents.{BeginsBefore, BeginsWithEither};
 ghost use Rattle.rpki_files.specs.FaultRules.{rule_of, tal_rule};
 ghost use Rattle.rpki_text.specs.KeyTexts.{IsLocatorKey};
-ghost use Rattle.rpki_answers.specs.ShownFiles.{IsFileDocument, IsSaid, IsShownBefore, IsSubject, behind_nodes, fault_nodes, file_nodes, found_nodes, hash_line, left_line, no_tal_nodes, place_nodes, rule_nodes, shows_stop, stop_nodes, tal_key_nodes, tal_nodes, unread_nodes, uri_line, where_line, whole_list_nodes};
+ghost use Rattle.rpki_answers.specs.ShownFiles.{IsFileDocument, IsSaid, IsShownBefore, IsShownUnsigned, IsSubject, behind_nodes, fault_nodes, file_nodes, found_nodes, hash_line, hashed_nodes, left_line, name_line, no_tal_nodes, place_nodes, rule_nodes, shows_stop, stop_nodes, tal_key_nodes, tal_nodes, unread_nodes, unsigned_nodes, uri_line, where_line, whole_list_nodes};
 
 use crate::details::add_sort;
 use crate::showing::Options;
 use crate::showing::certificates::add_certificate;
 use crate::showing::lists::add_list;
 use crate::showing::subjects::{Rejection, Subject};
-use crate::told::{add_key, identifier_leaf, printed};
+use crate::told::{add_key, add_signature, add_unsigned, identifier_leaf, printed};
 use base64::engine::general_purpose::STANDARD;
 use rpki_cert::Cert;
 use rpki_crl::Crl;
 use rpki_document::{Leaf, Part, Piece, add_each, add_inside, add_kept, add_line, add_told};
 use rpki_files::rules::{Rule, of_tal};
-use rpki_files::{Flaw, Object, Place, Sort};
+use rpki_files::{Content, Flaw, Object, Place, Sort};
 use rpki_keys::tal::{Tal, TalError, TalUri};
 use rpki_text::keys::{KeyAnswer, LocatorKey, answer_of_locator};
 use sha2::{Digest, Sha256};
@@ -57,16 +57,55 @@ fn add_hash(parts: &mut Vec<Part<'_>>, alloc: Global, octets: &[u8]) -> Result<(
     add_line(parts, "SHA-256", pieces)
 }
 
-// The name of a file, and the hash of its object.
-fn add_file<'p>(
+fn add_name<'p>(
     parts: &mut Vec<Part<'p>>,
     alloc: Global,
     object: &'p Object<'_>,
 ) -> Result<(), AllocError>
-    ensures { OnOk result (Adds (file_nodes object.now) parts.old.items parts.new.items) }
+    ensures { OnOk result (Adds (name_line object.now ∷ []) parts.old.items parts.new.items) }
 {
-    add_told(parts, alloc, "File", "file", Leaf::Text(object.name()))?;
+    add_told(parts, alloc, "File", "file", Leaf::Text(object.name()))
+}
+
+// And the hash of its object.
+fn add_hashed<'p>(
+    parts: &mut Vec<Part<'p>>,
+    alloc: Global,
+    object: &'p Object<'_>,
+) -> Result<(), AllocError>
+    ensures { OnOk result (Adds (hashed_nodes object.now) parts.old.items parts.new.items) }
+{
+    add_name(parts, alloc, object)?;
     add_hash(parts, alloc, object.octets().as_slice())
+}
+
+// That it isn't signed, and its name.
+fn add_unsigned_file<'p>(
+    parts: &mut Vec<Part<'p>>,
+    alloc: Global,
+    object: &'p Object<'_>,
+) -> Result<(), AllocError>
+    ensures { OnOk result (Adds (unsigned_nodes object.now) parts.old.items parts.new.items) }
+{
+    add_unsigned(parts, alloc)?;
+    add_name(parts, alloc, object)
+}
+
+// Those of a to-be-signed part, or of another file.
+fn add_file<'p>(
+    parts: &mut Vec<Part<'p>>,
+    alloc: Global,
+    object: &'p Object<'_>,
+    to_be_signed: bool,
+) -> Result<(), AllocError>
+    ensures { let its = file_nodes object.now to_be_signed in
+        OnOk result (Adds its parts.old.items parts.new.items) }
+{
+    if to_be_signed {
+        add_unsigned_file(parts, alloc, object)
+    } else {
+        add_hashed(parts, alloc, object)
+    }
 }
 
 // How many octets stand behind an object.
@@ -293,6 +332,7 @@ fn add_whole_certificate<'p>(
         OnOk result (AddsSome Is parts.old.items parts.new.items) }
 {
     add_certificate(parts, alloc, object, cert, options)?;
+    add_signature(parts, alloc)?;
     add_behind(parts, alloc, left)
 }
 
@@ -307,7 +347,28 @@ fn add_whole_list<'p>(
         OnOk result (Adds its parts.old.items parts.new.items) }
 {
     add_list(parts, alloc, list.as_cert_list(), options.at, options.all)?;
+    add_signature(parts, alloc)?;
     add_behind(parts, alloc, left)
+}
+
+// A to-be-signed part, here with a signature of no bytes.
+fn add_to_be_signed<'p>(
+    parts: &mut Vec<Part<'p>>,
+    alloc: Global,
+    whole: &'p Object<'_>,
+    options: &Options,
+) -> Result<(), AllocError>
+    requires { BeginsWithEither whole.now.octets }
+    ensures { let Is = IsShownUnsigned options.now whole.now.octets in
+        OnOk result (AddsSome Is parts.old.items parts.new.items) }
+{
+    match whole.content() {
+        Content::Certificate(cert, _) => add_certificate(parts, alloc, whole, cert, options),
+        Content::List(list, _) => {
+            add_list(parts, alloc, list.as_cert_list(), options.at, options.all)
+        }
+        Content::Neither(_) => unreachable!(),
+    }
 }
 
 // What is said of a file that is this.
@@ -327,6 +388,7 @@ fn add_said<'p>(
             add_whole_certificate(parts, alloc, object, *cert, *left, options)
         }
         Subject::List(list, left) => add_whole_list(parts, alloc, *list, *left, options),
+        Subject::ToBeSigned(whole) => add_to_be_signed(parts, alloc, whole, options),
         Subject::Locator(tal) => add_tal(parts, alloc, object.name(), tal),
         Subject::NotALocator(error) => add_no_tal(parts, alloc, error),
         Subject::Unread(it) => add_unread(parts, alloc, options.all, it),
@@ -344,7 +406,7 @@ pub fn file_document<'p>(
     ensures { IfOk result (λ parts. IsFileDocument options.now object.now (nodes_of parts.items)) }
 {
     let mut parts = Vec::new(alloc);
-    add_file(&mut parts, alloc, object)?;
+    add_file(&mut parts, alloc, object, subject.is_to_be_signed())?;
     add_said(&mut parts, alloc, object, subject, options)?;
     Ok(parts)
 }

@@ -4,7 +4,7 @@ ghost use Rattle.rpki_document.specs.Building.{Adds};
 ghost use Rattle.rpki_document.specs.Views.{leaf_view};
 ghost use Rattle.rpki_answers.specs.ShownLists.{entry_node, entry_nodes, few, list_head, list_nodes, revocation_node, revoked_nodes, update_nodes};
 
-use crate::told::{add_signature, add_until, identifier_leaf, moment_leaf, name_leaf, printed};
+use crate::told::{add_until, identifier_leaf, moment_leaf, name_leaf, printed};
 use rpki_crl::{RevokedCertificates, TbsCertList};
 use rpki_der::{Serial, Time};
 use rpki_document::{Leaf, Part, Piece, add_each, add_further, add_inside, add_line, add_told};
@@ -177,7 +177,8 @@ fn add_updates(
     add_until(parts, alloc, "Next update", "valid_until", &period)
 }
 
-/// Adds a CRL at a validation time, with all revoked certificates or the first few.
+/// Adds a CRL at a validation time, with all revoked certificates or the first few, but for its
+/// signature.
 pub fn add_list(
     parts: &mut Vec<Part<'_>>,
     alloc: Global,
@@ -195,6 +196,5 @@ pub fn add_list(
         fields.next_update(),
         now,
     )?;
-    add_revoked(parts, alloc, fields.revoked_certs(), all)?;
-    add_signature(parts, alloc)
+    add_revoked(parts, alloc, fields.revoked_certs(), all)
 }

@@ -5,7 +5,8 @@ ghost use Rattle.rpki_files.specs.Contents.{BeginsWithEither};
 ghost use Rattle.rpki_files.specs.FaultRules.{rule_of};
 ghost use Rattle.rpki_files.specs.LocatorFiles.{IsWhyNoLocator};
 ghost use Rattle.rpki_files.specs.Misreads.{kept_fault};
-ghost use Rattle.rpki_answers.specs.ShownFiles.{IsRejection, IsSubject, IsToldAsCertificate, IsToldAsList, IsToldRule, can_be_shown};
+ghost use Rattle.rpki_files.specs.ToBeSigned.{BeginsWithAny};
+ghost use Rattle.rpki_answers.specs.ShownFiles.{IsRejection, IsSubject, IsToldAsCertificate, IsToldAsList, IsToldRule, can_be_shown, is_to_be_signed};
 
 use bytes::Bytes;
 use rpki_cert::Cert;
@@ -13,8 +14,8 @@ use rpki_crl::Crl;
 use rpki_der::DecodeError;
 use rpki_files::rules::{Rule, of_file};
 use rpki_files::{
-    Content, Form, Object, Place, Sort, describe, looks_like, looks_like_locator, place_for,
-    read_locator,
+    Content, Form, Object, Place, Sort, as_unsigned, describe, looks_like, looks_like_locator,
+    place_for, read_locator,
 };
 use rpki_keys::tal::{Tal, TalError};
 use std::alloc::{AllocError, Global};
@@ -36,6 +37,8 @@ pub enum Subject<'a> {
     Certificate(&'a Cert, usize),
     /// It starts with a CRL, and so many bytes follow.
     List(&'a Crl, usize),
+    /// It is a TBSCertificate or a TBSCertList, here with a signature of no bytes.
+    ToBeSigned(Object<'a>),
     Locator(Tal),
     /// It looks like a TAL and isn't one.
     NotALocator(TalError),
@@ -43,13 +46,31 @@ pub enum Subject<'a> {
 }
 
 impl Subject<'_> {
-    /// Returns whether the file starts with a certificate or a CRL, or is a TAL.
+    /// Returns whether the file starts with a certificate or a CRL, or is the to-be-signed part of
+    /// one, or a TAL.
     pub fn can_be_shown(&self) -> bool
         ensures { result ≡ can_be_shown self.now }
     {
         match self {
-            Subject::Certificate(..) | Subject::List(..) | Subject::Locator(_) => true,
+            Subject::Certificate(..)
+            | Subject::List(..)
+            | Subject::ToBeSigned(_)
+            | Subject::Locator(_) => true,
             Subject::NotALocator(_) | Subject::Unread(_) => false,
+        }
+    }
+
+    /// Returns whether the file is the to-be-signed part of a certificate or a CRL.
+    pub fn is_to_be_signed(&self) -> bool
+        ensures { result ≡ is_to_be_signed self.now }
+    {
+        match self {
+            Subject::ToBeSigned(_) => true,
+            Subject::Certificate(..)
+            | Subject::List(..)
+            | Subject::Locator(_)
+            | Subject::NotALocator(_)
+            | Subject::Unread(_) => false,
         }
     }
 }
@@ -132,7 +153,7 @@ fn other_subject<'a>(
     error: TalError,
 ) -> Result<Subject<'a>, AllocError>
     requires fault { fault.now ≢ decoding.Memory }
-    requires neither { BeginsWithEither object.now.octets → ⊥ }
+    requires none { BeginsWithAny object.now.octets → ⊥ }
     ensures { (strict : _) → IsWhyNoLocator strict object.now.octets error
         → IfOk result (λ it. IsSubject strict object.now.octets it) }
 {
@@ -142,6 +163,24 @@ fn other_subject<'a>(
     drop(error);
     let rejection = rejection_of(alloc, object, fault)?;
     Ok(Subject::Unread(rejection))
+}
+
+// What a file is that is no certificate and no CRL, signed or not.
+fn subject_of_none<'a>(
+    alloc: Global,
+    object: &'a Object<'_>,
+    fault: &DecodeError,
+    strict: bool,
+) -> Result<Subject<'a>, AllocError>
+    requires fault { fault.now ≢ decoding.Memory }
+    requires none { BeginsWithAny object.now.octets → ⊥ }
+    ensures { IfOk result (λ it. IsSubject strict object.now.octets it) }
+{
+    let octets = object.octets().as_slice();
+    match read_locator(alloc, object.name(), octets, strict)? {
+        Ok(tal) => Ok(Subject::Locator(tal)),
+        Err(error) => other_subject(alloc, object, fault, error),
+    }
 }
 
 // What a file is that starts with neither a certificate nor a CRL.
@@ -155,10 +194,9 @@ fn subject_of_neither<'a>(
     requires neither { BeginsWithEither object.now.octets → ⊥ }
     ensures { IfOk result (λ it. IsSubject strict object.now.octets it) }
 {
-    let octets = object.octets().as_slice();
-    match read_locator(alloc, object.name(), octets, strict)? {
-        Ok(tal) => Ok(Subject::Locator(tal)),
-        Err(error) => other_subject(alloc, object, fault, error),
+    match as_unsigned(alloc, object.name(), object.octets())? {
+        Some(whole) => Ok(Subject::ToBeSigned(whole)),
+        None => subject_of_none(alloc, object, fault, strict),
     }
 }
 

@@ -1,6 +1,6 @@
 use Rattle.std.proofs.Common.{[], map, refl, rules}
 use Rattle.serde_json.specs.View.{view}
-use Rattle.rpki_answers.specs.Outcomes.{CanBeShown}
+use Rattle.rpki_files.specs.ToBeSigned.{CanBeShown}
 use Rattle.rpki_files.specs.Files.{contents}
 use Rattle.rpki_answers.specs.ShownFiles.{IsFileItem}
 use Rattle.rpki_answers.specs.VerdictTexts.{SaysOfEach}

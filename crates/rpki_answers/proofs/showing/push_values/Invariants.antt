@@ -1,7 +1,7 @@
 use Rattle.std.specs.Prelude.{All, IsTrue, map}
 use Rattle.std.proofs.Common.{◌↔◌, take}
 use Rattle.serde_json.specs.View.{view}
-use Rattle.rpki_answers.specs.Outcomes.{CanBeShown}
+use Rattle.rpki_files.specs.ToBeSigned.{CanBeShown}
 use Rattle.rpki_files.specs.Files.{contents}
 use Rattle.rpki_answers.specs.ShownFiles.{Grows, IsFileItem}
 use Rattle.rpki_answers.specs.VerdictTexts.{SaysOfEach}

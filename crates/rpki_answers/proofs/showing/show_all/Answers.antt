@@ -1,6 +1,6 @@
 use Rattle.std.specs.Prelude.{All, IsTrue}
 use Rattle.std.proofs.Common.{rules, ◌≡◌, ◌↔◌, ◌&&◌, ◌∷◌, ◌++◌, List, string_bytes, refl, sym, subst}
-use Rattle.rpki_answers.specs.Outcomes.{CanBeShown}
+use Rattle.rpki_files.specs.ToBeSigned.{CanBeShown}
 use Rattle.rpki_files.specs.Files.{FileFields, contents}
 use Rattle.rpki_answers.specs.ShownFiles.{Grows, IsTextOfFiles}
 use Rattle.rpki_answers.proofs.GrownLists.{then_grown}

@@ -1,5 +1,5 @@
 use Rattle.std.proofs.Common.{[], string_bytes, refl, rules}
-use Rattle.rpki_answers.specs.Outcomes.{CanBeShown}
+use Rattle.rpki_files.specs.ToBeSigned.{CanBeShown}
 use Rattle.rpki_files.specs.Files.{contents}
 use Rattle.rpki_answers.specs.ShownFiles.{IsFurtherText}
 use Rattle.rpki_answers.specs.VerdictTexts.{SaysOfEach}

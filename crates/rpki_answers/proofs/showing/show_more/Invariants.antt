@@ -1,6 +1,6 @@
 use Rattle.std.specs.Prelude.{All, IsTrue, string_bytes}
 use Rattle.std.proofs.Common.{◌↔◌, take}
-use Rattle.rpki_answers.specs.Outcomes.{CanBeShown}
+use Rattle.rpki_files.specs.ToBeSigned.{CanBeShown}
 use Rattle.rpki_files.specs.Files.{contents}
 use Rattle.rpki_answers.specs.ShownFiles.{Grows, IsFurtherText}
 use Rattle.rpki_answers.specs.VerdictTexts.{SaysOfEach}

@@ -19,6 +19,12 @@ returns-in-List c =
     (whole_list_nodes o list.now.list.fields c.in-List.left) c.args.parts.now.items c.add_whole_list.new.parts.items refl
     c.add_whole_list.ensures)
 
+pub add_to_be_signed-requires : goal.add_to_be_signed-requires
+add_to_be_signed-requires c = (rw c.in-ToBeSigned.is at c.requires).1.begins
+
+pub returns-in-ToBeSigned : goal.returns-in-ToBeSigned
+returns-in-ToBeSigned c = rw c.in-ToBeSigned.is c.add_to_be_signed.ensures
+
 pub returns-in-Locator : goal.returns-in-Locator
 returns-in-Locator c =
     let tal = c.in-Locator.tal.tal in
