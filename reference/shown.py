@@ -43,7 +43,7 @@ FURTHER = {'unknown_extension': 'Unknown extension', 'practice_statement': 'Prac
            'unknown_access_method': 'Unknown access method', 'method_uri': 'URI of that method'}
 RSA_FORMS = {'even-modulus': ('an even modulus', 'even modulus'), 'no-rsa-key': ('no RSAPublicKey', 'no RSAPublicKey')}
 RSA_ASKED = 'RFC 7935 3 requires 2048 bits, exponent 65537'
-POINT_ASKED = 'RFC 8608 3.1 requires an uncompressed point of the curve'
+POINT_ASKED = 'RFC 8608 3.1 and an own rule require an uncompressed point of the curve'
 TAL_ASKED = 'every path is rejected: RFC 7935 3 requires RSA, 2048 bits, exponent 65537'
 
 
@@ -129,9 +129,11 @@ def rule_of(octets, reading, is_list):
                 'Duplicate': texts.Rule('an extension appears twice', 'RFC 5280 4.2'),
                 'InvalidExtension': texts.Rule(
                     'a CRL has no extensions but Authority Key Identifier and CRL Number', 'RFC 6487 5')}.get(
-                    reading.name, texts.Rule('it doesn\'t begin with a CRL of the profile', 'RFC 6487 5'))
+                    reading.name, texts.Rule('it doesn\'t begin with a CRL of the profile', 'RFC 6487 5, own rules'))
     if reading.name == 'WrongResources' and not verdicts.has_policies(octets):
         return texts.Rule('Certificate Policies are missing', 'RFC 6487 4.8.9')
+    if reading.name == 'Duplicate' and reading.of in ('IpResources', 'AsResources'):
+        return texts.Rule('IP or AS resources appear twice, or under both identifiers', 'RFC 5280 4.2, own rule')
     return texts.Rule(says, section or texts.parts()[reading.of])
 
 

@@ -23,7 +23,7 @@ from refusals import Refusal, RevocationError
 KINDS = {TA: ('trust anchor', 'ta'), CA: ('CA', 'ca'), EE: ('EE', 'ee'),
          DETACHED: ('detached EE', 'detached_ee'), ROUTER: ('BGPsec router', 'router')}
 SIGNATURES = 'checked (RSASSA-PKCS1-v1_5 with SHA-256, RFC 7935)'
-NOT_A_LIST = texts.Rule("a file given as a CRL isn't one", 'RFC 6487 5')
+NOT_A_LIST = texts.Rule("a file given as a CRL isn't one", 'RFC 6487 5, own rules')
 SELF_NAMED = texts.Rule('the trust anchor\'s issuer isn\'t its subject', 'RFC 8630 2.3')
 
 
@@ -204,7 +204,7 @@ def key_fault(question, result):
     if keys.is_used(key.format == P256, key.bits):
         return None
     rule = texts.Rule('its key isn\'t RSA of 2048 bits with the exponent 65537', 'RFC 7935 3') \
-        if key.format == RSA else texts.Rule('its key isn\'t an uncompressed point on the curve P-256', 'RFC 8608 3.1')
+        if key.format == RSA else texts.Rule('its key isn\'t an uncompressed point on the curve P-256', 'RFC 8608 3.1, own rule')
     return Fault('key', 'BadKey', rule, len(question.members) - 1)
 
 

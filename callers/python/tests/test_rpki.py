@@ -1260,6 +1260,7 @@ class Issuing(unittest.TestCase):
         late = words | {"prepared": short, "signature": sign(short, "anchor")}
         late["at"] = self.at + 2 * second
         self.refuses("Stale", "prepared", complete_list, **late)
+        self.refuses("Stale", "prepared", complete_list, **(words | {"at": self.at - second}))
 
     def test_many_entries(self) -> None:
         """The set of serial numbers answers as the library does."""

@@ -307,7 +307,8 @@ abbrev pub IsOpening : QuestionFields → Finding → List Node → Type 0
 IsOpening question (NotALocator fault) nodes =
     nodes ≡ unjudged_nodes fault.step.now fault.rule.says.now fault.name.now fault.rule.section.now
 IsOpening question NotAList nodes =
-    nodes ≡ unjudged_nodes (codes "crls") (codes "a file given as a CRL isn't one") (codes "NotACrl") (codes "RFC 6487 5")
+    nodes ≡ unjudged_nodes (codes "crls") (codes "a file given as a CRL isn't one") (codes "NotACrl")
+    (codes "RFC 6487 5, own rules")
 IsOpening question (Decided None) nodes = nodes ≡ rejected_head (say (codes "no certificate was given") ∷ []) ∷ []
 IsOpening question (Decided (Some (Accepted j))) nodes = nodes ≡ accepted_head (last_name question.members) ∷ []
 IsOpening question (Decided (Some (Rejected fault))) nodes = AreRejection question fault nodes

@@ -978,7 +978,14 @@ fn add_opening<'p>(
             )
         }
         Finding::NotAList => {
-            add_unjudged(parts, alloc, "crls", NO_LIST, "NotACrl", "RFC 6487 5")
+            add_unjudged(
+                parts,
+                alloc,
+                "crls",
+                NO_LIST,
+                "NotACrl",
+                "RFC 6487 5, own rules",
+            )
         }
         Finding::Decided(verdict) => add_verdict_line(parts, alloc, question, verdict),
     }

@@ -5,6 +5,7 @@ use Rattle.std.specs.Prelude.{◌≡◌, ◌↔◌, ◌==◌, ℕ, List, Bool, t
 use Rattle.rpki_der.specs.declared.error.DecodeError.{DecodeError}
 use Rattle.rpki_der.specs.declared.error.DecodeError.TheVariants as decoding
 use Rattle.rpki_der.specs.declared.error.Field.{Field}
+use Rattle.rpki_der.specs.declared.error.Field.TheVariants.{AsResources, IpResources}
 use Rattle.rpki_ext.specs.declared.inspection.InspectionError.{InspectionError}
 use Rattle.rpki_ext.specs.declared.inspection.InspectionError.TheVariants as inspection
 use Rattle.rpki_parts.specs.declared.key.PublicKeyFormat.{PublicKeyFormat}
@@ -74,7 +75,8 @@ revocation_rule e = fault_rule (revocation_fault e)
 -- of a last member's key of this algorithm
 abbrev pub key_rule : PublicKeyFormat → RuleFields
 key_rule Rsa = rule "its key isn't RSA of 2048 bits with the exponent 65537" "RFC 7935 3"
-key_rule EcdsaP256 = rule "its key isn't an uncompressed point on the curve P-256" "RFC 8608 3.1"
+key_rule EcdsaP256 = rule "its key isn't an uncompressed point on the curve P-256"
+    "RFC 8608 3.1, own rule"
 
 -- ---- a trust anchor that is no locator's
 
@@ -112,6 +114,11 @@ field_rule field it = record { says = it.says; section = field_section field }
 abbrev pub no_policies : RuleFields
 no_policies = rule "Certificate Policies are missing" "RFC 6487 4.8.9"
 
+-- IP or AS resources twice, where their two identifiers count as one extension, which is the same fault
+abbrev pub double_resources : RuleFields
+double_resources =
+    rule "IP or AS resources appear twice, or under both identifiers" "RFC 5280 4.2, own rule"
+
 -- of octets that should begin with a certificate, and have Certificate Policies or don't
 abbrev pub reading_rule : DecodeError → Bool → RuleFields
 reading_rule (decoding.Missing field) policies =
@@ -121,11 +128,13 @@ reading_rule (decoding.Critical field) policies =
 reading_rule (decoding.NotCritical field) policies =
     field_rule field (reading_fault (decoding.NotCritical field))
 reading_rule (decoding.WrongResources field) false = no_policies
+reading_rule (decoding.Duplicate IpResources) policies = double_resources
+reading_rule (decoding.Duplicate AsResources) policies = double_resources
 reading_rule e policies = fault_rule (reading_fault e)
 
 -- octets that don't begin with a list
 abbrev pub no_list : RuleFields
-no_list = rule "it doesn't begin with a CRL of the profile" "RFC 6487 5"
+no_list = rule "it doesn't begin with a CRL of the profile" "RFC 6487 5, own rules"
 
 -- of octets that should begin with a list
 abbrev pub list_rule : DecodeError → RuleFields

@@ -218,11 +218,11 @@ unfoldable pub locator_faults : List FaultFields
 locator_faults =
     fault 700 "NoText" "not UTF-8 text" "the TAL isn't UTF-8" "RFC 8630 2.2" ∷
     fault 701 "BadUri" "bad URI"
-    "a line of the TAL's URIs isn't an rsync or https URI" "RFC 8630 2.2" ∷
+    "a line of the TAL's URIs isn't an rsync or https URI" "RFC 8630 2.2, own rules" ∷
     fault 702 "NoUri" "no URI" "the TAL has no URI" "RFC 8630 2.2" ∷
     fault 703 "NoKey" "no key" "no empty line follows the TAL's URIs" "RFC 8630 2.2" ∷
     fault 704 "BadKey" "bad key"
-    "what follows the TAL's empty line isn't a key in base64" "RFC 8630 2.2" ∷ []
+    "what follows the TAL's empty line isn't a key in base64" "RFC 8630 2.2, own rules" ∷ []
 
 -- why no certificate and no list is issued
 unfoldable pub issuing_faults : List FaultFields

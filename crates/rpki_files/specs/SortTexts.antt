@@ -37,7 +37,7 @@ description sort.Base64 =
 description sort.SeveralPem =
     described "PEM with several objects"
     "more than one object begins in it, and a file is read as one"
-    "RFC 7468 2"
+    "own rule"
     "put each object into a file of its own"
 description sort.UnendedPem =
     described "PEM without its end"

@@ -229,11 +229,11 @@ const PATH: &[Fault] = &table! {
 const LOCATOR: &[Fault] = &table! {
     700 "NoText" "not UTF-8 text" => "the TAL isn't UTF-8", "RFC 8630 2.2",
     701 "BadUri" "bad URI"
-        => "a line of the TAL's URIs isn't an rsync or https URI", "RFC 8630 2.2",
+        => "a line of the TAL's URIs isn't an rsync or https URI", "RFC 8630 2.2, own rules",
     702 "NoUri" "no URI" => "the TAL has no URI", "RFC 8630 2.2",
     703 "NoKey" "no key" => "no empty line follows the TAL's URIs", "RFC 8630 2.2",
     704 "BadKey" "bad key"
-        => "what follows the TAL's empty line isn't a key in base64", "RFC 8630 2.2",
+        => "what follows the TAL's empty line isn't a key in base64", "RFC 8630 2.2, own rules",
 };
 
 // Why no certificate and no list is issued.

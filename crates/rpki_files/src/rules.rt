@@ -132,7 +132,8 @@ pub fn of_key(algorithm: PublicKeyFormat) -> Rule
 {
     rules! { algorithm: PublicKeyFormat;
         Rsa => "its key isn't RSA of 2048 bits with the exponent 65537", "RFC 7935 3";
-        EcdsaP256 => "its key isn't an uncompressed point on the curve P-256", "RFC 8608 3.1";
+        EcdsaP256 => "its key isn't an uncompressed point on the curve P-256",
+            "RFC 8608 3.1, own rule";
     }
 }
 
@@ -148,7 +149,7 @@ fn section_of(field: Field) -> &'static str
 
 // What a fault of reading a certificate means, which has Certificate Policies, or hasn't. It is the
 // same fault where resources stand under other identifiers than the policy's and where there is no
-// policy.
+// policy; and where they stand twice and under both identifiers.
 fn of_certificate(fault: &DecodeError, policies: bool) -> Rule
     ensures { rule_of result ≡ reading_rule fault.now policies }
 {
@@ -160,6 +161,10 @@ fn of_certificate(fault: &DecodeError, policies: bool) -> Rule
         DecodeError::Missing(field)
         | DecodeError::Critical(field)
         | DecodeError::NotCritical(field) => meaning(told.says, section_of(*field)),
+        DecodeError::Duplicate(Field::IpResources | Field::AsResources) => meaning(
+            "IP or AS resources appear twice, or under both identifiers",
+            "RFC 5280 4.2, own rule",
+        ),
         _ => rule_in(told),
     }
 }
@@ -182,7 +187,7 @@ fn of_list(fault: &DecodeError) -> Rule
         Missing(_) => "an extension that must be there is missing", "RFC 6487 5";
         Duplicate(_) => "an extension appears twice", "RFC 5280 4.2";
         InvalidExtension(_) => "a CRL has no extensions but Authority Key Identifier and CRL Number", "RFC 6487 5";
-        _ => "it doesn't begin with a CRL of the profile", "RFC 6487 5";
+        _ => "it doesn't begin with a CRL of the profile", "RFC 6487 5, own rules";
     }
 }
 

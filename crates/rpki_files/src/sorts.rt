@@ -307,7 +307,7 @@ pub fn describe(sort: Sort) -> Description
             "no line that begins with -----BEGIN is before it", "RFC 7468 2",
             "put the lines of PEM around it, or decode it: base64 -d";
         SeveralPem => "PEM with several objects",
-            "more than one object begins in it, and a file is read as one", "RFC 7468 2",
+            "more than one object begins in it, and a file is read as one", "own rule",
             "put each object into a file of its own";
         UnendedPem => "PEM without its end",
             "no line that begins with -----END follows its first object", "RFC 7468 2",

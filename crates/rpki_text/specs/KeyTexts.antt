@@ -41,7 +41,7 @@ abbrev pub asked_text : KeyForm → List ℕ
 asked_text (RsaKey count exponent) = codes "RFC 7935 3 requires 2048 bits, exponent 65537"
 asked_text EvenModulus = codes "RFC 7935 3 requires 2048 bits, exponent 65537"
 asked_text NoRsaKey = codes "RFC 7935 3 requires 2048 bits, exponent 65537"
-asked_text _ = codes "RFC 8608 3.1 requires an uncompressed point of the curve"
+asked_text _ = codes "RFC 8608 3.1 and an own rule require an uncompressed point of the curve"
 
 -- the octets of an ECDSA key, which are to be a point of the curve (RFC 8608 3.1)
 abbrev pub point_of : PublicKeyFormat → List ℕ → Option (List ℕ)

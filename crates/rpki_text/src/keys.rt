@@ -97,7 +97,9 @@ impl fmt::Display for Asked {
                 f.write_str("RFC 7935 3 requires 2048 bits, exponent 65537")
             }
             KeyForm::Point | KeyForm::OffCurve | KeyForm::CompressedPoint | KeyForm::NoPoint => {
-                f.write_str("RFC 8608 3.1 requires an uncompressed point of the curve")
+                f.write_str(
+                    "RFC 8608 3.1 and an own rule require an uncompressed point of the curve",
+                )
             }
         }
     }

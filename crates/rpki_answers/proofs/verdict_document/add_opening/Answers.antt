@@ -15,5 +15,5 @@ returns-in-NotALocator c =
 pub returns-in-NotAList : goal.returns-in-NotAList
 returns-in-NotAList c =
     rw c.in-NotAList.is (ended_some c.add_unjudged-in-NotAList.result (IsOpening c.args.question.now NotAList)
-    (unjudged_nodes (codes "crls") (codes "a file given as a CRL isn't one") (codes "NotACrl") (codes "RFC 6487 5"))
+    (unjudged_nodes (codes "crls") (codes "a file given as a CRL isn't one") (codes "NotACrl") (codes "RFC 6487 5, own rules"))
     c.args.parts.now.items c.add_unjudged-in-NotAList.new.parts.items refl c.add_unjudged-in-NotAList.ensures)
