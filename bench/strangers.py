@@ -1,11 +1,13 @@
 #!/usr/bin/env python3
-"""Makes a cache with a CA that works against another one, in three directories of the folder TO.
+"""Makes a cache with a CA that works against another one, in five directories of the folder TO.
 
     python3 bench/strangers.py COUNT MANY TO
 
 `honest` has a trust anchor with its TAL, two CAs `a` and `b` below it, and COUNT end entities below
 `b`. `anchors` has MANY certificates by which `a` certifies the trust anchor's key, each time with
-another name; `siblings` has MANY by which it certifies the key and the name of `b`.
+another name; `siblings` has MANY by which it certifies the key and the name of `b`. `names` has MANY by which
+it certifies its own key, each time with another name; `crls` has a tenth of these, and as many CRLs that name
+its key and that it didn't sign.
 """
 import base64
 import sys
@@ -21,15 +23,23 @@ from tree import Repository
 from worked import ALL_ADDRESSES
 
 
-def named(number):
+def named_by(number):
     """The octets of a name with this number."""
     return put_name([[(OID_COMMON_NAME, ref.enc(0x13, b'%d' % number))]])
 
 
+def forged(by, of):
+    """A CRL of another name that names a key, which didn't sign it."""
+    return by.signed(ref.encode_list(ref.TbsCertList(
+        issuer=named_by(-1), this_update=made.START, next_update=made.END, revoked=b'',
+        authority_key_identifier=of.key.identifier(), crl_number=1)))
+
+
 def main(count, many, to):
     folder = Path(to)
-    honest, anchors, siblings = (Repository(folder / it) for it in ('honest', 'anchors', 'siblings'))
-    for it in (honest, anchors, siblings):
+    names = 'honest', 'anchors', 'siblings', 'names', 'crls'
+    honest, anchors, siblings, named, crls = places = [Repository(folder / it) for it in names]
+    for it in places:
         it.folder.mkdir(parents=True, exist_ok=True)
     anchor, a, b, leaf = (made.Signer() for _ in range(4))
     inherited = {'v4': ref.INHERIT, 'v6': ref.INHERIT, 'asn': ref.INHERIT}
@@ -44,8 +54,12 @@ def main(count, many, to):
     for place in range(int(count)):
         honest.certificate(f'ee{place}.cer', leaf.key, b, **inherited, **bare)
     for place in range(int(many)):
-        anchors.certificate(f'{place}.cer', anchor.key, a, subject=named(place), **inherited)
+        anchors.certificate(f'{place}.cer', anchor.key, a, subject=named_by(place), **inherited)
         siblings.certificate(f'{place}.cer', b.key, a, **inherited)
+        named.certificate(f'{place}.cer', a.key, a, subject=named_by(place), **inherited)
+    for place in range(int(many) // 10):
+        crls.certificate(f'{place}.cer', a.key, a, subject=named_by(place), **inherited)
+        crls.write(f'{place}.crl', forged(b, a))
     info = base64.b64encode(ref.put_key(anchor.key)).decode()
     honest.write('ta.tal', f'rsync://example.com/m/ta.cer\n\n{info}\n'.encode())
 

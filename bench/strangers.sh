@@ -1,8 +1,8 @@
 #!/bin/sh
 # What a CA that works against others costs `rpki tree`: processor time and memory over 5,000
 # certificates below one CA, without and with 2,000 certificates by which another CA certifies the key
-# of the trust anchor, or of that CA (strangers.py makes them). The lines of the 5,000 have to be the
-# same. PROGRAM is the built command (crates/rpki_command/out/rpki_command, say).
+# of the trust anchor, of that CA, or its own under other names, or 200 of these beside 200 CRLs that it
+# didn't sign (strangers.py makes them). The lines of the 5,000 have to be the same. PROGRAM is the built command (crates/rpki_command/out/rpki_command, say).
 #
 #     bench/strangers.sh PROGRAM [FOLDER]
 #
@@ -30,7 +30,7 @@ print(f'{used.ru_utime + used.ru_stime:.3f} {used.ru_maxrss}')
 END
 }
 
-for name in honest anchors siblings; do
+for name in honest anchors siblings names crls; do
     for _ in 1 2 3; do
         if [ "$name" = honest ]; then used honest honest; else used "$name" "$name" honest; fi
     done | sort -n | head -n 1 | sed "s/\(.*\) \(.*\)/$name  \1 s, \2 KiB/"

@@ -5,7 +5,7 @@ the one description in trees.py.
     python3 reference/compare_trees.py PROGRAM [--count N] [--seed WORD] [--only INDEX] [--save FOLDER]
 
 PROGRAM is the command, as the gate builds it or as `./rpki` compiles it. It is asked about examples/,
-tests/circles/ and tests/several/, and about N random sets of files (200 if it isn't said) as those of
+tests/circles/, tests/several/ and tests/added/, and about N random sets of files (200 if it isn't said) as those of
 strangers.py: one or two trees of real certificates and CRLs, renewals and circles of keys, half of them with the
 files of a stranger, and damaged, foreign and misnamed ones, some in PEM, with any file names; some have the names
 that caIssuers URIs name. There are several TALs, of one key
@@ -120,8 +120,9 @@ def wrongs_in(program, room, asked, rng):
 # ---- fixed files
 
 def fixed():
-    """Questions about the files of examples/, tests/circles/ and tests/several/."""
-    for place, tals in (('examples', ['anchor']), ('tests/circles', ['ta']), ('tests/several', ['ta'])):
+    """Questions about the files of examples/, tests/circles/, tests/several/ and tests/added/."""
+    fixed_places = ('examples', ['anchor']), *((f'tests/{it}', ['ta']) for it in ('circles', 'several', 'added'))
+    for place, tals in fixed_places:
         folder = TOP / place
         files = [File(it.name, it.read_bytes()) for it in sorted(folder.iterdir()) if it.is_file()]
         few = [it for it in files if it.name != 'revoked.crl']

@@ -156,7 +156,7 @@ def line_wrongs(folder, name, line, ended):
         else:
             yield from held_wrongs(name, line, path)
     elif verdict == 'rejected':
-        fault = line['member'], line['step'], line['fault']
+        fault = line['index'], line['step'], line['fault']
         if line['step'] in STEPS and fault not in folder.faults(name):
             yield f'{name} is rejected as {fault}, and wanted one of {sorted(folder.faults(name))}'
     elif verdict in ('crl', 'neither') and cert is not None:

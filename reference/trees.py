@@ -257,12 +257,12 @@ def limit_at(parts, place):
 
 
 def standing(parts, place):
-    """How a certificate stands as an issuer: a CA below which a walk looked, one at which it reached a limit,
-    another that is accepted, one that is rejected, or neither."""
+    """How a certificate stands as an issuer: a CA at which a walk reached a limit on each path, one below which
+    it looked, another that is accepted, one that is rejected, or neither."""
     if best_rank(parts, place) <= 1:
         if any(is_looked_at(it, place) for it in parts):
-            return 0
-        return 1 if limit_at(parts, place) else 2
+            return 1
+        return 0 if limit_at(parts, place) else 2
     return 3 if best_rank(parts, place) == 2 or wrong_at(parts, place) else 4
 
 
@@ -275,8 +275,8 @@ def unseen(found, cert, told):
     best = min(standing(found.parts, it) for it in named)
     issuers = [it for it in named if standing(found.parts, it) == best]
     issuer = next((it for it in issuers if found.rows[it].file.name == told.get('issuer')), issuers[0])
-    words = 'not_issued', 'not_looked_at', 'not_issued', 'below_rejected', 'below_unseen'
-    return Said(words[best], issuer=issuer, limit=limit_at(found.parts, issuer) if best == 1 else None)
+    words = 'not_looked_at', 'not_issued', 'not_issued', 'below_rejected', 'below_unseen'
+    return Said(words[best], issuer=issuer, limit=limit_at(found.parts, issuer) if best == 0 else None)
 
 
 def names_at(found, places):

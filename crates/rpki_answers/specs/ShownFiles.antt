@@ -118,17 +118,11 @@ hash_line octets = line (codes "SHA-256") (
 abbrev pub name_line : FileFields → Node
 name_line file = told_line (codes "File") (codes "file") (text file.name)
 
--- that, and the hash of its octets
-abbrev pub hashed_nodes : FileFields → List Node
-hashed_nodes file = name_line file ∷ hash_line file.octets ∷ []
-
--- that it isn't signed, and its name
-abbrev pub unsigned_nodes : FileFields → List Node
-unsigned_nodes file = unsigned_line ∷ name_line file ∷ []
-
--- these of a to-be-signed part, those of another file
+-- of a to-be-signed part that it isn't signed, and its name; of another file its name, and the hash of
+-- its octets
 abbrev pub file_nodes : FileFields → Bool → List Node
-file_nodes file to_be_signed = if to_be_signed then unsigned_nodes file else hashed_nodes file
+file_nodes file to_be_signed =
+    if to_be_signed then unsigned_line ∷ name_line file ∷ [] else name_line file ∷ hash_line file.octets ∷ []
 
 -- how many octets stand behind an object
 abbrev pub left_line : ℕ → Node

@@ -1,6 +1,5 @@
--- Which of the valid paths to a certificate is shown (own). The kept paths are those that a walk found
--- first; which of them is shown is a rule of these paths, whatever order they were found in: names of
--- files, which strangers choose, decide nothing.
+-- Which of the valid paths to a certificate is shown (own): a rule of the paths that are kept, whatever
+-- order they were found in. Which ones are kept depends on that order if there are more than eight.
 use Rattle.std.specs.BTreeMap.{get}
 use Rattle.std.specs.Cmp.Lexicographic.{slice_cmp}
 use Rattle.std.specs.List.{AllByRecursion}
@@ -156,13 +155,13 @@ pub record HoldSame (one other : ResourceFields) : Type 0 where
 
 -- ---- that order doesn't matter
 
--- some of the paths have these ranks, and no other ones
+-- one of the paths has this rank
 abbrev pub HaveRank : List FileFields → Tree → ℕ → List FoundPath → Rank → Type 0
 HaveRank certs tree place paths rank = Any (λ path. IsRank certs tree place path rank) paths
 
--- Two lists of paths, also in trees over files in another order, that have the same ranks, whatever the
--- order of the paths, show paths of one rank: as many certificates are named, and the octets of the CAs
--- are the same
+-- Two lists of paths of the same ranks, in any order, show paths of one rank: as many certificates are
+-- named, and the octets of the CAs are the same. The paths may be those of two trees, as over the same
+-- files in another order: a rank has neither places nor an order of files in it
 abbrev pub ShowByRanks : Type 0
 ShowByRanks =
     (certs files : List FileFields) (tree other : Tree) (place at : ℕ) (paths ways : List FoundPath)

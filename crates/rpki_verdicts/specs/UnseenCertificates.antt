@@ -68,11 +68,12 @@ abbrev pub limit_at : Trees → ℕ → Option Limit
 limit_at trees place =
     fold (λ least part. least_of least (limit_in place part.answer)) None trees.parts.items
 
--- how it stands as an issuer, the least number best: a trust anchor or accepted CA below which a walk
--- looked; one at which it reached a limit; another accepted one; rejected; or neither
+-- how it stands as an issuer, the least number best: a trust anchor or accepted CA at which a walk
+-- reached a limit on each path; one below which it looked; another accepted one; rejected; or neither. So
+-- another certificate of the key, below which a walk looked, hides no limit
 abbrev pub standing_of : Bool → Option Limit → ℕ
-standing_of true limit = 0
-standing_of false (Some limit) = 1
+standing_of true limit = 1
+standing_of false (Some limit) = 0
 standing_of false None = 2
 
 abbrev pub standing : Trees → ℕ → ℕ

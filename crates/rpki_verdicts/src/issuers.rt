@@ -25,9 +25,10 @@ use std::collections::BTreeMap;
 
 /// The issuers among certificates, by their keys and by the URIs of their files.
 ///
-/// For each key the place of a certificate that has it: an accepted one if there is one (a CA below
-/// which a walk looked before one at which it reached a limit, and both before others), or else a
-/// rejected one. And for each file's name, behind `rsync://`, the first place of a file that has it.
+/// For each key the place of a certificate that has it: an accepted one if there is one (a CA at
+/// which a walk reached a limit on each path before one below which it looked, and both before
+/// others), or else a rejected one. And for each file's name, behind `rsync://`, the first place of a
+/// file that has it.
 #[derive(Drop)]
 pub struct Issuers {
     places: BTreeMap<[u8; 20], usize>,
@@ -268,8 +269,8 @@ fn standing_of(is_looked_at: bool, limit: Option<Limit>) -> u8
     ensures { result ≡ standing_of is_looked_at limit }
 {
     match (is_looked_at, limit) {
-        (true, _) => 0,
-        (false, Some(_)) => 1,
+        (true, _) => 1,
+        (false, Some(_)) => 0,
         (false, None) => 2,
     }
 }

@@ -1,5 +1,5 @@
 //! The document of a file.
-ghost use Rattle.std.specs.Prelude.{◌≡◌, ◌++◌, [], ◌∷◌, IfOk, OnOk, map, string_bytes};
+ghost use Rattle.std.specs.Prelude.{◌≡◌, [], ◌∷◌, IfOk, OnOk, map, string_bytes};
 ghost use Rattle.hex.specs.Hex.{encode_lower};
 ghost use Rattle.sha2.specs.Sha256.{sha256};
 ghost use Rattle.rpki_document.specs.Building.{Adds, AddsSome, nodes_of};
@@ -9,7 +9,7 @@ ghost use Rattle.rpki_cert.specs.Certificates.{IsCertificate};
 ghost use Rattle.rpki_files.specs.Contents.{BeginsBefore, BeginsWithEither};
 ghost use Rattle.rpki_files.specs.FaultRules.{rule_of, tal_rule};
 ghost use Rattle.rpki_text.specs.KeyTexts.{IsLocatorKey};
-ghost use Rattle.rpki_answers.specs.ShownFiles.{IsFileDocument, IsSaid, IsShownBefore, IsShownUnsigned, IsSubject, behind_nodes, fault_nodes, file_nodes, found_nodes, hash_line, hashed_nodes, left_line, name_line, no_tal_nodes, place_nodes, rule_nodes, shows_stop, stop_nodes, tal_key_nodes, tal_nodes, unread_nodes, unsigned_nodes, uri_line, where_line, whole_list_nodes};
+ghost use Rattle.rpki_answers.specs.ShownFiles.{IsFileDocument, IsSaid, IsShownBefore, IsShownUnsigned, IsSubject, behind_nodes, fault_nodes, file_nodes, found_nodes, hash_line, left_line, name_line, no_tal_nodes, place_nodes, rule_nodes, shows_stop, stop_nodes, tal_key_nodes, tal_nodes, unread_nodes, uri_line, where_line, whole_list_nodes};
 
 use crate::details::add_sort;
 use crate::showing::Options;
@@ -67,31 +67,8 @@ fn add_name<'p>(
     add_told(parts, alloc, "File", "file", Leaf::Text(object.name()))
 }
 
-// And the hash of its object.
-fn add_hashed<'p>(
-    parts: &mut Vec<Part<'p>>,
-    alloc: Global,
-    object: &'p Object<'_>,
-) -> Result<(), AllocError>
-    ensures { OnOk result (Adds (hashed_nodes object.now) parts.old.items parts.new.items) }
-{
-    add_name(parts, alloc, object)?;
-    add_hash(parts, alloc, object.octets().as_slice())
-}
-
-// That it isn't signed, and its name.
-fn add_unsigned_file<'p>(
-    parts: &mut Vec<Part<'p>>,
-    alloc: Global,
-    object: &'p Object<'_>,
-) -> Result<(), AllocError>
-    ensures { OnOk result (Adds (unsigned_nodes object.now) parts.old.items parts.new.items) }
-{
-    add_unsigned(parts, alloc)?;
-    add_name(parts, alloc, object)
-}
-
-// Those of a to-be-signed part, or of another file.
+// Of a to-be-signed part that it isn't signed, and its name; of another file its name, and the hash
+// of its object.
 fn add_file<'p>(
     parts: &mut Vec<Part<'p>>,
     alloc: Global,
@@ -102,10 +79,11 @@ fn add_file<'p>(
         OnOk result (Adds its parts.old.items parts.new.items) }
 {
     if to_be_signed {
-        add_unsigned_file(parts, alloc, object)
-    } else {
-        add_hashed(parts, alloc, object)
+        add_unsigned(parts, alloc)?;
+        return add_name(parts, alloc, object);
     }
+    add_name(parts, alloc, object)?;
+    add_hash(parts, alloc, object.octets().as_slice())
 }
 
 // How many octets stand behind an object.

@@ -64,14 +64,7 @@ impl Subject<'_> {
     pub fn is_to_be_signed(&self) -> bool
         ensures { result ≡ is_to_be_signed self.now }
     {
-        match self {
-            Subject::ToBeSigned(_) => true,
-            Subject::Certificate(..)
-            | Subject::List(..)
-            | Subject::Locator(_)
-            | Subject::NotALocator(_)
-            | Subject::Unread(_) => false,
-        }
+        matches!(self, Subject::ToBeSigned(_))
     }
 }
 

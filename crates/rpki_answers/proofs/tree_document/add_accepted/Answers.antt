@@ -1,4 +1,4 @@
-use Rattle.std.proofs.Common.{[], ◌∷◌, ◌++◌, append_assoc, refl}
+use Rattle.std.proofs.Common.{◌∷◌, ◌++◌, append_assoc, refl}
 use Rattle.rpki_document.proofs.Built.{ended_some, ended_with}
 use Rattle.rpki_document.specs.Documents.{aside, document_of}
 use Rattle.rpki_answers.specs.TreeDocuments.{IsAccepted, above_node, accepted_head, more_nodes}

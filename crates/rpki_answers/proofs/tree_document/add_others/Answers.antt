@@ -1,9 +1,9 @@
 use Rattle.std.specs.List.{AllZip}
 use Rattle.std.proofs.Common.{◌≡◌, ◌∙◌, ◌+◌, Bor, List, [], ◌∷◌, ◌++◌, map, take, refl, sym, ap, subst}
-use Rattle.std.proofs.lemmas.List.{map-append, take_all, take_more}
-use Rattle.rpki_document.specs.Building.{Adds, AddsSome}
+use Rattle.std.proofs.lemmas.List.{map-append, take_more}
+use Rattle.rpki_document.specs.Building.{Adds}
 use Rattle.rpki_document.specs.Documents.{Node}
-use Rattle.rpki_document.proofs.Built.{nothing_added, then_added}
+use Rattle.rpki_document.proofs.Built.{then_added}
 use Rattle.rpki_answers.specs.TreeDocuments.{AreOthers, IsOther, also_node}
 use Rattle.rpki_folder.specs.declared.find.FoundPath.{FoundPath}
 use Rattle.rpki_answers.proofs.tree_document.add_others.Goals as goal

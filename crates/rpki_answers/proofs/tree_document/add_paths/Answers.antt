@@ -1,6 +1,5 @@
 use Rattle.std.specs.Prelude.{codes}
-use Rattle.std.proofs.Common.{rules, ◌≡◌, ◌≢◌, ◌∙◌, Bor, List, [], ◌∷◌, ◌++◌, length, map, refl, sym, ap, subst, arith}
-use Rattle.rpki_document.specs.Building.{Adds, nodes_of}
+use Rattle.std.proofs.Common.{rules, ◌≡◌, ◌≢◌, Bor, List, [], ◌∷◌, length, map, refl, arith}
 use Rattle.rpki_document.specs.Documents.{Node, document_of, each}
 use Rattle.rpki_document.proofs.Built.{ended_some, ended_with, none_added}
 use Rattle.rpki_answers.specs.TreeDocuments.{AreAll, AreOthers, ArePaths, shown_node}

@@ -10,13 +10,13 @@ loop-file-preserved c =
     let trees = c.args.trees.now in
     let files = c.args.files.now in
     let i = l.file-index in
-    let next = c.in_ok-row_of.field-0.0 in
-    let few = c.in_ok-row_of.ensures.next in
+    let next = c.in_ok-next.next in
+    let few = c.in_ok-next.ensures.next in
     let before = l.invariant.few in
     record {
       few = omega arith;
       rows = subst (λ (rows : List Row). AreRowsFrom trees 0 next (take (i + 1) files) rows) (sym c.in_ok-push.ensures.items)
-          (next_row trees files i l.place next c.file-item.result l.rows.items _ c.loop-file-test.true c.file-item.is l.invariant.rows c.in_ok-row_of.ensures.row);
+          (next_row trees files i l.place next c.file-item.result l.rows.items _ c.loop-file-test.true c.file-item.is l.invariant.rows c.in_ok-next.ensures.row);
     }
 
 pub returns : goal.returns

@@ -1,5 +1,5 @@
 use Rattle.std.specs.Option.{option_copied}
-use Rattle.std.specs.Prelude.{IfOk, Option, Result}
+use Rattle.std.specs.Prelude.{Option}
 use Rattle.std.proofs.Common.{◌∙◌, sym, ap, subst}
 use Rattle.std.proofs.lemmas.Result.{IfOk-weaker}
 use Rattle.rpki_verdicts.specs.declared.parts.TreePart.{TreePart}
