@@ -828,6 +828,14 @@ struct rpki_held {
     uint64_t v4_at, v6_at, asn_at; /* count those before them in the room */
 };
 
+/* Numbers the limits that a walk reaches at a CA, as bits. None of the CA's children is validated on
+ * the path on which it reaches one. */
+enum rpki_limit {
+    RPKI_LIMIT_DEPTH = 1, /* a path to the CA has `depth` certificates below the anchor, and the CA has
+                           * a child */
+    RPKI_LIMIT_STEPS = 2  /* on a path to the CA, its share of the steps is less than its children */
+};
+
 /* Says what became of a string. A number that its comment doesn't mention is 0. */
 struct rpki_line {
     uint32_t what;   /* is an enum rpki_fate */
@@ -837,8 +845,12 @@ struct rpki_line {
                       * A CA that two paths lead to has a line for one of them */
     uint32_t kind;   /* is the kind as which an accepted or rejected certificate was validated: an
                       * enum rpki_kind, but for RPKI_ANCHOR */
+    uint32_t limits; /* is the sum of the enum rpki_limit that the walk reached at a CA, or at the
+                      * anchor */
     struct rpki_held held; /* is what an accepted certificate holds; for a router's certificate what
                             * the certificate above it holds */
+    uint64_t needed; /* is, with RPKI_LIMIT_STEPS, the least `steps` with which the children are
+                      * validated on such a path, at the same depth; 0 if no size_t is enough */
 };
 
 /* Numbers how a walk ended. */
@@ -847,7 +859,7 @@ enum rpki_ended {
     RPKI_WHOLE = 1,       /* every certificate was validated to which a valid path leads */
     RPKI_TOO_DEEP = 2,    /* every such one within the depth was validated, and more are below */
     RPKI_OUT_OF_STEPS = 3 /* a CA's share of the steps is less than its children, so none of these
-                           * was validated */
+                           * was validated; `limits` of the lines says at which CAs */
 };
 
 /* Holds how the walk ended. */

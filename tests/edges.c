@@ -1493,6 +1493,15 @@ static void folder_names(const char *files) {
     free(it.locator.octets);
 }
 
+/* whether limits were reached at the certificate of one line, and at no other's */
+static int has_limits(const struct folder *it, size_t at, uint32_t limits, uint64_t needed) {
+    for (size_t i = 0; i < it->count; i++) {
+        const struct rpki_line line = it->lines[i];
+        if (line.limits != (i == at ? limits : 0) || line.needed != (i == at ? needed : 0)) return 0;
+    }
+    return 1;
+}
+
 static void folders(const char *examples) {
     static const char *const names[] = {"object.cer", "second.cer", "first.cer", "anchor.cer", "object.crl",
                                         "second.crl", "first.crl", "make.sh"};
@@ -1518,6 +1527,7 @@ static void folders(const char *examples) {
                   && it.lines[3 - depth].what == RPKI_LINE_ACCEPTED
                   && (depth == 3 || it.lines[2 - depth].what == RPKI_LINE_UNSEEN),
               "a walk ends at its depth");
+        check(has_limits(&it, 3 - depth, depth < 3 ? RPKI_LIMIT_DEPTH : 0, 0), "the CA at the depth is told");
     }
     other = question;
     for (size_t steps = 1; steps <= 3; steps++) {
@@ -1526,6 +1536,8 @@ static void folders(const char *examples) {
                   && it.lines[3 - steps].what == RPKI_LINE_ACCEPTED
                   && (steps == 3 || it.lines[2 - steps].what == RPKI_LINE_UNSEEN),
               "a walk ends where its steps are used up");
+        check(has_limits(&it, 3 - steps, steps < 3 ? RPKI_LIMIT_STEPS : 0, steps < 3 ? steps + 1 : 0),
+              "the CA is told whose children need more steps, and how many");
     }
     other.depth = other.steps = SIZE_MAX;
     check(judge_folder(&it, other, 9) == RPKI_OK && it.walk.ended == RPKI_WHOLE, "bounds may be great");
@@ -2280,12 +2292,16 @@ static struct file with_entries(struct file list, size_t count) {
 static void lists_of_others(struct file anchor, struct file first, struct file own, struct file other) {
     enum { COUNT = 100000 };
     const struct file path[] = {anchor, first}, lists[] = {own, with_entries(other, COUNT)};
+    size_t lengths[2], parts[2];
+    const struct file both = joined(path, 2, lengths), all = joined(lists, 2, parts);
     struct rpki_verdict out;
     struct rpki_list read;
     clock_t judged = 0, decoded = 0;
     for (size_t i = 0; i < 12; i++) {
         const clock_t begin = clock();
-        check(listed(lists, 2, path, 2, RPKI_AUTHORITY, &now, &out) == RPKI_OK, "a long list of another CA");
+        check(judge_with(strings(all.octets, all.length, parts, 2), strings(both.octets, both.length, lengths, 2), RPKI_AUTHORITY, &now, &out)
+                  == RPKI_OK,
+              "a long list of another CA");
         const clock_t between = clock();
         check(rpki_list_read(lists[1].octets, lists[1].length, &read) == RPKI_OK && read.entries == COUNT, "it is a list");
         const clock_t end = clock();
@@ -2294,6 +2310,8 @@ static void lists_of_others(struct file anchor, struct file first, struct file o
     }
     if (2 * judged >= decoded) printf("the path: %ld, the list: %ld\n", (long)judged, (long)decoded);
     check(2 * judged < decoded, "the entries of a CRL of another CA aren't read");
+    free(both.octets);
+    free(all.octets);
     free(lists[1].octets);
 }
 

@@ -308,6 +308,10 @@ static void check_answer(uint32_t answer) {
         check(line->held.v4_at + line->held.v4 <= walk->v4 && line->held.v6_at + line->held.v6 <= walk->v6 &&
                   line->held.asn_at + line->held.asn <= walk->asn,
               "a line holds more than there is");
+        const uint32_t limits = RPKI_LIMIT_DEPTH | RPKI_LIMIT_STEPS;
+        check(line->limits <= limits && (line->limits == 0 || walk->ended > RPKI_WHOLE) &&
+                  (line->needed == 0 || (line->limits & RPKI_LIMIT_STEPS) != 0),
+              "a line tells a limit that wasn't reached");
     }
 }
 

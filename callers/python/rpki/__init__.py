@@ -113,6 +113,7 @@ __all__ = [
     "IssuingFault",
     "KeyFault",
     "Kind",
+    "LimitedCa",
     "Line",
     "LocatorFault",
     "NamesFault",
@@ -870,8 +871,9 @@ def validate(
 
     `lists` are CRLs, in any order: no certificate below the trust anchor may be revoked by its
     issuer's newest CRL whose thisUpdate has come. No bytes may follow a CRL, since they may be
-    another one. There is no default: with `lists=None` revocation isn't checked, and a revoked
-    certificate is accepted.
+    another one. A CRL that names no key of the path is read up to its extensions, so the CRLs of a
+    whole cache may be given. There is no default: with `lists=None` revocation isn't checked, and a
+    revoked certificate is accepted.
 
     `locator` is the file of a TAL (RFC 8630), whose key the trust anchor has to have. There is no
     default: with `locator=None` any trust anchor is accepted.
@@ -949,6 +951,22 @@ class Line:
 
 
 @dataclass(frozen=True)
+class LimitedCa:
+    """A CA, or the trust anchor, at which the walk over a directory reached a limit: on a path to it
+    none of its children was validated."""
+
+    ca: int
+    """The index of its string."""
+    at_depth: bool
+    """Whether a path to it has `depth` certificates below the trust anchor, and it has a child."""
+    out_of_steps: bool
+    """Whether its share of the steps is less than its children, on a path to it."""
+    steps_needed: int | None
+    """The least `steps` with which the children are validated on such a path, with the same `depth`.
+    None if it isn't `out_of_steps`, or if no 64 bits are enough."""
+
+
+@dataclass(frozen=True)
 class Folder:
     """The results for the strings of a directory."""
 
@@ -957,8 +975,10 @@ class Folder:
     anchor: int
     """The place of the trust anchor among them."""
     is_whole: bool
-    """Whether all was looked at to which a valid path leads. Else a bound was met, and what isn't
+    """Whether all was looked at to which a valid path leads. Else a limit was reached, and what isn't
     accepted may yet be valid."""
+    limited: tuple[LimitedCa, ...] = ()
+    """The CAs at which a limit was reached, in the order of their strings; none if `is_whole`."""
 
 
 def _resources(held: raw.Held) -> Resources:
@@ -973,6 +993,13 @@ def _line(it: raw.Line, room: raw.Room) -> Line:
     if state is State.REJECTED:
         return Line(state, it.step, None, _fault(it.fault), Kind(it.kind))
     return Line(state)
+
+
+def _limited(lines: Sequence[raw.Line]) -> Iterator[LimitedCa]:
+    for place, it in enumerate(lines):
+        if it.limits:
+            depth, steps = it.limits & raw.LIMIT_DEPTH, it.limits & raw.LIMIT_STEPS
+            yield LimitedCa(place, depth != 0, steps != 0, it.needed or None)
 
 
 def judge_folder(
@@ -999,7 +1026,7 @@ def judge_folder(
     certificate. A path has at most `depth` certificates below the trust anchor. `steps` are those of
     the walk, by default 10,000,000: a certificate that a CA signed takes one for each path that leads
     to it, and they are divided evenly among the CAs below each CA. `is_whole` of the answer says
-    whether that was enough.
+    whether that was enough, and `limited` at which CAs it wasn't.
 
     Raises LocatorFault if the file is no TAL or no certificate has its key. If no trust anchor is
     valid, raises the Fault of the first certificate with the key, with its index in `octets` as the
@@ -1025,7 +1052,7 @@ def judge_folder(
     place = walk.anchor if is_anchors else None
     _raise(walk.fault, place)
     told = tuple(_line(it, room) for it in lines)
-    return Folder(told, walk.anchor, walk.ended == raw.WHOLE)
+    return Folder(told, walk.anchor, walk.ended == raw.WHOLE, tuple(_limited(lines)))
 
 
 # ---- issuing

@@ -15,6 +15,7 @@ BAD_KEY, BAD_URI = 603, 802
 MISSING, INHERITED, LISTED = 0, 1, 2
 # enum rpki_ended
 WHOLE = 1
+LIMIT_DEPTH, LIMIT_STEPS = 1, 2
 # enum rpki_part_text
 PART_NAME, PART_WANTED, PART_FOUND = 0, 1, 2
 # enum rpki_uri
@@ -147,8 +148,9 @@ class Line(ctypes.Structure):
     _fields_ = [
         *((name, c_uint32) for name in ("what", "fault")),
         *((name, c_uint64) for name in ("step", "issuer")),
-        ("kind", c_uint32),
+        *((name, c_uint32) for name in ("kind", "limits")),
         ("held", HeldPlaces),
+        ("needed", c_uint64),
     ]
 
 

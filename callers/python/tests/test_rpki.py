@@ -31,6 +31,7 @@ from rpki import (
     Entry,
     FaultCode,
     Kind,
+    LimitedCa,
     Line,
     RevocationList,
     State,
@@ -817,11 +818,19 @@ class Folders(unittest.TestCase):
 
     def test_bounds(self) -> None:
         given = [*self.members, *self.lists]
-        bounds: list[tuple[dict[str, int], int]] = [({"depth": 2}, 3), ({"steps": 1}, 2)]
-        for asked, valid in (*bounds, ({"steps": 100}, 4)):
+        second, _, _, _, first = range(5)
+        deep, short = LimitedCa(second, True, False, None), LimitedCa(first, False, True, 2)
+        bounds: list[tuple[dict[str, int], int, tuple[LimitedCa, ...]]] = [
+            ({"depth": 2}, 3, (deep,)),
+            ({"steps": 1}, 2, (short,)),
+            ({"steps": 100}, 4, ()),
+        ]
+        for asked, valid, limited in bounds:
             folder = self.judge(given, **asked)
             self.assertEqual(sum(it.is_valid for it in folder.lines), valid)
             self.assertEqual(folder.is_whole, valid == 4)
+            self.assertEqual(folder.limited, limited)
+        self.assertNotIn(first, [it.ca for it in self.judge(given, steps=2).limited])
         for none in ("depth", "steps"):
             for number in (0, -1, 1 << 64, (1 << 64) + 1):
                 with self.assertRaisesRegex(ValueError, f"^{none}: "):

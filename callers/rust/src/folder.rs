@@ -78,6 +78,38 @@ fn kind_of(number: u32) -> Kind {
     }
 }
 
+/// A CA, or the trust anchor, at which the walk over a directory reached a limit: on a path to it none of
+/// its children was validated.
+#[derive(Clone, Copy, Debug, PartialEq, Eq, Hash)]
+#[cfg_attr(feature = "serde", derive(serde::Serialize))]
+#[non_exhaustive]
+pub struct LimitedCa {
+    /// The index of its string.
+    pub ca: usize,
+    /// Whether a path to it has [`Folder::depth`] certificates below the trust anchor, and it has a
+    /// child.
+    pub at_depth: bool,
+    /// Whether its share of the steps is less than its children, on a path to it.
+    pub out_of_steps: bool,
+    /// The least [`Folder::steps`] with which the children are validated on such a path, with the same
+    /// depth. `None` if it isn't `out_of_steps`, or if no 64 bits are enough.
+    pub steps_needed: Option<u64>,
+}
+
+impl LimitedCa {
+    fn of((ca, it): (usize, &sys::Line)) -> Option<LimitedCa> {
+        if it.limits == 0 {
+            return None;
+        }
+        Some(LimitedCa {
+            ca,
+            at_depth: it.limits & sys::LIMIT_DEPTH != 0,
+            out_of_steps: it.limits & sys::LIMIT_STEPS != 0,
+            steps_needed: Some(it.needed).filter(|needed| *needed != 0),
+        })
+    }
+}
+
 /// The results for the strings of a directory.
 #[derive(Clone, Debug, PartialEq, Eq, Hash)]
 #[cfg_attr(feature = "serde", derive(serde::Serialize))]
@@ -87,9 +119,11 @@ pub struct Judged {
     pub lines: Vec<Line>,
     /// The place of the trust anchor among them.
     pub anchor: usize,
-    /// Whether all was looked at to which a valid path leads. Else a bound was met, and what isn't
+    /// Whether all was looked at to which a valid path leads. Else a limit was reached, and what isn't
     /// accepted may yet be valid.
     pub is_whole: bool,
+    /// The CAs at which a limit was reached, in the order of their strings; none if `is_whole`.
+    pub limited: Vec<LimitedCa>,
 }
 
 /// Certificates and CRLs in any order, and what is checked of them.
@@ -205,6 +239,7 @@ impl<'a> Folder<'a> {
             lines: lines.iter().map(|it| Line::of(it, &held)).collect(),
             anchor: walk.anchor as usize,
             is_whole: walk.ended == sys::WHOLE,
+            limited: lines.iter().enumerate().filter_map(LimitedCa::of).collect(),
         })
     }
 }

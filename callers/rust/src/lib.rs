@@ -66,7 +66,7 @@ mod sys;
 
 pub use code::FaultCode;
 pub use fault::{Fault, FaultKind, Place};
-pub use folder::{Folder, Judged, Line};
+pub use folder::{Folder, Judged, LimitedCa, Line};
 pub use issuing::{Issuer, Wanted, WantedList};
 pub use moment::{Moment, NoMoment};
 
@@ -708,7 +708,8 @@ pub enum Revocation<'a> {
     /// These revocation lists, in any order: each member below the trust anchor has to be unrevoked by
     /// the latest list of its issuer that has begun. Each stands alone: behind one nothing may stand,
     /// since that may be another one. A list has to have its issuer's name (RFC 5280 6.3.3 (b) (1)),
-    /// unless names are waived. `by_lists` makes it of any that are at hand.
+    /// unless names are waived. One that names no key of the path is read up to its extensions, so the
+    /// lists of a whole cache may be given. `by_lists` makes it of any that are at hand.
     ByLists(Vec<&'a [u8]>),
     /// Not at all: a revoked certificate is accepted.
     NotAsked,

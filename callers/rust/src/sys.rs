@@ -20,6 +20,10 @@ pub const LIST: u32 = 4;
 pub const NEITHER: u32 = 5;
 /// RPKI_WHOLE of rpki.h.
 pub const WHOLE: u32 = 1;
+/// RPKI_LIMIT_DEPTH of rpki.h.
+pub const LIMIT_DEPTH: u32 = 1;
+/// RPKI_LIMIT_STEPS of rpki.h.
+pub const LIMIT_STEPS: u32 = 2;
 /// enum rpki_part_text of rpki.h.
 const PART_NAME: u32 = 0;
 const PART_WANTED: u32 = 1;
@@ -177,7 +181,9 @@ pub struct Line {
     pub step: u64,
     pub issuer: u64,
     pub kind: u32,
+    pub limits: u32,
     pub held: HeldPlaces,
+    pub needed: u64,
 }
 
 #[repr(C)]

@@ -1,7 +1,7 @@
 //! Tests the crate over the files of examples/, whose contents examples/make.sh says.
 use gonxebhula::{
     ipv4_prefixes, ipv6_prefixes, Anchor, Certificate, Fault, FaultCode, FaultKind, Folder, Judged,
-    Kind, Line, Moment, Path, Place, Resources, Revocation, RevocationList, Uri,
+    Kind, LimitedCa, Line, Moment, Path, Place, Resources, Revocation, RevocationList, Uri,
 };
 use std::net::{IpAddr, Ipv4Addr, Ipv6Addr};
 use std::time::{Duration, SystemTime, UNIX_EPOCH};
@@ -309,8 +309,14 @@ fn folders_are_judged() {
     let valid = |it: &Judged| it.lines.iter().filter(|line| line.is_valid()).count();
     let shallow = judged(&names, |folder| folder.depth(2));
     assert!(!shallow.is_whole && valid(&shallow) == 3);
+    let limits = |it: &Judged| {
+        let limits = |it: &LimitedCa| (it.ca, it.at_depth, it.out_of_steps, it.steps_needed);
+        it.limited.iter().map(limits).collect::<Vec<_>>()
+    };
+    assert_eq!(limits(&shallow), [(1, true, false, None)]);
     let short = judged(&names, |folder| folder.steps(1));
     assert!(!short.is_whole && valid(&short) == 2);
+    assert_eq!(limits(&short), [(7, false, true, Some(2))]);
     let without = judged(&["anchor.cer", "first.cer"], |folder| folder.lenient());
     assert!(without.is_whole && !without.lines[1].is_valid());
 }

@@ -34,7 +34,9 @@ use Rattle.rpki_folder.specs.declared.anchors.FoundAnchor.TheVariants.{Valid}
 use Rattle.rpki_folder.specs.declared.anchors.WrongCandidate.{WrongCandidate}
 use Rattle.rpki_folder.specs.declared.bounds.Ended.{Ended}
 use Rattle.rpki_folder.specs.declared.bounds.Ended.TheVariants.{TooDeep}
+use Rattle.rpki_folder.specs.declared.bounds.LimitedCa.{LimitedCa}
 use Rattle.rpki_folder.specs.declared.firsts.Firsts.{Firsts}
+use Rattle.rpki_folder.specs.ReachedLimits.{AreLimited}
 use Rattle.rpki_folder.specs.declared.folder.Added.{Added}
 use Rattle.rpki_folder.specs.declared.folder.Added.TheVariants.{Certificate, List as list_added, Neither}
 use Rattle.rpki_folder.specs.declared.lines.Line.{Line}
@@ -50,14 +52,16 @@ use Rattle.rpki_folder.proofs.Renamed.{all_looked_there}
 use Rattle.rpki_folder.proofs.TriedAnchors.{begins_anchor, least_place}
 use Rattle.rpki_folder.proofs.WalkedNames.{walked_chain}
 use Rattle.rpki_c.specs.FolderFates.{Fate, anchor, HasNoAnchor, IsFirstWithKey, NoneHasKey, IsFate, IsJudgedAt, IsValidFate, StandsBelow, AreFates, AreJudged}
-use Rattle.rpki_c.specs.FolderFates.Steps.{IsAddedAs, IsSorted, origin_of, kept_fate, added_fate, fate_at, IsWalked, refusal_of, wrong_first}
+use Rattle.rpki_c.specs.FolderFates.Steps.{IsAddedAs, IsSorted, origin_of, kept_fate, added_fate, fate_at, reached_at, IsWalked, refusal_of, wrong_first}
 use Rattle.rpki_folder.specs.UsualBounds.{usual_steps}
 use Rattle.rpki_c.specs.FolderQuestions.{asked_or}
+use Rattle.rpki_c.specs.FolderLimits.Steps.{AreReached}
 use Rattle.rpki_c.specs.FolderTelling.{AreLinesOf, AnswersBelow}
 use Rattle.rpki_c.specs.declared.folder_lines.WalkLines.{WalkLines}
 use Rattle.rpki_c.specs.declared.folder_question.FolderTerms.{FolderTerms}
 use Rattle.rpki_c.specs.declared.walking.Walked.{Walked}
 use Rattle.rpki_c.specs.declared.sorting.Sorted.{Sorted}
+use Rattle.rpki_c.proofs.LimitsFound.{reached_found}
 
 abbrev BeginsCertificate : List ℕ → Type 0
 BeginsCertificate octets = (c : CertFields) × Means IsCertificate c octets
@@ -264,7 +268,7 @@ module _ (x : Context) (asked : RevocationChecks) (t : NamedTal) (top_octets : L
 
   -- ---- from the folder to the strings
 
-  module _ (names : Bool) (w : WalkLines) (sorted : IsSorted w.sorted.now) (depth steps : ℕ) (count : length w.kept.now ≡ length w.sorted.now.folder.certs) (ended : Ended) (k : IsWalked x asked names root w.sorted.now.folder.certs w.firsts.now depth steps w.kept.now ended) (law : IsUnambiguous IsCertificate) (are : AreFirstsIn w.sorted.now.folder.certs w.firsts.now) (there : top_octets ≡ octets_at w.sorted.now.folder.certs w.anchor) where
+  module _ (names : Bool) (w : WalkLines) (sorted : IsSorted w.sorted.now) (depth steps : ℕ) (count : length w.kept.now ≡ length w.sorted.now.folder.certs) (ended : Ended) (limited : List LimitedCa) (k : IsWalked x asked names root w.sorted.now.folder.certs w.firsts.now depth steps w.kept.now ended limited) (law : IsUnambiguous IsCertificate) (are : AreFirstsIn w.sorted.now.folder.certs w.firsts.now) (there : top_octets ≡ octets_at w.sorted.now.folder.certs w.anchor) where
     abbrev s : Sorted
     s = w.sorted.now
 
@@ -538,9 +542,10 @@ module _ (x : Context) (asked : RevocationChecks) (t : NamedTal) (top_octets : L
 
 -- what a walk below the trust anchor that was found told is kept
 pub walked_found : {E : Type 0} (x : Context) (asked : RevocationChecks) (names : Bool) (t : NamedTal) (certs : List (List ℕ)) (firsts : Firsts) (place : ℕ) (issuer : ResourceFields) → IsUnambiguous IsCertificate → IsFound x asked names t certs (Valid place issuer)
-    → (depth steps : ℕ) (kept : List Line) (ended : Ended) (ts : List Told) → AreLines ts kept → TellsBelow {E = E} x asked (IsLookedAt names (IsFirstIn firsts) issuer.cert certs) issuer certs [] depth steps (Ok ended) ts
-    → IsWalked x asked names (at_anchor t (octets_at certs place)) certs firsts depth steps kept ended
-walked_found x asked names t certs firsts place issuer law found depth steps kept ended ts lines below =
+    → (depth steps : ℕ) (kept : List Line) (ended : Ended) (limited : List LimitedCa) (ts : List Told) → AreLines ts kept → TellsBelow {E = E} x asked (IsLookedAt names (IsFirstIn firsts) issuer.cert certs) issuer certs [] depth steps (Ok ended) ts
+    → ((root : Root) → LeadsTo x asked root (members_at root certs []) issuer → AreLimited x asked (IsLookedAt names (IsFirstIn firsts) issuer.cert certs) root certs depth steps limited)
+    → IsWalked x asked names (at_anchor t (octets_at certs place)) certs firsts depth steps kept ended limited
+walked_found x asked names t certs firsts place issuer law found depth steps kept ended limited ts lines below limits =
     let octets = octets_at certs place in
     let tells = below (at_anchor t octets) found.0 in
     let valid = found.1.valid.is_valid in
@@ -556,18 +561,19 @@ walked_found x asked names t certs firsts place issuer law found depth steps kep
       short = tells.short;
       too_deep = tells.too_deep;
       complete = tells.complete;
+      limited_are = limits (at_anchor t octets) found.0;
     }
 
 -- what becomes of sorted strings, where the lists among them are asked
-module _ (x : Context) (names : Bool) (t : NamedTal) (w : WalkLines) (sorted : IsSorted w.sorted.now) (depth steps : ℕ) (count : length w.kept.now ≡ length w.sorted.now.folder.certs) (ended : Ended) (law : IsUnambiguous IsCertificate) (are : AreFirstsIn w.sorted.now.folder.certs w.firsts.now) where
+module _ (x : Context) (names : Bool) (t : NamedTal) (w : WalkLines) (sorted : IsSorted w.sorted.now) (depth steps : ℕ) (count : length w.kept.now ≡ length w.sorted.now.folder.certs) (ended : Ended) (limited : List LimitedCa) (law : IsUnambiguous IsCertificate) (are : AreFirstsIn w.sorted.now.folder.certs w.firsts.now) (table : AreReached w.firsts.now w.anchor limited (length w.sorted.now.folder.certs) w.limits.now) where
   abbrev by_lists : RevocationChecks
   by_lists = by_named_lists names x w.sorted.now.folder.lists
 
   abbrev folder_certs : List (List ℕ)
   folder_certs = w.sorted.now.folder.certs
 
-  judged_found : IsAnchorAt x by_lists names t folder_certs w.anchor → IsWalked x by_lists names (at_anchor t (octets_at folder_certs w.anchor)) folder_certs w.firsts.now depth (asked_or steps usual_steps) w.kept.now ended
-      → AreJudged x names t w.sorted.now.strings.now (origin_of w.sorted.now w.anchor) depth steps ended (fate_at w)
+  judged_found : IsAnchorAt x by_lists names t folder_certs w.anchor → IsWalked x by_lists names (at_anchor t (octets_at folder_certs w.anchor)) folder_certs w.firsts.now depth (asked_or steps usual_steps) w.kept.now ended limited
+      → AreJudged x names t w.sorted.now.strings.now (origin_of w.sorted.now w.anchor) depth steps ended (fate_at w) (reached_at w)
   unfolding anchor_among
   judged_found anchor_is_at k =
       let s = w.sorted.now in
@@ -580,7 +586,7 @@ module _ (x : Context) (names : Bool) (t : NamedTal) (w : WalkLines) (sorted : I
         lists_are = sorted.lists_are;
         anchor_is = anchor_among s sorted x by_lists names t w.anchor anchor_is_at;
         fates = subst (λ (o : List ℕ). AreFates x by_lists names (at_anchor t o) s.strings.now top depth ended (fate_at w)) same
-            (fates_found x by_lists t octets names w sorted depth (asked_or steps usual_steps) count ended k law are refl);
+            (fates_found x by_lists t octets names w sorted depth (asked_or steps usual_steps) count ended limited k law are refl);
         certs = s.folder.certs;
         certs_are = sorted.certs_are;
         firsts = w.firsts.now;
@@ -588,6 +594,11 @@ module _ (x : Context) (names : Bool) (t : NamedTal) (w : WalkLines) (sorted : I
         short = λ out.
             subst (λ (o : List ℕ). IsShort x by_lists (IsLookedAt names (IsFirstIn w.firsts.now) anchor_is_at.cert folder_certs) (at_anchor t o) folder_certs [] (asked_or steps usual_steps)) same
             (subst (λ (c : CertFields). IsShort x by_lists (IsLookedAt names (IsFirstIn w.firsts.now) c folder_certs) (at_anchor t octets) folder_certs [] (asked_or steps usual_steps)) is (k.short out));
+        limited = limited;
+        limited_are =
+            subst (λ (o : List ℕ). AreLimited x by_lists (IsLookedAt names (IsFirstIn w.firsts.now) anchor_is_at.cert folder_certs) (at_anchor t o) folder_certs depth (asked_or steps usual_steps) limited) same
+            (subst (λ (c : CertFields). AreLimited x by_lists (IsLookedAt names (IsFirstIn w.firsts.now) c folder_certs) (at_anchor t octets) folder_certs depth (asked_or steps usual_steps) limited) is k.limited_are);
+        reached_are = λ i low. reached_found w sorted law are limited table (octets_at s.strings.now top) same i low;
       }
 
 -- ---- a wrong trust anchor
@@ -624,16 +635,18 @@ module _ (x : Context) (t : NamedTal) (f : FolderTerms) (law : IsUnambiguous IsC
   asked_in s = by_named_lists f.asks_names x s.folder.lists
 
   -- the answer of a walk that ended
-  pub walk_answered : (w : WalkLines) (sorted : IsSorted w.sorted.now) (count : length w.kept.now ≡ length w.sorted.now.folder.certs) (it : Walked) → AreFirstsIn w.sorted.now.folder.certs w.firsts.now
+  pub walk_answered : (w : WalkLines) (sorted : IsSorted w.sorted.now) (count : length w.kept.now ≡ length w.sorted.now.folder.certs) (it : Walked) (limited : List LimitedCa) → AreFirstsIn w.sorted.now.folder.certs w.firsts.now
+      → AreReached w.firsts.now w.anchor limited (length w.sorted.now.folder.certs) w.limits.now
       → IsAnchorAt x (asked_in w.sorted.now) f.asks_names t w.sorted.now.folder.certs w.anchor
-      → IsWalked x (asked_in w.sorted.now) f.asks_names (at_anchor t (octets_at w.sorted.now.folder.certs w.anchor)) w.sorted.now.folder.certs w.firsts.now f.depth (asked_or f.steps usual_steps) w.kept.now it.ended
-      → AreLinesOf f.asks_key (origin_of w.sorted.now w.anchor) w.sorted.now.strings.now (fate_at w) (length w.sorted.now.strings.now) it.told → it.anchor ≡ origin_of w.sorted.now w.anchor
+      → IsWalked x (asked_in w.sorted.now) f.asks_names (at_anchor t (octets_at w.sorted.now.folder.certs w.anchor)) w.sorted.now.folder.certs w.firsts.now f.depth (asked_or f.steps usual_steps) w.kept.now it.ended limited
+      → AreLinesOf f.asks_key (origin_of w.sorted.now w.anchor) w.sorted.now.strings.now (fate_at w) (reached_at w) (length w.sorted.now.strings.now) it.told → it.anchor ≡ origin_of w.sorted.now w.anchor
       → AnswersBelow x f t w.sorted.now.strings.now (Ok it)
-  walk_answered w sorted count it are at k lines same = record {
+  walk_answered w sorted count it limited are table at k lines same = record {
     fate = fate_at w;
-    judged = subst (λ (n : ℕ). AreJudged x f.asks_names t w.sorted.now.strings.now n f.depth f.steps it.ended (fate_at w)) (sym same)
-        (judged_found x f.asks_names t w sorted f.depth f.steps count it.ended law are at k);
-    lines_are = subst (λ (n : ℕ). AreLinesOf f.asks_key n w.sorted.now.strings.now (fate_at w) (length w.sorted.now.strings.now) it.told) (sym same) lines;
+    reached = reached_at w;
+    judged = subst (λ (n : ℕ). AreJudged x f.asks_names t w.sorted.now.strings.now n f.depth f.steps it.ended (fate_at w) (reached_at w)) (sym same)
+        (judged_found x f.asks_names t w sorted f.depth f.steps count it.ended limited law are table at k);
+    lines_are = subst (λ (n : ℕ). AreLinesOf f.asks_key n w.sorted.now.strings.now (fate_at w) (reached_at w) (length w.sorted.now.strings.now) it.told) (sym same) lines;
   }
 
   -- the answer where there was none

@@ -7,11 +7,13 @@ use Rattle.std.proofs.lemmas.List.{append-nil, drop-append-le, get_or_push, leng
 use Rattle.rpki_cert.specs.Verification.{ResourceFields}
 use Rattle.rpki_folder.specs.Folders.{octets_at}
 use Rattle.rpki_c.specs.FolderFates.{Fate, anchor, list, neither, unseen, accepted, rejected}
-use Rattle.rpki_c.specs.FolderTelling.{IsLineOf, AreLinesOf}
+use Rattle.rpki_c.specs.FolderLimits.{TellsReached, but_for_limits}
+use Rattle.rpki_c.specs.FolderTelling.{IsLineOf, IsLineWith, AreLinesOf}
 use Rattle.rpki_c.specs.HeldRanges.{AreHeldAt, GoesOn, HaveGrown}
 use Rattle.rpki_c.specs.Writing.{as_struct, ip_struct, IsPartAt}
 use Rattle.rpki_c.specs.declared.folder_lines.RpkiLine.{RpkiLine}
 use Rattle.rpki_c.specs.declared.folder_lines.ToldLines.{ToldLines}
+use Rattle.rpki_c.specs.declared.limits.Reached.{Reached}
 use Rattle.rpki_c.specs.declared.ranges.Ranges.{Ranges}
 use Rattle.rpki_c.specs.declared.ranges.RpkiHeld.{RpkiHeld}
 
@@ -50,6 +52,28 @@ held_stays r old new held on h = record {
       on.asn_on h.asn_is;
 }
 
+-- a line of a fate is one without limits
+module _ (asks : Bool) (top : ℕ) (octets : List ℕ) (ranges : Ranges) where
+  line_bare : (fate : Fate) (line : RpkiLine) → IsLineOf asks top octets fate ranges line → IsLineOf asks top octets fate ranges (but_for_limits line)
+  line_bare unseen line h = ap but_for_limits h
+  line_bare anchor line h = ap but_for_limits h
+  line_bare (accepted above j) line h = (
+    h.0,
+    h.1,
+    elim h.2 [
+      | inl wrong ↦ inl (wrong.0, ap but_for_limits wrong.1)
+      | inr right ↦ inr (right.0, right.1, ap but_for_limits right.2)
+    ],
+  )
+  line_bare (rejected step fault) line h = (h.0, h.1, ap but_for_limits h.2)
+  line_bare list line h = ap but_for_limits h
+  line_bare neither line h = ap but_for_limits h
+
+  -- and tells limits where these are added
+  pub line_with : (fate : Fate) (r : Reached) (line told : RpkiLine) → IsLineOf asks top octets fate ranges line → but_for_limits told ≡ but_for_limits line → TellsReached r told
+      → IsLineWith asks top octets fate r ranges told
+  line_with fate r line told h same tells = (subst (λ (l : RpkiLine). IsLineOf asks top octets fate ranges l) (sym same) (line_bare fate line h), tells)
+
 module _ (asks : Bool) (top : ℕ) (old new : Ranges) (on : HaveGrown old new) where
   line_stays : (octets : List ℕ) (fate : Fate) (line : RpkiLine)
       → IsLineOf asks top octets fate old line → IsLineOf asks top octets fate new line
@@ -67,33 +91,37 @@ module _ (asks : Bool) (top : ℕ) (old new : Ranges) (on : HaveGrown old new) w
   line_stays octets list line h = h
   line_stays octets neither line h = h
 
+  stays_with : (octets : List ℕ) (fate : Fate) (r : Reached) (line : RpkiLine)
+      → IsLineWith asks top octets fate r old line → IsLineWith asks top octets fate r new line
+  stays_with octets fate r line h = (line_stays octets fate (but_for_limits line) h.0, h.1)
+
   -- one line more
-  pub lines_more : (strings : List (List ℕ)) (fate : ℕ → Fate) (n : ℕ) (it told : ToldLines) (line : RpkiLine)
+  pub lines_more : (strings : List (List ℕ)) (fate : ℕ → Fate) (reached : ℕ → Reached) (n : ℕ) (it told : ToldLines) (line : RpkiLine)
       → it.ranges ≡ old → told.ranges ≡ new → told.lines.items ≡ it.lines.items ++ line ∷ []
-      → AreLinesOf asks top strings fate n it → IsLineOf asks top (octets_at strings n) (fate n) new line
-      → AreLinesOf asks top strings fate (n + 1) told
-  lines_more strings fate n it told line were are pushed h is =
+      → AreLinesOf asks top strings fate reached n it → IsLineWith asks top (octets_at strings n) (fate n) (reached n) new line
+      → AreLinesOf asks top strings fate reached (n + 1) told
+  lines_more strings fate reached n it told line were are pushed h is =
       let size = length-append it.lines.items (line ∷ []) in
       let count = h.count_is in
       let all : length told.lines.items ≡ n + 1 = ap length pushed ∙ omega (arith, size, count) in
       record {
         count_is = all;
         line_is = λ place d low.
-            subst (λ (r : Ranges). IsLineOf asks top (octets_at strings place) (fate place) r (get_or told.lines.items place d)) (sym are)
-            (subst (λ (l : List RpkiLine). IsLineOf asks top (octets_at strings place) (fate place) new (get_or l place d)) (sym pushed)
+            subst (λ (r : Ranges). IsLineWith asks top (octets_at strings place) (fate place) (reached place) r (get_or told.lines.items place d)) (sym are)
+            (subst (λ (l : List RpkiLine). IsLineWith asks top (octets_at strings place) (fate place) (reached place) new (get_or l place d)) (sym pushed)
             (elim (cases_lt place n) [
               | inl before ↦
                   let within : place < length it.lines.items = omega (arith, before, count) in
-                  subst (λ (l : RpkiLine). IsLineOf asks top (octets_at strings place) (fate place) new l)
+                  subst (λ (l : RpkiLine). IsLineWith asks top (octets_at strings place) (fate place) (reached place) new l)
                   (sym (get_or-append it.lines.items (line ∷ []) d place within))
-                  (line_stays (octets_at strings place) (fate place) (get_or it.lines.items place d)
-                  (subst (λ (r : Ranges). IsLineOf asks top (octets_at strings place) (fate place) r (get_or it.lines.items place d)) were
+                  (stays_with (octets_at strings place) (fate place) (reached place) (get_or it.lines.items place d)
+                  (subst (λ (r : Ranges). IsLineWith asks top (octets_at strings place) (fate place) (reached place) r (get_or it.lines.items place d)) were
                   (h.line_is place d before)))
               | inr behind ↦
                   let same : place ≡ n = omega (arith, low, behind) in
                   let here : length it.lines.items ≡ place = count ∙ sym same in
-                  subst (λ (l : RpkiLine). IsLineOf asks top (octets_at strings place) (fate place) new l)
+                  subst (λ (l : RpkiLine). IsLineWith asks top (octets_at strings place) (fate place) (reached place) new l)
                   (sym (get_or_push it.lines.items line d place here))
-                  (subst (λ (m : ℕ). IsLineOf asks top (octets_at strings m) (fate m) new line) (sym same) is)
+                  (subst (λ (m : ℕ). IsLineWith asks top (octets_at strings m) (fate m) (reached m) new line) (sym same) is)
             ]));
       }

@@ -14,6 +14,7 @@ mod HeldLines
 mod Issuers
 mod KeysAsked
 mod KeysGathered
+mod LimitsFound
 mod ListTermsGiven
 mod OneMore
 mod PlacesTold

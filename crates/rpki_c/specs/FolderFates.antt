@@ -22,9 +22,13 @@ use Rattle.rpki_folder.specs.Walks.{Root, at_anchor, members_at, IsAcceptedAs, I
 use Rattle.rpki_folder.specs.declared.bounds.Ended.{Ended}
 use Rattle.rpki_folder.specs.declared.firsts.Firsts.{Firsts}
 use Rattle.rpki_folder.specs.declared.bounds.Ended.TheVariants.{TooDeep, OutOfSteps}
+use Rattle.rpki_folder.specs.declared.bounds.LimitedCa.{LimitedCa}
+use Rattle.rpki_folder.specs.ReachedLimits.{AreLimited}
 use Rattle.rpki_folder.specs.UsualBounds.{usual_steps}
+use Rattle.rpki_c.specs.FolderLimits.{AreReachedAt, IsCaOf}
 use Rattle.rpki_c.specs.FolderQuestions.{asked_or}
 use Rattle.rpki_c.specs.Verdicts.{AreNoList}
+use Rattle.rpki_c.specs.declared.limits.Reached.{Reached}
 pub mod Steps
 
 -- ---- strings
@@ -142,9 +146,10 @@ pub record AreFates (x : Context) (asked : RevocationChecks) (names : Bool) (roo
 -- trust anchor of the locator, the greatest of those that are valid; and the lists among them are asked
 -- for revocation, which have to have their issuers' names if names are asked (RFC 5280 6.3.3 (b) (1));
 -- the steps are those that are asked for, or else the usual ones. The walk is said to be out of steps
--- only where the share of a CA is less than its children, of which copies don't count
+-- only where the share of a CA is less than its children, of which copies don't count. These are the
+-- limits that it reached at the certificate of each string
 pub record AreJudged (x : Context) (names : Bool) (t : NamedTal) (strings : List (List ℕ))
-    (top depth steps : ℕ) (ended : Ended) (fate : ℕ → Fate) : Type 0 where
+    (top depth steps : ℕ) (ended : Ended) (fate : ℕ → Fate) (reached : ℕ → Reached) : Type 0 where
   pub lists : List CrlState
   pub lists_are : AreListsAmong strings lists
   pub anchor_is : IsAnchorAt x (by_named_lists names x lists) names t strings top
@@ -157,3 +162,10 @@ pub record AreJudged (x : Context) (names : Bool) (t : NamedTal) (strings : List
   pub short : ended ≡ OutOfSteps → IsShort x (by_named_lists names x lists)
       (IsLookedAt names (IsFirstIn firsts) anchor_is.cert certs)
       (at_anchor t (octets_at strings top)) certs [] (asked_or steps usual_steps)
+  pub limited : List LimitedCa
+  pub limited_are : AreLimited x (by_named_lists names x lists)
+      (IsLookedAt names (IsFirstIn firsts) anchor_is.cert certs)
+      (at_anchor t (octets_at strings top)) certs depth (asked_or steps usual_steps) limited
+  pub reached_are : (place : ℕ) → place < length strings
+      → AreReachedAt (IsCaOf certs (octets_at strings top) (octets_at strings place)) limited
+      (reached place)

@@ -18,6 +18,7 @@ use Rattle.rpki_folder.specs.declared.bounds.Ended.{Ended}
 use Rattle.rpki_folder.specs.declared.bounds.Ended.TheVariants.{Whole, TooDeep, OutOfSteps}
 use Rattle.rpki_c.specs.FaultNumbers.{path_number, refusal_number}
 use Rattle.rpki_c.specs.FolderFates.{Fate, anchor, list, neither, unseen, accepted, rejected, AreListsAmong, HasNoAnchor, NoneHasKey, AreJudged}
+use Rattle.rpki_c.specs.FolderLimits.{TellsReached, but_for_limits}
 use Rattle.rpki_c.specs.FolderQuestions.{HasFolderTerms, HasNoFolderTerms}
 use Rattle.rpki_c.specs.HeldRanges.{AreHeldAt, nothing_held}
 use Rattle.rpki_c.specs.Questions.{kind_number}
@@ -29,6 +30,7 @@ use Rattle.rpki_c.specs.declared.folder_lines.ToldLines.{ToldLines}
 use Rattle.rpki_c.specs.declared.folder_question.FolderTerms.{FolderTerms}
 use Rattle.rpki_c.specs.declared.folder_question.RpkiFolderQuestion.{RpkiFolderQuestion}
 use Rattle.rpki_c.specs.declared.folders.RpkiWalk.{RpkiWalk}
+use Rattle.rpki_c.specs.declared.limits.Reached.{Reached}
 use Rattle.rpki_c.specs.declared.paths.RpkiRoom.{RpkiRoom}
 use Rattle.rpki_c.specs.declared.ranges.Ranges.{Ranges}
 use Rattle.rpki_c.specs.declared.ranges.RpkiHeld.{RpkiHeld}
@@ -46,7 +48,7 @@ issuer_of top (place ∷ places) = issuer_of place places
 -- the line of which no more is told than what it is
 abbrev pub plain_line : ℕ → RpkiLine
 plain_line what =
-    record { what = what; fault = 0; step = 0; issuer = 0; kind = 0; held = nothing_held }
+    record { what = what; fault = 0; step = 0; issuer = 0; kind = 0; limits = 0; held = nothing_held; needed = 0 }
 
 -- the line of a certificate that is judged as one of the kind of this number, and accepted below the
 -- CAs at these places, below the trust anchor at a place; what it holds is at these places
@@ -57,13 +59,23 @@ accepted_line kind top above held = record {
   step = length above + 1;
   issuer = issuer_of top above;
   kind = kind;
+  limits = 0;
   held = held;
+  needed = 0;
 }
 
 -- the line of one that is rejected at a step, by a fault of this number
 abbrev pub rejected_line : (kind step fault : ℕ) → RpkiLine
-rejected_line kind step fault =
-    record { what = 3; fault = fault; step = step; issuer = 0; kind = kind; held = nothing_held }
+rejected_line kind step fault = record {
+  what = 3;
+  fault = fault;
+  step = step;
+  issuer = 0;
+  kind = kind;
+  limits = 0;
+  held = nothing_held;
+  needed = 0;
+}
 
 -- it is the number of the kind as which the certificate is judged with which the octets begin: the one
 -- that it says that it is
@@ -89,12 +101,18 @@ IsLineOf asks_key top octets (rejected step fault) ranges line =
 IsLineOf asks_key top octets list ranges line = line ≡ plain_line 4
 IsLineOf asks_key top octets neither ranges line = line ≡ plain_line 5
 
--- these are the lines of so many strings, which have these fates, with what is held
+-- the line of a string that has this fate, and at whose certificate these limits were reached
+abbrev pub IsLineWith : Bool → ℕ → List ℕ → Fate → Reached → Ranges → RpkiLine → Type 0
+IsLineWith asks_key top octets fate r ranges line =
+    IsLineOf asks_key top octets fate ranges (but_for_limits line) × TellsReached r line
+
+-- these are the lines of so many strings, which have these fates, and at whose certificates these
+-- limits were reached, with what is held
 pub record AreLinesOf (asks_key : Bool) (top : ℕ) (strings : List (List ℕ)) (fate : ℕ → Fate)
-    (count : ℕ) (it : ToldLines) : Type 0 where
+    (reached : ℕ → Reached) (count : ℕ) (it : ToldLines) : Type 0 where
   pub count_is : length it.lines.items ≡ count
   pub line_is : (place : ℕ) (d : RpkiLine) → place < count
-      → IsLineOf asks_key top (octets_at strings place) (fate place) it.ranges
+      → IsLineWith asks_key top (octets_at strings place) (fate place) (reached place) it.ranges
       (slice_index_or it.lines.items place d)
 
 -- ---- answers
@@ -103,8 +121,9 @@ pub record AreLinesOf (asks_key : Bool) (top : ℕ) (strings : List (List ℕ)) 
 pub record IsWalkOf (x : Context) (f : FolderTerms) (t : NamedTal) (strings : List (List ℕ))
     (w : Walked) : Type 0 where
   pub fate : ℕ → Fate
-  pub judged : AreJudged x f.asks_names t strings w.anchor f.depth f.steps w.ended fate
-  pub lines_are : AreLinesOf f.asks_key w.anchor strings fate (length strings) w.told
+  pub reached : ℕ → Reached
+  pub judged : AreJudged x f.asks_names t strings w.anchor f.depth f.steps w.ended fate reached
+  pub lines_are : AreLinesOf f.asks_key w.anchor strings fate reached (length strings) w.told
 
 -- the file is no locator
 abbrev pub IsNoLocator : Bool → List ℕ → Refusal → Type 0

@@ -4,6 +4,7 @@ pub mod Contents
 pub mod FaultNumbers
 pub mod FaultTexts
 pub mod FolderFates
+pub mod FolderLimits
 pub mod FolderQuestions
 pub mod FolderTelling
 pub mod HeldRanges

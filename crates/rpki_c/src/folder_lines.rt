@@ -1,11 +1,13 @@
 //! The lines with the results for a directory's strings.
 ghost use Rattle.std.specs.Prelude.{◌≡◌};
+ghost use Rattle.rpki_c.specs.FolderLimits.{TellsReached, but_for_limits};
 ghost use Rattle.rpki_c.specs.FolderTelling.{plain_line, rejected_line};
 ghost use Rattle.rpki_c.specs.HeldRanges.{nothing_held};
 ghost use Rattle.rpki_c.specs.Questions.{kind_number as number_of};
 
 use crate::faults::{BAD_KEY, NONE, of_path};
 use crate::judging::has_key_asked;
+use crate::limits::Reached;
 use crate::ranges::{Ranges, RpkiHeld};
 use crate::sorting::Sorted;
 use rpki_cert::Kind;
@@ -27,8 +29,14 @@ pub struct RpkiLine {
     /// The kind as which it was judged, if it is accepted or rejected: 1 a CA, 2 an end entity, 3 a
     /// detached end entity, 4 a router.
     pub kind: u32,
+    /// The limits that the walk reached at it, on any path to it: 1 the depth, 2 its share of the
+    /// steps, 3 both.
+    pub limits: u32,
     /// What it holds, if it is accepted; for a router, what the CA above it holds.
     pub held: RpkiHeld,
+    /// The least number of steps with which its children are judged on a path on which its share was
+    /// too small; 0 if there is no such path, or no number is known.
+    pub needed: u64,
 }
 
 /// The lines of a folder's strings, and the ranges that the accepted certificates hold.
@@ -86,7 +94,9 @@ fn rejected(kind: u32, step: usize, fault: u32) -> RpkiLine
         step: step as u64,
         issuer: 0,
         kind,
+        limits: 0,
         held: nothing(),
+        needed: 0,
     }
 }
 
@@ -100,7 +110,21 @@ fn plain(what: u32) -> RpkiLine
         step: 0,
         issuer: 0,
         kind: 0,
+        limits: 0,
         held: nothing(),
+        needed: 0,
+    }
+}
+
+// The line with the limits that were reached at its certificate.
+fn with_limits(line: RpkiLine, reached: Reached) -> RpkiLine
+    ensures line { but_for_limits result ≡ but_for_limits line }
+    ensures limits { TellsReached reached result }
+{
+    RpkiLine {
+        limits: reached.number(),
+        needed: reached.needed_or_zero(),
+        ..line
     }
 }
 
@@ -112,6 +136,8 @@ pub(crate) struct WalkLines<'w, 's> {
     pub(crate) firsts: &'w Firsts,
     /// The line of each place.
     pub(crate) kept: &'w [Line],
+    /// The limits that were reached at each first place.
+    pub(crate) limits: &'w [Reached],
     /// The place of the trust anchor.
     pub(crate) anchor: usize,
 }
@@ -167,7 +193,9 @@ impl<'s> Sorted<'s> {
             step: step as u64,
             issuer: self.issuer(&path.above, anchor) as u64,
             kind,
+            limits: 0,
             held,
+            needed: 0,
         })
     }
 
@@ -199,8 +227,8 @@ impl<'s> Sorted<'s> {
 impl<'w, 's> WalkLines<'w, 's> {
     ghost use Rattle.std.specs.Prelude.{◌≡◌, ◌<◌, length, IfOk, IsTrue, OnOk};
     ghost use Rattle.rpki_folder.specs.Folders.{octets_at};
-    ghost use Rattle.rpki_c.specs.FolderFates.Steps.{IsSorted, origin_of, cert_fate, fate_at};
-    ghost use Rattle.rpki_c.specs.FolderTelling.{AreLinesOf, IsLineOf};
+    ghost use Rattle.rpki_c.specs.FolderFates.Steps.{IsSorted, origin_of, cert_fate, cert_reached, fate_at, reached_at};
+    ghost use Rattle.rpki_c.specs.FolderTelling.{AreLinesOf, IsLineOf, IsLineWith};
     ghost use Rattle.rpki_c.specs.HeldRanges.{HaveGrown};
 
     // The line of the certificate at a place of the folder: that of its first place.
@@ -229,6 +257,16 @@ impl<'w, 's> WalkLines<'w, 's> {
         }
     }
 
+    // The limits that were reached at the certificate at a place of the folder.
+    fn reached(&self, at: usize) -> Reached
+        ensures { result ≡ cert_reached self.now at }
+    {
+        match self.limits.get(self.firsts.first_of(at)) {
+            Some(reached) => *reached,
+            None => Reached::nothing(),
+        }
+    }
+
     // The line of the string at a place.
     #[tactic(auto, using(crate::proofs::HeldLines::not_grown))]
     fn line_at(
@@ -242,11 +280,15 @@ impl<'w, 's> WalkLines<'w, 's> {
         ensures line { let sorted = self.now.sorted.now in
             let octets = octets_at sorted.strings.now place in
             let top = origin_of sorted self.now.anchor in
-            IfOk result (IsLineOf asks_key top octets (fate_at self.now place) ranges.new) }
+            IfOk result (IsLineWith asks_key top octets (fate_at self.now place)
+            (reached_at self.now place) ranges.new) }
         ensures grown { OnOk result (HaveGrown ranges.old ranges.new) }
     {
         match self.sorted.added[place] {
-            Added::Certificate(at) => self.cert_line(at, asks_key, ranges),
+            Added::Certificate(at) => {
+                let line = self.cert_line(at, asks_key, ranges)?;
+                Ok(with_limits(line, self.reached(at)))
+            }
             Added::List => Ok(plain(LIST)),
             Added::Neither => Ok(plain(NEITHER)),
         }
@@ -258,7 +300,8 @@ impl<'w, 's> WalkLines<'w, 's> {
         ensures { let sorted = self.now.sorted.now in
             let strings = sorted.strings.now in
             let top = origin_of sorted self.now.anchor in
-            IfOk result (AreLinesOf asks_key top strings (fate_at self.now) (length strings)) }
+            IfOk result (AreLinesOf asks_key top strings (fate_at self.now)
+            (reached_at self.now) (length strings)) }
     {
         let mut lines = Vec::new(alloc);
         let mut ranges = Ranges::new(alloc);

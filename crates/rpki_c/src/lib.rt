@@ -16,6 +16,7 @@ mod issuer;
 mod issuing;
 mod judging;
 mod keys;
+mod limits;
 mod list_completing;
 mod list_preparing;
 mod lists;

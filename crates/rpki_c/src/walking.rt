@@ -7,9 +7,9 @@ ghost use Rattle.rpki_keys.specs.RsaSignatures.{IsSignedByRsa};
 ghost use Rattle.rpki_folder.specs.FirstPlaces.{IsFirstIn};
 ghost use Rattle.rpki_folder.specs.FoundAnchors.{IsFound};
 ghost use Rattle.rpki_folder.specs.KeptLines.{BecameLines};
-ghost use Rattle.rpki_folder.specs.ReachedLimits.{ended_of};
+ghost use Rattle.rpki_folder.specs.ReachedLimits.{AreLimited, ended_of};
 ghost use Rattle.rpki_folder.specs.UsualBounds.{usual_steps};
-ghost use Rattle.rpki_folder.specs.Walks.{IsLookedAt, TellsBelow, Told};
+ghost use Rattle.rpki_folder.specs.Walks.{IsLookedAt, LeadsTo, Root, TellsBelow, Told, members_at};
 ghost use Rattle.rpki_folder.specs.declared.anchors.FoundAnchor.TheVariants.{Valid};
 ghost use Rattle.rpki_c.specs.FolderFates.Steps.{IsSorted, refusal_of, wrong_first};
 ghost use Rattle.rpki_c.specs.FolderQuestions.{asked_or};
@@ -18,6 +18,7 @@ ghost use Rattle.rpki_c.specs.FolderTelling.{AnswersBelow, AnswersLocated, Answe
 use crate::folder_lines::{ToldLines, WalkLines};
 use crate::folder_question::{FolderTerms, RpkiFolderQuestion, folder_terms_of};
 use crate::judging::strings_of;
+use crate::limits::limits_of;
 use crate::refusal::Refusal;
 use crate::sorting::Sorted;
 use bytes::Bytes;
@@ -112,13 +113,21 @@ fn walk_below(
     issuer: &ResourceCert,
     kept: &mut Lines,
 ) -> Result<FolderWalk, AllocError>
-    ensures { let x = context IsSignedByRsa terms.now.at terms.now.strict in
+    ensures tells { let x = context IsSignedByRsa terms.now.at terms.now.strict in
         let asked = by_named_lists terms.now.asks_names x sorted.now.folder.lists in
         let certs = sorted.now.folder.certs in
         let steps = asked_or terms.now.steps usual_steps in
         (told : List Told) × BecameLines kept.old told kept.new × TellsBelow x asked
         (IsLookedAt terms.now.asks_names (IsFirstIn firsts.now) issuer.now.cert certs) issuer.now
         certs [] terms.now.depth steps (ended_of result) told }
+    ensures limited { let x = context IsSignedByRsa terms.now.at terms.now.strict in
+        let asked = by_named_lists terms.now.asks_names x sorted.now.folder.lists in
+        let certs = sorted.now.folder.certs in
+        let steps = asked_or terms.now.steps usual_steps in
+        IfOk result (λ walked. (root : Root)
+        → LeadsTo x asked root (members_at root certs []) issuer.now → AreLimited x asked
+        (IsLookedAt terms.now.asks_names (IsFirstIn firsts.now) issuer.now.cert certs) root
+        certs terms.now.depth steps walked.limited.items) }
 {
     walk_of(alloc, sorted, firsts, terms).below(issuer, kept)
 }
@@ -143,11 +152,15 @@ fn walk_from(
     let mut kept = Lines::new(alloc, sorted.folder.certs().len())?;
     let walk = walk_below(alloc, sorted, &firsts, terms, issuer, &mut kept)?;
     let FolderWalk { ended, limited } = walk;
+    let count = sorted.folder.certs().len();
+    let reached = limits_of(alloc, &firsts, anchor, count, &limited);
     drop(limited);
+    let limits = reached?;
     let lines = WalkLines {
         sorted,
         firsts: &firsts,
         kept: kept.as_slice(),
+        limits: &limits,
         anchor,
     };
     let told = lines.told(alloc, terms.asks_key)?;

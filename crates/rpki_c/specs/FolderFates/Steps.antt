@@ -15,6 +15,8 @@ use Rattle.rpki_folder.specs.Walks.{Root, LeadsTo, Told, IsRight, IsLetIn, IsSho
 use Rattle.rpki_folder.specs.declared.anchors.WrongCandidate.{WrongCandidate}
 use Rattle.rpki_folder.specs.declared.bounds.Ended.{Ended}
 use Rattle.rpki_folder.specs.declared.bounds.Ended.TheVariants.{OutOfSteps}
+use Rattle.rpki_folder.specs.declared.bounds.LimitedCa.{LimitedCa}
+use Rattle.rpki_folder.specs.ReachedLimits.{AreLimited}
 use Rattle.rpki_folder.specs.declared.firsts.Firsts.{Firsts}
 use Rattle.rpki_folder.specs.declared.folder.Added.{Added}
 use Rattle.rpki_folder.specs.declared.folder.Added.TheVariants.{Certificate, List as list_added, Neither}
@@ -24,7 +26,9 @@ use Rattle.rpki_folder.specs.declared.walk_error.WalkError.{WalkError}
 use Rattle.rpki_folder.specs.declared.walk_error.WalkError.TheVariants.{Anchor, OtherName, Memory}
 use Rattle.rpki_c.specs.Verdicts.{AreNoList}
 use Rattle.rpki_c.specs.FolderFates.{Fate, anchor, list, neither, unseen, accepted, rejected, IsTakenFor, AreListsAmong, AreCertificatesAmong}
+use Rattle.rpki_c.specs.FolderLimits.Steps.{nothing}
 use Rattle.rpki_c.specs.declared.folder_lines.WalkLines.{WalkLines}
+use Rattle.rpki_c.specs.declared.limits.Reached.{Reached}
 use Rattle.rpki_c.specs.declared.refusal.Refusal.{Refusal}
 use Rattle.rpki_c.specs.declared.refusal.Refusal.TheVariants as refusal
 use Rattle.rpki_c.specs.declared.sorting.Sorted.{Sorted}
@@ -89,10 +93,25 @@ added_fate w Neither = neither
 abbrev pub fate_at : WalkLines → ℕ → Fate
 fate_at w place = added_fate w (slice_index_or w.sorted.now.added.items place Neither)
 
--- the lines that are kept of a walk below a trust anchor, which ended so
+-- the limits that were reached at the certificate at a place of the folder: those at its first place
+abbrev pub cert_reached : WalkLines → ℕ → Reached
+cert_reached w place = slice_index_or w.limits.now (first_of w.firsts.now place) nothing
+
+-- at what was added
+abbrev pub added_reached : WalkLines → Added → Reached
+added_reached w (Certificate place) = cert_reached w place
+added_reached w list_added = nothing
+added_reached w Neither = nothing
+
+-- at the string at a place
+abbrev pub reached_at : WalkLines → ℕ → Reached
+reached_at w place = added_reached w (slice_index_or w.sorted.now.added.items place Neither)
+
+-- the lines that are kept of a walk below a trust anchor, which ended so, and reached limits at these
+-- CAs
 pub record IsWalked (x : Context) (asked : RevocationChecks) (names : Bool) (root : Root)
     (certs : List (List ℕ)) (firsts : Firsts) (depth steps : ℕ) (kept : List Line)
-    (ended : Ended) : Type 0 where
+    (ended : Ended) (limited : List LimitedCa) : Type 0 where
   pub holder : ResourceFields
   pub holds : LeadsTo x asked root [] holder
   pub named : IsTrue names → IsSelfNamed holder.cert
@@ -106,6 +125,8 @@ pub record IsWalked (x : Context) (asked : RevocationChecks) (names : Bool) (roo
       certs [] depth ended
   pub complete : IsComplete x asked (IsLookedAt names (IsFirstIn firsts) holder.cert certs) root
       certs [] depth tells ended
+  pub limited_are : AreLimited x asked (IsLookedAt names (IsFirstIn firsts) holder.cert certs) root
+      certs depth steps limited
 
 -- why there was no walk below the trust anchor at a place
 abbrev pub refusal_of : ℕ → WalkError → Refusal

@@ -1,12 +1,14 @@
-use Rattle.std.specs.Prelude.{IfOk}
 use Rattle.std.proofs.Common.{◌≡◌, ◌∙◌, ℕ, ◌<◌, List, length, get_or, sym, ap, subst}
 use Rattle.std.proofs.lemmas.List.{get_or_read}
 use Rattle.rpki_folder.specs.Folders.{octets_at}
 use Rattle.rpki_folder.specs.declared.folder.Added.{Added}
 use Rattle.rpki_folder.specs.declared.folder.Added.TheVariants.{Certificate, Neither}
 use Rattle.rpki_c.specs.FolderFates.{Fate}
-use Rattle.rpki_c.specs.FolderFates.Steps.{added_fate, cert_fate, fate_at, origin_of}
+use Rattle.rpki_c.specs.FolderFates.Steps.{added_fate, added_reached, cert_fate, fate_at, origin_of, reached_at}
+use Rattle.rpki_c.specs.FolderLimits.{TellsReached}
 use Rattle.rpki_c.specs.FolderTelling.{IsLineOf}
+use Rattle.rpki_c.specs.declared.limits.Reached.{Reached}
+use Rattle.rpki_c.proofs.HeldLines.{line_with}
 use Rattle.rpki_c.proofs.SortedMore.{filed_at}
 use Rattle.rpki_c.proofs.folder_lines.WalkLines.line_at.Goals as goal
 
@@ -18,8 +20,8 @@ cert_line-requires c =
     let read : get_or s.added.items place Neither ≡ Certificate c.in-Certificate.at = sym (get_or_read s.added.items place c.index.result.now inside c.index.ensures Neither) ∙ c.in-Certificate.is in
     (filed_at s c.requires.sorted place c.in-Certificate.at c.requires.inside read).0
 
-pub returns-in-Certificate-clause-line : goal.returns-in-Certificate-clause-line
-returns-in-Certificate-clause-line c =
+pub returns-in_ok-line-in-Certificate-clause-line : goal.returns-in_ok-line-in-Certificate-clause-line
+returns-in_ok-line-in-Certificate-clause-line c =
     let w = c.args.self.now in
     let s = w.sorted.now in
     let at = c.in-Certificate.at in
@@ -29,6 +31,12 @@ returns-in-Certificate-clause-line c =
     let read : get_or s.added.items place Neither ≡ Certificate at = sym (get_or_read s.added.items place c.index.result.now inside c.index.ensures Neither) ∙ c.in-Certificate.is in
     let filed = filed_at s c.requires.sorted place at c.requires.inside read in
     let fate : cert_fate w at ≡ fate_at w place = sym (ap (λ (a : Added). added_fate w a) read) in
+    let reached : c.reached.result ≡ reached_at w place = c.reached.ensures ∙ sym (ap (λ (a : Added). added_reached w a) read) in
     let ranges = c.cert_line.new.ranges in
-    subst (λ (f : Fate). IfOk c.cert_line.result (IsLineOf c.args.asks_key top (octets_at s.strings.now place) f ranges)) fate
-    (subst (λ (o : List ℕ). IfOk c.cert_line.result (IsLineOf c.args.asks_key top o (cert_fate w at) ranges)) filed.1 c.cert_line.ensures.line)
+    let line = c.in_ok-line-in-Certificate.line in
+    let told = c.with_limits.result in
+    line_with c.args.asks_key top (octets_at s.strings.now place) ranges (fate_at w place) (reached_at w place) line told
+    (subst (λ (f : Fate). IsLineOf c.args.asks_key top (octets_at s.strings.now place) f ranges line) fate
+    (subst (λ (o : List ℕ). IsLineOf c.args.asks_key top o (cert_fate w at) ranges line) filed.1 c.in_ok-line-in-Certificate.ensures.line))
+    c.with_limits.ensures.line
+    (subst (λ (r : Reached). TellsReached r told) reached c.with_limits.ensures.limits)
