@@ -20,8 +20,9 @@ accepted, whatever the stranger added, and what such a path holds.
 Names are asked of half of the folders, of certificates and of lists alike; the others are asked with
 --no-names. With --shares it is taken that copies take no steps, and that what is left of a CA's steps is
 divided among the CAs below it. Then three numbers of steps are asked too, beside the walk of walks.py:
-each path, verdict and what is held, and whether a bound was met. What is told of a path without the
-stranger's keys mustn't depend on what the stranger added, by walks.py and by what the command shows.
+the set of paths to each certificate, each verdict and what is held, and whether a bound was met. What is
+told of paths without the stranger's keys mustn't depend on what the stranger added, as sets, by walks.py
+and by what the command tells, which is up to eight paths to a certificate.
 Without --shares a walk is asked that meets no bound but the depth; of one that does, only whether what
 it tells is so.
 
@@ -42,6 +43,7 @@ import tempfile
 from pathlib import Path
 from typing import NamedTuple
 
+import folders
 import make
 import random_folders
 import reference as ref
@@ -49,6 +51,7 @@ import rsa
 import strangers
 import walks
 from held import ranges_held, ranges_of
+from profiles import ROUTER
 from signers import Signer
 
 KEYS = 7
@@ -219,15 +222,43 @@ def free_told(told, walk, keys):
     return found
 
 
-def path_of(folder, line):
-    """What is signed of each certificate of the path that a line shows."""
-    return tuple(folder.certificate(it).signed.data for it in [*line['above'], line['file']])
+def path_of(folder, line, above):
+    """What is signed of each certificate of a path that a line tells."""
+    return tuple(folder.certificate(it).signed.data for it in [*above, line['file']])
+
+
+def paths_of(folder, line):
+    """The paths that the line of an accepted certificate tells, the shown one first, and whether it holds on each
+    what it holds on the shown one."""
+    its = line.get('paths', [{'above': line['above'], 'same_resources': True}])
+    return {path_of(folder, line, it['above']): it['same_resources'] for it in its}
 
 
 class Held(NamedTuple):
     """What the last certificate of a path holds, and the one above it."""
     result: object
     above: object
+
+
+def paths_wrongs(folder, name, line, some):
+    """What is wrong of the paths of an accepted certificate, of which the walk has these."""
+    paths = paths_of(folder, line)
+    shown = path_of(folder, line, line['above'])
+    if len(paths) + line.get('more_paths', 0) != len(some) or set(paths) - set(some):
+        yield f'{name} is accepted by {len(paths)} paths, and wanted {len(some)}: {line}'
+    elif shown not in paths:
+        yield f'the path of {name} that is shown isn\'t told'
+    else:
+        yield from held_wrongs(name, line, some[shown])
+        for path, is_same in paths.items():
+            if is_same != (held_by(some[path]) == held_by(some[shown])):
+                yield f'{name} holds others by one of its paths, or the same: {line}'
+
+
+def held_by(held):
+    """What the certificate holds, or the CA above a router's."""
+    of = held.above if folders.said_kind(held.result.cert.tbs) == ROUTER else held.result
+    return of.v4, of.v6, of.asn
 
 
 def share_wrongs(folder, told, walk):
@@ -244,11 +275,7 @@ def share_wrongs(folder, told, walk):
             continue
         some = accepting[cert.signed.data]
         if line['verdict'] == 'accepted':
-            path = path_of(folder, line)
-            if path in some:
-                yield from held_wrongs(name, line, some[path])
-            else:
-                yield f'{name} is accepted by a path that isn\'t told'
+            yield from paths_wrongs(folder, name, line, some)
         elif some and cert.tbs.signature == cert.signed.algorithm and folder.walks.verified(
                 *signed_by(folder, some, cert)):
             yield f'{name} is {line["verdict"]}, and a path accepts it'
@@ -257,21 +284,26 @@ def share_wrongs(folder, told, walk):
 
 
 def reported(folder, told, keys):
-    """The files that are accepted by a path without these keys, as the command shows it."""
+    """The paths without these keys to each accepted file, as the command tells them, and the files of which it
+    counts more than it tells."""
     certs = {it.signed.data: it for _, it in folder.walks.certs}
-    return {name for name, line in told.files.items() if line['verdict'] == 'accepted' and walks.is_free(
-        [certs[it] for it in path_of(folder, line)], keys)}
+    found = {name: {it for it in paths_of(folder, line) if walks.is_free([certs[part] for part in it], keys)}
+             for name, line in told.files.items() if line['verdict'] == 'accepted'}
+    return found, {name for name, line in told.files.items() if 'more_paths' in line}
 
 
 def isolation_wrongs(question, folder, grown, told, told_then):
-    """What a stranger has changed of what the command shows, at whatever number of steps."""
-    files = set(question.files)
-    lost = reported(folder, told, question.keys) - told_then.accepted()
-    if lost:
-        yield f'{sorted(lost)} were accepted without the stranger'
-    won = reported(grown, told_then, question.keys) & files - told.accepted()
-    if won:
-        yield f'{sorted(won)} are accepted by a path without the stranger, and weren\'t'
+    """What a stranger has changed of what the command tells, at whatever number of steps."""
+    found, more = reported(folder, told, question.keys)
+    found_then, more_then = reported(grown, told_then, question.keys)
+    for name in question.files:
+        free, free_then = found.get(name, set()), found_then.get(name, set())
+        if free and name not in found_then:
+            yield f'{name} was accepted without the stranger'
+        elif free_then and name not in found:
+            yield f'{name} is accepted by a path without the stranger, and wasn\'t'
+        elif free != free_then and name not in more | more_then:
+            yield f'{name} has {len(free_then)} paths without the stranger, and had {len(free)}'
 
 
 def signed_by(folder, accepting, cert):

@@ -267,7 +267,7 @@ def anchor():
 # where reading stops then. Counted by hand: the anchor's values are 4 octets of the outer SEQUENCE,
 # 4 of what is signed, and then as long as the table has them; the list's are counted below.
 ANCHOR_PLACES = [
-    (4, '31', 'what is signed', 4),
+    (4, '31', 'the to-be-signed part', 4),
     (12, '01', 'the version', 8),                       # v2
     (15, '8C', 'the serial number', 13),                # -116
     (28, '0C', 'the signature algorithm', 16),          # sha384WithRSAEncryption

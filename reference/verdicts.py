@@ -127,6 +127,8 @@ def reading_rule(error, octets):
     says, section = texts.fault('reading', error.name)
     if error.name == 'WrongResources' and not has_policies(octets):
         return texts.Rule('Certificate Policies are missing', 'RFC 6487 4.8.9')
+    if error.name == 'Duplicate' and error.detail in ('IpResources', 'AsResources'):
+        return texts.Rule('IP or AS resources appear twice, or under both identifiers', 'RFC 5280 4.2, own rule')
     return texts.Rule(says, section or texts.parts()[error.detail])
 
 

@@ -48,8 +48,13 @@ fn main() -> ExitCode {
     for (file, line) in files.iter().zip(&judged.lines) {
         println!("{file}: {}", text(line, files));
     }
-    if !judged.is_whole {
-        println!("a limit was reached: what isn't accepted may yet be valid");
+    for it in &judged.limited {
+        let needed = match it.steps_needed {
+            Some(steps) => format!("; at least {steps} steps are needed"),
+            None => String::new(),
+        };
+        let ca = &files[it.ca];
+        println!("{ca}: a limit was reached, so its children aren't validated{needed}");
     }
     let is_wrong = |line: &Line| matches!(line, Line::Rejected { .. } | Line::Unseen);
     ExitCode::from(judged.lines.iter().any(is_wrong) as u8)

@@ -61,7 +61,7 @@ usage_text = concat (
 abbrev pub show_text : List ℕ
 show_text = concat (
     codes "usage: rpki show [OPTION].. FILE..\n"
-    ∷ codes "Prints what certificates, CRLs and TALs contain. It validates nothing.\n"
+    ∷ codes "Prints what certificates, CRLs, TALs and to-be-signed parts contain. It validates nothing.\n"
     ∷ codes "FILE is DER or PEM; - is standard input; after -- each word is a FILE.\n"
     ∷ codes "  --all                 prints all entries of a CRL, not only the first five\n"
     ∷ codes "  --at TIME             the time for what expires when; if left out, the clock's\n"

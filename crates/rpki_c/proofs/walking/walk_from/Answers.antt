@@ -31,8 +31,8 @@ returns c = λ t found.
     let count : length kept.now ≡ length s.folder.certs = ap length c.as_slice.ensures ∙ told.1.0 ∙ c.in_ok-kept.ensures.count ∙ ap length c.certs.ensures in
     let each : length c.certs-count.result.now ≡ length s.folder.certs = ap length c.certs-count.ensures in
     let table : AreReached firsts c.args.anchor limited (length s.folder.certs) limits.now =
-        subst (λ (rs : List Reached). AreReached firsts c.args.anchor limited (length s.folder.certs) rs) (sym c.deref-2.ensures.value)
-        (subst (λ (n : ℕ). AreReached firsts c.args.anchor limited n c.in_ok-limits.limits.items) each
-        (subst (λ (ls : List LimitedCa). AreReached firsts c.args.anchor ls (length c.certs-count.result.now) c.in_ok-limits.limits.items) c.deref.ensures.value c.in_ok-limits.ensures)) in
+    subst (λ (rs : List Reached). AreReached firsts c.args.anchor limited (length s.folder.certs) rs) (sym c.deref-2.ensures.value)
+    (subst (λ (n : ℕ). AreReached firsts c.args.anchor limited n c.in_ok-limits.limits.items) each
+    (subst (λ (ls : List LimitedCa). AreReached firsts c.args.anchor ls (length c.certs-count.result.now) c.in_ok-limits.limits.items) c.deref.ensures.value c.in_ok-limits.ensures)) in
     let w : WalkLines = record { sorted = c.args.sorted; firsts = record { ref_ptr = c.args.sorted.ref_ptr; now = firsts }; kept = kept; limits = limits; anchor = c.args.anchor } in
     walk_answered x t f law w c.requires.sorted count (record { told = c.in_ok-told.told; ended = walk.ended; anchor = c.origin-anchor.result }) limited c.in_ok-firsts.ensures table found.1 k c.in_ok-told.ensures c.origin-anchor.ensures
