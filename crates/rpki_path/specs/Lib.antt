@@ -11,5 +11,7 @@ pub mod LocatedPaths
 -- ---- who answers for revocation
 pub mod Asking
 pub mod AskedLists
+-- ---- one certificate after the other
+pub mod Validators
 -- ---- issuers that come twice
 pub mod Repeats

@@ -4,6 +4,7 @@ ghost use Rattle.std.proofs.Common.{rc_value};
 ghost use Rattle.rpki_cert.specs.Verification.{context};
 ghost use Rattle.rpki_path.specs.GivenPaths.{string_count};
 ghost use Rattle.rpki_path.specs.Judging.{Judges};
+ghost use Rattle.rpki_path.specs.Validators.{validator_view};
 ghost use Rattle.rpki_path.specs.declared.path_fault.PathFault.TheVariants.{Memory};
 
 use crate::given::{GivenPath, Last};
@@ -55,9 +56,8 @@ fn verdict<R: RevocationSource, V: Verifier>(
     validator: &Validator<'_, '_, R, V>,
 ) -> Result<Judged, PathError>
     requires { rc_value tal ≡ [] }
-    ensures judges { let v = validator.now in
-        let x = context (V.verifies v.verifier.now) v.at v.strict in
-        Judges x (R.asks v.asked.now x) path.now result }
+    ensures judges { let v = validator_view V.verifies R.asks validator.now in
+        Judges v.context v.asked path.now result }
     ensures place { IfErr result (λ e. e.index < string_count path.now) }
 {
     laws::unambiguous();

@@ -9,6 +9,7 @@ ghost use Rattle.rpki_path.specs.Asking.{by_uri};
 ghost use Rattle.rpki_path.specs.LocatedPaths.{BeginsWithAnchor, BeginsWithKey, BeginsWithOtherKey, IsAnchorFault, IsLocatedFault, IsOutOfMemory, ListsSome, ValidatesFrom, located_error_name};
 ghost use Rattle.rpki_path.specs.Paths.{candidates, IsAccepted};
 ghost use Rattle.rpki_path.specs.Paths.Steps.{IsUnread};
+ghost use Rattle.rpki_path.specs.Validators.{validator_view};
 ghost use Rattle.rpki_path.specs.declared.path_fault.PathFault.TheVariants.{Memory};
 
 use crate::members::Member;
@@ -183,17 +184,13 @@ fn walked_from<R: RevocationSource, V: Verifier>(
     cas: &[Bytes],
     leaf: &Option<Leaf>,
 ) -> Result<ResourceCert, LocatedError>
-    ensures ok { let v = validator.now in
-        let x = context (V.verifies v.verifier.now) v.at v.strict in
-        let asked = R.asks v.asked.now x in
+    ensures ok { let v = validator_view V.verifies R.asks validator.now in
         let below = candidates cas.now leaf.now in
         IfOk result (λ r. BeginsWithAnchor tal.now.tal anchor.now
-        × IsAccepted x asked anchor.now below tal.now.name r) }
-    ensures named { let v = validator.now in
-        let x = context (V.verifies v.verifier.now) v.at v.strict in
-        let asked = R.asks v.asked.now x in
+        × IsAccepted v.context v.asked anchor.now below tal.now.name r) }
+    ensures named { let v = validator_view V.verifies R.asks validator.now in
         let below = candidates cas.now leaf.now in
-        IfErr result (IsLocatedFault x asked tal.now.tal anchor.now below) }
+        IfErr result (IsLocatedFault v.context v.asked tal.now.tal anchor.now below) }
 {
     laws::unambiguous();
     test_anchor(validator.alloc, anchor, tal)?;

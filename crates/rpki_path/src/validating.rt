@@ -6,6 +6,7 @@ ghost use Rattle.rpki_cert.specs.Verification.{context};
 ghost use Rattle.rpki_path.specs.Asking.{nobody, by_uri};
 ghost use Rattle.rpki_path.specs.declared.path_fault.PathFault.TheVariants.{Memory};
 ghost use Rattle.rpki_path.specs.Paths.{candidates, IsAccepted, IsFault, IsUnasked, Validates};
+ghost use Rattle.rpki_path.specs.Validators.{validator_view};
 
 use crate::given::Last;
 use crate::members::Member;
@@ -45,15 +46,11 @@ fn to_leaf<R: RevocationSource, V: Verifier>(
     leaf: &Option<Leaf>,
     tal: Rc<TalInfo>,
 ) -> Result<ResourceCert, PathError>
-    ensures ok { let v = validator.now in
-        let x = context (V.verifies v.verifier.now) v.at v.strict in
-        let asked = R.asks v.asked.now x in
+    ensures ok { let v = validator_view V.verifies R.asks validator.now in
         let below = candidates cas.now leaf.now in
-        IfOk result (IsAccepted x asked anchor.now below (rc_value tal)) }
-    ensures named { let v = validator.now in
-        let x = context (V.verifies v.verifier.now) v.at v.strict in
-        let asked = R.asks v.asked.now x in
-        IfErr result (IsFault x asked anchor.now (candidates cas.now leaf.now)) }
+        IfOk result (IsAccepted v.context v.asked anchor.now below (rc_value tal)) }
+    ensures named { let v = validator_view V.verifies R.asks validator.now in
+        IfErr result (IsFault v.context v.asked anchor.now (candidates cas.now leaf.now)) }
 {
     match leaf {
         None => validator.members(anchor, cas, None, tal),
@@ -76,15 +73,11 @@ pub(crate) fn walked<R: RevocationSource, V: Verifier>(
     leaf: &Option<Leaf>,
     tal: Rc<TalInfo>,
 ) -> Result<ResourceCert, PathError>
-    ensures ok { let v = validator.now in
-        let x = context (V.verifies v.verifier.now) v.at v.strict in
-        let asked = R.asks v.asked.now x in
+    ensures ok { let v = validator_view V.verifies R.asks validator.now in
         let below = candidates cas.now leaf.now in
-        IfOk result (IsAccepted x asked anchor.now below (rc_value tal)) }
-    ensures named { let v = validator.now in
-        let x = context (V.verifies v.verifier.now) v.at v.strict in
-        let asked = R.asks v.asked.now x in
-        IfErr result (IsFault x asked anchor.now (candidates cas.now leaf.now)) }
+        IfOk result (IsAccepted v.context v.asked anchor.now below (rc_value tal)) }
+    ensures named { let v = validator_view V.verifies R.asks validator.now in
+        IfErr result (IsFault v.context v.asked anchor.now (candidates cas.now leaf.now)) }
 {
     let cas = placed(0, members_of(validator.alloc, cas))?;
     let answer = to_leaf(validator, anchor, &cas, leaf, tal);

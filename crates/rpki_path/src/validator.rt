@@ -4,12 +4,12 @@ ghost use Rattle.std.proofs.Common.{rc_value};
 ghost use Rattle.rpki_ext.specs.Kinds.{Means};
 ghost use Rattle.rpki_cert.specs.Certificates.{IsCertificate};
 ghost use Rattle.rpki_cert.specs.Validation.{IsValidBelow, IsInvalidBelow};
-ghost use Rattle.rpki_cert.specs.Verification.{context};
 ghost use Rattle.rpki_cert.specs.declared.inspect.Kind.TheVariants.{Authority as authority};
 ghost use Rattle.rpki_path.specs.GivenPaths.{members_below};
 ghost use Rattle.rpki_path.specs.Paths.{candidate, trust_anchor_demand, Finds, IsFault, IsAccepted};
 ghost use Rattle.rpki_path.specs.Paths.Steps.{kind_of, IsUnread, IsTrustAnchor, IsIssuedBy, demand_under};
 ghost use Rattle.rpki_path.specs.Routers.{IsRouterUnder, router_demand};
+ghost use Rattle.rpki_path.specs.Validators.{validator_view};
 
 use crate::given::Last;
 use crate::members::Member;
@@ -85,12 +85,10 @@ impl<'r, 'v, R: RevocationSource, V: Verifier> Validator<'r, 'v, R, V> {
         anchor: &Member<'_>,
         tal: Rc<TalInfo>,
     ) -> Result<ResourceCert, PathFault>
-        ensures ok { let v = self.now in
-            let x = context (V.verifies v.verifier.now) v.at v.strict in
-            IfOk result (IsTrustAnchor x anchor.now (rc_value tal)) }
-        ensures fault { let v = self.now in
-            let x = context (V.verifies v.verifier.now) v.at v.strict in
-            IfErr result (Finds x (trust_anchor_demand x) anchor.now) }
+        ensures ok { let v = validator_view V.verifies R.asks self.now in
+            IfOk result (IsTrustAnchor v.context anchor.now (rc_value tal)) }
+        ensures fault { let v = validator_view V.verifies R.asks self.now in
+            IfErr result (Finds v.context (trust_anchor_demand v.context) anchor.now) }
     {
         match anchor.decoded(self.alloc) {
             Ok(cert) => {
@@ -110,12 +108,10 @@ impl<'r, 'v, R: RevocationSource, V: Verifier> Validator<'r, 'v, R, V> {
         issuer: &ResourceCert,
         role: Role,
     ) -> Result<ResourceCert, ValidationError>
-        ensures ok { let v = self.now in
-            let x = context (V.verifies v.verifier.now) v.at v.strict in
-            IfOk result (IsValidBelow x issuer.now (kind_of role) cert) }
-        ensures fault { let v = self.now in
-            let x = context (V.verifies v.verifier.now) v.at v.strict in
-            IfErr result (IsInvalidBelow x issuer.now (kind_of role) cert) }
+        ensures ok { let v = validator_view V.verifies R.asks self.now in
+            IfOk result (IsValidBelow v.context issuer.now (kind_of role) cert) }
+        ensures fault { let v = validator_view V.verifies R.asks self.now in
+            IfErr result (IsInvalidBelow v.context issuer.now (kind_of role) cert) }
     {
         let (alloc, strict, now, verifier) = (self.alloc, self.strict, self.at, self.verifier);
         match role {
@@ -141,14 +137,11 @@ impl<'r, 'v, R: RevocationSource, V: Verifier> Validator<'r, 'v, R, V> {
         given: &Member<'_>,
         role: Role,
     ) -> Result<ResourceCert, PathFault>
-        ensures ok { let v = self.now in
-            let x = context (V.verifies v.verifier.now) v.at v.strict in
-            let asked = R.asks v.asked.now x in
-            IfOk result (IsIssuedBy x asked issuer.now (kind_of role) given.now) }
-        ensures fault { let v = self.now in
-            let x = context (V.verifies v.verifier.now) v.at v.strict in
-            let asked = R.asks v.asked.now x in
-            IfErr result (Finds x (demand_under x asked issuer.now (kind_of role)) given.now) }
+        ensures ok { let v = validator_view V.verifies R.asks self.now in
+            IfOk result (IsIssuedBy v.context v.asked issuer.now (kind_of role) given.now) }
+        ensures fault { let v = validator_view V.verifies R.asks self.now in
+            let demand = demand_under v.context v.asked issuer.now (kind_of role) in
+            IfErr result (Finds v.context demand given.now) }
     {
         let cert = given.decoded(self.alloc)?;
         let member = self.valid_below(cert, issuer, role)?;
@@ -166,16 +159,12 @@ impl<'r, 'v, R: RevocationSource, V: Verifier> Validator<'r, 'v, R, V> {
         given: &Member<'_>,
         role: Role,
     ) -> Result<ResourceCert, PathError>
-        ensures ok { let v = self.now in
-            let x = context (V.verifies v.verifier.now) v.at v.strict in
-            let asked = R.asks v.asked.now x in
-            IfOk result (IsIssuedBy x asked issuer (kind_of role) given.now) }
+        ensures ok { let v = validator_view V.verifies R.asks self.now in
+            IfOk result (IsIssuedBy v.context v.asked issuer (kind_of role) given.now) }
         ensures index { IfErr result (λ e. e.index ≡ index) }
-        ensures fault { let v = self.now in
-            let x = context (V.verifies v.verifier.now) v.at v.strict in
-            let asked = R.asks v.asked.now x in
-            let demand = demand_under x asked issuer (kind_of role) in
-            IfErr result (λ e. Finds x demand given.now e.fault) }
+        ensures fault { let v = validator_view V.verifies R.asks self.now in
+            let demand = demand_under v.context v.asked issuer (kind_of role) in
+            IfErr result (λ e. Finds v.context demand given.now e.fault) }
     {
         let next = self.member(&issuer, given, role);
         placed(index, without(issuer, next))
@@ -188,15 +177,12 @@ impl<'r, 'v, R: RevocationSource, V: Verifier> Validator<'r, 'v, R, V> {
         cas: &[Member<'_>],
         tal: Rc<TalInfo>,
     ) -> Result<ResourceCert, PathError>
-        ensures ok { let v = self.now in
-            let x = context (V.verifies v.verifier.now) v.at v.strict in
-            let asked = R.asks v.asked.now x in
+        ensures ok { let v = validator_view V.verifies R.asks self.now in
             let below = map (candidate authority) cas.now in
-            IfOk result (IsAccepted x asked anchor.now below (rc_value tal)) }
-        ensures named { let v = self.now in
-            let x = context (V.verifies v.verifier.now) v.at v.strict in
-            let asked = R.asks v.asked.now x in
-            IfErr result (IsFault x asked anchor.now (map (candidate authority) cas.now)) }
+            IfOk result (IsAccepted v.context v.asked anchor.now below (rc_value tal)) }
+        ensures named { let v = validator_view V.verifies R.asks self.now in
+            let below = map (candidate authority) cas.now in
+            IfErr result (IsFault v.context v.asked anchor.now below) }
     {
         let mut issuer = placed(0, self.trust_anchor(anchor, tal))?;
         for (i, ca) in cas.iter().enumerate() {
@@ -214,16 +200,12 @@ impl<'r, 'v, R: RevocationSource, V: Verifier> Validator<'r, 'v, R, V> {
         last: Option<Last<'_, '_>>,
         tal: Rc<TalInfo>,
     ) -> Result<ResourceCert, PathError>
-        ensures ok { let v = self.now in
-            let x = context (V.verifies v.verifier.now) v.at v.strict in
-            let asked = R.asks v.asked.now x in
+        ensures ok { let v = validator_view V.verifies R.asks self.now in
             let below = members_below cas.now last.entry in
-            IfOk result (IsAccepted x asked anchor.now below (rc_value tal)) }
-        ensures named { let v = self.now in
-            let x = context (V.verifies v.verifier.now) v.at v.strict in
-            let asked = R.asks v.asked.now x in
+            IfOk result (IsAccepted v.context v.asked anchor.now below (rc_value tal)) }
+        ensures named { let v = validator_view V.verifies R.asks self.now in
             let below = members_below cas.now last.entry in
-            IfErr result (IsFault x asked anchor.now below) }
+            IfErr result (IsFault v.context v.asked anchor.now below) }
     {
         let issuer = self.authorities(anchor, cas, tal)?;
         let below = cas.len() + 1;
@@ -237,15 +219,11 @@ impl<'r, 'v, R: RevocationSource, V: Verifier> Validator<'r, 'v, R, V> {
     // Whether the router's certificate is valid below the issuer, and not revoked. An error is one
     // of all bytes that start with it.
     fn test_router(&self, cert: &Cert, issuer: &ResourceCert) -> Result<(), PathFault>
-        ensures ok { let v = self.now in
-            let x = context (V.verifies v.verifier.now) v.at v.strict in
-            let asked = R.asks v.asked.now x in
-            OnOk result (IsRouterUnder x asked issuer.now cert.now) }
-        ensures fault { let v = self.now in
-            let x = context (V.verifies v.verifier.now) v.at v.strict in
-            let asked = R.asks v.asked.now x in
+        ensures ok { let v = validator_view V.verifies R.asks self.now in
+            OnOk result (IsRouterUnder v.context v.asked issuer.now cert.now) }
+        ensures fault { let v = validator_view V.verifies R.asks self.now in
             (octets : List ℕ) → Means IsCertificate cert.now octets
-            → IfErr result (Finds x (router_demand x asked issuer.now) octets) }
+            → IfErr result (Finds v.context (router_demand v.context v.asked issuer.now) octets) }
     {
         let (strict, now, verifier) = (self.strict, self.at, self.verifier);
         cert.validate_router_at(issuer, strict, now, verifier)?;
@@ -265,14 +243,10 @@ impl<'r, 'v, R: RevocationSource, V: Verifier> Validator<'r, 'v, R, V> {
     /// Name chaining ([`crate::names_chain`]).
     pub fn router(&self, given: &Member<'_>, issuer: &ResourceCert) -> Result<Cert, PathFault>
         ensures begins { IfOk result (λ c. Means IsCertificate c given.now) }
-        ensures under { let v = self.now in
-            let x = context (V.verifies v.verifier.now) v.at v.strict in
-            let asked = R.asks v.asked.now x in
-            IfOk result (IsRouterUnder x asked issuer.now) }
-        ensures fault { let v = self.now in
-            let x = context (V.verifies v.verifier.now) v.at v.strict in
-            let asked = R.asks v.asked.now x in
-            IfErr result (Finds x (router_demand x asked issuer.now) given.now) }
+        ensures under { let v = validator_view V.verifies R.asks self.now in
+            IfOk result (IsRouterUnder v.context v.asked issuer.now) }
+        ensures fault { let v = validator_view V.verifies R.asks self.now in
+            IfErr result (Finds v.context (router_demand v.context v.asked issuer.now) given.now) }
     {
         let cert = given.decoded(self.alloc)?;
         let test = self.test_router(&cert, issuer);
