@@ -1,5 +1,5 @@
 #!/usr/bin/env python3
-"""Makes a cache with a CA that works against another one, in five directories of the folder TO.
+"""Makes a cache with a CA that works against another one, in six directories of the folder TO.
 
     python3 bench/strangers.py COUNT MANY TO
 
@@ -7,7 +7,8 @@
 `b`. `anchors` has MANY certificates by which `a` certifies the trust anchor's key, each time with
 another name; `siblings` has MANY by which it certifies the key and the name of `b`. `names` has MANY by which
 it certifies its own key, each time with another name; `crls` has a tenth of these, and as many CRLs that name
-its key and that it didn't sign.
+its key and that it didn't sign. `inherit` has a CA below `a` that holds 100,000 addresses, none beside
+another, and 700 end entities below it that inherit them.
 """
 import base64
 import sys
@@ -35,13 +36,19 @@ def forged(by, of):
         authority_key_identifier=of.key.identifier(), crl_number=1)))
 
 
+def odd_addresses(count):
+    """Every other IPv4 address, so many of them: as many blocks."""
+    starts = [(2 * place + 1) << 96 for place in range(count)]
+    return tuple((start, start + (1 << 96) - 1) for start in starts)
+
+
 def main(count, many, to):
     folder = Path(to)
-    names = 'honest', 'anchors', 'siblings', 'names', 'crls'
-    honest, anchors, siblings, named, crls = places = [Repository(folder / it) for it in names]
+    names = 'honest', 'anchors', 'siblings', 'names', 'crls', 'inherit'
+    honest, anchors, siblings, named, crls, inherit = places = [Repository(folder / it) for it in names]
     for it in places:
         it.folder.mkdir(parents=True, exist_ok=True)
-    anchor, a, b, leaf = (made.Signer() for _ in range(4))
+    anchor, a, b, wide, leaf = (made.Signer() for _ in range(5))
     inherited = {'v4': ref.INHERIT, 'v6': ref.INHERIT, 'asn': ref.INHERIT}
     honest.certificate('ta.cer', anchor.key, anchor, crl_uri=None, ca_issuer=None,
                        v4=ALL_ADDRESSES, v6=ALL_ADDRESSES, asn=((1, 1000),))
@@ -60,6 +67,10 @@ def main(count, many, to):
     for place in range(int(many) // 10):
         crls.certificate(f'{place}.cer', a.key, a, subject=named_by(place), **inherited)
         crls.write(f'{place}.crl', forged(b, a))
+    inherit.certificate('wide.cer', wide.key, a, **inherited | {'v4': odd_addresses(100_000)})
+    inherit.revocations('wide.crl', wide)
+    for place in range(700):
+        inherit.certificate(f'{place}.cer', leaf.key, wide, **inherited, **bare)
     info = base64.b64encode(ref.put_key(anchor.key)).decode()
     honest.write('ta.tal', f'rsync://example.com/m/ta.cer\n\n{info}\n'.encode())
 

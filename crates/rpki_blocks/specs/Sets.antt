@@ -1,6 +1,7 @@
 -- Sets of whole numbers, as lists of blocks (RFC 3779 2.1, 2.2.3.6, 3.2.3.4).
 use Rattle.std.specs.Prelude.{◌≡◌, ℕ, ◌+◌, ◌<◌, ◌≤◌, Bool, true, false, ◌&&◌, nat_le, IsTrue, List, [], ◌∷◌}
 use Rattle.std.specs.List.{list_any, AllByRecursion}
+pub mod Views
 
 -- the numbers from min to max; the Rust struct Block
 pub record Block : Type 0 where

@@ -11,12 +11,29 @@ use crate::bound::{Bound, is_below};
 use std::alloc::{AllocError, Global};
 use std::marker::Model;
 use std::slice::Iter;
+use std::sync::Arc;
+
+// The blocks of a set: those that it shares with its copies, or its own, which a copy copies.
+enum Kept<B: Bound> {
+    Shared(Arc<Vec<Block<B>>>),
+    Own(Vec<Block<B>>),
+}
 
 /// A set of numbers, as blocks in ascending order that neither overlap nor touch. So equal sets
 /// have equal blocks.
-#[derive(Drop)]
 pub struct Chain<B: Bound> {
-    blocks: Vec<Block<B>>,
+    blocks: Kept<B>,
+}
+
+// Not derived, so that it is a call, and no `match` wherever a set is dropped.
+impl<B: Bound> Drop for Chain<B> {
+    fn drop(self) {
+        let Chain { blocks } = self;
+        match blocks {
+            Kept::Shared(shared) => drop(shared),
+            Kept::Own(own) => drop(own),
+        }
+    }
 }
 
 /// A set of IP addresses. IPv4 addresses are in the upper 32 bits.
@@ -91,9 +108,11 @@ impl<B: Bound> Model for Chain<B> {
 
     ghost Value = { List Span };
 
-    ghost view = { λ c. c.blocks.items };
+    ghost use Rattle.rpki_blocks.specs.Sets.Views.{blocks_of};
 
-    ghost invariant = { λ c. IsSet B.greatest c.blocks.items };
+    ghost view = { λ c. blocks_of c.blocks };
+
+    ghost invariant = { λ c. IsSet B.greatest (blocks_of c.blocks) };
 }
 
 impl<B: Bound> Chain<B> {
@@ -102,7 +121,7 @@ impl<B: Bound> Chain<B> {
         ensures { result ≡ [] }
     {
         Chain {
-            blocks: Vec::new(alloc),
+            blocks: Kept::Own(Vec::new(alloc)),
         }
     }
 
@@ -127,6 +146,48 @@ impl<B: Bound> Chain<B> {
         Ok(Chain::from_blocks(all))
     }
 
+    // Makes the set of blocks that are one as they stand. Its copies share them.
+    fn of_set(blocks: Vec<Block<B>>) -> Result<Chain<B>, AllocError>
+        requires { IsSet B.greatest blocks.items }
+        ensures same { IfOk result (λ set. set ≡ blocks.items) }
+        ensures set { IfOk result (IsSet B.greatest) }
+    {
+        if blocks.is_empty() {
+            return Ok(Chain {
+                blocks: Kept::Own(blocks),
+            });
+        }
+        let shared = Arc::new(*blocks.allocator(), blocks)?;
+        Ok(Chain {
+            blocks: Kept::Shared(shared),
+        })
+    }
+
+    // Makes the set one whose copies share its blocks.
+    pub(crate) fn into_shared(self) -> Result<Chain<B>, AllocError>
+        ensures same { IfOk result (λ set. set ≡ self) }
+        ensures set { IfOk result (IsSet B.greatest) }
+    {
+        let Chain { blocks } = self;
+        match blocks {
+            Kept::Shared(blocks) => Ok(Chain {
+                blocks: Kept::Shared(blocks),
+            }),
+            Kept::Own(blocks) => Ok(Chain::of_set(blocks)?),
+        }
+    }
+
+    // The blocks.
+    fn blocks(&self) -> &[Block<B>]
+        ensures value { result.now ≡ self.now }
+        ensures set { IsSet B.greatest result.now }
+    {
+        match &self.blocks {
+            Kept::Shared(blocks) => blocks,
+            Kept::Own(blocks) => blocks,
+        }
+    }
+
     // Makes the set of blocks in a vector, which is merged in place. Where few are kept, the rest
     // of the room is given back.
     pub(crate) fn from_blocks(mut blocks: Vec<Block<B>>) -> Chain<B>
@@ -137,10 +198,12 @@ impl<B: Bound> Chain<B> {
         if blocks.len() < blocks.capacity() / 4 {
             blocks.shrink_to_fit();
         }
-        Chain { blocks }
+        Chain {
+            blocks: Kept::Own(blocks),
+        }
     }
 
-    /// Clones the set. The copy is equal.
+    /// Clones the set. The copy is equal. Copies share their blocks.
     ///
     /// # Errors
     ///
@@ -149,23 +212,30 @@ impl<B: Bound> Chain<B> {
         ensures same { IfOk result (λ copy. copy ≡ self.now) }
         ensures set { IfOk result (IsSet B.greatest) }
     {
-        let mut blocks = Vec::new(alloc);
-        blocks.extend_from_slice(&self.blocks)?;
-        Ok(Chain { blocks })
+        match &self.blocks {
+            Kept::Shared(blocks) => Ok(Chain {
+                blocks: Kept::Shared(blocks.clone()?),
+            }),
+            Kept::Own(own) => {
+                let mut blocks = Vec::new(alloc);
+                blocks.extend_from_slice(own)?;
+                Ok(Chain::of_set(blocks)?)
+            }
+        }
     }
 
     // How many blocks it has.
     pub(crate) fn len(&self) -> usize
         ensures { result ≡ length self.now }
     {
-        self.blocks.len()
+        self.blocks().len()
     }
 
     /// Returns whether the set is empty.
     pub fn is_empty(&self) -> bool
         ensures { IsTrue result ↔ self.now ≡ [] }
     {
-        self.blocks.is_empty()
+        self.blocks().is_empty()
     }
 
     /// Returns an iterator over the blocks of the set: ascending, disjoint and not adjacent.
@@ -173,17 +243,16 @@ impl<B: Bound> Chain<B> {
         ensures all { iter_rest result ≡ self.now }
         ensures set { IsSet B.greatest self.now }
     {
-        self.blocks.iter()
+        self.blocks().iter()
     }
 
     /// Returns whether a number is in the set.
     pub fn contains(&self, at: B) -> bool
         ensures { result ≡ is_in (B.number at) self.now }
     {
-        let k = self
-            .blocks
-            .partition_point(|block| is_below(block.max(), at));
-        k < self.blocks.len() && !is_below(at, self.blocks[k].min())
+        let ours = self.blocks();
+        let k = ours.partition_point(|block| is_below(block.max(), at));
+        k < ours.len() && !is_below(at, ours[k].min())
     }
 
     /// Returns whether each number of this set is in the other set.
@@ -191,15 +260,17 @@ impl<B: Bound> Chain<B> {
         ensures inside { IsTrue result ↔ AreIn self.now other.now }
         ensures outside { IsFalse result ↔ Escapes B.greatest self.now other.now }
     {
+        let ours = self.blocks();
+        let theirs = other.blocks();
         let mut i = 0;
         let mut j = 0;
         // Proofs name the loop by its label.
-        'walk: while i < self.blocks.len() {
-            if j == other.blocks.len() {
+        'walk: while i < ours.len() {
+            if j == theirs.len() {
                 return false;
             }
-            let a = self.blocks[i];
-            let b = other.blocks[j];
+            let a = ours[i];
+            let b = theirs[j];
             if b.is_before(a) {
                 j += 1;
             } else if a.is_within(b) {
@@ -220,13 +291,15 @@ impl<B: Bound> Chain<B> {
         ensures both { IfOk result (IsIntersection self.now other.now) }
         ensures set { IfOk result (IsSet B.greatest) }
     {
+        let ours = self.blocks();
+        let theirs = other.blocks();
         let mut both = Vec::new(alloc);
         let mut i = 0;
         let mut j = 0;
         // Proofs name the loop by its label.
-        'walk: while i < self.blocks.len() && j < other.blocks.len() {
-            let a = self.blocks[i];
-            let b = other.blocks[j];
+        'walk: while i < ours.len() && j < theirs.len() {
+            let a = ours[i];
+            let b = theirs[j];
             match a.meet(b) {
                 Some(block) => both.push(block)?,
                 None => {}
@@ -237,6 +310,6 @@ impl<B: Bound> Chain<B> {
                 j += 1;
             }
         }
-        Ok(Chain { blocks: both })
+        Ok(Chain::of_set(both)?)
     }
 }

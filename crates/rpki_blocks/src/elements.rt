@@ -108,7 +108,8 @@ fn union_in<K: Elements>(
     ensures { ReturnsOrMemory result (union_of (K.element kind.now).read (remaining content.entry)) }
 {
     let blocks = elements_in(alloc, kind, content)?;
-    Ok(Resources::blocks(Chain::from_blocks(blocks)))
+    let set = Chain::from_blocks(blocks).into_shared()?;
+    Ok(Resources::blocks(set))
 }
 
 /// Reads an IPAddressChoice or an ASIdentifierChoice: NULL for what the issuer has, or a SEQUENCE

@@ -4,9 +4,7 @@ use Rattle.rpki_blocks.proofs.chain.Chain.intersection.Given as goal
 
 abbrev pub invariant-walk : goal.invariant-walk
 invariant-walk g l =
-    let xs = l.self-inside.blocks.items in
-    let ys = l.other-inside.blocks.items in
-    IsWalk xs ys l.both.items (drop l.i xs) (drop l.j ys)
+    IsWalk l.ours l.theirs l.both.items (drop l.i l.ours) (drop l.j l.theirs)
 
 abbrev pub decreases-walk : goal.decreases-walk
-decreases-walk g l = (length l.self-inside.blocks.items - l.i) + (length l.other-inside.blocks.items - l.j)
+decreases-walk g l = (length l.ours - l.i) + (length l.theirs - l.j)

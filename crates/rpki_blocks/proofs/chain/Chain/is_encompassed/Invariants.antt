@@ -4,9 +4,7 @@ use Rattle.rpki_blocks.proofs.chain.Chain.is_encompassed.Given as goal
 
 abbrev pub invariant-walk : goal.invariant-walk
 invariant-walk g l =
-    let xs = l.self-inside.blocks.items in
-    let ys = l.other-inside.blocks.items in
-    record { in_range : l.j ≤ length ys; decided : IsDecided g.B.Bound.greatest xs ys (drop l.i xs) (drop l.j ys) }
+    record { in_range : l.j ≤ length l.theirs; decided : IsDecided g.B.Bound.greatest l.ours l.theirs (drop l.i l.ours) (drop l.j l.theirs) }
 
 abbrev pub decreases-walk : goal.decreases-walk
-decreases-walk g l = (length l.self-inside.blocks.items - l.i) + (length l.other-inside.blocks.items - l.j)
+decreases-walk g l = (length l.ours - l.i) + (length l.theirs - l.j)
