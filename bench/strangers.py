@@ -8,7 +8,9 @@
 another name; `siblings` has MANY by which it certifies the key and the name of `b`. `names` has MANY by which
 it certifies its own key, each time with another name; `crls` has a tenth of these, and as many CRLs that name
 its key and that it didn't sign. `inherit` has a CA below `a` that holds 100,000 addresses, none beside
-another, and 700 end entities below it that inherit them.
+another, and 700 end entities below it that inherit them. `limits` has the CAs of 23 keys in a row below
+`a`, each of which certifies the next one twice: the paths to them double with each, until a walk reaches
+its limit of steps.
 """
 import base64
 import sys
@@ -44,8 +46,9 @@ def odd_addresses(count):
 
 def main(count, many, to):
     folder = Path(to)
-    names = 'honest', 'anchors', 'siblings', 'names', 'crls', 'inherit'
-    honest, anchors, siblings, named, crls, inherit = places = [Repository(folder / it) for it in names]
+    names = 'honest', 'anchors', 'siblings', 'names', 'crls', 'inherit', 'limits'
+    places = [Repository(folder / it) for it in names]
+    honest, anchors, siblings, named, crls, inherit, limits = places
     for it in places:
         it.folder.mkdir(parents=True, exist_ok=True)
     anchor, a, b, wide, leaf = (made.Signer() for _ in range(5))
@@ -71,6 +74,12 @@ def main(count, many, to):
     inherit.revocations('wide.crl', wide)
     for place in range(700):
         inherit.certificate(f'{place}.cer', leaf.key, wide, **inherited, **bare)
+    above = a
+    for place in range(23):
+        below = made.Signer()
+        for name in 'one', 'two':
+            limits.certificate(f'{name}{place}.cer', below.key, above, **inherited)
+        above = below
     info = base64.b64encode(ref.put_key(anchor.key)).decode()
     honest.write('ta.tal', f'rsync://example.com/m/ta.cer\n\n{info}\n'.encode())
 

@@ -34,9 +34,9 @@ use Rattle.rpki_folder.specs.declared.anchors.FoundAnchor.TheVariants.{Valid}
 use Rattle.rpki_folder.specs.declared.anchors.WrongCandidate.{WrongCandidate}
 use Rattle.rpki_folder.specs.declared.bounds.Ended.{Ended}
 use Rattle.rpki_folder.specs.declared.bounds.Ended.TheVariants.{TooDeep}
-use Rattle.rpki_folder.specs.declared.bounds.LimitedCa.{LimitedCa}
 use Rattle.rpki_folder.specs.declared.firsts.Firsts.{Firsts}
-use Rattle.rpki_folder.specs.ReachedLimits.{AreLimited}
+use Rattle.rpki_folder.specs.LimitTables.{IsTableOf}
+use Rattle.rpki_folder.specs.ReachedLimits.{AreLimited, LimitedCa}
 use Rattle.rpki_folder.specs.declared.folder.Added.{Added}
 use Rattle.rpki_folder.specs.declared.folder.Added.TheVariants.{Certificate, List as list_added, Neither}
 use Rattle.rpki_folder.specs.declared.lines.Line.{Line}
@@ -55,12 +55,12 @@ use Rattle.rpki_c.specs.FolderFates.{Fate, anchor, HasNoAnchor, IsFirstWithKey, 
 use Rattle.rpki_c.specs.FolderFates.Steps.{IsAddedAs, IsSorted, origin_of, kept_fate, added_fate, fate_at, reached_at, IsWalked, refusal_of, wrong_first}
 use Rattle.rpki_folder.specs.UsualBounds.{usual_steps}
 use Rattle.rpki_c.specs.FolderQuestions.{asked_or}
-use Rattle.rpki_c.specs.FolderLimits.Steps.{AreReached}
 use Rattle.rpki_c.specs.FolderTelling.{AreLinesOf, AnswersBelow}
 use Rattle.rpki_c.specs.declared.folder_lines.WalkLines.{WalkLines}
 use Rattle.rpki_c.specs.declared.folder_question.FolderTerms.{FolderTerms}
 use Rattle.rpki_c.specs.declared.walking.Walked.{Walked}
 use Rattle.rpki_c.specs.declared.sorting.Sorted.{Sorted}
+use Rattle.rpki_folder.proofs.LimitPlaces.{limited_first}
 use Rattle.rpki_c.proofs.LimitsFound.{reached_found}
 
 abbrev BeginsCertificate : List ℕ → Type 0
@@ -565,7 +565,7 @@ walked_found x asked names t certs firsts place issuer law found depth steps kep
     }
 
 -- what becomes of sorted strings, where the lists among them are asked
-module _ (x : Context) (names : Bool) (t : NamedTal) (w : WalkLines) (sorted : IsSorted w.sorted.now) (depth steps : ℕ) (count : length w.kept.now ≡ length w.sorted.now.folder.certs) (ended : Ended) (limited : List LimitedCa) (law : IsUnambiguous IsCertificate) (are : AreFirstsIn w.sorted.now.folder.certs w.firsts.now) (table : AreReached w.firsts.now w.anchor limited (length w.sorted.now.folder.certs) w.limits.now) where
+module _ (x : Context) (names : Bool) (t : NamedTal) (w : WalkLines) (sorted : IsSorted w.sorted.now) (depth steps : ℕ) (count : length w.kept.now ≡ length w.sorted.now.folder.certs) (ended : Ended) (limited : List LimitedCa) (law : IsUnambiguous IsCertificate) (are : AreFirstsIn w.sorted.now.folder.certs w.firsts.now) (table : IsTableOf (first_of w.firsts.now w.anchor) (length w.sorted.now.folder.certs) limited w.limits.now) where
   abbrev by_lists : RevocationChecks
   by_lists = by_named_lists names x w.sorted.now.folder.lists
 
@@ -598,7 +598,9 @@ module _ (x : Context) (names : Bool) (t : NamedTal) (w : WalkLines) (sorted : I
         limited_are =
             subst (λ (o : List ℕ). AreLimited x by_lists (IsLookedAt names (IsFirstIn w.firsts.now) anchor_is_at.cert folder_certs) (at_anchor t o) folder_certs depth (asked_or steps usual_steps) limited) same
             (subst (λ (c : CertFields). AreLimited x by_lists (IsLookedAt names (IsFirstIn w.firsts.now) c folder_certs) (at_anchor t octets) folder_certs depth (asked_or steps usual_steps) limited) is k.limited_are);
-        reached_are = λ i low. reached_found w sorted law are limited table (octets_at s.strings.now top) same i low;
+        reached_are = λ i low.
+            reached_found w sorted law are limited table (limited_first x by_lists names (at_anchor t octets) k.holder.cert folder_certs w.firsts.now w.anchor depth (asked_or steps usual_steps) limited k.limited_are)
+            (octets_at s.strings.now top) same i low;
       }
 
 -- ---- a wrong trust anchor
@@ -636,7 +638,7 @@ module _ (x : Context) (t : NamedTal) (f : FolderTerms) (law : IsUnambiguous IsC
 
   -- the answer of a walk that ended
   pub walk_answered : (w : WalkLines) (sorted : IsSorted w.sorted.now) (count : length w.kept.now ≡ length w.sorted.now.folder.certs) (it : Walked) (limited : List LimitedCa) → AreFirstsIn w.sorted.now.folder.certs w.firsts.now
-      → AreReached w.firsts.now w.anchor limited (length w.sorted.now.folder.certs) w.limits.now
+      → IsTableOf (first_of w.firsts.now w.anchor) (length w.sorted.now.folder.certs) limited w.limits.now
       → IsAnchorAt x (asked_in w.sorted.now) f.asks_names t w.sorted.now.folder.certs w.anchor
       → IsWalked x (asked_in w.sorted.now) f.asks_names (at_anchor t (octets_at w.sorted.now.folder.certs w.anchor)) w.sorted.now.folder.certs w.firsts.now f.depth (asked_or f.steps usual_steps) w.kept.now it.ended limited
       → AreLinesOf f.asks_key (origin_of w.sorted.now w.anchor) w.sorted.now.strings.now (fate_at w) (reached_at w) (length w.sorted.now.strings.now) it.told → it.anchor ≡ origin_of w.sorted.now w.anchor

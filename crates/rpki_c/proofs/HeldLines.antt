@@ -13,7 +13,7 @@ use Rattle.rpki_c.specs.HeldRanges.{AreHeldAt, GoesOn, HaveGrown}
 use Rattle.rpki_c.specs.Writing.{as_struct, ip_struct, IsPartAt}
 use Rattle.rpki_c.specs.declared.folder_lines.RpkiLine.{RpkiLine}
 use Rattle.rpki_c.specs.declared.folder_lines.ToldLines.{ToldLines}
-use Rattle.rpki_c.specs.declared.limits.Reached.{Reached}
+use Rattle.rpki_folder.specs.declared.limits.Reached.{Reached}
 use Rattle.rpki_c.specs.declared.ranges.Ranges.{Ranges}
 use Rattle.rpki_c.specs.declared.ranges.RpkiHeld.{RpkiHeld}
 

@@ -1,6 +1,7 @@
 -- From the limits that a walk told to those at the certificate of each string.
+use Rattle.std.specs.List.{AllByRecursion}
 use Rattle.std.specs.Prelude.{◌↔◌, ◌==◌, Bool, Any, Option, None, Some, fold, if◌then◌else◌, min}
-use Rattle.std.proofs.Common.{◌≡◌, ◌<◌, ◌≤◌, ◌⊎◌, ℕ, zero, suc, List, [], ◌∷◌, ◌++◌, length, get_or, append_assoc, refl, sym, ap, subst, inl, inr, arith}
+use Rattle.std.proofs.Common.{◌≡◌, ◌<◌, ◌≤◌, ◌⊎◌, ℕ, zero, suc, List, [], ◌∷◌, ◌++◌, length, get_or, append_assoc, ◌∙◌, refl, sym, ap, subst, inl, inr, arith}
 use Rattle.std.proofs.lemmas.Bool.{cases_lt, cases_eq, eq-eqb, ne_eqb}
 use Rattle.std.proofs.lemmas.List.{append-nil, get_or_past, length-map}
 use Rattle.std.proofs.lemmas.List.Elements.{Contains-append_cases, Contains-append_left, Contains-append_right, length_all_zip}
@@ -10,20 +11,20 @@ use Rattle.rpki_ext.specs.Kinds.{Means}
 use Rattle.rpki_cert.specs.Certificates.{CertFields, IsCertificate}
 use Rattle.rpki_folder.specs.FirstPlaces.{AreFirstsIn, IsCertificateOctets, first_from, first_of}
 use Rattle.rpki_folder.specs.Folders.{octets_at}
+use Rattle.rpki_folder.specs.LimitTables.{IsTableOf, both, ca_at, lesser, nothing, of_limit}
+use Rattle.rpki_folder.specs.ReachedLimits.{LimitedCa}
 use Rattle.rpki_folder.specs.Walks.{StandsAt}
 use Rattle.rpki_folder.specs.declared.bounds.Limit.{Limit}
 use Rattle.rpki_folder.specs.declared.bounds.Limit.TheVariants.{Depth, Steps as steps}
-use Rattle.rpki_folder.specs.declared.bounds.LimitedCa.{LimitedCa}
+use Rattle.rpki_folder.specs.declared.limits.Reached.{Reached}
 use Rattle.rpki_folder.specs.declared.folder.Added.{Added}
 use Rattle.rpki_folder.specs.declared.folder.Added.TheVariants.{Certificate, List as list_added, Neither}
 use Rattle.rpki_folder.proofs.Descent.{there as inside_at}
 use Rattle.rpki_folder.proofs.FirstPaths.{first_is, first_same, stands_first}
+use Rattle.rpki_folder.proofs.LimitPlaces.{first_reached}
 use Rattle.rpki_c.specs.FolderFates.Steps.{IsAddedAs, IsSorted, added_reached, cert_reached, reached_at}
 use Rattle.rpki_c.specs.FolderLimits.{AreReachedAt, IsCaOf, IsLeastNeed, IsShortAmong, last_octets}
-use Rattle.rpki_c.specs.FolderLimits.Steps.{AreReached, least, nothing, with_limit}
-use Rattle.rpki_c.specs.FolderTelling.{issuer_of}
 use Rattle.rpki_c.specs.declared.folder_lines.WalkLines.{WalkLines}
-use Rattle.rpki_c.specs.declared.limits.Reached.{Reached}
 use Rattle.rpki_c.proofs.SortedMore.{filed_at}
 
 -- ---- one of several, and one more
@@ -66,7 +67,7 @@ module _ (Of : LimitedCa → Type 0) (before : List LimitedCa) (l : LimitedCa) w
   )
 
   -- of two numbers the lesser
-  need_lesser : (n : ℕ) → Of l → l.limit ≡ steps (Some n) → (o : Option ℕ) → IsLeastNeed Of before o → IsLeastNeed Of (before ++ l ∷ []) (least o (Some n))
+  need_lesser : (n : ℕ) → Of l → l.limit ≡ steps (Some n) → (o : Option ℕ) → IsLeastNeed Of before o → IsLeastNeed Of (before ++ l ∷ []) (lesser (Some n) o)
   need_lesser n of is None h = (
     any_last (IsShort (Some n)) before l (of, is),
     λ m there. elim (any_split (IsShort (Some m)) before l there) [
@@ -77,10 +78,10 @@ module _ (Of : LimitedCa → Type 0) (before : List LimitedCa) (l : LimitedCa) w
   need_lesser n of is (Some k) h = (
     elim (cases_lt n k) [
       | inl low ↦
-          let e : n ≡ min k n = omega (arith, low) in
+          let e : n ≡ min n k = omega (arith, low) in
           subst (λ (m : ℕ). IsShortAmong Of (before ++ l ∷ []) (Some m)) e (any_last (IsShort (Some n)) before l (of, is))
       | inr high ↦
-          let e : k ≡ min k n = omega (arith, high) in
+          let e : k ≡ min n k = omega (arith, high) in
           subst (λ (m : ℕ). IsShortAmong Of (before ++ l ∷ []) (Some m)) e (any_front (IsShort (Some k)) before l h.0)
     ],
     λ m there. elim (any_split (IsShort (Some m)) before l there) [
@@ -88,10 +89,6 @@ module _ (Of : LimitedCa → Type 0) (before : List LimitedCa) (l : LimitedCa) w
       | inr last ↦ let same : n ≡ m = cc (is, last.1) in omega (arith, same)
     ],
   )
-
-  least_none : (o : Option ℕ) → o ≡ least o None
-  least_none None = refl
-  least_none (Some n) = refl
 
   -- at another CA
   not_there : (Of l → ⊥) → (r : Reached) → AreReachedAt Of before r → AreReachedAt Of (before ++ l ∷ []) r
@@ -114,7 +111,7 @@ module _ (Of : LimitedCa → Type 0) (before : List LimitedCa) (l : LimitedCa) w
   }
 
   -- at this one
-  there_as : Of l → (limit : Limit) → l.limit ≡ limit → (r : Reached) → AreReachedAt Of before r → AreReachedAt Of (before ++ l ∷ []) (with_limit r limit)
+  there_as : Of l → (limit : Limit) → l.limit ≡ limit → (r : Reached) → AreReachedAt Of before r → AreReachedAt Of (before ++ l ∷ []) (both (of_limit limit) r)
   there_as of Depth is r are = record {
     deep_is = ((λ h. any_last IsDeep before l (of, is)), (λ there. refl));
     short_is = (
@@ -135,7 +132,7 @@ module _ (Of : LimitedCa → Type 0) (before : List LimitedCa) (l : LimitedCa) w
       ]),
     );
     short_is = ((λ h. (None, any_last (IsShort None) before l (of, is))), (λ there. refl));
-    needed_is = subst (λ (o : Option ℕ). IsLeastNeed Of (before ++ l ∷ []) o) (least_none r.needed) (need_same (λ n last. absurd (cc (is, last.1))) r.needed are.needed_is);
+    needed_is = need_same (λ n last. absurd (cc (is, last.1))) r.needed are.needed_is;
   }
   there_as of (steps (Some n)) is r are = record {
     deep_is = (
@@ -151,15 +148,15 @@ module _ (Of : LimitedCa → Type 0) (before : List LimitedCa) (l : LimitedCa) w
 
 module _ (Of : LimitedCa → Type 0) (place : LimitedCa → ℕ) (p : ℕ) (same : (l : LimitedCa) → Of l ↔ (place l ≡ p)) where
   abbrev step : Reached → LimitedCa → Reached
-  step r l = if place l == p then with_limit r l.limit else r
+  step r l = if place l == p then both (of_limit l.limit) r else r
 
   one_more : (before : List LimitedCa) (l : LimitedCa) (r : Reached) → AreReachedAt Of before r → AreReachedAt Of (before ++ l ∷ []) (step r l)
   one_more before l r are = elim (cases_eq (place l) p) [
     | inl is ↦
-        subst (λ (b : Bool). AreReachedAt Of (before ++ l ∷ []) (if b then with_limit r l.limit else r)) (sym (eq-eqb (place l) p is))
+        subst (λ (b : Bool). AreReachedAt Of (before ++ l ∷ []) (if b then both (of_limit l.limit) r else r)) (sym (eq-eqb (place l) p is))
         (there_as Of before l ((same l).1 is) l.limit refl r are)
     | inr apart ↦
-        subst (λ (b : Bool). AreReachedAt Of (before ++ l ∷ []) (if b then with_limit r l.limit else r)) (sym (ne_eqb (place l) p apart))
+        subst (λ (b : Bool). AreReachedAt Of (before ++ l ∷ []) (if b then both (of_limit l.limit) r else r)) (sym (ne_eqb (place l) p apart))
         (not_there Of before l (λ of. apart ((same l).0 of)) r are)
   ]
 
@@ -186,13 +183,13 @@ none_reached Of limited none = record {
 }
 
 -- the last of the CAs
-last_is : (certs : List (List ℕ)) (top : ℕ) (above : List ℕ) → last_octets certs (octets_at certs top) above ≡ octets_at certs (issuer_of top above)
+last_is : (certs : List (List ℕ)) (top : ℕ) (above : List ℕ) → last_octets certs (octets_at certs top) above ≡ octets_at certs (ca_at top above)
 last_is certs top [] = refl
 last_is certs top (p ∷ above) = last_is certs p above
 
 -- ---- at each string
 
-module _ (w : WalkLines) (sorted : IsSorted w.sorted.now) (law : IsUnambiguous IsCertificate) (are : AreFirstsIn w.sorted.now.folder.certs w.firsts.now) (limited : List LimitedCa) (table : AreReached w.firsts.now w.anchor limited (length w.sorted.now.folder.certs) w.limits.now) where
+module _ (w : WalkLines) (sorted : IsSorted w.sorted.now) (law : IsUnambiguous IsCertificate) (are : AreFirstsIn w.sorted.now.folder.certs w.firsts.now) (limited : List LimitedCa) (table : IsTableOf (first_of w.firsts.now w.anchor) (length w.sorted.now.folder.certs) limited w.limits.now) (at_first : AllByRecursion (λ l. first_of w.firsts.now (ca_at w.anchor l.above) ≡ ca_at (first_of w.firsts.now w.anchor) l.above) limited) where
   abbrev certs : List (List ℕ)
   certs = w.sorted.now.folder.certs
 
@@ -203,7 +200,7 @@ module _ (w : WalkLines) (sorted : IsSorted w.sorted.now) (law : IsUnambiguous I
   first = first_of w.firsts.now
 
   abbrev ca : LimitedCa → ℕ
-  ca l = issuer_of w.anchor l.above.items
+  ca l = ca_at w.anchor l.above
 
   -- a CA is the certificate at a place if and only if both have one first place
   module _ (p : ℕ) (c : CertFields) (stands : StandsAt certs p c) (octets : List ℕ) (begins : Means IsCertificate c octets) where
@@ -213,7 +210,7 @@ module _ (w : WalkLines) (sorted : IsSorted w.sorted.now) (law : IsUnambiguous I
     first_there : (l : LimitedCa) → Of l → first (ca l) ≡ first p
     first_there l (d, here, last) =
         let same : d ≡ c = one_meant IsCertificate law d c octets here begins in
-        let other : StandsAt certs (ca l) c = subst (λ (e : CertFields). StandsAt certs (ca l) e) same (subst (λ (o : List ℕ). Means IsCertificate d o) (last_is certs w.anchor l.above.items) last) in
+        let other : StandsAt certs (ca l) c = subst (λ (e : CertFields). StandsAt certs (ca l) e) same (subst (λ (o : List ℕ). Means IsCertificate d o) (last_is certs w.anchor l.above) last) in
         first_same law certs w.firsts.now are (ca l) p c other stands
 
     one_there : (l : LimitedCa) (low : ca l < length certs) → first (ca l) ≡ first p → Of l
@@ -221,7 +218,7 @@ module _ (w : WalkLines) (sorted : IsSorted w.sorted.now) (law : IsUnambiguous I
         let one = (first_is law certs w.firsts.now are (ca l) low).one in
         let filed : StandsAt certs (first (ca l)) c = subst (λ (n : ℕ). StandsAt certs n c) (sym is) (stands_first law certs w.firsts.now are p c stands) in
         let same : one.0 ≡ c = one_meant IsCertificate law one.0 c (octets_at certs (first (ca l))) one.2 filed in
-        (c, begins, subst (λ (o : List ℕ). Means IsCertificate c o) (sym (last_is certs w.anchor l.above.items)) (subst (λ (e : CertFields). StandsAt certs (ca l) e) same one.1))
+        (c, begins, subst (λ (o : List ℕ). Means IsCertificate c o) (sym (last_is certs w.anchor l.above)) (subst (λ (e : CertFields). StandsAt certs (ca l) e) same one.1))
 
     inside : first p < length certs
     inside = inside_at certs c (first p) (stands_first law certs w.firsts.now are p c stands)
@@ -243,7 +240,7 @@ module _ (w : WalkLines) (sorted : IsSorted w.sorted.now) (law : IsUnambiguous I
 
     cert_found : AreReachedAt Of limited (cert_reached w p)
     cert_found =
-        subst (λ (r : Reached). AreReachedAt Of limited r) (sym (table.1 (first p) nothing inside))
+        subst (λ (r : Reached). AreReachedAt Of limited r) (sym (table.each (first p) (omega (arith, inside)) ∙ first_reached w.firsts.now w.anchor (first p) limited at_first nothing))
         (all_more Of (λ l. first (ca l)) (first p) same_place [] limited nothing (nothing_yet Of))
 
   module _ (anchor : List ℕ) (there : octets_at certs w.anchor ≡ anchor) (i : ℕ) (low : i < length strings) where

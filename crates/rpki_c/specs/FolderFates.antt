@@ -22,13 +22,12 @@ use Rattle.rpki_folder.specs.Walks.{Root, at_anchor, members_at, IsAcceptedAs, I
 use Rattle.rpki_folder.specs.declared.bounds.Ended.{Ended}
 use Rattle.rpki_folder.specs.declared.firsts.Firsts.{Firsts}
 use Rattle.rpki_folder.specs.declared.bounds.Ended.TheVariants.{TooDeep, OutOfSteps}
-use Rattle.rpki_folder.specs.declared.bounds.LimitedCa.{LimitedCa}
-use Rattle.rpki_folder.specs.ReachedLimits.{AreLimited}
+use Rattle.rpki_folder.specs.declared.limits.Reached.{Reached}
+use Rattle.rpki_folder.specs.ReachedLimits.{AreLimited, LimitedCa}
 use Rattle.rpki_folder.specs.UsualBounds.{usual_steps}
 use Rattle.rpki_c.specs.FolderLimits.{AreReachedAt, IsCaOf}
 use Rattle.rpki_c.specs.FolderQuestions.{asked_or}
 use Rattle.rpki_c.specs.Verdicts.{AreNoList}
-use Rattle.rpki_c.specs.declared.limits.Reached.{Reached}
 pub mod Steps
 
 -- ---- strings

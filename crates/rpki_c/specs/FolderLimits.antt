@@ -3,12 +3,11 @@ use Rattle.std.specs.Prelude.{◌≡◌, ◌↔◌, ◌≤◌, ◌+◌, ℕ, Lis
 use Rattle.rpki_ext.specs.Kinds.{Means}
 use Rattle.rpki_cert.specs.Certificates.{CertFields, IsCertificate}
 use Rattle.rpki_folder.specs.Folders.{octets_at}
+use Rattle.rpki_folder.specs.ReachedLimits.{LimitedCa}
 use Rattle.rpki_folder.specs.declared.bounds.Limit.{Limit}
 use Rattle.rpki_folder.specs.declared.bounds.Limit.TheVariants.{Depth, Steps as steps}
-use Rattle.rpki_folder.specs.declared.bounds.LimitedCa.{LimitedCa}
+use Rattle.rpki_folder.specs.declared.limits.Reached.{Reached}
 use Rattle.rpki_c.specs.declared.folder_lines.RpkiLine.{RpkiLine}
-use Rattle.rpki_c.specs.declared.limits.Reached.{Reached}
-pub mod Steps
 
 -- ---- at a certificate
 
@@ -22,7 +21,7 @@ last_octets certs anchor (place ∷ places) = last_octets certs (octets_at certs
 abbrev pub IsCaOf : List (List ℕ) → List ℕ → List ℕ → LimitedCa → Type 0
 IsCaOf certs anchor octets l =
     (c : CertFields) × Means IsCertificate c octets
-    × Means IsCertificate c (last_octets certs anchor l.above.items)
+    × Means IsCertificate c (last_octets certs anchor l.above)
 
 -- at one of the CAs of which this is so the depth was reached
 abbrev pub IsDeepAmong : (LimitedCa → Type 0) → List LimitedCa → Type 0

@@ -30,7 +30,7 @@ use Rattle.rpki_c.specs.declared.folder_lines.ToldLines.{ToldLines}
 use Rattle.rpki_c.specs.declared.folder_question.FolderTerms.{FolderTerms}
 use Rattle.rpki_c.specs.declared.folder_question.RpkiFolderQuestion.{RpkiFolderQuestion}
 use Rattle.rpki_c.specs.declared.folders.RpkiWalk.{RpkiWalk}
-use Rattle.rpki_c.specs.declared.limits.Reached.{Reached}
+use Rattle.rpki_folder.specs.declared.limits.Reached.{Reached}
 use Rattle.rpki_c.specs.declared.paths.RpkiRoom.{RpkiRoom}
 use Rattle.rpki_c.specs.declared.ranges.Ranges.{Ranges}
 use Rattle.rpki_c.specs.declared.ranges.RpkiHeld.{RpkiHeld}

@@ -7,11 +7,11 @@ ghost use Rattle.rpki_c.specs.Questions.{kind_number as number_of};
 
 use crate::faults::{BAD_KEY, NONE, of_path};
 use crate::judging::has_key_asked;
-use crate::limits::Reached;
+use crate::limits::{limits_number, needed_number};
 use crate::ranges::{Ranges, RpkiHeld};
 use crate::sorting::Sorted;
 use rpki_cert::Kind;
-use rpki_folder::{Added, Firsts, FoundPath, Line};
+use rpki_folder::{Added, Firsts, FoundPath, LimitTable, Line, Reached};
 use std::alloc::{AllocError, Global};
 
 /// The result for a string.
@@ -122,8 +122,8 @@ fn with_limits(line: RpkiLine, reached: Reached) -> RpkiLine
     ensures limits { TellsReached reached result }
 {
     RpkiLine {
-        limits: reached.number(),
-        needed: reached.needed_or_zero(),
+        limits: limits_number(reached),
+        needed: needed_number(reached),
         ..line
     }
 }
@@ -137,7 +137,7 @@ pub(crate) struct WalkLines<'w, 's> {
     /// The line of each place.
     pub(crate) kept: &'w [Line],
     /// The limits that were reached at each first place.
-    pub(crate) limits: &'w [Reached],
+    pub(crate) limits: &'w LimitTable,
     /// The place of the trust anchor.
     pub(crate) anchor: usize,
 }
@@ -261,10 +261,7 @@ impl<'w, 's> WalkLines<'w, 's> {
     fn reached(&self, at: usize) -> Reached
         ensures { result ≡ cert_reached self.now at }
     {
-        match self.limits.get(self.firsts.first_of(at)) {
-            Some(reached) => *reached,
-            None => Reached::nothing(),
-        }
+        self.limits.at(self.firsts.first_of(at))
     }
 
     // The line of the string at a place.

@@ -1,5 +1,5 @@
 //! The walk over a directory's strings, below the trust anchor among them.
-ghost use Rattle.std.specs.Prelude.{◌≡◌, [], List, Err, IfOk};
+ghost use Rattle.std.specs.Prelude.{◌≡◌, [], List, length, Err, IfOk};
 ghost use Rattle.rpki_cert.specs.Verification.{context};
 ghost use Rattle.rpki_path.specs.AskedLists.{by_named_lists};
 ghost use Rattle.rpki_keys.specs.Locators.{NamedTal};
@@ -7,7 +7,8 @@ ghost use Rattle.rpki_keys.specs.RsaSignatures.{IsSignedByRsa};
 ghost use Rattle.rpki_folder.specs.FirstPlaces.{IsFirstIn};
 ghost use Rattle.rpki_folder.specs.FoundAnchors.{IsFound};
 ghost use Rattle.rpki_folder.specs.KeptLines.{BecameLines};
-ghost use Rattle.rpki_folder.specs.ReachedLimits.{AreLimited, ended_of};
+ghost use Rattle.rpki_folder.specs.LimitTables.{HasReached};
+ghost use Rattle.rpki_folder.specs.ReachedLimits.{AreLimited, LimitedCa, ended_of};
 ghost use Rattle.rpki_folder.specs.UsualBounds.{usual_steps};
 ghost use Rattle.rpki_folder.specs.Walks.{IsLookedAt, LeadsTo, Root, TellsBelow, Told, members_at};
 ghost use Rattle.rpki_folder.specs.declared.anchors.FoundAnchor.TheVariants.{Valid};
@@ -18,7 +19,6 @@ ghost use Rattle.rpki_c.specs.FolderTelling.{AnswersBelow, AnswersLocated, Answe
 use crate::folder_lines::{ToldLines, WalkLines};
 use crate::folder_question::{FolderTerms, RpkiFolderQuestion, folder_terms_of};
 use crate::judging::strings_of;
-use crate::limits::limits_of;
 use crate::refusal::Refusal;
 use crate::sorting::Sorted;
 use bytes::Bytes;
@@ -111,6 +111,7 @@ fn walk_below(
     firsts: &Firsts,
     terms: &FolderTerms,
     issuer: &ResourceCert,
+    start: usize,
     kept: &mut Lines,
 ) -> Result<FolderWalk, AllocError>
     ensures tells { let x = context IsSignedByRsa terms.now.at terms.now.strict in
@@ -120,16 +121,17 @@ fn walk_below(
         (told : List Told) × BecameLines kept.old told kept.new × TellsBelow x asked
         (IsLookedAt terms.now.asks_names (IsFirstIn firsts.now) issuer.now.cert certs) issuer.now
         certs [] terms.now.depth steps (ended_of result) told }
-    ensures limited { let x = context IsSignedByRsa terms.now.at terms.now.strict in
+    ensures limits { let x = context IsSignedByRsa terms.now.at terms.now.strict in
         let asked = by_named_lists terms.now.asks_names x sorted.now.folder.lists in
         let certs = sorted.now.folder.certs in
         let steps = asked_or terms.now.steps usual_steps in
-        IfOk result (λ walked. (root : Root)
+        IfOk result (λ walked. (limited : List LimitedCa)
+        × HasReached start (length certs) limited walked × ((root : Root)
         → LeadsTo x asked root (members_at root certs []) issuer.now → AreLimited x asked
         (IsLookedAt terms.now.asks_names (IsFirstIn firsts.now) issuer.now.cert certs) root
-        certs terms.now.depth steps walked.limited.items) }
+        certs terms.now.depth steps limited)) }
 {
-    walk_of(alloc, sorted, firsts, terms).below(issuer, kept)
+    walk_of(alloc, sorted, firsts, terms).below(issuer, start, kept)
 }
 
 // The answer of sorted strings below the trust anchor at a place of their folder.
@@ -150,12 +152,9 @@ fn walk_from(
     laws::unambiguous();
     let firsts = Firsts::of(alloc, &sorted.folder)?;
     let mut kept = Lines::new(alloc, sorted.folder.certs().len())?;
-    let walk = walk_below(alloc, sorted, &firsts, terms, issuer, &mut kept)?;
-    let FolderWalk { ended, limited } = walk;
-    let count = sorted.folder.certs().len();
-    let reached = limits_of(alloc, &firsts, anchor, count, &limited);
-    drop(limited);
-    let limits = reached?;
+    let start = firsts.first_of(anchor);
+    let walk = walk_below(alloc, sorted, &firsts, terms, issuer, start, &mut kept)?;
+    let FolderWalk { ended, limits } = walk;
     let lines = WalkLines {
         sorted,
         firsts: &firsts,

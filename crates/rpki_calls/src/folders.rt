@@ -345,7 +345,7 @@ fn walked_from(alloc: Global, walk: &Down<'_>, tal: &Tal, anchor: &Member<'_>) -
 
 fn walk_below(alloc: Global, walk: &Down<'_>, issuer: &ResourceCert, lines: &mut Lines) -> Outcome {
     begin(alloc);
-    let answer = walk.below(issuer, lines);
+    let answer = walk.below(issuer, walk.folder.certs().len(), lines);
     let outcome = ended_with(&answer, lines);
     drop(answer);
     outcome

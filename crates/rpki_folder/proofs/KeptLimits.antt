@@ -1,8 +1,9 @@
 -- What a walk keeps of the limits that it reaches below an issuer, wherever it ends there.
-use Rattle.std.specs.Prelude.{Bool, Contains, Option, Result, Ok, Err, IsErr}
-use Rattle.std.proofs.Common.{◌≡◌, ◌+◌, ◌-◌, ◌*◌, ◌/◌, ◌<◌, ◌≤◌, ℕ, List, [], ◌∷◌, ◌++◌, length, refl, sym, subst, ap, ◌∙◌, append_assoc, arith}
-use Rattle.std.proofs.lemmas.List.{append-nil}
+use Rattle.std.specs.Prelude.{◌==◌, Bool, Contains, Option, Result, Ok, Err, IsErr, if◌then◌else◌, slice_index_or}
+use Rattle.std.proofs.Common.{◌≡◌, ◌+◌, ◌-◌, ◌*◌, ◌/◌, ◌<◌, ◌≤◌, ℕ, List, [], ◌∷◌, ◌++◌, length, refl, sym, subst, ap, ◌∙◌, arith}
+use Rattle.std.proofs.lemmas.List.{get_or_past}
 use Rattle.std.proofs.lemmas.List.Elements.{Contains-append_left, Contains-append_right}
+use Rattle.std.proofs.lemmas.List.Sums.{fold-append}
 use Rattle.rpki_der.specs.Values.{IsUnambiguous}
 use Rattle.rpki_cert.specs.Certificates.{CertFields, IsCertificate}
 use Rattle.rpki_cert.specs.Verification.{Context, ResourceFields}
@@ -11,29 +12,60 @@ use Rattle.rpki_folder.specs.declared.bounds.Ended.{Ended}
 use Rattle.rpki_folder.specs.declared.bounds.Ended.TheVariants.{Whole, TooDeep, OutOfSteps}
 use Rattle.rpki_folder.specs.declared.bounds.Limit.{Limit}
 use Rattle.rpki_folder.specs.declared.bounds.Limit.TheVariants.{Depth, Steps as steps}
-use Rattle.rpki_folder.specs.declared.bounds.LimitedCa.{LimitedCa}
 use Rattle.rpki_folder.specs.declared.bounds.Walked.{Walked}
+use Rattle.rpki_folder.specs.declared.limits.LimitTable.{LimitTable}
+use Rattle.rpki_folder.specs.declared.limits.Reached.{Reached}
 use Rattle.rpki_folder.specs.declared.share.Share.{Share}
 use Rattle.rpki_folder.specs.declared.walk.Ca.{Ca}
 use Rattle.rpki_folder.specs.Folders.{ArePlacesOf, cas_at}
-use Rattle.rpki_folder.specs.ReachedLimits.{IsNumber, AreLimited, end_at, end_of, ended_of}
-use Rattle.rpki_folder.specs.ReachedLimits.Steps.{CostIs, AreLimitedBelow, AreLimitedBelowEach, IsAdded, KeepsBelow, KeepsBelowEach}
-use Rattle.rpki_folder.specs.Walks.{Root, members_at, LeadsTo, Told, worse, IsLastOf, EndsNoCircle, IsLookedAt, IsChildOf, AreChildren}
+use Rattle.rpki_folder.specs.LimitTables.{nothing, both, of_limit, ca_at, reached_more, IsTableOf, HasReached}
+use Rattle.rpki_folder.specs.ReachedLimits.{IsNumber, LimitedCa, limited_ca, AreLimited, end_at, end_of, ended_of}
+use Rattle.rpki_folder.specs.ReachedLimits.Steps.{CostIs, IsEmpty, AreCounted, AreLimitedBelow, AreLimitedBelowEach, KeepsBelow, KeepsBelowEach}
+use Rattle.rpki_folder.specs.Walks.{Root, members_at, LeadsTo, Told, worse, IsLastOf, EndsNoCircle, IsLookedAt, IsChildOf, AreChildren, Tells, TakesStep, IsShort, IsTooDeep, IsComplete, IsCompleteInShares, IsJudgedInShares, IsEnough}
 use Rattle.rpki_folder.specs.Walks.Steps.{AreChildrenAmong, AreJudged}
 use Rattle.rpki_folder.proofs.BelowIssuer.{LetsIn}
 use Rattle.rpki_folder.proofs.ChildPaths.{passing, child_on}
+use Rattle.rpki_folder.proofs.Descent.{if_err, most_all}
 use Rattle.rpki_folder.proofs.LimitSteps.{end_append, limits_below_none, limits_below_more, limits_none, limits_deep, limits_short, limits_each, limits_whole}
 use Rattle.rpki_folder.proofs.LookedAt.{looked_at, let_in}
 use Rattle.rpki_folder.proofs.PickedLists.{in_none, in_front}
 use Rattle.rpki_folder.proofs.Shares.{goes_through, child_in, are_children, are_cas, ca_admitted, each_leads}
 
+-- ---- what was counted
+
+counts_none : (old : LimitTable) → AreCounted old [] old
+counts_none old = record { start_is = refl; count_is = refl; each = λ place low. refl }
+
+-- one after the other
+counts_more : (old mid new : LimitTable) (ls more : List LimitedCa) → AreCounted old ls mid → AreCounted mid more new → AreCounted old (ls ++ more) new
+counts_more old mid new ls more h k = record {
+  start_is = k.start_is ∙ h.start_is;
+  count_is = k.count_is ∙ h.count_is;
+  each = λ place low.
+      k.each place (subst (λ (n : ℕ). place < n) (sym h.count_is) low)
+      ∙ ap (λ (start : ℕ). reached_more start place (slice_index_or mid.reached.items place nothing) more) h.start_is
+      ∙ ap (λ (r : Reached). reached_more old.start place r more) (h.each place low)
+      ∙ sym (fold-append (λ r ca. if ca_at old.start ca.above == place then both (of_limit ca.limit) r else r) (slice_index_or old.reached.items place nothing) ls more);
+}
+
+-- from nothing
+counts_all : (start count : ℕ) (old new : LimitTable) (limited : List LimitedCa) → IsEmpty start count old → AreCounted old limited new → IsTableOf start count limited new
+counts_all start count old new limited none h = record {
+  start_is = h.start_is ∙ none.start_is;
+  each = λ place within.
+      h.each place (omega (arith, within, none.count_is))
+      ∙ ap (λ (s : ℕ). reached_more s place (slice_index_or old.reached.items place nothing) limited) none.start_is
+      ∙ ap (λ (r : Reached). reached_more start place r limited) (none.each place within);
+  beyond = λ place high. get_or_past new.reached.items place nothing (omega (arith, high, h.count_is, none.count_is));
+}
+
 -- ---- below an issuer that has no child
 
 module _ (x : Context) (asked : RevocationChecks) (admits : List ℕ → ℕ → Type 0) (issuer : ResourceFields) (certs : List (List ℕ)) (above : List ℕ) (depth : ℕ) (share : Share) (law : IsUnambiguous IsCertificate) where
-  pub keeps_none : ((place : ℕ) → admits above place → IsChildOf x.verifies issuer.cert certs place → ⊥) → (old : List LimitedCa) → KeepsBelow x asked admits issuer certs above depth share old old Whole
+  pub keeps_none : ((place : ℕ) → admits above place → IsChildOf x.verifies issuer.cert certs place → ⊥) → (old : LimitTable) → KeepsBelow x asked admits issuer certs above depth share old old Whole
   keeps_none none old = record {
     more = [];
-    new_is = sym (append-nil old);
+    counted = counts_none old;
     ended_is = refl;
     are = λ root a base factor cost. limits_none x asked admits root certs above depth share.steps base factor law issuer a none;
   }
@@ -41,20 +73,20 @@ module _ (x : Context) (asked : RevocationChecks) (admits : List ℕ → ℕ →
 -- ---- below several CAs
 
 module _ (x : Context) (asked : RevocationChecks) (admits : List ℕ → ℕ → Type 0) (certs : List (List ℕ)) (above : List ℕ) (depth : ℕ) (share : Share) where
-  pub keeps_each_none : (old : List LimitedCa) → KeepsBelowEach x asked admits certs above depth share [] old old Whole
+  pub keeps_each_none : (old : LimitTable) → KeepsBelowEach x asked admits certs above depth share [] old old Whole
   keeps_each_none old = record {
     more = [];
-    new_is = sym (append-nil old);
+    counted = counts_none old;
     ended_is = refl;
     are = λ root leads base factor cost. limits_below_none x asked admits root certs above depth share.steps base factor;
   }
 
   -- below one more
-  pub keeps_each_more : (cas : List Ca) (one : Ca) (old mid new : List LimitedCa) (ended end : Ended) → KeepsBelowEach x asked admits certs above depth share cas old mid ended
+  pub keeps_each_more : (cas : List Ca) (one : Ca) (old mid new : LimitTable) (ended end : Ended) → KeepsBelowEach x asked admits certs above depth share cas old mid ended
       → KeepsBelow x asked admits one.holder certs (above ++ one.place ∷ []) depth share mid new end → KeepsBelowEach x asked admits certs above depth share (cas ++ one ∷ []) old new (worse ended end)
   keeps_each_more cas one old mid new ended end h k = record {
     more = h.more ++ k.more;
-    new_is = k.new_is ∙ ap (λ (l : List LimitedCa). l ++ k.more) h.new_is ∙ append_assoc old h.more k.more;
+    counted = counts_more old mid new h.more k.more h.counted k.counted;
     ended_is = ap (λ (e : Ended). worse e end) h.ended_is ∙ ap (λ (e : Ended). worse (end_of h.more) e) k.ended_is ∙ sym (end_append h.more k.more);
     are = λ root leads base factor cost.
         limits_below_more x asked admits root certs above depth share.steps base factor cas one h.more k.more
@@ -66,7 +98,7 @@ module _ (x : Context) (asked : RevocationChecks) (admits : List ℕ → ℕ →
 
 module _ (x : Context) (asked : RevocationChecks) (names : Bool) (admits : List ℕ → ℕ → Type 0) (top : CertFields) (certs : List (List ℕ)) (above : List ℕ) (depth : ℕ) (share : Share) (law : IsUnambiguous IsCertificate)
     (issuer : ResourceFields) (last : IsLastOf top certs above issuer.cert) (none : EndsNoCircle names top certs above)
-    (places : List ℕ) (are : ArePlacesOf certs issuer.cert.fields.extensions.subject_key_identifier places) (children : List ℕ) (c : AreChildrenAmong x.verifies (LetsIn names admits issuer.cert certs above) issuer.cert certs places children) (old new : List LimitedCa) where
+    (places : List ℕ) (are : ArePlacesOf certs issuer.cert.fields.extensions.subject_key_identifier places) (children : List ℕ) (c : AreChildrenAmong x.verifies (LetsIn names admits issuer.cert certs above) issuer.cert certs places children) (old new : LimitTable) where
   abbrev Looks : List ℕ → ℕ → Type 0
   Looks = IsLookedAt names admits top certs
 
@@ -86,7 +118,7 @@ module _ (x : Context) (asked : RevocationChecks) (names : Bool) (admits : List 
   pub keeps_childless : children ≡ [] → KeepsBelow x asked Looks issuer certs above depth share old old Whole
   keeps_childless is = record {
     more = [];
-    new_is = sym (append-nil old);
+    counted = counts_none old;
     ended_is = refl;
     are = λ root a base factor cost.
         limits_none x asked Looks root certs above depth share.steps base factor law issuer a
@@ -94,23 +126,23 @@ module _ (x : Context) (asked : RevocationChecks) (names : Bool) (admits : List 
   }
 
   -- where the depth is used up
-  pub keeps_deep : depth ≡ 0 → 0 < length children → IsAdded old above Depth new → KeepsBelow x asked Looks issuer certs above depth share old new TooDeep
-  keeps_deep deep some (l, is, there, limit) = record {
-    more = l ∷ [];
-    new_is = is;
-    ended_is = sym (ap (λ (q : Limit). worse (end_at q) Whole) limit);
-    are = λ root a base factor cost. limits_deep x asked Looks root certs above depth share.steps base factor law children (kids root a) deep some l there limit;
+  pub keeps_deep : depth ≡ 0 → 0 < length children → AreCounted old (limited_ca above Depth ∷ []) new → KeepsBelow x asked Looks issuer certs above depth share old new TooDeep
+  keeps_deep deep some counted = record {
+    more = limited_ca above Depth ∷ [];
+    counted = counted;
+    ended_is = refl;
+    are = λ root a base factor cost. limits_deep x asked Looks root certs above depth share.steps base factor law children (kids root a) deep some;
   }
 
   module _ (low : 0 < depth) where
     -- where the share is too small
-    pub keeps_short : share.steps < length children → (told : Option ℕ) → ((base factor : ℕ) → CostIs share.cost base factor → IsNumber told (base + factor * length children)) → IsAdded old above (steps told) new
+    pub keeps_short : share.steps < length children → (told : Option ℕ) → ((base factor : ℕ) → CostIs share.cost base factor → IsNumber told (base + factor * length children)) → AreCounted old (limited_ca above (steps told) ∷ []) new
         → KeepsBelow x asked Looks issuer certs above depth share old new OutOfSteps
-    keeps_short short told number (l, is, there, limit) = record {
-      more = l ∷ [];
-      new_is = is;
-      ended_is = sym (ap (λ (q : Limit). worse (end_at q) Whole) limit);
-      are = λ root a base factor cost. limits_short x asked Looks root certs above depth share.steps base factor law children (kids root a) low short l there told limit (number base factor cost);
+    keeps_short short told number counted = record {
+      more = limited_ca above (steps told) ∷ [];
+      counted = counted;
+      ended_is = refl;
+      are = λ root a base factor cost. limits_short x asked Looks root certs above depth share.steps base factor law children (kids root a) low short told (number base factor cost);
     }
 
     module _ (enough : length children ≤ share.steps) (cas : List Ca) (us : List Told) (j : AreJudged x asked issuer certs above children cas us) where
@@ -133,7 +165,7 @@ module _ (x : Context) (asked : RevocationChecks) (names : Bool) (admits : List 
           → (ended : Ended) → KeepsBelowEach x asked Looks certs above (depth - 1) next cas old new ended → KeepsBelow x asked Looks issuer certs above depth share old new ended
       keeps_each next next_is cost_is ended k = record {
         more = k.more;
-        new_is = k.new_is;
+        counted = k.counted;
         ended_is = k.ended_is;
         are = λ root a base factor cost.
             limits_at root a base factor next.steps next_is k.more
@@ -144,7 +176,7 @@ module _ (x : Context) (asked : RevocationChecks) (names : Bool) (admits : List 
       pub keeps_last : cas ≡ [] → KeepsBelow x asked Looks issuer certs above depth share old old Whole
       keeps_last is = record {
         more = [];
-        new_is = sym (append-nil old);
+        counted = counts_none old;
         ended_is = refl;
         are = λ root a base factor cost.
             let each : AreLimitedBelowEach x asked Looks root certs above (depth - 1) 0 (base + factor * length children) (factor * length cas) cas [] =
@@ -154,17 +186,31 @@ module _ (x : Context) (asked : RevocationChecks) (names : Bool) (admits : List 
 
 -- ---- below the certificate at which a walk starts
 
--- at the start nothing is kept, and the share is that of the whole walk
-pub kept_whole : (x : Context) (asked : RevocationChecks) (admits : List ℕ → ℕ → Type 0) (issuer : ResourceFields) (certs : List (List ℕ)) (depth : ℕ) (share : Share) (old new : List LimitedCa) (ended : Ended) → old ≡ [] → CostIs share.cost 0 1
-    → KeepsBelow x asked admits issuer certs [] depth share old new ended
-    → (ended ≡ end_of new) × ((root : Root) → LeadsTo x asked root (members_at root certs []) issuer → AreLimited x asked admits root certs depth share.steps new)
-kept_whole x asked admits issuer certs depth share old new ended is cost k =
-    let all : new ≡ k.more = k.new_is ∙ ap (λ (l : List LimitedCa). l ++ k.more) is in (
-      k.ended_is ∙ ap (λ (l : List LimitedCa). end_of l) (sym all),
-      (λ root a. subst (λ (l : List LimitedCa). AreLimited x asked admits root certs depth share.steps l) (sym all) (limits_whole x asked admits root certs depth share.steps k.more (k.are root a 0 1 cost))),
-    )
+-- at the start nothing is counted, and the share is that of the whole walk
+pub kept_whole : (x : Context) (asked : RevocationChecks) (admits : List ℕ → ℕ → Type 0) (issuer : ResourceFields) (certs : List (List ℕ)) (depth : ℕ) (share : Share) (start count : ℕ) (old : LimitTable) (walked : Walked) → IsEmpty start count old → CostIs share.cost 0 1
+    → KeepsBelow x asked admits issuer certs [] depth share old walked.limits walked.ended
+    → (limited : List LimitedCa) × HasReached start count limited walked × ((root : Root) → LeadsTo x asked root (members_at root certs []) issuer → AreLimited x asked admits root certs depth share.steps limited)
+kept_whole x asked admits issuer certs depth share start count old walked none cost k = (
+  k.more,
+  record { ended = k.ended_is; table = counts_all start count old walked.limits k.more none k.counted },
+  (λ root a. limits_whole x asked admits root certs depth share.steps k.more (k.are root a 0 1 cost)),
+)
 
 -- a walk that failed didn't end
 pub err_ended : {E : Type 0} (r : Result Walked E) → IsErr r → IsErr (ended_of r)
 err_ended (Ok walked) err = absurd cc
 err_ended (Err e) err = refl
+
+-- and where it failed before it judged a certificate, it told nothing
+pub tells_nothing : {E : Type 0} (x : Context) (asked : RevocationChecks) (admits : List ℕ → ℕ → Type 0) (root : Root) (certs : List (List ℕ)) (depth steps : ℕ) (r : Result Walked E) → IsErr r → Tells x asked admits root certs [] depth steps (ended_of r) []
+tells_nothing x asked admits root certs depth steps r err = record {
+  right = tt;
+  let_in = tt;
+  few = most_all (TakesStep x asked root certs) steps [] (omega arith);
+  short = if_err (λ (ended : Ended). ended ≡ OutOfSteps → IsShort x asked admits root certs [] steps) (ended_of r) (err_ended r err);
+  too_deep = if_err (IsTooDeep x asked admits root certs [] depth) (ended_of r) (err_ended r err);
+  complete = if_err (IsComplete x asked admits root certs [] depth []) (ended_of r) (err_ended r err);
+  in_shares = if_err (λ (ended : Ended). IsCompleteInShares x asked admits root certs [] depth steps []) (ended_of r) (err_ended r err);
+  judged = if_err (λ (ended : Ended). IsJudgedInShares x asked admits root certs [] depth steps []) (ended_of r) (err_ended r err);
+  enough = if_err (IsEnough x asked admits root certs [] depth steps) (ended_of r) (err_ended r err);
+}

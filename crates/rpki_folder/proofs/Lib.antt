@@ -5,6 +5,7 @@ pub mod Outcomes
 pub mod Descent
 pub mod Shares
 pub mod Needs
+pub mod LimitPlaces
 pub mod LimitSteps
 pub mod ChildSteps
 pub mod KeptIssuers

@@ -12,11 +12,10 @@ use Rattle.rpki_folder.specs.declared.bounds.Ended.{Ended}
 use Rattle.rpki_folder.specs.declared.bounds.Ended.TheVariants.{Whole, TooDeep, OutOfSteps}
 use Rattle.rpki_folder.specs.declared.bounds.Limit.{Limit}
 use Rattle.rpki_folder.specs.declared.bounds.Limit.TheVariants.{Depth, Steps as steps}
-use Rattle.rpki_folder.specs.declared.bounds.LimitedCa.{LimitedCa}
 use Rattle.rpki_folder.specs.declared.walk.Ca.{Ca}
 use Rattle.rpki_folder.specs.Walks.{Root, members_at, LeadsTo, worse, IsChildOf, AreChildren, AreAcceptedCas, IsHandedDown, HasShare}
 use Rattle.rpki_folder.specs.Walks.Steps.{places_of, down_to}
-use Rattle.rpki_folder.specs.ReachedLimits.{IsDeepAt, IsShortAt, IsNeed, IsNumber, IsLimitAt, IsDeepTold, IsShortTold, AreLimited, end_at, end_of}
+use Rattle.rpki_folder.specs.ReachedLimits.{IsDeepAt, IsShortAt, IsNeed, IsNumber, IsLimitAt, LimitedCa, limited_ca, IsDeepTold, IsShortTold, AreLimited, end_at, end_of}
 use Rattle.rpki_folder.specs.ReachedLimits.Steps.{IsLimitOf, IsLimitBelow, AreLimitedBelow, AreLimitedBelowEach}
 use Rattle.rpki_folder.proofs.ChildPaths.{child_here, child_on}
 use Rattle.rpki_folder.proofs.Descent.{all_append, all_weaker}
@@ -89,16 +88,16 @@ module _ (x : Context) (asked : RevocationChecks) (admits : List ℕ → ℕ →
         (all_weaker (Limit_below cas) (Limit_below (cas ++ one ∷ [])) (front_limit cas one) ls h.only)
         (all_weaker (IsLimitBelow x asked admits root certs (down_to above one) depth share base factor) (Limit_below (cas ++ one ∷ [])) (back_limit cas one) more i.only);
     deep = λ ca at between d. elim (Contains-push_cases cas one ca at) [
-      | inl before ↦ any_front (λ (l : LimitedCa). (l.above.items ≡ down_to above ca ++ between) × (l.limit ≡ Depth)) ls more (h.deep ca before between d)
+      | inl before ↦ any_front (λ (l : LimitedCa). (l.above ≡ down_to above ca ++ between) × (l.limit ≡ Depth)) ls more (h.deep ca before between d)
       | inr is ↦
           let here = subst (λ (c : Ca). (b : List ℕ) → IsDeepAt x asked admits root certs (down_to above c) share depth b → IsDeepTold more (down_to above c ++ b)) is i.deep in
-          any_back (λ (l : LimitedCa). (l.above.items ≡ down_to above ca ++ between) × (l.limit ≡ Depth)) ls more (here between d)
+          any_back (λ (l : LimitedCa). (l.above ≡ down_to above ca ++ between) × (l.limit ≡ Depth)) ls more (here between d)
     ];
     short = λ ca at between s. elim (Contains-push_cases cas one ca at) [
-      | inl before ↦ any_front (λ (l : LimitedCa). (l.above.items ≡ down_to above ca ++ between) × ((told : Option ℕ) × (l.limit ≡ steps told))) ls more (h.short ca before between s)
+      | inl before ↦ any_front (λ (l : LimitedCa). (l.above ≡ down_to above ca ++ between) × ((told : Option ℕ) × (l.limit ≡ steps told))) ls more (h.short ca before between s)
       | inr is ↦
           let here = subst (λ (c : Ca). (b : List ℕ) → IsShortAt x asked admits root certs (down_to above c) share depth b → IsShortTold more (down_to above c ++ b)) is i.short in
-          any_back (λ (l : LimitedCa). (l.above.items ≡ down_to above ca ++ between) × ((told : Option ℕ) × (l.limit ≡ steps told))) ls more (here between s)
+          any_back (λ (l : LimitedCa). (l.above ≡ down_to above ca ++ between) × ((told : Option ℕ) × (l.limit ≡ steps told))) ls more (here between s)
     ];
   }
 
@@ -133,12 +132,12 @@ module _ (x : Context) (asked : RevocationChecks) (admits : List ℕ → ℕ →
   module _ (children : List ℕ) (are : AreChildren x asked admits root certs above children) where
     -- ---- at the last of the CAs above
 
-    here_only : (l : LimitedCa) → l.above.items ≡ above → (limit : Limit) → l.limit ≡ limit → IsLimitOf x asked admits root certs above depth share base factor [] limit → IsLimitBelow x asked admits root certs above depth share base factor l
-    here_only l is limit same h = ([], is ∙ sym (append-nil above), subst (λ (q : Limit). IsLimitOf x asked admits root certs above depth share base factor [] q) (sym same) h)
+    here_only : (limit : Limit) → IsLimitOf x asked admits root certs above depth share base factor [] limit → IsLimitBelow x asked admits root certs above depth share base factor (limited_ca above limit)
+    here_only limit h = ([], sym (append-nil above), h)
 
     -- where the depth is used up
-    pub limits_deep : depth ≡ 0 → 0 < length children → (l : LimitedCa) → l.above.items ≡ above → l.limit ≡ Depth → Are (l ∷ [])
-    limits_deep deep some l is same =
+    pub limits_deep : depth ≡ 0 → 0 < length children → Are (limited_ca above Depth ∷ [])
+    limits_deep deep some =
         let first = first_of children some in
         let one = are.only first.0 first.1 in
         let here : IsDeepAt x asked admits root certs above share depth [] = record {
@@ -154,13 +153,13 @@ module _ (x : Context) (asked : RevocationChecks) (admits : List ℕ → ℕ →
           };
         } in
         record {
-          only = (here_only l is Depth same here, tt);
+          only = (here_only Depth here, tt);
           deep = λ between d. deep_told between d.at_depth;
           short = λ between s. let within = s.within in absurd (omega (arith, within, deep));
         }
       where
-        deep_told : (between : List ℕ) → length between ≡ depth → IsDeepTold (l ∷ []) (above ++ between)
-        deep_told [] at = any_one (λ (k : LimitedCa). (k.above.items ≡ above ++ []) × (k.limit ≡ Depth)) l (is ∙ sym (append-nil above), same)
+        deep_told : (between : List ℕ) → length between ≡ depth → IsDeepTold (limited_ca above Depth ∷ []) (above ++ between)
+        deep_told [] at = any_one (λ (k : LimitedCa). (k.above ≡ above ++ []) × (k.limit ≡ Depth)) (limited_ca above Depth) (sym (append-nil above), refl)
         deep_told (p ∷ rest) at = absurd (omega (arith, at, deep))
 
     -- the share is not handed down, where it is too small
@@ -175,8 +174,8 @@ module _ (x : Context) (asked : RevocationChecks) (admits : List ℕ → ℕ →
       here_handed p rest last small has = not_handed has.0 small has.1
 
       -- where the share is too small
-      pub limits_short : share < length children → (l : LimitedCa) → l.above.items ≡ above → (told : Option ℕ) → l.limit ≡ steps told → IsNumber told (base + factor * length children) → Are (l ∷ [])
-      limits_short small l is told same number =
+      pub limits_short : share < length children → (told : Option ℕ) → IsNumber told (base + factor * length children) → Are (limited_ca above (steps told) ∷ [])
+      limits_short small told number =
           let here : IsShortAt x asked admits root certs above share depth [] = record {
             within = low;
             admitted = tt;
@@ -188,17 +187,17 @@ module _ (x : Context) (asked : RevocationChecks) (admits : List ℕ → ℕ →
           } in
           let need : IsNeed x asked admits root certs above depth [] (length children) = need_here x asked admits root certs law above children are depth low in
           record {
-            only = (here_only l is (steps told) same (here, (length children, need, number)), tt);
+            only = (here_only (steps told) (here, (length children, need, number)), tt);
             deep = deep_none;
             short = short_told;
           }
         where
-          deep_none : (between : List ℕ) → IsDeepAt x asked admits root certs above share depth between → IsDeepTold (l ∷ []) (above ++ between)
+          deep_none : (between : List ℕ) → IsDeepAt x asked admits root certs above share depth between → IsDeepTold (limited_ca above (steps told) ∷ []) (above ++ between)
           deep_none [] d = let at = d.at_depth in absurd (omega (arith, at, low))
           deep_none (p ∷ rest) d = absurd (here_handed p rest d.last small d.has)
 
-          short_told : (between : List ℕ) → IsShortAt x asked admits root certs above share depth between → IsShortTold (l ∷ []) (above ++ between)
-          short_told [] s = any_one (λ (k : LimitedCa). (k.above.items ≡ above ++ []) × ((t : Option ℕ) × (k.limit ≡ steps t))) l (is ∙ sym (append-nil above), (told, same))
+          short_told : (between : List ℕ) → IsShortAt x asked admits root certs above share depth between → IsShortTold (limited_ca above (steps told) ∷ []) (above ++ between)
+          short_told [] s = any_one (λ (k : LimitedCa). (k.above ≡ above ++ []) × ((t : Option ℕ) × (k.limit ≡ steps t))) (limited_ca above (steps told)) (sym (append-nil above), (told, refl))
           short_told (p ∷ rest) s = absurd (here_handed p rest s.last small s.has)
 
       -- ---- where the children were judged
@@ -355,19 +354,19 @@ module _ (x : Context) (asked : RevocationChecks) (admits : List ℕ → ℕ →
 -- ---- below the certificate at which a walk starts
 
 module _ (x : Context) (asked : RevocationChecks) (admits : List ℕ → ℕ → Type 0) (root : Root) (certs : List (List ℕ)) (depth share : ℕ) where
-  limit_whole : (l : LimitedCa) (between : List ℕ) (limit : Limit) → l.above.items ≡ between → IsLimitOf x asked admits root certs [] depth share 0 1 between limit → IsLimitAt x asked admits root certs share depth l.above.items limit
+  limit_whole : (l : LimitedCa) (between : List ℕ) (limit : Limit) → l.above ≡ between → IsLimitOf x asked admits root certs [] depth share 0 1 between limit → IsLimitAt x asked admits root certs share depth l.above limit
   limit_whole l between Depth is d = subst (λ (b : List ℕ). IsDeepAt x asked admits root certs [] share depth b) (sym is) d
   limit_whole l between (steps told) is (s, (need, needed, number)) =
       let one : 0 + 1 * need ≡ need = omega arith in
       subst (λ (b : List ℕ). IsLimitAt x asked admits root certs share depth b (steps told)) (sym is) (s, (need, needed, subst (λ (n : ℕ). IsNumber told n) one number))
 
-  only_whole : (l : LimitedCa) → IsLimitBelow x asked admits root certs [] depth share 0 1 l → IsLimitAt x asked admits root certs share depth l.above.items l.limit
+  only_whole : (l : LimitedCa) → IsLimitBelow x asked admits root certs [] depth share 0 1 l → IsLimitAt x asked admits root certs share depth l.above l.limit
   only_whole l (between, is, limit) = limit_whole l between l.limit is limit
 
   -- the share is that of the whole walk
   pub limits_whole : (ls : List LimitedCa) → AreLimitedBelow x asked admits root certs [] depth share 0 1 ls → AreLimited x asked admits root certs depth share ls
   limits_whole ls h = record {
-    only = all_weaker (IsLimitBelow x asked admits root certs [] depth share 0 1) (λ (l : LimitedCa). IsLimitAt x asked admits root certs share depth l.above.items l.limit) only_whole ls h.only;
+    only = all_weaker (IsLimitBelow x asked admits root certs [] depth share 0 1) (λ (l : LimitedCa). IsLimitAt x asked admits root certs share depth l.above l.limit) only_whole ls h.only;
     deep = h.deep;
     short = h.short;
   }

@@ -5,6 +5,7 @@ pub mod IssuerLists
 pub mod UsualBounds
 pub mod Walks
 pub mod ReachedLimits
+pub mod LimitTables
 pub mod IssuerTables
 pub mod WalkFaults
 pub mod KeptLines

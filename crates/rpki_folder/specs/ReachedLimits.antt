@@ -11,7 +11,6 @@ use Rattle.rpki_folder.specs.declared.bounds.Ended.{Ended}
 use Rattle.rpki_folder.specs.declared.bounds.Ended.TheVariants.{Whole, TooDeep, OutOfSteps}
 use Rattle.rpki_folder.specs.declared.bounds.Limit.{Limit}
 use Rattle.rpki_folder.specs.declared.bounds.Limit.TheVariants.{Depth, Steps as steps}
-use Rattle.rpki_folder.specs.declared.bounds.LimitedCa.{LimitedCa}
 use Rattle.rpki_folder.specs.declared.bounds.Walked.{Walked}
 pub mod Steps
 
@@ -63,21 +62,30 @@ IsLimitAt x asked admits root certs share depth above (steps told) =
 
 -- ---- what is told of them
 
+-- a CA at which a walk reached a limit, the last of those at these places: none of its children was judged
+-- there
+pub record LimitedCa : Type 0 where
+  pub above : List ℕ
+  pub limit : Limit
+
+abbrev pub limited_ca : List ℕ → Limit → LimitedCa
+limited_ca above limit = record { above = above; limit = limit }
+
 -- the last of the CAs at these places is told as one at the depth
 abbrev pub IsDeepTold : List LimitedCa → List ℕ → Type 0
-IsDeepTold limited above = Any (λ l. (l.above.items ≡ above) × (l.limit ≡ Depth)) limited
+IsDeepTold limited above = Any (λ l. (l.above ≡ above) × (l.limit ≡ Depth)) limited
 
 -- it is told as one whose share is too small
 abbrev pub IsShortTold : List LimitedCa → List ℕ → Type 0
 IsShortTold limited above =
-    Any (λ l. (l.above.items ≡ above) × ((told : Option ℕ) × (l.limit ≡ steps told))) limited
+    Any (λ l. (l.above ≡ above) × ((told : Option ℕ) × (l.limit ≡ steps told))) limited
 
 -- these are the CAs at which a walk of so many steps and this depth reaches a limit, each with that: none
 -- is wrong, and none is left out
 pub record AreLimited (x : Context) (asked : RevocationChecks) (admits : List ℕ → ℕ → Type 0)
     (root : Root) (certs : List (List ℕ)) (depth share : ℕ) (limited : List LimitedCa) : Type 0 where
   pub only : AllByRecursion (λ l.
-      IsLimitAt x asked admits root certs share depth l.above.items l.limit) limited
+      IsLimitAt x asked admits root certs share depth l.above l.limit) limited
   pub deep : (above : List ℕ) → IsDeepAt x asked admits root certs [] share depth above
       → IsDeepTold limited above
   pub short : (above : List ℕ) → IsShortAt x asked admits root certs [] share depth above

@@ -1,6 +1,8 @@
-//! The limits of a walk, how it ended, and the CAs at which it reached a limit.
+//! The limits of a walk, and how it ended.
 ghost use Rattle.std.specs.Prelude.{◌≡◌};
 ghost use Rattle.rpki_folder.specs.Walks.{worse};
+
+use crate::limits::LimitTable;
 
 /// The steps of a walk below one trust anchor, if the user doesn't say how many. They depend on
 /// nothing in the folder: so no file changes how far a walk goes below other CAs.
@@ -40,24 +42,15 @@ pub enum Limit {
     Steps(Option<usize>),
 }
 
-/// A CA at which a walk reached a limit: none of its children was judged there.
-#[derive(Drop)]
-pub struct LimitedCa {
-    /// The places of the CAs from the top down, the CA itself last. It is empty for the certificate
-    /// below which the walk started.
-    pub above: Vec<usize>,
-    /// The limit that the walk reached.
-    pub limit: Limit,
-}
-
-/// How a walk ended, and each CA at which it reached a limit.
+/// How a walk ended, and the limits that it reached at each CA.
 #[derive(Drop)]
 pub struct Walked {
     /// How the walk ended: `Whole` if and only if no CA is limited, `OutOfSteps` if and only if the
     /// limit of one is [`Limit::Steps`].
     pub ended: Ended,
-    /// The CAs at which the walk reached a limit.
-    pub limited: Vec<LimitedCa>,
+    /// The limits that the walk reached, by the certificates of the CAs. If it reached one, it judged
+    /// none of the children of the CA there, on that path.
+    pub limits: LimitTable,
 }
 
 impl Ended {

@@ -22,18 +22,20 @@ ghost use Rattle.rpki_folder.specs.IssuerLists.{AreIssuers, ArePicked};
 ghost use Rattle.rpki_folder.specs.Walks.{Root, at_anchor, members_at, LeadsTo, IsValidAnchor, Told, told, StandsAt, IsLastOf, IsNamedUnder, IsRepeated, EndsNoCircle, IsLookedAt, IsChildOf, TellsBelow, TellsFrom, IsWhyNone};
 ghost use Rattle.rpki_folder.specs.Walks.Steps.{IsAnswer, IsOutcome, Hands, IsAtTop, AreJudged, ClaimIs, IsChildAdded, IsClaim, IsOther, IsToldOf, WalksBelowEach};
 ghost use Rattle.rpki_folder.specs.IssuerTables.{AreAllChildren, AreKept, IsKeptOf};
-ghost use Rattle.rpki_folder.specs.ReachedLimits.{AreLimited, AreLimitedFrom, end_of, ended_of};
-ghost use Rattle.rpki_folder.specs.ReachedLimits.Steps.{IsAdded, KeepsBelow, KeepsBelowEach};
+ghost use Rattle.rpki_folder.specs.LimitTables.{HasReached};
+ghost use Rattle.rpki_folder.specs.ReachedLimits.{AreLimited, AreLimitedFrom, LimitedCa, ended_of, limited_ca};
+ghost use Rattle.rpki_folder.specs.ReachedLimits.Steps.{AreCounted, KeepsBelow, KeepsBelowEach};
 ghost use Rattle.rpki_folder.specs.declared.issuers.Issuer.{Issuer as Kept};
 ghost use Rattle.rpki_folder.specs.declared.walk.Ca.{Ca};
 
 use crate::admission::Admission;
-use crate::bounds::{Bounds, Ended, Limit, LimitedCa, Walked};
+use crate::bounds::{Bounds, Ended, Limit, Walked};
 use crate::entity::are_one_entity;
 use crate::folder::Folder;
 use crate::issuer_lists::IssuerLists;
 use crate::issuers::{Issuer, Issuers};
 use crate::known::Known;
+use crate::limits::LimitTable;
 use crate::share::Share;
 use crate::visitor::{Accepted, Visitor};
 use crate::walk_error::WalkError;
@@ -72,38 +74,34 @@ pub struct Walk<'w, A, V> {
     pub verifier: &'w V,
 }
 
-// Where a walk is: the places of the CAs above, from the top down; and the CAs at which it has reached
-// a limit.
+// Where a walk is: the places of the CAs above, from the top down; and the limits that it has reached.
 #[derive(Drop)]
 struct Trail {
     above: Vec<usize>,
-    limited: Vec<LimitedCa>,
+    limits: LimitTable,
 }
 
 impl Trail {
-    // Keeps that the walk reached this limit at the last of the CAs above.
-    fn reach(&mut self, alloc: Global, limit: Limit) -> Result<(), AllocError>
+    // Counts that the walk reached this limit at the last of the CAs above.
+    fn reach(&mut self, limit: Limit)
         ensures above { self.new.above.items ≡ self.old.above.items }
-        ensures limited { OnOk result (IsAdded self.old.limited.items self.old.above.items limit
-            self.new.limited.items) }
+        ensures counted { AreCounted self.old.limits (limited_ca self.old.above.items limit ∷ [])
+            self.new.limits }
     {
-        let mut above = Vec::new(alloc);
-        above.extend_from_slice(&self.above)?;
-        self.limited.push(LimitedCa { above, limit })?;
-        Ok(())
+        self.limits.reach(&self.above, limit);
     }
 
-    // How the walk ended, with the CAs at which it reached a limit.
+    // How the walk ended, with the limits that it reached.
     fn walked(self, ended: Result<Ended, AllocError>) -> Result<Walked, AllocError>
         ensures ended { ended_of result ≡ ended }
-        ensures limited { IfOk result (λ walked. walked.limited ≡ self.limited) }
+        ensures limits { IfOk result (λ walked. walked.limits ≡ self.limits) }
     {
-        let Trail { above, limited } = self;
+        let Trail { above, limits } = self;
         drop(above);
         match ended {
-            Ok(ended) => Ok(Walked { ended, limited }),
+            Ok(ended) => Ok(Walked { ended, limits }),
             Err(error) => {
-                drop(limited);
+                drop(limits);
                 Err(error)
             }
         }
@@ -779,7 +777,7 @@ impl<'w, A: Admission, V: Verifier> Walk<'w, A, V> {
     }
 
     // The walk below each of these CAs, which stand below those on the trail, for this depth and
-    // share. It began below the certificate at the top. The trail keeps where it reached a limit.
+    // share. It began below the certificate at the top. The trail counts where it reached a limit.
     #[cycle(descend)]
     fn each_below<W: Visitor>(
         &self,
@@ -813,7 +811,7 @@ impl<'w, A: Admission, V: Verifier> Walk<'w, A, V> {
             let certs = w.folder.now.certs in
             let admits = IsLookedAt w.names (A.admits w.admission.now) top.now.cert certs in
             IfOk result (KeepsBelowEach x asked admits certs trail.old.above.items depth share
-            cas.now trail.old.limited.items trail.new.limited.items) }
+            cas.now trail.old.limits trail.new.limits) }
         ensures trail { OnOk result (trail.new.above.items ≡ trail.old.above.items) }
         ensures kept { let w = self.now in
             let x = context (V.verifies w.verifier.now) w.at w.strict in
@@ -866,7 +864,7 @@ impl<'w, A: Admission, V: Verifier> Walk<'w, A, V> {
             let certs = w.folder.now.certs in
             let admits = IsLookedAt w.names (A.admits w.admission.now) top.now.cert certs in
             IfOk result (KeepsBelow x asked admits issuer.now certs trail.old.above.items depth
-            share trail.old.limited.items trail.new.limited.items) }
+            share trail.old.limits trail.new.limits) }
         ensures trail { OnOk result (trail.new.above.items ≡ trail.old.above.items) }
         ensures kept { let w = self.now in
             let x = context (V.verifies w.verifier.now) w.at w.strict in
@@ -889,11 +887,11 @@ impl<'w, A: Admission, V: Verifier> Walk<'w, A, V> {
             return Ok(Ended::Whole);
         }
         if depth == 0 {
-            trail.reach(self.alloc, Limit::Depth)?;
+            trail.reach(Limit::Depth);
             return Ok(Ended::TooDeep);
         }
         if children.len() > share.steps {
-            trail.reach(self.alloc, Limit::Steps(share.needed(children.len())))?;
+            trail.reach(Limit::Steps(share.needed(children.len())));
             return Ok(Ended::OutOfSteps);
         }
         let cas = self.judge_children(issuer, &kept.lists, &trail.above, &children, visitor)?;
@@ -905,8 +903,10 @@ impl<'w, A: Admission, V: Verifier> Walk<'w, A, V> {
     }
 
     /// Walks below an issuer that was validated before, and calls the visitor with each verdict.
-    /// Returns how the walk ended: every certificate was judged, or which limit was reached; and each
-    /// CA at which it was reached.
+    /// Returns how the walk ended: every certificate was judged, or which limit was reached; and the
+    /// limits that it reached, by certificates. Those at the issuer itself are told at the place
+    /// `start`, which is its place in the folder. If the folder doesn't have it, `start` is the number
+    /// of the folder's certificates.
     ///
     /// The walk judges a certificate of the folder below an accepted CA if
     ///
@@ -930,6 +930,7 @@ impl<'w, A: Admission, V: Verifier> Walk<'w, A, V> {
     pub fn below<W: Visitor>(
         &self,
         issuer: &ResourceCert,
+        start: usize,
         visitor: &mut W,
     ) -> Result<Walked, AllocError>
         ensures tells { let w = self.now in
@@ -940,22 +941,21 @@ impl<'w, A: Admission, V: Verifier> Walk<'w, A, V> {
             (more : List Told) × W.became visitor.old more visitor.new
             × TellsBelow x asked admits issuer.now certs [] w.bounds.depth w.bounds.steps
             (ended_of result) more }
-        // It tells each CA at which it reached a limit, and no other.
-        ensures limited { let w = self.now in
+        // It counts each CA at which it reached a limit, and no other.
+        ensures limits { let w = self.now in
             let x = context (V.verifies w.verifier.now) w.at w.strict in
             let asked = by_named_lists w.names x w.folder.now.lists in
             let certs = w.folder.now.certs in
             let admits = IsLookedAt w.names (A.admits w.admission.now) issuer.now.cert certs in
-            IfOk result (λ walked. (root : Root)
-            → LeadsTo x asked root (members_at root certs []) issuer.now
-            → AreLimited x asked admits root certs w.bounds.depth w.bounds.steps
-            walked.limited.items) }
-        // It ended as these say.
-        ensures ended { IfOk result (λ walked. walked.ended ≡ end_of walked.limited.items) }
+            IfOk result (λ walked. (limited : List LimitedCa)
+            × HasReached start (length certs) limited walked
+            × ((root : Root) → LeadsTo x asked root (members_at root certs []) issuer.now
+            → AreLimited x asked admits root certs w.bounds.depth w.bounds.steps limited)) }
     {
+        let limits = LimitTable::new(self.alloc, start, self.folder.certs().len())?;
         let mut trail = Trail {
             above: Vec::new(self.alloc),
-            limited: Vec::new(self.alloc),
+            limits,
         };
         let mut issuers = Issuers::new(self.alloc);
         let bounds = self.bounds;
@@ -1028,7 +1028,8 @@ impl<'w, A: Admission, V: Verifier> Walk<'w, A, V> {
     }
 
     /// Walks down from the trust anchor of a TAL: validates it ([`Walk::trust_anchor`]), and walks
-    /// below it ([`Walk::below`]). The visitor isn't called for the trust anchor itself.
+    /// below it ([`Walk::below`]). The visitor isn't called for the trust anchor itself. The limits at
+    /// it are told behind those at the folder's places ([`LimitTable::at_start`]).
     ///
     /// # Errors
     ///
@@ -1055,15 +1056,16 @@ impl<'w, A: Admission, V: Verifier> Walk<'w, A, V> {
             (more : List Told) × W.became visitor.old more visitor.new
             × TellsFrom x asked w.names admits tal.now anchor.now certs w.bounds.depth
             w.bounds.steps (ended_of result) more }
-        // It tells each CA at which it reached a limit, and no other.
-        ensures limited { let w = self.now in
+        // It counts each CA at which it reached a limit, and no other.
+        ensures limits { let w = self.now in
             let x = context (V.verifies w.verifier.now) w.at w.strict in
             let asked = by_named_lists w.names x w.folder.now.lists in
             let admits = A.admits w.admission.now in
-            IfOk result (λ walked. AreLimitedFrom x asked w.names admits tal.now anchor.now
-            w.folder.now.certs w.bounds.depth w.bounds.steps walked.limited.items) }
-        // It ended as these say.
-        ensures ended { IfOk result (λ walked. walked.ended ≡ end_of walked.limited.items) }
+            let certs = w.folder.now.certs in
+            IfOk result (λ walked. (limited : List LimitedCa)
+            × HasReached (length certs) (length certs) limited walked
+            × AreLimitedFrom x asked w.names admits tal.now anchor.now certs w.bounds.depth
+            w.bounds.steps limited) }
         // It starts at a valid trust anchor.
         ensures anchor { let w = self.now in
             let x = context (V.verifies w.verifier.now) w.at w.strict in
@@ -1077,7 +1079,7 @@ impl<'w, A: Admission, V: Verifier> Walk<'w, A, V> {
     {
         laws::unambiguous();
         let issuer = self.trust_anchor(tal, anchor)?;
-        let walked = self.below(&issuer, visitor);
+        let walked = self.below(&issuer, self.folder.certs().len(), visitor);
         drop(issuer);
         Ok(walked?)
     }

@@ -8,8 +8,8 @@ use bytes::Bytes;
 use rpki_cert::{Cert, Said};
 use rpki_crl::RevocationError;
 use rpki_folder::{
-    Added, AllAdmitted, Bounds, Ended, Firsts, Folder, Found, FoundAnchor, Limit, Line, Lines,
-    Walk, WalkError, Walked,
+    Added, AllAdmitted, Bounds, Ended, Firsts, Folder, Found, FoundAnchor, Limit, LimitTable, Line,
+    Lines, Reached, Walk, WalkError, Walked,
 };
 use rpki_parts::{StandIn, Verifier};
 use rpki_path::{Member, PathFault};
@@ -96,6 +96,17 @@ fn line(lines: &Lines, place: usize) -> (usize, &'static str) {
     }
 }
 
+// Whether a walk through the folder reached a limit at one of its certificates.
+fn is_limited_below(limits: &LimitTable, folder: &Folder) -> bool {
+    let mut places = 0..folder.certs().len();
+    places.any(|place| limits.at(place) != Reached::nothing())
+}
+
+// Whether it reached one there, or at the trust anchor.
+fn is_limited(limits: &LimitTable, folder: &Folder) -> bool {
+    is_limited_below(limits, folder) || limits.at_start().paths > 0
+}
+
 // That a walk through the folder, to this depth and of so many steps, ends so and has these lines.
 fn check_walk(
     rt: &impl Abort,
@@ -109,7 +120,7 @@ fn check_walk(
     check(rt, walked.ended == how, "how the walk ended");
     check(
         rt,
-        walked.limited.is_empty() == (how == Ended::Whole),
+        is_limited(&walked.limits, folder) == (how != Ended::Whole),
         "whether a CA is limited",
     );
     drop(walked);
@@ -130,11 +141,16 @@ fn check_limited(
     limit: Limit,
 ) {
     let (walked, lines) = walked(rt, alloc, folder, bounds.0, bounds.1);
-    check_count(rt, walked.limited.len(), 1);
-    for limited in &walked.limited {
-        check(rt, limited.above.is_empty(), "at the trust anchor");
-        check(rt, limited.limit == limit, "which limit");
-    }
+    let reached = walked.limits.at_start();
+    check_count(rt, reached.paths, 1);
+    check(rt, reached.least() == Some(limit), "which limit");
+    check(
+        rt,
+        !is_limited_below(&walked.limits, folder),
+        "at the trust anchor alone",
+    );
+    let both = reached.and(Reached::nothing());
+    check(rt, both == reached, "with no other limit");
     drop(lines);
     drop(walked);
 }

@@ -4,7 +4,6 @@ pub mod PathFiles
 pub mod Reasons
 pub mod PathAnswers
 pub mod UnrevokedMembers
-pub mod ReachedLimits
 pub mod Trees
 pub mod Damage
 pub mod TreeParts

@@ -1,15 +1,16 @@
 -- What is answered of files in no order: the trust anchor among them, and a line for each
 -- certificate (RFC 6487 7.2, RFC 8630 3; own: the bounds).
 use Rattle.std.specs.List.{AllByRecursion}
-use Rattle.std.specs.Prelude.{◌≡◌, ◌==◌, ◌⊎◌, ℕ, List, [], ◌∷◌, length, map, slice_get, unwrap_or, Any, Option, Some, Ok, Bool}
+use Rattle.std.specs.Prelude.{◌≡◌, ◌==◌, ◌⊎◌, ℕ, List, [], ◌∷◌, length, map, slice_get, Any, Option, Some, Ok, Bool}
 use Rattle.rpki_path.specs.Asking.{RevocationChecks}
 use Rattle.rpki_path.specs.AskedLists.{by_named_lists}
 use Rattle.rpki_folder.specs.FirstPlaces.{AreFirstsIn, IsFirstIn, first_of}
 use Rattle.rpki_folder.specs.Folders.{FolderFields}
 use Rattle.rpki_folder.specs.FoundAnchors.{HasNoValid, IsAnchorAt}
 use Rattle.rpki_folder.specs.KeptLines.{AreLines}
-use Rattle.rpki_folder.specs.ReachedLimits.{AreLimitedFrom}
-use Rattle.rpki_folder.specs.declared.bounds.LimitedCa.{LimitedCa}
+use Rattle.rpki_folder.specs.LimitTables.{IsTableOf, reached_at}
+use Rattle.rpki_folder.specs.ReachedLimits.{AreLimitedFrom, LimitedCa}
+use Rattle.rpki_folder.specs.declared.limits.Reached.{Reached}
 use Rattle.rpki_folder.specs.declared.lines.Line.{Line}
 use Rattle.rpki_crl.specs.Lists.{CrlState}
 use Rattle.rpki_path.specs.declared.located.LocatedError.TheVariants.{OtherKey, NoResources, Path as path}
@@ -26,8 +27,6 @@ use Rattle.rpki_files.specs.Files.{FileFields, contents}
 use Rattle.rpki_verdicts.specs.GivenLocators.{LocatorFields}
 use Rattle.rpki_verdicts.specs.PathAnswers.{reason_of}
 use Rattle.rpki_verdicts.specs.PathFiles.{AreListsOf}
-use Rattle.rpki_verdicts.specs.ReachedLimits.{AreReached, nothing}
-use Rattle.rpki_verdicts.specs.declared.limits.Reached.{Reached}
 use Rattle.rpki_verdicts.specs.declared.path.Fault.{Fault}
 use Rattle.rpki_verdicts.specs.declared.unordered.Tree.{Tree}
 use Rattle.rpki_verdicts.specs.declared.unordered.TreeAnswer.{TreeAnswer}
@@ -109,7 +108,7 @@ line_at tree place = slice_get tree.lines (first_of tree.firsts place)
 
 -- the limits that were reached at the certificate at a place are those of its first place
 abbrev pub reached_in : Tree → ℕ → Reached
-reached_in tree place = unwrap_or (slice_get tree.limits.items (first_of tree.firsts place)) nothing
+reached_in tree place = reached_at tree.limits (first_of tree.firsts place)
 
 -- the certificate at the place is the trust anchor, or a copy of it
 abbrev pub is_anchor_at : Tree → ℕ → Bool
@@ -140,7 +139,7 @@ pub record IsTreeOf (x : Context) (q : TreeFields) (l : LocatorFields) (tree : T
   pub limited_are : AreLimitedFrom x (by_named_lists q.names x lists) q.names
       (IsFirstIn tree.firsts) locator anchor.octets (contents (certs_of tree)) q.depth q.steps
       limited
-  pub limits_are : AreReached tree.firsts tree.anchor limited (length (certs_of tree)) tree.limits.items
+  pub limits_are : IsTableOf (first_of tree.firsts tree.anchor) (length (certs_of tree)) limited tree.limits
 
 -- none of the certificates among the files is a valid trust anchor of the locator: these have its
 -- key, each with what is wrong with it

@@ -7,11 +7,12 @@ use Rattle.std.specs.Cmp.Lexicographic.{slice_cmp}
 use Rattle.std.specs.Ordering.{nat_cmp}
 use Rattle.rpki_files.specs.Files.{FileFields}
 use Rattle.rpki_folder.specs.Folders.{NamesSigner}
+use Rattle.rpki_folder.specs.LimitTables.{both, least, nothing}
 use Rattle.rpki_folder.specs.declared.bounds.Limit.{Limit}
+use Rattle.rpki_folder.specs.declared.limits.Reached.{Reached}
 use Rattle.rpki_folder.specs.declared.lines.Line.{Line}
 use Rattle.rpki_folder.specs.declared.lines.Line.TheVariants as line
 use Rattle.rpki_path.specs.declared.judging.Judged.{Judged}
-use Rattle.rpki_verdicts.specs.ReachedLimits.{least_with}
 use Rattle.rpki_verdicts.specs.Searches.{HasKeyNamed}
 use Rattle.rpki_verdicts.specs.ShownPaths.{AreNamedFiles}
 use Rattle.rpki_verdicts.specs.TreeParts.{files_of, is_told, wrong_at}
@@ -56,17 +57,13 @@ abbrev pub is_looked_at : Trees → ℕ → Bool
 is_looked_at trees place = list_any (λ part. is_looked_below place part.answer) trees.parts.items
 
 -- the limit that was reached at a certificate: of those of all trees the one that asks for least
-abbrev pub limit_in : ℕ → TreeAnswer → Option Limit
-limit_in place (NoAnchor wrong) = None
-limit_in place (Walked tree) = (reached_in tree place).least
-
-abbrev pub least_of : Option Limit → Option Limit → Option Limit
-least_of least None = least
-least_of least (Some limit) = Some (least_with least limit)
+abbrev pub reached_by : ℕ → TreeAnswer → Reached
+reached_by place (NoAnchor wrong) = nothing
+reached_by place (Walked tree) = reached_in tree place
 
 abbrev pub limit_at : Trees → ℕ → Option Limit
 limit_at trees place =
-    fold (λ least part. least_of least (limit_in place part.answer)) None trees.parts.items
+    least (fold (λ reached part. both reached (reached_by place part.answer)) nothing trees.parts.items)
 
 -- how it stands as an issuer, the least number best: a trust anchor or accepted CA at which a walk
 -- reached a limit on each path; one below which it looked; another accepted one; rejected; or neither. So

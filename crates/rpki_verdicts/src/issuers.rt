@@ -8,16 +8,15 @@ ghost use Rattle.rpki_folder.specs.FirstPlaces.{first_from};
 ghost use Rattle.rpki_verdicts.specs.Searches.{HasKeyNamed};
 ghost use Rattle.rpki_verdicts.specs.ShownPaths.{AreNamedFiles, place_of, uri_of};
 ghost use Rattle.rpki_verdicts.specs.TreeParts.{files_of};
-ghost use Rattle.rpki_verdicts.specs.UnseenCertificates.{AreIssuers, IsIssuerAmong, IsUnseen, StandsBetter, below_accepted, is_ca, is_looked_at, is_looked_below, is_rejected_at, issuer_in, least_of, limit_at, limit_in, paths_by, standing, standing_of, why_unseen};
+ghost use Rattle.rpki_verdicts.specs.UnseenCertificates.{AreIssuers, IsIssuerAmong, IsUnseen, StandsBetter, below_accepted, is_ca, is_looked_at, is_looked_below, is_rejected_at, issuer_in, limit_at, paths_by, reached_by, standing, standing_of, why_unseen};
 
-use crate::limits::least_with;
 use crate::parts::{Trees, is_told};
 use crate::search::signer_of;
 use crate::unordered::TreeAnswer;
 use bytes::Bytes;
 use rpki_cert::laws;
 use rpki_files::{BareObject, Front};
-use rpki_folder::{Limit, Line};
+use rpki_folder::{Limit, Line, Reached};
 use rpki_parts::{KeyIdentifier, Rsync};
 use rpki_path::Judged;
 use std::alloc::{AllocError, Global};
@@ -244,23 +243,13 @@ fn is_looked_below(answer: &TreeAnswer<'_, '_>, place: usize) -> bool
     }
 }
 
-// The limit that was reached at the certificate at a place, below a trust anchor.
-fn limit_in(answer: &TreeAnswer<'_, '_>, place: usize) -> Option<Limit>
-    ensures { result ≡ limit_in place answer.now }
+// The limits that were reached at the certificate at a place, below a trust anchor.
+fn reached_by(answer: &TreeAnswer<'_, '_>, place: usize) -> Reached
+    ensures { result ≡ reached_by place answer.now }
 {
     match answer {
-        TreeAnswer::NoAnchor(_) => None,
-        TreeAnswer::Walked(tree) => tree.reached(place).least,
-    }
-}
-
-// Of two limits the one at which less has to be changed, where they are there.
-fn least_of(least: Option<Limit>, limit: Option<Limit>) -> Option<Limit>
-    ensures { result ≡ least_of least limit }
-{
-    match limit {
-        Some(limit) => Some(least_with(least, limit)),
-        None => least,
+        TreeAnswer::NoAnchor(_) => Reached::nothing(),
+        TreeAnswer::Walked(tree) => tree.reached(place),
     }
 }
 
@@ -305,11 +294,11 @@ impl<'q, 'n> Trees<'q, 'n> {
     pub fn limit_at(&self, place: usize) -> Option<Limit>
         ensures { result ≡ limit_at self.now place }
     {
-        let mut least = None;
+        let mut reached = Reached::nothing();
         for part in &self.parts {
-            least = least_of(least, limit_in(&part.answer, place));
+            reached = reached.and(reached_by(&part.answer, place));
         }
-        least
+        reached.least()
     }
     // How the certificate at a place stands as an issuer, the least number best.
     fn standing(&self, place: usize) -> u8

@@ -6,7 +6,6 @@
 mod damage;
 mod issuers;
 pub mod laws;
-mod limits;
 mod locators;
 mod parts;
 mod path;
@@ -16,7 +15,6 @@ mod shown_paths;
 mod unordered;
 
 pub use issuers::{Issuers, Unseen, issuers_of};
-pub use limits::Reached;
 pub use locators::GivenLocator;
 pub use parts::{TreePart, Trees, judge_all};
 pub use path::{

@@ -9,7 +9,8 @@ ghost use Rattle.rpki_folder.specs.FoundAnchors.{IsFound};
 ghost use Rattle.rpki_folder.specs.KeptLines.{BecameLines};
 ghost use Rattle.rpki_crl.specs.Lists.{CrlState, IsCertificateList};
 ghost use Rattle.rpki_keys.specs.RsaSignatures.{IsSignedByRsa};
-ghost use Rattle.rpki_folder.specs.ReachedLimits.{AreLimited, ended_of};
+ghost use Rattle.rpki_folder.specs.LimitTables.{HasReached};
+ghost use Rattle.rpki_folder.specs.ReachedLimits.{AreLimited, LimitedCa, ended_of};
 ghost use Rattle.rpki_cert.specs.SaidKinds.{BeginsWithSaid};
 ghost use Rattle.rpki_cert.specs.Verification.{context};
 ghost use Rattle.rpki_folder.specs.Walks.{IsLookedAt, LeadsTo, Root, Told, TellsBelow, members_at};
@@ -19,7 +20,6 @@ ghost use Rattle.rpki_verdicts.specs.GivenLocators.{LocatorFields};
 ghost use Rattle.rpki_verdicts.specs.Trees.{asked_of, IsAnchorReason, IsFolderOf, IsTreeAnswer, is_anchor_at, line_at, reached_in};
 ghost use Rattle.rpki_verdicts.specs.Trees.Steps.{IsToldOf};
 
-use crate::limits::{Reached, table_of};
 use crate::locators::GivenLocator;
 use crate::path::{Fault, no_resources, other_key, other_name, with_table};
 use crate::reasons::of_path;
@@ -28,8 +28,8 @@ use rpki_crl::Crl;
 use rpki_der::Time;
 use rpki_files::{BareObject, Front};
 use rpki_folder::{
-    Admission, AllAdmitted, Bounds, Ended, Firsts, Folder, FoundAnchor, Line, Lines, Walk,
-    WalkError, Walked, WrongCandidate,
+    Admission, AllAdmitted, Bounds, Ended, Firsts, Folder, FoundAnchor, LimitTable, Line, Lines,
+    Reached, Walk, WalkError, Walked, WrongCandidate,
 };
 use rpki_keys::RsaVerifier;
 use rpki_keys::tal::Tal;
@@ -62,7 +62,7 @@ pub struct Tree<'q, 'n> {
     // The line of each certificate at its first place, with what its verdicts came to.
     pub(crate) lines: Lines,
     // The limits that were reached at each certificate, at its first place.
-    pub(crate) limits: Vec<Reached>,
+    pub(crate) limits: LimitTable,
     /// Whether every certificate was judged, or which limit was reached.
     pub ended: Ended,
 }
@@ -98,10 +98,7 @@ impl<'q, 'n> Tree<'q, 'n> {
     pub fn reached(&self, place: usize) -> Reached
         ensures { result ≡ reached_in self.now place }
     {
-        match self.limits.get(self.firsts.first_of(place)) {
-            Some(reached) => *reached,
-            None => Reached::nothing(),
-        }
+        self.limits.at(self.firsts.first_of(place))
     }
 
     /// Returns whether the certificate at a place is the trust anchor, or a copy of it.
@@ -296,6 +293,7 @@ fn walked(
     folder: &Folder,
     firsts: &Firsts,
     anchor: &ResourceCert,
+    start: usize,
     lines: &mut Lines,
 ) -> Result<Walked, AllocError>
     ensures tells { let q = question.now in
@@ -305,16 +303,17 @@ fn walked(
         × TellsBelow x asked
         (IsLookedAt q.names (IsFirstIn firsts.now) anchor.now.cert folder.now.certs) anchor.now
         folder.now.certs [] q.depth q.steps (ended_of result) told }
-    ensures limited { let q = question.now in
+    ensures limits { let q = question.now in
         let x = context IsSignedByRsa q.at q.strict in
         let asked = by_named_lists q.names x folder.now.lists in
         let certs = folder.now.certs in
         let admits = IsLookedAt q.names (IsFirstIn firsts.now) anchor.now.cert certs in
-        IfOk result (λ walked. (root : Root)
-        → LeadsTo x asked root (members_at root certs []) anchor.now
-        → AreLimited x asked admits root certs q.depth q.steps walked.limited.items) }
+        IfOk result (λ walked. (limited : List LimitedCa)
+        × HasReached start (length certs) limited walked
+        × ((root : Root) → LeadsTo x asked root (members_at root certs []) anchor.now
+        → AreLimited x asked admits root certs q.depth q.steps limited)) }
 {
-    walk_of(alloc, question, folder, firsts).below(anchor, lines)
+    walk_of(alloc, question, folder, firsts).below(anchor, start, lines)
 }
 
 /// Grows the tree of the files that a folder was filled with, below the trust anchor of a TAL.
@@ -342,17 +341,18 @@ pub(crate) fn grown<'q, 'n>(
             let firsts = Firsts::of(alloc, folder)?;
             let count = certs.len();
             let mut lines = Lines::new(alloc, count)?;
-            let walked = walked(alloc, question, folder, &firsts, &issuer, &mut lines);
+            let start = firsts.first_of(anchor);
+            let walked = walked(alloc, question, folder, &firsts, &issuer, start, &mut lines);
             drop(issuer);
             let walk = walked?;
-            let limits = table_of(alloc, &firsts, anchor, count, &walk.limited)?;
+            let Walked { ended, limits } = walk;
             Ok(TreeAnswer::Walked(Tree {
                 certs,
                 anchor,
                 firsts,
                 lines,
                 limits,
-                ended: walk.ended,
+                ended,
             }))
         }
     }

@@ -2,5 +2,5 @@
 //! 7.2, RFC 8630 3).
 pub use rpki_folder::{
     Accepted, AcceptedPaths, Added, Admission, AllAdmitted, Bounds, Ended, Filed, Folder, Found,
-    FoundPath, Limit, LimitedCa, Line, Lines, Visitor, Walk, WalkError, Walked,
+    FoundPath, Limit, LimitTable, Line, Lines, Reached, Visitor, Walk, WalkError, Walked,
 };

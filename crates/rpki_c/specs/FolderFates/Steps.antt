@@ -15,8 +15,9 @@ use Rattle.rpki_folder.specs.Walks.{Root, LeadsTo, Told, IsRight, IsLetIn, IsSho
 use Rattle.rpki_folder.specs.declared.anchors.WrongCandidate.{WrongCandidate}
 use Rattle.rpki_folder.specs.declared.bounds.Ended.{Ended}
 use Rattle.rpki_folder.specs.declared.bounds.Ended.TheVariants.{OutOfSteps}
-use Rattle.rpki_folder.specs.declared.bounds.LimitedCa.{LimitedCa}
-use Rattle.rpki_folder.specs.ReachedLimits.{AreLimited}
+use Rattle.rpki_folder.specs.declared.limits.Reached.{Reached}
+use Rattle.rpki_folder.specs.LimitTables.{nothing, reached_at as reached_there}
+use Rattle.rpki_folder.specs.ReachedLimits.{AreLimited, LimitedCa}
 use Rattle.rpki_folder.specs.declared.firsts.Firsts.{Firsts}
 use Rattle.rpki_folder.specs.declared.folder.Added.{Added}
 use Rattle.rpki_folder.specs.declared.folder.Added.TheVariants.{Certificate, List as list_added, Neither}
@@ -26,9 +27,7 @@ use Rattle.rpki_folder.specs.declared.walk_error.WalkError.{WalkError}
 use Rattle.rpki_folder.specs.declared.walk_error.WalkError.TheVariants.{Anchor, OtherName, Memory}
 use Rattle.rpki_c.specs.Verdicts.{AreNoList}
 use Rattle.rpki_c.specs.FolderFates.{Fate, anchor, list, neither, unseen, accepted, rejected, IsTakenFor, AreListsAmong, AreCertificatesAmong}
-use Rattle.rpki_c.specs.FolderLimits.Steps.{nothing}
 use Rattle.rpki_c.specs.declared.folder_lines.WalkLines.{WalkLines}
-use Rattle.rpki_c.specs.declared.limits.Reached.{Reached}
 use Rattle.rpki_c.specs.declared.refusal.Refusal.{Refusal}
 use Rattle.rpki_c.specs.declared.refusal.Refusal.TheVariants as refusal
 use Rattle.rpki_c.specs.declared.sorting.Sorted.{Sorted}
@@ -95,7 +94,7 @@ fate_at w place = added_fate w (slice_index_or w.sorted.now.added.items place Ne
 
 -- the limits that were reached at the certificate at a place of the folder: those at its first place
 abbrev pub cert_reached : WalkLines → ℕ → Reached
-cert_reached w place = slice_index_or w.limits.now (first_of w.firsts.now place) nothing
+cert_reached w place = reached_there w.limits.now (first_of w.firsts.now place)
 
 -- at what was added
 abbrev pub added_reached : WalkLines → Added → Reached

@@ -1,18 +1,39 @@
 -- The limits that a walk reaches below an issuer, and what the share there costs.
-use Rattle.std.specs.Prelude.{◌≡◌, ◌^◌, ◌+◌, ◌*◌, ◌≤◌, ℕ, List, [], ◌∷◌, ◌++◌, Contains, Option, None, Some}
+use Rattle.std.specs.Prelude.{◌≡◌, ◌^◌, ◌+◌, ◌*◌, ◌<◌, ◌≤◌, ℕ, List, ◌∷◌, ◌++◌, length, slice_index_or, Contains, Option, None, Some}
 use Rattle.std.specs.List.{AllByRecursion}
 use Rattle.rpki_cert.specs.Verification.{Context, ResourceFields}
 use Rattle.rpki_path.specs.Asking.{RevocationChecks}
 use Rattle.rpki_folder.specs.Walks.{Root, members_at, LeadsTo}
 use Rattle.rpki_folder.specs.Walks.Steps.{down_to}
-use Rattle.rpki_folder.specs.ReachedLimits.{IsDeepAt, IsShortAt, IsNeed, IsNumber, IsDeepTold, IsShortTold, end_of}
+use Rattle.rpki_folder.specs.ReachedLimits.{IsDeepAt, IsShortAt, IsNeed, IsNumber, LimitedCa, IsDeepTold, IsShortTold, end_of}
+use Rattle.rpki_folder.specs.LimitTables.{nothing, reached_more}
 use Rattle.rpki_folder.specs.declared.bounds.Ended.{Ended}
 use Rattle.rpki_folder.specs.declared.bounds.Limit.{Limit}
 use Rattle.rpki_folder.specs.declared.bounds.Limit.TheVariants.{Depth, Steps as steps}
-use Rattle.rpki_folder.specs.declared.bounds.LimitedCa.{LimitedCa}
+use Rattle.rpki_folder.specs.declared.limits.LimitTable.{LimitTable}
 use Rattle.rpki_folder.specs.declared.share.Cost.{Cost}
 use Rattle.rpki_folder.specs.declared.share.Share.{Share}
 use Rattle.rpki_folder.specs.declared.walk.Ca.{Ca}
+
+-- ---- tables
+
+-- the table of a walk that starts below the certificate at this place, at so many places, where no limit was
+-- reached yet
+pub record IsEmpty (start count : ℕ) (table : LimitTable) : Type 0 where
+  pub start_is : table.start ≡ start
+  pub count_is : length table.reached.items ≡ count + 1
+  pub each : (place : ℕ) → place ≤ count
+      → slice_index_or table.reached.items place nothing ≡ nothing
+
+-- the limits that were reached at these CAs were added to a table
+pub record AreCounted (old : LimitTable) (limited : List LimitedCa) (new : LimitTable) : Type 0 where
+  pub start_is : new.start ≡ old.start
+  pub count_is : length new.reached.items ≡ length old.reached.items
+  pub each : (place : ℕ) → place < length old.reached.items
+      → slice_index_or new.reached.items place nothing
+      ≡ reached_more old.start place (slice_index_or old.reached.items place nothing) limited
+
+-- ---- below an issuer
 
 -- a walk of `base + factor * share` steps hands down this share; none is told if that is more than a usize
 -- has for a share of one step
@@ -34,7 +55,7 @@ IsLimitOf x asked admits root certs above depth share base factor between (steps
 abbrev pub IsLimitBelow : Context → RevocationChecks → (List ℕ → ℕ → Type 0) → Root
     → List (List ℕ) → List ℕ → ℕ → ℕ → ℕ → ℕ → LimitedCa → Type 0
 IsLimitBelow x asked admits root certs above depth share base factor l =
-    (between : List ℕ) × (l.above.items ≡ above ++ between)
+    (between : List ℕ) × (l.above ≡ above ++ between)
     × IsLimitOf x asked admits root certs above depth share base factor between l.limit
 
 -- these are the limits that the walk reaches below the CAs at the places above
@@ -48,17 +69,12 @@ pub record AreLimitedBelow (x : Context) (asked : RevocationChecks) (admits : Li
   pub short : (between : List ℕ) → IsShortAt x asked admits root certs above share depth between
       → IsShortTold limited (above ++ between)
 
--- to what a walk kept, this limit at the last of the CAs above was added
-abbrev pub IsAdded : List LimitedCa → List ℕ → Limit → List LimitedCa → Type 0
-IsAdded old above limit new =
-    (l : LimitedCa) × (new ≡ old ++ l ∷ []) × (l.above.items ≡ above) × (l.limit ≡ limit)
-
--- what a walk keeps of the limits that it reached below an issuer, beside those that it kept before
+-- what a walk counts of the limits that it reached below an issuer, beside those that it counted before
 pub record KeepsBelow (x : Context) (asked : RevocationChecks) (admits : List ℕ → ℕ → Type 0)
     (issuer : ResourceFields) (certs : List (List ℕ)) (above : List ℕ) (depth : ℕ) (share : Share)
-    (old new : List LimitedCa) (ended : Ended) : Type 0 where
+    (old new : LimitTable) (ended : Ended) : Type 0 where
   pub more : List LimitedCa
-  pub new_is : new ≡ old ++ more
+  pub counted : AreCounted old more new
   pub ended_is : ended ≡ end_of more
   pub are : (root : Root) → LeadsTo x asked root (members_at root certs above) issuer
       → (base factor : ℕ) → CostIs share.cost base factor
@@ -79,12 +95,12 @@ pub record AreLimitedBelowEach (x : Context) (asked : RevocationChecks)
       → IsShortAt x asked admits root certs (down_to above ca) share depth between
       → IsShortTold limited (down_to above ca ++ between)
 
--- what a walk keeps of the limits that it reached below each of these CAs
+-- what a walk counts of the limits that it reached below each of these CAs
 pub record KeepsBelowEach (x : Context) (asked : RevocationChecks) (admits : List ℕ → ℕ → Type 0)
     (certs : List (List ℕ)) (above : List ℕ) (depth : ℕ) (share : Share) (cas : List Ca)
-    (old new : List LimitedCa) (ended : Ended) : Type 0 where
+    (old new : LimitTable) (ended : Ended) : Type 0 where
   pub more : List LimitedCa
-  pub new_is : new ≡ old ++ more
+  pub counted : AreCounted old more new
   pub ended_is : ended ≡ end_of more
   pub are : (root : Root)
       → ((ca : Ca) → Contains cas ca

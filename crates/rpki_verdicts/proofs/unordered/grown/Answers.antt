@@ -9,14 +9,13 @@ use Rattle.rpki_path.specs.AskedLists.{by_named_lists}
 use Rattle.rpki_folder.specs.FirstPlaces.{AreFirstsIn, IsFirstIn}
 use Rattle.rpki_folder.specs.Folders.{octets_at}
 use Rattle.rpki_folder.specs.FoundAnchors.{IsAnchorAt}
+use Rattle.rpki_folder.specs.LimitTables.{IsTableOf}
 use Rattle.rpki_folder.specs.ReachedLimits.{AreLimited, AreLimitedFrom}
 use Rattle.rpki_folder.specs.Walks.{IsLookedAt, Tells, TellsFrom, at_anchor}
 use Rattle.rpki_folder.specs.declared.anchors.WrongCandidate.{WrongCandidate}
-use Rattle.rpki_folder.specs.declared.bounds.LimitedCa.{LimitedCa}
 use Rattle.rpki_folder.specs.declared.walk_error.WalkError.{WalkError}
 use Rattle.rpki_folder.proofs.AnchorSteps.{anchor_is}
 use Rattle.rpki_files.specs.Files.{FileFields}
-use Rattle.rpki_verdicts.specs.ReachedLimits.{AreReached}
 use Rattle.rpki_verdicts.specs.Trees.{asked_of}
 use Rattle.rpki_verdicts.specs.Trees.Steps.{IsToldOf}
 use Rattle.rpki_verdicts.proofs.FilesAt.{file_there, octets_there}
@@ -35,8 +34,8 @@ returns-in_ok-wrong-in-Wrong c = λ l read.
     let told = subst (λ (cs : List WrongCandidate). AllZip (IsToldOf files) cs ws) c.deref-in-Wrong.ensures.value of_certs in
     none_found files x (asked_of q) l c.args.tal.now c.args.folder.now c.requires read candidates found.0 found.1 ws told
 
-pub returns-in_ok-limits-in-Valid : goal.returns-in_ok-limits-in-Valid
-returns-in_ok-limits-in-Valid c = λ l read.
+pub returns-in_ok-walk-in-Valid : goal.returns-in_ok-walk-in-Valid
+returns-in_ok-walk-in-Valid c = λ l read.
     let q = c.args.question.now in
     let x = context IsSignedByRsa q.at q.strict in
     let t = c.args.tal.now in
@@ -57,15 +56,17 @@ returns-in_ok-limits-in-Valid c = λ l read.
     let told = c.in_ok-walk-in-Valid.ensures.tells in
     let walk = c.in_ok-walk-in-Valid.walk in
     let tells = told.2 root found.0 in
-    let limits = c.in_ok-walk-in-Valid.ensures.limited root found.0 in
+    let reached = c.in_ok-walk-in-Valid.ensures.limits in
+    let cas = reached.0 in
+    let start = c.first_of-start-in-Valid.ensures.value in
     let law = c.unambiguous.ensures.certificate in
     let from : TellsFrom {E = WalkError} x asked q.names (IsFirstIn firsts) t octets folder.certs q.depth q.steps (Ok walk.ended) told.0 =
     λ top begins.
     subst (λ (d : CertFields). Tells {E = WalkError} x asked (IsLookedAt q.names (IsFirstIn firsts) d folder.certs) root folder.certs [] q.depth q.steps (Ok walk.ended) told.0) (anchor_is x asked t octets issuer found.0 law top begins)
     (record { right = tells.right; let_in = tells.let_in; few = tells.few; short = tells.short; too_deep = tells.too_deep; complete = tells.complete; in_shares = tells.in_shares; judged = tells.judged; enough = tells.enough }) in
-    let limited : AreLimitedFrom x asked q.names (IsFirstIn firsts) t octets folder.certs q.depth q.steps walk.limited.items =
+    let limited : AreLimitedFrom x asked q.names (IsFirstIn firsts) t octets folder.certs q.depth q.steps cas =
     λ top begins.
-    subst (λ (d : CertFields). AreLimited x asked (IsLookedAt q.names (IsFirstIn firsts) d folder.certs) root folder.certs q.depth q.steps walk.limited.items) (anchor_is x asked t octets issuer found.0 law top begins) limits in
+    subst (λ (d : CertFields). AreLimited x asked (IsLookedAt q.names (IsFirstIn firsts) d folder.certs) root folder.certs q.depth q.steps cas) (anchor_is x asked t octets issuer found.0 law top begins) (reached.2 root found.0) in
     let count : c.len-count.result ≡ length files = c.len-count.ensures ∙ c.args.certs.ok.0 ∙ sym (length-map c.args.certs.items (λ f. f.now)) in
     record {
       certs_are = c.requires.certs_are;
@@ -82,9 +83,9 @@ returns-in_ok-limits-in-Valid c = λ l read.
           (subst (λ (o : List ℕ). TellsFrom {E = WalkError} x asked q.names (IsFirstIn firsts) t o folder.certs q.depth q.steps (Ok walk.ended) told.0) same from);
       count_is = told.1.0 ∙ c.in_ok-lines-in-Valid.ensures.count ∙ count;
       lines_are = told.1.1 c.in_ok-lines-in-Valid.ensures.nothing;
-      limited = walk.limited.items;
-      limited_are = subst (λ (o : List (List ℕ)). AreLimitedFrom x asked q.names (IsFirstIn firsts) t file.0.octets o q.depth q.steps walk.limited.items) same_certs
-          (subst (λ (o : List ℕ). AreLimitedFrom x asked q.names (IsFirstIn firsts) t o folder.certs q.depth q.steps walk.limited.items) same limited);
-      limits_are = subst (λ (n : ℕ). AreReached firsts place walk.limited.items n c.in_ok-limits-in-Valid.limits.items) count
-          (subst (λ (ls : List LimitedCa). AreReached firsts place ls c.len-count.result c.in_ok-limits-in-Valid.limits.items) c.deref-in-Valid.ensures.value c.in_ok-limits-in-Valid.ensures);
+      limited = cas;
+      limited_are = subst (λ (o : List (List ℕ)). AreLimitedFrom x asked q.names (IsFirstIn firsts) t file.0.octets o q.depth q.steps cas) same_certs
+          (subst (λ (o : List ℕ). AreLimitedFrom x asked q.names (IsFirstIn firsts) t o folder.certs q.depth q.steps cas) same limited);
+      limits_are = subst (λ (n : ℕ). IsTableOf n (length files) cas walk.limits) start
+          (subst (λ (n : ℕ). IsTableOf c.first_of-start-in-Valid.result n cas walk.limits) (ap length same_certs ∙ length-map files (λ (f : FileFields). f.octets)) reached.1.table);
     }

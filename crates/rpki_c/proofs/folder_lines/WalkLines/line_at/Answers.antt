@@ -7,7 +7,7 @@ use Rattle.rpki_c.specs.FolderFates.{Fate}
 use Rattle.rpki_c.specs.FolderFates.Steps.{added_fate, added_reached, cert_fate, fate_at, origin_of, reached_at}
 use Rattle.rpki_c.specs.FolderLimits.{TellsReached}
 use Rattle.rpki_c.specs.FolderTelling.{IsLineOf}
-use Rattle.rpki_c.specs.declared.limits.Reached.{Reached}
+use Rattle.rpki_folder.specs.declared.limits.Reached.{Reached}
 use Rattle.rpki_c.proofs.HeldLines.{line_with}
 use Rattle.rpki_c.proofs.SortedMore.{filed_at}
 use Rattle.rpki_c.proofs.folder_lines.WalkLines.line_at.Goals as goal

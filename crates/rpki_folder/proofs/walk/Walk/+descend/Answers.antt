@@ -44,7 +44,7 @@ each_below-loop-ca-init g t c =
         subst (λ (l : List Told). g.W.Visitor.became v l c.args.visitor.now) (sym (append-nil ts)) heard,
         (λ root leads. each_none x asked admits root certs c.args.trail.now.above.items c.args.depth c.args.share.steps {E = AllocError}),
       )),
-      keeps_each_none x asked admits certs c.args.trail.now.above.items c.args.depth c.args.share c.args.trail.now.limited.items,
+      keeps_each_none x asked admits certs c.args.trail.now.above.items c.args.depth c.args.share c.args.trail.now.limits,
     )
 
 pub each_below-descend-below-requires : goal.each_below-descend-below-requires
@@ -136,9 +136,9 @@ each_below-loop-ca-preserved g t c =
           let certs = w.folder.now.certs in
           let admits = IsLookedAt w.names (g.A.Admission.admits w.admission.now) c.args.top.now.cert certs in
           let end = c.in_ok-below.field-0 in
-          let old = c.args.trail.now.limited.items in
-          let mid = c.loop-ca.trail.limited.items in
-          let new = c.descend-below.new.trail.limited.items in
+          let old = c.args.trail.now.limits in
+          let mid = c.loop-ca.trail.limits in
+          let new = c.descend-below.new.trail.limits in
           let next : take (index + 1) cas ≡ take index cas ++ ca ∷ [] = take_more cas index ca c.loop-ca-test.true ∙ ap (λ (k : Ca). take index cas ++ k ∷ []) (sym c.ca-item.is) in
           let below = subst (λ (l : List ℕ). KeepsBelow x asked admits ca.holder certs l c.args.depth c.args.share mid new end) deeper c.in_ok-below.ensures.limits in
           subst (λ (l : List Ca). KeepsBelowEach x asked admits certs above c.args.depth c.args.share l old new c.and-ended.result) (sym next)
@@ -167,7 +167,7 @@ each_below-returns-clause-limits g t c =
     let asked = by_named_lists w.names x w.folder.now.lists in
     let certs = w.folder.now.certs in
     let admits = IsLookedAt w.names (g.A.Admission.admits w.admission.now) c.args.top.now.cert certs in
-    subst (λ (l : List Ca). KeepsBelowEach x asked admits certs c.args.trail.now.above.items c.args.depth c.args.share l c.args.trail.now.limited.items c.loop-ca.trail.limited.items c.loop-ca.ended) (take_all c.loop-ca.ca-index c.args.cas.now c.loop-ca-test.false) c.loop-ca.invariant.3
+    subst (λ (l : List Ca). KeepsBelowEach x asked admits certs c.args.trail.now.above.items c.args.depth c.args.share l c.args.trail.now.limits c.loop-ca.trail.limits c.loop-ca.ended) (take_all c.loop-ca.ca-index c.args.cas.now c.loop-ca-test.false) c.loop-ca.invariant.3
 
 -- ---- below an issuer
 
@@ -223,7 +223,7 @@ descend-returns-then-is_empty-clause-limits g t c =
     let are = there certs c.subject_key_identifier-key.result own places key c.signed_by-places.ensures in
     let none : places ≡ [] = none_there places c.is_empty.result c.is_empty.ensures c.if-is_empty.true in
     keeps_none x asked admits issuer certs c.args.trail.now.above.items c.args.depth c.args.share c.unambiguous.ensures.certificate
-    (λ place admitted child. let at = are.all place (low_of certs child.cert place child.stands) (child_names x.verifies issuer.cert certs place child) in none_in place (subst (λ (l : List ℕ). Contains l place) none at)) c.args.trail.now.limited.items
+    (λ place admitted child. let at = are.all place (low_of certs child.cert place child.stands) (child_names x.verifies issuer.cert certs place child) in none_in place (subst (λ (l : List ℕ). Contains l place) none at)) c.args.trail.now.limits
 
 pub descend-returns-then-is_in_circle-clause-limits : goal.descend-returns-then-is_in_circle-clause-limits
 descend-returns-then-is_in_circle-clause-limits g t c =
@@ -234,7 +234,7 @@ descend-returns-then-is_in_circle-clause-limits g t c =
     let admits = IsLookedAt w.names (g.A.Admission.admits w.admission.now) c.args.top.now.cert certs in
     let above = c.args.trail.now.above.items in
     let circle : EndsNoCircle w.names c.args.top.now.cert certs above → ⊥ = subst (λ (l : List ℕ). EndsNoCircle w.names c.args.top.now.cert certs l → ⊥) c.deref.ensures.value (c.in_ok-is_in_circle.ensures.circle c.if-is_in_circle.true) in
-    keeps_none x asked admits c.args.issuer.now certs above c.args.depth c.args.share c.unambiguous.ensures.certificate (λ place looked child. circle looked.no_circle) c.args.trail.now.limited.items
+    keeps_none x asked admits c.args.issuer.now certs above c.args.depth c.args.share c.unambiguous.ensures.certificate (λ place looked child. circle looked.no_circle) c.args.trail.now.limits
 
 pub descend-is_in_circle-requires : goal.descend-is_in_circle-requires
 descend-is_in_circle-requires g t c =
@@ -554,7 +554,7 @@ descend-returns-then-is_empty-2-clause-limits g t c =
     let are = there certs c.subject_key_identifier-key.result own places key c.signed_by-places.ensures in
     let children = c.in_ok-children.children.items in
     let kids = kids_here x w.names admits issuer.cert w.folder.now above c.index-kept.result.now c.deref-3.result.now c.deref-4.result.now children c.deref-3.ensures.value c.deref-4.ensures.value (kept_at (λ (k : Issuer). IsKeptOf w.names x w.folder.now issuer.cert k) c.enter.new.issuers.kept.items c.in_ok-at.at c.index-kept.result.now c.index-kept.ensures c.in_ok-at.ensures.found.1) c.in_ok-children.ensures places are in
-    let old = c.args.trail.now.limited.items in
+    let old = c.args.trail.now.limits in
     keeps_childless x asked w.names admits top certs above c.args.depth c.args.share law issuer c.requires.last none places are children kids old old (none_of children c.in_ok-children.children.len c.is_empty-2.result (omega (arith, c.in_ok-children.children.ok.0)) c.is_empty-2.ensures c.if-is_empty-2.true)
 
 pub descend-returns-then-depth-eq0-clause-limits : goal.descend-returns-then-depth-eq0-clause-limits
@@ -575,8 +575,8 @@ descend-returns-then-depth-eq0-clause-limits g t c =
     let are = there certs c.subject_key_identifier-key.result own places key c.signed_by-places.ensures in
     let children = c.in_ok-children.children.items in
     let kids = kids_here x w.names admits issuer.cert w.folder.now above c.index-kept.result.now c.deref-3.result.now c.deref-4.result.now children c.deref-3.ensures.value c.deref-4.ensures.value (kept_at (λ (k : Issuer). IsKeptOf w.names x w.folder.now issuer.cert k) c.enter.new.issuers.kept.items c.in_ok-at.at c.index-kept.result.now c.index-kept.ensures c.in_ok-at.ensures.found.1) c.in_ok-children.ensures places are in
-    let old = c.args.trail.now.limited.items in
-    keeps_deep x asked w.names admits top certs above c.args.depth c.args.share law issuer c.requires.last none places are children kids old c.reach.new.self.limited.items c.if-depth-eq0.true (some_of children c.in_ok-children.children.len c.is_empty-2.result (omega (arith, c.in_ok-children.children.ok.0)) c.is_empty-2.ensures c.if-is_empty-2.false) c.in_ok-reach.ensures.limited
+    let old = c.args.trail.now.limits in
+    keeps_deep x asked w.names admits top certs above c.args.depth c.args.share law issuer c.requires.last none places are children kids old c.reach.new.self.limits c.if-depth-eq0.true (some_of children c.in_ok-children.children.len c.is_empty-2.result (omega (arith, c.in_ok-children.children.ok.0)) c.is_empty-2.ensures c.if-is_empty-2.false) c.reach.ensures.counted
 
 pub descend-returns-then-len-share-clause-limits : goal.descend-returns-then-len-share-clause-limits
 descend-returns-then-len-share-clause-limits g t c =
@@ -596,12 +596,12 @@ descend-returns-then-len-share-clause-limits g t c =
     let are = there certs c.subject_key_identifier-key.result own places key c.signed_by-places.ensures in
     let children = c.in_ok-children.children.items in
     let kids = kids_here x w.names admits issuer.cert w.folder.now above c.index-kept.result.now c.deref-3.result.now c.deref-4.result.now children c.deref-3.ensures.value c.deref-4.ensures.value (kept_at (λ (k : Issuer). IsKeptOf w.names x w.folder.now issuer.cert k) c.enter.new.issuers.kept.items c.in_ok-at.at c.index-kept.result.now c.index-kept.ensures c.in_ok-at.ensures.found.1) c.in_ok-children.ensures places are in
-    let old = c.args.trail.now.limited.items in
+    let old = c.args.trail.now.limits in
     let low : 0 < c.args.depth = omega (arith, c.if-depth-eq0.false) in
     let short : c.args.share.steps < length children = omega (arith, c.if-len-share.true, c.len.ensures, c.in_ok-children.children.ok.0) in
     let one : c.len-then-len-share.result ≡ length children = omega (arith, c.len-then-len-share.ensures, c.in_ok-children.children.ok.0) in
-    keeps_short x asked w.names admits top certs above c.args.depth c.args.share law issuer c.requires.last none places are children kids old c.reach-then-len-share.new.self.limited.items low short c.needed.result
-    (λ base factor cost. subst (λ (n : ℕ). IsNumber c.needed.result (base + factor * n)) one (c.needed.ensures base factor cost)) c.in_ok-reach-2.ensures.limited
+    keeps_short x asked w.names admits top certs above c.args.depth c.args.share law issuer c.requires.last none places are children kids old c.reach-then-len-share.new.self.limits low short c.needed.result
+    (λ base factor cost. subst (λ (n : ℕ). IsNumber c.needed.result (base + factor * n)) one (c.needed.ensures base factor cost)) c.reach-then-len-share.ensures.counted
 
 pub descend-returns-then-is_empty-3-clause-limits : goal.descend-returns-then-is_empty-3-clause-limits
 descend-returns-then-is_empty-3-clause-limits g t c =
@@ -621,8 +621,8 @@ descend-returns-then-is_empty-3-clause-limits g t c =
     let are = there certs c.subject_key_identifier-key.result own places key c.signed_by-places.ensures in
     let children = c.in_ok-children.children.items in
     let kids = kids_here x w.names admits issuer.cert w.folder.now above c.index-kept.result.now c.deref-3.result.now c.deref-4.result.now children c.deref-3.ensures.value c.deref-4.ensures.value (kept_at (λ (k : Issuer). IsKeptOf w.names x w.folder.now issuer.cert k) c.enter.new.issuers.kept.items c.in_ok-at.at c.index-kept.result.now c.index-kept.ensures c.in_ok-at.ensures.found.1) c.in_ok-children.ensures places are in
-    let old = c.args.trail.now.limited.items in
-    let new = c.args.trail.now.limited.items in
+    let old = c.args.trail.now.limits in
+    let new = c.args.trail.now.limits in
     let o = c.enter.ensures.told c.args.visitor.now [] (g.met.W.Visitor.begins c.args.visitor.now) in
     let us = c.judge_children.ensures c.args.visitor.now ([] ++ o.0) o.1 in
     let enough : length children ≤ c.args.share.steps = omega (arith, c.if-len-share.false, c.len.ensures, c.in_ok-children.children.ok.0) in
@@ -651,8 +651,8 @@ descend-returns-clause-limits g t c =
     let are = there certs c.subject_key_identifier-key.result own places key c.signed_by-places.ensures in
     let children = c.in_ok-children.children.items in
     let kids = kids_here x w.names admits issuer.cert w.folder.now above c.index-kept.result.now c.deref-3.result.now c.deref-4.result.now children c.deref-3.ensures.value c.deref-4.ensures.value (kept_at (λ (k : Issuer). IsKeptOf w.names x w.folder.now issuer.cert k) c.enter.new.issuers.kept.items c.in_ok-at.at c.index-kept.result.now c.index-kept.ensures c.in_ok-at.ensures.found.1) c.in_ok-children.ensures places are in
-    let old = c.args.trail.now.limited.items in
-    let new = c.each_below.new.trail.limited.items in
+    let old = c.args.trail.now.limits in
+    let new = c.each_below.new.trail.limits in
     let o = c.enter.ensures.told c.args.visitor.now [] (g.met.W.Visitor.begins c.args.visitor.now) in
     let us = c.judge_children.ensures c.args.visitor.now ([] ++ o.0) o.1 in
     let enough : length children ≤ c.args.share.steps = omega (arith, c.if-len-share.false, c.len.ensures, c.in_ok-children.children.ok.0) in
@@ -669,37 +669,3 @@ descend-returns-clause-limits g t c =
     (λ some. c.below-next.ensures.steps ∙ ap (λ (n : ℕ). (c.args.share.steps - n) / c.len-3.result) one ∙ ap (λ (n : ℕ). (c.args.share.steps - length children) / n) other)
     (λ base factor cost. subst (λ (n : ℕ). CostIs c.below-next.result.cost (base + factor * n) (factor * length cas)) one (subst (λ (n : ℕ). CostIs c.below-next.result.cost (base + factor * c.len-2.result) (factor * n)) other (c.below-next.ensures.cost base factor cost)))
     ended (subst (λ (l : List Ca). KeepsBelowEach x asked (IsLookedAt w.names admits top certs) certs above (c.args.depth - 1) c.below-next.result l old new ended) c.deref-7.ensures.value walks))
-
-pub descend-returns-in_err-reach-clause-tells : goal.descend-returns-in_err-reach-clause-tells
-descend-returns-in_err-reach-clause-tells g t c = λ v ts heard.
-    let w = c.args.self.now in
-    let x = context (g.V.Verifier.verifies w.verifier.now) w.at w.strict in
-    let asked = by_named_lists w.names x w.folder.now.lists in
-    let certs = w.folder.now.certs in
-    let admits = g.A.Admission.admits w.admission.now in
-    let top = c.args.top.now.cert in
-    let issuer = c.args.issuer.now in
-    let above = c.args.trail.now.above.items in
-    let law = c.unambiguous.ensures.certificate in
-    let none : EndsNoCircle w.names top certs above = subst (λ (l : List ℕ). EndsNoCircle w.names top certs l) c.deref.ensures.value (c.in_ok-is_in_circle.ensures.none c.if-is_in_circle.false) in
-    let o = c.enter.ensures.told v ts heard in
-    let others : AllByRecursion (IsToldOf x asked issuer certs above (Others x.verifies w.names admits issuer.cert certs above)) o.0 =
-    subst (λ (l : List ℕ). AllByRecursion (IsToldOf x asked issuer certs l (Others x.verifies w.names admits issuer.cert certs l)) o.0) c.deref-2.ensures.value o.2 in
-    (o.0, o.1, at_err x asked w.names admits top certs above c.args.depth c.args.share.steps law issuer c.requires.last none o.0 others {E = AllocError} c.from_residual-in_err-reach.result c.from_residual-in_err-reach.ensures.0)
-
-pub descend-returns-in_err-reach-2-clause-tells : goal.descend-returns-in_err-reach-2-clause-tells
-descend-returns-in_err-reach-2-clause-tells g t c = λ v ts heard.
-    let w = c.args.self.now in
-    let x = context (g.V.Verifier.verifies w.verifier.now) w.at w.strict in
-    let asked = by_named_lists w.names x w.folder.now.lists in
-    let certs = w.folder.now.certs in
-    let admits = g.A.Admission.admits w.admission.now in
-    let top = c.args.top.now.cert in
-    let issuer = c.args.issuer.now in
-    let above = c.args.trail.now.above.items in
-    let law = c.unambiguous.ensures.certificate in
-    let none : EndsNoCircle w.names top certs above = subst (λ (l : List ℕ). EndsNoCircle w.names top certs l) c.deref.ensures.value (c.in_ok-is_in_circle.ensures.none c.if-is_in_circle.false) in
-    let o = c.enter.ensures.told v ts heard in
-    let others : AllByRecursion (IsToldOf x asked issuer certs above (Others x.verifies w.names admits issuer.cert certs above)) o.0 =
-    subst (λ (l : List ℕ). AllByRecursion (IsToldOf x asked issuer certs l (Others x.verifies w.names admits issuer.cert certs l)) o.0) c.deref-2.ensures.value o.2 in
-    (o.0, o.1, at_err x asked w.names admits top certs above c.args.depth c.args.share.steps law issuer c.requires.last none o.0 others {E = AllocError} c.from_residual-in_err-reach-2.result c.from_residual-in_err-reach-2.ensures.0)

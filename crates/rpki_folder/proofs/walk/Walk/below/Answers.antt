@@ -1,16 +1,29 @@
 use Rattle.std.specs.Prelude.{Result}
 use Rattle.std.specs.declared.alloc.AllocError.{AllocError}
-use Rattle.std.proofs.Common.{◌≡◌, ℕ, List, [], sym, ap, subst, ◌∙◌}
+use Rattle.std.proofs.Common.{◌≡◌, ℕ, List, [], length, sym, ap, subst, ◌∙◌}
 use Rattle.rpki_cert.specs.Verification.{context}
 use Rattle.rpki_path.specs.AskedLists.{by_named_lists}
 use Rattle.rpki_folder.specs.declared.bounds.Ended.{Ended}
 use Rattle.rpki_folder.specs.declared.bounds.Walked.{Walked}
-use Rattle.rpki_folder.specs.ReachedLimits.{AreLimited, end_of, ended_of}
-use Rattle.rpki_folder.specs.ReachedLimits.Steps.{KeepsBelow}
+use Rattle.rpki_folder.specs.declared.limits.LimitTable.{LimitTable}
+use Rattle.rpki_folder.specs.LimitTables.{HasReached}
+use Rattle.rpki_folder.specs.ReachedLimits.{AreLimited, LimitedCa, ended_of}
+use Rattle.rpki_folder.specs.ReachedLimits.Steps.{IsEmpty, KeepsBelow}
 use Rattle.rpki_folder.specs.Walks.{Root, members_at, LeadsTo, TellsBelow, IsLookedAt}
 use Rattle.rpki_folder.proofs.Descent.{if_ok, ok_if}
-use Rattle.rpki_folder.proofs.KeptLimits.{kept_whole}
+use Rattle.rpki_folder.proofs.KeptLimits.{kept_whole, tells_nothing}
 use Rattle.rpki_folder.proofs.walk.Walk.below.Goals as goal
+
+pub returns-in_err-limits-clause-tells : goal.returns-in_err-limits-clause-tells
+returns-in_err-limits-clause-tells g c =
+    let w = c.args.self.now in
+    let x = context (g.V.Verifier.verifies w.verifier.now) w.at w.strict in
+    let asked = by_named_lists w.names x w.folder.now.lists in
+    let admits = IsLookedAt w.names (g.A.Admission.admits w.admission.now) c.args.issuer.now.cert w.folder.now.certs in (
+      [],
+      g.met.W.Visitor.begins c.args.visitor.now,
+      (λ root a. tells_nothing x asked admits root w.folder.now.certs w.bounds.depth w.bounds.steps c.from_residual.result c.from_residual.ensures.0),
+    )
 
 pub returns-clause-tells : goal.returns-clause-tells
 returns-clause-tells g c =
@@ -26,40 +39,28 @@ returns-clause-tells g c =
           (subst (λ (l : List ℕ). TellsBelow x asked admits c.args.issuer.now w.folder.now.certs l w.bounds.depth c.whole.result.steps c.descend-ended.result d.0) c.new.ensures.items d.2)),
     )
 
--- what the trail keeps of the walk, if it ended
-pub returns-clause-limited : goal.returns-clause-limited
-returns-clause-limited g c =
+-- what the trail counts of the walk, if it ended
+pub returns-clause-limits : goal.returns-clause-limits
+returns-clause-limits g c =
     let w = c.args.self.now in
     let x = context (g.V.Verifier.verifies w.verifier.now) w.at w.strict in
     let asked = by_named_lists w.names x w.folder.now.lists in
     let certs = w.folder.now.certs in
     let issuer = c.args.issuer.now in
     let admits = IsLookedAt w.names (g.A.Admission.admits w.admission.now) issuer.cert certs in
-    let new = c.descend-ended.new.trail.limited in
-    ok_if (λ (walked : Walked). (root : Root) → LeadsTo x asked root (members_at root certs []) issuer → AreLimited x asked admits root certs w.bounds.depth w.bounds.steps walked.limited.items) c.walked.result (λ walked is root a.
-    let all : walked.limited ≡ new = if_ok (λ (k : Walked). k.limited ≡ new) c.walked.result walked is c.walked.ensures.limited in
+    let old = c.in_ok-limits.limits in
+    let new = c.descend-ended.new.trail.limits in
+    let start = c.args.start in
+    ok_if (λ (walked : Walked). (limited : List LimitedCa) × HasReached start (length certs) limited walked × ((root : Root) → LeadsTo x asked root (members_at root certs []) issuer → AreLimited x asked admits root certs w.bounds.depth w.bounds.steps limited)) c.walked.result (λ walked is.
+    let all : walked.limits ≡ new = if_ok (λ (k : Walked). k.limits ≡ new) c.walked.result walked is c.walked.ensures.limits in
     let ends : c.descend-ended.result ≡ ended_of c.walked.result = sym c.walked.ensures.ended in
     let how = ends ∙ ap (λ (r : Result Walked AllocError). ended_of r) is in
-    let k = if_ok (λ (e : Ended). KeepsBelow x asked admits issuer certs c.new.result.items w.bounds.depth c.whole.result c.new-2.result.items new.items e) c.descend-ended.result walked.ended how c.descend-ended.ensures.limits in
-    let here = subst (λ (l : List ℕ). KeepsBelow x asked admits issuer certs l w.bounds.depth c.whole.result c.new-2.result.items new.items walked.ended) c.new.ensures.items k in
-    let r = kept_whole x asked admits issuer certs w.bounds.depth c.whole.result c.new-2.result.items new.items walked.ended c.new-2.ensures.items c.whole.ensures.cost here in
-    subst (λ (n : ℕ). AreLimited x asked admits root certs w.bounds.depth n walked.limited.items) c.whole.ensures.steps
-    (subst (λ (v : _). AreLimited x asked admits root certs w.bounds.depth c.whole.result.steps v.items) (sym all) (r.1 root a)))
-
-pub returns-clause-ended : goal.returns-clause-ended
-returns-clause-ended g c =
-    let w = c.args.self.now in
-    let x = context (g.V.Verifier.verifies w.verifier.now) w.at w.strict in
-    let asked = by_named_lists w.names x w.folder.now.lists in
-    let certs = w.folder.now.certs in
-    let issuer = c.args.issuer.now in
-    let admits = IsLookedAt w.names (g.A.Admission.admits w.admission.now) issuer.cert certs in
-    let new = c.descend-ended.new.trail.limited in
-    ok_if (λ (walked : Walked). walked.ended ≡ end_of walked.limited.items) c.walked.result (λ walked is.
-    let all : walked.limited ≡ new = if_ok (λ (k : Walked). k.limited ≡ new) c.walked.result walked is c.walked.ensures.limited in
-    let ends : c.descend-ended.result ≡ ended_of c.walked.result = sym c.walked.ensures.ended in
-    let how = ends ∙ ap (λ (r : Result Walked AllocError). ended_of r) is in
-    let k = if_ok (λ (e : Ended). KeepsBelow x asked admits issuer certs c.new.result.items w.bounds.depth c.whole.result c.new-2.result.items new.items e) c.descend-ended.result walked.ended how c.descend-ended.ensures.limits in
-    let here = subst (λ (l : List ℕ). KeepsBelow x asked admits issuer certs l w.bounds.depth c.whole.result c.new-2.result.items new.items walked.ended) c.new.ensures.items k in
-    let r = kept_whole x asked admits issuer certs w.bounds.depth c.whole.result c.new-2.result.items new.items walked.ended c.new-2.ensures.items c.whole.ensures.cost here in
-    r.0 ∙ ap (λ (v : _). end_of v.items) (sym all))
+    let k = if_ok (λ (e : Ended). KeepsBelow x asked admits issuer certs c.new.result.items w.bounds.depth c.whole.result old new e) c.descend-ended.result walked.ended how c.descend-ended.ensures.limits in
+    let here = subst (λ (l : List ℕ). KeepsBelow x asked admits issuer certs l w.bounds.depth c.whole.result old new walked.ended) c.new.ensures.items k in
+    let told = subst (λ (t : LimitTable). KeepsBelow x asked admits issuer certs [] w.bounds.depth c.whole.result old t walked.ended) (sym all) here in
+    let empty = subst (λ (n : ℕ). IsEmpty start n old) c.len.ensures c.in_ok-limits.ensures in
+    let r = kept_whole x asked admits issuer certs w.bounds.depth c.whole.result start (length certs) old walked empty c.whole.ensures.cost told in (
+      r.0,
+      r.1,
+      (λ root a. subst (λ (n : ℕ). AreLimited x asked admits root certs w.bounds.depth n r.0) c.whole.ensures.steps (r.2 root a)),
+    ))
