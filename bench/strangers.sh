@@ -2,8 +2,9 @@
 # What a CA that works against others costs `rpki tree`: processor time and memory over 5,000
 # certificates below one CA, without and with 2,000 certificates by which another CA certifies the key
 # of the trust anchor, of that CA, or its own under other names, or 200 of these beside 200 CRLs that it
-# didn't sign; or with a CA below it that holds 100,000 addresses, and 700 certificates that inherit them
-# (strangers.py makes them all). The lines of the 5,000 have to be the same. PROGRAM is the built command
+# didn't sign; with a CA below it that holds 100,000 addresses, and 700 certificates that inherit them; and
+# with 46 by which the paths below it double until the steps are used up, which takes minutes and is run
+# once (strangers.py makes them). The lines of the 5,000 have to be the same. PROGRAM is the built command
 # (crates/rpki_command/out/rpki_command, say).
 #
 #     bench/strangers.sh PROGRAM [FOLDER]
@@ -15,7 +16,7 @@ program=$(realpath "$1")
 here=$(mktemp -d)
 trap 'rm -rf "$here"' EXIT
 kept=${2-$here}
-[ -d "$kept/inherit" ] || python3 "$root/bench/strangers.py" 5000 2000 "$kept"
+[ -d "$kept/limits" ] || python3 "$root/bench/strangers.py" 5000 2000 "$kept"
 cd "$kept"
 
 # seconds of processor time and KiB of memory of a walk, whose lines of the 5,000 it keeps
@@ -32,8 +33,10 @@ print(f'{used.ru_utime + used.ru_stime:.3f} {used.ru_maxrss}')
 END
 }
 
-for name in honest anchors siblings names crls inherit; do
-    for _ in 1 2 3; do
+for name in honest anchors siblings names crls inherit limits; do
+    runs='1 2 3'
+    [ "$name" != limits ] || runs=1
+    for _ in $runs; do
         if [ "$name" = honest ]; then used honest honest; else used "$name" "$name" honest; fi
     done | sort -n | head -n 1 | sed "s/\(.*\) \(.*\)/$name  \1 s, \2 KiB/"
     cmp -s "$here/honest" "$here/$name" || echo "$name: the lines of the 5,000 are others"

@@ -9,8 +9,9 @@ use Rattle.rpki_cert.specs.Certificates.{CertFields, IsCertificate}
 use Rattle.rpki_cert.specs.Verification.{Context, ResourceFields, IsSignedBy}
 use Rattle.rpki_path.specs.Asking.{RevocationChecks}
 use Rattle.rpki_path.specs.NameChains.{IsNamedBelow}
-use Rattle.rpki_folder.specs.Folders.{octets_at, NamesSigner, ArePlacesOf}
+use Rattle.rpki_folder.specs.Folders.{octets_at, NamesSigner}
 use Rattle.rpki_folder.specs.IssuerTables.{AreAllChildren}
+use Rattle.rpki_folder.specs.NameTables.{ArePlacesUnder}
 use Rattle.rpki_folder.specs.Walks.{Told, StandsAt, IsChildOf, IsNamedUnder}
 use Rattle.rpki_folder.specs.Walks.Steps.{IsClaim, IsOther, IsToldOf, AreChildrenAmong}
 use Rattle.rpki_folder.specs.declared.walk.Claim.TheVariants.{OtherName, Child, Other}
@@ -59,13 +60,13 @@ pub told_weaker : (x : Context) (asked : RevocationChecks) (issuer : ResourceFie
 told_weaker x asked issuer certs above P Q weaker [] h = tt
 told_weaker x asked issuer certs above P Q weaker (t ∷ ts) h = ((h.0.0, weaker t.place h.0.1, h.0.2), told_weaker x asked issuer certs above P Q weaker ts h.1)
 
--- of all that name the key, the children are all children
-pub all_children : (names : Bool) (verifies : Verifies) (issuer : CertFields) (certs : List (List ℕ)) (places children : List ℕ) → ArePlacesOf certs issuer.fields.extensions.subject_key_identifier places
+-- of the places below the issuer, the children are all children
+pub all_children : (names : Bool) (verifies : Verifies) (issuer : CertFields) (certs : List (List ℕ)) (places children : List ℕ) → ArePlacesUnder names issuer certs places
     → AreChildrenAmong verifies (λ p. IsNamedUnder names issuer certs p) issuer certs places children → AreAllChildren names verifies issuer certs children
 all_children names verifies issuer certs places children are a = record {
   inside = λ p at. are.inside p (a.from p at);
   named = λ p at. (a.only p at).0;
   child = λ p at. (a.only p at).1;
-  all = λ p named child. a.all p (are.all p (low_of certs child.cert p child.stands) (child_names verifies issuer certs p child)) named child;
+  all = λ p named child. a.all p (are.all p (low_of certs child.cert p child.stands) (child_names verifies issuer certs p child) named) named child;
   once = a.once;
 }

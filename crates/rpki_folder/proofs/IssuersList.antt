@@ -12,7 +12,7 @@ use Rattle.rpki_crl.specs.declared.revocation_error.RevocationError.TheVariants.
 use Rattle.rpki_path.specs.AskedLists.{IsFor, IsForBelow, HasBegun, IsEligibleNamed, HaveNone, IsLatest, by_named_lists}
 use Rattle.rpki_path.proofs.AskedNamedList.{no_list, other_name, unsigned, not_begun, answered}
 use Rattle.rpki_folder.specs.KeyTables.{signer_of, list_places}
-use Rattle.rpki_folder.specs.IssuerLists.{ArePicked, HasName, IsOfIssuer, IsCurrent, CanBeAsked, IsBelow, IssuerFields, AreIssuers, IsLatestOf, IsAnswered}
+use Rattle.rpki_folder.specs.IssuerLists.{ArePicked, HasName, HasSigned, IsOfIssuer, IsCurrent, CanBeAsked, IsBelow, IssuerFields, AreIssuers, IsLatestOf, IsAnswered}
 use Rattle.rpki_folder.proofs.PickedLists.{in_none, one_of_all, one_of_picked, picked_through, latest_of_all, none_of_all}
 use Rattle.rpki_folder.proofs.ListPlaces.{lists_at, at_one, list_inside, Names, named_there}
 
@@ -105,19 +105,17 @@ module _ (names : Bool) (x : Context) (lists : List CrlState) (issuer : TbsField
 
     -- ---- where no list is the issuer's
 
-    module _ (places : List ℕ) (given : places ≡ list_places (key_of issuer) lists) (none : HaveNone (IsOfIssuer names issuer) lists) where
+    module _ (none : HaveNone (IsOfIssuer names issuer) lists) where
       none_suits : HaveNone Suits lists
       none_suits l at is = none l at (of_issuer l is)
 
-      -- nor did the issuer's key sign one of those that name it
-      pub none_signed : ((l : CrlState) → Contains (lists_at lists places) l → Signs l → ⊥) → IsFirstFalse (by_named_lists names x lists issuer c) revocation_checks NoCrl
-      none_signed not = no_list names x lists issuer c none_suits (λ l at is. not l (there_named lists issuer places given l at (for_names l is.0)) is.1)
+      -- nor did the issuer's key sign one that names it
+      pub none_signed : (HasSigned x.verifies lists issuer → ⊥) → IsFirstFalse (by_named_lists names x lists issuer c) revocation_checks NoCrl
+      none_signed not = no_list names x lists issuer c none_suits (λ l at is. not (l, at, for_names l is.0, is.1))
 
-      -- it signed the one at this place
-      pub one_signed : (p : ℕ) → Contains places p → (l : CrlState) → l ≡ get_or lists p l → Signs l → IsFirstFalse (by_named_lists names x lists issuer c) revocation_checks WrongIssuer
-      one_signed p at l is signed =
-          let named = named_at lists issuer places given p at l is in
-          other_name names x lists issuer c none_suits l named.0 (names_for l named.1) signed
+      -- it signed one
+      pub one_signed : HasSigned x.verifies lists issuer → IsFirstFalse (by_named_lists names x lists issuer c) revocation_checks WrongIssuer
+      one_signed (l, at, named, signed) = other_name names x lists issuer c none_suits l at (names_for l named) signed
 
     -- ---- where none of the issuer's lists is eligible
 

@@ -18,12 +18,14 @@ use Rattle.rpki_path.proofs.AskedByEntity.{named_lists_by_entity}
 use Rattle.rpki_folder.specs.Folders.{FolderFields, ArePlacesOf, IsOnce}
 use Rattle.rpki_folder.specs.IssuerLists.{ArePicked, CanBeAsked, FailsWithout, IssuerFields, AreIssuers}
 use Rattle.rpki_folder.specs.IssuerTables.{AreAllChildren, IsKeptOf, AreKept}
+use Rattle.rpki_folder.specs.NameTables.{IsOfKey}
 use Rattle.rpki_folder.specs.Walks.{IsChildOf, IsNamedUnder}
 use Rattle.rpki_folder.specs.Walks.Steps.{AreChildrenAmong}
 use Rattle.rpki_folder.specs.declared.issuers.Issuer.{Issuer}
 use Rattle.rpki_folder.specs.declared.issuers.Issuers.{Issuers}
+use Rattle.rpki_folder.specs.declared.issuers.NamedKey.{NamedKey}
 use Rattle.rpki_folder.proofs.Descent.{child_names}
-use Rattle.rpki_folder.proofs.PickedLists.{one_of_all, one_of_picked}
+use Rattle.rpki_folder.proofs.PickedLists.{in_none, one_of_all, one_of_picked}
 
 -- ---- lists
 
@@ -37,7 +39,7 @@ first_alike P Q there back [] x h = h
 first_alike P Q there back (y ∷ ys) x (inl (is, not)) = inl (is, λ q. not (back y q))
 first_alike P Q there back (y ∷ ys) x (inr (p, h)) = inr (there y p, first_alike P Q there back ys x h)
 
-turned : (names : Bool) (f g : TbsFields) → AreAlike names f g → AreAlike names g f
+pub turned : (names : Bool) (f g : TbsFields) → AreAlike names f g → AreAlike names g f
 turned names f g alike = record {
   key_is = sym alike.key_is;
   identifier_is = sym alike.identifier_is;
@@ -113,7 +115,7 @@ module _ (names : Bool) (x : Context) (folder : FolderFields) where
 
 -- ---- those of the children that are let in
 
-once_picked : {X : Type 0} (P : X → Type 0) (xs those : List X) → ArePicked P xs those → IsOnce xs → IsOnce those
+pub once_picked : {X : Type 0} (P : X → Type 0) (xs those : List X) → ArePicked P xs those → IsOnce xs → IsOnce those
 once_picked P [] those is once = subst (λ (l : List _). IsOnce l) (sym is) tt
 once_picked {X} P (x ∷ xs) those (inl (rest, p, is, h)) once =
     subst (λ (l : List X). IsOnce l) (sym is) ((λ at. once.0 (one_of_all P xs rest h x at).0), once_picked P xs rest h once.1)
@@ -146,13 +148,34 @@ kids_here x names admits issuer folder above kept trail all those same whole h p
     subst (λ (l : List ℕ). ArePicked (admits above) l those) whole (subst (λ (l : List ℕ). ArePicked (admits l) all those) same picked) in
     kids_picked names x.verifies issuer folder.certs (admits above) kept.children.items those h.children here places are
 
+-- nothing is kept at first
+pub kept_none : (names : Bool) (x : Context) (folder : FolderFields) (table : Issuers) → table.kept.items ≡ [] → table.keys.items ≡ [] → AreKept names x folder table
+kept_none names x folder table no_issuers no_keys = record {
+  issuers = λ k at. absurd (in_none k (subst (λ (l : List Issuer). Contains l k) no_issuers at));
+  keys = λ k at. absurd (in_none k (subst (λ (l : List NamedKey). Contains l k) no_keys at));
+}
+
+module _ (names : Bool) (x : Context) (folder : FolderFields) (old new : Issuers) where
+  -- one key more
+  pub key_more : (key : NamedKey) → new.keys.items ≡ old.keys.items ++ key ∷ [] → new.kept.items ≡ old.kept.items → AreKept names x folder old → IsOfKey x.verifies folder key.cert key → AreKept names x folder new
+  key_more key items same olds is = record {
+    issuers = λ k at. olds.issuers k (subst (λ (l : List Issuer). Contains l k) same at);
+    keys = λ k at. elim (Contains-push_cases old.keys.items key k (subst (λ (l : List NamedKey). Contains l k) items at)) [
+      | inl h ↦ olds.keys k h
+      | inr one ↦ subst (λ (j : NamedKey). IsOfKey x.verifies folder j.cert j) one is
+    ];
+  }
+
 module _ (names : Bool) (x : Context) (folder : FolderFields) (old new : Issuers) (one : Issuer) (items : new.kept.items ≡ old.kept.items ++ one ∷ []) where
   -- one issuer more
-  pub kept_more : AreKept names x folder old → IsKeptOf names x folder one.cert one → AreKept names x folder new
-  kept_more olds is = λ k at. elim (Contains-push_cases old.kept.items one k (subst (λ (l : List Issuer). Contains l k) items at)) [
-    | inl h ↦ olds k h
-    | inr same ↦ subst (λ (j : Issuer). IsKeptOf names x folder j.cert j) same is
-  ]
+  pub kept_more : new.keys.items ≡ old.keys.items → AreKept names x folder old → IsKeptOf names x folder one.cert one → AreKept names x folder new
+  kept_more same olds is = record {
+    issuers = λ k at. elim (Contains-push_cases old.kept.items one k (subst (λ (l : List Issuer). Contains l k) items at)) [
+      | inl h ↦ olds.issuers k h
+      | inr last ↦ subst (λ (j : Issuer). IsKeptOf names x folder j.cert j) last is
+    ];
+    keys = λ k at. olds.keys k (subst (λ (l : List NamedKey). Contains l k) same at);
+  }
 
   -- which is the last
   pub found_last : (at : ℕ) → at ≡ length old.kept.items → (issuer : CertFields) → IsKeptOf names x folder issuer one → (at < length new.kept.items) × ((d : Issuer) → IsKeptOf names x folder issuer (get_or new.kept.items at d))

@@ -202,15 +202,15 @@ err_ended (Ok walked) err = absurd cc
 err_ended (Err e) err = refl
 
 -- and where it failed before it judged a certificate, it told nothing
-pub tells_nothing : {E : Type 0} (x : Context) (asked : RevocationChecks) (admits : List ℕ → ℕ → Type 0) (root : Root) (certs : List (List ℕ)) (depth steps : ℕ) (r : Result Walked E) → IsErr r → Tells x asked admits root certs [] depth steps (ended_of r) []
-tells_nothing x asked admits root certs depth steps r err = record {
+pub tells_nothing : {E : Type 0} (x : Context) (asked : RevocationChecks) (admits : List ℕ → ℕ → Type 0) (root : Root) (certs : List (List ℕ)) (depth share : ℕ) (r : Result Walked E) → IsErr r → Tells x asked admits root certs [] depth share (ended_of r) []
+tells_nothing x asked admits root certs depth share r err = record {
   right = tt;
   let_in = tt;
-  few = most_all (TakesStep x asked root certs) steps [] (omega arith);
-  short = if_err (λ (ended : Ended). ended ≡ OutOfSteps → IsShort x asked admits root certs [] steps) (ended_of r) (err_ended r err);
+  few = most_all (TakesStep x asked root certs) share [] (omega arith);
+  short = if_err (λ (ended : Ended). ended ≡ OutOfSteps → IsShort x asked admits root certs [] share) (ended_of r) (err_ended r err);
   too_deep = if_err (IsTooDeep x asked admits root certs [] depth) (ended_of r) (err_ended r err);
   complete = if_err (IsComplete x asked admits root certs [] depth []) (ended_of r) (err_ended r err);
-  in_shares = if_err (λ (ended : Ended). IsCompleteInShares x asked admits root certs [] depth steps []) (ended_of r) (err_ended r err);
-  judged = if_err (λ (ended : Ended). IsJudgedInShares x asked admits root certs [] depth steps []) (ended_of r) (err_ended r err);
-  enough = if_err (IsEnough x asked admits root certs [] depth steps) (ended_of r) (err_ended r err);
+  in_shares = if_err (λ (ended : Ended). IsCompleteInShares x asked admits root certs [] depth share []) (ended_of r) (err_ended r err);
+  judged = if_err (λ (ended : Ended). IsJudgedInShares x asked admits root certs [] depth share []) (ended_of r) (err_ended r err);
+  enough = if_err (IsEnough x asked admits root certs [] depth share) (ended_of r) (err_ended r err);
 }

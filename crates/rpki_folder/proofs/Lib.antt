@@ -10,6 +10,7 @@ pub mod LimitSteps
 pub mod ChildSteps
 pub mod KeptIssuers
 pub mod ClaimSteps
+pub mod NamedSteps
 pub mod BelowIssuer
 pub mod KeptLimits
 pub mod LookedAt

@@ -1,6 +1,6 @@
 -- What is kept of lists for one issuer, so that each is verified once, and not once for each
 -- certificate below the issuer (own).
-use Rattle.std.specs.Prelude.{◌≡◌, ◌⊎◌, Bool, List, [], ◌∷◌, Some, Result, Err, IsTrue}
+use Rattle.std.specs.Prelude.{◌≡◌, ◌⊎◌, Bool, List, [], ◌∷◌, Some, Result, Err, Contains, IsTrue}
 use Rattle.rpki_der.specs.Times.{Moment}
 use Rattle.rpki_parts.specs.Conditions.{IsFirstFalse}
 use Rattle.rpki_parts.specs.Signatures.{Verifies}
@@ -35,6 +35,12 @@ IsOfIssuer names issuer l = NamesIssuer issuer l.list × HasName names issuer l
 abbrev pub CanBeAsked : Bool → Verifies → Moment → TbsFields → CrlState → Type 0
 CanBeAsked names verifies now issuer l =
     IsOfIssuer names issuer l × IsCurrent verifies now issuer l
+
+-- the issuer's key signed one of the lists that name it, of whatever name
+abbrev pub HasSigned : Verifies → List CrlState → TbsFields → Type 0
+HasSigned verifies lists issuer =
+    (l : CrlState) × Contains lists l × NamesIssuer issuer l.list
+    × IsSignedBy verifies issuer.key l.list.signed_data
 
 -- the certificate names the issuer's key as the one that signs it
 abbrev pub IsBelow : TbsFields → CertFields → Type 0

@@ -5,9 +5,11 @@ use Rattle.rpki_cert.specs.Certificates.{CertFields}
 use Rattle.rpki_cert.specs.Verification.{Context}
 use Rattle.rpki_folder.specs.Folders.{FolderFields, IsOnce}
 use Rattle.rpki_folder.specs.IssuerLists.{AreIssuers}
+use Rattle.rpki_folder.specs.NameTables.{IsOfKey}
 use Rattle.rpki_folder.specs.Walks.{IsChildOf, IsNamedUnder}
 use Rattle.rpki_folder.specs.declared.issuers.Issuer.{Issuer}
 use Rattle.rpki_folder.specs.declared.issuers.Issuers.{Issuers}
+use Rattle.rpki_folder.specs.declared.issuers.NamedKey.{NamedKey}
 
 -- these are the places of the issuer's children; of those with its name, if names are asked
 pub record AreAllChildren (names : Bool) (verifies : Verifies) (issuer : CertFields)
@@ -25,7 +27,9 @@ pub record IsKeptOf (names : Bool) (x : Context) (folder : FolderFields) (issuer
   pub children : AreAllChildren names x.verifies issuer folder.certs kept.children.items
   pub lists : AreIssuers names x folder.lists issuer.fields kept.lists
 
--- all that is kept is right
-abbrev pub AreKept : Bool → Context → FolderFields → Issuers → Type 0
-AreKept names x folder table =
-    (kept : Issuer) → Contains table.kept.items kept → IsKeptOf names x folder kept.cert kept
+-- all that is kept of issuers and of keys is right
+pub record AreKept (names : Bool) (x : Context) (folder : FolderFields) (table : Issuers) : Type 0 where
+  pub issuers : (kept : Issuer) → Contains table.kept.items kept
+      → IsKeptOf names x folder kept.cert kept
+  pub keys : (kept : NamedKey) → Contains table.keys.items kept
+      → IsOfKey x.verifies folder kept.cert kept

@@ -4,8 +4,10 @@ pub mod FirstPlaces
 pub mod IssuerLists
 pub mod UsualBounds
 pub mod Walks
+pub mod WalkViews
 pub mod ReachedLimits
 pub mod LimitTables
+pub mod NameTables
 pub mod IssuerTables
 pub mod WalkFaults
 pub mod KeptLines

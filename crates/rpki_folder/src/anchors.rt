@@ -1,10 +1,9 @@
 //! The trust anchor of a TAL among the certificates of a folder.
 ghost use Rattle.std.specs.Prelude.{◌≡◌, ◌↔◌, ◌<◌, length, IfOk, IsTrue};
-ghost use Rattle.rpki_cert.specs.Verification.{context};
-ghost use Rattle.rpki_path.specs.AskedLists.{by_named_lists};
 ghost use Rattle.rpki_folder.specs.Folders.{octets_at};
 ghost use Rattle.rpki_folder.specs.FoundAnchors.{IsFound, anchor_order};
 ghost use Rattle.rpki_folder.specs.FoundAnchors.Steps.{IsKept, IsTried};
+ghost use Rattle.rpki_folder.specs.WalkViews.{walk_view};
 
 use crate::admission::Admission;
 use crate::walk::Walk;
@@ -125,11 +124,9 @@ impl<'w, A: Admission, V: Verifier> Walk<'w, A, V> {
     // What is found of the certificate at a place as the trust anchor.
     fn try_anchor(&self, tal: &Tal, place: usize) -> Result<Tried, AllocError>
         requires { place < length self.now.folder.now.certs }
-        ensures { let w = self.now in
-            let x = context (V.verifies w.verifier.now) w.at w.strict in
-            let asked = by_named_lists w.names x w.folder.now.lists in
-            let octets = octets_at w.folder.now.certs place in
-            IfOk result (IsTried x asked w.names tal.now octets) }
+        ensures { let w = walk_view V.verifies A.admits self.now in
+            let octets = octets_at w.folder.certs place in
+            IfOk result (IsTried w.context w.asked w.names tal.now octets) }
     {
         laws::unambiguous();
         let file = &self.folder.certs()[place];
@@ -163,10 +160,8 @@ impl<'w, A: Admission, V: Verifier> Walk<'w, A, V> {
     ///
     /// As for [`Walk::trust_anchor`].
     pub fn find_anchor(&self, tal: &Tal) -> Result<FoundAnchor, AllocError>
-        ensures { let w = self.now in
-            let x = context (V.verifies w.verifier.now) w.at w.strict in
-            let asked = by_named_lists w.names x w.folder.now.lists in
-            IfOk result (IsFound x asked w.names tal.now w.folder.now.certs) }
+        ensures { let w = walk_view V.verifies A.admits self.now in
+            IfOk result (IsFound w.context w.asked w.names tal.now w.folder.certs) }
     {
         laws::unambiguous();
         let count = self.folder.certs().len();

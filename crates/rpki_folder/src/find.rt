@@ -1,9 +1,8 @@
 //! Searching for the path to one certificate of a folder.
 ghost use Rattle.std.specs.Prelude.{◌≡◌, [], IfOk, IfErr};
-ghost use Rattle.rpki_cert.specs.Verification.{context};
-ghost use Rattle.rpki_path.specs.AskedLists.{by_named_lists};
 ghost use Rattle.rpki_folder.specs.Searches.{IsSought, IsFound};
 ghost use Rattle.rpki_folder.specs.Walks.{IsValidAnchor, IsWhyNone};
+ghost use Rattle.rpki_folder.specs.WalkViews.{walk_view};
 
 use crate::admission::Admission;
 use crate::bounds::Ended;
@@ -141,21 +140,13 @@ impl<'w, A: Admission, V: Verifier> Walk<'w, A, V> {
     /// Whether the folder has all certificates and CRLs of the repository, and whether manifests
     /// list them ([`Admission`] can restrict the walk to those that are listed).
     pub fn find(&self, tal: &Tal, anchor: &Member<'_>, place: usize) -> Result<Found, WalkError>
-        ensures found { let w = self.now in
-            let x = context (V.verifies w.verifier.now) w.at w.strict in
-            let asked = by_named_lists w.names x w.folder.now.lists in
-            let admits = A.admits w.admission.now in
-            let bounds = w.bounds in let certs = w.folder.now.certs in
-            IfOk result (IsFound x asked w.names admits tal.now anchor.now certs bounds.depth
-            bounds.steps place) }
-        ensures anchor { let w = self.now in
-            let x = context (V.verifies w.verifier.now) w.at w.strict in
-            let asked = by_named_lists w.names x w.folder.now.lists in
-            IfOk result (λ _. IsValidAnchor x asked w.names tal.now anchor.now) }
-        ensures fault { let w = self.now in
-            let x = context (V.verifies w.verifier.now) w.at w.strict in
-            let asked = by_named_lists w.names x w.folder.now.lists in
-            IfErr result (IsWhyNone x asked w.names tal.now anchor.now) }
+        ensures found { let w = walk_view V.verifies A.admits self.now in
+            IfOk result (IsFound w.context w.asked w.names w.admits tal.now anchor.now
+            w.folder.certs w.bounds.depth w.bounds.steps place) }
+        ensures anchor { let w = walk_view V.verifies A.admits self.now in
+            IfOk result (λ _. IsValidAnchor w.context w.asked w.names tal.now anchor.now) }
+        ensures fault { let w = walk_view V.verifies A.admits self.now in
+            IfErr result (IsWhyNone w.context w.asked w.names tal.now anchor.now) }
     {
         let mut sought = Sought {
             alloc: self.alloc,

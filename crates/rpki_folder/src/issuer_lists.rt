@@ -1,11 +1,11 @@
 //! The CRLs of one issuer, each of which is verified once.
-ghost use Rattle.std.specs.Prelude.{◌≡◌, ◌<◌, ◌↔◌, Bool, length, map, slice_index_or, IsTrue, IfOk, option_copied};
+ghost use Rattle.std.specs.Prelude.{◌≡◌, ◌<◌, ◌↔◌, Bool, length, map, slice_index_or, IsTrue, IfOk, IfSome, option_copied};
 ghost use Rattle.rpki_der.specs.Times.{Moment};
 ghost use Rattle.rpki_cert.specs.Verification.{context};
 ghost use Rattle.rpki_path.specs.AskedLists.{HaveNone};
 ghost use Rattle.rpki_path.specs.AskedLists.Steps.{IsLatestIfAny};
 ghost use Rattle.rpki_folder.specs.KeyTables.{list_places};
-ghost use Rattle.rpki_folder.specs.IssuerLists.{ArePicked, HasName, IsCurrent, IsOfIssuer, FailsWithout, AreIssuers, IsAnswered};
+ghost use Rattle.rpki_folder.specs.IssuerLists.{ArePicked, HasName, HasSigned, IsCurrent, IsOfIssuer, FailsWithout, AreIssuers, IsAnswered};
 
 use rpki_cert::{Cert, ResourceCert};
 use rpki_crl::{Crl, RevocationError};
@@ -112,24 +112,66 @@ fn current_lists<'l, V: Verifier>(
     Ok(kept)
 }
 
+/// Returns whether the issuer's key signed one of the CRLs at these places, which name the key.
+pub(crate) fn has_signed<V: Verifier>(
+    lists: &[Crl],
+    places: &[usize],
+    issuer: &ResourceCert,
+    verifier: &V,
+) -> bool
+    requires { let key = issuer.now.cert.fields.extensions.subject_key_identifier in
+        places.now ≡ list_places key lists.now }
+    ensures { let verifies = V.verifies verifier.now in
+        IsTrue result ↔ HasSigned verifies lists.now issuer.now.cert.fields }
+{
+    for &place in places {
+        if is_signed_by(list_at(lists, place), issuer, verifier) {
+            return true;
+        }
+    }
+    false
+}
+
+// What `has_signed` returns, which may be known already.
+fn has_signed_if_known<V: Verifier>(
+    lists: &[Crl],
+    places: &[usize],
+    issuer: &ResourceCert,
+    known: Option<bool>,
+    verifier: &V,
+) -> bool
+    requires places { let key = issuer.now.cert.fields.extensions.subject_key_identifier in
+        places.now ≡ list_places key lists.now }
+    requires known { let verifies = V.verifies verifier.now in IfSome known (λ is.
+        IsTrue is ↔ HasSigned verifies lists.now issuer.now.cert.fields) }
+    ensures { let verifies = V.verifies verifier.now in
+        IsTrue result ↔ HasSigned verifies lists.now issuer.now.cert.fields }
+{
+    match known {
+        Some(is_signed) => is_signed,
+        None => has_signed(lists, places, issuer, verifier),
+    }
+}
+
 // The error of a certificate below the issuer if all CRLs that name its key have another name.
 fn why_unnamed<V: Verifier>(
     lists: &[Crl],
     places: &[usize],
     issuer: &ResourceCert,
+    known: Option<bool>,
     verifier: &V,
 ) -> RevocationError
-    requires { let key = issuer.now.cert.fields.extensions.subject_key_identifier in
+    requires places { let key = issuer.now.cert.fields.extensions.subject_key_identifier in
         places.now ≡ list_places key lists.now }
+    requires known { let verifies = V.verifies verifier.now in IfSome known (λ is.
+        IsTrue is ↔ HasSigned verifies lists.now issuer.now.cert.fields) }
     ensures { (names : Bool) (now : Moment) (strict : Bool)
         → let x = context (V.verifies verifier.now) now strict in
         HaveNone (IsOfIssuer names issuer.now.cert.fields) lists.now
         → FailsWithout names x lists.now issuer.now.cert.fields result }
 {
-    for &place in places {
-        if is_signed_by(list_at(lists, place), issuer, verifier) {
-            return RevocationError::WrongIssuer;
-        }
+    if has_signed_if_known(lists, places, issuer, known, verifier) {
+        return RevocationError::WrongIssuer;
     }
     RevocationError::NoCrl
 }
@@ -142,17 +184,20 @@ fn why_none<V: Verifier>(
     named: &[&Crl],
     issuer: &ResourceCert,
     now: Time,
+    known: Option<bool>,
     verifier: &V,
 ) -> RevocationError
-    requires { let key = issuer.now.cert.fields.extensions.subject_key_identifier in
+    requires places { let key = issuer.now.cert.fields.extensions.subject_key_identifier in
         places.now ≡ list_places key lists.now }
+    requires known { let verifies = V.verifies verifier.now in IfSome known (λ is.
+        IsTrue is ↔ HasSigned verifies lists.now issuer.now.cert.fields) }
     ensures { (names strict : Bool) → let x = context (V.verifies verifier.now) now strict in
         let of_issuer = IsOfIssuer names issuer.now.cert.fields in
         ArePicked of_issuer lists.now (map (λ l. l.now) named.now)
         → FailsWithout names x lists.now issuer.now.cert.fields result }
 {
     if named.is_empty() {
-        return why_unnamed(lists, places, issuer, verifier);
+        return why_unnamed(lists, places, issuer, known, verifier);
     }
     for list in named {
         if has_begun(list, now) || !is_signed_by(list, issuer, verifier) {
@@ -180,6 +225,7 @@ fn latest<'l>(lists: &[&'l Crl], cert: &Cert) -> Option<&'l Crl>
 impl<'l> IssuerLists<'l> {
     /// Keeps the CRLs that are searched below the issuer: of those at `places`, which have its key
     /// identifier, the CRLs with its name if names are checked, and else all. No other CRL is read.
+    /// Whether its key signed one of those at `places`, also one of another name, may be known.
     ///
     /// # Errors
     ///
@@ -191,16 +237,19 @@ impl<'l> IssuerLists<'l> {
         issuer: &ResourceCert,
         names: bool,
         now: Time,
+        known: Option<bool>,
         verifier: &V,
     ) -> Result<IssuerLists<'l>, AllocError>
-        requires { let key = issuer.now.cert.fields.extensions.subject_key_identifier in
+        requires places { let key = issuer.now.cert.fields.extensions.subject_key_identifier in
             places.now ≡ list_places key lists.now }
+        requires known { let verifies = V.verifies verifier.now in IfSome known (λ is.
+            IsTrue is ↔ HasSigned verifies lists.now issuer.now.cert.fields) }
         ensures { (strict : Bool) → let x = context (V.verifies verifier.now) now strict in
             IfOk result (AreIssuers names x lists.now issuer.now.cert.fields) }
     {
         let named = named_lists(alloc, lists, places, issuer, names)?;
         let eligible = current_lists(alloc, &named, issuer, now, verifier)?;
-        let otherwise = why_none(lists, places, &named, issuer, now, verifier);
+        let otherwise = why_none(lists, places, &named, issuer, now, known, verifier);
         Ok(IssuerLists {
             eligible,
             otherwise,

@@ -5,6 +5,7 @@
 mod admission;
 mod anchors;
 mod bounds;
+mod children;
 mod entity;
 mod filed;
 mod find;
@@ -17,6 +18,7 @@ mod known;
 pub mod laws;
 mod limits;
 mod lines;
+mod names;
 mod share;
 mod visitor;
 mod walk;

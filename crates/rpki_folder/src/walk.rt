@@ -9,9 +9,8 @@ ghost use Rattle.rpki_path.specs.LocatedPaths.{IsLocatedFault};
 ghost use Rattle.rpki_path.specs.declared.judging.Judged.{Judged};
 ghost use Rattle.rpki_path.specs.declared.path_fault.PathFault.{PathFault as Fault};
 ghost use Rattle.rpki_path.specs.declared.path_fault.PathFault.TheVariants.{Memory};
-ghost use Rattle.rpki_cert.specs.Verification.{context, IsSignedBy};
+ghost use Rattle.rpki_cert.specs.Verification.{IsSignedBy};
 ghost use Rattle.rpki_path.specs.Asking.{nobody};
-ghost use Rattle.rpki_path.specs.AskedLists.{by_named_lists};
 ghost use Rattle.rpki_path.specs.NameChains.{IsSelfNamed};
 ghost use Rattle.rpki_path.specs.Paths.{Finds};
 ghost use Rattle.rpki_path.specs.Paths.Steps.{kind_of, IsIssuedBy, demand_under};
@@ -23,8 +22,10 @@ ghost use Rattle.rpki_folder.specs.Walks.{Root, at_anchor, members_at, LeadsTo, 
 ghost use Rattle.rpki_folder.specs.Walks.Steps.{IsAnswer, IsOutcome, Hands, IsAtTop, AreJudged, ClaimIs, IsChildAdded, IsClaim, IsOther, IsToldOf, WalksBelowEach};
 ghost use Rattle.rpki_folder.specs.IssuerTables.{AreAllChildren, AreKept, IsKeptOf};
 ghost use Rattle.rpki_folder.specs.LimitTables.{HasReached};
+ghost use Rattle.rpki_folder.specs.NameTables.{ArePlacesUnder};
 ghost use Rattle.rpki_folder.specs.ReachedLimits.{AreLimited, AreLimitedFrom, LimitedCa, ended_of, limited_ca};
 ghost use Rattle.rpki_folder.specs.ReachedLimits.Steps.{AreCounted, KeepsBelow, KeepsBelowEach};
+ghost use Rattle.rpki_folder.specs.WalkViews.{walk_view};
 ghost use Rattle.rpki_folder.specs.declared.issuers.Issuer.{Issuer as Kept};
 ghost use Rattle.rpki_folder.specs.declared.walk.Ca.{Ca};
 
@@ -197,14 +198,13 @@ impl<'w, A: Admission, V: Verifier> Walk<'w, A, V> {
         role: Role,
     ) -> Result<ResourceCert, PathFault>
         requires { place < length self.now.folder.now.certs }
-        ensures ok { let w = self.now in
-            let x = context (V.verifies w.verifier.now) w.at w.strict in
-            let octets = octets_at w.folder.now.certs place in
-            IfOk result (IsIssuedBy x nobody issuer.now (kind_of role) octets) }
-        ensures fault { let w = self.now in
-            let x = context (V.verifies w.verifier.now) w.at w.strict in
-            let octets = octets_at w.folder.now.certs place in
-            IfErr result (Finds x (demand_under x nobody issuer.now (kind_of role)) octets) }
+        ensures ok { let w = walk_view V.verifies A.admits self.now in
+            let octets = octets_at w.folder.certs place in
+            IfOk result (IsIssuedBy w.context nobody issuer.now (kind_of role) octets) }
+        ensures fault { let w = walk_view V.verifies A.admits self.now in
+            let octets = octets_at w.folder.certs place in
+            IfErr result (Finds w.context (demand_under w.context nobody issuer.now (kind_of role))
+            octets) }
     {
         let validator = Validator {
             alloc: self.alloc,
@@ -225,19 +225,14 @@ impl<'w, A: Admission, V: Verifier> Walk<'w, A, V> {
         role: Role,
     ) -> Result<ResourceCert, PathFault>
         requires place { place < length self.now.folder.now.certs }
-        requires kept { let w = self.now in
-            let x = context (V.verifies w.verifier.now) w.at w.strict in
-            AreIssuers w.names x w.folder.now.lists issuer.now.cert.fields lists.now }
-        ensures ok { let w = self.now in
-            let x = context (V.verifies w.verifier.now) w.at w.strict in
-            let asked = by_named_lists w.names x w.folder.now.lists in
-            IfOk result (IsIssuedBy x asked issuer.now (kind_of role)
-            (octets_at w.folder.now.certs place)) }
-        ensures fault { let w = self.now in
-            let x = context (V.verifies w.verifier.now) w.at w.strict in
-            let asked = by_named_lists w.names x w.folder.now.lists in
-            IfErr result (Finds x (demand_under x asked issuer.now (kind_of role))
-            (octets_at w.folder.now.certs place)) }
+        requires kept { let w = walk_view V.verifies A.admits self.now in
+            AreIssuers w.names w.context w.folder.lists issuer.now.cert.fields lists.now }
+        ensures ok { let w = walk_view V.verifies A.admits self.now in
+            IfOk result (IsIssuedBy w.context w.asked issuer.now (kind_of role)
+            (octets_at w.folder.certs place)) }
+        ensures fault { let w = walk_view V.verifies A.admits self.now in
+            IfErr result (Finds w.context (demand_under w.context w.asked issuer.now (kind_of role))
+            (octets_at w.folder.certs place)) }
     {
         let member = self.unasked_member(issuer, place, role)?;
         let test = lists.ask(member.as_cert(), self.at);
@@ -248,15 +243,13 @@ impl<'w, A: Admission, V: Verifier> Walk<'w, A, V> {
     // The certificate at a place, validated as a router's below an issuer, without revocation.
     fn unasked_router(&self, issuer: &ResourceCert, place: usize) -> Result<Cert, PathFault>
         requires { place < length self.now.folder.now.certs }
-        ensures begins { let w = self.now in
-            IfOk result (λ c. Means IsCertificate c (octets_at w.folder.now.certs place)) }
-        ensures ok { let w = self.now in
-            let x = context (V.verifies w.verifier.now) w.at w.strict in
-            IfOk result (IsRouterUnder x nobody issuer.now) }
-        ensures fault { let w = self.now in
-            let x = context (V.verifies w.verifier.now) w.at w.strict in
-            let octets = octets_at w.folder.now.certs place in
-            IfErr result (Finds x (router_demand x nobody issuer.now) octets) }
+        ensures begins { let w = walk_view V.verifies A.admits self.now in
+            IfOk result (λ c. Means IsCertificate c (octets_at w.folder.certs place)) }
+        ensures ok { let w = walk_view V.verifies A.admits self.now in
+            IfOk result (IsRouterUnder w.context nobody issuer.now) }
+        ensures fault { let w = walk_view V.verifies A.admits self.now in
+            let octets = octets_at w.folder.certs place in
+            IfErr result (Finds w.context (router_demand w.context nobody issuer.now) octets) }
     {
         let validator = Validator {
             alloc: self.alloc,
@@ -276,20 +269,15 @@ impl<'w, A: Admission, V: Verifier> Walk<'w, A, V> {
         place: usize,
     ) -> Result<Cert, PathFault>
         requires place { place < length self.now.folder.now.certs }
-        requires kept { let w = self.now in
-            let x = context (V.verifies w.verifier.now) w.at w.strict in
-            AreIssuers w.names x w.folder.now.lists issuer.now.cert.fields lists.now }
-        ensures begins { let w = self.now in
-            IfOk result (λ c. Means IsCertificate c (octets_at w.folder.now.certs place)) }
-        ensures ok { let w = self.now in
-            let x = context (V.verifies w.verifier.now) w.at w.strict in
-            let asked = by_named_lists w.names x w.folder.now.lists in
-            IfOk result (IsRouterUnder x asked issuer.now) }
-        ensures fault { let w = self.now in
-            let x = context (V.verifies w.verifier.now) w.at w.strict in
-            let asked = by_named_lists w.names x w.folder.now.lists in
-            IfErr result (Finds x (router_demand x asked issuer.now)
-            (octets_at w.folder.now.certs place)) }
+        requires kept { let w = walk_view V.verifies A.admits self.now in
+            AreIssuers w.names w.context w.folder.lists issuer.now.cert.fields lists.now }
+        ensures begins { let w = walk_view V.verifies A.admits self.now in
+            IfOk result (λ c. Means IsCertificate c (octets_at w.folder.certs place)) }
+        ensures ok { let w = walk_view V.verifies A.admits self.now in
+            IfOk result (IsRouterUnder w.context w.asked issuer.now) }
+        ensures fault { let w = walk_view V.verifies A.admits self.now in
+            IfErr result (Finds w.context (router_demand w.context w.asked issuer.now)
+            (octets_at w.folder.certs place)) }
     {
         let cert = self.unasked_router(issuer, place)?;
         let test = lists.ask(&cert, self.at);
@@ -309,17 +297,15 @@ impl<'w, A: Admission, V: Verifier> Walk<'w, A, V> {
         visitor: &mut W,
     ) -> Result<Option<ResourceCert>, AllocError>
         requires place { place < length self.now.folder.now.certs }
-        requires kept { let w = self.now in
-            let x = context (V.verifies w.verifier.now) w.at w.strict in
-            AreIssuers w.names x w.folder.now.lists issuer.now.cert.fields lists.now }
-        ensures ok { let w = self.now in
-            let x = context (V.verifies w.verifier.now) w.at w.strict in
-            let asked = by_named_lists w.names x w.folder.now.lists in
-            let octets = octets_at w.folder.now.certs place in
+        requires kept { let w = walk_view V.verifies A.admits self.now in
+            AreIssuers w.names w.context w.folder.lists issuer.now.cert.fields lists.now }
+        ensures ok { let w = walk_view V.verifies A.admits self.now in
+            let octets = octets_at w.folder.certs place in
             (v : W) (ts : List Told) → W.became v ts visitor.old → IfOk result (λ member.
             (verdict : Result Judged Fault)
             × W.became v (ts ++ told above.now place verdict ∷ []) visitor.new
-            × IsAnswer x asked issuer.now octets (kind_of role) verdict × Hands verdict member) }
+            × IsAnswer w.context w.asked issuer.now octets (kind_of role) verdict × Hands verdict
+            member) }
         ensures err { (v : W) (ts : List Told) → W.became v ts visitor.old
             → OnErr result (W.became v ts visitor.new) }
     {
@@ -346,17 +332,14 @@ impl<'w, A: Admission, V: Verifier> Walk<'w, A, V> {
         visitor: &mut W,
     ) -> Result<(), AllocError>
         requires place { place < length self.now.folder.now.certs }
-        requires kept { let w = self.now in
-            let x = context (V.verifies w.verifier.now) w.at w.strict in
-            AreIssuers w.names x w.folder.now.lists issuer.now.cert.fields lists.now }
-        ensures ok { let w = self.now in
-            let x = context (V.verifies w.verifier.now) w.at w.strict in
-            let asked = by_named_lists w.names x w.folder.now.lists in
-            let octets = octets_at w.folder.now.certs place in
+        requires kept { let w = walk_view V.verifies A.admits self.now in
+            AreIssuers w.names w.context w.folder.lists issuer.now.cert.fields lists.now }
+        ensures ok { let w = walk_view V.verifies A.admits self.now in
+            let octets = octets_at w.folder.certs place in
             (v : W) (ts : List Told) → W.became v ts visitor.old → OnOk result (
             (verdict : Result Judged Fault)
             × W.became v (ts ++ told above.now place verdict ∷ []) visitor.new
-            × IsAnswer x asked issuer.now octets Router verdict) }
+            × IsAnswer w.context w.asked issuer.now octets Router verdict) }
         ensures err { (v : W) (ts : List Told) → W.became v ts visitor.old
             → OnErr result (W.became v ts visitor.new) }
     {
@@ -381,17 +364,14 @@ impl<'w, A: Admission, V: Verifier> Walk<'w, A, V> {
         visitor: &mut W,
     ) -> Result<Option<ResourceCert>, AllocError>
         requires place { place < length self.now.folder.now.certs }
-        requires kept { let w = self.now in
-            let x = context (V.verifies w.verifier.now) w.at w.strict in
-            AreIssuers w.names x w.folder.now.lists issuer.now.cert.fields lists.now }
-        ensures ok { let w = self.now in
-            let x = context (V.verifies w.verifier.now) w.at w.strict in
-            let asked = by_named_lists w.names x w.folder.now.lists in
-            let octets = octets_at w.folder.now.certs place in
+        requires kept { let w = walk_view V.verifies A.admits self.now in
+            AreIssuers w.names w.context w.folder.lists issuer.now.cert.fields lists.now }
+        ensures ok { let w = walk_view V.verifies A.admits self.now in
+            let octets = octets_at w.folder.certs place in
             (v : W) (ts : List Told) → W.became v ts visitor.old → IfOk result (λ next.
             (verdict : Result Judged Fault)
             × W.became v (ts ++ told above.now place verdict ∷ []) visitor.new
-            × IsOutcome x asked issuer.now octets verdict next) }
+            × IsOutcome w.context w.asked issuer.now octets verdict next) }
         ensures err { (v : W) (ts : List Told) → W.became v ts visitor.old
             → OnErr result (W.became v ts visitor.new) }
     {
@@ -420,23 +400,11 @@ impl<'w, A: Admission, V: Verifier> Walk<'w, A, V> {
         }
     }
 
-    // The CRLs of the folder that are searched below an issuer.
-    fn lists_of(&self, issuer: &ResourceCert) -> Result<IssuerLists<'w>, AllocError>
-        ensures { let w = self.now in
-            let x = context (V.verifies w.verifier.now) w.at w.strict in
-            IfOk result (AreIssuers w.names x w.folder.now.lists issuer.now.cert.fields) }
-    {
-        let key = issuer.as_cert().as_tbs().subject_key_identifier();
-        let places = self.folder.lists_of(&key);
-        let (alloc, lists, now) = (self.alloc, self.folder.lists(), self.at);
-        IssuerLists::new(alloc, lists, places, issuer, self.names, now, self.verifier)
-    }
-
     // Whether the certificate at a place is of the same entity as this one.
     fn is_one_at(&self, place: usize, cert: &Cert) -> Result<bool, AllocError>
         requires { place < length self.now.folder.now.certs }
-        ensures { let w = self.now in
-            IfOk result (λ is. IsTrue is ↔ ((d : CertFields) × StandsAt w.folder.now.certs place d
+        ensures { let w = walk_view V.verifies A.admits self.now in
+            IfOk result (λ is. IsTrue is ↔ ((d : CertFields) × StandsAt w.folder.certs place d
             × AreOneEntity w.names d cert.now)) }
     {
         laws::unambiguous();
@@ -456,8 +424,8 @@ impl<'w, A: Admission, V: Verifier> Walk<'w, A, V> {
     ) -> Result<bool, AllocError>
         requires { (place : ℕ) → Contains places.now place
             → place < length self.now.folder.now.certs }
-        ensures { let w = self.now in
-            let is_repeated = IsRepeated w.names top.now.cert w.folder.now.certs places.now cert.now in
+        ensures { let w = walk_view V.verifies A.admits self.now in
+            let is_repeated = IsRepeated w.names top.now.cert w.folder.certs places.now cert.now in
             IfOk result (λ is. IsTrue is ↔ is_repeated) }
     {
         if are_one_entity(top.as_cert(), cert, self.names) {
@@ -484,11 +452,11 @@ impl<'w, A: Admission, V: Verifier> Walk<'w, A, V> {
             → place < length self.now.folder.now.certs }
         requires last { let certs = self.now.folder.now.certs in
             IsLastOf top.now.cert certs above.now issuer.now.cert }
-        ensures circle { let w = self.now in
-            let none = EndsNoCircle w.names top.now.cert w.folder.now.certs above.now in
+        ensures circle { let w = walk_view V.verifies A.admits self.now in
+            let none = EndsNoCircle w.names top.now.cert w.folder.certs above.now in
             IfOk result (λ is. IsTrue is → none → ⊥) }
-        ensures none { let w = self.now in
-            let none = EndsNoCircle w.names top.now.cert w.folder.now.certs above.now in
+        ensures none { let w = walk_view V.verifies A.admits self.now in
+            let none = EndsNoCircle w.names top.now.cert w.folder.certs above.now in
             IfOk result (λ is. IsFalse is → none) }
     {
         laws::unambiguous();
@@ -503,9 +471,8 @@ impl<'w, A: Admission, V: Verifier> Walk<'w, A, V> {
         requires place { place < length self.now.folder.now.certs }
         requires names { let key = issuer.now.cert.fields.extensions.subject_key_identifier in
             NamesSigner key (octets_at self.now.folder.now.certs place) }
-        ensures { let w = self.now in
-            IfOk result (IsClaim w.names (V.verifies w.verifier.now) issuer.now.cert
-            w.folder.now.certs place) }
+        ensures { let w = walk_view V.verifies A.admits self.now in
+            IfOk result (IsClaim w.names w.context.verifies issuer.now.cert w.folder.certs place) }
     {
         laws::unambiguous();
         let cert = self.folder.certs()[place].cert(self.alloc)?;
@@ -526,20 +493,17 @@ impl<'w, A: Admission, V: Verifier> Walk<'w, A, V> {
         visitor: &mut W,
     ) -> Result<Option<ResourceCert>, AllocError>
         requires place { place < length self.now.folder.now.certs }
-        requires kept { let w = self.now in
-            let x = context (V.verifies w.verifier.now) w.at w.strict in
-            AreIssuers w.names x w.folder.now.lists issuer.now.cert.fields lists.now }
-        requires signed { let w = self.now in
-            (c : CertFields) → StandsAt w.folder.now.certs place c → IsTrue is_signed
-            ↔ IsSignedBy (V.verifies w.verifier.now) issuer.now.cert.fields.key c.signed_data }
-        ensures ok { let w = self.now in
-            let x = context (V.verifies w.verifier.now) w.at w.strict in
-            let asked = by_named_lists w.names x w.folder.now.lists in
-            let octets = octets_at w.folder.now.certs place in
+        requires kept { let w = walk_view V.verifies A.admits self.now in
+            AreIssuers w.names w.context w.folder.lists issuer.now.cert.fields lists.now }
+        requires signed { let w = walk_view V.verifies A.admits self.now in
+            (c : CertFields) → StandsAt w.folder.certs place c → IsTrue is_signed
+            ↔ IsSignedBy w.context.verifies issuer.now.cert.fields.key c.signed_data }
+        ensures ok { let w = walk_view V.verifies A.admits self.now in
+            let octets = octets_at w.folder.certs place in
             (v : W) (ts : List Told) → W.became v ts visitor.old → IfOk result (λ next.
             (verdict : Result Judged Fault)
             × W.became v (ts ++ told above.now place verdict ∷ []) visitor.new
-            × IsOutcome x asked issuer.now octets verdict next) }
+            × IsOutcome w.context w.asked issuer.now octets verdict next) }
         ensures err { (v : W) (ts : List Told) → W.became v ts visitor.old
             → OnErr result (W.became v ts visitor.new) }
     {
@@ -573,19 +537,17 @@ impl<'w, A: Admission, V: Verifier> Walk<'w, A, V> {
         visitor: &mut W,
     ) -> Result<(), AllocError>
         requires place { place < length self.now.folder.now.certs }
-        requires kept { let w = self.now in
-            let x = context (V.verifies w.verifier.now) w.at w.strict in
-            AreIssuers w.names x w.folder.now.lists issuer.now.cert.fields lists.now }
-        requires signed { let w = self.now in
-            (c : CertFields) → StandsAt w.folder.now.certs place c → IsTrue is_signed
-            ↔ IsSignedBy (V.verifies w.verifier.now) issuer.now.cert.fields.key c.signed_data }
-        ensures { let w = self.now in
-            let x = context (V.verifies w.verifier.now) w.at w.strict in
-            let asked = by_named_lists w.names x w.folder.now.lists in
-            let here = λ (p : ℕ). (p ≡ place) × A.admits w.admission.now above.now p in
+        requires kept { let w = walk_view V.verifies A.admits self.now in
+            AreIssuers w.names w.context w.folder.lists issuer.now.cert.fields lists.now }
+        requires signed { let w = walk_view V.verifies A.admits self.now in
+            (c : CertFields) → StandsAt w.folder.certs place c → IsTrue is_signed
+            ↔ IsSignedBy w.context.verifies issuer.now.cert.fields.key c.signed_data }
+        ensures { let w = walk_view V.verifies A.admits self.now in
+            let here = λ (p : ℕ). (p ≡ place) × w.admits above.now p in
             (v : W) (ts : List Told) → W.became v ts visitor.old
             → (more : List Told) × W.became v (ts ++ more) visitor.new
-            × AllByRecursion (IsToldOf x asked issuer.now w.folder.now.certs above.now here) more }
+            × AllByRecursion (IsToldOf w.context w.asked issuer.now w.folder.certs above.now here)
+            more }
     {
         if !self.admission.is_admitted(above, place) {
             return Ok(());
@@ -608,21 +570,18 @@ impl<'w, A: Admission, V: Verifier> Walk<'w, A, V> {
         requires place { place < length self.now.folder.now.certs }
         requires names { let key = issuer.now.cert.fields.extensions.subject_key_identifier in
             NamesSigner key (octets_at self.now.folder.now.certs place) }
-        requires kept { let w = self.now in
-            let x = context (V.verifies w.verifier.now) w.at w.strict in
-            AreIssuers w.names x w.folder.now.lists issuer.now.cert.fields lists.now }
-        ensures told { let w = self.now in
-            let x = context (V.verifies w.verifier.now) w.at w.strict in
-            let asked = by_named_lists w.names x w.folder.now.lists in
-            let certs = w.folder.now.certs in
-            let others = IsOther x.verifies w.names (A.admits w.admission.now) issuer.now.cert certs
+        requires kept { let w = walk_view V.verifies A.admits self.now in
+            AreIssuers w.names w.context w.folder.lists issuer.now.cert.fields lists.now }
+        ensures told { let w = walk_view V.verifies A.admits self.now in
+            let certs = w.folder.certs in
+            let others = IsOther w.context.verifies w.names w.admits issuer.now.cert certs
             above.now in
             (v : W) (ts : List Told) → W.became v ts visitor.old
             → (more : List Told) × W.became v (ts ++ more) visitor.new
-            × AllByRecursion (IsToldOf x asked issuer.now certs above.now others) more }
-        ensures children { let w = self.now in OnOk result (IsChildAdded w.names
-            (V.verifies w.verifier.now) issuer.now.cert w.folder.now.certs place children.old.items
-            children.new.items) }
+            × AllByRecursion (IsToldOf w.context w.asked issuer.now certs above.now others) more }
+        ensures children { let w = walk_view V.verifies A.admits self.now in
+            OnOk result (IsChildAdded w.names w.context.verifies issuer.now.cert w.folder.certs
+            place children.old.items children.new.items) }
     {
         laws::unambiguous();
         match self.claim(issuer, place)? {
@@ -637,7 +596,7 @@ impl<'w, A: Admission, V: Verifier> Walk<'w, A, V> {
         }
     }
 
-    // The places of the issuer's children among those that name its key. What is wrong with the
+    // The places of the issuer's children among these, which name its key. What is wrong with the
     // others is told: they take no step.
     fn children<W: Visitor>(
         &self,
@@ -647,23 +606,20 @@ impl<'w, A: Admission, V: Verifier> Walk<'w, A, V> {
         places: &[usize],
         visitor: &mut W,
     ) -> Result<Vec<usize>, AllocError>
-        requires kept { let w = self.now in
-            let x = context (V.verifies w.verifier.now) w.at w.strict in
-            AreIssuers w.names x w.folder.now.lists issuer.now.cert.fields lists.now }
-        requires places { let key = issuer.now.cert.fields.extensions.subject_key_identifier in
-            ArePlacesOf self.now.folder.now.certs key places.now }
-        ensures told { let w = self.now in
-            let x = context (V.verifies w.verifier.now) w.at w.strict in
-            let asked = by_named_lists w.names x w.folder.now.lists in
-            let certs = w.folder.now.certs in
-            let others = IsOther x.verifies w.names (A.admits w.admission.now) issuer.now.cert certs
+        requires kept { let w = walk_view V.verifies A.admits self.now in
+            AreIssuers w.names w.context w.folder.lists issuer.now.cert.fields lists.now }
+        requires places { let w = walk_view V.verifies A.admits self.now in
+            ArePlacesUnder w.names issuer.now.cert w.folder.certs places.now }
+        ensures told { let w = walk_view V.verifies A.admits self.now in
+            let certs = w.folder.certs in
+            let others = IsOther w.context.verifies w.names w.admits issuer.now.cert certs
             above.now in
             (v : W) (ts : List Told) → W.became v ts visitor.old
             → (more : List Told) × W.became v (ts ++ more) visitor.new
-            × AllByRecursion (IsToldOf x asked issuer.now certs above.now others) more }
-        ensures children { let w = self.now in
-            IfOk result (λ children. AreAllChildren w.names (V.verifies w.verifier.now)
-            issuer.now.cert w.folder.now.certs children.items) }
+            × AllByRecursion (IsToldOf w.context w.asked issuer.now certs above.now others) more }
+        ensures children { let w = walk_view V.verifies A.admits self.now in
+            IfOk result (λ children. AreAllChildren w.names w.context.verifies issuer.now.cert
+            w.folder.certs children.items) }
     {
         laws::unambiguous();
         let mut children = Vec::new(self.alloc);
@@ -685,44 +641,43 @@ impl<'w, A: Admission, V: Verifier> Walk<'w, A, V> {
     ) -> Result<usize, AllocError>
         requires places { let key = issuer.now.cert.fields.extensions.subject_key_identifier in
             ArePlacesOf self.now.folder.now.certs key places.now }
-        requires kept { let w = self.now in
-            let x = context (V.verifies w.verifier.now) w.at w.strict in
-            AreKept w.names x w.folder.now issuers.old }
-        ensures told { let w = self.now in
-            let x = context (V.verifies w.verifier.now) w.at w.strict in
-            let asked = by_named_lists w.names x w.folder.now.lists in
-            let certs = w.folder.now.certs in
-            let others = IsOther x.verifies w.names (A.admits w.admission.now) issuer.now.cert certs
+        requires kept { let w = walk_view V.verifies A.admits self.now in
+            AreKept w.names w.context w.folder issuers.old }
+        ensures told { let w = walk_view V.verifies A.admits self.now in
+            let certs = w.folder.certs in
+            let others = IsOther w.context.verifies w.names w.admits issuer.now.cert certs
             above.now in
             (v : W) (ts : List Told) → W.became v ts visitor.old
             → (more : List Told) × W.became v (ts ++ more) visitor.new
-            × AllByRecursion (IsToldOf x asked issuer.now certs above.now others) more }
-        ensures kept { let w = self.now in
-            let x = context (V.verifies w.verifier.now) w.at w.strict in
-            OnOk result (AreKept w.names x w.folder.now issuers.new) }
-        ensures found { let w = self.now in
-            let x = context (V.verifies w.verifier.now) w.at w.strict in
+            × AllByRecursion (IsToldOf w.context w.asked issuer.now certs above.now others) more }
+        ensures kept { let w = walk_view V.verifies A.admits self.now in
+            OnOk result (AreKept w.names w.context w.folder issuers.new) }
+        ensures found { let w = walk_view V.verifies A.admits self.now in
             IfOk result (λ at. (at < length issuers.new.kept.items) × ((d : Kept)
-            → IsKeptOf w.names x w.folder.now issuer.now.cert
+            → IsKeptOf w.names w.context w.folder issuer.now.cert
             (slice_index_or issuers.new.kept.items at d))) }
     {
-        if let Some(at) = issuers.find(issuer.as_cert(), self.names) {
+        if let Some(at) = issuers.find(self.alloc, issuer.as_cert(), self.names)? {
             return Ok(at);
         }
-        let lists = self.lists_of(issuer)?;
-        let children = self.children(issuer, &lists, above, places, visitor)?;
+        self.enter_key(issuer, places, issuers)?;
+        let key = issuers.key_of(issuer.as_cert());
+        let named = self.named_places(issuer, places, key)?;
+        let lists = self.lists_of(issuer, key)?;
+        let children = self.children(issuer, &lists, above, named, visitor)?;
         let cert = issuer.as_cert().try_clone(self.alloc)?;
-        issuers.add(Issuer {
+        let issuer = Issuer {
             cert,
             children,
             lists,
-        })
+        };
+        issuers.add(self.alloc, issuer, self.names)
     }
 
     // Those of these places that are admitted below the CAs at the places above.
     fn admitted(&self, above: &[usize], places: &[usize]) -> Result<Vec<usize>, AllocError>
-        ensures { let w = self.now in IfOk result (λ those.
-            ArePicked (A.admits w.admission.now above.now) places.now those.items) }
+        ensures { let w = walk_view V.verifies A.admits self.now in
+            IfOk result (λ those. ArePicked (w.admits above.now) places.now those.items) }
     {
         let mut those = Vec::new(self.alloc);
         for &place in places {
@@ -747,22 +702,20 @@ impl<'w, A: Admission, V: Verifier> Walk<'w, A, V> {
         requires inside { (place : ℕ) → Contains children.now place
             → place < length self.now.folder.now.certs }
         requires once { IsOnce children.now }
-        requires children { let w = self.now in (place : ℕ) → Contains children.now place
-            → IsChildOf (V.verifies w.verifier.now) issuer.now.cert w.folder.now.certs place }
-        requires kept { let w = self.now in
-            let x = context (V.verifies w.verifier.now) w.at w.strict in
-            AreIssuers w.names x w.folder.now.lists issuer.now.cert.fields lists.now }
-        ensures { let w = self.now in
-            let x = context (V.verifies w.verifier.now) w.at w.strict in
-            let asked = by_named_lists w.names x w.folder.now.lists in
-            let certs = w.folder.now.certs in
+        requires children { let w = walk_view V.verifies A.admits self.now in
+            (place : ℕ) → Contains children.now place
+            → IsChildOf w.context.verifies issuer.now.cert w.folder.certs place }
+        requires kept { let w = walk_view V.verifies A.admits self.now in
+            AreIssuers w.names w.context w.folder.lists issuer.now.cert.fields lists.now }
+        ensures { let w = walk_view V.verifies A.admits self.now in
+            let certs = w.folder.certs in
             let among = λ (p : ℕ). Contains children.now p in
             (v : W) (ts : List Told) → W.became v ts visitor.old
             → (more : List Told) × W.became v (ts ++ more) visitor.new
             × (length more ≤ length children.now)
-            × AllByRecursion (IsToldOf x asked issuer.now certs above.now among) more
+            × AllByRecursion (IsToldOf w.context w.asked issuer.now certs above.now among) more
             × IfOk result (λ cas.
-            AreJudged x asked issuer.now certs above.now children.now cas.items more) }
+            AreJudged w.context w.asked issuer.now certs above.now children.now cas.items more) }
     {
         laws::unambiguous();
         let mut cas = Vec::new(self.alloc);
@@ -791,31 +744,25 @@ impl<'w, A: Admission, V: Verifier> Walk<'w, A, V> {
     ) -> Result<Ended, AllocError>
         requires inside { (place : ℕ) → Contains trail.old.above.items place
             → place < length self.now.folder.now.certs }
-        requires kept { let w = self.now in
-            let x = context (V.verifies w.verifier.now) w.at w.strict in
-            AreKept w.names x w.folder.now issuers.old }
+        requires kept { let w = walk_view V.verifies A.admits self.now in
+            AreKept w.names w.context w.folder issuers.old }
         requires stand { (ca : Ca) → Contains cas.now ca
             → StandsAt self.now.folder.now.certs ca.place ca.holder.cert }
-        ensures tells { let w = self.now in
-            let x = context (V.verifies w.verifier.now) w.at w.strict in
-            let asked = by_named_lists w.names x w.folder.now.lists in
-            let certs = w.folder.now.certs in
-            let admits = IsLookedAt w.names (A.admits w.admission.now) top.now.cert certs in
+        ensures tells { let w = walk_view V.verifies A.admits self.now in
+            let certs = w.folder.certs in
+            let admits = IsLookedAt w.names w.admits top.now.cert certs in
             (v : W) (ts : List Told) → W.became v ts visitor.old
             → (more : List Told) × W.became v (ts ++ more) visitor.new
-            × WalksBelowEach x asked admits certs trail.old.above.items depth share.steps cas.now result
-            more }
-        ensures limits { let w = self.now in
-            let x = context (V.verifies w.verifier.now) w.at w.strict in
-            let asked = by_named_lists w.names x w.folder.now.lists in
-            let certs = w.folder.now.certs in
-            let admits = IsLookedAt w.names (A.admits w.admission.now) top.now.cert certs in
-            IfOk result (KeepsBelowEach x asked admits certs trail.old.above.items depth share
-            cas.now trail.old.limits trail.new.limits) }
+            × WalksBelowEach w.context w.asked admits certs trail.old.above.items depth share.steps
+            cas.now result more }
+        ensures limits { let w = walk_view V.verifies A.admits self.now in
+            let certs = w.folder.certs in
+            let admits = IsLookedAt w.names w.admits top.now.cert certs in
+            IfOk result (KeepsBelowEach w.context w.asked admits certs trail.old.above.items depth
+            share cas.now trail.old.limits trail.new.limits) }
         ensures trail { OnOk result (trail.new.above.items ≡ trail.old.above.items) }
-        ensures kept { let w = self.now in
-            let x = context (V.verifies w.verifier.now) w.at w.strict in
-            OnOk result (AreKept w.names x w.folder.now issuers.new) }
+        ensures kept { let w = walk_view V.verifies A.admits self.now in
+            OnOk result (AreKept w.names w.context w.folder issuers.new) }
     {
         laws::unambiguous();
         let mut ended = Ended::Whole;
@@ -844,31 +791,25 @@ impl<'w, A: Admission, V: Verifier> Walk<'w, A, V> {
     ) -> Result<Ended, AllocError>
         requires inside { (place : ℕ) → Contains trail.old.above.items place
             → place < length self.now.folder.now.certs }
-        requires kept { let w = self.now in
-            let x = context (V.verifies w.verifier.now) w.at w.strict in
-            AreKept w.names x w.folder.now issuers.old }
+        requires kept { let w = walk_view V.verifies A.admits self.now in
+            AreKept w.names w.context w.folder issuers.old }
         requires last { let certs = self.now.folder.now.certs in
             IsLastOf top.now.cert certs trail.old.above.items issuer.now.cert }
-        ensures tells { let w = self.now in
-            let x = context (V.verifies w.verifier.now) w.at w.strict in
-            let asked = by_named_lists w.names x w.folder.now.lists in
-            let certs = w.folder.now.certs in
-            let admits = IsLookedAt w.names (A.admits w.admission.now) top.now.cert certs in
+        ensures tells { let w = walk_view V.verifies A.admits self.now in
+            let certs = w.folder.certs in
+            let admits = IsLookedAt w.names w.admits top.now.cert certs in
             (v : W) (ts : List Told) → W.became v ts visitor.old
             → (more : List Told) × W.became v (ts ++ more) visitor.new
-            × TellsBelow x asked admits issuer.now certs trail.old.above.items depth share.steps result
-            more }
-        ensures limits { let w = self.now in
-            let x = context (V.verifies w.verifier.now) w.at w.strict in
-            let asked = by_named_lists w.names x w.folder.now.lists in
-            let certs = w.folder.now.certs in
-            let admits = IsLookedAt w.names (A.admits w.admission.now) top.now.cert certs in
-            IfOk result (KeepsBelow x asked admits issuer.now certs trail.old.above.items depth
-            share trail.old.limits trail.new.limits) }
+            × TellsBelow w.context w.asked admits issuer.now certs trail.old.above.items depth
+            share.steps result more }
+        ensures limits { let w = walk_view V.verifies A.admits self.now in
+            let certs = w.folder.certs in
+            let admits = IsLookedAt w.names w.admits top.now.cert certs in
+            IfOk result (KeepsBelow w.context w.asked admits issuer.now certs trail.old.above.items
+            depth share trail.old.limits trail.new.limits) }
         ensures trail { OnOk result (trail.new.above.items ≡ trail.old.above.items) }
-        ensures kept { let w = self.now in
-            let x = context (V.verifies w.verifier.now) w.at w.strict in
-            OnOk result (AreKept w.names x w.folder.now issuers.new) }
+        ensures kept { let w = walk_view V.verifies A.admits self.now in
+            OnOk result (AreKept w.names w.context w.folder issuers.new) }
     {
         laws::unambiguous();
         let key = issuer.as_cert().as_tbs().subject_key_identifier();
@@ -904,7 +845,7 @@ impl<'w, A: Admission, V: Verifier> Walk<'w, A, V> {
 
     /// Walks below an issuer that was validated before, and calls the visitor with each verdict.
     /// Returns how the walk ended: every certificate was judged, or which limit was reached; and the
-    /// limits that it reached, by certificates. Those at the issuer itself are told at the place
+    /// limits that it reached, by certificates. Those at the issuer itself are kept at the place
     /// `start`, which is its place in the folder. If the folder doesn't have it, `start` is the number
     /// of the folder's certificates.
     ///
@@ -933,24 +874,21 @@ impl<'w, A: Admission, V: Verifier> Walk<'w, A, V> {
         start: usize,
         visitor: &mut W,
     ) -> Result<Walked, AllocError>
-        ensures tells { let w = self.now in
-            let x = context (V.verifies w.verifier.now) w.at w.strict in
-            let asked = by_named_lists w.names x w.folder.now.lists in
-            let certs = w.folder.now.certs in
-            let admits = IsLookedAt w.names (A.admits w.admission.now) issuer.now.cert certs in
+        ensures tells { let w = walk_view V.verifies A.admits self.now in
+            let certs = w.folder.certs in
+            let admits = IsLookedAt w.names w.admits issuer.now.cert certs in
             (more : List Told) × W.became visitor.old more visitor.new
-            × TellsBelow x asked admits issuer.now certs [] w.bounds.depth w.bounds.steps
+            × TellsBelow w.context w.asked admits issuer.now certs [] w.bounds.depth w.bounds.steps
             (ended_of result) more }
         // It counts each CA at which it reached a limit, and no other.
-        ensures limits { let w = self.now in
-            let x = context (V.verifies w.verifier.now) w.at w.strict in
-            let asked = by_named_lists w.names x w.folder.now.lists in
-            let certs = w.folder.now.certs in
-            let admits = IsLookedAt w.names (A.admits w.admission.now) issuer.now.cert certs in
+        ensures limits { let w = walk_view V.verifies A.admits self.now in
+            let certs = w.folder.certs in
+            let admits = IsLookedAt w.names w.admits issuer.now.cert certs in
             IfOk result (λ walked. (limited : List LimitedCa)
             × HasReached start (length certs) limited walked
-            × ((root : Root) → LeadsTo x asked root (members_at root certs []) issuer.now
-            → AreLimited x asked admits root certs w.bounds.depth w.bounds.steps limited)) }
+            × ((root : Root) → LeadsTo w.context w.asked root (members_at root certs []) issuer.now
+            → AreLimited w.context w.asked admits root certs w.bounds.depth w.bounds.steps
+            limited)) }
     {
         let limits = LimitTable::new(self.alloc, start, self.folder.certs().len())?;
         let mut trail = Trail {
@@ -974,14 +912,10 @@ impl<'w, A: Admission, V: Verifier> Walk<'w, A, V> {
 
     // The trust anchor with its resources; it has to have the TAL's key and to list a number.
     fn validated_anchor(&self, tal: &Tal, anchor: &Member<'_>) -> Result<ResourceCert, LocatedError>
-        ensures ok { let w = self.now in
-            let x = context (V.verifies w.verifier.now) w.at w.strict in
-            let asked = by_named_lists w.names x w.folder.now.lists in
-            IfOk result (LeadsTo x asked (at_anchor tal.now anchor.now) []) }
-        ensures fault { let w = self.now in
-            let x = context (V.verifies w.verifier.now) w.at w.strict in
-            let asked = by_named_lists w.names x w.folder.now.lists in
-            IfErr result (IsLocatedFault x asked tal.now.tal anchor.now []) }
+        ensures ok { let w = walk_view V.verifies A.admits self.now in
+            IfOk result (LeadsTo w.context w.asked (at_anchor tal.now anchor.now) []) }
+        ensures fault { let w = walk_view V.verifies A.admits self.now in
+            IfErr result (IsLocatedFault w.context w.asked tal.now.tal anchor.now []) }
     {
         laws::unambiguous();
         test_anchor(self.alloc, anchor, tal)?;
@@ -1009,15 +943,11 @@ impl<'w, A: Admission, V: Verifier> Walk<'w, A, V> {
     ///
     /// Whether the trust anchor is revoked: no CRL is above it.
     pub fn trust_anchor(&self, tal: &Tal, anchor: &Member<'_>) -> Result<ResourceCert, WalkError>
-        ensures ok { let w = self.now in
-            let x = context (V.verifies w.verifier.now) w.at w.strict in
-            let asked = by_named_lists w.names x w.folder.now.lists in
-            IfOk result (LeadsTo x asked (at_anchor tal.now anchor.now) []) }
+        ensures ok { let w = walk_view V.verifies A.admits self.now in
+            IfOk result (LeadsTo w.context w.asked (at_anchor tal.now anchor.now) []) }
         ensures named { IfOk result (λ r. IsTrue self.now.names → IsSelfNamed r.cert) }
-        ensures fault { let w = self.now in
-            let x = context (V.verifies w.verifier.now) w.at w.strict in
-            let asked = by_named_lists w.names x w.folder.now.lists in
-            IfErr result (IsWhyNone x asked w.names tal.now anchor.now) }
+        ensures fault { let w = walk_view V.verifies A.admits self.now in
+            IfErr result (IsWhyNone w.context w.asked w.names tal.now anchor.now) }
     {
         let issuer = self.validated_anchor(tal, anchor)?;
         if self.names && !is_self_named(issuer.as_cert()) {
@@ -1029,7 +959,7 @@ impl<'w, A: Admission, V: Verifier> Walk<'w, A, V> {
 
     /// Walks down from the trust anchor of a TAL: validates it ([`Walk::trust_anchor`]), and walks
     /// below it ([`Walk::below`]). The visitor isn't called for the trust anchor itself. The limits at
-    /// it are told behind those at the folder's places ([`LimitTable::at_start`]).
+    /// it are kept behind those at the folder's places ([`LimitTable::at_start`]).
     ///
     /// # Errors
     ///
@@ -1048,34 +978,23 @@ impl<'w, A: Admission, V: Verifier> Walk<'w, A, V> {
         visitor: &mut W,
     ) -> Result<Walked, WalkError>
         // Each verdict is right, and the walk judged each path that its end covers.
-        ensures tells { let w = self.now in
-            let x = context (V.verifies w.verifier.now) w.at w.strict in
-            let asked = by_named_lists w.names x w.folder.now.lists in
-            let admits = A.admits w.admission.now in
-            let certs = w.folder.now.certs in
+        ensures tells { let w = walk_view V.verifies A.admits self.now in
             (more : List Told) × W.became visitor.old more visitor.new
-            × TellsFrom x asked w.names admits tal.now anchor.now certs w.bounds.depth
-            w.bounds.steps (ended_of result) more }
+            × TellsFrom w.context w.asked w.names w.admits tal.now anchor.now w.folder.certs
+            w.bounds.depth w.bounds.steps (ended_of result) more }
         // It counts each CA at which it reached a limit, and no other.
-        ensures limits { let w = self.now in
-            let x = context (V.verifies w.verifier.now) w.at w.strict in
-            let asked = by_named_lists w.names x w.folder.now.lists in
-            let admits = A.admits w.admission.now in
-            let certs = w.folder.now.certs in
+        ensures limits { let w = walk_view V.verifies A.admits self.now in
+            let certs = w.folder.certs in
             IfOk result (λ walked. (limited : List LimitedCa)
             × HasReached (length certs) (length certs) limited walked
-            × AreLimitedFrom x asked w.names admits tal.now anchor.now certs w.bounds.depth
-            w.bounds.steps limited) }
+            × AreLimitedFrom w.context w.asked w.names w.admits tal.now anchor.now certs
+            w.bounds.depth w.bounds.steps limited) }
         // It starts at a valid trust anchor.
-        ensures anchor { let w = self.now in
-            let x = context (V.verifies w.verifier.now) w.at w.strict in
-            let asked = by_named_lists w.names x w.folder.now.lists in
-            IfOk result (λ _. IsValidAnchor x asked w.names tal.now anchor.now) }
+        ensures anchor { let w = walk_view V.verifies A.admits self.now in
+            IfOk result (λ _. IsValidAnchor w.context w.asked w.names tal.now anchor.now) }
         // The error is one of the trust anchor.
-        ensures fault { let w = self.now in
-            let x = context (V.verifies w.verifier.now) w.at w.strict in
-            let asked = by_named_lists w.names x w.folder.now.lists in
-            IfErr result (IsWhyNone x asked w.names tal.now anchor.now) }
+        ensures fault { let w = walk_view V.verifies A.admits self.now in
+            IfErr result (IsWhyNone w.context w.asked w.names tal.now anchor.now) }
     {
         laws::unambiguous();
         let issuer = self.trust_anchor(tal, anchor)?;

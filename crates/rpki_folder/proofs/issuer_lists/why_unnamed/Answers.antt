@@ -1,48 +1,14 @@
-use Rattle.std.specs.Prelude.{Contains}
-use Rattle.std.proofs.Common.{ℕ, List, take, get_or, sym, subst}
-use Rattle.std.proofs.lemmas.Bool.{false≢true}
-use Rattle.std.proofs.lemmas.List.{take_all}
-use Rattle.std.proofs.lemmas.List.Elements.{Contains-get_or}
-use Rattle.rpki_cert.specs.Verification.{context, IsSignedBy}
-use Rattle.rpki_crl.specs.Lists.{CrlState}
-use Rattle.rpki_path.proofs.LatestLists.{each_more}
-use Rattle.rpki_folder.proofs.ListPlaces.{lists_at, at_more}
-use Rattle.rpki_folder.proofs.IssuersList.{inside, none_signed, one_signed}
+use Rattle.std.proofs.lemmas.Bool.{both_ways}
+use Rattle.rpki_cert.specs.Verification.{context}
+use Rattle.rpki_folder.proofs.IssuersList.{none_signed, one_signed}
 use Rattle.rpki_folder.proofs.issuer_lists.why_unnamed.Goals as goal
 
-pub list_at-requires : goal.list_at-requires
-list_at-requires g c =
-    let places = c.args.places.now in
-    let i = c.loop-place.place-index in
-    inside c.args.lists.now c.args.issuer.now.cert.fields places c.requires (get_or places i 0) (Contains-get_or places i 0 c.loop-place-test.true)
-
-pub returns-then-is_signed_by : goal.returns-then-is_signed_by
-returns-then-is_signed_by g c = λ names now strict none cert below eligible.
+pub returns-then-has_signed_if_known : goal.returns-then-has_signed_if_known
+returns-then-has_signed_if_known g c = λ names now strict none cert below eligible.
     let x = context (g.V.Verifier.verifies c.args.verifier.now) now strict in
-    let places = c.args.places.now in
-    let i = c.loop-place.place-index in
-    let at = Contains-get_or places i 0 c.loop-place-test.true in
-    one_signed names x c.args.lists.now c.args.issuer.now.cert.fields cert below places c.requires none (get_or places i 0) at c.list_at.result.now c.list_at.ensures (c.is_signed_by.ensures.0 c.if-is_signed_by.true)
-
-pub loop-place-preserved : goal.loop-place-preserved
-loop-place-preserved g c =
-    let lists = c.args.lists.now in
-    let places = c.args.places.now in
-    let i = c.loop-place.place-index in
-    let l = c.list_at.result.now in
-    let signs = λ (one : CrlState). IsSignedBy (g.V.Verifier.verifies c.args.verifier.now) c.args.issuer.now.cert.fields.key one.list.signed_data in
-    let low = inside lists c.args.issuer.now.cert.fields places c.requires (get_or places i 0) (Contains-get_or places i 0 c.loop-place-test.true) in
-    let more = at_more lists places i l c.loop-place-test.true low c.list_at.ensures in
-    subst (λ (ls : List CrlState). (one : CrlState) → Contains ls one → signs one → ⊥) (sym more)
-    (each_more (λ (one : CrlState). signs one → ⊥) (lists_at lists (take i places)) l c.loop-place.invariant (λ is. false≢true (c.if-is_signed_by.ensures.1 is)))
+    one_signed names x c.args.lists.now c.args.issuer.now.cert.fields cert below none (c.has_signed_if_known.ensures.0 c.if-has_signed_if_known.true)
 
 pub returns : goal.returns
 returns g c = λ names now strict none cert below eligible.
     let x = context (g.V.Verifier.verifies c.args.verifier.now) now strict in
-    let lists = c.args.lists.now in
-    let issuer = c.args.issuer.now.cert.fields in
-    let places = c.args.places.now in
-    let signs = λ (one : CrlState). IsSignedBy (g.V.Verifier.verifies c.args.verifier.now) issuer.key one.list.signed_data in
-    let all = take_all c.loop-place.place-index places c.loop-place-test.false in
-    none_signed names x lists issuer cert below places c.requires none
-    (subst (λ (ps : List ℕ). (one : CrlState) → Contains (lists_at lists ps) one → signs one → ⊥) all c.loop-place.invariant)
+    none_signed names x c.args.lists.now c.args.issuer.now.cert.fields cert below none (λ is. both_ways c.has_signed_if_known.result c.if-has_signed_if_known.false (c.has_signed_if_known.ensures.1 is))

@@ -36,7 +36,7 @@ returns-clause-tells g c =
       d.1,
       subst (λ (r : Result Ended AllocError). TellsBelow x asked admits c.args.issuer.now w.folder.now.certs [] w.bounds.depth w.bounds.steps r d.0) (sym c.walked.ensures.ended)
           (subst (λ (n : ℕ). TellsBelow x asked admits c.args.issuer.now w.folder.now.certs [] w.bounds.depth n c.descend-ended.result d.0) c.whole.ensures.steps
-          (subst (λ (l : List ℕ). TellsBelow x asked admits c.args.issuer.now w.folder.now.certs l w.bounds.depth c.whole.result.steps c.descend-ended.result d.0) c.new.ensures.items d.2)),
+          (subst (λ (l : List ℕ). TellsBelow x asked admits c.args.issuer.now w.folder.now.certs l w.bounds.depth c.whole.result.steps c.descend-ended.result d.0) c.new-2.ensures.items d.2)),
     )
 
 -- what the trail counts of the walk, if it ended
@@ -55,10 +55,10 @@ returns-clause-limits g c =
     let all : walked.limits ≡ new = if_ok (λ (k : Walked). k.limits ≡ new) c.walked.result walked is c.walked.ensures.limits in
     let ends : c.descend-ended.result ≡ ended_of c.walked.result = sym c.walked.ensures.ended in
     let how = ends ∙ ap (λ (r : Result Walked AllocError). ended_of r) is in
-    let k = if_ok (λ (e : Ended). KeepsBelow x asked admits issuer certs c.new.result.items w.bounds.depth c.whole.result old new e) c.descend-ended.result walked.ended how c.descend-ended.ensures.limits in
-    let here = subst (λ (l : List ℕ). KeepsBelow x asked admits issuer certs l w.bounds.depth c.whole.result old new walked.ended) c.new.ensures.items k in
+    let k = if_ok (λ (e : Ended). KeepsBelow x asked admits issuer certs c.new-2.result.items w.bounds.depth c.whole.result old new e) c.descend-ended.result walked.ended how c.descend-ended.ensures.limits in
+    let here = subst (λ (l : List ℕ). KeepsBelow x asked admits issuer certs l w.bounds.depth c.whole.result old new walked.ended) c.new-2.ensures.items k in
     let told = subst (λ (t : LimitTable). KeepsBelow x asked admits issuer certs [] w.bounds.depth c.whole.result old t walked.ended) (sym all) here in
-    let empty = subst (λ (n : ℕ). IsEmpty start n old) c.len.ensures c.in_ok-limits.ensures in
+    let empty = subst (λ (n : ℕ). IsEmpty start n old) (ap length c.certs.ensures) c.in_ok-limits.ensures in
     let r = kept_whole x asked admits issuer certs w.bounds.depth c.whole.result start (length certs) old walked empty c.whole.ensures.cost told in (
       r.0,
       r.1,

@@ -1,5 +1,5 @@
 use Rattle.std.specs.Prelude.{Result}
-use Rattle.std.proofs.Common.{◌≡◌, List, ℕ, [], length, subst}
+use Rattle.std.proofs.Common.{◌≡◌, List, ℕ, [], length, ap, subst}
 use Rattle.rpki_cert.specs.Certificates.{CertFields}
 use Rattle.rpki_cert.specs.Verification.{Context, context}
 use Rattle.rpki_path.specs.Asking.{RevocationChecks}
@@ -84,7 +84,7 @@ returns-clause-limits g c =
     let leads = c.in_ok-issuer.ensures.ok in
     let told = c.in_ok-walked.ensures.limits in (
       told.0,
-      subst (λ (n : ℕ). HasReached n (length certs) told.0 c.in_ok-walked.field-0) c.len.ensures told.1,
+      subst (λ (n : ℕ). HasReached n (length certs) told.0 c.in_ok-walked.field-0) (ap length c.certs.ensures) told.1,
       (λ top begins.
           let is = anchor_is x asked c.args.tal.now c.args.anchor.now c.in_ok-issuer.issuer leads c.unambiguous.ensures.certificate top begins in
           subst (λ (d : CertFields). AreLimited x asked (IsLookedAt w.names (g.A.Admission.admits w.admission.now) d certs) root certs w.bounds.depth w.bounds.steps told.0) is (told.2 root leads)),
