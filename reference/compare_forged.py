@@ -259,7 +259,14 @@ def unreadable_wrongs(asker, rng, added, question, locator):
         status, said, errors = asked(asker.program, files, [*words, *mixed], form)
         _, said_without, _ = asked(asker.program, question.wild, [*words, *tail], form)
         yield from visible_wrongs(said, errors)
-        if status != 3 or said != said_without or len(errors.splitlines()) != len(names):
+        lines = errors.splitlines()
+        if form == 'json':
+            # beside the same answer JSON has the names, escaped as on standard error
+            said, said_without = json.loads(said), json.loads(said_without)
+            unread = [it.decode('ascii').removeprefix('rpki: ').rpartition(': a file')[0] for it in lines]
+            if said.pop('unread') != unread or said_without.pop('unread', []) != []:
+                yield f'json: names that aren\'t UTF-8 as unread: {errors!r}'
+        if status != 3 or said != said_without or len(lines) != len(names):
             yield f'{form}: names that aren\'t UTF-8: status {status}: {errors!r}'
 
 

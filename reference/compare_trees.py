@@ -196,9 +196,9 @@ def random_locators(rng, pool, keys, maker):
     return some
 
 
-def named_by_uri(rng, files):
-    """Some of the files have the names that caIssuers URIs have behind `rsync://`."""
-    uris = [it.decode()[len('rsync://'):] for it in random_folders.ISSUER_URIS]
+def named_by_uri(rng, files, root):
+    """Some of the files have the names below a directory that caIssuers URIs have behind `rsync://`."""
+    uris = [root + it.decode()[len('rsync://'):] for it in random_folders.ISSUER_URIS]
     some = dict(zip(rng.sample(range(len(files)), min(len(files), len(uris))), uris))
     return [it._replace(name=some.get(place, it.name)) for place, it in enumerate(files)]
 
@@ -207,9 +207,10 @@ def random_question(rng, pool):
     """Random files, and what is asked of them."""
     some, keys, maker = random_files(rng, pool)
     is_folder = chance(rng, 0.33)
-    files = [File(('d/' if is_folder else '') + random_name(rng, end), octets) for end, octets in some]
-    if not is_folder and chance(rng, 0.5):
-        files = named_by_uri(rng, files)
+    root = 'd/' if is_folder else ''
+    files = [File(root + random_name(rng, end), octets) for end, octets in some]
+    if chance(rng, 0.5):
+        files = named_by_uri(rng, files, root)
     files = list({it.name: it for it in files}.values())
     files += [rng.choice(files)] * chance(rng, 0.1 * (not is_folder))
     skipped = [it for it in files if is_folder and not it.name.endswith(('.cer', '.crl'))]
@@ -220,7 +221,7 @@ def random_question(rng, pool):
     return Asked(Question(
         files, random_locators(rng, pool, keys, maker), chance(rng, 0.7), chance(rng, 0.8), now,
         rng.choice([32, 32, 6, rng.randrange(5)]), rng.choice([10_000_000, 6000, rng.randrange(60)]),
-        chance(rng, 0.3), chance(rng, 0.3)), skipped, is_folder, pem)
+        chance(rng, 0.3), chance(rng, 0.3), root), skipped, is_folder, pem)
 
 
 def new_signers():

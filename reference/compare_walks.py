@@ -60,7 +60,7 @@ MANY_STEPS = 100000
 MOST_SECONDS = 3600     # also on a machine with other work
 AT = '%04d-%02d-%02dT%02d:%02d:%02dZ' % random_folders.NOW
 STEPS = {'profile', 'verification', 'revocation'}
-UNSEEN = {'below_rejected', 'below_unseen', 'not_looked_at', 'not_issued', 'no_issuer'}
+UNSEEN = {'below_rejected', 'below_unseen', 'not_looked_at', 'not_issued', 'issuer_not_ca', 'no_issuer'}
 
 
 class Told:

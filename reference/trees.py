@@ -29,11 +29,13 @@ ENDS = ('out_of_steps', 'too_deep', 'whole')
 WORDS = {'trust_anchor': 'trust anchor', 'accepted': 'accepted', 'rejected': 'rejected',
          'below_rejected': 'below a rejected CA', 'below_unseen': 'below an unjudged CA',
          'not_looked_at': 'not looked at', 'not_issued': 'not issued by a CA here',
-         'no_issuer': 'no issuer here', 'crl': 'CRL', 'neither': 'neither certificate nor CRL'}
+         'issuer_not_ca': 'issuer isn\'t a CA', 'no_issuer': 'no issuer here', 'crl': 'CRL',
+         'neither': 'neither certificate nor CRL'}
 # and of the line that counts such files
 COUNTS = {**{key: it[0].upper() + it[1:] for key, it in WORDS.items()},
           'trust_anchor': 'Trust anchors', 'crl': 'CRLs', 'neither': 'Other files'}
-UNACCEPTED = ('rejected', 'below_rejected', 'below_unseen', 'not_looked_at', 'not_issued', 'no_issuer')
+UNACCEPTED = ('rejected', 'below_rejected', 'below_unseen', 'not_looked_at', 'not_issued', 'issuer_not_ca',
+              'no_issuer')
 
 
 class Question(NamedTuple):
@@ -46,6 +48,7 @@ class Question(NamedTuple):
     steps: int = 10_000_000
     only: bool = False
     strict_exit: bool = False
+    root: str = ''              # with what names begin below the directory that is named
 
 
 class Verdict(NamedTuple):
@@ -258,12 +261,12 @@ def limit_at(parts, place):
 
 def standing(parts, place):
     """How a certificate stands as an issuer: a CA at which a walk reached a limit on each path, one below which
-    it looked, another that is accepted, one that is rejected, or neither."""
+    it looked, one that is rejected, one that is accepted and no CA, or neither."""
     if best_rank(parts, place) <= 1:
         if any(is_looked_at(it, place) for it in parts):
             return 1
-        return 0 if limit_at(parts, place) else 2
-    return 3 if best_rank(parts, place) == 2 or wrong_at(parts, place) else 4
+        return 0 if limit_at(parts, place) else 3
+    return 2 if best_rank(parts, place) == 2 or wrong_at(parts, place) else 4
 
 
 def unseen(found, cert, told):
@@ -275,7 +278,7 @@ def unseen(found, cert, told):
     best = min(standing(found.parts, it) for it in named)
     issuers = [it for it in named if standing(found.parts, it) == best]
     issuer = next((it for it in issuers if found.rows[it].file.name == told.get('issuer')), issuers[0])
-    words = 'not_looked_at', 'not_issued', 'not_issued', 'below_rejected', 'below_unseen'
+    words = 'not_looked_at', 'not_issued', 'below_rejected', 'issuer_not_ca', 'below_unseen'
     return Said(words[best], issuer=issuer, limit=limit_at(found.parts, issuer) if best == 0 else None)
 
 
@@ -364,7 +367,7 @@ def find(question, told):
     rows = [row_of(file, certs.get(place)) for place, file in enumerate(question.files)]
     named = {}
     for place, _ in its.certs:
-        named.setdefault(b'rsync://' + question.files[place].name.encode(), place)
+        named.setdefault(b'rsync://' + question.files[place].name.removeprefix(question.root).encode(), place)
     found = Found(parts, its.certs, rows, copies(its), named)
     for place, cert in its.certs:
         rows[place] = rows[place]._replace(said=said_of(found, place, cert, lines[place]),
@@ -381,6 +384,13 @@ def damage(question):
     others = [it for it in question.files if is_neither(it)]
     return (sum(it.name.endswith('.crl') for it in others),
             sum(not it.name.endswith(APART) and not sorts.is_meant_as_locator(it.octets) for it in others))
+
+
+def without_crl(found):
+    """The keys of the CAs of which no CRL can be asked: what is rejected since then names them."""
+    faults = {place: it.said.fault for place, it in enumerate(found.rows) if it.said.fault}
+    return {cert.tbs.authority_key_identifier for place, cert in found.certs
+            if place in faults and faults[place].step == 'revocation' and faults[place].name != 'Revoked'}
 
 
 def are_anchors(found):
@@ -478,10 +488,13 @@ def say_row(answer, found, row):
         last = doc.inner if word == 'no_issuer' else doc.text
         answer.head(WORDS[word], last((*its, 'file'), row.file.name))
     else:
-        last = doc.inner if row.said.limit else doc.text
+        behind = limit_pieces(its, row.said.limit) if row.said.limit else []
+        if word == 'below_rejected':
+            behind = [doc.text((*its, 'issuer_fault'), found.rows[row.said.issuer].said.fault.name)]
+        last = doc.inner if behind else doc.text
         answer.head(WORDS[word], doc.inner((*its, 'file'), row.file.name), ', issuer ',
                     last((*its, 'issuer'), found.rows[row.said.issuer].file.name),
-                    *([': ', *limit_pieces(its, row.said.limit)] if row.said.limit else []))
+                    *([': ', *behind] if behind else []))
     answer.keep(doc.word((*its, 'verdict'), '', word))
     if row.limit:
         answer.further(*limit_pieces(its, row.limit))
@@ -505,6 +518,7 @@ def say_counts(answer, found):
 def say_damage(answer, question, found):
     lists, others = damage(question)
     answer.line('Malformed CRLs', doc.count(('malformed_crls',), lists))
+    answer.line('CAs without current CRL', doc.count(('cas_without_current_crl',), len(without_crl(found))))
     answer.line('Unknown files', doc.count(('unknown_files',), others))
     answer.line('Trust anchors only', doc.flag(('only_trust_anchors',), are_anchors(found)))
 
@@ -538,6 +552,7 @@ def answer_of(question, found):
             say_row(answer, found, row)
     answer.line('Validation time', doc.time(('validation_time',), question.now))
     say_counts(answer, found)
+    answer.array(('unread',))
     say_damage(answer, question, found)
     say_end(answer, question, found)
     return answer

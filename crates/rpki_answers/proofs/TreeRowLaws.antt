@@ -1,5 +1,6 @@
 -- The lines of rows, and their counts.
 use Rattle.std.specs.List.{AllByRecursion}
+use Rattle.std.specs.Option.{option_map}
 use Rattle.std.specs.Prelude.{Bool, true, false, cond, suc, if◌then◌else◌, Option, None, Some}
 use Rattle.std.proofs.Common.{◌≡◌, ◌∙◌, ◌+◌, ◌==◌, ℕ, List, [], ◌∷◌, ◌++◌, length, map, refl, sym, ap, subst, append_assoc, arith}
 use Rattle.std.proofs.lemmas.List.Sums.{sum_by-cons}
@@ -102,8 +103,8 @@ said_rows certs name (said.Accepted t p kind) nodes (held, several, are, paths, 
     )
 said_rows certs name (said.Rejected fault) nodes is =
     (behind_of (rejected_head name fault.rule.says.now fault.name.now fault.rule.section.now), [], tt, ap (λ (l : List Node). document_rows (document_of l)) is)
-said_rows certs name (said.Unseen why) nodes is =
-    (behind_of (row_head (unseen_word why) (file_first name (unseen_spans certs why))), [], tt, ap (λ (l : List Node). document_rows (document_of l)) is)
+said_rows certs name (said.Unseen why error) nodes is =
+    (behind_of (row_head (unseen_word why) (file_first name (unseen_spans certs why (option_map (λ e. e.now) error)))), [], tt, ap (λ (l : List Node). document_rows (document_of l)) is)
 said_rows certs name said.Anchor nodes is = (behind_of (row_head word.Anchor (file_last name)), [], tt, ap (λ (l : List Node). document_rows (document_of l)) is)
 said_rows certs name said.Crl nodes is = (behind_of (row_head word.Crl (file_last name)), [], tt, ap (λ (l : List Node). document_rows (document_of l)) is)
 said_rows certs name said.Neither nodes is = (behind_of (row_head word.Neither (file_last name)), [], tt, ap (λ (l : List Node). document_rows (document_of l)) is)
@@ -125,7 +126,7 @@ begin_with_word certs row nodes (of_it, are, is) =
 abbrev total : (Word → ℕ) → ℕ
 total f =
     f word.Anchor + f word.Accepted + f word.Rejected + f word.BelowRejected + f word.BelowUnseen
-    + f word.NotLookedAt + f word.NotIssued + f word.NoIssuer + f word.Crl + f word.Neither
+    + f word.NotLookedAt + f word.NotIssued + f word.NotCa + f word.NoIssuer + f word.Crl + f word.Neither
 
 -- a word is one of them
 one_word : (w : Word) → total (λ v. cond (is_word v w) 1 0) ≡ 1
@@ -136,6 +137,7 @@ one_word word.BelowRejected = refl
 one_word word.BelowUnseen = refl
 one_word word.NotLookedAt = refl
 one_word word.NotIssued = refl
+one_word word.NotCa = refl
 one_word word.NoIssuer = refl
 one_word word.Crl = refl
 one_word word.Neither = refl
@@ -150,6 +152,7 @@ total_more f g h n both one rest = omega (
   both word.BelowUnseen,
   both word.NotLookedAt,
   both word.NotIssued,
+  both word.NotCa,
   both word.NoIssuer,
   both word.Crl,
   both word.Neither,

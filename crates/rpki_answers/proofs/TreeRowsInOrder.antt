@@ -17,7 +17,7 @@ use Rattle.rpki_text.specs.declared.command_line.arguments.Format.{Format}
 use Rattle.rpki_text.specs.declared.command_line.arguments.Format.TheVariants.{Text, Json, JsonLines}
 use Rattle.rpki_verdicts.specs.declared.parts.Trees.{Trees}
 use Rattle.rpki_answers.specs.JsonTexts.{value_text}
-use Rattle.rpki_answers.specs.TreeDocuments.{IsRowDocument, PrintsRow, PrintsRows, errors_of, files_node, is_printed, rendered, said_error, tree_text, with_error}
+use Rattle.rpki_answers.specs.TreeDocuments.{IsRowDocument, PrintsRow, PrintsRows, errors_of, files_node, is_printed, rendered, said_error, tree_text, unasked_of, with_error, with_unasked}
 use Rattle.rpki_answers.specs.TreeDocuments.Steps.{AddsDocuments, AddsRow, AddsRows, Appends, AppendsRow, AppendsRows}
 use Rattle.rpki_answers.specs.TreeRows.{AreRows, AreRowsFrom, IsRow}
 use Rattle.rpki_answers.specs.declared.tree_rows.Row.{Row}
@@ -180,3 +180,10 @@ pub error_next : (rows : List Row) (i : ℕ) (row : Row) → i < length rows →
 error_next rows i row low there =
     let more : take (i + 1) rows ≡ take i rows ++ row ∷ [] = take_more rows i row low ∙ ap (λ (y : Row). take i rows ++ y ∷ []) (sym there) in
     ap (λ (l : List Row). errors_of l) more ∙ fold-append (λ names row. with_error names (said_error row.said)) [] (take i rows) (row ∷ [])
+
+-- ---- keys
+
+pub unasked_next : (rows : List Row) (i : ℕ) (row : Row) → i < length rows → row ≡ get_or rows i row → unasked_of (take (i + 1) rows) ≡ with_unasked (unasked_of (take i rows)) row.unasked
+unasked_next rows i row low there =
+    let more : take (i + 1) rows ≡ take i rows ++ row ∷ [] = take_more rows i row low ∙ ap (λ (y : Row). take i rows ++ y ∷ []) (sym there) in
+    ap (λ (l : List Row). unasked_of l) more ∙ fold-append (λ keys row. with_unasked keys row.unasked) [] (take i rows) (row ∷ [])

@@ -1,5 +1,5 @@
 -- What is answered of the files that a request names.
-use Rattle.std.specs.Prelude.{◌≡◌, unwrap_or, ℕ, List, []}
+use Rattle.std.specs.Prelude.{◌≡◌, slice_get, unwrap_or, ℕ, List, []}
 use Rattle.rpki_keys.specs.RsaSignatures.{IsSignedByRsa}
 use Rattle.rpki_der.specs.Times.{Moment}
 use Rattle.rpki_cert.specs.Verification.{context}
@@ -12,6 +12,7 @@ use Rattle.rpki_verdicts.specs.Trees.{TreeFields}
 use Rattle.rpki_answers.specs.ShownFiles.{IsJsonOfFiles, IsTextOfFiles, is_single}
 use Rattle.rpki_answers.specs.TreeDocuments.{IsTree}
 use Rattle.rpki_answers.specs.TreeRows.{IsAcceptingFinding, IsTreeFinding}
+use Rattle.rpki_answers.specs.UnreadNames.{unread_names}
 use Rattle.rpki_answers.specs.Verdicts.{IsJsonOfPath, IsTextOfPath}
 use Rattle.rpki_text.specs.declared.command_line.arguments.Task.{Task}
 use Rattle.rpki_text.specs.declared.command_line.arguments.Task.TheVariants.{Show, Validate, Tree}
@@ -36,11 +37,13 @@ question_of r now members lists locators =
 abbrev pub usual_depth : ℕ
 usual_depth = 32
 
--- and what it asks of files in no order
+-- and what it asks of files in no order; its first folder, if there is one, is that below which names
+-- are compared with URIs
 abbrev pub tree_question_of : RequestFields → Moment → List FileFields → List LocatorFields → TreeFields
 tree_question_of r now files locators = record {
   files = files;
   locators = locators;
+  root = unwrap_or (slice_get r.folders 0) [];
   names = r.names;
   strict = r.strict;
   at = now;
@@ -53,12 +56,12 @@ abbrev pub tree_options_of : RequestFields → TreeOptions
 tree_options_of r =
     record { format = r.format; only_rejected = r.only_rejected; strict_exit = r.strict_exit }
 
--- what is printed of files in no order is this of what is found, and the run ends so: as success only
--- where all are accepted, and as rejection only where they aren't
-abbrev pub IsTreeBy : TreeOptions → TreeFields → Outcome → List ℕ → Type 0
-IsTreeBy options q outcome text =
+-- what is printed of files in no order, beside which these can't be read, is this of what is found, and
+-- the run ends so: as success only where all are accepted, and as rejection only where they aren't
+abbrev pub IsTreeBy : TreeOptions → TreeFields → List (List ℕ) → Outcome → List ℕ → Type 0
+IsTreeBy options q unread outcome text =
     (finding : TreeFinding) × IsTreeFinding (context IsSignedByRsa q.at q.strict) q finding
-    × IsTree options.format options.only_rejected q finding text
+    × IsTree options.format options.only_rejected q finding unread text
     × (outcome ≡ Success → IsAcceptingFinding options.strict_exit finding)
     × (outcome ≡ Rejection → IsAcceptingFinding options.strict_exit finding → ⊥)
 
@@ -72,7 +75,8 @@ IsTextBy Validate Unread r now files lists locators text = text ≡ []
 IsTextBy Validate outcome r now files lists locators text =
     IsTextOfPath (context IsSignedByRsa now r.strict) (question_of r now files lists locators) text
 IsTextBy Tree outcome r now files lists locators text =
-    IsTreeBy (tree_options_of r) (tree_question_of r now files locators) outcome text
+    IsTreeBy (tree_options_of r) (tree_question_of r now files locators) (unread_names r.files files)
+    outcome text
 IsTextBy _ outcome r now files lists locators text = ⊥
 
 -- its JSON, in the format that is asked
@@ -84,5 +88,6 @@ IsJsonBy Validate Unread r now files lists locators text = text ≡ []
 IsJsonBy Validate outcome r now files lists locators text =
     IsJsonOfPath r.format (context IsSignedByRsa now r.strict) (question_of r now files lists locators) text
 IsJsonBy Tree outcome r now files lists locators text =
-    IsTreeBy (tree_options_of r) (tree_question_of r now files locators) outcome text
+    IsTreeBy (tree_options_of r) (tree_question_of r now files locators) (unread_names r.files files)
+    outcome text
 IsJsonBy _ outcome r now files lists locators text = ⊥

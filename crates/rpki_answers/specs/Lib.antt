@@ -2,6 +2,7 @@
 pub mod Outcomes
 pub mod VerdictTexts
 pub mod TreeRows
+pub mod UnreadNames
 pub mod TreeDocuments
 pub mod TreeLaws
 pub mod JsonTexts

@@ -1,9 +1,13 @@
 -- The document of files in no order: a head for each TAL, a row for each file, and the counts (own).
+use Rattle.std.specs.BTreeSet.{insert_key}
 use Rattle.std.specs.Bool.{MatchBool}
+use Rattle.std.specs.Cmp.Lexicographic.{slice_cmp}
 use Rattle.std.specs.List.{AllZip, flat_map, list_any}
+use Rattle.std.specs.Option.{option_map}
+use Rattle.std.specs.Ordering.{nat_cmp}
 use Rattle.std.specs.Prelude.{◌≡◌, ◌==◌, ◌↔◌, ℕ, Bool, IsTrue, true, false, if◌then◌else◌, fold, List, [], ◌∷◌, ◌++◌, length, map, count_by, codes, unwrap_or, Option, Some, None}
 use Rattle.std.specs.Str.{bytes_eq}
-use Rattle.rpki_document.specs.Documents.{text, inner, count, flag, Span, say, tell, show, keep, Node, head, line, further, unsaid, inside, each, aside, document_of, document_text, document_json, kept}
+use Rattle.rpki_document.specs.Documents.{text, inner, characters, count, flag, Span, say, tell, show, keep, Node, head, line, further, unsaid, inside, each, aside, document_of, document_text, document_json, kept}
 use Rattle.rpki_files.specs.Files.{FileFields}
 use Rattle.rpki_folder.specs.declared.bounds.Ended.{Ended}
 use Rattle.rpki_folder.specs.declared.bounds.Ended.TheVariants.{Whole, TooDeep, OutOfSteps}
@@ -45,6 +49,7 @@ pub mod Steps
 abbrev pub unseen_word : Why → Word
 unseen_word why.NoIssuer = word.NoIssuer
 unseen_word (why.NotBelow issuer) = word.NotIssued
+unseen_word (why.NotCa issuer) = word.NotCa
 unseen_word (why.NotLookedAt issuer limit) = word.NotLookedAt
 unseen_word (why.BelowRejected issuer) = word.BelowRejected
 unseen_word (why.BelowUnseen issuer) = word.BelowUnseen
@@ -54,7 +59,7 @@ abbrev pub word_of : Said → Word
 word_of said.Anchor = word.Anchor
 word_of (said.Accepted tree paths kind) = word.Accepted
 word_of (said.Rejected fault) = word.Rejected
-word_of (said.Unseen reason) = unseen_word reason
+word_of (said.Unseen reason error) = unseen_word reason
 word_of said.Crl = word.Crl
 word_of said.Neither = word.Neither
 
@@ -67,6 +72,7 @@ word_label word.BelowRejected = codes "below a rejected CA"
 word_label word.BelowUnseen = codes "below an unjudged CA"
 word_label word.NotLookedAt = codes "not looked at"
 word_label word.NotIssued = codes "not issued by a CA here"
+word_label word.NotCa = codes "issuer isn't a CA"
 word_label word.NoIssuer = codes "no issuer here"
 word_label word.Crl = codes "CRL"
 word_label word.Neither = codes "neither certificate nor CRL"
@@ -80,6 +86,7 @@ word_key word.BelowRejected = codes "below_rejected"
 word_key word.BelowUnseen = codes "below_unseen"
 word_key word.NotLookedAt = codes "not_looked_at"
 word_key word.NotIssued = codes "not_issued"
+word_key word.NotCa = codes "issuer_not_ca"
 word_key word.NoIssuer = codes "no_issuer"
 word_key word.Crl = codes "crl"
 word_key word.Neither = codes "neither"
@@ -165,17 +172,25 @@ limited_spans issuer limit =
     say (codes ", issuer ") ∷ tell (codes "issuer") (inner issuer) ∷ say (codes ": ")
     ∷ limit_spans limit
 
--- of such a certificate, among these
-abbrev pub unseen_spans : List FileFields → Why → List Span
-unseen_spans certs why.NoIssuer = []
-unseen_spans certs (why.NotBelow issuer) = issuer_spans (name_of certs issuer)
-unseen_spans certs (why.NotLookedAt issuer limit) = limited_spans (name_of certs issuer) limit
-unseen_spans certs (why.BelowRejected issuer) = issuer_spans (name_of certs issuer)
-unseen_spans certs (why.BelowUnseen issuer) = issuer_spans (name_of certs issuer)
+-- and its error, if it has one
+abbrev pub rejected_spans : List ℕ → Option (List ℕ) → List Span
+rejected_spans issuer None = issuer_spans issuer
+rejected_spans issuer (Some error) =
+    say (codes ", issuer ") ∷ tell (codes "issuer") (inner issuer) ∷ say (codes ": ")
+    ∷ tell (codes "issuer_fault") (text error) ∷ []
 
-abbrev pub unseen_row : List FileFields → List ℕ → Why → List Node
-unseen_row certs name reason =
-    row_head (unseen_word reason) (file_first name (unseen_spans certs reason)) ∷ []
+-- of such a certificate, among these
+abbrev pub unseen_spans : List FileFields → Why → Option (List ℕ) → List Span
+unseen_spans certs why.NoIssuer error = []
+unseen_spans certs (why.NotBelow issuer) error = issuer_spans (name_of certs issuer)
+unseen_spans certs (why.NotCa issuer) error = issuer_spans (name_of certs issuer)
+unseen_spans certs (why.NotLookedAt issuer limit) error = limited_spans (name_of certs issuer) limit
+unseen_spans certs (why.BelowRejected issuer) error = rejected_spans (name_of certs issuer) error
+unseen_spans certs (why.BelowUnseen issuer) error = issuer_spans (name_of certs issuer)
+
+abbrev pub unseen_row : List FileFields → List ℕ → Why → Option (List ℕ) → List Node
+unseen_row certs name reason error =
+    row_head (unseen_word reason) (file_first name (unseen_spans certs reason error)) ∷ []
 
 -- the names of the CAs at these places, each behind an arrow
 abbrev pub below_spans : List FileFields → List ℕ → List Span
@@ -260,7 +275,8 @@ IsAccepted name tree paths kind nodes =
 abbrev pub AreSaid : List FileFields → List ℕ → Said → List Node → Type 0
 AreSaid certs name (said.Accepted tree paths kind) nodes = IsAccepted name tree.now paths kind nodes
 AreSaid certs name (said.Rejected fault) nodes = nodes ≡ rejected_row name fault
-AreSaid certs name (said.Unseen reason) nodes = nodes ≡ unseen_row certs name reason
+AreSaid certs name (said.Unseen reason error) nodes =
+    nodes ≡ unseen_row certs name reason (option_map (λ e. e.now) error)
 AreSaid certs name said.Anchor nodes = nodes ≡ row_head word.Anchor (file_last name) ∷ []
 AreSaid certs name said.Crl nodes = nodes ≡ row_head word.Crl (file_last name) ∷ []
 AreSaid certs name said.Neither nodes = nodes ≡ row_head word.Neither (file_last name) ∷ []
@@ -349,6 +365,7 @@ count_lines rows =
     ∷ count_line (codes "Below an unjudged CA") word.BelowUnseen rows
     ∷ count_line (codes "Not looked at") word.NotLookedAt rows
     ∷ count_line (codes "Not issued by a CA here") word.NotIssued rows
+    ∷ count_line (codes "Issuer isn't a CA") word.NotCa rows
     ∷ count_line (codes "No issuer here") word.NoIssuer rows
     ∷ count_line (codes "CRLs") word.Crl rows
     ∷ count_line (codes "Other files") word.Neither rows
@@ -391,10 +408,20 @@ error_node rows name = inside [] (document_of (
 abbrev pub errors_node : List Row → Node
 errors_node rows = each (codes "errors") (document_of (map (error_node rows) (errors_of rows)))
 
+-- the keys of the CAs of which no CRL can be asked, with that of a row; each once, by their octets
+abbrev pub with_unasked : List (List ℕ) → Option (List ℕ) → List (List ℕ)
+with_unasked keys None = keys
+with_unasked keys (Some key) = insert_key (slice_cmp nat_cmp) keys key
+
+abbrev pub unasked_of : List Row → List (List ℕ)
+unasked_of rows = fold (λ keys row. with_unasked keys row.unasked) [] rows
+
 -- what damages a cache
-abbrev pub damage_nodes : Trees → List Node
-damage_nodes trees =
+abbrev pub damage_nodes : Trees → List Row → List Node
+damage_nodes trees rows =
     line (codes "Malformed CRLs") (tell (codes "malformed_crls") (count trees.broken_lists) ∷ [])
+    ∷ line (codes "CAs without current CRL")
+    (tell (codes "cas_without_current_crl") (count (length (unasked_of rows))) ∷ [])
     ∷ line (codes "Unknown files") (tell (codes "unknown_files") (count trees.others) ∷ [])
     ∷ line (codes "Trust anchors only") (tell (codes "only_trust_anchors") (flag (are_anchors trees)) ∷ [])
     ∷ []
@@ -431,11 +458,16 @@ tree_asked names =
     unsaid (keep (codes "names_checked") (flag names) ∷ keep (codes "manifests_checked") (flag false)
     ∷ keep (codes "last_keys_checked") (flag false) ∷ [])
 
+-- the names of what can't be read, for a program
+abbrev pub unread_node : List (List ℕ) → Node
+unread_node unread =
+    each (codes "unread") (document_of (map (λ name. kept [] (characters name)) unread))
+
 -- what is said behind the rows
-abbrev pub end_nodes : TreeFields → Trees → List Row → List Node
-end_nodes q trees rows =
-    time_node q.at ∷ counts_node trees rows ∷ errors_node rows
-    ∷ (damage_nodes trees ++ searched_line q (worst_end trees.parts.items)
+abbrev pub end_nodes : TreeFields → Trees → List Row → List (List ℕ) → List Node
+end_nodes q trees rows unread =
+    time_node q.at ∷ counts_node trees rows ∷ errors_node rows ∷ unread_node unread
+    ∷ (damage_nodes trees rows ++ searched_line q (worst_end trees.parts.items)
     ∷ (tree_unchecked q ++ tree_asked q.names ∷ []))
 
 -- where a file given as a TAL is none
@@ -462,18 +494,18 @@ tree_text JsonLines heads documents ends =
     flat_map (rendered JsonLines) documents ++ rendered JsonLines (heads ∷ ends)
 tree_text Json heads documents ends = rendered Json (heads ∷ files_node documents ∷ ends)
 
--- of trees, and of these rows, this is printed
-abbrev pub PrintsTrees : Format → Bool → TreeFields → Trees → List Row → List ℕ → Type 0
-PrintsTrees format only q trees rows printed =
+-- of trees, of these rows, and of these names that can't be read, this is printed
+abbrev pub PrintsTrees : Format → Bool → TreeFields → Trees → List Row → List (List ℕ) → List ℕ → Type 0
+PrintsTrees format only q trees rows unread printed =
     (documents : List (List Node)) × PrintsRows only (files_of trees) rows documents
-    × (printed ≡ tree_text format (tals_node trees) documents (end_nodes q trees rows))
+    × (printed ≡ tree_text format (tals_node trees) documents (end_nodes q trees rows unread))
 
 -- of trees, this is printed
-abbrev pub AreTreesSaid : Format → Bool → TreeFields → Trees → List ℕ → Type 0
-AreTreesSaid format only q trees printed =
-    (rows : List Row) × AreRows trees q.files rows × PrintsTrees format only q trees rows printed
+abbrev pub AreTreesSaid : Format → Bool → TreeFields → Trees → List (List ℕ) → List ℕ → Type 0
+AreTreesSaid format only q trees unread printed =
+    (rows : List Row) × AreRows trees q.files rows × PrintsTrees format only q trees rows unread printed
 
 -- of what is found
-abbrev pub IsTree : Format → Bool → TreeFields → TreeFinding → List ℕ → Type 0
-IsTree format only q (NotALocator fault) printed = printed ≡ rendered format (no_locator_nodes q fault)
-IsTree format only q (Answered trees) printed = AreTreesSaid format only q trees printed
+abbrev pub IsTree : Format → Bool → TreeFields → TreeFinding → List (List ℕ) → List ℕ → Type 0
+IsTree format only q (NotALocator fault) unread printed = printed ≡ rendered format (no_locator_nodes q fault)
+IsTree format only q (Answered trees) unread printed = AreTreesSaid format only q trees unread printed

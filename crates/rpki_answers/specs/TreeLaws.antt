@@ -27,5 +27,5 @@ CountsAddUp =
     (rows : List Row)
     → count_of word.Anchor rows + count_of word.Accepted rows + count_of word.Rejected rows
     + count_of word.BelowRejected rows + count_of word.BelowUnseen rows
-    + count_of word.NotLookedAt rows + count_of word.NotIssued rows + count_of word.NoIssuer rows
-    + count_of word.Crl rows + count_of word.Neither rows ≡ length rows
+    + count_of word.NotLookedAt rows + count_of word.NotIssued rows + count_of word.NotCa rows
+    + count_of word.NoIssuer rows + count_of word.Crl rows + count_of word.Neither rows ≡ length rows

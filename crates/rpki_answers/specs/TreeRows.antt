@@ -1,10 +1,14 @@
 -- What is found of files in no order: the trees, and what is said of each file (own).
 use Rattle.std.specs.Bool.{MatchBool}
-use Rattle.std.specs.Prelude.{◌≡◌, ◌+◌, ◌⊎◌, ℕ, Bool, IsTrue, All, List, [], ◌∷◌, Option, None, Some}
+use Rattle.std.specs.Borrow.{Bor}
+use Rattle.std.specs.Option.{option_map}
+use Rattle.std.specs.Prelude.{◌≡◌, ◌+◌, ◌&&◌, ◌⊎◌, ℕ, Bool, false, not, IsTrue, All, List, [], ◌∷◌, codes, Option, None, Some}
+use Rattle.std.specs.Str.{bytes_eq}
 use Rattle.rpki_cert.specs.SaidKinds.{SaysKind}
 use Rattle.rpki_cert.specs.Verification.{Context}
 use Rattle.rpki_path.specs.Judging.{last_certificate}
 use Rattle.rpki_path.specs.declared.path_fault.PathFault.{PathFault}
+use Rattle.rpki_folder.specs.Folders.{NamesSigner}
 use Rattle.rpki_folder.specs.declared.bounds.Limit.{Limit}
 use Rattle.rpki_folder.specs.declared.lines.AcceptedPaths.{AcceptedPaths}
 use Rattle.rpki_folder.specs.declared.lines.Line.{Line}
@@ -15,10 +19,10 @@ use Rattle.rpki_files.specs.LocatorFiles.{AreLocator}
 use Rattle.rpki_verdicts.specs.GivenLocators.{locator_octets}
 use Rattle.rpki_verdicts.specs.PathAnswers.{IsNoLocator, reason_of}
 use Rattle.rpki_verdicts.specs.Reasons.{IsReason}
-use Rattle.rpki_verdicts.specs.ShownPaths.{AreShown}
-use Rattle.rpki_verdicts.specs.TreeParts.{AreAllAccepted, AreDamaged, AreTreesOf, files_of, shown_part, wrong_at}
+use Rattle.rpki_verdicts.specs.ShownPaths.{AreShown, placed_of}
+use Rattle.rpki_verdicts.specs.TreeParts.{AreAllAccepted, AreDamaged, AreTreesOf, shown_part, wrong_at}
 use Rattle.rpki_verdicts.specs.Trees.{TreeFields, is_anchor_at, line_at}
-use Rattle.rpki_verdicts.specs.UnseenCertificates.{IsUnseen, limit_at}
+use Rattle.rpki_verdicts.specs.UnseenCertificates.{IsUnseen, error_above, limit_at}
 use Rattle.rpki_verdicts.specs.declared.issuers.Unseen.{Unseen as Why}
 use Rattle.rpki_verdicts.specs.declared.parts.TreePart.{TreePart}
 use Rattle.rpki_verdicts.specs.declared.parts.Trees.{Trees}
@@ -50,16 +54,19 @@ IsAcceptingFinding strict_exit (Answered trees) =
 -- ---- a certificate
 
 -- of a certificate on which there is no verdict: it is wrong as the trust anchor of a TAL, or why
--- there is none
+-- there is none, with the error of a rejected issuer
 abbrev pub SaysUnseen : Trees → FileFields → Option WrongAnchor → Said → Type 0
 SaysUnseen trees file (Some w) said = said ≡ Rejected w.fault
-SaysUnseen trees file None said = (why : Why) × IsUnseen trees file why × (said ≡ Unseen why)
+SaysUnseen trees file None said =
+    (why : Why) × (error : Option (Bor (List ℕ))) × IsUnseen trees file why
+    × (option_map (λ name. name.now) error ≡ error_above trees why) × (said ≡ Unseen why error)
 
 -- where no verdict says it
 abbrev pub IsUnsaid : Trees → ℕ → FileFields → Said → Type 0
 IsUnsaid trees place file said = SaysUnseen trees file (wrong_at trees.parts.items place) said
 
--- of an accepted certificate in a tree over these files of certificates: the paths as they are shown,
+-- of an accepted certificate in a tree over these files of certificates, under their names below the
+-- directory that is named: the paths as they are shown,
 -- and as what it was judged by the shown one
 abbrev pub SaysAccepted : List FileFields → Tree → ℕ → AcceptedPaths → Said → Type 0
 SaysAccepted certs tree place paths (Accepted t shown kind) =
@@ -76,7 +83,7 @@ SaysRejected file index error _ = ⊥
 -- by its line in a tree
 abbrev pub SaysLine : Trees → Tree → ℕ → FileFields → Option Line → Said → Type 0
 SaysLine trees tree place file (Some (line.Accepted paths)) said =
-    SaysAccepted (files_of trees) tree place paths said
+    SaysAccepted (placed_of trees) tree place paths said
 SaysLine trees tree place file (Some (line.Rejected index error)) said = SaysRejected file index error said
 SaysLine trees tree place file _ said = IsUnsaid trees place file said
 
@@ -97,6 +104,20 @@ abbrev pub SaysCertificate : Trees → ℕ → FileFields → Said → Type 0
 SaysCertificate trees place file said =
     SaysPart trees place file (shown_part trees.parts.items place) said
 
+-- ---- CRLs
+
+-- a certificate is rejected since no CRL of its issuer can be asked: by an error of revocation that isn't
+-- that its issuer revoked it
+abbrev pub is_unasked : Said → Bool
+is_unasked (Rejected fault) =
+    bytes_eq fault.step.now (codes "revocation") && not (bytes_eq fault.name.now (codes "Revoked"))
+is_unasked _ = false
+
+-- then this is the key of its issuer, as it names it, where it names one
+abbrev pub IsUnasked : FileFields → Said → Option (List ℕ) → Type 0
+IsUnasked file said None = IsTrue (is_unasked said) → (key : List ℕ) → NamesSigner key file.octets → ⊥
+IsUnasked file said (Some key) = IsTrue (is_unasked said) × NamesSigner key file.octets
+
 -- ---- files
 
 -- what is said of a file, and the limit that was reached below its certificate, where the next
@@ -109,12 +130,13 @@ SaysFile trees place next file said limit =
     ⊎ ((BeginsWithCertificate file.octets → ⊥) × (IsList file.octets → ⊥)
     × (said ≡ Neither) × (limit ≡ None) × (next ≡ place)))
 
--- a row: the file, how many octets stand behind what it begins with, what is said of it, and the limit
--- that was reached below it
+-- a row: the file, how many octets stand behind what it begins with, what is said of it, the key of the
+-- issuer that has no current CRL, and the limit that was reached below it
 pub record IsRow (trees : Trees) (place next : ℕ) (file : FileFields) (row : Row) : Type 0 where
   pub file_is : row.file.now ≡ file
   pub left_is : StandBehind file.octets row.left
   pub says : SaysFile trees place next file row.said row.limit
+  pub unasked_is : IsUnasked file row.said row.unasked
 
 -- the rows of files, one after the other, with the places before and behind them
 abbrev pub AreRowsFrom : Trees → ℕ → ℕ → List FileFields → List Row → Type 0

@@ -12,6 +12,7 @@ mod tree_document;
 mod tree_laws;
 mod tree_rows;
 mod trees;
+mod unread;
 mod verdict_document;
 mod verdicts;
 
@@ -20,4 +21,5 @@ pub use outcomes::{Answer, Outcome, status_of};
 pub use showing::{Options, shown};
 pub use tree_laws::rows;
 pub use trees::{TreeFinding, TreeOptions, treed};
+pub use unread::{is_closed_name, unread_names};
 pub use verdicts::{Finding, validated};

@@ -1,10 +1,10 @@
 //! The trees of files as documents: a head for each TAL, a row for each file, and the counts.
 ghost use Rattle.std.specs.List.{list_any};
 ghost use Rattle.std.specs.Str.{bytes_eq};
-ghost use Rattle.std.specs.Prelude.{◌≡◌, ◌++◌, ◌∷◌, [], Some, codes, count_by, map, option_map, IfOk, OnOk};
+ghost use Rattle.std.specs.Prelude.{◌≡◌, ◌++◌, ◌∷◌, [], Some, codes, count_by, length, map, option_map, IfOk, OnOk};
 ghost use Rattle.rpki_document.specs.Building.{Adds, AddsSome, nodes_of, spans_of};
 ghost use Rattle.rpki_document.specs.Documents.{count, further, inner, keep, say, show, tell, text};
-ghost use Rattle.rpki_answers.specs.TreeDocuments.{AreOthers, ArePaths, AreSaid, IsAccepted, IsRowDocument, above_node, above_nodes, also_line, also_node, more_line, more_nodes, same_spans, shown_node, accepted_head, anchor_head, below_spans, count_line, count_lines, count_of, counts_node, damage_nodes, end_nodes, ended_word, error_node, errors_node, errors_of, file_first, file_last, has_error, has_word, index_node, issuer_spans, left_line, left_nodes, left_words, limit_nodes, limit_spans, limited_spans, name_of, no_anchor_head, no_locator_nodes, rejected_head, rejected_row, row_head, searched_line, limited_line, whole_line, tal_head, tal_node, tals_node, tree_asked, tree_unchecked, unseen_row, with_error};
+ghost use Rattle.rpki_answers.specs.TreeDocuments.{AreOthers, ArePaths, AreSaid, IsAccepted, IsRowDocument, above_node, above_nodes, also_line, also_node, more_line, more_nodes, same_spans, shown_node, accepted_head, anchor_head, below_spans, count_line, count_lines, count_of, counts_node, damage_nodes, end_nodes, ended_word, error_node, errors_node, errors_of, file_first, file_last, has_error, has_word, index_node, issuer_spans, left_line, left_nodes, left_words, limit_nodes, limit_spans, limited_spans, name_of, no_anchor_head, no_locator_nodes, rejected_head, rejected_row, rejected_spans, row_head, searched_line, limited_line, whole_line, tal_head, tal_node, tals_node, tree_asked, tree_unchecked, unasked_of, unread_node, unseen_row, with_error, with_unasked};
 ghost use Rattle.rpki_verdicts.specs.Trees.{asked_of};
 
 use crate::told::kind_leaf;
@@ -20,10 +20,12 @@ use rpki_document::{
 };
 use rpki_files::BareObject;
 use rpki_folder::{Ended, FoundPath, Limit};
+use rpki_parts::KeyIdentifier;
 use rpki_verdicts::{
     Fault, ShownPaths, Tree, TreeAnswer, TreePart, TreeQuestion, Trees, Unseen, hold_same,
 };
 use std::alloc::{AllocError, Global};
+use std::collections::BTreeSet;
 
 // ---- a row
 
@@ -232,6 +234,47 @@ fn add_limited_row<'p>(
     add_head(parts, Word::NotLookedAt.label(), pieces)
 }
 
+// Adds the row of a certificate below a rejected one, with its issuer and the name of the error of that.
+fn add_below_error<'p>(
+    parts: &mut Vec<Part<'p>>,
+    alloc: Global,
+    name: &'p str,
+    issuer: &'p str,
+    error: &'p str,
+) -> Result<(), AllocError>
+    ensures { let its = row_head Word.BelowRejected
+        (file_first name.now (rejected_spans issuer.now (Some error.now))) in
+        OnOk result (Adds (its ∷ []) parts.old.items parts.new.items) }
+{
+    let pieces = vec![in alloc;
+        Piece::Keep("verdict", Leaf::Text(Word::BelowRejected.key())),
+        Piece::Tell("file", Leaf::Inner(name)),
+        Piece::Say(", issuer "),
+        Piece::Tell("issuer", Leaf::Inner(issuer)),
+        Piece::Say(": "),
+        Piece::Tell("issuer_fault", Leaf::Text(error)),
+    ]?;
+    add_head(parts, Word::BelowRejected.label(), pieces)
+}
+
+// With the error, if there is one.
+fn add_below_rejected<'p>(
+    parts: &mut Vec<Part<'p>>,
+    alloc: Global,
+    name: &'p str,
+    issuer: &'p str,
+    error: Option<&'static str>,
+) -> Result<(), AllocError>
+    ensures { let its = row_head Word.BelowRejected (file_first name.now
+        (rejected_spans issuer.now (option_map (λ e. e.now) error.entry))) in
+        OnOk result (Adds (its ∷ []) parts.old.items parts.new.items) }
+{
+    match error {
+        Some(error) => add_below_error(parts, alloc, name, issuer, error),
+        None => add_issued(parts, alloc, Word::BelowRejected, name, issuer),
+    }
+}
+
 // A certificate on which there is no verdict.
 fn add_unseen<'p>(
     parts: &mut Vec<Part<'p>>,
@@ -239,8 +282,10 @@ fn add_unseen<'p>(
     certs: &[&'p BareObject<'_>],
     name: &'p str,
     why: Unseen,
+    error: Option<&'static str>,
 ) -> Result<(), AllocError>
-    ensures { let its = unseen_row (map (λ f. f.now) certs.now) name.now why in
+    ensures { let error = option_map (λ e. e.now) error.entry in
+        let its = unseen_row (map (λ f. f.now) certs.now) name.now why error in
         OnOk result (Adds its parts.old.items parts.new.items) }
 {
     let word = unseen_word(why);
@@ -249,7 +294,10 @@ fn add_unseen<'p>(
         Unseen::NotLookedAt(issuer, limit) => {
             add_limited_row(parts, alloc, name, name_of(certs, issuer), limit)
         }
-        Unseen::NotBelow(issuer) | Unseen::BelowRejected(issuer) | Unseen::BelowUnseen(issuer) => {
+        Unseen::BelowRejected(issuer) => {
+            add_below_rejected(parts, alloc, name, name_of(certs, issuer), error)
+        }
+        Unseen::NotBelow(issuer) | Unseen::NotCa(issuer) | Unseen::BelowUnseen(issuer) => {
             add_issued(parts, alloc, word, name, name_of(certs, issuer))
         }
     }
@@ -495,7 +543,7 @@ fn add_said<'p>(
     match said {
         Said::Accepted(tree, paths, kind) => add_accepted(parts, alloc, name, *tree, paths, *kind),
         Said::Rejected(fault) => add_rejected(parts, alloc, name, fault),
-        Said::Unseen(why) => add_unseen(parts, alloc, certs, name, *why),
+        Said::Unseen(why, error) => add_unseen(parts, alloc, certs, name, *why, *error),
         Said::Anchor => add_plain(parts, alloc, Word::Anchor, name),
         Said::Crl => add_plain(parts, alloc, Word::Crl, name),
         Said::Neither => add_plain(parts, alloc, Word::Neither, name),
@@ -740,6 +788,7 @@ fn add_counts<'p>(
         Word::NotIssued,
         rows,
     )?;
+    add_count(parts, alloc, "Issuer isn't a CA", Word::NotCa, rows)?;
     add_count(parts, alloc, "No issuer here", Word::NoIssuer, rows)?;
     add_count(parts, alloc, "CRLs", Word::Crl, rows)?;
     add_count(parts, alloc, "Other files", Word::Neither, rows)
@@ -864,16 +913,52 @@ fn add_errors(
     add_each(parts, "errors", each)
 }
 
+// Adds the key of a row's issuer, if no CRL of that can be asked.
+fn add_unasked(
+    keys: &mut BTreeSet<[u8; 20]>,
+    unasked: Option<KeyIdentifier>,
+) -> Result<(), AllocError>
+    ensures { OnOk result (keys.new.keys ≡ with_unasked keys.old.keys unasked) }
+{
+    let Some(key) = unasked else {
+        return Ok(());
+    };
+    keys.insert(*key.as_octets())?;
+    Ok(())
+}
+
+// How many CAs there are of which no CRL can be asked.
+fn count_unasked(alloc: Global, rows: &[Row<'_, '_, '_>]) -> Result<usize, AllocError>
+    ensures { IfOk result (λ count. count ≡ length (unasked_of rows.now)) }
+{
+    let mut keys = BTreeSet::new(alloc);
+    for row in rows {
+        add_unasked(&mut keys, row.unasked)?;
+    }
+    Ok(keys.len())
+}
+
 // What damages a cache.
 fn add_damage(
     parts: &mut Vec<Part<'_>>,
     alloc: Global,
     trees: &Trees<'_, '_>,
+    rows: &[Row<'_, '_, '_>],
 ) -> Result<(), AllocError>
-    ensures { OnOk result (Adds (damage_nodes trees.now) parts.old.items parts.new.items) }
+    ensures { OnOk result
+        (Adds (damage_nodes trees.now rows.now) parts.old.items parts.new.items) }
 {
+    let unasked = count_unasked(alloc, rows)?;
     let lists = Leaf::Count(trees.broken_lists as u64);
     add_told(parts, alloc, "Malformed CRLs", "malformed_crls", lists)?;
+    let unasked = Leaf::Count(unasked as u64);
+    add_told(
+        parts,
+        alloc,
+        "CAs without current CRL",
+        "cas_without_current_crl",
+        unasked,
+    )?;
     let others = Leaf::Count(trees.others as u64);
     add_told(parts, alloc, "Unknown files", "unknown_files", others)?;
     let only = Leaf::Flag(trees.are_anchors());
@@ -975,21 +1060,40 @@ fn add_tree_asked(parts: &mut Vec<Part<'_>>, alloc: Global, names: bool) -> Resu
     add_unsaid(parts, pieces)
 }
 
+// The names of what can't be read.
+fn add_unread<'p>(
+    parts: &mut Vec<Part<'p>>,
+    alloc: Global,
+    unread: &[&'p [u8]],
+) -> Result<(), AllocError>
+    ensures { let its = unread_node (map (λ name. name.now) unread.now) in
+        OnOk result (Adds (its ∷ []) parts.old.items parts.new.items) }
+{
+    let mut names = Vec::new(alloc);
+    for name in unread {
+        add_kept(&mut names, alloc, "", Leaf::Characters(*name))?;
+    }
+    add_each(parts, "unread", names)
+}
+
 /// Adds what is said behind the rows.
-pub fn add_end(
-    parts: &mut Vec<Part<'_>>,
+pub fn add_end<'p>(
+    parts: &mut Vec<Part<'p>>,
     alloc: Global,
     question: &TreeQuestion<'_, '_>,
     trees: &Trees<'_, '_>,
     rows: &[Row<'_, '_, '_>],
+    unread: &[&'p [u8]],
 ) -> Result<(), AllocError>
-    ensures { let its = end_nodes (asked_of question.now) trees.now rows.now in
+    ensures { let names = map (λ name. name.now) unread.now in
+        let its = end_nodes (asked_of question.now) trees.now rows.now names in
         OnOk result (Adds its parts.old.items parts.new.items) }
 {
     add_time(parts, alloc, question.at)?;
     add_all_counts(parts, alloc, trees, rows)?;
     add_errors(parts, alloc, rows)?;
-    add_damage(parts, alloc, trees)?;
+    add_unread(parts, alloc, unread)?;
+    add_damage(parts, alloc, trees, rows)?;
     add_searched(parts, alloc, question, trees.ended())?;
     add_tree_unchecked(parts, alloc, question)?;
     add_tree_asked(parts, alloc, question.names)

@@ -4,17 +4,19 @@ ghost use Rattle.rpki_cert.specs.SaidKinds.{SaysKind};
 ghost use Rattle.rpki_path.specs.Judging.{last_certificate};
 ghost use Rattle.rpki_verdicts.specs.PathAnswers.{reason_of};
 ghost use Rattle.rpki_verdicts.specs.Reasons.{IsReason};
-ghost use Rattle.rpki_verdicts.specs.TreeParts.{files_of, wrong_at};
+ghost use Rattle.rpki_verdicts.specs.ShownPaths.{placed_of};
+ghost use Rattle.rpki_verdicts.specs.TreeParts.{wrong_at};
 ghost use Rattle.rpki_verdicts.specs.UnseenCertificates.{AreIssuers};
 ghost use Rattle.rpki_answers.specs.TreeDocuments.{is_unaccepted, said_error, unseen_word, word_key, word_label, word_of};
-ghost use Rattle.rpki_answers.specs.TreeRows.{AreRows, IsRow, SaysAccepted, SaysAnswer, SaysCertificate, SaysLine, SaysUnseen};
+ghost use Rattle.rpki_answers.specs.TreeRows.{AreRows, IsRow, IsUnasked, SaysAccepted, SaysAnswer, SaysCertificate, SaysLine, SaysUnseen, is_unasked};
 
 use rpki_cert::{Kind, said_kind};
 use rpki_files::{BareObject, Front};
 use rpki_folder::{AcceptedPaths, Limit, Line};
+use rpki_parts::KeyIdentifier;
 use rpki_path::{Judged, PathFault};
 use rpki_verdicts::reasons::of_path;
-use rpki_verdicts::{Fault, Issuers, ShownPaths, Tree, TreeAnswer, Trees, Unseen};
+use rpki_verdicts::{Fault, Issuers, ShownPaths, Tree, TreeAnswer, Trees, Unseen, signer_of};
 use std::alloc::{AllocError, Global};
 
 /// What is said of a file.
@@ -26,21 +28,23 @@ pub enum Said<'t, 'q, 'n> {
     Accepted(&'t Tree<'q, 'n>, ShownPaths<'t>, Kind),
     /// Its certificate is rejected.
     Rejected(Fault),
-    /// There is no verdict on its certificate.
-    Unseen(Unseen),
+    /// There is no verdict on its certificate, for this reason; and the name of the error of a rejected
+    /// issuer.
+    Unseen(Unseen, Option<&'static str>),
     /// It is a CRL.
     Crl,
     /// It is neither a certificate nor a CRL.
     Neither,
 }
 
-/// A file, how many bytes follow what it starts with, what is said of it, and the limit that a walk
-/// reached below its certificate.
+/// A file, how many bytes follow what it starts with, what is said of it, the key of its issuer if
+/// that has no current CRL, and the limit that a walk reached below its certificate.
 #[derive(Drop)]
 pub struct Row<'t, 'q, 'n> {
     pub file: &'q BareObject<'n>,
     pub left: usize,
     pub said: Said<'t, 'q, 'n>,
+    pub unasked: Option<KeyIdentifier>,
     pub limit: Option<Limit>,
 }
 
@@ -54,6 +58,7 @@ pub enum Word {
     BelowUnseen,
     NotLookedAt,
     NotIssued,
+    NotCa,
     NoIssuer,
     Crl,
     Neither,
@@ -72,6 +77,7 @@ impl Word {
             Word::BelowUnseen => "below an unjudged CA",
             Word::NotLookedAt => "not looked at",
             Word::NotIssued => "not issued by a CA here",
+            Word::NotCa => "issuer isn't a CA",
             Word::NoIssuer => "no issuer here",
             Word::Crl => "CRL",
             Word::Neither => "neither certificate nor CRL",
@@ -89,6 +95,7 @@ impl Word {
             Word::BelowUnseen => "below_unseen",
             Word::NotLookedAt => "not_looked_at",
             Word::NotIssued => "not_issued",
+            Word::NotCa => "issuer_not_ca",
             Word::NoIssuer => "no_issuer",
             Word::Crl => "crl",
             Word::Neither => "neither",
@@ -105,6 +112,7 @@ impl Word {
             | Word::BelowUnseen
             | Word::NotLookedAt
             | Word::NotIssued
+            | Word::NotCa
             | Word::NoIssuer => true,
         }
     }
@@ -117,6 +125,7 @@ pub(crate) fn unseen_word(why: Unseen) -> Word
     match why {
         Unseen::NoIssuer => Word::NoIssuer,
         Unseen::NotBelow(_) => Word::NotIssued,
+        Unseen::NotCa(_) => Word::NotCa,
         Unseen::NotLookedAt(..) => Word::NotLookedAt,
         Unseen::BelowRejected(_) => Word::BelowRejected,
         Unseen::BelowUnseen(_) => Word::BelowUnseen,
@@ -132,7 +141,7 @@ impl Said<'_, '_, '_> {
             Said::Anchor => Word::Anchor,
             Said::Accepted(..) => Word::Accepted,
             Said::Rejected(_) => Word::Rejected,
-            Said::Unseen(why) => unseen_word(*why),
+            Said::Unseen(why, _) => unseen_word(*why),
             Said::Crl => Word::Crl,
             Said::Neither => Word::Neither,
         }
@@ -143,7 +152,8 @@ impl Said<'_, '_, '_> {
     {
         match self {
             Said::Rejected(fault) => Some(fault.name),
-            Said::Anchor | Said::Accepted(..) | Said::Unseen(_) | Said::Crl | Said::Neither => None,
+            Said::Anchor | Said::Accepted(..) | Said::Unseen(..) | Said::Crl | Said::Neither =>
+                None,
         }
     }
 }
@@ -185,7 +195,10 @@ fn said_unseen<'t, 'q, 'n>(
 {
     match trees.wrong_at(place) {
         Some(wrong) => Said::Rejected(wrong.fault),
-        None => Said::Unseen(trees.unseen(issuers, file)),
+        None => {
+            let why = trees.unseen(issuers, file);
+            Said::Unseen(why, trees.error_above(why))
+        }
     }
 }
 
@@ -199,7 +212,7 @@ fn said_accepted<'t, 'q, 'n>(
     paths: &'t AcceptedPaths,
 ) -> Result<Said<'t, 'q, 'n>, AllocError>
     requires { AreIssuers trees.now issuers.now }
-    ensures { IfOk result (SaysAccepted (files_of trees.now) tree.now place paths.now) }
+    ensures { IfOk result (SaysAccepted (placed_of trees.now) tree.now place paths.now) }
 {
     let shown = trees.shown_paths(alloc, issuers, tree, place, paths)?;
     let kind = judged_as(&shown.shown.judged);
@@ -267,6 +280,27 @@ fn said_of_certificate<'t, 'q, 'n>(
     }
 }
 
+// Whether a certificate is rejected since no CRL of its issuer can be asked.
+fn is_unasked(said: &Said<'_, '_, '_>) -> bool
+    ensures { result ≡ is_unasked said.now }
+{
+    match said {
+        Said::Rejected(fault) => fault.step == "revocation" && fault.name != "Revoked",
+        Said::Anchor | Said::Accepted(..) | Said::Unseen(..) | Said::Crl | Said::Neither => false,
+    }
+}
+
+// The key of the issuer of which no CRL can be asked.
+fn unasked_key(file: &BareObject<'_>, said: &Said<'_, '_, '_>) -> Option<KeyIdentifier>
+    ensures { IsUnasked file.now said.now result }
+{
+    if is_unasked(said) {
+        signer_of(file)
+    } else {
+        None
+    }
+}
+
 // A row, where the next certificate is at this place; and the place of one after it.
 fn row_of<'t, 'q, 'n>(
     alloc: Global,
@@ -289,10 +323,12 @@ fn row_of<'t, 'q, 'n>(
         Front::List => (place, Said::Crl, None),
         Front::Neither => (place, Said::Neither, None),
     };
+    let unasked = unasked_key(file, &said);
     let row = Row {
         file,
         left,
         said,
+        unasked,
         limit,
     };
     Ok((next, row))

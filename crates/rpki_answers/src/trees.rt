@@ -207,11 +207,13 @@ fn as_lines(
     question: &TreeQuestion<'_, '_>,
     trees: &Trees<'_, '_>,
     rows: &[Row<'_, '_, '_>],
+    unread: &[&[u8]],
     options: TreeOptions,
 ) -> Result<String, AllocError>
     requires { options.format ≡ Format.Text }
     ensures { IfOk result (λ text. PrintsTrees options.format options.only_rejected
-        (asked_of question.now) trees.now rows.now (string_bytes text)) }
+        (asked_of question.now) trees.now rows.now (map (λ name. name.now) unread.now)
+        (string_bytes text)) }
 {
     let mut out = String::new(alloc);
     let mut heads = Vec::new(alloc);
@@ -219,28 +221,30 @@ fn as_lines(
     append(&mut out, alloc, &heads, options.format)?;
     append_rows(&mut out, alloc, &trees.certs, rows, options)?;
     let mut ends = Vec::new(alloc);
-    add_end(&mut ends, alloc, question, trees, rows)?;
+    add_end(&mut ends, alloc, question, trees, rows, unread)?;
     append(&mut out, alloc, &ends, options.format)?;
     Ok(out)
 }
 
 // The rows as a line of JSON each, and one line for the rest.
-fn as_json_lines(
+fn as_json_lines<'p>(
     alloc: Global,
     question: &TreeQuestion<'_, '_>,
-    trees: &Trees<'_, '_>,
-    rows: &[Row<'_, '_, '_>],
+    trees: &Trees<'p, '_>,
+    rows: &[Row<'_, 'p, '_>],
+    unread: &[&'p [u8]],
     options: TreeOptions,
 ) -> Result<String, AllocError>
     requires { options.format ≡ Format.JsonLines }
     ensures { IfOk result (λ text. PrintsTrees options.format options.only_rejected
-        (asked_of question.now) trees.now rows.now (string_bytes text)) }
+        (asked_of question.now) trees.now rows.now (map (λ name. name.now) unread.now)
+        (string_bytes text)) }
 {
     let mut out = String::new(alloc);
     append_rows(&mut out, alloc, &trees.certs, rows, options)?;
     let mut rest = Vec::new(alloc);
     add_tals(&mut rest, alloc, trees)?;
-    add_end(&mut rest, alloc, question, trees, rows)?;
+    add_end(&mut rest, alloc, question, trees, rows, unread)?;
     append(&mut out, alloc, &rest, options.format)?;
     Ok(out)
 }
@@ -251,18 +255,20 @@ fn as_object<'p>(
     question: &TreeQuestion<'_, '_>,
     trees: &Trees<'p, '_>,
     rows: &[Row<'_, 'p, '_>],
+    unread: &[&'p [u8]],
     options: TreeOptions,
 ) -> Result<String, AllocError>
     requires { options.format ≡ Format.Json }
     ensures { IfOk result (λ text. PrintsTrees options.format options.only_rejected
-        (asked_of question.now) trees.now rows.now (string_bytes text)) }
+        (asked_of question.now) trees.now rows.now (map (λ name. name.now) unread.now)
+        (string_bytes text)) }
 {
     let mut whole = Vec::new(alloc);
     add_tals(&mut whole, alloc, trees)?;
     let mut files = Vec::new(alloc);
     add_rows(&mut files, alloc, &trees.certs, rows, options.only_rejected)?;
     add_each(&mut whole, "files", files)?;
-    add_end(&mut whole, alloc, question, trees, rows)?;
+    add_end(&mut whole, alloc, question, trees, rows, unread)?;
     formed(alloc, &whole, options.format)
 }
 
@@ -272,15 +278,17 @@ fn printed_rows<'p>(
     question: &TreeQuestion<'_, '_>,
     trees: &Trees<'p, '_>,
     rows: &[Row<'_, 'p, '_>],
+    unread: &[&'p [u8]],
     options: TreeOptions,
 ) -> Result<String, AllocError>
     ensures { IfOk result (λ text. PrintsTrees options.format options.only_rejected
-        (asked_of question.now) trees.now rows.now (string_bytes text)) }
+        (asked_of question.now) trees.now rows.now (map (λ name. name.now) unread.now)
+        (string_bytes text)) }
 {
     match options.format {
-        Format::Text => as_lines(alloc, question, trees, rows, options),
-        Format::JsonLines => as_json_lines(alloc, question, trees, rows, options),
-        Format::Json => as_object(alloc, question, trees, rows, options),
+        Format::Text => as_lines(alloc, question, trees, rows, unread, options),
+        Format::JsonLines => as_json_lines(alloc, question, trees, rows, unread, options),
+        Format::Json => as_object(alloc, question, trees, rows, unread, options),
     }
 }
 
@@ -289,14 +297,15 @@ fn printed_trees<'p>(
     alloc: Global,
     question: &TreeQuestion<'p, '_>,
     trees: &Trees<'p, '_>,
+    unread: &[&'p [u8]],
     options: TreeOptions,
 ) -> Result<String, AllocError>
     ensures { IfOk result (λ text. AreTreesSaid options.format options.only_rejected
-        (asked_of question.now) trees.now (string_bytes text)) }
+        (asked_of question.now) trees.now (map (λ name. name.now) unread.now) (string_bytes text)) }
 {
     let issuers = issuers_of(alloc, trees)?;
     let rows = rows_of(alloc, trees, &issuers, question.files)?;
-    printed_rows(alloc, question, trees, &rows, options)
+    printed_rows(alloc, question, trees, &rows, unread, options)
 }
 
 // What is found.
@@ -304,13 +313,15 @@ fn printed_finding<'p>(
     alloc: Global,
     question: &TreeQuestion<'p, '_>,
     finding: &TreeFinding<'p, '_>,
+    unread: &[&'p [u8]],
     options: TreeOptions,
 ) -> Result<String, AllocError>
-    ensures { let q = asked_of question.now in IfOk result (λ text.
-        IsTree options.format options.only_rejected q finding.now (string_bytes text)) }
+    ensures { let q = asked_of question.now in let names = map (λ name. name.now) unread.now in
+        IfOk result (λ text.
+        IsTree options.format options.only_rejected q finding.now names (string_bytes text)) }
 {
     match finding {
-        TreeFinding::Answered(trees) => printed_trees(alloc, question, trees, options),
+        TreeFinding::Answered(trees) => printed_trees(alloc, question, trees, unread, options),
         TreeFinding::NotALocator(fault) => {
             let parts = no_locator_document(alloc, question, fault)?;
             formed(alloc, &parts, options.format)
@@ -319,26 +330,27 @@ fn printed_finding<'p>(
 }
 
 /// Judges all certificates among files, and writes the findings on each file, as lines for a person
-/// or as JSON. The outcome is success if each file given as a TAL is one and has a valid trust
-/// anchor, each certificate is a trust anchor or accepted, no limit was reached, and, if that is
-/// required, the cache isn't damaged.
+/// or as JSON, with the names of what can't be read. The outcome is success if each file given as a
+/// TAL is one and has a valid trust anchor, each certificate is a trust anchor or accepted, no limit
+/// was reached, and, if that is required, the cache isn't damaged.
 ///
 /// # Errors
 ///
 /// Returns an error only if memory runs out.
-pub fn treed(
+pub fn treed<'p>(
     alloc: Global,
-    question: &TreeQuestion<'_, '_>,
+    question: &TreeQuestion<'p, '_>,
+    unread: &[&'p [u8]],
     options: TreeOptions,
 ) -> Result<Answer, AllocError>
     requires { All (IsRead question.now.strict) question.now.locators.now }
-    ensures answer { let q = asked_of question.now in IfOk result (λ answer.
-        IsTreeBy options q answer.outcome (string_bytes answer.text)) }
+    ensures answer { let q = asked_of question.now in let names = map (λ name. name.now) unread.now in
+        IfOk result (λ answer. IsTreeBy options q names answer.outcome (string_bytes answer.text)) }
     ensures outcome { IfOk result (λ answer. IsOutcomeOfTree answer.outcome) }
 {
     let finding = find(alloc, question)?;
     let is_accepting = is_accepting(&finding, options.strict_exit);
-    let text = printed_finding(alloc, question, &finding, options);
+    let text = printed_finding(alloc, question, &finding, unread, options);
     drop(finding);
     Ok(Answer {
         text: text?,

@@ -15,7 +15,7 @@ use Rattle.rpki_verdicts.specs.PathFiles.{Demands}
 use Rattle.rpki_command.specs.AboutTexts.{about_text, topic_of}
 use Rattle.rpki_text.specs.CommandLines.{RequestFields, with_files, IsCommandLine}
 use Rattle.rpki_answers.specs.Outcomes.{AsksOfFiles, IsOutcomeOf, demands_by, run_status}
-use Rattle.rpki_command.specs.ListedFolders.{Lists}
+use Rattle.rpki_command.specs.ListedFolders.{Lists, roots_of}
 use Rattle.rpki_command.specs.ReadFiles.{Reads}
 use Rattle.rpki_command.specs.Moments.{IsMomentBy}
 use Rattle.rpki_command.specs.SoughtPaths.{with_sought}
@@ -52,7 +52,7 @@ module _ (reads : Reads) (lists : Lists) (r : RequestFields) (now : Moment) (tex
   by_sought q said (Some sought) h = by_found (with_sought q sought) said h.0 sought.are_all_read h.1 h.2
 
   never_misuse : (folders : List (List ℕ)) (said : List ℕ) → IsAnswerAmong folders reads lists r now WrongUse text said → ⊥
-  never_misuse [] said h = by_files (record r { files = h.names }) h.of_files h.answer
+  never_misuse [] said h = by_files (record r { files = h.names; folders = roots_of r.files }) h.of_files h.answer
   never_misuse (folder ∷ folders) said h = by_sought (with_files r h.names) h.of_files h.sought h.answer
 
 module _ (reads : Reads) (lists : Lists) (tells : Moment → Type 0) (words : List (List ℕ)) (r : RequestFields) (line : IsCommandLine r words) where

@@ -6,7 +6,7 @@ use Rattle.rpki_verdicts.specs.GivenLocators.{LocatorFields, locator_files}
 use Rattle.rpki_text.specs.CommandLines.{RequestFields}
 use Rattle.rpki_command.specs.ReadFiles.{Reads, IsFileRead, IsObjectRead}
 use Rattle.rpki_command.specs.NamedFiles.{AreReadOf, AreFilesRead, AreObjectsRead, AreNamed, AreRead, AreGiven}
-use Rattle.rpki_command.specs.UnreadFiles.{IsToldUnread}
+use Rattle.rpki_command.specs.UnreadFiles.{SaysUnread}
 
 module _ (Is : List ℕ → FileFields → Type 0) (Tells : List ℕ → List ℕ → Type 0) where
   both_read : (a b : List (List ℕ)) (fs gs : List FileFields) (s t : List ℕ) → AreReadOf Is Tells a fs s → AreReadOf Is Tells b gs t → AreReadOf Is Tells (a ++ b) (fs ++ gs) (s ++ t)
@@ -37,10 +37,10 @@ module _ (Is : List ℕ → FileFields → Type 0) (Tells : List ℕ → List �
 
 module _ (reads : Reads) (most : ℕ) where
   files_named : (names : List (List ℕ)) (files : List FileFields) (said : List ℕ) → AreFilesRead reads most names files said → AreNamed names files
-  files_named names files said are = some_named (IsFileRead reads most) (IsToldUnread reads most) (λ name file is. is.0) names files said are
+  files_named names files said are = some_named (IsFileRead reads most) (SaysUnread reads most) (λ name file is. is.0) names files said are
 
   objects_named : (names : List (List ℕ)) (files : List FileFields) (said : List ℕ) → AreObjectsRead reads most names files said → AreNamed names files
-  objects_named names files said are = some_named (IsObjectRead reads most) (IsToldUnread reads most) (λ name file is. is.0) names files said are
+  objects_named names files said are = some_named (IsObjectRead reads most) (SaysUnread reads most) (λ name file is. is.0) names files said are
 
 -- what could be read is given
 pub are_given : (reads : Reads) (r : RequestFields) (files lists : List FileFields) (locators : List LocatorFields) (said : List ℕ) → AreRead reads r files lists locators said → AreGiven r files lists locators

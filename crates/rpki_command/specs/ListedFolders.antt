@@ -7,6 +7,7 @@ use Rattle.std.specs.Ordering.{nat_cmp}
 use Rattle.std.specs.Prelude.{◌≡◌, ◌||◌, ◌⊎◌, ◌+◌, ◌-◌, ◌^◌, ℕ, zero, suc, min, not, Bool, true, List, [], ◌∷◌, ◌++◌, codes, if◌then◌else◌, nat_eq, Option, Some, None}
 use Rattle.std.specs.Bool.{MatchBool}
 use Rattle.std.specs.Str.{IsUtf8}
+use Rattle.rpki_answers.specs.UnreadNames.{closed_name}
 use Rattle.rpki_text.specs.declared.command_line.arguments.Task.{Task}
 use Rattle.rpki_text.specs.declared.command_line.arguments.Task.TheVariants.{Tree}
 use Rattle.rpki_command.specs.Messages.{passed_message}
@@ -50,6 +51,12 @@ is_folder_name name = ends_with nat_eq name (codes "/")
 abbrev pub slashed : List ℕ → List ℕ
 slashed name = if is_folder_name name then name else name ++ codes "/"
 
+-- what the names begin of files below the folder of a name that is given alone; of several names none
+-- is that of all
+abbrev pub roots_of : List (List ℕ) → List (List ℕ)
+roots_of (name ∷ []) = slashed name ∷ []
+roots_of _ = []
+
 -- by this name a folder has itself, or the one above it
 abbrev pub IsDots : List ℕ → Type 0
 IsDots its = (its ≡ codes ".") ⊎ (its ≡ codes "..")
@@ -82,11 +89,6 @@ is_passed name = not (is_taken name)
 -- how many are told, where there are so many: these, or the greatest number of 64 bits
 abbrev pub told_count : ℕ → ℕ
 told_count count = min count (2 ^ 64 - 1)
-
--- the name under which a folder stays that can't be listed: no file has it, and it doesn't end as the
--- name of a folder that is opened again
-abbrev pub closed_name : List ℕ → List ℕ
-closed_name name = slashed name ++ codes "."
 
 -- these names stand for the name: those in its folder that are taken, sorted by their octets, while
 -- so many others are passed over; or it alone, where it is no folder's; or the name that stays of a

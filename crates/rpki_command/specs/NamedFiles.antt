@@ -5,7 +5,7 @@ use Rattle.rpki_text.specs.CommandLines.{RequestFields}
 use Rattle.rpki_files.specs.Files.{FileFields}
 use Rattle.rpki_verdicts.specs.GivenLocators.{LocatorFields, IsRead, locator_files}
 use Rattle.rpki_command.specs.ReadFiles.{Reads, IsFileRead, IsObjectRead}
-use Rattle.rpki_command.specs.UnreadFiles.{IsToldUnread}
+use Rattle.rpki_command.specs.UnreadFiles.{SaysUnread}
 
 -- ---- the files of several names
 
@@ -21,11 +21,11 @@ AreReadOf Is Tells (name ∷ names) files said =
 -- it is said why it can't be read
 abbrev pub AreFilesRead : Reads → ℕ → List (List ℕ) → List FileFields → List ℕ → Type 0
 AreFilesRead reads most names files said =
-    AreReadOf (IsFileRead reads most) (IsToldUnread reads most) names files said
+    AreReadOf (IsFileRead reads most) (SaysUnread reads most) names files said
 
 abbrev pub AreObjectsRead : Reads → ℕ → List (List ℕ) → List FileFields → List ℕ → Type 0
 AreObjectsRead reads most names files said =
-    AreReadOf (IsObjectRead reads most) (IsToldUnread reads most) names files said
+    AreReadOf (IsObjectRead reads most) (SaysUnread reads most) names files said
 
 -- files of some of these names, in their order
 abbrev pub AreNamed : List (List ℕ) → List FileFields → Type 0

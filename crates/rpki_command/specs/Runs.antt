@@ -10,7 +10,7 @@ use Rattle.rpki_command.specs.AboutTexts.{help_text, topic_of, version_text}
 use Rattle.rpki_answers.specs.AnswerTexts.{IsTextBy, IsJsonBy}
 use Rattle.rpki_text.specs.CommandLines.{RequestFields, with_files, IsCommandLine}
 use Rattle.rpki_command.specs.declared.about.Topic.{Topic}
-use Rattle.rpki_command.specs.ListedFolders.{Lists, AreFilesOf}
+use Rattle.rpki_command.specs.ListedFolders.{Lists, AreFilesOf, roots_of}
 use Rattle.rpki_answers.specs.Outcomes.{EndsBy}
 use Rattle.rpki_command.specs.Messages.{SaysLineMisuse}
 use Rattle.rpki_command.specs.Moments.{IsMomentBy}
@@ -49,14 +49,14 @@ pub record IsAnswer (reads : Reads) (r : RequestFields) (now : Moment) (outcome 
   pub told_is : IsFalse r.is_quiet → text ≡ told
 
 -- the same, where listing folders gives this: it is that of the files that stand for the names of
--- the request
+-- the request, below the folder that it names, if it names one alone
 pub record IsAnswerOfNamed (reads : Reads) (lists : Lists) (r : RequestFields) (now : Moment)
     (outcome : Outcome) (text said : List ℕ) : Type 0 where
   pub names : List (List ℕ)
   pub of_folders : List ℕ
   pub of_files : List ℕ
   pub names_are : AreFilesOf lists r.task r.files names of_folders
-  pub answer : IsAnswer reads (record r { files = names }) now outcome text of_files
+  pub answer : IsAnswer reads (record r { files = names; folders = roots_of r.files }) now outcome text of_files
   pub said_is : said ≡ of_folders ++ of_files
 
 -- the answer by what was sought: that to the same request of the files and the lists that were

@@ -1,10 +1,12 @@
 -- Files that can't be read or made: why, and what is said of it (own).
+use Rattle.std.specs.Bool.{MatchBool}
 use Rattle.std.specs.Fmt.{decimal}
 use Rattle.std.specs.IoError.{error_kind}
-use Rattle.std.specs.Prelude.{◌≡◌, ◌≢◌, ℕ, List, ◌++◌, bytes_eq, codes, if◌then◌else◌, Option, Some, None, IfSome, IsFalse, IsTrue}
+use Rattle.std.specs.Prelude.{◌≡◌, ◌≢◌, ℕ, List, [], ◌++◌, bytes_eq, codes, if◌then◌else◌, Option, Some, None, IfSome, IsFalse, IsTrue}
 use Rattle.std.specs.Str.{IsUtf8}
 use Rattle.std.specs.declared.io.ErrorKind.{ErrorKind}
 use Rattle.std.specs.declared.io.ErrorKind.TheVariants.{AlreadyExists, IsADirectory, NotFound, PermissionDenied}
+use Rattle.rpki_answers.specs.UnreadNames.{is_closed_name}
 use Rattle.rpki_text.specs.Pages.{characters_text}
 use Rattle.rpki_command.specs.Outputs.{is_among}
 use Rattle.rpki_command.specs.ReadFiles.{Reads}
@@ -89,6 +91,11 @@ pub record IsToldUnread (reads : Reads) (most : ℕ) (name line : List ℕ) : Ty
   pub because : IsWhyUnread reads most name why
   pub known : why ≢ unread.Memory
   pub line_is : IsLineAbout (called name) (unread_text why) line
+
+-- of a file that can't be read the line says why; of a folder that couldn't be listed nothing more is said
+abbrev pub SaysUnread : Reads → ℕ → List ℕ → List ℕ → Type 0
+SaysUnread reads most name said =
+    MatchBool (is_closed_name name) (said ≡ []) (IsToldUnread reads most name said)
 
 -- the line says why the folder of this name can't be listed, in these words
 abbrev pub IsToldUnlisted : List ℕ → List ℕ → Type 0

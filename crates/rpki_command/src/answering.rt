@@ -1,5 +1,5 @@
 //! The answers about files.
-ghost use Rattle.std.specs.Prelude.{◌≡◌, ◌≢◌, ◌↔◌, ◌⊎◌, [], All, List, length, map, IfOk, IsFalse, IsTrue, string_bytes};
+ghost use Rattle.std.specs.Prelude.{◌≡◌, ◌≢◌, ◌↔◌, ◌⊎◌, [], All, List, length, map, slice_get, unwrap_or, IfOk, IsFalse, IsTrue, string_bytes};
 ghost use Rattle.std.specs.Bool.{MatchBool};
 ghost use Rattle.rpki_keys.specs.RsaSignatures.{IsSignedByRsa};
 ghost use Rattle.rpki_cert.specs.Verification.{context};
@@ -8,13 +8,14 @@ ghost use Rattle.rpki_text.specs.CommandLines.Views.{fields_of};
 ghost use Rattle.rpki_answers.specs.Outcomes.{IsOutcomeOfTree, AreAllRead, EndsBy, IsOutcomeOfShow, IsOutcomeOfValidate};
 ghost use Rattle.rpki_command.specs.NamedFiles.{AreGiven, AreNamed};
 ghost use Rattle.rpki_answers.specs.ShownFiles.{IsJsonOfFiles, IsTextOfFiles, is_single};
+ghost use Rattle.rpki_answers.specs.UnreadNames.{unread_names};
 ghost use Rattle.rpki_answers.specs.Verdicts.{IsJsonOfPath, IsTextOfPath};
 ghost use Rattle.rpki_files.specs.Files.{FileFields, contents, file_names};
 ghost use Rattle.rpki_verdicts.specs.GivenLocators.{IsRead, LocatorFields, locator_files};
 ghost use Rattle.rpki_verdicts.specs.PathFiles.{demands_of};
 ghost use Rattle.rpki_verdicts.specs.Trees.{asked_of};
 
-use rpki_answers::{Answer, Options, Outcome, TreeOptions, shown, treed, validated};
+use rpki_answers::{Answer, Options, Outcome, TreeOptions, shown, treed, unread_names, validated};
 use rpki_der::Time;
 use rpki_files::{BareObject, Object};
 use rpki_folder::USUAL_STEPS;
@@ -123,9 +124,19 @@ fn if_read(answer: Answer, are_all_read: bool) -> Answer
 /// The greatest depth of a path below a trust anchor, if the command line doesn't set it.
 const USUAL_DEPTH: usize = 32;
 
+// The first folder of a request, below which names are compared with URIs.
+fn root_of<'a>(request: &Request<'a>) -> &'a [u8]
+    ensures { result.now ≡ unwrap_or (slice_get (fields_of request.now).folders 0) [] }
+{
+    match request.folders.first() {
+        Some(folder) => *folder,
+        None => &[],
+    }
+}
+
 /// Returns the question of a request about files in any order.
 pub fn tree_question<'q, 'n>(
-    request: &Request<'_>,
+    request: &'q Request<'q>,
     now: Time,
     files: &'q [BareObject<'n>],
     locators: &'q [GivenLocator<'n>],
@@ -136,6 +147,7 @@ pub fn tree_question<'q, 'n>(
     TreeQuestion {
         files,
         locators,
+        root: root_of(request),
         names: request.names,
         strict: request.strict,
         at: now,
@@ -159,7 +171,8 @@ fn tree(
         (IsOutcomeOfTree answer.outcome) (answer.outcome ≡ Outcome.Unread)) }
     ensures answer { let q = tree_question_of (fields_of request.now) now files.now locators.now in
         let options = tree_options_of (fields_of request.now) in
-        IfOk result (λ answer. IsTreeBy options q answer.outcome (string_bytes answer.text)) }
+        let unread = unread_names (fields_of request.now).files files.now in
+        IfOk result (λ answer. IsTreeBy options q unread answer.outcome (string_bytes answer.text)) }
 {
     let question = tree_question(request, now, files, locators);
     let options = TreeOptions {
@@ -167,7 +180,8 @@ fn tree(
         only_rejected: request.only_rejected,
         strict_exit: request.strict_exit,
     };
-    let answer = treed(alloc, &question, options)?;
+    let unread = unread_names(alloc, &request.files, files)?;
+    let answer = treed(alloc, &question, &unread, options)?;
     Ok(if_read(answer, are_all_read))
 }
 

@@ -7,7 +7,8 @@ ghost use Rattle.std.specs.Prelude.{◌≡◌, ◌≢◌, ◌||◌, ◌⊎◌, �
 ghost use Rattle.std.specs.Bool.{MatchBool};
 ghost use Rattle.std.specs.Io.KnownBytes.{Appends};
 ghost use Rattle.rpki_text.specs.CommandLines.Views.{fields_of, word_octets};
-ghost use Rattle.rpki_command.specs.ListedFolders.{AreDown, AreFilesOf, AreOpened, IsNoFolder, StandFor, StandsForItself, barred, closed_name, holds, is_folder_name, is_passed, is_taken, told_count};
+ghost use Rattle.rpki_answers.specs.UnreadNames.{closed_name};
+ghost use Rattle.rpki_command.specs.ListedFolders.{AreDown, AreFilesOf, AreOpened, IsNoFolder, StandFor, StandsForItself, barred, holds, is_folder_name, is_passed, is_taken, roots_of, slashed, told_count};
 ghost use Rattle.rpki_command.specs.Messages.{passed_message};
 
 use crate::files::{FileSource, Unread};
@@ -112,10 +113,17 @@ fn push_taken(all: &mut Vec<Vec<u8>>, names: Vec<Vec<u8>>) -> Result<usize, Allo
 fn closed(mut name: Vec<u8>) -> Result<Vec<u8>, AllocError>
     ensures { IfOk result (λ closed. closed.items ≡ closed_name name.items) }
 {
+    name.push(0)?;
+    Ok(name)
+}
+
+// The name of a folder as its path begins.
+fn slashed(mut name: Vec<u8>) -> Result<Vec<u8>, AllocError>
+    ensures { IfOk result (λ whole. whole.items ≡ slashed name.items) }
+{
     if !is_folder_name(name.as_slice()) {
         name.push(b'/')?;
     }
-    name.push(b'.')?;
     Ok(name)
 }
 
@@ -308,6 +316,46 @@ pub fn file_names<F: FileSource, E: Write>(
             Ok(names)
         }
     }
+}
+
+/// Returns the path with which names begin below the directory of a name that is given alone: the
+/// name with a `/` at its end. Returns none of several names.
+///
+/// # Errors
+///
+/// Returns an error only if memory runs out.
+pub fn roots_of(alloc: Global, names: &[&[u8]]) -> Result<Vec<Vec<u8>>, AllocError>
+    ensures { IfOk result (λ roots.
+        word_octets roots.items ≡ roots_of (map (λ name. name.now) names.now)) }
+{
+    let mut roots = Vec::new(alloc);
+    if names.len() == 1 {
+        roots.push(slashed(names[0].to_vec(alloc)?)?)?;
+    }
+    Ok(roots)
+}
+
+/// Returns the request with these files in place of its own, below these directories.
+///
+/// # Errors
+///
+/// Returns an error only if memory runs out.
+pub fn with_named<'a>(
+    alloc: Global,
+    request: Request<'a>,
+    names: &'a [Vec<u8>],
+    roots: &'a [Vec<u8>],
+) -> Result<Request<'a>, AllocError>
+    ensures { let r = fields_of request.entry in IfOk result (λ new. fields_of new
+        ≡ record r { files = word_octets names.now; folders = word_octets roots.now }) }
+{
+    let mut folders = Vec::new(alloc);
+    for root in roots {
+        folders.push(root.as_slice())?;
+    }
+    let mut request = with_files(alloc, request, names)?;
+    request.folders = folders;
+    Ok(request)
 }
 
 /// Returns the request with these files in place of its own.

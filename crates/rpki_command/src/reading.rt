@@ -3,11 +3,12 @@ ghost use Rattle.std.specs.Io.KnownBytes.{Appends};
 ghost use Rattle.std.specs.Prelude.{◌≡◌, [], ◌∷◌, ◌++◌, All, List, ℕ, Some, map, IfErr, IfOk, MatchOption, OnOk};
 ghost use Rattle.rpki_text.specs.CommandLines.Views.{fields_of};
 ghost use Rattle.rpki_command.specs.NamedFiles.{AreFilesRead, AreObjectsRead, AreRead};
-ghost use Rattle.rpki_command.specs.UnreadFiles.{IsLineAbout, IsToldUnread, IsWhyUnread, called, file_message};
+ghost use Rattle.rpki_command.specs.UnreadFiles.{IsLineAbout, IsWhyUnread, SaysUnread, called, file_message};
 ghost use Rattle.rpki_verdicts.specs.GivenLocators.{LocatorFields, IsRead, locator_files};
 
 use crate::files::{FileSource, Unread};
 use anyhow::{Result, anyhow};
+use rpki_answers::is_closed_name;
 use rpki_files::{BareObject, Object, read_bare_object, read_object};
 use rpki_text::Characters;
 use rpki_text::command_line::Request;
@@ -65,7 +66,8 @@ pub fn octets_by<'a, F: FileSource>(
     }
 }
 
-// What a file of this name holds; where it can't be read, that is said, and there is nothing.
+// What a file of this name holds; where it can't be read, that is said, unless it was said when its
+// folder was opened, and there is nothing.
 fn octets_told<'a, F: FileSource, E: Write>(
     alloc: Global,
     files: &F,
@@ -74,10 +76,13 @@ fn octets_told<'a, F: FileSource, E: Write>(
     most: u64,
 ) -> Result<Option<(&'a str, Vec<u8>)>>
     ensures { let reads = F.reads files.now in IfOk result (λ read. (said : List ℕ)
-        × MatchOption read (IsToldUnread reads most name.now said)
+        × MatchOption read (SaysUnread reads most name.now said)
         (λ r. (r.0.now ≡ name.now) × reads name.now most (Some r.1.items) × (said ≡ []))
         × Appends (E.contents err.old) (E.contents err.new) said) }
 {
+    if is_closed_name(name) {
+        return Ok(None);
+    }
     match octets_by(alloc, files, name, most) {
         Ok(read) => Ok(Some(read)),
         Err(Unread::Memory) => Err(anyhow!("out of memory")),

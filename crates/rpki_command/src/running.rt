@@ -13,7 +13,7 @@ use crate::answering::{answer_objects, answer_tree, quieted};
 use crate::clock::{MomentSource, moment};
 use crate::ended::Ended;
 use crate::files::FileSource;
-use crate::folders::{file_names, opened, with_files, with_further, with_path};
+use crate::folders::{file_names, opened, roots_of, with_further, with_named, with_path};
 use crate::making::FileMaker;
 use crate::reading::{GivenFiles, read_given};
 use crate::requests::run_request;
@@ -183,7 +183,8 @@ fn answer_of_named<F: FileSource, O: Write, E: Write>(
     ensures unwritten { OnErr result (out.new ≡ out.old) }
 {
     let names = file_names(alloc, files, err, &request)?;
-    let request = with_files(alloc, request, &names)?;
+    let roots = roots_of(alloc, &request.files)?;
+    let request = with_named(alloc, request, &names, &roots)?;
     answer(alloc, files, out, err, &request, now)
 }
 

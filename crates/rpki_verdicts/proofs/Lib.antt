@@ -5,6 +5,7 @@ mod FilesAbove
 mod FilesAt
 mod FirstItems
 mod FirstOfKeys
+mod FoldedItems
 mod FoundLocators
 mod GivenKinds
 mod IsolatedQuestions

@@ -34,6 +34,14 @@ IsReason (path.Verify e) octets r = r ≡ reason (codes "verification") (verific
 IsReason (path.Revocation e) octets r = r ≡ reason (codes "revocation") (revocation_error_name e) (revocation_rule e)
 IsReason path.Memory octets r = r ≡ reason (codes "memory") (path_fault_name path.Memory) no_memory
 
+-- the name that it has
+abbrev pub error_name : PathFault → List ℕ
+error_name (path.Decode e) = decode_error_name e
+error_name (path.Inspect e) = inspection_error_name e
+error_name (path.Verify e) = verification_error_name e
+error_name (path.Revocation e) = revocation_error_name e
+error_name path.Memory = path_fault_name path.Memory
+
 -- of a trust anchor whose key no locator has that is given
 abbrev pub locator_reason : ReasonFields
 locator_reason = reason (codes "tal") (codes "OtherKey") other_key

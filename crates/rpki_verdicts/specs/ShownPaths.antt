@@ -2,14 +2,14 @@
 -- order they were found in. Which ones are kept depends on that order if there are more than eight.
 use Rattle.std.specs.BTreeMap.{get}
 use Rattle.std.specs.Cmp.Lexicographic.{slice_cmp}
-use Rattle.std.specs.List.{AllByRecursion}
+use Rattle.std.specs.List.{AllByRecursion, starts_with}
 use Rattle.std.specs.List.Sorted.{IsPermutation}
 use Rattle.std.specs.Bool.{MatchBool}
 use Rattle.std.specs.Option.{option_map}
 use Rattle.std.specs.Ordering.{nat_cmp, ordering_then}
 use Rattle.std.specs.declared.cmp.Ordering.{Ordering}
 use Rattle.std.specs.declared.cmp.Ordering.TheVariants.{Less}
-use Rattle.std.specs.Prelude.{◌≡◌, ◌==◌, ◌⊎◌, ◌+◌, ◌↔◌, ℕ, Bool, false, if◌then◌else◌, All, Any, Contains, List, [], ◌∷◌, ◌++◌, codes, length, map, reverse, slice_get, unwrap_or, MatchOption, Option, None, Some}
+use Rattle.std.specs.Prelude.{◌≡◌, ◌==◌, ◌⊎◌, ◌+◌, ◌↔◌, ℕ, Bool, false, if◌then◌else◌, All, Any, Contains, List, [], ◌∷◌, ◌++◌, codes, drop, length, map, nat_eq, reverse, slice_get, unwrap_or, MatchOption, Option, None, Some}
 use Rattle.rpki_blocks.specs.Sets.{AreIn, Block}
 use Rattle.rpki_cert.specs.Certificates.{CertFields, IsCertificate}
 use Rattle.rpki_cert.specs.Verification.{ResourceFields}
@@ -21,11 +21,24 @@ use Rattle.rpki_folder.specs.KeptLines.{paths_in}
 use Rattle.rpki_folder.specs.declared.find.FoundPath.{FoundPath}
 use Rattle.rpki_folder.specs.declared.lines.AcceptedPaths.{AcceptedPaths}
 use Rattle.rpki_verdicts.specs.declared.issuers.Issuers.{Issuers}
+use Rattle.rpki_verdicts.specs.declared.parts.Trees.{Trees}
 use Rattle.rpki_verdicts.specs.declared.shown_paths.ShownPaths.{ShownPaths}
 use Rattle.rpki_verdicts.specs.declared.unordered.Tree.{Tree}
 pub mod Steps
 
 -- ---- names of issuers
+
+-- the part of a name below the directory with whose path names there begin; a name elsewhere whole
+abbrev pub name_below : List ℕ → List ℕ → List ℕ
+name_below root name = if starts_with nat_eq name root then drop (length root) name else name
+
+-- the file under that name
+abbrev pub placed : List ℕ → FileFields → FileFields
+placed root file = record { name = name_below root file.name; octets = file.octets }
+
+-- the certificates of trees, as files under these names
+abbrev pub placed_of : Trees → List FileFields
+placed_of trees = map (λ file. placed trees.root.now file.now) trees.certs.items
 
 -- the URI that names a file, in a cache that is laid out by URI: what follows `rsync://` is the whole
 -- name of the file. Were an end of the name enough, a directory of a stranger's could imitate it

@@ -46,6 +46,7 @@ files_of trees = map (λ file. file.now) trees.certs.items
 -- the trees of the files: of each key of which a locator is given one, over the same files
 pub record AreTreesOf (x : Context) (q : TreeFields) (trees : Trees) : Type 0 where
   pub certs_are : AreCertificatesOf q.files (files_of trees)
+  pub root_is : trees.root.now ≡ q.root
   pub locators_are : AreFirstOfKeys [] q.locators (map (λ part. part.locator.now) trees.parts.items)
   pub parts_are : All (IsPartOf x q) trees.parts.items
   pub broken_lists_are : AreCounted IsBrokenList q.files trees.broken_lists

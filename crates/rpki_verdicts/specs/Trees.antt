@@ -37,12 +37,13 @@ pub mod Steps
 
 -- ---- what is asked
 
--- the files, those given as locators, whether names have to chain, whether they are read strictly, the
--- moment, how many certificates a path has at most below the trust anchor, and how many are verified
--- at most
+-- the files, those given as locators, with what the names begin of files below the directory that is
+-- named, whether names have to chain, whether they are read strictly, the moment, how many certificates a
+-- path has at most below the trust anchor, and how many are verified at most
 pub record TreeFields : Type 0 where
   pub files : List FileFields
   pub locators : List LocatorFields
+  pub root : List ℕ
   pub names : Bool
   pub strict : Bool
   pub at : Moment
@@ -54,6 +55,7 @@ abbrev pub asked_of : TreeQuestion → TreeFields
 asked_of q = record {
   files = q.files.now;
   locators = q.locators.now;
+  root = q.root.now;
   names = q.names;
   strict = q.strict;
   at = q.at;

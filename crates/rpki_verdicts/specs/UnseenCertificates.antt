@@ -3,6 +3,7 @@
 use Rattle.std.specs.List.{list_any}
 use Rattle.std.specs.Prelude.{◌≡◌, ◌+◌, ◌<◌, ◌≤◌, ◌&&◌, ◌||◌, ℕ, Bool, true, false, if◌then◌else◌, fold, List, length, is_none, is_some, nat_lt, slice_get, unwrap_or, Option, None, Some}
 use Rattle.std.specs.BTreeMap.{get}
+use Rattle.std.specs.Option.{option_map, option_or}
 use Rattle.std.specs.Cmp.Lexicographic.{slice_cmp}
 use Rattle.std.specs.Ordering.{nat_cmp}
 use Rattle.rpki_files.specs.Files.{FileFields}
@@ -13,13 +14,14 @@ use Rattle.rpki_folder.specs.declared.limits.Reached.{Reached}
 use Rattle.rpki_folder.specs.declared.lines.Line.{Line}
 use Rattle.rpki_folder.specs.declared.lines.Line.TheVariants as line
 use Rattle.rpki_path.specs.declared.judging.Judged.{Judged}
+use Rattle.rpki_verdicts.specs.Reasons.{error_name}
 use Rattle.rpki_verdicts.specs.Searches.{HasKeyNamed}
-use Rattle.rpki_verdicts.specs.ShownPaths.{AreNamedFiles}
+use Rattle.rpki_verdicts.specs.ShownPaths.{AreNamedFiles, placed_of}
 use Rattle.rpki_verdicts.specs.TreeParts.{files_of, is_told, wrong_at}
 use Rattle.rpki_verdicts.specs.Trees.{is_anchor_at, line_at, reached_in}
 use Rattle.rpki_verdicts.specs.declared.issuers.Issuers.{Issuers}
 use Rattle.rpki_verdicts.specs.declared.issuers.Unseen.{Unseen}
-use Rattle.rpki_verdicts.specs.declared.issuers.Unseen.TheVariants.{NoIssuer, NotBelow, NotLookedAt, BelowRejected, BelowUnseen}
+use Rattle.rpki_verdicts.specs.declared.issuers.Unseen.TheVariants.{NoIssuer, NotBelow, NotCa, NotLookedAt, BelowRejected, BelowUnseen}
 use Rattle.rpki_verdicts.specs.declared.parts.Trees.{Trees}
 use Rattle.rpki_verdicts.specs.declared.unordered.Tree.{Tree}
 use Rattle.rpki_verdicts.specs.declared.unordered.TreeAnswer.{TreeAnswer}
@@ -66,18 +68,18 @@ limit_at trees place =
     least (fold (λ reached part. both reached (reached_by place part.answer)) nothing trees.parts.items)
 
 -- how it stands as an issuer, the least number best: a trust anchor or accepted CA at which a walk
--- reached a limit on each path; one below which it looked; another accepted one; rejected; or neither. So
+-- reached a limit on each path; one below which it looked; rejected; accepted and no CA; or neither. So
 -- another certificate of the key, below which a walk looked, hides no limit
 abbrev pub standing_of : Bool → Option Limit → ℕ
 standing_of true limit = 1
 standing_of false (Some limit) = 0
-standing_of false None = 2
+standing_of false None = 3
 
 abbrev pub standing : Trees → ℕ → ℕ
 standing trees place =
     if is_told trees.parts.items 1 place
     then standing_of (is_looked_at trees place) (limit_at trees place)
-    else if is_rejected_at trees place then 3 else 4
+    else if is_rejected_at trees place then 2 else 4
 
 -- the certificate at a place has the key of this identifier
 abbrev pub HasKeyIn : Trees → List ℕ → ℕ → Type 0
@@ -102,11 +104,11 @@ abbrev pub issuer_in : Issuers → List ℕ → Option ℕ
 issuer_in issuers key = get (slice_cmp nat_cmp) issuers.places key
 
 -- each key has its issuer among all certificates, where there is one; and each URI the file that it
--- names
+-- names, by its name below the directory that is named
 pub record AreIssuers (trees : Trees) (issuers : Issuers) : Type 0 where
   pub by_key : (key : List ℕ)
       → IsIssuerAmong trees (length (files_of trees)) key (issuer_in issuers key)
-  pub by_uri : AreNamedFiles (files_of trees) issuers
+  pub by_uri : AreNamedFiles (placed_of trees) issuers
 
 -- the issuer of a file: that of the key which it names as its signer's
 abbrev pub IsIssuerOf : Trees → FileFields → Option ℕ → Type 0
@@ -118,10 +120,12 @@ IsIssuerOf trees file (Some place) =
     × IsIssuerAmong trees (length (files_of trees)) key (Some place)
 
 -- why there is no verdict on a certificate with this accepted issuer: a limit was reached there, and a
--- walk looked below it nowhere; or it isn't one that this CA issued
+-- walk looked below it nowhere; a walk looked below it, so it isn't one that this CA issued; or that is no
+-- CA
 abbrev pub below_accepted : Bool → Option Limit → ℕ → Unseen
+below_accepted true limit issuer = NotBelow issuer
 below_accepted false (Some limit) issuer = NotLookedAt issuer limit
-below_accepted _ _ issuer = NotBelow issuer
+below_accepted false None issuer = NotCa issuer
 
 -- why there is no verdict on a certificate with this issuer: there is none; it is rejected; it has no
 -- verdict either; or it is accepted
@@ -131,6 +135,26 @@ why_unseen trees (Some place) =
     if is_told trees.parts.items 1 place
     then below_accepted (is_looked_at trees place) (limit_at trees place) place
     else if is_rejected_at trees place then BelowRejected place else BelowUnseen place
+
+-- the error of a certificate that is rejected, by the first line that rejects it; or as the trust anchor of
+-- a locator
+abbrev pub error_by : Option Line → Option (List ℕ)
+error_by (Some (line.Rejected index fault)) = Some (error_name fault)
+error_by _ = None
+
+abbrev pub error_in : ℕ → TreeAnswer → Option (List ℕ)
+error_in place (NoAnchor wrong) = None
+error_in place (Walked tree) = error_by (line_at tree place)
+
+abbrev pub error_at : Trees → ℕ → Option (List ℕ)
+error_at trees place = option_or
+    (fold (λ error part. option_or error (error_in place part.answer)) None trees.parts.items)
+    (option_map (λ w. w.fault.name.now) (wrong_at trees.parts.items place))
+
+-- that of the rejected issuer
+abbrev pub error_above : Trees → Unseen → Option (List ℕ)
+error_above trees (BelowRejected issuer) = error_at trees issuer
+error_above trees _ = None
 
 -- why there is no verdict on the certificate of a file
 abbrev pub IsUnseen : Trees → FileFields → Unseen → Type 0

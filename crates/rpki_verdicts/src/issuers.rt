@@ -1,16 +1,18 @@
 //! Why there is no verdict on a certificate: what became of its issuer.
-ghost use Rattle.std.specs.Prelude.{◌≡◌, ◌↔◌, ◌+◌, ◌++◌, ◌∷◌, ◌^◌, ◌<◌, [], ℕ, List, Some, None, codes, option_copied, option_map, slice_get, length, map, IfOk, OnOk, IsTrue};
+ghost use Rattle.std.specs.Prelude.{◌≡◌, ◌↔◌, ◌+◌, ◌++◌, ◌∷◌, ◌^◌, ◌<◌, [], ℕ, List, Some, None, codes, fold, option_copied, option_map, slice_get, length, map, IfOk, OnOk, IsTrue};
 ghost use Rattle.std.specs.BTreeMap.{get};
+ghost use Rattle.std.specs.Option.{option_or};
 ghost use Rattle.std.specs.Cmp.Lexicographic.{slice_cmp};
 ghost use Rattle.std.specs.Ordering.{nat_cmp};
 ghost use Rattle.rpki_files.specs.Files.{FileFields};
 ghost use Rattle.rpki_folder.specs.FirstPlaces.{first_from};
 ghost use Rattle.rpki_verdicts.specs.Searches.{HasKeyNamed};
-ghost use Rattle.rpki_verdicts.specs.ShownPaths.{AreNamedFiles, place_of, uri_of};
+ghost use Rattle.rpki_verdicts.specs.ShownPaths.{AreNamedFiles, name_below, place_of, placed, uri_of};
 ghost use Rattle.rpki_verdicts.specs.TreeParts.{files_of};
-ghost use Rattle.rpki_verdicts.specs.UnseenCertificates.{AreIssuers, IsIssuerAmong, IsUnseen, StandsBetter, below_accepted, is_ca, is_looked_at, is_looked_below, is_rejected_at, issuer_in, limit_at, paths_by, reached_by, standing, standing_of, why_unseen};
+ghost use Rattle.rpki_verdicts.specs.UnseenCertificates.{AreIssuers, IsIssuerAmong, IsUnseen, StandsBetter, below_accepted, error_above, error_at, error_by, error_in, is_ca, is_looked_at, is_looked_below, is_rejected_at, issuer_in, limit_at, paths_by, reached_by, standing, standing_of, why_unseen};
 
 use crate::parts::{Trees, is_told};
+use crate::reasons::name_of;
 use crate::search::signer_of;
 use crate::unordered::TreeAnswer;
 use bytes::Bytes;
@@ -24,10 +26,10 @@ use std::collections::BTreeMap;
 
 /// The issuers among certificates, by their keys and by the URIs of their files.
 ///
-/// For each key the place of a certificate that has it: an accepted one if there is one (a CA at
-/// which a walk reached a limit on each path before one below which it looked, and both before
-/// others), or else a rejected one. And for each file's name, behind `rsync://`, the first place of a
-/// file that has it.
+/// For each key the place of a certificate that has it: an accepted CA if there is one (one at which a
+/// walk reached a limit on each path before one below which it looked), else a rejected certificate,
+/// else an accepted one that isn't a CA, or else another one. And for each file's name below the
+/// directory that is named, behind `rsync://`, the first place of a file that has it.
 #[derive(Drop)]
 pub struct Issuers {
     places: BTreeMap<[u8; 20], usize>,
@@ -40,9 +42,11 @@ pub struct Issuers {
 pub enum Unseen {
     /// It names no key, or no certificate here has the key.
     NoIssuer,
-    /// The issuer is accepted, and didn't issue it: it isn't a CA, has another name, or its key
-    /// didn't sign the certificate.
+    /// The issuer is an accepted CA, and didn't issue it: it has another name, or its key didn't sign
+    /// the certificate.
     NotBelow(usize),
+    /// The issuer is accepted, and isn't a CA.
+    NotCa(usize),
     /// The issuer is an accepted CA at which this limit was reached.
     NotLookedAt(usize, Limit),
     /// The issuer is rejected.
@@ -112,13 +116,25 @@ fn places_by_key(
     Ok(places)
 }
 
-// The URI that names a file, in a cache that is laid out by URI.
-fn uri_of(alloc: Global, file: &BareObject<'_>) -> Result<Bytes, AllocError>
-    ensures { IfOk result (λ uri. uri ≡ uri_of file.now) }
+// The part of a name below the directory with whose path names there begin.
+fn name_below<'n>(root: &[u8], name: &'n [u8]) -> &'n [u8]
+    ensures { result.now ≡ name_below root.now name.now }
 {
-    let mut uri = String::from_str(alloc, "rsync://")?;
-    uri.push_str(file.name())?;
-    Bytes::copy_from_slice(alloc, uri.as_bytes())
+    if name.starts_with(root) {
+        &name[root.len()..]
+    } else {
+        name
+    }
+}
+
+// The URI that names a file, in a cache that is laid out by URI below that directory.
+fn uri_of(alloc: Global, root: &[u8], file: &BareObject<'_>) -> Result<Bytes, AllocError>
+    ensures { IfOk result (λ uri. uri ≡ uri_of (placed root.now file.now)) }
+{
+    let mut uri = Vec::new(alloc);
+    uri.extend_from_slice(b"rsync://".as_slice())?;
+    uri.extend_from_slice(name_below(root, file.name().as_bytes()))?;
+    Bytes::copy_from_slice(alloc, &uri)
 }
 
 // Adds a URI, at the place behind those of the others, unless it is there.
@@ -139,14 +155,15 @@ fn add_uri(files: &mut BTreeMap<Bytes, usize>, place: usize, uri: Bytes) -> Resu
 // The first places of the URIs of files.
 fn places_by_uri(
     alloc: Global,
+    root: &[u8],
     certs: &[&BareObject<'_>],
 ) -> Result<BTreeMap<Bytes, usize>, AllocError>
     ensures { IfOk result (λ files. (uri : List ℕ) → get (slice_cmp nat_cmp) files uri
-        ≡ first_from 0 (map uri_of (map (λ f. f.now) certs.now)) uri) }
+        ≡ first_from 0 (map uri_of (map (λ f. placed root.now f.now) certs.now)) uri) }
 {
     let mut files = BTreeMap::new(alloc);
     for (place, file) in certs.iter().enumerate() {
-        let uri = uri_of(alloc, *file)?;
+        let uri = uri_of(alloc, root, *file)?;
         add_uri(&mut files, place, uri)?;
     }
     Ok(files)
@@ -161,7 +178,7 @@ pub fn issuers_of(alloc: Global, trees: &Trees<'_, '_>) -> Result<Issuers, Alloc
     ensures { IfOk result (AreIssuers trees.now) }
 {
     let places = places_by_key(alloc, trees)?;
-    let files = places_by_uri(alloc, &trees.certs)?;
+    let files = places_by_uri(alloc, trees.root, &trees.certs)?;
     Ok(Issuers { places, files })
 }
 
@@ -187,7 +204,7 @@ impl Issuers {
     }
 
     /// Returns the first place of the file that a URI names, if there is a URI and such a file: the
-    /// file's name is what follows `rsync://` in the URI.
+    /// file's name below the directory that is named is what follows `rsync://` in the URI.
     pub(crate) fn place_of(
         &self,
         alloc: Global,
@@ -260,7 +277,7 @@ fn standing_of(is_looked_at: bool, limit: Option<Limit>) -> u8
     match (is_looked_at, limit) {
         (true, _) => 1,
         (false, Some(_)) => 0,
-        (false, None) => 2,
+        (false, None) => 3,
     }
 }
 
@@ -269,8 +286,41 @@ fn below_accepted(is_looked_at: bool, limit: Option<Limit>, issuer: usize) -> Un
     ensures { result ≡ below_accepted is_looked_at limit issuer }
 {
     match (is_looked_at, limit) {
+        (true, _) => Unseen::NotBelow(issuer),
         (false, Some(limit)) => Unseen::NotLookedAt(issuer, limit),
-        (true, _) | (false, None) => Unseen::NotBelow(issuer),
+        (false, None) => Unseen::NotCa(issuer),
+    }
+}
+
+// The name of the error of a line.
+fn error_by(line: Option<&Line>) -> Option<&'static str>
+    ensures { option_map (λ name. name.now) result ≡ error_by (option_copied line.entry) }
+{
+    match line {
+        Some(Line::Rejected(_, fault)) => Some(name_of(fault)),
+        Some(Line::Accepted(_)) | Some(Line::Unseen) | None => None,
+    }
+}
+
+// The name of the error of the certificate at a place, below a trust anchor.
+fn error_in(answer: &TreeAnswer<'_, '_>, place: usize) -> Option<&'static str>
+    ensures { option_map (λ name. name.now) result ≡ error_in place answer.now }
+{
+    match answer {
+        TreeAnswer::NoAnchor(_) => None,
+        TreeAnswer::Walked(tree) => error_by(tree.line(place)),
+    }
+}
+
+// The first of two names, if there is one, and else the second.
+fn first_of(one: Option<&'static str>, other: Option<&'static str>) -> Option<&'static str>
+    ensures { let second = option_map (λ name. name.now) other.entry in
+        option_map (λ name. name.now) result
+        ≡ option_or (option_map (λ name. name.now) one.entry) second }
+{
+    match one {
+        Some(name) => Some(name),
+        None => other,
     }
 }
 
@@ -307,7 +357,7 @@ impl<'q, 'n> Trees<'q, 'n> {
         if is_told(&self.parts, place, 1) {
             standing_of(self.is_looked_at(place), self.limit_at(place))
         } else if self.is_rejected_at(place) {
-            3
+            2
         } else {
             4
         }
@@ -326,6 +376,41 @@ impl<'q, 'n> Trees<'q, 'n> {
             return Unseen::BelowRejected(place);
         }
         Unseen::BelowUnseen(place)
+    }
+    // The name of the error of the certificate at a place, by the first line that rejects it.
+    fn error_by_line(&self, place: usize) -> Option<&'static str>
+        ensures { option_map (λ name. name.now) result
+            ≡ fold (λ error part. option_or error (error_in place part.answer)) None
+            self.now.parts.items }
+    {
+        let mut error = None;
+        for part in &self.parts {
+            error = first_of(error, error_in(&part.answer, place));
+        }
+        error
+    }
+    // The name of the error of the certificate at a place, if it is rejected.
+    fn error_at(&self, place: usize) -> Option<&'static str>
+        ensures { option_map (λ name. name.now) result ≡ error_at self.now place }
+    {
+        let wrong = match self.wrong_at(place) {
+            Some(wrong) => Some(wrong.fault.name),
+            None => None,
+        };
+        first_of(self.error_by_line(place), wrong)
+    }
+    /// Returns the name of the error of the rejected issuer, if a certificate is below one.
+    pub fn error_above(&self, why: Unseen) -> Option<&'static str>
+        ensures { option_map (λ name. name.now) result ≡ error_above self.now why }
+    {
+        match why {
+            Unseen::BelowRejected(issuer) => self.error_at(issuer),
+            Unseen::NoIssuer
+            | Unseen::NotBelow(_)
+            | Unseen::NotCa(_)
+            | Unseen::NotLookedAt(..)
+            | Unseen::BelowUnseen(_) => None,
+        }
     }
     /// Returns why there is no verdict on the certificate of a file.
     pub fn unseen(&self, issuers: &Issuers, file: &BareObject<'_>) -> Unseen

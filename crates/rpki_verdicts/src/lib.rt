@@ -21,6 +21,6 @@ pub use path::{
     Fault, Question, Verdict, accepted_are_unrevoked, first_no_locator, judge, lists_of, located,
     one_acceptance, one_answer,
 };
-pub use search::{Sought, seek};
+pub use search::{Sought, seek, signer_of};
 pub use shown_paths::{ShownPaths, hold_same};
 pub use unordered::{Tree, TreeAnswer, TreeQuestion, WrongAnchor};

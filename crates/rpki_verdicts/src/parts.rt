@@ -28,6 +28,8 @@ pub struct TreePart<'q, 'n> {
 pub struct Trees<'q, 'n> {
     /// The files that start with certificates, in their order. A place is an index among them.
     pub certs: Vec<&'q BareObject<'n>>,
+    /// The path with which names begin below the directory that is named.
+    pub root: &'q [u8],
     /// A part for each key of which a TAL is given, in the order of the TALs.
     pub parts: Vec<TreePart<'q, 'n>>,
     /// How many files have the name of a CRL and are none.
@@ -140,6 +142,7 @@ pub fn judge_all<'q, 'n>(
     match parts {
         Ok(parts) => Ok(Trees {
             certs,
+            root: question.root,
             parts,
             broken_lists: count_broken_lists(question.files),
             others: count_others(question.files),

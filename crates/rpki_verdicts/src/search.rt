@@ -187,7 +187,7 @@ fn has_key(file: &BareObject<'_>, key: &KeyIdentifier) -> bool
 
 /// Returns the key that the file names as its signer's, if it begins with a certificate that names
 /// one.
-pub(crate) fn signer_of(file: &BareObject<'_>) -> Option<KeyIdentifier>
+pub fn signer_of(file: &BareObject<'_>) -> Option<KeyIdentifier>
     ensures { (key : List ℕ) → NamesSigner key file.now.octets ↔ (result ≡ Some key) }
 {
     laws::unambiguous();

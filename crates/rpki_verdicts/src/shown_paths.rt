@@ -6,9 +6,8 @@ ghost use Rattle.std.specs.Ordering.{nat_cmp};
 ghost use Rattle.std.specs.Prelude.{◌≡◌, ◌≤◌, ◌<◌, ◌+◌, ◌↔◌, ◌∷◌, length, map, reverse, IfOk, IsTrue};
 ghost use Rattle.rpki_blocks.specs.Sets.{AreIn};
 ghost use Rattle.rpki_folder.specs.KeptLines.{paths_in};
-ghost use Rattle.rpki_verdicts.specs.ShownPaths.{AreNamed, AreSame, AreShown, HoldSame, IsNamedBy, is_of, octets_along, octets_of};
+ghost use Rattle.rpki_verdicts.specs.ShownPaths.{AreNamed, AreSame, AreShown, HoldSame, IsNamedBy, is_of, octets_along, octets_of, placed_of};
 ghost use Rattle.rpki_verdicts.specs.ShownPaths.Steps.{IsRanked, ranked_order};
-ghost use Rattle.rpki_verdicts.specs.TreeParts.{files_of};
 ghost use Rattle.rpki_verdicts.specs.UnseenCertificates.{AreIssuers};
 
 use crate::issuers::Issuers;
@@ -72,7 +71,7 @@ impl<'q, 'n> Trees<'q, 'n> {
         place: usize,
     ) -> Result<Option<usize>, AllocError>
         requires { AreIssuers self.now issuers.now }
-        ensures { IfOk result (IsNamedBy (files_of self.now) place) }
+        ensures { IfOk result (IsNamedBy (placed_of self.now) place) }
     {
         let Some(file) = self.certs.get(place) else {
             return Ok(None);
@@ -97,7 +96,7 @@ impl<'q, 'n> Trees<'q, 'n> {
     ) -> Result<usize, AllocError>
         requires { AreIssuers self.now issuers.now }
         ensures named { let up = reverse above.now in
-            IfOk result (AreNamed (files_of self.now) tree.now place up) }
+            IfOk result (AreNamed (placed_of self.now) tree.now place up) }
         ensures few { IfOk result (λ n. n ≤ length above.now + 1) }
     {
         let named = self.named_by(alloc, issuers, place)?;
@@ -122,7 +121,7 @@ impl<'q, 'n> Trees<'q, 'n> {
     ) -> Result<RankedPath<'t>, AllocError>
         requires { AreIssuers self.now issuers.now }
         ensures path { IfOk result (λ ranked. ranked.path.now ≡ path.now) }
-        ensures ranked { IfOk result (IsRanked (files_of self.now) tree.now place) }
+        ensures ranked { IfOk result (IsRanked (placed_of self.now) tree.now place) }
     {
         let named = self.count_named(alloc, issuers, tree, place, &path.above)?;
         Ok(RankedPath { path, named })
@@ -141,7 +140,7 @@ impl<'q, 'n> Trees<'q, 'n> {
         ensures paths { IfOk result (λ all.
             map (λ it. it.path.now) all.items ≡ paths_in paths.now) }
         ensures ranked { IfOk result (λ all.
-            AllByRecursion (IsRanked (files_of self.now) tree.now place) all.items) }
+            AllByRecursion (IsRanked (placed_of self.now) tree.now place) all.items) }
     {
         let mut all = Vec::new(alloc);
         all.push(self.ranked(alloc, issuers, tree, place, &paths.first)?)?;
@@ -153,7 +152,7 @@ impl<'q, 'n> Trees<'q, 'n> {
 
     // The octets of the file at a place.
     fn octets_of(&self, place: usize) -> &[u8]
-        ensures { result.now ≡ octets_of (files_of self.now) place }
+        ensures { result.now ≡ octets_of (placed_of self.now) place }
     {
         match self.certs.get(place) {
             Some(file) => file.octets().as_slice(),
@@ -163,7 +162,7 @@ impl<'q, 'n> Trees<'q, 'n> {
 
     // How the octets of the files at some places and at others stand.
     fn order_octets(&self, one: &[usize], other: &[usize]) -> Ordering
-        ensures { let certs = files_of self.now in
+        ensures { let certs = placed_of self.now in
             result ≡ slice_cmp (slice_cmp nat_cmp) (octets_along certs one.now)
             (octets_along certs other.now) }
     {
@@ -181,7 +180,7 @@ impl<'q, 'n> Trees<'q, 'n> {
     // How two paths stand: the one with more certificates named goes before, then the one with fewer
     // CAs, and then the one with the lesser octets.
     fn order(&self, one: &RankedPath<'_>, other: &RankedPath<'_>) -> Ordering
-        ensures { result ≡ ranked_order (files_of self.now) one.now other.now }
+        ensures { result ≡ ranked_order (placed_of self.now) one.now other.now }
     {
         other
             .named
@@ -194,7 +193,7 @@ impl<'q, 'n> Trees<'q, 'n> {
     fn sorted<'t>(&self, mut ranked: Vec<RankedPath<'t>>) -> Result<Vec<RankedPath<'t>>, AllocError>
         ensures all { IfOk result (λ sorted. IsPermutation ranked.entry.items sorted.items) }
         ensures sorted { IfOk result (λ sorted.
-            IsSorted (ranked_order (files_of self.now)) sorted.items) }
+            IsSorted (ranked_order (placed_of self.now)) sorted.items) }
     {
         ranked.sort_by(|one, other| self.order(one, other))?;
         Ok(ranked)
@@ -203,9 +202,10 @@ impl<'q, 'n> Trees<'q, 'n> {
     /// Finds which of the valid paths to the certificate at a place in a tree is shown.
     ///
     /// It is the path of whose certificates, from the bottom up, the most name the file of the
-    /// certificate above by their caIssuers URI: `rsync://` and that file's name, as in a cache that
-    /// is laid out by URI, or the name of a copy. Then it is the shortest path, and then the one whose
-    /// CAs' bytes are least (own). So which one it is doesn't depend on the order of the paths.
+    /// certificate above by their caIssuers URI: `rsync://` and that file's name below the directory
+    /// that is named, as in a cache that is laid out by URI, or the name of a copy. Then it is the
+    /// shortest path, and then the one whose CAs' bytes are least (own). So which one it is doesn't
+    /// depend on the order of the paths.
     ///
     /// # Errors
     ///
@@ -219,7 +219,7 @@ impl<'q, 'n> Trees<'q, 'n> {
         paths: &'t AcceptedPaths,
     ) -> Result<ShownPaths<'t>, AllocError>
         requires { AreIssuers self.now issuers.now }
-        ensures { IfOk result (AreShown (files_of self.now) tree.now place paths.now) }
+        ensures { IfOk result (AreShown (placed_of self.now) tree.now place paths.now) }
     {
         laws::unambiguous();
         let more = paths.more;

@@ -36,13 +36,16 @@ use rpki_keys::tal::Tal;
 use rpki_path::LocatedError;
 use std::alloc::{AllocError, Global};
 
-/// A question about files in any order: the files, the TALs, whether names are checked, the mode,
-/// the validation time, the most certificates of a path below the trust anchor, and the most
-/// steps of a walk below each trust anchor.
+/// A question about files in any order: the files, the TALs, the directory that is named, whether
+/// names are checked, the mode, the validation time, the most certificates of a path below the trust
+/// anchor, and the most steps of a walk below each trust anchor.
 #[derive(Drop)]
 pub struct TreeQuestion<'q, 'n> {
     pub files: &'q [BareObject<'n>],
     pub locators: &'q [GivenLocator<'n>],
+    /// The path with which the names of files in a cache begin, with a `/` at its end; empty if the
+    /// whole names are compared with URIs.
+    pub root: &'q [u8],
     pub names: bool,
     pub strict: bool,
     pub at: Time,

@@ -13,7 +13,7 @@ returns-in-Rejected c =
 
 pub returns-in-Unseen : goal.returns-in-Unseen
 returns-in-Unseen c =
-    rw c.in-Unseen.is (ended_some c.add_unseen.result (AreSaid (map (λ f. f.now) c.args.certs.now) c.args.name.now (said.Unseen c.in-Unseen.why)) _ _ _ refl c.add_unseen.ensures)
+    rw c.in-Unseen.is (ended_some c.add_unseen.result (AreSaid (map (λ f. f.now) c.args.certs.now) c.args.name.now (said.Unseen c.in-Unseen.why c.in-Unseen.error)) _ _ _ refl c.add_unseen.ensures)
 
 pub returns-in-Anchor : goal.returns-in-Anchor
 returns-in-Anchor c =

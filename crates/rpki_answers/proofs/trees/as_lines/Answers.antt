@@ -9,7 +9,7 @@ pub returns : goal.returns
 returns c =
     let trees = c.args.trees.now in
     let rows = c.in_ok-append_rows.ensures in
-    let ends = end_nodes (asked_of c.args.question.now) trees c.args.rows.now in
+    let ends = end_nodes (asked_of c.args.question.now) trees c.args.rows.now (map (λ name. name.now) c.args.unread.now) in
     let certs = ap (λ (l : List (Bor FileFields)). map (λ f. f.now) l) c.deref.ensures.value in (
       rows.0,
       subst (λ (l : List FileFields). PrintsRows c.args.options.only_rejected l c.args.rows.now rows.0) certs rows.1,

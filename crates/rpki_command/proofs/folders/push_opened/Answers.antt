@@ -4,7 +4,8 @@ use Rattle.std.specs.Cmp.Lexicographic.{slice_cmp}
 use Rattle.std.specs.Ordering.{nat_cmp}
 use Rattle.std.proofs.Common.{◌≡◌, ◌≢◌, ◌∷◌, [], List, ℕ, refl, inl, inr, subst, rules}
 use Rattle.rpki_text.specs.CommandLines.Views.{word_octets}
-use Rattle.rpki_command.specs.ListedFolders.{IsNoFolder, barred, closed_name, holds, is_passed, is_taken}
+use Rattle.rpki_answers.specs.UnreadNames.{closed_name}
+use Rattle.rpki_command.specs.ListedFolders.{IsNoFolder, barred, holds, is_passed, is_taken}
 use Rattle.rpki_command.specs.UnreadFiles.{IsToldUnlisted}
 use Rattle.rpki_command.specs.declared.files.Unread.TheVariants.{Memory}
 use Rattle.rpki_command.proofs.WrittenTexts.{appends_none}

@@ -3,7 +3,7 @@ use Rattle.std.proofs.Common.{rules, [], sym}
 use Rattle.std.proofs.lemmas.List.{append-nil}
 use Rattle.rpki_verdicts.specs.GivenLocators.{IsRead}
 use Rattle.rpki_command.specs.ReadFiles.{IsFileRead}
-use Rattle.rpki_command.specs.UnreadFiles.{IsToldUnread}
+use Rattle.rpki_command.specs.UnreadFiles.{SaysUnread}
 use Rattle.rpki_command.proofs.NamedFiles.{one_told}
 use Rattle.rpki_command.proofs.reading.push_locator.Goals as goal
 
@@ -11,6 +11,6 @@ pub returns-in-None : goal.returns-in-None
 returns-in-None g c =
     let reads = g.F.FileSource.reads c.args.files.now in
     let its = c.in_ok-text.ensures in
-    let told = one_told (IsFileRead reads c.args.most) (IsToldUnread reads c.args.most) c.args.name.now its.0 (rw c.in-None.is at its.1) in
+    let told = one_told (IsFileRead reads c.args.most) (SaysUnread reads c.args.most) c.args.name.now its.0 (rw c.in-None.is at its.1) in
     let none : All (IsRead c.args.strict) [] = search rules in
     ([], its.0, told, none, sym (append-nil c.args.all.now.items), its.2)

@@ -3,7 +3,7 @@ use Rattle.std.proofs.lemmas.List.{map-append}
 use Rattle.rpki_files.specs.Files.{FileFields}
 use Rattle.rpki_command.specs.NamedFiles.{AreObjectsRead}
 use Rattle.rpki_command.specs.ReadFiles.{IsObjectRead}
-use Rattle.rpki_command.specs.UnreadFiles.{IsToldUnread}
+use Rattle.rpki_command.specs.UnreadFiles.{SaysUnread}
 use Rattle.rpki_command.proofs.NamedFiles.{more_read}
 use Rattle.rpki_command.proofs.WrittenTexts.{appends_both}
 use Rattle.rpki_command.proofs.reading.read_files.Goals as goal
@@ -22,7 +22,7 @@ loop-name-preserved g c =
     let (said, so_far, appended, counted) = c.loop-name.invariant in (
       said ++ its.1,
       subst (λ (l : List FileFields). AreObjectsRead reads most (map (λ name. name.now) (take (i + 1) names)) l (said ++ its.1)) (sym files)
-          (more_read (IsObjectRead reads most) (IsToldUnread reads most) (λ (name : Bor (List ℕ)). name.now) names i _ c.loop-name-test.true (map fields before) (map fields its.0) said its.1 so_far its.2),
+          (more_read (IsObjectRead reads most) (SaysUnread reads most) (λ (name : Bor (List ℕ)). name.now) names i _ c.loop-name-test.true (map fields before) (map fields its.0) said its.1 so_far its.2),
       appends_both (contents c.args.err.now) (contents c.loop-name.err) (contents c.push_file.new.err) said its.1 appended its.4,
       cc counted,
     )

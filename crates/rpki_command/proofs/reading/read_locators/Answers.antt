@@ -6,7 +6,7 @@ use Rattle.rpki_files.specs.Files.{FileFields}
 use Rattle.rpki_verdicts.specs.GivenLocators.{LocatorFields, IsRead, locator_files}
 use Rattle.rpki_command.specs.NamedFiles.{AreFilesRead}
 use Rattle.rpki_command.specs.ReadFiles.{IsFileRead}
-use Rattle.rpki_command.specs.UnreadFiles.{IsToldUnread}
+use Rattle.rpki_command.specs.UnreadFiles.{SaysUnread}
 use Rattle.rpki_command.proofs.NamedFiles.{more_read}
 use Rattle.rpki_command.proofs.WrittenTexts.{appends_both}
 use Rattle.rpki_command.proofs.reading.read_locators.Goals as goal
@@ -24,7 +24,7 @@ loop-name-preserved g c =
     let (said, so_far, appended, are) = c.loop-name.invariant in (
       said ++ its.1,
       subst (λ (l : List FileFields). AreFilesRead reads most (map (λ name. name.now) (take (i + 1) names)) l (said ++ its.1)) (sym files)
-          (more_read (IsFileRead reads most) (IsToldUnread reads most) (λ (name : Bor (List ℕ)). name.now) names i _ c.loop-name-test.true (locator_files before) (locator_files its.0) said its.1 so_far its.2),
+          (more_read (IsFileRead reads most) (SaysUnread reads most) (λ (name : Bor (List ℕ)). name.now) names i _ c.loop-name-test.true (locator_files before) (locator_files its.0) said its.1 so_far its.2),
       appends_both (contents c.args.err.now) (contents c.loop-name.err) (contents c.push_locator.new.err) said its.1 appended its.5,
       subst (λ (l : List LocatorFields). All (IsRead c.args.strict) l) (sym its.4) (All-append (IsRead c.args.strict) before its.0 are its.3),
     )

@@ -58,7 +58,7 @@ returns-in_ok-walk-in-Valid c = λ l read.
     let tells = told.2 root found.0 in
     let reached = c.in_ok-walk-in-Valid.ensures.limits in
     let cas = reached.0 in
-    let start = c.first_of-start-in-Valid.ensures.value in
+    let start = c.first_of-start.ensures.value in
     let law = c.unambiguous.ensures.certificate in
     let from : TellsFrom {E = WalkError} x asked q.names (IsFirstIn firsts) t octets folder.certs q.depth q.steps (Ok walk.ended) told.0 =
     λ top begins.
@@ -87,5 +87,5 @@ returns-in_ok-walk-in-Valid c = λ l read.
       limited_are = subst (λ (o : List (List ℕ)). AreLimitedFrom x asked q.names (IsFirstIn firsts) t file.0.octets o q.depth q.steps cas) same_certs
           (subst (λ (o : List ℕ). AreLimitedFrom x asked q.names (IsFirstIn firsts) t o folder.certs q.depth q.steps cas) same limited);
       limits_are = subst (λ (n : ℕ). IsTableOf n (length files) cas walk.limits) start
-          (subst (λ (n : ℕ). IsTableOf c.first_of-start-in-Valid.result n cas walk.limits) (ap length same_certs ∙ length-map files (λ (f : FileFields). f.octets)) reached.1.table);
+          (subst (λ (n : ℕ). IsTableOf c.first_of-start.result n cas walk.limits) (ap length same_certs ∙ length-map files (λ (f : FileFields). f.octets)) reached.1.table);
     }

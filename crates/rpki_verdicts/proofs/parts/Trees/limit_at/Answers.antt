@@ -6,12 +6,8 @@ use Rattle.rpki_folder.specs.LimitTables.{both, nothing}
 use Rattle.rpki_folder.specs.declared.limits.Reached.{Reached}
 use Rattle.rpki_verdicts.specs.UnseenCertificates.{reached_by}
 use Rattle.rpki_verdicts.specs.declared.parts.TreePart.{TreePart}
+use Rattle.rpki_verdicts.proofs.FoldedItems.{fold_more}
 use Rattle.rpki_verdicts.proofs.parts.Trees.limit_at.Goals as goal
-
--- a fold over one item more
-fold_more : {A B : Type 0} (f : B → A → B) (a : B) (xs : List A) (i : ℕ) (x : A) → i < length xs → x ≡ get_or xs i x → fold f a (take (i + 1) xs) ≡ f (fold f a (take i xs)) x
-fold_more {A} {B} f a xs i x low there =
-    ap (λ (l : List A). fold f a l) (take_more xs i x low ∙ ap (λ (y : A). take i xs ++ y ∷ []) (sym there)) ∙ fold-append f a (take i xs) (x ∷ [])
 
 pub loop-part-preserved : goal.loop-part-preserved
 loop-part-preserved c =
