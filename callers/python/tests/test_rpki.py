@@ -17,6 +17,7 @@ import subprocess
 import sys
 import tempfile
 import threading
+import time
 import unittest
 from datetime import datetime, timedelta, timezone, tzinfo
 from pathlib import Path
@@ -379,6 +380,32 @@ class Paths(unittest.TestCase):
         self.assertTrue(held.allows(65536, "2001:db8:2::/48"))
         self.assertFalse(held.allows(65537) or held.allows(None, "2001:db8:1::/48"))
 
+    def test_room_of_each_kind(self) -> None:
+        """Too little room for one kind alone is made good, too."""
+        file = TOP / "tests" / "files" / "wide" / "ta.cer"
+        real = raw.room_for
+        whole = validate([file], last=Kind.AUTHORITY, lists=None, at=self.noon)
+        for rooms in ((64, 5000, 5000), (5000, 64, 5000), (5000, 5000, 64)):
+            made = [real(*rooms), real(5000, 5000, 5000)]
+            with mock.patch.object(raw, "room_for", side_effect=made):
+                held = validate([file], last=Kind.AUTHORITY, lists=None, at=self.noon)
+            self.assertEqual(held, whole)
+
+    def test_now_is_of_utc(self) -> None:
+        """Without `at`, a machine's time zone changes nothing."""
+        try:
+            with mock.patch.dict(os.environ, {"TZ": "WEST+12"}):
+                time.tzset()
+                with mock.patch.object(raw, "question", side_effect=KeyError) as asked:
+                    with self.assertRaises(KeyError):
+                        validate(self.members, last=Kind.END_ENTITY, lists=None)
+        finally:
+            time.tzset()
+        it = asked.call_args.args[2]
+        parts = (it.year, it.month, it.day, it.hour, it.minute, it.second)
+        now = datetime.now(timezone.utc)
+        self.assertLess(now - datetime(*parts, tzinfo=timezone.utc), timedelta(hours=1))
+
     def test_calls(self) -> None:
         """A path is judged once; only if there are more ranges than are guessed at, once more."""
         wide = TOP / "tests" / "files" / "wide" / "ta.cer"
@@ -512,7 +539,9 @@ class Paths(unittest.TestCase):
         with self.assertRaises(kind) as caught:
             validate(members, **given)
         self.assertEqual((caught.exception.name, caught.exception.member), (name, member))
-        self.assertIn(caught.exception.sentence, str(caught.exception))
+        place = "" if member is None else f"member {member}: "
+        said = f"{place}{caught.exception.sentence} ({caught.exception.name})"
+        self.assertEqual(str(caught.exception), said)
 
     def test_rejected(self) -> None:
         path = self.members[:3]
@@ -533,6 +562,9 @@ class Paths(unittest.TestCase):
         path = self.members[1:3]
         self.rejects("OtherKey", rpki.LocatorFault, 0, path, locator=octets("anchor.tal"))
         self.rejects("NoUri", rpki.LocatorFault, None, self.members[:1], locator=b"\n")
+        # a TAL without a byte is one, and not none
+        with self.assertRaises(rpki.LocatorFault):
+            validate(self.members[:1], last=Kind.AUTHORITY, lists=None, locator=b"", at=self.noon)
         latin = b"# \xe9\n" + octets("anchor.tal")
         asked: dict[str, Any] = {"last": Kind.AUTHORITY, "locator": latin, "at": self.noon}
         self.assertTrue(validate(self.members[:1], lists=None, strict=False, **asked))
@@ -553,6 +585,14 @@ class Paths(unittest.TestCase):
         # a fault of reading has a number of its own for each part
         missing = [rpki.DecodeFault(number).code for number in (120, 132)]
         self.assertEqual(missing, [FaultCode.DECODE_MISSING] * 2)
+        for number in range(120, 220):
+            try:
+                code = rpki.DecodeFault(number).code
+            except raw.Called:
+                continue  # no part has this number
+            self.assertEqual(code.value, number - number % 20)
+        for number in (601, 602, 700):
+            self.assertIs(type(rpki._fault(number)), rpki.LocatorFault)
         for code in FaultCode:
             if code not in (FaultCode.MEMORY, FaultCode.BAD_CALL):
                 self.assertEqual(rpki.Fault(code).code, code)
@@ -1026,6 +1066,8 @@ class Issuing(unittest.TestCase):
             {"ipv4": [ipaddress.ip_network("2001:db8::/64")]},
             {"as_numbers": [1 << 32]},
             {"as_numbers": [range(2, 2)]},
+            {"as_numbers": [range(0, 10, 2)]},
+            {"ipv4": [(back[1], ipaddress.ip_address("2001:db8::1"))]},
             {"as_numbers": []},
             {"uris": {"crl": "http://rpki.example.net/"}},
             {"uris": {"list": f"{SITE}/anchor/anchor.crl"}},
@@ -1168,6 +1210,10 @@ class Issuing(unittest.TestCase):
         with self.assertRaises(rpki.RevocationFault) as caught:
             validate(path, last=Kind.AUTHORITY, lists=[first, second], at=self.at)
         self.assertEqual((caught.exception.name, caught.exception.member), ("Revoked", 1))
+        # numbers that no certificate has aren't searched for as others
+        ends = self.listed("anchor", [anchor], revoked=[0, (1 << 159) + 1])
+        asked_for = [0, (1 << 159) + 1, -1, 1 << 160]
+        self.assertEqual(ends.revoked(asked_for), [True, True, False, False])
         # what was revoked stays, and a number may be chosen
         third = self.listed("anchor", [anchor], previous=second.octets, number=9, revoked=[5, 1])
         self.assertEqual((third.number, list(third)), (9, [*entries, Entry(1, self.at)]))
@@ -1190,6 +1236,11 @@ class Issuing(unittest.TestCase):
         )
         self.assertEqual(third.expired([old, below]), [Entry(9, self.at)])
         self.assertEqual(third.expired([below]), [])
+        # a certificate of another issuer's counts for none: by its name, or by its key
+        for field, other in (("issuer", b""), ("authority_key_identifier", bytes(20))):
+            foreign = Certificate(old.octets)
+            foreign.__dict__[field] = other
+            self.assertEqual(third.expired([foreign]), [])
         stays = [Entry(5, self.at), Entry(7, BEGIN), Entry(1, self.at)]
         fourth = self.listed("anchor", [anchor], previous=third, expired=[old, below], revoked=[8])
         self.assertEqual((fourth.number, list(fourth)), (10, [*stays, Entry(8, self.at)]))
