@@ -42,7 +42,8 @@ module _ {X : Type 0} (f : X → List Node) (xs : List X) (i : ℕ) where
 
 -- ---- the certificates of a path, with their indexes
 
-same_index : (strict : Bool) (a b : ℕ) (file : FileFields) (node : Node) → a ≡ b → IsCertificateNode strict a file node → IsCertificateNode strict b file node
+same_index : (strict : Bool) (a b : ℕ) (file : FileFields) (node : Node) → a ≡ b →
+    IsCertificateNode strict a file node → IsCertificateNode strict b file node
 same_index strict a b file node e says = subst (λ (n : ℕ). IsCertificateNode strict n file node) e says
 
 certificates_more : (strict : Bool) (from : ℕ) (files : List FileFields) (file : FileFields) (nodes : List Node) (node : Node)

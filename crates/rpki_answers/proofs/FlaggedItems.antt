@@ -11,10 +11,12 @@ module _ {X : Type 0} (P : X → Type 0) where
     all_with all has = All-more P xs i x low all (subst P there has)
 
     parts_of_all : All P (take (i + 1) xs) → All P (take i xs) × P x
-    parts_of_all all = All-pop P (take (i + 1) xs) (take i xs) (Some x) (take_more xs i x low ∙ ap (λ (y : X). take i xs ++ y ∷ []) (sym there)) all
+    parts_of_all all = All-pop P (take (i + 1) xs) (take i xs) (Some x)
+        (take_more xs i x low ∙ ap (λ (y : X). take i xs ++ y ∷ []) (sym there)) all
 
     -- after one more
-    pub flag_of_more : (so_far has : Bool) → (IsTrue so_far ↔ All P (take i xs)) → (IsTrue has ↔ P x) → IsTrue (so_far && has) ↔ All P (take (i + 1) xs)
+    pub flag_of_more : (so_far has : Bool) → (IsTrue so_far ↔ All P (take i xs)) → (IsTrue has ↔ P x) →
+        IsTrue (so_far && has) ↔ All P (take (i + 1) xs)
     flag_of_more so_far has before here = (
       (λ both. let parts = and_parts so_far has both in all_with (before.0 parts.0) (here.0 parts.1)),
       (λ all. let parts = parts_of_all all in and_from so_far has (before.1 parts.0) (here.1 parts.1)),

@@ -24,19 +24,23 @@ use Rattle.rpki_answers.specs.declared.outcomes.Outcome.{Outcome}
 use Rattle.rpki_answers.specs.declared.outcomes.Outcome.TheVariants.{Success, Rejection}
 
 -- of an item before others
-pub flag_of_first : {X : Type 0} (P : X → Type 0) (x : X) (xs : List X) (has others : Bool) → (IsTrue has ↔ P x) → (IsTrue others ↔ All P xs) → IsTrue (others && has) ↔ All P (x ∷ xs)
+pub flag_of_first : {X : Type 0} (P : X → Type 0) (x : X) (xs : List X) (has others : Bool) → (IsTrue has ↔ P x) →
+    (IsTrue others ↔ All P xs) → IsTrue (others && has) ↔ All P (x ∷ xs)
 flag_of_first P x xs has others here behind = (
   (λ both. let parts = and_parts others has both in All-cons P x xs (here.0 parts.1) (behind.0 parts.0)),
   (λ all. and_from others has (behind.1 (All-tail P x xs all)) (here.1 (All-head P x xs all))),
 )
 
 -- the outcome, by the flag that says whether each can be shown
-pub outcome_shown : (strict : Bool) (files : List (List ℕ)) (outcome : Outcome) (yes : Bool) → (IsTrue yes → outcome ≡ Success) → (IsFalse yes → outcome ≡ Rejection) → (IsTrue yes ↔ All (CanBeShown strict) files) → IsOutcomeOfShow strict files outcome
+pub outcome_shown : (strict : Bool) (files : List (List ℕ)) (outcome : Outcome) (yes : Bool) →
+    (IsTrue yes → outcome ≡ Success) → (IsFalse yes → outcome ≡ Rejection) →
+    (IsTrue yes ↔ All (CanBeShown strict) files) → IsOutcomeOfShow strict files outcome
 outcome_shown strict files outcome true success rejection says = rw (success refl) (says.0 refl)
 outcome_shown strict files outcome false success rejection says = rw (rejection refl) (λ all. false≢true (says.1 all))
 
 -- the sort of the file that stands at a place
-pub sort_there : (files : List FileFields) (place : ℕ) (file : FileFields) (found : Option Sort) → slice_get files place ≡ Some file → IsToldSort file.octets found → IsSortAt files place found
+pub sort_there : (files : List FileFields) (place : ℕ) (file : FileFields) (found : Option Sort) →
+    slice_get files place ≡ Some file → IsToldSort file.octets found → IsSortAt files place found
 sort_there files place file (Some s) here told = (file, here, told)
 sort_there files place file None here told = λ other there.
     let is : Some file ≡ Some other = sym here ∙ there in
@@ -44,7 +48,8 @@ sort_there files place file None here told = λ other there.
     subst (λ (f : FileFields). IsToldSort f.octets None) same told
 
 -- what is shown is what can be
-pub subject_shown : (strict : Bool) (octets : List ℕ) (s : Subject) → IsSubject strict octets s → IsTrue (can_be_shown s) ↔ CanBeShown strict octets
+pub subject_shown : (strict : Bool) (octets : List ℕ) (s : Subject) → IsSubject strict octets s →
+    IsTrue (can_be_shown s) ↔ CanBeShown strict octets
 subject_shown strict octets (subject.Certificate cert left) is =
     ((λ yes. inl (inl (inl (cert.now, (is.0, is.1))))), (λ shown. refl))
 subject_shown strict octets (subject.List list left) is =
@@ -63,5 +68,6 @@ item_whole options file items is =
     let whole : IsWhole is.0 = subst IsWhole (sym is.1.2) (json_whole (document_of is.1.0)) in
     subst (λ (l : List Data). AllByRecursion IsWhole l) (sym is.2) (whole, tt)
 
-pub files_whole : (options : Options) (files : List FileFields) (values : List Data) → SaysOfEach (IsFileItem options) files values → AllByRecursion IsWhole values
+pub files_whole : (options : Options) (files : List FileFields) (values : List Data) →
+    SaysOfEach (IsFileItem options) files values → AllByRecursion IsWhole values
 files_whole options files values are = items_whole values (each_whole (IsFileItem options) (item_whole options) files values are)

@@ -23,9 +23,12 @@ no_verdict : (x : Context) (d : Demands) (lists : List (List ℕ)) (verdict : Ve
 no_verdict x d [] verdict h = no_path h.0 h.1
 no_verdict x d (list ∷ lists) verdict h = no_path h.2.0 h.2.1
 
-module _ (x : Context) (d : Demands) (files lists : List (List ℕ)) (never_both : (j : Judged) (fault : Fault) → IsVerdictBy x d files lists (Accepted j) → IsVerdictBy x d files lists (Rejected fault) → ⊥) where
+module _ (x : Context) (d : Demands) (files lists : List (List ℕ)) (never_both : (j : Judged) (fault : Fault) →
+    IsVerdictBy x d files lists (Accepted j) → IsVerdictBy x d files lists (Rejected fault) → ⊥) where
   never_both_validated : IsOutcomeOfValidate x d files lists Success → IsOutcomeOfValidate x d files lists Rejection → ⊥
-  never_both_validated a (inl empty) = no_verdict x d lists (Accepted a.0.0) (subst (λ (l : List (List ℕ)). IsVerdictBy x d l lists (Accepted a.0.0)) empty a.0.1)
+  never_both_validated a (inl empty) =
+      no_verdict x d lists (Accepted a.0.0)
+      (subst (λ (l : List (List ℕ)). IsVerdictBy x d l lists (Accepted a.0.0)) empty a.0.1)
   never_both_validated a (inr (inl b)) = never_both a.0.0 b.0 a.0.1 b.1
   never_both_validated a (inr (inr none)) = none a.1
 
@@ -49,7 +52,8 @@ module _ (x : Context) (d : Demands) (files lists : List (List ℕ)) (never_both
   one_shown o WrongUse a b = absurd b
   one_shown o Unread a b = absurd b
 
-  pub one_outcome : (task : Task) → (task ≡ Tree → ⊥) → (o p : Outcome) → IsOutcomeOf task x d files lists o → IsOutcomeOf task x d files lists p → o ≡ p
+  pub one_outcome : (task : Task) → (task ≡ Tree → ⊥) → (o p : Outcome) → IsOutcomeOf task x d files lists o →
+      IsOutcomeOf task x d files lists p → o ≡ p
   one_outcome Show not o p a b = one_shown o p a b
   one_outcome Validate not o p a b = one_validated o p a b
   one_outcome Tree not o p a b = absurd (not refl)

@@ -12,7 +12,10 @@ use Rattle.rpki_folder.specs.declared.bounds.Limit.{Limit}
 use Rattle.rpki_folder.specs.declared.find.FoundPath.{FoundPath}
 use Rattle.rpki_verdicts.specs.Trees.{certs_of}
 use Rattle.rpki_verdicts.specs.declared.unordered.Tree.{Tree}
-use Rattle.rpki_answers.specs.TreeDocuments.{AreAll, AreOthers, AreSaid, above_node, above_nodes, accepted_head, also_line, also_node, count_of, file_first, file_last, has_word, is_word, left_line, left_nodes, limit_nodes, more_line, more_nodes, rejected_head, row_head, shown_node, unseen_spans, unseen_word, word_label, word_of}
+use Rattle.rpki_answers.specs.TreeDocuments.{AreAll, AreOthers, AreSaid, above_node, above_nodes, accepted_head}
+use Rattle.rpki_answers.specs.TreeDocuments.{also_line, also_node, count_of, file_first, file_last, has_word, is_word}
+use Rattle.rpki_answers.specs.TreeDocuments.{left_line, left_nodes, limit_nodes, more_line, more_nodes, rejected_head}
+use Rattle.rpki_answers.specs.TreeDocuments.{row_head, shown_node, unseen_spans, unseen_word, word_label, word_of}
 use Rattle.rpki_answers.specs.TreeLaws.{CountsAddUp, IsUnder, RowsBeginWithTheirWord}
 use Rattle.rpki_answers.specs.declared.tree_rows.Said.{Said}
 use Rattle.rpki_answers.specs.declared.tree_rows.Said.TheVariants as said
@@ -52,27 +55,32 @@ module _ (tree : Tree) where
   under_also : (above : List ℕ) (same : Bool) → AreUnder (node_rows (also_node tree above same))
   under_also above same = under_above above (node_rows (also_line tree above same) ++ []) (tt, tt)
 
-  under_others : (shown : FoundPath) (paths : List FoundPath) (nodes : List Node) → AreOthers tree shown paths nodes → AreUnder (document_rows (document_of nodes))
+  under_others : (shown : FoundPath) (paths : List FoundPath) (nodes : List Node) → AreOthers tree shown paths nodes →
+      AreUnder (document_rows (document_of nodes))
   under_others shown [] [] are = tt
   under_others shown [] (node ∷ nodes) are = absurd are
   under_others shown (path ∷ paths) [] are = absurd are
   under_others shown (path ∷ paths) (node ∷ nodes) are =
       all_append IsUnder (node_rows node) (document_rows (document_of nodes))
-      (subst (λ (n : Node). AreUnder (node_rows n)) (sym are.0.2) (under_also path.above.items are.0.0)) (under_others shown paths nodes are.1)
+      (subst (λ (n : Node). AreUnder (node_rows n)) (sym are.0.2) (under_also path.above.items are.0.0))
+      (under_others shown paths nodes are.1)
 
-  under_paths : (shown : FoundPath) (paths : List FoundPath) (nodes : List Node) → AreAll tree shown paths nodes → AreUnder (document_rows (document_of nodes))
+  under_paths : (shown : FoundPath) (paths : List FoundPath) (nodes : List Node) → AreAll tree shown paths nodes →
+      AreUnder (document_rows (document_of nodes))
   under_paths shown [] nodes are = subst (λ (l : List Node). AreUnder (document_rows (document_of l))) (sym are) tt
   under_paths shown (path ∷ paths) nodes are =
       let others = document_rows (document_of are.0) in
       subst (λ (l : List Node). AreUnder (document_rows (document_of l))) (sym are.2)
       (all_append IsUnder (node_rows (shown_node tree shown.above.items) ++ others) []
-      (all_append IsUnder (node_rows (shown_node tree shown.above.items)) others (under_above shown.above.items [] tt) (under_others shown (path ∷ paths) are.0 are.1)) tt)
+      (all_append IsUnder (node_rows (shown_node tree shown.above.items)) others (under_above shown.above.items [] tt)
+      (under_others shown (path ∷ paths) are.0 are.1)) tt)
 
 under_some : (b : Bool) (more : ℕ) → AreUnder (document_rows (document_of (if b then [] else more_line more ∷ [])))
 under_some true more = tt
 under_some false more = (tt, tt)
 
-under_both : (a b : List Node) → AreUnder (document_rows (document_of a)) → AreUnder (document_rows (document_of b)) → AreUnder (document_rows (document_of (a ++ b)))
+under_both : (a b : List Node) → AreUnder (document_rows (document_of a)) → AreUnder (document_rows (document_of b)) →
+    AreUnder (document_rows (document_of (a ++ b)))
 under_both a b p q =
     subst AreUnder (sym (rows_of_both a b)) (all_append IsUnder (document_rows (document_of a)) (document_rows (document_of b)) p q)
 
@@ -89,7 +97,8 @@ BeginsWith of_it nodes =
     (behind : List ℕ) × (more : List Line) × AreUnder more
     × (document_rows (document_of nodes) ≡ labelled (word_label (word_of of_it)) behind ∷ more)
 
-said_rows : (certs : List FileFields) (name : List ℕ) (of_it : Said) (nodes : List Node) → AreSaid certs name of_it nodes → BeginsWith of_it nodes
+said_rows : (certs : List FileFields) (name : List ℕ) (of_it : Said) (nodes : List Node) →
+    AreSaid certs name of_it nodes → BeginsWith of_it nodes
 unfolding behind_of
 said_rows certs name (said.Accepted t p kind) nodes (held, several, are, paths, is) =
     let tree = t.now in
@@ -98,16 +107,42 @@ said_rows certs name (said.Accepted t p kind) nodes (held, several, are, paths, 
       behind_of (accepted_head name tree above kind),
       document_rows (document_of (above_node tree above ∷ aside (document_of held) ∷ below)),
       under_above tree above (document_rows (document_of below))
-          (under_both several (more_nodes p.more) (under_paths tree p.shown.now (map (λ path. path.now) p.others.items) several paths) (under_some (p.more == 0) p.more)),
+          (under_both several (more_nodes p.more)
+          (under_paths tree p.shown.now (map (λ path. path.now) p.others.items) several paths)
+          (under_some (p.more == 0) p.more)),
       ap (λ (l : List Node). document_rows (document_of l)) is,
     )
-said_rows certs name (said.Rejected fault) nodes is =
-    (behind_of (rejected_head name fault.rule.says.now fault.name.now fault.rule.section.now), [], tt, ap (λ (l : List Node). document_rows (document_of l)) is)
-said_rows certs name (said.Unseen why error) nodes is =
-    (behind_of (row_head (unseen_word why) (file_first name (unseen_spans certs why (option_map (λ e. e.now) error)))), [], tt, ap (λ (l : List Node). document_rows (document_of l)) is)
-said_rows certs name said.Anchor nodes is = (behind_of (row_head word.Anchor (file_last name)), [], tt, ap (λ (l : List Node). document_rows (document_of l)) is)
-said_rows certs name said.Crl nodes is = (behind_of (row_head word.Crl (file_last name)), [], tt, ap (λ (l : List Node). document_rows (document_of l)) is)
-said_rows certs name said.Neither nodes is = (behind_of (row_head word.Neither (file_last name)), [], tt, ap (λ (l : List Node). document_rows (document_of l)) is)
+said_rows certs name (said.Rejected fault) nodes is = (
+  behind_of (rejected_head name fault.rule.says.now fault.name.now fault.rule.section.now),
+  [],
+  tt,
+  ap (λ (l : List Node). document_rows (document_of l)) is,
+)
+said_rows certs name (said.Unseen why error) nodes is = (
+  behind_of (row_head (unseen_word why)
+      (file_first name (unseen_spans certs why (option_map (λ e. e.now) error)))),
+  [],
+  tt,
+  ap (λ (l : List Node). document_rows (document_of l)) is,
+)
+said_rows certs name said.Anchor nodes is = (
+  behind_of (row_head word.Anchor (file_last name)),
+  [],
+  tt,
+  ap (λ (l : List Node). document_rows (document_of l)) is,
+)
+said_rows certs name said.Crl nodes is = (
+  behind_of (row_head word.Crl (file_last name)),
+  [],
+  tt,
+  ap (λ (l : List Node). document_rows (document_of l)) is,
+)
+said_rows certs name said.Neither nodes is = (
+  behind_of (row_head word.Neither (file_last name)),
+  [],
+  tt,
+  ap (λ (l : List Node). document_rows (document_of l)) is,
+)
 
 pub begin_with_word : RowsBeginWithTheirWord
 begin_with_word certs row nodes (of_it, are, is) =
@@ -116,7 +151,9 @@ begin_with_word certs row nodes (of_it, are, is) =
     let more = document_rows (document_of below) in (
       first.0,
       first.1 ++ more,
-      all_append IsUnder first.1 more first.2 (under_both (limit_nodes row.limit) (left_nodes row.left) (under_limit row.limit) (under_if (row.left == 0) row.left)),
+      all_append IsUnder first.1 more first.2
+          (under_both (limit_nodes row.limit) (left_nodes row.left) (under_limit row.limit)
+          (under_if (row.left == 0) row.left)),
       ap (λ (l : List Node). document_rows (document_of l)) is ∙ rows_of_both of_it below ∙ ap (λ (l : List Line). l ++ more) first.3,
     )
 

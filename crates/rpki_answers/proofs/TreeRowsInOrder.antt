@@ -2,7 +2,8 @@
 use Rattle.std.specs.Bool.{MatchBool}
 use Rattle.std.specs.List.{flat_map, list_any}
 use Rattle.std.specs.Prelude.{Result, Ok, Err, IfOk, OnOk}
-use Rattle.std.proofs.Common.{◌≡◌, ◌≢◌, ◌∙◌, ◌+◌, ◌<◌, ◌≤◌, ℕ, Bool, true, false, List, [], ◌∷◌, ◌++◌, length, map, take, get_or, refl, sym, ap, subst, append_assoc}
+use Rattle.std.proofs.Common.{◌≡◌, ◌≢◌, ◌∙◌, ◌+◌, ◌<◌, ◌≤◌, ℕ, Bool, true, false, List, [], ◌∷◌, ◌++◌, length, map}
+use Rattle.std.proofs.Common.{take, get_or, refl, sym, ap, subst, append_assoc}
 use Rattle.std.proofs.lemmas.Grind.{flat_map-append}
 use Rattle.std.proofs.lemmas.List.Sums.{fold-append}
 use Rattle.std.proofs.lemmas.List.{append-nil, map-append, take_more, take_all}
@@ -17,7 +18,8 @@ use Rattle.rpki_text.specs.declared.command_line.arguments.Format.{Format}
 use Rattle.rpki_text.specs.declared.command_line.arguments.Format.TheVariants.{Text, Json, JsonLines}
 use Rattle.rpki_verdicts.specs.declared.parts.Trees.{Trees}
 use Rattle.rpki_answers.specs.JsonTexts.{value_text}
-use Rattle.rpki_answers.specs.TreeDocuments.{IsRowDocument, PrintsRow, PrintsRows, errors_of, files_node, is_printed, rendered, said_error, tree_text, unasked_of, with_error, with_unasked}
+use Rattle.rpki_answers.specs.TreeDocuments.{IsRowDocument, PrintsRow, PrintsRows, errors_of, files_node, is_printed}
+use Rattle.rpki_answers.specs.TreeDocuments.{rendered, said_error, tree_text, unasked_of, with_error, with_unasked}
 use Rattle.rpki_answers.specs.TreeDocuments.Steps.{AddsDocuments, AddsRow, AddsRows, Appends, AppendsRow, AppendsRows}
 use Rattle.rpki_answers.specs.TreeRows.{AreRows, AreRowsFrom, IsRow}
 use Rattle.rpki_answers.specs.declared.tree_rows.Row.{Row}
@@ -25,38 +27,57 @@ use Rattle.rpki_answers.specs.declared.tree_rows.Row.{Row}
 -- ---- rows
 
 module _ (trees : Trees) where
-  rows_more : (from mid last : ℕ) (files : List FileFields) (rows : List Row) → AreRowsFrom trees from mid files rows → (file : FileFields) (row : Row) → IsRow trees mid last file row → AreRowsFrom trees from last (files ++ file ∷ []) (rows ++ row ∷ [])
+  rows_more : (from mid last : ℕ) (files : List FileFields) (rows : List Row) →
+      AreRowsFrom trees from mid files rows → (file : FileFields) (row : Row) → IsRow trees mid last file row →
+      AreRowsFrom trees from last (files ++ file ∷ []) (rows ++ row ∷ [])
   rows_more from mid last [] rows is file row one =
       (last, row, [], subst (λ (p : ℕ). IsRow trees p last file row) is.1 one, (refl, refl), ap (λ (l : List Row). l ++ row ∷ []) is.0)
   rows_more from mid last (f ∷ fs) rows is file row one =
       (is.0, is.1, is.2 ++ row ∷ [], is.3, rows_more is.0 mid last fs is.2 is.4 file row one, ap (λ (l : List Row). l ++ row ∷ []) is.5)
 
   -- one more
-  pub next_row : (files : List FileFields) (i mid last : ℕ) (file : FileFields) (rows : List Row) (row : Row) → i < length files → file ≡ get_or files i file → AreRowsFrom trees 0 mid (take i files) rows → IsRow trees mid last file row → AreRowsFrom trees 0 last (take (i + 1) files) (rows ++ row ∷ [])
+  pub next_row : (files : List FileFields) (i mid last : ℕ) (file : FileFields) (rows : List Row) (row : Row) →
+      i < length files → file ≡ get_or files i file → AreRowsFrom trees 0 mid (take i files) rows →
+      IsRow trees mid last file row → AreRowsFrom trees 0 last (take (i + 1) files) (rows ++ row ∷ [])
   next_row files i mid last file rows row low there so_far one =
-      let more : take (i + 1) files ≡ take i files ++ file ∷ [] = take_more files i file low ∙ ap (λ (y : FileFields). take i files ++ y ∷ []) (sym there) in
-      subst (λ (l : List FileFields). AreRowsFrom trees 0 last l (rows ++ row ∷ [])) (sym more) (rows_more 0 mid last (take i files) rows so_far file row one)
+      let more : take (i + 1) files ≡ take i files ++ file ∷ [] = take_more files i file low ∙
+      ap (λ (y : FileFields). take i files ++ y ∷ []) (sym there) in
+      subst (λ (l : List FileFields). AreRowsFrom trees 0 last l (rows ++ row ∷ [])) (sym more)
+      (rows_more 0 mid last (take i files) rows so_far file row one)
 
   -- all
-  pub all_rows : (files : List FileFields) (i last : ℕ) (rows : List Row) → length files ≤ i → AreRowsFrom trees 0 last (take i files) rows → AreRows trees files rows
+  pub all_rows : (files : List FileFields) (i last : ℕ) (rows : List Row) → length files ≤ i →
+      AreRowsFrom trees 0 last (take i files) rows → AreRows trees files rows
   all_rows files i last rows high are = (last, subst (λ (l : List FileFields). AreRowsFrom trees 0 last l rows) (take_all i files high) are)
 
 -- ---- their documents
 
 module _ (only : Bool) (certs : List FileFields) where
-  prints_more : (rows : List Row) (so_far : List (List Node)) (row : Row) (first : List (List Node)) → PrintsRows only certs rows so_far → PrintsRow only certs row first → PrintsRows only certs (rows ++ row ∷ []) (so_far ++ first)
+  prints_more : (rows : List Row) (so_far : List (List Node)) (row : Row) (first : List (List Node)) →
+      PrintsRows only certs rows so_far → PrintsRow only certs row first →
+      PrintsRows only certs (rows ++ row ∷ []) (so_far ++ first)
   prints_more [] so_far row first is one = (first, [], one, refl, ap (λ (l : List (List Node)). l ++ first) is ∙ sym (append-nil first))
-  prints_more (r ∷ rs) so_far row first is one =
-      (is.0, is.1 ++ first, is.2, prints_more rs is.1 row first is.3 one, ap (λ (l : List (List Node)). l ++ first) is.4 ∙ append_assoc is.0 is.1 first)
+  prints_more (r ∷ rs) so_far row first is one = (
+    is.0,
+    is.1 ++ first,
+    is.2,
+    prints_more rs is.1 row first is.3 one,
+    ap (λ (l : List (List Node)). l ++ first) is.4 ∙ append_assoc is.0 is.1 first,
+  )
 
-  prints_next : (rows : List Row) (i : ℕ) (row : Row) (so_far first : List (List Node)) → i < length rows → row ≡ get_or rows i row → PrintsRows only certs (take i rows) so_far → PrintsRow only certs row first → PrintsRows only certs (take (i + 1) rows) (so_far ++ first)
+  prints_next : (rows : List Row) (i : ℕ) (row : Row) (so_far first : List (List Node)) → i < length rows →
+      row ≡ get_or rows i row → PrintsRows only certs (take i rows) so_far → PrintsRow only certs row first →
+      PrintsRows only certs (take (i + 1) rows) (so_far ++ first)
   prints_next rows i row so_far first low there is one =
-      let more : take (i + 1) rows ≡ take i rows ++ row ∷ [] = take_more rows i row low ∙ ap (λ (y : Row). take i rows ++ y ∷ []) (sym there) in
+      let more : take (i + 1) rows ≡ take i rows ++ row ∷ [] = take_more rows i row low ∙
+      ap (λ (y : Row). take i rows ++ y ∷ []) (sym there) in
       subst (λ (l : List Row). PrintsRows only certs l (so_far ++ first)) (sym more) (prints_more (take i rows) so_far row first is one)
 
-  prints_one : (row : Row) (nodes : List Node) → is_printed only row ≡ true → IsRowDocument certs row nodes → PrintsRow only certs row (nodes ∷ [])
+  prints_one : (row : Row) (nodes : List Node) → is_printed only row ≡ true → IsRowDocument certs row nodes →
+      PrintsRow only certs row (nodes ∷ [])
   prints_one row nodes is document =
-      subst (λ (b : Bool). MatchBool b ((ns : List Node) × IsRowDocument certs row ns × (nodes ∷ [] ≡ ns ∷ [])) (nodes ∷ [] ≡ [])) (sym is) (nodes, document, refl)
+      subst (λ (b : Bool). MatchBool b ((ns : List Node) × IsRowDocument certs row ns × (nodes ∷ [] ≡ ns ∷ []))
+      (nodes ∷ [] ≡ [])) (sym is) (nodes, document, refl)
 
   prints_none : (row : Row) → is_printed only row ≡ false → PrintsRow only certs row []
   prints_none row is =
@@ -66,7 +87,8 @@ module _ (only : Bool) (certs : List FileFields) where
   -- ---- in a text
 
   module _ (format : Format) where
-    appends_both : (a b : List (List Node)) (old mid new : List ℕ) → Appends format a old mid → Appends format b mid new → Appends format (a ++ b) old new
+    appends_both : (a b : List (List Node)) (old mid new : List ℕ) → Appends format a old mid →
+        Appends format b mid new → Appends format (a ++ b) old new
     appends_both a b old mid new p q =
         q ∙ ap (λ (l : List ℕ). l ++ flat_map (rendered format) b) p
         ∙ append_assoc old (flat_map (rendered format) a) (flat_map (rendered format) b)
@@ -75,14 +97,22 @@ module _ (only : Bool) (certs : List FileFields) where
     pub append_none : (text : List ℕ) → AppendsRows format only certs [] text text
     append_none text = ([], refl, sym (append-nil text))
 
-    pub append_next : (rows : List Row) (i : ℕ) (row : Row) (old mid new : List ℕ) → i < length rows → row ≡ get_or rows i row → AppendsRows format only certs (take i rows) old mid → AppendsRow format only certs row mid new → AppendsRows format only certs (take (i + 1) rows) old new
-    append_next rows i row old mid new low there so_far one =
-        (so_far.0 ++ one.0, prints_next rows i row so_far.0 one.0 low there so_far.1 one.1, appends_both so_far.0 one.0 old mid new so_far.2 one.2)
+    pub append_next : (rows : List Row) (i : ℕ) (row : Row) (old mid new : List ℕ) → i < length rows →
+        row ≡ get_or rows i row → AppendsRows format only certs (take i rows) old mid →
+        AppendsRow format only certs row mid new → AppendsRows format only certs (take (i + 1) rows) old new
+    append_next rows i row old mid new low there so_far one = (
+      so_far.0 ++ one.0,
+      prints_next rows i row so_far.0 one.0 low there so_far.1 one.1,
+      appends_both so_far.0 one.0 old mid new so_far.2 one.2,
+    )
 
-    pub append_all : (rows : List Row) (i : ℕ) (old new : List ℕ) → length rows ≤ i → AppendsRows format only certs (take i rows) old new → AppendsRows format only certs rows old new
+    pub append_all : (rows : List Row) (i : ℕ) (old new : List ℕ) → length rows ≤ i →
+        AppendsRows format only certs (take i rows) old new → AppendsRows format only certs rows old new
     append_all rows i old new high all = subst (λ (l : List Row). AppendsRows format only certs l old new) (take_all i rows high) all
 
-    pub append_printed : {E : Type 0} (r : Result Unit E) (row : Row) (nodes : List Node) (old new : List ℕ) → is_printed only row ≡ true → IsRowDocument certs row nodes → OnOk r (new ≡ old ++ rendered format nodes) → OnOk r (AppendsRow format only certs row old new)
+    pub append_printed : {E : Type 0} (r : Result Unit E) (row : Row) (nodes : List Node) (old new : List ℕ) →
+        is_printed only row ≡ true → IsRowDocument certs row nodes → OnOk r (new ≡ old ++ rendered format nodes) →
+        OnOk r (AppendsRow format only certs row old new)
     append_printed (Ok x) row nodes old new is document e =
         (nodes ∷ [], prints_one row nodes is document, e ∙ ap (λ (l : List ℕ). old ++ l) (sym (append-nil (rendered format nodes))))
     append_printed (Err x) row nodes old new is document e = tt
@@ -92,7 +122,8 @@ module _ (only : Bool) (certs : List FileFields) where
 
   -- ---- in a document
 
-  adds_both : (a b : List (List Node)) (old mid new : List Part) → AddsDocuments a old mid → AddsDocuments b mid new → AddsDocuments (a ++ b) old new
+  adds_both : (a b : List (List Node)) (old mid new : List Part) → AddsDocuments a old mid → AddsDocuments b mid new →
+      AddsDocuments (a ++ b) old new
   adds_both a b old mid new p q =
       subst (λ (l : List Node). Adds l old new) (sym (map-append (λ nodes. inside [] (document_of nodes)) a b))
       (then_added old mid new (map (λ nodes. inside [] (document_of nodes)) a) (map (λ nodes. inside [] (document_of nodes)) b) p q)
@@ -100,14 +131,22 @@ module _ (only : Bool) (certs : List FileFields) where
   pub add_none : (parts : List Part) → AddsRows only certs [] parts parts
   add_none parts = ([], refl, sym (append-nil (nodes_of parts)))
 
-  pub add_next : (rows : List Row) (i : ℕ) (row : Row) (old mid new : List Part) → i < length rows → row ≡ get_or rows i row → AddsRows only certs (take i rows) old mid → AddsRow only certs row mid new → AddsRows only certs (take (i + 1) rows) old new
-  add_next rows i row old mid new low there so_far one =
-      (so_far.0 ++ one.0, prints_next rows i row so_far.0 one.0 low there so_far.1 one.1, adds_both so_far.0 one.0 old mid new so_far.2 one.2)
+  pub add_next : (rows : List Row) (i : ℕ) (row : Row) (old mid new : List Part) → i < length rows →
+      row ≡ get_or rows i row → AddsRows only certs (take i rows) old mid → AddsRow only certs row mid new →
+      AddsRows only certs (take (i + 1) rows) old new
+  add_next rows i row old mid new low there so_far one = (
+    so_far.0 ++ one.0,
+    prints_next rows i row so_far.0 one.0 low there so_far.1 one.1,
+    adds_both so_far.0 one.0 old mid new so_far.2 one.2,
+  )
 
-  pub add_all : (rows : List Row) (i : ℕ) (old new : List Part) → length rows ≤ i → AddsRows only certs (take i rows) old new → AddsRows only certs rows old new
+  pub add_all : (rows : List Row) (i : ℕ) (old new : List Part) → length rows ≤ i →
+      AddsRows only certs (take i rows) old new → AddsRows only certs rows old new
   add_all rows i old new high all = subst (λ (l : List Row). AddsRows only certs l old new) (take_all i rows high) all
 
-  pub add_printed : {E : Type 0} (r : Result Unit E) (row : Row) (nodes : List Node) (old new : List Part) → is_printed only row ≡ true → IsRowDocument certs row nodes → OnOk r (Adds (inside [] (document_of nodes) ∷ []) old new) → OnOk r (AddsRow only certs row old new)
+  pub add_printed : {E : Type 0} (r : Result Unit E) (row : Row) (nodes : List Node) (old new : List Part) →
+      is_printed only row ≡ true → IsRowDocument certs row nodes →
+      OnOk r (Adds (inside [] (document_of nodes) ∷ []) old new) → OnOk r (AddsRow only certs row old new)
   add_printed (Ok x) row nodes old new is document e = (nodes ∷ [], prints_one row nodes is document, e)
   add_printed (Err x) row nodes old new is document e = tt
 
@@ -125,30 +164,37 @@ by_format bytes r Json nodes text json = json (λ is. absurd cc)
 by_format bytes r JsonLines nodes text json = json (λ is. absurd cc)
 
 module _ (heads : Node) (documents : List (List Node)) (ends : List Node) (text : List ℕ) where
-  pub as_lines : (format : Format) → format ≡ Text → text ≡ (rendered format (heads ∷ []) ++ flat_map (rendered format) documents) ++ rendered format ends → text ≡ tree_text format heads documents ends
+  pub as_lines : (format : Format) → format ≡ Text →
+      text ≡ (rendered format (heads ∷ []) ++ flat_map (rendered format) documents) ++ rendered format ends →
+      text ≡ tree_text format heads documents ends
   as_lines Text is e = e ∙ append_assoc (rendered Text (heads ∷ [])) (flat_map (rendered Text) documents) (rendered Text ends)
   as_lines Json is e = absurd cc
   as_lines JsonLines is e = absurd cc
 
-  pub as_json_lines : (format : Format) → format ≡ JsonLines → text ≡ flat_map (rendered format) documents ++ rendered format (heads ∷ ends) → text ≡ tree_text format heads documents ends
+  pub as_json_lines : (format : Format) → format ≡ JsonLines →
+      text ≡ flat_map (rendered format) documents ++ rendered format (heads ∷ ends) →
+      text ≡ tree_text format heads documents ends
   as_json_lines JsonLines is e = e
   as_json_lines Text is e = absurd cc
   as_json_lines Json is e = absurd cc
 
-  pub as_object : (format : Format) → format ≡ Json → text ≡ rendered format (heads ∷ files_node documents ∷ ends) → text ≡ tree_text format heads documents ends
+  pub as_object : (format : Format) → format ≡ Json → text ≡ rendered format (heads ∷ files_node documents ∷ ends) →
+      text ≡ tree_text format heads documents ends
   as_object Json is e = e
   as_object Text is e = absurd cc
   as_object JsonLines is e = absurd cc
 
 -- ---- pieces, names and places
 
-pub two_pushed : (old mid new : List Piece) (a b : Piece) → mid ≡ old ++ a ∷ [] → new ≡ mid ++ b ∷ [] → spans_of new ≡ spans_of old ++ piece_view a ∷ piece_view b ∷ []
+pub two_pushed : (old mid new : List Piece) (a b : Piece) → mid ≡ old ++ a ∷ [] → new ≡ mid ++ b ∷ [] →
+    spans_of new ≡ spans_of old ++ piece_view a ∷ piece_view b ∷ []
 two_pushed old mid new a b p q =
     let all : new ≡ old ++ a ∷ b ∷ [] = q ∙ ap (λ (l : List Piece). l ++ b ∷ []) p ∙ append_assoc old (a ∷ []) (b ∷ []) in
     ap (map piece_view) all ∙ map-append piece_view old (a ∷ b ∷ [])
 
 -- one place more
-pub place_more : {A : Type 0} (f : ℕ → List A) (places : List ℕ) (i : ℕ) → i < length places → flat_map f (take (i + 1) places) ≡ flat_map f (take i places) ++ f (get_or places i 0)
+pub place_more : {A : Type 0} (f : ℕ → List A) (places : List ℕ) (i : ℕ) → i < length places →
+    flat_map f (take (i + 1) places) ≡ flat_map f (take i places) ++ f (get_or places i 0)
 place_more {A} f places i low =
     ap (λ (l : List ℕ). flat_map f l) (take_more places i 0 low) ∙ flat_map-append f (take i places) (get_or places i 0 ∷ [])
     ∙ ap (λ (l : List A). flat_map f (take i places) ++ l) (append-nil (f (get_or places i 0)))
@@ -164,26 +210,32 @@ any_mapped p g (x ∷ xs) = rw (any_mapped p g xs)
 -- ---- a node for each of a list
 
 module _ {X : Type 0} (f : X → Node) (xs : List X) (i : ℕ) where
-  pub node_more : (d : X) (old mid new : List Part) → i < length xs → Adds (map f (take i xs)) old mid → Adds (f (get_or xs i d) ∷ []) mid new → Adds (map f (take (i + 1) xs)) old new
+  pub node_more : (d : X) (old mid new : List Part) → i < length xs → Adds (map f (take i xs)) old mid →
+      Adds (f (get_or xs i d) ∷ []) mid new → Adds (map f (take (i + 1) xs)) old new
   node_more d old mid new low so_far one =
       let more : map f (take (i + 1) xs) ≡ map f (take i xs) ++ f (get_or xs i d) ∷ [] =
       ap (λ (l : List X). map f l) (take_more xs i d low) ∙ map-append f (take i xs) (get_or xs i d ∷ []) in
       subst (λ (l : List Node). Adds l old new) (sym more) (then_added old mid new (map f (take i xs)) (f (get_or xs i d) ∷ []) so_far one)
 
-  pub node_next : (x : X) (old mid new : List Part) → i < length xs → x ≡ get_or xs i x → Adds (map f (take i xs)) old mid → Adds (f x ∷ []) mid new → Adds (map f (take (i + 1) xs)) old new
+  pub node_next : (x : X) (old mid new : List Part) → i < length xs → x ≡ get_or xs i x →
+      Adds (map f (take i xs)) old mid → Adds (f x ∷ []) mid new → Adds (map f (take (i + 1) xs)) old new
   node_next x old mid new low there so_far one =
       node_more x old mid new low so_far (subst (λ (y : X). Adds (f y ∷ []) mid new) there one)
 
 -- ---- errors
 
-pub error_next : (rows : List Row) (i : ℕ) (row : Row) → i < length rows → row ≡ get_or rows i row → errors_of (take (i + 1) rows) ≡ with_error (errors_of (take i rows)) (said_error row.said)
+pub error_next : (rows : List Row) (i : ℕ) (row : Row) → i < length rows → row ≡ get_or rows i row →
+    errors_of (take (i + 1) rows) ≡ with_error (errors_of (take i rows)) (said_error row.said)
 error_next rows i row low there =
-    let more : take (i + 1) rows ≡ take i rows ++ row ∷ [] = take_more rows i row low ∙ ap (λ (y : Row). take i rows ++ y ∷ []) (sym there) in
+    let more : take (i + 1) rows ≡ take i rows ++ row ∷ [] = take_more rows i row low ∙
+    ap (λ (y : Row). take i rows ++ y ∷ []) (sym there) in
     ap (λ (l : List Row). errors_of l) more ∙ fold-append (λ names row. with_error names (said_error row.said)) [] (take i rows) (row ∷ [])
 
 -- ---- keys
 
-pub unasked_next : (rows : List Row) (i : ℕ) (row : Row) → i < length rows → row ≡ get_or rows i row → unasked_of (take (i + 1) rows) ≡ with_unasked (unasked_of (take i rows)) row.unasked
+pub unasked_next : (rows : List Row) (i : ℕ) (row : Row) → i < length rows → row ≡ get_or rows i row →
+    unasked_of (take (i + 1) rows) ≡ with_unasked (unasked_of (take i rows)) row.unasked
 unasked_next rows i row low there =
-    let more : take (i + 1) rows ≡ take i rows ++ row ∷ [] = take_more rows i row low ∙ ap (λ (y : Row). take i rows ++ y ∷ []) (sym there) in
+    let more : take (i + 1) rows ≡ take i rows ++ row ∷ [] = take_more rows i row low ∙
+    ap (λ (y : Row). take i rows ++ y ∷ []) (sym there) in
     ap (λ (l : List Row). unasked_of l) more ∙ fold-append (λ keys row. with_unasked keys row.unasked) [] (take i rows) (row ∷ [])

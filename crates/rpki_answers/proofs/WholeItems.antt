@@ -10,11 +10,14 @@ use Rattle.rpki_answers.proofs.WholeValues.{IsWhole}
 unfoldable pub AllWhole : List Data → Type 0
 AllWhole items = AllByRecursion IsWhole items
 
-pub each_whole : (Says : FileFields → List Data → Type 0) → ((file : FileFields) (items : List Data) → Says file items → AllWhole items) → (files : List FileFields) (items : List Data) → SaysOfEach Says files items → AllWhole items
+pub each_whole : (Says : FileFields → List Data → Type 0) →
+    ((file : FileFields) (items : List Data) → Says file items → AllWhole items) →
+    (files : List FileFields) (items : List Data) → SaysOfEach Says files items → AllWhole items
 unfolding AllWhole
 each_whole Says whole [] items is = subst (λ (l : List Data). AllByRecursion IsWhole l) (sym is) tt
 each_whole Says whole (file ∷ files) items is =
-    subst (λ (l : List Data). AllByRecursion IsWhole l) (sym is.4) (all_append IsWhole is.0 is.1 (whole file is.0 is.2) (each_whole Says whole files is.1 is.3))
+    subst (λ (l : List Data). AllByRecursion IsWhole l) (sym is.4)
+    (all_append IsWhole is.0 is.1 (whole file is.0 is.2) (each_whole Says whole files is.1 is.3))
 
 pub items_whole : (items : List Data) → AllWhole items → AllByRecursion IsWhole items
 unfolding AllWhole

@@ -35,11 +35,13 @@ pub unviewed_whole : (vs : List Value) → AllByRecursion IsWhole (map view vs) 
 unviewed_whole [] are = tt
 unviewed_whole (v ∷ vs) are = (are.0, unviewed_whole vs are.1)
 
-nth_whole : (vs : List Value) (i : ℕ) (v : Value) → i < length vs → AllByRecursion (λ v. IsWhole (view v)) vs → IsWhole (view (get_or vs i v))
+nth_whole : (vs : List Value) (i : ℕ) (v : Value) → i < length vs → AllByRecursion (λ v. IsWhole (view v)) vs →
+    IsWhole (view (get_or vs i v))
 nth_whole [] i v low are = absurd (omega arith)
 nth_whole (w ∷ vs) zero v low are = are.0
 nth_whole (w ∷ vs) (suc i) v low are = let less : i < length vs = omega arith in nth_whole vs i v less are.1
 
 -- the value at a place
-pub whole_at : (vs : List Value) (i : ℕ) (v : Value) → i < length vs → v ≡ get_or vs i v → AllByRecursion (λ v. IsWhole (view v)) vs → IsWhole (view v)
+pub whole_at : (vs : List Value) (i : ℕ) (v : Value) → i < length vs → v ≡ get_or vs i v →
+    AllByRecursion (λ v. IsWhole (view v)) vs → IsWhole (view v)
 whole_at vs i v low there are = let P : Value → Type 0 = λ w. IsWhole (view w) in subst P (sym there) (nth_whole vs i v low are)

@@ -2,7 +2,8 @@
 -- which keys differ, which moment is over, what else a file is that is no certificate, and that the
 -- files stand the other way round.
 use Rattle.std.specs.Option.{option_map}
-use Rattle.std.specs.Prelude.{◌≡◌, ◌↔◌, ◌-◌, ℕ, Bool, IsTrue, if◌then◌else◌, List, [], ◌∷◌, ◌++◌, length, codes, slice_get, Option, Some, None}
+use Rattle.std.specs.Prelude.{◌≡◌, ◌↔◌, ◌-◌, ℕ, Bool, IsTrue, if◌then◌else◌, List, [], ◌∷◌, ◌++◌, length, codes}
+use Rattle.std.specs.Prelude.{slice_get, Option, Some, None}
 use Rattle.rpki_cert.specs.Certificates.{CertFields, IsCertificate}
 use Rattle.rpki_der.specs.Encoding.{Means}
 use Rattle.rpki_cert.specs.declared.inspect.Kind.TheVariants.{Anchor}

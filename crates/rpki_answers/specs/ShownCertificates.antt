@@ -6,7 +6,8 @@ use Rattle.rpki_cert.specs.Certificates.{CertFields, TbsFields}
 use Rattle.rpki_cert.specs.declared.inspect.Kind.{Kind}
 use Rattle.rpki_cert.specs.declared.inspect.Kind.TheVariants.{Anchor, Authority, EndEntity, Detached, Router}
 use Rattle.rpki_der.specs.Times.{Moment}
-use Rattle.rpki_document.specs.Documents.{Told, text, characters, words, count, printed, Span, say, tell, keep, Node, line, inside, each, document_of, told_line}
+use Rattle.rpki_document.specs.Documents.{Told, text, characters, words, count, printed, Span, say, tell, keep, Node}
+use Rattle.rpki_document.specs.Documents.{line, inside, each, document_of, told_line}
 use Rattle.rpki_ext.specs.CertificateExtensions.{ExtensionFields}
 use Rattle.rpki_ext.specs.Inspection.{inspection_error_name}
 use Rattle.rpki_ext.specs.declared.inspection.InspectionError.{InspectionError}

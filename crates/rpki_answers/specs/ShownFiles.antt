@@ -1,5 +1,6 @@
 -- What is shown of files, each as a document (own).
-use Rattle.std.specs.Prelude.{◌≡◌, ◌≢◌, ◌↔◌, ◌⊎◌, ℕ, Bool, true, false, IsTrue, IsFalse, ◌==◌, if◌then◌else◌, List, [], ◌∷◌, ◌++◌, map, length, codes, string_bytes, Option, Some, None}
+use Rattle.std.specs.Prelude.{◌≡◌, ◌≢◌, ◌↔◌, ◌⊎◌, ℕ, Bool, true, false, IsTrue, IsFalse, ◌==◌, if◌then◌else◌, List}
+use Rattle.std.specs.Prelude.{[], ◌∷◌, ◌++◌, map, length, codes, string_bytes, Option, Some, None}
 use Rattle.hex.specs.Hex.{encode_lower}
 use Rattle.sha2.specs.Sha256.{sha256}
 use Rattle.serde_json.specs.Data.{Data}
@@ -9,7 +10,8 @@ use Rattle.rpki_crl.specs.RevokedEntries.{Revoked}
 use Rattle.rpki_der.specs.Encoding.{Means}
 use Rattle.rpki_der.specs.declared.error.DecodeError.{DecodeError}
 use Rattle.rpki_der.specs.declared.error.DecodeError.TheVariants.{Memory}
-use Rattle.rpki_document.specs.Documents.{text, characters, words, count, say, tell, show, keep, Node, line, inside, each, document_of, document_json, document_text, kept, told_line}
+use Rattle.rpki_document.specs.Documents.{text, characters, words, count, say, tell, show, keep, Node, line, inside}
+use Rattle.rpki_document.specs.Documents.{each, document_of, document_json, document_text, kept, told_line}
 use Rattle.rpki_files.specs.Contents.{BeginsBefore, BeginsWithEither, LooksLikeList}
 use Rattle.rpki_files.specs.FaultRules.{IsFileRule, RuleFields, rule_of, tal_rule}
 use Rattle.rpki_files.specs.FileSorts.{IsToldSort}

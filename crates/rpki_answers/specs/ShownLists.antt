@@ -3,7 +3,8 @@ use Rattle.std.specs.Prelude.{ℕ, ◌||◌, nat_le, Bool, true, false, List, []
 use Rattle.rpki_crl.specs.Lists.{ListFields}
 use Rattle.rpki_crl.specs.RevokedEntries.{Entry, Revoked}
 use Rattle.rpki_der.specs.Times.{Moment}
-use Rattle.rpki_document.specs.Documents.{Told, words, count, printed, say, tell, show, Node, line, further, inside, each, document_of, told_line}
+use Rattle.rpki_document.specs.Documents.{Told, words, count, printed, say, tell, show, Node, line, further, inside}
+use Rattle.rpki_document.specs.Documents.{each, document_of, told_line}
 use Rattle.rpki_parts.specs.NameTexts.{name_text}
 use Rattle.rpki_answers.specs.ToldValues.{identifier_told, moment_told, serial_told, until_line}
 

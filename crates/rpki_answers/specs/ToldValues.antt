@@ -8,7 +8,8 @@ use Rattle.rpki_cert.specs.declared.inspect.Kind.TheVariants.{Anchor, Authority,
 use Rattle.rpki_der.specs.Texts.{serial_text, time_text}
 use Rattle.rpki_der.specs.Times.{Moment}
 use Rattle.rpki_der.specs.Timestamps.{timestamp}
-use Rattle.rpki_document.specs.Documents.{Told, text, words, count, flag, dated, Span, say, tell, show, keep, Node, line, further, inside, document_of, kept, told_line}
+use Rattle.rpki_document.specs.Documents.{Told, text, words, count, flag, dated, Span, say, tell, show, keep, Node}
+use Rattle.rpki_document.specs.Documents.{line, further, inside, document_of, kept, told_line}
 use Rattle.rpki_ext.specs.CertificateExtensions.{ExtensionFields}
 use Rattle.rpki_keys.specs.declared.form.KeyForm.{KeyForm}
 use Rattle.rpki_keys.specs.declared.form.KeyForm.TheVariants.{RsaKey, EvenModulus, NoRsaKey, Point, OffCurve, CompressedPoint, NoPoint}

@@ -5,9 +5,12 @@ use Rattle.std.specs.Cmp.Lexicographic.{slice_cmp}
 use Rattle.std.specs.List.{AllZip, flat_map, list_any}
 use Rattle.std.specs.Option.{option_map}
 use Rattle.std.specs.Ordering.{nat_cmp}
-use Rattle.std.specs.Prelude.{◌≡◌, ◌==◌, ◌↔◌, ℕ, Bool, IsTrue, true, false, if◌then◌else◌, fold, List, [], ◌∷◌, ◌++◌, length, map, count_by, codes, unwrap_or, Option, Some, None}
+use Rattle.std.specs.Prelude.{◌≡◌, ◌==◌, ◌↔◌, ℕ, Bool, IsTrue, true, false, if◌then◌else◌, fold, List, [], ◌∷◌, ◌++◌}
+use Rattle.std.specs.Prelude.{length, map, count_by, codes, unwrap_or, Option, Some, None}
 use Rattle.std.specs.Str.{bytes_eq}
-use Rattle.rpki_document.specs.Documents.{text, inner, characters, count, flag, Span, say, tell, show, keep, Node, head, line, further, unsaid, inside, each, aside, document_of, document_text, document_json, kept}
+use Rattle.rpki_document.specs.Documents.{text, inner, characters, count, flag, Span, say, tell, show, keep, Node}
+use Rattle.rpki_document.specs.Documents.{head, line, further, unsaid, inside, each, aside, document_of}
+use Rattle.rpki_document.specs.Documents.{document_text, document_json, kept}
 use Rattle.rpki_files.specs.Files.{FileFields}
 use Rattle.rpki_folder.specs.declared.bounds.Ended.{Ended}
 use Rattle.rpki_folder.specs.declared.bounds.Ended.TheVariants.{Whole, TooDeep, OutOfSteps}
@@ -32,7 +35,8 @@ use Rattle.rpki_verdicts.specs.declared.unordered.TreeAnswer.TheVariants.{NoAnch
 use Rattle.rpki_answers.specs.JsonTexts.{value_text}
 use Rattle.rpki_answers.specs.ToldValues.{kind_told}
 use Rattle.rpki_answers.specs.TreeRows.{AreRows}
-use Rattle.rpki_answers.specs.Verdicts.{AreHeld, fault_spans, not_locators, reason_spans, time_node, unchecked, unchecked_names, unjudged_nodes}
+use Rattle.rpki_answers.specs.Verdicts.{AreHeld, fault_spans, not_locators, reason_spans, time_node, unchecked}
+use Rattle.rpki_answers.specs.Verdicts.{unchecked_names, unjudged_nodes}
 use Rattle.rpki_answers.specs.VerdictTexts.{file_name_at}
 use Rattle.rpki_answers.specs.declared.tree_rows.Row.{Row}
 use Rattle.rpki_answers.specs.declared.tree_rows.Said.{Said}

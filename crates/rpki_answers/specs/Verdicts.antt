@@ -1,6 +1,7 @@
 -- What is said of the verdict on a path, as a document (own). Its first line is the verdict.
 use Rattle.std.specs.List.{flat_map}
-use Rattle.std.specs.Prelude.{◌≡◌, ℕ, suc, ◌-◌, Bool, true, false, ◌==◌, if◌then◌else◌, ◌⊎◌, List, [], ◌∷◌, ◌++◌, length, map, codes, unwrap_or, Option, Some, None, Result, Ok, Err}
+use Rattle.std.specs.Prelude.{◌≡◌, ℕ, suc, ◌-◌, Bool, true, false, ◌==◌, if◌then◌else◌, ◌⊎◌, List, [], ◌∷◌, ◌++◌}
+use Rattle.std.specs.Prelude.{length, map, codes, unwrap_or, Option, Some, None, Result, Ok, Err}
 use Rattle.rpki_cert.specs.Certificates.{CertFields, IsCertificate}
 use Rattle.rpki_cert.specs.SaidKinds.{IsKindOf}
 use Rattle.rpki_cert.specs.Verification.{Context, ResourceFields}
@@ -8,7 +9,9 @@ use Rattle.rpki_cert.specs.declared.inspect.Kind.{Kind}
 use Rattle.rpki_crl.specs.Lists.{IsCertificateList}
 use Rattle.rpki_der.specs.Encoding.{Means}
 use Rattle.rpki_der.specs.Times.{Moment}
-use Rattle.rpki_document.specs.Documents.{Told, text, inner, words, count, flag, Span, say, tell, show, keep, Node, head, line, unsaid, inside, each, document_of, document_json, document_text, kept, told_line}
+use Rattle.rpki_document.specs.Documents.{Told, text, inner, words, count, flag, Span, say, tell, show, keep, Node}
+use Rattle.rpki_document.specs.Documents.{head, line, unsaid, inside, each, document_of, document_json, document_text}
+use Rattle.rpki_document.specs.Documents.{kept, told_line}
 use Rattle.rpki_files.specs.Contents.{IsList}
 use Rattle.rpki_files.specs.Files.{FileFields}
 use Rattle.rpki_keys.specs.Locators.{NamedTal}
@@ -28,7 +31,8 @@ use Rattle.rpki_verdicts.specs.declared.path.Fault.{Fault}
 use Rattle.rpki_verdicts.specs.declared.path.Verdict.TheVariants.{Accepted, Rejected}
 use Rattle.rpki_answers.specs.JsonTexts.{value_text}
 use Rattle.rpki_answers.specs.RejectionDetails.{AreDetails, details_nodes}
-use Rattle.rpki_answers.specs.ToldValues.{addresses_node, identifier_told, key_nodes, kind_told, listed_nodes, moment_told, numbers_node, serial_told, set_nodes}
+use Rattle.rpki_answers.specs.ToldValues.{addresses_node, identifier_told, key_nodes, kind_told, listed_nodes}
+use Rattle.rpki_answers.specs.ToldValues.{moment_told, numbers_node, serial_told, set_nodes}
 use Rattle.rpki_answers.specs.VerdictTexts.{IsFinding, Leaves, SaysOfEach, file_name_at}
 use Rattle.rpki_answers.specs.declared.details.Details.{Details}
 use Rattle.rpki_answers.specs.declared.verdicts.Finding.{Finding}

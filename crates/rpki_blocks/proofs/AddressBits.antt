@@ -1,5 +1,6 @@
 -- The zero and the one bits at the foot of an address.
-use Rattle.std.proofs.Common.{◌≡◌, ℕ, zero, suc, ◌+◌, ◌-◌, ◌*◌, ◌/◌, ◌%◌, ◌^◌, ◌<◌, ◌≤◌, min, Bool, true, false, refl, sym, ap, subst, ◌∙◌, arith, inl, inr}
+use Rattle.std.proofs.Common.{◌≡◌, ℕ, zero, suc, ◌+◌, ◌-◌, ◌*◌, ◌/◌, ◌%◌, ◌^◌, ◌<◌, ◌≤◌, min, Bool, true, false, refl}
+use Rattle.std.proofs.Common.{sym, ap, subst, ◌∙◌, arith, inl, inr}
 use Rattle.std.specs.Prelude.{◌==◌}
 use Rattle.std.specs.Int.{w128, trailing_zeros, trailing_ones, bit_at}
 use Rattle.std.specs.Int.Count.{trailing_of_zero}
@@ -17,7 +18,8 @@ greatest_passes test zero h = h
 greatest_passes test (suc n) h =
     elim (cases_Bool (test (suc n))) [
       | inl t ↦ let is : greatest test (suc n) ≡ suc n = rw t in subst (λ (k : ℕ). test k ≡ true) (sym is) t
-      | inr f ↦ let is : greatest test (suc n) ≡ greatest test n = rw f in subst (λ (k : ℕ). test k ≡ true) (sym is) (greatest_passes test n h)
+      | inr f ↦ let is : greatest test (suc n) ≡ greatest test n = rw f in
+          subst (λ (k : ℕ). test k ≡ true) (sym is) (greatest_passes test n h)
     ]
 
 -- the greatest number that passes is within its bound
@@ -40,7 +42,8 @@ greatest_above test (suc n) k h le =
       | inr f ↦
           let is : greatest test (suc n) ≡ greatest test n = rw f in
           elim (cases_lt n k) [
-            | inl lt ↦ let same : k ≡ suc n = omega arith in absurd (let both : true ≡ false = sym (subst (λ (j : ℕ). test j ≡ true) same h) ∙ f in cc)
+            | inl lt ↦ let same : k ≡ suc n = omega arith in
+                absurd (let both : true ≡ false = sym (subst (λ (j : ℕ). test j ≡ true) same h) ∙ f in cc)
             | inr small ↦ omega (arith, is, greatest_above test n k h small)
           ]
     ]
@@ -55,13 +58,15 @@ greatest_found test (suc n) k h le =
       | inr f ↦
           let is : greatest test (suc n) ≡ greatest test n = rw f in
           elim (cases_lt n k) [
-            | inl lt ↦ let same : k ≡ suc n = omega arith in absurd (let both : true ≡ false = sym (subst (λ (j : ℕ). test j ≡ true) same h) ∙ f in cc)
+            | inl lt ↦ let same : k ≡ suc n = omega arith in
+                absurd (let both : true ≡ false = sym (subst (λ (j : ℕ). test j ≡ true) same h) ∙ f in cc)
             | inr small ↦ subst (λ (j : ℕ). test j ≡ true) (sym is) (greatest_found test n k h small)
           ]
     ]
 
 -- the greatest number that passes, where none above it does
-pub greatest_is : (test : ℕ → Bool) (n k : ℕ) → test 0 ≡ true → test k ≡ true → k ≤ n → ((j : ℕ) → k < j → j ≤ n → test j ≡ true → ⊥) → greatest test n ≡ k
+pub greatest_is : (test : ℕ → Bool) (n k : ℕ) → test 0 ≡ true → test k ≡ true → k ≤ n →
+    ((j : ℕ) → k < j → j ≤ n → test j ≡ true → ⊥) → greatest test n ≡ k
 greatest_is test n k first h le above =
     let low = greatest_above test n k h le in
     elim (cases_lt k (greatest test n)) [
@@ -91,7 +96,9 @@ power_divides k j le =
 
 -- a multiple of a power is one of each lesser power
 pub divides_less : (n j k : ℕ) → k ≤ j → n % 2 ^ j ≡ 0 → n % 2 ^ k ≡ 0
-divides_less n j k le h = mod-eq-zero_of_dvd (2 ^ k) (dvd_trans (2 ^ k) (dvd_of_mod-eq-zero (2 ^ k) (power_divides k j le)) (dvd_of_mod-eq-zero (2 ^ j) h))
+divides_less n j k le h =
+    mod-eq-zero_of_dvd (2 ^ k)
+    (dvd_trans (2 ^ k) (dvd_of_mod-eq-zero (2 ^ k) (power_divides k j le)) (dvd_of_mod-eq-zero (2 ^ j) h))
 
 -- a sum of multiples is one
 pub divides_sum : (m n k : ℕ) → m % k ≡ 0 → n % k ≡ 0 → (m + n) % k ≡ 0
@@ -134,19 +141,26 @@ trailing_zeros_are n small =
     elim (cases_lt 0 n) [
       | inl some ↦
           let t = bit_at-trailing_zeros w128 n some small in
-          sym (greatest_is (λ last. n % 2 ^ last == 0) 128 (trailing_zeros w128 n) (zero_test n 0 (omega arith)) (zero_test n _ (divides_below n (trailing_zeros w128 n) t.2)) (omega (arith, t.0)) (λ j less le passes. no_more n (trailing_zeros w128 n) j t.1 less (eqb-true _ _ passes)))
+          sym (greatest_is (λ last. n % 2 ^ last == 0) 128 (trailing_zeros w128 n) (zero_test n 0 (omega arith))
+          (zero_test n _ (divides_below n (trailing_zeros w128 n) t.2)) (omega (arith, t.0))
+          (λ j less le passes. no_more n (trailing_zeros w128 n) j t.1 less (eqb-true _ _ passes)))
       | inr none ↦
           let is : n ≡ 0 = omega arith in
-          ap (trailing_zeros w128) is ∙ trailing_of_zero 128 ∙ sym (greatest_is (λ last. 0 % 2 ^ last == 0) 128 128 refl refl (omega arith) (λ j less le passes. omega arith)) ∙ ap zero_bits (sym is)
+          ap (trailing_zeros w128) is ∙ trailing_of_zero 128 ∙
+          sym (greatest_is (λ last. 0 % 2 ^ last == 0) 128 128 refl refl (omega arith)
+          (λ j less le passes. omega arith)) ∙ ap zero_bits (sym is)
     ]
 
 -- the zero bits of the address at the other end are the one bits of this one
-complement_ends : (n k : ℕ) → n < 2 ^ 128 → k ≤ 128 → ((2 ^ 128 - 1 - n) % 2 ^ k ≡ 0 → (n + 1) % 2 ^ k ≡ 0) × ((n + 1) % 2 ^ k ≡ 0 → (2 ^ 128 - 1 - n) % 2 ^ k ≡ 0)
+complement_ends : (n k : ℕ) → n < 2 ^ 128 → k ≤ 128 → ((2 ^ 128 - 1 - n) % 2 ^ k ≡ 0 → (n + 1) % 2 ^ k ≡ 0) ×
+    ((n + 1) % 2 ^ k ≡ 0 → (2 ^ 128 - 1 - n) % 2 ^ k ≡ 0)
 complement_ends n k small le =
     let whole = power_divides k 128 le in
     let up : n + 1 ≡ 2 ^ 128 - (2 ^ 128 - 1 - n) = omega arith in
-    let down : 2 ^ 128 - 1 - n ≡ 2 ^ 128 - (n + 1) = omega arith in
-    (λ h. ap (λ (m : ℕ). m % 2 ^ k) up ∙ divides_difference (2 ^ 128) (2 ^ 128 - 1 - n) (2 ^ k) whole h, λ h. ap (λ (m : ℕ). m % 2 ^ k) down ∙ divides_difference (2 ^ 128) (n + 1) (2 ^ k) whole h)
+    let down : 2 ^ 128 - 1 - n ≡ 2 ^ 128 - (n + 1) = omega arith in (
+      λ h. ap (λ (m : ℕ). m % 2 ^ k) up ∙ divides_difference (2 ^ 128) (2 ^ 128 - 1 - n) (2 ^ k) whole h,
+      λ h. ap (λ (m : ℕ). m % 2 ^ k) down ∙ divides_difference (2 ^ 128) (n + 1) (2 ^ k) whole h,
+    )
 
 -- the one bits are counted as the machine counts them
 pub trailing_ones_are : (n : ℕ) → n < 2 ^ 128 → trailing_ones w128 n ≡ one_bits n
@@ -154,8 +168,13 @@ trailing_ones_are n small =
     let m : ℕ = 2 ^ 128 - 1 - n in
     let zeros : trailing_ones w128 n ≡ zero_bits (2 ^ 128 - 1 - n) = trailing_zeros_are (2 ^ 128 - 1 - n) (omega arith) in
     let most = greatest_le (λ last. (2 ^ 128 - 1 - n) % 2 ^ last == 0) 128 in
-    zeros ∙ sym (greatest_is (λ last. (n + 1) % 2 ^ last == 0) 128 (zero_bits (2 ^ 128 - 1 - n)) (zero_test (n + 1) 0 (omega arith)) (zero_test (n + 1) (zero_bits (2 ^ 128 - 1 - n)) ((complement_ends n (zero_bits (2 ^ 128 - 1 - n)) small most).0 (zeros_divide (2 ^ 128 - 1 - n)))) most (λ j less le passes.
-    let above = greatest_above (λ last. (2 ^ 128 - 1 - n) % 2 ^ last == 0) 128 j (zero_test (2 ^ 128 - 1 - n) j ((complement_ends n j small le).1 (eqb-true _ _ passes))) le in
+    zeros ∙ sym (greatest_is (λ last. (n + 1) % 2 ^ last == 0) 128 (zero_bits (2 ^ 128 - 1 - n))
+    (zero_test (n + 1) 0 (omega arith))
+    (zero_test (n + 1) (zero_bits (2 ^ 128 - 1 - n))
+    ((complement_ends n (zero_bits (2 ^ 128 - 1 - n)) small most).0 (zeros_divide (2 ^ 128 - 1 - n)))) most
+    (λ j less le passes.
+    let above = greatest_above (λ last. (2 ^ 128 - 1 - n) % 2 ^ last == 0) 128 j
+    (zero_test (2 ^ 128 - 1 - n) j ((complement_ends n j small le).1 (eqb-true _ _ passes))) le in
     omega arith))
 
 -- an address has at most 128 zero bits
@@ -188,20 +207,25 @@ foot b = min (zero_bits b.min) (one_bits b.max)
 only_foot : (b : Block) (last : ℕ) → last ≤ 128 → IsPrefixBy b last → last ≡ foot b
 only_foot b last le p =
     let zeros = greatest_above (λ k. b.min % 2 ^ k == 0) 128 last (zero_test b.min last p.zeros) le in
-    let upper : (b.max + 1) % 2 ^ last ≡ 0 = ap (λ (m : ℕ). m % 2 ^ last) p.size ∙ divides_sum b.min (2 ^ last) (2 ^ last) p.zeros (power_divides last last (omega arith)) in
+    let upper : (b.max + 1) % 2 ^ last ≡ 0 = ap (λ (m : ℕ). m % 2 ^ last) p.size ∙
+    divides_sum b.min (2 ^ last) (2 ^ last) p.zeros (power_divides last last (omega arith)) in
     let ones = greatest_above (λ k. (b.max + 1) % 2 ^ k == 0) 128 last (zero_test (b.max + 1) last upper) le in
     let low = divides_less b.min (zero_bits b.min) (foot b) (omega arith) (zeros_divide b.min) in
     let high = divides_less (b.max + 1) (one_bits b.max) (foot b) (omega arith) (ones_divide b.max) in
     let size : b.max + 1 - b.min ≡ 2 ^ last = omega (arith, p.size) in
-    let most = power_order (foot b) last (ap (λ (m : ℕ). m % 2 ^ foot b) (sym size) ∙ divides_difference (b.max + 1) b.min (2 ^ foot b) high low) in
+    let most = power_order (foot b) last
+    (ap (λ (m : ℕ). m % 2 ^ foot b) (sym size) ∙ divides_difference (b.max + 1) b.min (2 ^ foot b) high low) in
     omega arith
 
 -- so its last bits are the greatest that pass
 pub one_prefix : (b : Block) (last : ℕ) → last ≤ 128 → IsPrefixBy b last → prefix_bits b ≡ last
-one_prefix b last le p = only_foot b (prefix_bits b) (greatest_le (is_prefix b) 128) (prefix_parts b _ (greatest_found (is_prefix b) 128 last (prefix_test b last p) le)) ∙ sym (only_foot b last le p)
+one_prefix b last le p = only_foot b (prefix_bits b) (greatest_le (is_prefix b) 128)
+    (prefix_parts b _ (greatest_found (is_prefix b) 128 last (prefix_test b last p) le)) ∙
+    sym (only_foot b last le p)
 
 -- a block as large as its open bits is a prefix with these bits open
-pub prefix_yes : (b : Block) → b.min ≤ b.max → b.max - b.min ≡ 2 ^ foot b - 1 → (is_prefix b (prefix_bits b) ≡ true) × (prefix_bits b ≡ foot b)
+pub prefix_yes : (b : Block) → b.min ≤ b.max → b.max - b.min ≡ 2 ^ foot b - 1 →
+    (is_prefix b (prefix_bits b) ≡ true) × (prefix_bits b ≡ foot b)
 prefix_yes b order size =
     let most : foot b ≤ 128 = omega (arith, greatest_le (λ k. b.min % 2 ^ k == 0) 128) in
     let low = divides_less b.min (zero_bits b.min) (foot b) (omega arith) (zeros_divide b.min) in

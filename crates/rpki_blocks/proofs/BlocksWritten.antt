@@ -9,16 +9,23 @@ of_ends : (write : Block → List ℕ) (x : Block) (a b : ℕ) → a ≡ x.min �
 of_ends write x a b low high = rw (low, high) refl
 
 -- what is written of the blocks from one on
-from_one : (write : Block → List ℕ) (x : Block) (a b : ℕ) (from after : List Block) → a ≡ x.min → b ≡ x.max → from ≡ x ∷ after → flat_map write from ≡ write (between a b) ++ flat_map write after
+from_one : (write : Block → List ℕ) (x : Block) (a b : ℕ) (from after : List Block) → a ≡ x.min → b ≡ x.max →
+    from ≡ x ∷ after → flat_map write from ≡ write (between a b) ++ flat_map write after
 from_one write x a b from after low high is = rw (is, of_ends write x a b low high) refl
 
 -- once one more block is written, those after it are left
-pub one_more : (write : Block → List ℕ) (x : Block) (a b : ℕ) (from after : List Block) (now new all : List ℕ) → a ≡ x.min → b ≡ x.max → from ≡ x ∷ after → new ≡ now ++ write (between a b) → now ++ flat_map write from ≡ all → new ++ flat_map write after ≡ all
+pub one_more : (write : Block → List ℕ) (x : Block) (a b : ℕ) (from after : List Block) (now new all : List ℕ) →
+    a ≡ x.min → b ≡ x.max → from ≡ x ∷ after → new ≡ now ++ write (between a b) → now ++ flat_map write from ≡ all →
+    new ++ flat_map write after ≡ all
 one_more write x a b from after now new all low high is more whole =
-    ap (λ (s : List ℕ). s ++ flat_map write after) more ∙ append_assoc now (write (between a b)) (flat_map write after) ∙ ap (λ (s : List ℕ). now ++ s) (sym (from_one write x a b from after low high is)) ∙ whole
+    ap (λ (s : List ℕ). s ++ flat_map write after) more ∙ append_assoc now (write (between a b))
+    (flat_map write after) ∙ ap (λ (s : List ℕ). now ++ s) (sym (from_one write x a b from after low high is)) ∙
+    whole
 
 -- neither one block is longer than all, nor those after it
-pub parts_shorter : (write : Block → List ℕ) (x : Block) (a b n : ℕ) (from after : List Block) → a ≡ x.min → b ≡ x.max → from ≡ x ∷ after → length (flat_map write from) ≤ n → (length (write (between a b)) ≤ n) × (length (flat_map write after) ≤ n)
+pub parts_shorter : (write : Block → List ℕ) (x : Block) (a b n : ℕ) (from after : List Block) → a ≡ x.min →
+    b ≡ x.max → from ≡ x ∷ after → length (flat_map write from) ≤ n →
+    (length (write (between a b)) ≤ n) × (length (flat_map write after) ≤ n)
 parts_shorter write x a b n from after low high is short =
     let long = ap length (from_one write x a b from after low high is) ∙ length-append (write (between a b)) (flat_map write after) in
     (omega arith, omega arith)

@@ -1,5 +1,6 @@
 -- A walk along two chains.
-use Rattle.std.proofs.Common.{◌≡◌, ℕ, ◌+◌, ◌<◌, ◌≤◌, ◌⊎◌, ◌↔◌, true, false, IsTrue, IsFalse, max, List, [], ◌∷◌, ◌++◌, subst, length, get_or, drop, refl, sym, ap, ◌∙◌, arith, inl, inr}
+use Rattle.std.proofs.Common.{◌≡◌, ℕ, ◌+◌, ◌<◌, ◌≤◌, ◌⊎◌, ◌↔◌, true, false, IsTrue, IsFalse, max, List, [], ◌∷◌, ◌++◌}
+use Rattle.std.proofs.Common.{subst, length, get_or, drop, refl, sym, ap, ◌∙◌, arith, inl, inr}
 use Rattle.std.proofs.lemmas.Bool.{cases_lt, false_from_ne_true, both_ways}
 use Rattle.std.proofs.lemmas.List.{drop_more, drop_all}
 use Rattle.rpki_blocks.specs.Sets.{Block, is_in, IsChain, AreUpTo, IsSet, AreIn, Escapes}
@@ -76,7 +77,8 @@ walk_swapped ps qs both xs ys w = record {
 }
 
 -- the left block ends first, and meets none of the right chain
-pub walk_past : (ps qs both : List Block) (x : Block) (xs : List Block) (y : Block) (ys : List Block) → IsWalk ps qs both (x ∷ xs) (y ∷ ys) → x.max < y.min → IsWalk ps qs both xs (y ∷ ys)
+pub walk_past : (ps qs both : List Block) (x : Block) (xs : List Block) (y : Block) (ys : List Block) →
+    IsWalk ps qs both (x ∷ xs) (y ∷ ys) → x.max < y.min → IsWalk ps qs both xs (y ∷ ys)
 walk_past ps qs both x xs y ys w l = record {
   left = chain_tail x xs w.left;
   right = w.right;
@@ -97,7 +99,9 @@ walk_past ps qs both x xs y ys w l = record {
 }
 
 -- the left block ends first, and meets the right one in m
-pub walk_meet : (ps qs both : List Block) (x : Block) (xs : List Block) (y : Block) (ys : List Block) (m : Block) → IsWalk ps qs both (x ∷ xs) (y ∷ ys) → m.min ≡ max x.min y.min → m.max ≡ x.max → m.min ≤ m.max → x.max ≤ y.max → IsWalk ps qs (both ++ m ∷ []) xs (y ∷ ys)
+pub walk_meet : (ps qs both : List Block) (x : Block) (xs : List Block) (y : Block) (ys : List Block) (m : Block) →
+    IsWalk ps qs both (x ∷ xs) (y ∷ ys) → m.min ≡ max x.min y.min → m.max ≡ x.max → m.min ≤ m.max → x.max ≤ y.max →
+    IsWalk ps qs (both ++ m ∷ []) xs (y ∷ ys)
 walk_meet ps qs both x xs y ys m w low high some l =
     let foot = w.apart m.min (in_head m.min x xs (omega arith) (omega arith)) (in_head m.min y ys (omega arith) (omega arith)) in
     let met : IsChain (both ++ m ∷ []) = widen both m foot some in
@@ -111,15 +115,19 @@ walk_meet ps qs both x xs y ys m w low high some l =
           elim (in_append_cases n both (m ∷ []) i) [
             | inl k ↦ w.sound n k
             | inr k ↦
-                let h = in_one n m k in
-                (w.left_in n (in_head n x xs (omega (arith, h.0)) (omega (arith, h.1))), w.right_in n (in_head n y ys (omega (arith, h.0)) (omega (arith, h.1))))
+                let h = in_one n m k in (
+                  w.left_in n (in_head n x xs (omega (arith, h.0)) (omega (arith, h.1))),
+                  w.right_in n (in_head n y ys (omega (arith, h.0)) (omega (arith, h.1))),
+                )
           ];
       complete = λ n i j.
           elim (w.complete n i j) [
             | inl k ↦ inl (in_append_left n both (m ∷ []) k)
             | inr k ↦
                 elim (in_cases n x xs k.0) [
-                  | inl here ↦ let up : y.min ≤ n = at_least n y ys w.right k.1 in inl (in_append_right n both (m ∷ []) (in_head n m [] (omega (arith, here.0)) (omega (arith, here.1))))
+                  | inl here ↦ let up : y.min ≤ n = at_least n y ys w.right k.1 in
+                      inl (in_append_right n both (m ∷ [])
+                      (in_head n m [] (omega (arith, here.0)) (omega (arith, here.1))))
                   | inr later ↦ inr (later, k.1)
                 ]
           ];
@@ -128,7 +136,12 @@ walk_meet ps qs both x xs y ys m w low high some l =
 
 -- what a walk over a set gathers is a set
 pub walk_set : (g : ℕ) (ps qs both xs ys : List Block) → IsSet g ps → IsWalk ps qs both xs ys → IsSet g both
-walk_set g ps qs both xs ys p w = record { chain = w.chain; small = up_to_by_numbers g both w.chain (λ n i. in_up_to g n ps p.small (w.sound n i).0) }
+walk_set g ps qs both xs ys p w =
+    record {
+      chain = w.chain;
+      small =
+          up_to_by_numbers g both w.chain (λ n i. in_up_to g n ps p.small (w.sound n i).0);
+    }
 
 -- what is both x and y was put at the end of both, if there is any
 abbrev pub IsGrown : Block → Block → List Block → List Block → Type 0
@@ -143,7 +156,8 @@ grown_turned x y both more g =
     ]
 
 -- a walk goes on past a block of the first chain that ends no later
-pub walk_left : (ps qs both more : List Block) (x : Block) (xs : List Block) (y : Block) (ys : List Block) → IsWalk ps qs both (x ∷ xs) (y ∷ ys) → IsGrown x y both more → x.max ≤ y.max → IsWalk ps qs more xs (y ∷ ys)
+pub walk_left : (ps qs both more : List Block) (x : Block) (xs : List Block) (y : Block) (ys : List Block) →
+    IsWalk ps qs both (x ∷ xs) (y ∷ ys) → IsGrown x y both more → x.max ≤ y.max → IsWalk ps qs more xs (y ∷ ys)
 walk_left ps qs both more x xs y ys w g l =
     let some : x.min ≤ x.max = chain_head x xs w.left in
     elim g [
@@ -152,9 +166,12 @@ walk_left ps qs both more x xs y ys w g l =
     ]
 
 -- a walk goes on past a block of the second chain that ends no later
-pub walk_right : (ps qs both more : List Block) (x : Block) (xs : List Block) (y : Block) (ys : List Block) → IsWalk ps qs both (x ∷ xs) (y ∷ ys) → IsGrown x y both more → y.max ≤ x.max → IsWalk ps qs more (x ∷ xs) ys
+pub walk_right : (ps qs both more : List Block) (x : Block) (xs : List Block) (y : Block) (ys : List Block) →
+    IsWalk ps qs both (x ∷ xs) (y ∷ ys) → IsGrown x y both more → y.max ≤ x.max → IsWalk ps qs more (x ∷ xs) ys
 walk_right ps qs both more x xs y ys w g l =
-    walk_swapped qs ps more ys (x ∷ xs) (walk_left qs ps both more y ys x xs (walk_swapped ps qs both (x ∷ xs) (y ∷ ys) w) (grown_turned x y both more g) l)
+    walk_swapped qs ps more ys (x ∷ xs)
+    (walk_left qs ps both more y ys x xs (walk_swapped ps qs both (x ∷ xs) (y ∷ ys) w)
+    (grown_turned x y both more g) l)
 
 -- what remains from place i is the block there and what remains after it
 pub drop_read : (xs : List Block) (i : ℕ) (x : Block) → i < length xs → x ≡ get_or xs i x → drop i xs ≡ x ∷ drop (i + 1) xs
@@ -168,19 +185,27 @@ pub record IsAt (xs ys : List Block) (i j : ℕ) (x y : Block) : Type 0 where
   pub right : y ≡ get_or ys j y
 
 -- what is said of what remains from both places may be said of the blocks there
-pub at_both : (xs ys : List Block) (i j : ℕ) (x y : Block) (P : List Block → List Block → Type 0) → IsAt xs ys i j x y → P (drop i xs) (drop j ys) → P (x ∷ drop (i + 1) xs) (y ∷ drop (j + 1) ys)
+pub at_both : (xs ys : List Block) (i j : ℕ) (x y : Block) (P : List Block → List Block → Type 0) →
+    IsAt xs ys i j x y → P (drop i xs) (drop j ys) → P (x ∷ drop (i + 1) xs) (y ∷ drop (j + 1) ys)
 at_both xs ys i j x y P a h =
-    subst (λ (v : List Block). P v (y ∷ drop (j + 1) ys)) (drop_read xs i x a.left_below a.left) (subst (λ (v : List Block). P (drop i xs) v) (drop_read ys j y a.right_below a.right) h)
+    subst (λ (v : List Block). P v (y ∷ drop (j + 1) ys)) (drop_read xs i x a.left_below a.left)
+    (subst (λ (v : List Block). P (drop i xs) v) (drop_read ys j y a.right_below a.right) h)
 
 -- a walk goes on in the first chain
-pub left_at : (both more xs ys : List Block) (i j : ℕ) (x y : Block) → IsAt xs ys i j x y → IsWalk xs ys both (drop i xs) (drop j ys) → IsGrown x y both more → x.max ≤ y.max → IsWalk xs ys more (drop (i + 1) xs) (drop j ys)
+pub left_at : (both more xs ys : List Block) (i j : ℕ) (x y : Block) → IsAt xs ys i j x y →
+    IsWalk xs ys both (drop i xs) (drop j ys) → IsGrown x y both more → x.max ≤ y.max →
+    IsWalk xs ys more (drop (i + 1) xs) (drop j ys)
 left_at both more xs ys i j x y a w g l =
-    subst (λ (v : List Block). IsWalk xs ys more (drop (i + 1) xs) v) (sym (drop_read ys j y a.right_below a.right)) (walk_left xs ys both more x _ y _ (at_both xs ys i j x y (IsWalk xs ys both) a w) g l)
+    subst (λ (v : List Block). IsWalk xs ys more (drop (i + 1) xs) v) (sym (drop_read ys j y a.right_below a.right))
+    (walk_left xs ys both more x _ y _ (at_both xs ys i j x y (IsWalk xs ys both) a w) g l)
 
 -- a walk goes on in the second chain
-pub right_at : (both more xs ys : List Block) (i j : ℕ) (x y : Block) → IsAt xs ys i j x y → IsWalk xs ys both (drop i xs) (drop j ys) → IsGrown x y both more → y.max ≤ x.max → IsWalk xs ys more (drop i xs) (drop (j + 1) ys)
+pub right_at : (both more xs ys : List Block) (i j : ℕ) (x y : Block) → IsAt xs ys i j x y →
+    IsWalk xs ys both (drop i xs) (drop j ys) → IsGrown x y both more → y.max ≤ x.max →
+    IsWalk xs ys more (drop i xs) (drop (j + 1) ys)
 right_at both more xs ys i j x y a w g l =
-    subst (λ (v : List Block). IsWalk xs ys more v (drop (j + 1) ys)) (sym (drop_read xs i x a.left_below a.left)) (walk_right xs ys both more x _ y _ (at_both xs ys i j x y (IsWalk xs ys both) a w) g l)
+    subst (λ (v : List Block). IsWalk xs ys more v (drop (j + 1) ys)) (sym (drop_read xs i x a.left_below a.left))
+    (walk_right xs ys both more x _ y _ (at_both xs ys i j x y (IsWalk xs ys both) a w) g l)
 
 -- what remains of both chains decides whether the first is in the second
 pub record IsDecided (g : ℕ) (ps qs xs ys : List Block) : Type 0 where
@@ -200,17 +225,26 @@ not_in n b bs h e =
     ])
 
 -- the search goes on past a block of the second list that ends before
-pub decided_past : (g : ℕ) (ps qs : List Block) (x : Block) (xs : List Block) (y : Block) (ys : List Block) → IsDecided g ps qs (x ∷ xs) (y ∷ ys) → y.max < x.min → IsDecided g ps qs (x ∷ xs) ys
+pub decided_past : (g : ℕ) (ps qs : List Block) (x : Block) (xs : List Block) (y : Block) (ys : List Block) →
+    IsDecided g ps qs (x ∷ xs) (y ∷ ys) → y.max < x.min → IsDecided g ps qs (x ∷ xs) ys
 decided_past g ps qs x xs y ys d l = record {
   left = d.left;
   right = chain_tail y ys d.right;
   small = d.small;
   yes = λ h. d.yes (λ n i. in_tail n y ys (h n i));
-  no = λ e. d.no (let low : x.min ≤ e.number = at_least e.number x xs d.left e.inside in record { number = e.number; small = e.small; inside = e.inside; outside = not_in e.number y ys (inr (omega (arith, low))) e.outside });
+  no = λ e. d.no (let low : x.min ≤ e.number = at_least e.number x xs d.left e.inside in
+      record {
+        number = e.number;
+        small = e.small;
+        inside = e.inside;
+        outside =
+            not_in e.number y ys (inr (omega (arith, low))) e.outside;
+      });
 }
 
 -- the search goes on past a block of the first list that is held
-pub decided_held : (g : ℕ) (ps qs : List Block) (x : Block) (xs : List Block) (y : Block) (ys : List Block) → IsDecided g ps qs (x ∷ xs) (y ∷ ys) → y.min ≤ x.min → x.max ≤ y.max → IsDecided g ps qs xs (y ∷ ys)
+pub decided_held : (g : ℕ) (ps qs : List Block) (x : Block) (xs : List Block) (y : Block) (ys : List Block) →
+    IsDecided g ps qs (x ∷ xs) (y ∷ ys) → y.min ≤ x.min → x.max ≤ y.max → IsDecided g ps qs xs (y ∷ ys)
 decided_held g ps qs x xs y ys d low high = record {
   left = chain_tail x xs d.left;
   right = d.right;
@@ -225,10 +259,18 @@ decided_held g ps qs x xs y ys d low high = record {
 
 -- nothing remains to hold the first block
 pub decided_none : (g : ℕ) (ps qs : List Block) (x : Block) (xs : List Block) → IsDecided g ps qs (x ∷ xs) [] → Escapes g ps qs
-decided_none g ps qs x xs d = d.no (record { number = x.min; small = omega (arith, d.small.0, chain_head x xs d.left); inside = in_head x.min x xs (omega arith) (chain_head x xs d.left); outside = refl })
+decided_none g ps qs x xs d =
+    d.no (record {
+      number = x.min;
+      small = omega (arith, d.small.0, chain_head x xs d.left);
+      inside =
+          in_head x.min x xs (omega arith) (chain_head x xs d.left);
+      outside = refl;
+    })
 
 -- where a block reaches the second list and sticks out of it, a number of the first list escapes
-pub decided_escapes : (g : ℕ) (ps qs : List Block) (x : Block) (xs : List Block) (y : Block) (ys : List Block) → IsDecided g ps qs (x ∷ xs) (y ∷ ys) → x.min ≤ y.max → (x.min < y.min) ⊎ (y.max < x.max) → Escapes g ps qs
+pub decided_escapes : (g : ℕ) (ps qs : List Block) (x : Block) (xs : List Block) (y : Block) (ys : List Block) →
+    IsDecided g ps qs (x ∷ xs) (y ∷ ys) → x.min ≤ y.max → (x.min < y.min) ⊎ (y.max < x.max) → Escapes g ps qs
 decided_escapes g ps qs x xs y ys d near out =
     let some : x.min ≤ x.max = chain_head x xs d.left in
     elim (cases_lt x.min y.min) [
@@ -244,26 +286,36 @@ decided_escapes g ps qs x xs y ys d near out =
             number = y.max + 1;
             small = omega (arith, d.small.0);
             inside = in_head (y.max + 1) x xs (omega arith) (omega arith);
-            outside = not_in (y.max + 1) y ys (inr (omega arith)) (false_from_ne_true _ (λ i. let far : y.max + 1 < y.max + 1 = beyond (y.max + 1) y ys d.right i in omega arith));
+            outside = not_in (y.max + 1) y ys (inr (omega arith))
+                (false_from_ne_true _ (λ i. let far : y.max + 1 < y.max + 1 = beyond (y.max + 1) y ys d.right i in
+                omega arith));
           })
     ]
 
 -- the search goes on in the second list
-pub past_at : (g : ℕ) (xs ys : List Block) (i j : ℕ) (x y : Block) → IsAt xs ys i j x y → IsDecided g xs ys (drop i xs) (drop j ys) → y.max < x.min → IsDecided g xs ys (drop i xs) (drop (j + 1) ys)
+pub past_at : (g : ℕ) (xs ys : List Block) (i j : ℕ) (x y : Block) → IsAt xs ys i j x y →
+    IsDecided g xs ys (drop i xs) (drop j ys) → y.max < x.min → IsDecided g xs ys (drop i xs) (drop (j + 1) ys)
 past_at g xs ys i j x y a d l =
-    subst (λ (v : List Block). IsDecided g xs ys v (drop (j + 1) ys)) (sym (drop_read xs i x a.left_below a.left)) (decided_past g xs ys x _ y _ (at_both xs ys i j x y (IsDecided g xs ys) a d) l)
+    subst (λ (v : List Block). IsDecided g xs ys v (drop (j + 1) ys)) (sym (drop_read xs i x a.left_below a.left))
+    (decided_past g xs ys x _ y _ (at_both xs ys i j x y (IsDecided g xs ys) a d) l)
 
 -- the search goes on in the first list
-pub held_at : (g : ℕ) (xs ys : List Block) (i j : ℕ) (x y : Block) → IsAt xs ys i j x y → IsDecided g xs ys (drop i xs) (drop j ys) → y.min ≤ x.min → x.max ≤ y.max → IsDecided g xs ys (drop (i + 1) xs) (drop j ys)
+pub held_at : (g : ℕ) (xs ys : List Block) (i j : ℕ) (x y : Block) → IsAt xs ys i j x y →
+    IsDecided g xs ys (drop i xs) (drop j ys) → y.min ≤ x.min → x.max ≤ y.max →
+    IsDecided g xs ys (drop (i + 1) xs) (drop j ys)
 held_at g xs ys i j x y a d low high =
-    subst (λ (v : List Block). IsDecided g xs ys (drop (i + 1) xs) v) (sym (drop_read ys j y a.right_below a.right)) (decided_held g xs ys x _ y _ (at_both xs ys i j x y (IsDecided g xs ys) a d) low high)
+    subst (λ (v : List Block). IsDecided g xs ys (drop (i + 1) xs) v) (sym (drop_read ys j y a.right_below a.right))
+    (decided_held g xs ys x _ y _ (at_both xs ys i j x y (IsDecided g xs ys) a d) low high)
 
 -- where the second list has ended, a number of the first is outside it
-pub none_at : (g : ℕ) (xs ys : List Block) (i j : ℕ) → i < length xs → length ys ≤ j → IsDecided g xs ys (drop i xs) (drop j ys) → Escapes g xs ys
+pub none_at : (g : ℕ) (xs ys : List Block) (i j : ℕ) → i < length xs → length ys ≤ j →
+    IsDecided g xs ys (drop i xs) (drop j ys) → Escapes g xs ys
 none_at g xs ys i j l past d =
     let some : Block = record { min = 0; max = 0 } in
     let e = drop_more xs i some l in
-    decided_none g xs ys (get_or xs i some) (drop (i + 1) xs) (subst (λ (v : List Block). IsDecided g xs ys v []) e (subst (λ (v : List Block). IsDecided g xs ys (drop i xs) v) (drop_all j ys past) d))
+    decided_none g xs ys (get_or xs i some) (drop (i + 1) xs)
+    (subst (λ (v : List Block). IsDecided g xs ys v []) e
+    (subst (λ (v : List Block). IsDecided g xs ys (drop i xs) v) (drop_all j ys past) d))
 
 -- a number that escapes and all numbers inside exclude each other
 pub says_no : (g : ℕ) (xs ys : List Block) → Escapes g xs ys → (IsTrue false ↔ AreIn xs ys) × (IsFalse false ↔ Escapes g xs ys)
@@ -274,7 +326,8 @@ pub undecided : (g : ℕ) (xs ys : List Block) → IsSet g xs → IsSet g ys →
 undecided g xs ys left right = record { left = left.chain; right = right.chain; small = left.small; yes = λ h. h; no = λ e. e }
 
 -- where the first list has ended, each number of it is inside the second
-pub says_yes : (g : ℕ) (xs ys : List Block) (i j : ℕ) → length xs ≤ i → IsDecided g xs ys (drop i xs) (drop j ys) → (IsTrue true ↔ AreIn xs ys) × (IsFalse true ↔ Escapes g xs ys)
+pub says_yes : (g : ℕ) (xs ys : List Block) (i j : ℕ) → length xs ≤ i → IsDecided g xs ys (drop i xs) (drop j ys) →
+    (IsTrue true ↔ AreIn xs ys) × (IsFalse true ↔ Escapes g xs ys)
 says_yes g xs ys i j past d =
     let ended = subst (λ (v : List Block). IsDecided g xs ys v (drop j ys)) (drop_all i xs past) d in
     let all : AreIn xs ys = ended.yes (λ n inside. absurd cc) in

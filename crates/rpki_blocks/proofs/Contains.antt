@@ -1,5 +1,6 @@
 -- Where a number stands in a chain.
-use Rattle.std.proofs.Common.{◌≡◌, ℕ, ◌+◌, ◌<◌, ◌≤◌, ◌↔◌, Bool, true, false, not, nat_lt, List, [], ◌∷◌, length, get_or, drop, zero, suc, refl, sym, ap, ◌∙◌, arith, inl, inr, add-one}
+use Rattle.std.proofs.Common.{◌≡◌, ℕ, ◌+◌, ◌<◌, ◌≤◌, ◌↔◌, Bool, true, false, not, nat_lt, List, [], ◌∷◌, length}
+use Rattle.std.proofs.Common.{get_or, drop, zero, suc, refl, sym, ap, ◌∙◌, arith, inl, inr, add-one}
 use Rattle.std.specs.List.Sorted.{IsNonDecreasingBy}
 use Rattle.std.proofs.lemmas.List.{drop_more, drop_all}
 use Rattle.std.proofs.lemmas.List.Sorted.{IsNonDecreasingBy-from_all_adjacent}
@@ -42,14 +43,20 @@ in_first n b bs h l =
     ]
 
 -- a number is in a chain where it is in the first block that doesn't end below it
-pub contains_at : (n : ℕ) (bs : List Block) (i : ℕ) (b : Block) (t : Bool) → IsChain bs → ((k : ℕ) (d : Block) → 0 ≤ k → k < i → nat_lt (get_or bs k d).max n ≡ true) → ((k : ℕ) (d : Block) → i ≤ k → k < length bs → nat_lt (get_or bs k d).max n ≡ false) → i < length bs → b ≡ get_or bs i b → ((t ≡ true) ↔ (n < b.min)) → not t ≡ is_in n bs
+pub contains_at : (n : ℕ) (bs : List Block) (i : ℕ) (b : Block) (t : Bool) → IsChain bs →
+    ((k : ℕ) (d : Block) → 0 ≤ k → k < i → nat_lt (get_or bs k d).max n ≡ true) →
+    ((k : ℕ) (d : Block) → i ≤ k → k < length bs → nat_lt (get_or bs k d).max n ≡ false) → i < length bs →
+    b ≡ get_or bs i b → ((t ≡ true) ↔ (n < b.min)) → not t ≡ is_in n bs
 contains_at n bs i b t chain low high l is e =
     let skip = skips n bs i (λ k d m. ltb-true _ n (low k d (omega arith) m)) in
     let split = drop_more bs i b l in
-    let whole : IsChain (b ∷ drop (i + 1) bs) = let P : List Block → Type 0 = λ v. IsChain v in rw is (rw (← split) (chain_drop i bs chain)) in
+    let whole : IsChain (b ∷ drop (i + 1) bs) = let P : List Block → Type 0 = λ v. IsChain v in
+    rw is (rw (← split) (chain_drop i bs chain)) in
     let within : n ≤ b.max = rw is (ltb-false _ n (high i b (omega arith) l)) in
-    ap not (ltb_from_iff e) ∙ sym (in_first n b (drop (i + 1) bs) whole within) ∙ ap (λ v. is_in n (v ∷ drop (i + 1) bs)) is ∙ ap (is_in n) (sym split) ∙ skip
+    ap not (ltb_from_iff e) ∙ sym (in_first n b (drop (i + 1) bs) whole within) ∙
+    ap (λ v. is_in n (v ∷ drop (i + 1) bs)) is ∙ ap (is_in n) (sym split) ∙ skip
 
 -- a number above all blocks is in none
-pub contains_past : (n : ℕ) (bs : List Block) (i : ℕ) → ((k : ℕ) (d : Block) → 0 ≤ k → k < i → nat_lt (get_or bs k d).max n ≡ true) → length bs ≤ i → is_in n bs ≡ false
+pub contains_past : (n : ℕ) (bs : List Block) (i : ℕ) →
+    ((k : ℕ) (d : Block) → 0 ≤ k → k < i → nat_lt (get_or bs k d).max n ≡ true) → length bs ≤ i → is_in n bs ≡ false
 contains_past n bs i low l = sym (skips n bs i (λ k d m. ltb-true _ n (low k d (omega arith) m))) ∙ ap (is_in n) (drop_all i bs l)

@@ -24,11 +24,14 @@ before : (start : ℕ) (old c out : List ℕ) → start ≡ length old → out �
 before start old c out here is = rw is (take_at old c start (sym here))
 
 -- once it is enclosed, a value was appended
-pub enclosed : (t start : ℕ) (old c out new : List ℕ) → start ≡ length old → out ≡ old ++ c → new ≡ take start out ++ enc t (drop start out) → new ≡ old ++ enc t c
+pub enclosed : (t start : ℕ) (old c out new : List ℕ) → start ≡ length old → out ≡ old ++ c →
+    new ≡ take start out ++ enc t (drop start out) → new ≡ old ++ enc t c
 enclosed t start old c out new here is e = e ∙ rw (before start old c out here is, behind start old c out here is) refl
 
 -- what was too long to be enclosed makes a value that is too long
-pub enclosed_long : {T : Type 0} (r : Result T EncodeError) (t start : ℕ) (old c out : List ℕ) → (IsErrOf r TooLong → 2 ^ 32 ≤ length (drop start out)) → start ≡ length old → out ≡ old ++ c → SaysLong r (enc t c)
+pub enclosed_long : {T : Type 0} (r : Result T EncodeError) (t start : ℕ) (old c out : List ℕ) →
+    (IsErrOf r TooLong → 2 ^ 32 ≤ length (drop start out)) → start ≡ length old → out ≡ old ++ c →
+    SaysLong r (enc t c)
 enclosed_long r t start old c out says here is = λ e.
     let long : 2 ^ 32 ≤ length (drop start out) = says e in
     omega (arith, long, ap length (behind start old c out here is), enc_longer t c)
@@ -36,13 +39,16 @@ enclosed_long r t start old c out says here is = λ e.
 -- ---- extensions
 
 -- the extension of AS numbers that are there
-pub as_there : (id : List ℕ) (r : Resources) → r ≢ missing → critical id (written_as r) ≡ extension_part id true (enc SEQUENCE (enc (CONTEXT_CONSTRUCTED 0) (text_of (written_choice as_block r))))
+pub as_there : (id : List ℕ) (r : Resources) → r ≢ missing →
+    critical id (written_as r) ≡
+    extension_part id true (enc SEQUENCE (enc (CONTEXT_CONSTRUCTED 0) (text_of (written_choice as_block r))))
 as_there id missing there = absurd (there refl)
 as_there id inherit there = refl
 as_there id (blocks bs) there = refl
 
 -- the extension of addresses of which some are there
-pub ip_there : (id : List ℕ) (v4 v6 : Resources) → (v4 ≡ missing → v6 ≢ missing) → critical id (ip_addr_blocks v4 v6) ≡ extension_part id true (sequence (family 1 v4 ++ family 2 v6))
+pub ip_there : (id : List ℕ) (v4 v6 : Resources) → (v4 ≡ missing → v6 ≢ missing) →
+    critical id (ip_addr_blocks v4 v6) ≡ extension_part id true (sequence (family 1 v4 ++ family 2 v6))
 ip_there id missing missing there = absurd (there refl refl)
 ip_there id missing inherit there = refl
 ip_there id missing (blocks bs) there = refl

@@ -11,7 +11,8 @@ use Rattle.rpki_blocks.specs.declared.overclaim.Overclaim.TheVariants.{Refuse, T
 other : (a b : List ℕ) → bytes_eq a b ≡ false → a ≢ b
 other a b e same = let y = (bytes_eq-Decides a b).1 same in absurd cc
 
-neither : (identifier : Overclaim → List ℕ) (id : List ℕ) → bytes_eq id (identifier Refuse) ≡ false → bytes_eq id (identifier Trim) ≡ false → (overclaim : Overclaim) → id ≢ identifier overclaim
+neither : (identifier : Overclaim → List ℕ) (id : List ℕ) → bytes_eq id (identifier Refuse) ≡ false →
+    bytes_eq id (identifier Trim) ≡ false → (overclaim : Overclaim) → id ≢ identifier overclaim
 neither identifier id r t Refuse = other id (identifier Refuse) r
 neither identifier id r t Trim = other id (identifier Trim) t
 

@@ -2,7 +2,8 @@
 use Rattle.std.specs.Int.Digits.{number_from_digits}
 use Rattle.std.specs.List.{concat, list_all}
 use Rattle.std.specs.Prelude.{◌==◌, bytes_eq, flat_map}
-use Rattle.std.proofs.Common.{◌≡◌, ◌⊎◌, ℕ, ◌+◌, ◌-◌, ◌*◌, ◌%◌, ◌^◌, ◌<◌, ◌≤◌, ltb, true, List, [], ◌∷◌, ◌++◌, length, get_or, Some, refl, sym, ap, subst, ◌∙◌, arith, inl, inr}
+use Rattle.std.proofs.Common.{◌≡◌, ◌⊎◌, ℕ, ◌+◌, ◌-◌, ◌*◌, ◌%◌, ◌^◌, ◌<◌, ◌≤◌, ltb, true, List, [], ◌∷◌, ◌++◌, length}
+use Rattle.std.proofs.Common.{get_or, Some, refl, sym, ap, subst, ◌∙◌, arith, inl, inr}
 use Rattle.std.proofs.lemmas.Bool.{and_from, cases_Bool, eq-eqb, le-ltb, ltb-false}
 use Rattle.std.proofs.lemmas.List.{append-nil}
 use Rattle.std.proofs.lemmas.Nat.{pow_pos}
@@ -20,7 +21,9 @@ use Rattle.rpki_der.proofs.Octets.{if_some, some, some_is, unless_some}
 use Rattle.rpki_der.proofs.ValueWritten.{Short, append_short, content_short, made}
 use Rattle.rpki_der.proofs.Values.{one_value}
 use Rattle.rpki_blocks.specs.AddressBits.{ip_block}
-use Rattle.rpki_blocks.specs.Addresses.{lower, upper, ip_address_format, ip_address_range_format, ip_address_or_range_format, afi, family_of, ip_address_family_format, ip_addr_blocks_format, Families, IsIPAddrBlocks, Ip, family, ip}
+use Rattle.rpki_blocks.specs.Addresses.{lower, upper, ip_address_format, ip_address_range_format}
+use Rattle.rpki_blocks.specs.Addresses.{ip_address_or_range_format, afi, family_of, ip_address_family_format}
+use Rattle.rpki_blocks.specs.Addresses.{ip_addr_blocks_format, Families, IsIPAddrBlocks, Ip, family, ip}
 use Rattle.rpki_blocks.specs.Prefixes.{is_v4_block, AreV4}
 use Rattle.rpki_blocks.specs.Resources.{Resources, missing, inherit, blocks, IsResources}
 use Rattle.rpki_blocks.specs.Sets.{Block}
@@ -50,10 +53,12 @@ address_whole r b ((unused, octets), bits, is) =
     let g = unless_some (ltb 32 (8 * length octets)) (record { min = lower octets; max = upper unused octets }) r is in
     let few : 8 * length octets ≤ 32 = ltb-false _ _ g.0 in
     let zeros : ℕ = 128 - 8 * length octets in
-    let low : lower octets % 2 ^ 96 ≡ 0 = divides_less (lower octets) zeros 96 (omega (arith, few)) (mul-mod_left (number_from_digits 256 octets) (2 ^ zeros)) in
+    let low : lower octets % 2 ^ 96 ≡ 0 = divides_less (lower octets) zeros 96 (omega (arith, few))
+    (mul-mod_left (number_from_digits 256 octets) (2 ^ zeros)) in
     let size : 2 ^ (zeros + unused) % 2 ^ 96 ≡ 0 = power_divides 96 (zeros + unused) (omega (arith, few)) in
     let next : upper unused octets + 1 ≡ lower octets + 2 ^ (zeros + unused) = omega (arith, pow_pos (zeros + unused)) in
-    let sum : (upper unused octets + 1) % 2 ^ 96 ≡ 0 = ap (λ (n : ℕ). n % 2 ^ 96) next ∙ divides_sum (lower octets) (2 ^ (zeros + unused)) (2 ^ 96) low size in
+    let sum : (upper unused octets + 1) % 2 ^ 96 ≡ 0 = ap (λ (n : ℕ). n % 2 ^ 96) next ∙
+    divides_sum (lower octets) (2 ^ (zeros + unused)) (2 ^ 96) low size in
     let high : upper unused octets % 2 ^ 96 ≡ 2 ^ 96 - 1 = last (upper unused octets) sum in
     subst IsWhole g.1 (low, high)
   where
@@ -79,7 +84,11 @@ address_wider r b ((unused, octets), bits, is) =
 
 range_wider : (r : Block) (b : List ℕ) → (ip_address_range_format V4).encodes r b → (ip_address_range_format V6).encodes r b
 unfolding ip_address_range_format
-range_wider r b (content, ((low, high), (from, to, low_is, high_is, parts), ends), enc) = (content, ((low, high), (from, to, address_wider low from low_is, address_wider high to high_is, parts), ends), enc)
+range_wider r b (content, ((low, high), (from, to, low_is, high_is, parts), ends), enc) = (
+  content,
+  ((low, high), (from, to, address_wider low from low_is, address_wider high to high_is, parts), ends),
+  enc,
+)
 
 element_wider : (r : Block) (b : List ℕ) → (ip_address_or_range_format V4).encodes r b → (ip_address_or_range_format V6).encodes r b
 unfolding ip_address_or_range_format
@@ -89,9 +98,11 @@ element_wider r b h = elim h [ inl s ↦ inl (range_wider r b s) | inr s ↦ inr
 
 sequence_v4 : (rs : List Block) (b : List ℕ) → AreEncodings (ip_address_or_range_format V4).encodes rs b → list_all is_v4_block rs ≡ true
 sequence_v4 [] b h = refl
-sequence_v4 (r ∷ rs) b h = and_from (is_v4_block r) (list_all is_v4_block rs) (whole_v4 r (element_whole r h.0 h.2)) (sequence_v4 rs h.1 h.3)
+sequence_v4 (r ∷ rs) b h = and_from (is_v4_block r) (list_all is_v4_block rs) (whole_v4 r (element_whole r h.0 h.2))
+    (sequence_v4 rs h.1 h.3)
 
-sequence_wider : (rs : List Block) (b : List ℕ) → AreEncodings (ip_address_or_range_format V4).encodes rs b → AreEncodings (ip_address_or_range_format V6).encodes rs b
+sequence_wider : (rs : List Block) (b : List ℕ) → AreEncodings (ip_address_or_range_format V4).encodes rs b →
+    AreEncodings (ip_address_or_range_format V6).encodes rs b
 sequence_wider [] b h = h
 sequence_wider (r ∷ rs) b h = (h.0, h.1, element_wider r h.0 h.2, sequence_wider rs h.1 h.3, h.4)
 
@@ -100,17 +111,22 @@ sequence_wider (r ∷ rs) b h = (h.0, h.1, element_wider r h.0 h.2, sequence_wid
 abbrev choice_text : List Block → List ℕ
 choice_text bs = enc SEQUENCE (flat_map ip_block bs)
 
-choice_v4 : (bs : List Block) (r : Resources) → IsResources (2 ^ 128 - 1) (blocks bs) → length (choice_text bs) < 2 ^ 32 → (resource_choice (ip_address_or_range_format V4)).encodes r (choice_text bs) → AreV4 (blocks bs)
+choice_v4 : (bs : List Block) (r : Resources) → IsResources (2 ^ 128 - 1) (blocks bs) →
+    length (choice_text bs) < 2 ^ 32 →
+    (resource_choice (ip_address_or_range_format V4)).encodes r (choice_text bs) → AreV4 (blocks bs)
 unfolding resource_choice enc
 choice_v4 bs r kind short h =
     let element = ip_address_or_range_format V6 in
     let law = elements_lawful element (ip_address_or_range_alone V6) (some_octets V6) in
     let fits = all_fit element (2 ^ 128 - 1) v6_fits bs kind.1.chain kind.1.small in
     let is : flat_map element.written bs ≡ flat_map ip_block bs = λ i. flat_map (λ b. block_text V6 b i) bs in
-    let wrote : (SEQUENCE_OF element).encodes bs (choice_text bs) = subst (λ (c : List ℕ). length (enc SEQUENCE c) < 2 ^ 32 → (SEQUENCE_OF element).encodes bs (enc SEQUENCE c)) is (law.made bs fits) short in
+    let wrote : (SEQUENCE_OF element).encodes bs (choice_text bs) =
+    subst (λ (c : List ℕ). length (enc SEQUENCE c) < 2 ^ 32 → (SEQUENCE_OF element).encodes bs (enc SEQUENCE c))
+    is (law.made bs fits) short in
     elim h [
       | inl s ↦
-          let same = one_meaning (SEQUENCE_OF element) refl law s.elements bs (choice_text bs) (choice_text bs) [] [] (s.encoded.0, sequence_wider s.elements s.encoded.0 s.encoded.1, s.encoded.2) wrote refl in
+          let same = one_meaning (SEQUENCE_OF element) refl law s.elements bs (choice_text bs) (choice_text bs) [] []
+          (s.encoded.0, sequence_wider s.elements s.encoded.0 s.encoded.1, s.encoded.2) wrote refl in
           subst (λ (es : List Block). list_all is_v4_block es ≡ true) same.0 (sequence_v4 s.elements s.encoded.0 s.encoded.1)
       | inr s ↦ absurd cc (s.1)
     ]
@@ -135,34 +151,50 @@ named id f e =
 
 -- what is written of IPv4 addresses with this choice is read as no other family, and with no other
 -- choice
-family_choice : (x : Family × Resources) (c : List ℕ) → Short (enc SEQUENCE (named_v4 ++ c)) → ip_address_family_format.encodes x (enc SEQUENCE (named_v4 ++ c)) → (r : Resources) × (resource_choice (ip_address_or_range_format V4)).encodes r c
+family_choice : (x : Family × Resources) (c : List ℕ) → Short (enc SEQUENCE (named_v4 ++ c)) →
+    ip_address_family_format.encodes x (enc SEQUENCE (named_v4 ++ c)) →
+    (r : Resources) × (resource_choice (ip_address_or_range_format V4)).encodes r c
 unfolding ip_address_family_format
 family_choice x c short (content, (which, a, choice, (id, id_is, name), (r, r_is, same), parts), encoded) =
-    by_family which r choice (sym (ap (λ (t : List ℕ). t ++ choice) (id_is.is ∙ ap (enc OCTET_STRING) (named id which name) ∙ afi_written which)) ∙ sym parts ∙ (same_enc encoded (made SEQUENCE _ (omega arith) short)).1) r_is
+    by_family which r choice
+    (sym (ap (λ (t : List ℕ). t ++ choice)
+    (id_is.is ∙ ap (enc OCTET_STRING) (named id which name) ∙ afi_written which)) ∙ sym parts ∙
+    (same_enc encoded (made SEQUENCE _ (omega arith) short)).1) r_is
   where
-    by_family : (f : Family) (r : Resources) (choice : List ℕ) → (OCTET_STRING ∷ 2 ∷ 0 ∷ number f ∷ []) ++ choice ≡ named_v4 ++ c → (resource_choice (ip_address_or_range_format f)).encodes r choice → (r : Resources) × (resource_choice (ip_address_or_range_format V4)).encodes r c
-    by_family V4 r choice e s = let same : choice ≡ c = cc in (r, subst (λ (t : List ℕ). (resource_choice (ip_address_or_range_format V4)).encodes r t) same s)
+    by_family : (f : Family) (r : Resources) (choice : List ℕ) → (OCTET_STRING ∷ 2 ∷ 0 ∷ number f ∷ []) ++ choice ≡
+        named_v4 ++ c → (resource_choice (ip_address_or_range_format f)).encodes r choice →
+        (r : Resources) × (resource_choice (ip_address_or_range_format V4)).encodes r c
+    by_family V4 r choice e s = let same : choice ≡ c = cc in
+        (r, subst (λ (t : List ℕ). (resource_choice (ip_address_or_range_format V4)).encodes r t) same s)
     by_family V6 r choice e s = absurd (omega (arith, ap (λ (l : List ℕ). get_or l 3 0) e))
 
-blocks_v4 : (bs : List Block) (six : Resources) (f : Families) (c rest : List ℕ) → IsResources (2 ^ 128 - 1) (blocks bs) → ip (record { v4 = blocks bs; v6 = six }) ≡ Some c → Short c → Begins IsIPAddrBlocks c f rest → AreV4 (blocks bs)
+blocks_v4 : (bs : List Block) (six : Resources) (f : Families) (c rest : List ℕ) →
+    IsResources (2 ^ 128 - 1) (blocks bs) → ip (record { v4 = blocks bs; v6 = six }) ≡ Some c → Short c →
+    Begins IsIPAddrBlocks c f rest → AreV4 (blocks bs)
 unfolding ip_addr_blocks_format
 blocks_v4 bs six f c rest kind e short h =
     let first = enc SEQUENCE (named_v4 ++ choice_text bs) in
     let is : sequence (first ∷ family 2 six) ≡ c = same_Some _ _ e in
     let short' : Short (sequence (first ∷ family 2 six)) = subst Short (sym is) short in
-    let mine : IsEnc SEQUENCE (concat (first ∷ family 2 six)) c = subst (λ (b : List ℕ). IsEnc SEQUENCE (concat (first ∷ family 2 six)) b) is (made SEQUENCE _ (omega arith) short') in
+    let mine : IsEnc SEQUENCE (concat (first ∷ family 2 six)) c =
+    subst (λ (b : List ℕ). IsEnc SEQUENCE (concat (first ∷ family 2 six)) b) is
+    (made SEQUENCE _ (omega arith) short') in
     let all = one_value c h.text [] rest (of_enc mine) (of_enc h.encoded.1.2) (append-nil c ∙ h.parts) in
     let content = same_enc (subst (λ (b : List ℕ). IsEnc SEQUENCE h.encoded.1.0 b) (sym all.0) h.encoded.1.2) mine in
     let first_short : Short first = (append_short first (concat (family 2 six)) (content_short SEQUENCE _ short')).0 in
     let choice_short = (append_short named_v4 (choice_text bs) (content_short SEQUENCE _ first_short)).1 in
     let families = h.encoded.1.1 in
-    let same = one_value families.0 first families.1 (concat (family 2 six)) (family_value h.encoded.0.0 families.0 families.2) (of_enc (made SEQUENCE _ (omega arith) first_short)) (sym families.4 ∙ content.1) in
-    let read = family_choice h.encoded.0.0 (choice_text bs) first_short (subst (λ (b : List ℕ). ip_address_family_format.encodes h.encoded.0.0 b) same.0 families.2) in
+    let same = one_value families.0 first families.1 (concat (family 2 six))
+    (family_value h.encoded.0.0 families.0 families.2) (of_enc (made SEQUENCE _ (omega arith) first_short))
+    (sym families.4 ∙ content.1) in
+    let read = family_choice h.encoded.0.0 (choice_text bs) first_short
+    (subst (λ (b : List ℕ). ip_address_family_format.encodes h.encoded.0.0 b) same.0 families.2) in
     choice_v4 bs read.0 kind choice_short.0 read.1
 
 -- addresses of which what is written is read are whole IPv4 addresses where they are written as
 -- IPv4
-pub read_as_v4 : (i : Ip) (f : Families) (c rest : List ℕ) → IsResources (2 ^ 128 - 1) i.v4 → ip i ≡ Some c → Short c → Begins IsIPAddrBlocks c f rest → AreV4 i.v4
+pub read_as_v4 : (i : Ip) (f : Families) (c rest : List ℕ) → IsResources (2 ^ 128 - 1) i.v4 → ip i ≡ Some c →
+    Short c → Begins IsIPAddrBlocks c f rest → AreV4 i.v4
 read_as_v4 i f c rest kind e short h = by_kind i.v4 i.v6 kind e
   where
     by_kind : (four six : Resources) → IsResources (2 ^ 128 - 1) four → ip (record { v4 = four; v6 = six }) ≡ Some c → AreV4 four
@@ -174,7 +206,11 @@ read_as_v4 i f c rest kind e short h = by_kind i.v4 i.v6 kind e
 pub some_ip : (i : Ip) (c : List ℕ) → ip i ≡ Some c → (i.v4 ≡ missing → ⊥) ⊎ (i.v6 ≡ missing → ⊥)
 some_ip i c e =
     elim (family_text V4 i.v4) [
-      | inl a ↦ elim (family_text V6 i.v6) [ inl b ↦ let none : sequence_of_some [] ≡ Some c = rw (a.2, b.2) at e in absurd cc | inr b ↦ inr b.0 ]
+      | inl a ↦ elim (family_text V6 i.v6) [
+        | inl b ↦ let none : sequence_of_some [] ≡ Some c = rw (a.2, b.2) at e in
+            absurd cc
+        | inr b ↦ inr b.0
+      ]
       | inr a ↦ inl a.0
     ]
 

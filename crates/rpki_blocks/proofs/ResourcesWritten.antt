@@ -1,7 +1,8 @@
 -- What is written of resources encodes them.
 use Rattle.std.specs.Prelude.{◌==◌, flat_map, IfSome}
 use Rattle.std.specs.List.{AllByRecursion, list_all}
-use Rattle.std.proofs.Common.{◌≡◌, ℕ, ◌^◌, ◌-◌, ◌<◌, ◌≤◌, List, [], ◌∷◌, length, true, sym, subst, ap, ◌∙◌, arith, inl, inr, Option, Some, refl, None, ◌⊎◌, ◌++◌}
+use Rattle.std.proofs.Common.{◌≡◌, ℕ, ◌^◌, ◌-◌, ◌<◌, ◌≤◌, List, [], ◌∷◌, length, true, sym, subst, ap, ◌∙◌, arith}
+use Rattle.std.proofs.Common.{inl, inr, Option, Some, refl, None, ◌⊎◌, ◌++◌}
 use Rattle.std.proofs.lemmas.Bool.{eqb-true, and_parts, le-leb, not-false}
 use Rattle.std.proofs.lemmas.List.{append-nil}
 use Rattle.std.proofs.lemmas.Option.{same_Some}
@@ -15,7 +16,8 @@ use Rattle.rpki_blocks.specs.Sets.{Block, IsChain, AreUpTo, IsSet}
 use Rattle.rpki_blocks.specs.Prefixes.{is_v4_block, AreV4}
 use Rattle.rpki_blocks.specs.Resources.{Resources, missing, inherit, blocks, IsResources}
 use Rattle.rpki_blocks.specs.Unions.{resource_choice}
-use Rattle.rpki_blocks.specs.Addresses.{Families, Ip, or_missing, afi, family_of, family, ip, ip_address_or_range_format, ip_address_family_format, ip_addr_blocks_format}
+use Rattle.rpki_blocks.specs.Addresses.{Families, Ip, or_missing, afi, family_of, family, ip}
+use Rattle.rpki_blocks.specs.Addresses.{ip_address_or_range_format, ip_address_family_format, ip_addr_blocks_format}
 use Rattle.rpki_blocks.specs.Systems.{as_range_format, as_id_or_range_format, as_identifiers_format, written_as}
 use Rattle.rpki_blocks.specs.declared.ip_resources.Family.{Family}
 use Rattle.rpki_blocks.specs.declared.ip_resources.Family.TheVariants.{V4, V6}
@@ -24,24 +26,32 @@ use Rattle.rpki_blocks.proofs.AddressWritten.{block_text, v4_fits, v6_fits}
 use Rattle.rpki_blocks.proofs.SystemReads.{as_alone}
 
 -- what a format writes of a value that fits encodes it, and consists of octets
-is_made : {V : Type 0} (f : Format V) → IsAlone f → (v : V) (c : List ℕ) → f.written v ≡ c → f.fits v → length c < 2 ^ 32 → f.encodes v c × AreOctets c
-is_made f alone v c is fits = subst (λ (t : List ℕ). length t < 2 ^ 32 → f.encodes v t × AreOctets t) is (λ short. (alone.law.made v fits short, alone.law.octets v fits short))
+is_made : {V : Type 0} (f : Format V) → IsAlone f → (v : V) (c : List ℕ) → f.written v ≡ c → f.fits v →
+    length c < 2 ^ 32 → f.encodes v c × AreOctets c
+is_made f alone v c is fits = subst (λ (t : List ℕ). length t < 2 ^ 32 → f.encodes v t × AreOctets t) is
+    (λ short. (alone.law.made v fits short, alone.law.octets v fits short))
 
 -- ---- a choice
 
 -- blocks of a set can be written where each up to the greatest number can
-pub all_fit : (element : Format Block) (greatest : ℕ) → ((b : Block) → b.min ≤ b.max → b.max ≤ greatest → element.fits b) → (bs : List Block) → IsChain bs → AreUpTo greatest bs → AllByRecursion element.fits bs
+pub all_fit : (element : Format Block) (greatest : ℕ) →
+    ((b : Block) → b.min ≤ b.max → b.max ≤ greatest → element.fits b) → (bs : List Block) → IsChain bs →
+    AreUpTo greatest bs → AllByRecursion element.fits bs
 all_fit element greatest each [] chain small = tt
 all_fit element greatest each (b ∷ []) chain small = (each b chain small.0, tt)
 all_fit element greatest each (b ∷ c ∷ bs) chain small = (each b chain.0 small.0, all_fit element greatest each (c ∷ bs) chain.2 small.1)
 
-all_v4 : (bs : List Block) → IsChain bs → AreUpTo (2 ^ 128 - 1) bs → list_all is_v4_block bs ≡ true → AllByRecursion (ip_address_or_range_format V4).fits bs
+all_v4 : (bs : List Block) → IsChain bs → AreUpTo (2 ^ 128 - 1) bs → list_all is_v4_block bs ≡ true →
+    AllByRecursion (ip_address_or_range_format V4).fits bs
 all_v4 [] chain small v4 = tt
 all_v4 (b ∷ []) chain small v4 = (v4_fits b (and_parts _ _ v4).0 chain (omega (arith, small.0)), tt)
-all_v4 (b ∷ c ∷ bs) chain small v4 = let p = and_parts _ _ v4 in (v4_fits b p.0 chain.0 (omega (arith, small.0)), all_v4 (c ∷ bs) chain.2 small.1 p.1)
+all_v4 (b ∷ c ∷ bs) chain small v4 = let p = and_parts _ _ v4 in
+    (v4_fits b p.0 chain.0 (omega (arith, small.0)), all_v4 (c ∷ bs) chain.2 small.1 p.1)
 
 -- a choice that is there can be written where its blocks can
-choice_fits : (element : Format Block) (greatest : ℕ) (r : Resources) → IsResources greatest r → (r ≡ missing → ⊥) → ((bs : List Block) → r ≡ blocks bs → IsSet greatest bs → AllByRecursion element.fits bs) → (resource_choice element).fits r
+choice_fits : (element : Format Block) (greatest : ℕ) (r : Resources) → IsResources greatest r → (r ≡ missing → ⊥) →
+    ((bs : List Block) → r ≡ blocks bs → IsSet greatest bs → AllByRecursion element.fits bs) →
+    (resource_choice element).fits r
 unfolding resource_choice
 choice_fits element greatest missing f there all = absurd (there refl)
 choice_fits element greatest inherit f there all = (λ e. absurd cc, λ e. (refl, tt))
@@ -52,8 +62,12 @@ choice_fits element greatest (blocks (b ∷ bs)) f there all = (λ e. (refl, f.1
 
 as_block_fits : (b : Block) → b.min ≤ b.max → b.max ≤ 2 ^ 32 - 1 → as_id_or_range_format.fits b
 unfolding as_id_or_range_format as_range_format
-as_block_fits b order small =
-    (λ range. (le-leb b.min b.max order, (omega arith, omega arith)), λ one. let same : b.min ≡ b.max = eqb-true _ _ (not-false (b.min == b.max) one) in (λ i. Some (record { min = b.min; max = same i }), omega arith))
+as_block_fits b order small = (
+  λ range. (le-leb b.min b.max order, (omega arith, omega arith)),
+  λ one. let same : b.min ≡ b.max =
+      eqb-true _ _ (not-false (b.min == b.max) one) in
+      (λ i. Some (record { min = b.min; max = same i }), omega arith),
+)
 
 -- what is written of AS numbers is what their format writes, and they are there
 pub as_written : (r : Resources) (c : List ℕ) → written_as r ≡ Some c → (r ≡ missing → ⊥) × (as_identifiers_format.written r ≡ c)
@@ -63,11 +77,14 @@ as_written inherit c e = (λ is. absurd cc, same_Some _ _ e)
 as_written (blocks bs) c e = (λ is. absurd cc, same_Some _ _ e)
 
 -- what is written of AS numbers encodes them, and consists of octets
-pub as_resources_made : (r : Resources) (c : List ℕ) → written_as r ≡ Some c → IsResources (2 ^ 32 - 1) r → length c < 2 ^ 32 → as_identifiers_format.encodes r c × AreOctets c
+pub as_resources_made : (r : Resources) (c : List ℕ) → written_as r ≡ Some c → IsResources (2 ^ 32 - 1) r →
+    length c < 2 ^ 32 → as_identifiers_format.encodes r c × AreOctets c
 unfolding as_identifiers_format
 as_resources_made r c e f short =
     let w = as_written r c e in
-    is_made as_identifiers_format as_alone r c w.1 (choice_fits as_id_or_range_format (2 ^ 32 - 1) r f w.0 (λ bs is set. all_fit as_id_or_range_format (2 ^ 32 - 1) as_block_fits bs set.chain set.small)) short
+    is_made as_identifiers_format as_alone r c w.1
+    (choice_fits as_id_or_range_format (2 ^ 32 - 1) r f w.0
+    (λ bs is set. all_fit as_id_or_range_format (2 ^ 32 - 1) as_block_fits bs set.chain set.small)) short
 
 -- ---- addresses
 
@@ -101,16 +118,26 @@ afi_written V6 = refl
 
 -- a family that is missing isn't written; another is one value, as its format writes it
 abbrev pub IsWritten : Family → Resources → Type 0
-IsWritten f r = ((r ≡ missing) × (present r ≡ None) × (family (number f) r ≡ [])) ⊎ ((r ≡ missing → ⊥) × (present r ≡ Some r) × (family (number f) r ≡ ip_address_family_format.written (f, r) ∷ []))
+IsWritten f r = ((r ≡ missing) × (present r ≡ None) × (family (number f) r ≡ [])) ⊎
+    ((r ≡ missing → ⊥) × (present r ≡ Some r) ×
+    (family (number f) r ≡ ip_address_family_format.written (f, r) ∷ []))
 
 -- each is written so
 pub family_text : (f : Family) (r : Resources) → IsWritten f r
 unfolding ip_address_family_format resource_choice present
 family_text f missing = inl (refl, refl, refl)
 family_text f inherit = inr (λ e. absurd cc, refl, ap (λ (t : List ℕ). enc SEQUENCE (t ++ null) ∷ []) (sym (afi_written f)))
-family_text f (blocks bs) = inr (λ e. absurd cc, refl, λ i. enc SEQUENCE (sym (afi_written f) i ++ enc SEQUENCE (flat_map (λ b. sym (block_text f b) i) bs)) ∷ [])
+family_text f (blocks bs) =
+    inr (
+      λ e. absurd cc,
+      refl,
+      λ i. enc SEQUENCE (sym (afi_written f) i ++ enc SEQUENCE (flat_map (λ b. sym (block_text f b) i) bs)) ∷ [],
+    )
 
-family_fits : (f : Family) (r : Resources) → IsResources (2 ^ 128 - 1) r → ((bs : List Block) → r ≡ blocks bs → IsSet (2 ^ 128 - 1) bs → AllByRecursion (ip_address_or_range_format f).fits bs) → (r ≡ missing → ⊥) → ip_address_family_format.fits (f, r)
+family_fits : (f : Family) (r : Resources) → IsResources (2 ^ 128 - 1) r →
+    ((bs : List Block) → r ≡ blocks bs → IsSet (2 ^ 128 - 1) bs →
+    AllByRecursion (ip_address_or_range_format f).fits bs) → (r ≡ missing → ⊥) →
+    ip_address_family_format.fits (f, r)
 unfolding ip_address_family_format
 family_fits f r fit all there = (named f, (refl, choice_fits (ip_address_or_range_format f) (2 ^ 128 - 1) r fit there all))
   where
@@ -119,7 +146,9 @@ family_fits f r fit all there = (named f, (refl, choice_fits (ip_address_or_rang
     named V6 = (refl, (omega arith, (omega arith, tt)))
 
 -- what is written of addresses is what the format of their families writes
-ip_written : (i : Ip) (c : List ℕ) → ip i ≡ Some c → ((i.v4 ≡ missing → ⊥) → ip_address_family_format.fits (V4, i.v4)) → ((i.v6 ≡ missing → ⊥) → ip_address_family_format.fits (V6, i.v6))
+ip_written : (i : Ip) (c : List ℕ) → ip i ≡ Some c →
+    ((i.v4 ≡ missing → ⊥) → ip_address_family_format.fits (V4, i.v4)) →
+    ((i.v6 ≡ missing → ⊥) → ip_address_family_format.fits (V6, i.v6))
     → ip_addr_blocks_format.fits (written_families i) × (ip_addr_blocks_format.written (written_families i) ≡ c)
 unfolding ip_addr_blocks_format
 ip_written i c e four six =
@@ -133,12 +162,18 @@ ip_written i c e four six =
         | inr b ↦
             let one = ip_address_family_format.written (V4, i.v4) in
             let two = ip_address_family_format.written (V6, i.v6) in
-            rw (a.1, b.1) ((refl, (four a.0, six b.0)), ap (λ (t : List ℕ). enc SEQUENCE (one ++ t)) (sym (append-nil two)) ∙ same_Some _ _ (rw (a.2, b.2) at e))
+            rw (a.1, b.1) (
+              (refl, (four a.0, six b.0)),
+              ap (λ (t : List ℕ). enc SEQUENCE (one ++ t)) (sym (append-nil two)) ∙
+                  same_Some _ _ (rw (a.2, b.2) at e),
+            )
       ]
     ]
 
 -- what is written of addresses encodes them, and consists of octets
-pub ip_made : (i : Ip) (c : List ℕ) → ip i ≡ Some c → IsResources (2 ^ 128 - 1) i.v4 → AreV4 i.v4 → IsResources (2 ^ 128 - 1) i.v6 → length c < 2 ^ 32 → ip_addr_blocks_format.encodes (written_families i) c × AreOctets c
+pub ip_made : (i : Ip) (c : List ℕ) → ip i ≡ Some c → IsResources (2 ^ 128 - 1) i.v4 → AreV4 i.v4 →
+    IsResources (2 ^ 128 - 1) i.v6 → length c < 2 ^ 32 → ip_addr_blocks_format.encodes (written_families i) c ×
+    AreOctets c
 ip_made i c e f4 only_v4 f6 short =
     let w = ip_written i c e
     (family_fits V4 i.v4 f4 (λ bs is set. all_v4 bs set.chain set.small (subst AreV4 is only_v4)))

@@ -58,11 +58,15 @@ in_up_to greatest n (b ∷ bs) h i =
 -- a chain whose numbers are up to the greatest has blocks up to it
 pub up_to_by_numbers : (greatest : ℕ) (bs : List Block) → IsChain bs → ((n : ℕ) → is_in n bs ≡ true → n ≤ greatest) → AreUpTo greatest bs
 up_to_by_numbers greatest [] p h = tt
-up_to_by_numbers greatest (b ∷ bs) p h = (h b.max (in_head b.max b bs (chain_head b bs p) (omega arith)), up_to_by_numbers greatest bs (chain_tail b bs p) (λ n i. h n (in_tail n b bs i)))
+up_to_by_numbers greatest (b ∷ bs) p h = (
+  h b.max (in_head b.max b bs (chain_head b bs p) (omega arith)),
+  up_to_by_numbers greatest bs (chain_tail b bs p) (λ n i. h n (in_tail n b bs i)),
+)
 
 -- the first block of a chain inside another ends no later than the other's first, if it begins no
 -- later
-pub up_to : (b c : Block) (bs cs : List Block) → IsChain (b ∷ bs) → IsChain (c ∷ cs) → AreIn (b ∷ bs) (c ∷ cs) → b.min ≤ c.min → b.max ≤ c.max
+pub up_to : (b c : Block) (bs cs : List Block) → IsChain (b ∷ bs) → IsChain (c ∷ cs) → AreIn (b ∷ bs) (c ∷ cs) →
+    b.min ≤ c.min → b.max ≤ c.max
 up_to b c bs cs p q f low =
     elim (cases_lt c.max b.max) [
       | inl more ↦

@@ -34,14 +34,21 @@ module _ (element : Format Block) (alone : IsAlone element) (positive : 0 < elem
       same_reads (content SEQUENCE (union_of element.read)) (Inside SEQUENCE S) (IsUnionOf element)
       (content_reads SEQUENCE (union_of element.read) S
       (conversion_reads_whole listed_of (sequence_of element.read) (AreEncodings element.encodes)
-      (sequence_reads element.read element.encodes (whatever_follows element alone.none alone.law) (λ octets v rest e. omega (arith, alone.law.shorter octets v rest e)))))
-      (λ r b s. record { elements = s.1.0; encoded = (s.0, s.1.1, s.2); union = subst (λ (q : Resources). IsUnion s.1.0 q) (some_is (listed (merged s.1.0)) r s.1.2) (is_union s.1.0) })
+      (sequence_reads element.read element.encodes (whatever_follows element alone.none alone.law)
+      (λ octets v rest e. omega (arith, alone.law.shorter octets v rest e)))))
+      (λ r b s. record {
+        elements = s.1.0;
+        encoded = (s.0, s.1.1, s.2);
+        union =
+            subst (λ (q : Resources). IsUnion s.1.0 q) (some_is (listed (merged s.1.0)) r s.1.2) (is_union s.1.0);
+      })
       (λ r b s. (s.encoded.0, (s.elements, s.encoded.1, ap some (sym (union_is s.elements r s.union))), s.encoded.2))
 
   union_lawful : IsLawful (union_format element)
   union_lawful = record {
     reads = before (Follows []) (content SEQUENCE (union_of element.read)) (IsUnionOf element) union_reads;
-    starts = λ r text s. let g = inside_begins SEQUENCE (AreEncodings element.encodes) s.elements text s.encoded in begins_with SEQUENCE g.0 text g.1;
+    starts = λ r text s. let g = inside_begins SEQUENCE (AreEncodings element.encodes) s.elements text s.encoded in
+        begins_with SEQUENCE g.0 text g.1;
     shorter = λ octets r rest e. omega (arith, content_shrinks SEQUENCE (union_of element.read) octets r rest e);
     octets = λ r fits short. elements_lawful.octets (blocks_of r) fits.2 short;
     made = λ r fits short. record {
@@ -55,6 +62,7 @@ module _ (element : Format Block) (alone : IsAlone element) (positive : 0 < elem
   pub choice_alone : IsAlone (resource_choice element)
   unfolding resource_choice
   choice_alone = record {
-    law = choice_lawful SEQUENCE is_set (union_format element) inherit_format refl refl refl refl (omega arith) (omega arith) union_lawful (image_lawful (λ _. Some inherit) (λ _. tt) null_format null_lawful);
+    law = choice_lawful SEQUENCE is_set (union_format element) inherit_format refl refl refl refl (omega arith)
+        (omega arith) union_lawful (image_lawful (λ _. Some inherit) (λ _. tt) null_format null_lawful);
     none = refl;
   }

@@ -1,5 +1,6 @@
 -- Blocks in any order have one chain.
-use Rattle.std.proofs.Common.{◌≡◌, ℕ, ◌+◌, ◌<◌, ◌≤◌, ltb, min, max, true, List, [], ◌∷◌, ◌++◌, Option, Some, None, refl, sym, ap, ◌∙◌, arith, inl, inr}
+use Rattle.std.proofs.Common.{◌≡◌, ℕ, ◌+◌, ◌<◌, ◌≤◌, ltb, min, max, true, List, [], ◌∷◌, ◌++◌, Option, Some, None}
+use Rattle.std.proofs.Common.{refl, sym, ap, ◌∙◌, arith, inl, inr}
 use Rattle.std.proofs.lemmas.Bool.{cases_Bool, cases_lt, ltb-true, ltb-false}
 use Rattle.std.specs.Cmp.{both_ways}
 use Rattle.rpki_der.specs.Sequences.Reading.{sequence_of}
@@ -46,7 +47,9 @@ added_chain b (c ∷ cs) some h =
       | inl y ↦ rw y (some, ltb-true _ _ y, h)
       | inr n ↦
           elim (cases_Bool (ltb (c.max + 1) b.min)) [
-            | inl y ↦ rw (n, y) (chain_from c (added b cs) more (added_above (c.max + 1) b cs (ltb-true _ _ y) (after c cs h) (chain_tail c cs h)) (added_chain b cs some (chain_tail c cs h)))
+            | inl y ↦ rw (n, y) (chain_from c (added b cs) more
+                (added_above (c.max + 1) b cs (ltb-true _ _ y) (after c cs h) (chain_tail c cs h))
+                (added_chain b cs some (chain_tail c cs h)))
             | inr m ↦ rw (n, m) (added_chain (joined b c) cs (omega arith) (chain_tail c cs h))
           ]
     ]
@@ -56,7 +59,8 @@ added_chain b (c ∷ cs) some h =
     after c (d ∷ cs) h = h.1
 
 -- two blocks that touch, and a number of one of them
-in_joined : (n : ℕ) (b c : Block) (cs : List Block) → c.min ≤ b.max + 1 → b.min ≤ c.max + 1 → is_in n (joined b c ∷ cs) ≡ true → is_in n (b ∷ c ∷ cs) ≡ true
+in_joined : (n : ℕ) (b c : Block) (cs : List Block) → c.min ≤ b.max + 1 → b.min ≤ c.max + 1 →
+    is_in n (joined b c ∷ cs) ≡ true → is_in n (b ∷ c ∷ cs) ≡ true
 in_joined n b c cs p q h =
     elim (in_cases n (joined b c) cs h) [
       | inl here ↦
@@ -95,7 +99,8 @@ swapped n b c cs h =
           ]
     ]
 
-under : (n : ℕ) (c : Block) (bs cs : List Block) → (is_in n bs ≡ true → is_in n cs ≡ true) → is_in n (c ∷ bs) ≡ true → is_in n (c ∷ cs) ≡ true
+under : (n : ℕ) (c : Block) (bs cs : List Block) → (is_in n bs ≡ true → is_in n cs ≡ true) → is_in n (c ∷ bs) ≡ true →
+    is_in n (c ∷ cs) ≡ true
 under n c bs cs f h = elim (in_cases n c bs h) [ inl here ↦ in_head n c cs here.0 here.1 | inr later ↦ in_tail n c cs (f later) ]
 
 added_in : (n : ℕ) (b : Block) (cs : List Block) → is_in n (added b cs) ≡ true → is_in n (b ∷ cs) ≡ true
@@ -171,7 +176,8 @@ pub union_is : (bs : List Block) (r : Resources) → IsUnion bs r → r ≡ list
 union_is bs r u = u.is ∙ ap listed (chain_is_merged u.chain bs u.is_chain u.same)
 
 -- what a chain makes of blocks
-pub listed_merged : (chain bs : List Block) (r : Resources) → IsChain chain → HaveSameNumbers chain bs → r ≡ listed chain → listed (merged bs) ≡ r
+pub listed_merged : (chain bs : List Block) (r : Resources) → IsChain chain → HaveSameNumbers chain bs →
+    r ≡ listed chain → listed (merged bs) ≡ r
 listed_merged chain bs r p e is = ap listed (sym (chain_is_merged chain bs p e)) ∙ sym is
 
 -- ---- blocks that were merged while a sequence was read
@@ -189,12 +195,15 @@ same_more bs cs b e n = both_ways _ _ (more bs cs (λ i. sym (e n) ∙ i)) (more
 
 -- blocks with the same numbers are merged to one chain
 pub merged_one : (bs cs : List Block) → HaveSameNumbers bs cs → merged bs ≡ merged cs
-merged_one bs cs e = one_chain (merged bs) (merged cs) (merged_chain bs) (merged_chain cs) (λ n. merged_same bs n ∙ e n ∙ sym (merged_same cs n))
+merged_one bs cs e = one_chain (merged bs) (merged cs) (merged_chain bs) (merged_chain cs)
+    (λ n. merged_same bs n ∙ e n ∙ sym (merged_same cs n))
 
 module _ (element : List ℕ → Option (Block × List ℕ)) (octets : List ℕ) where
   -- the union of a sequence is that of blocks with its elements' numbers
-  pub union_same : (elements blocks : List Block) → sequence_of element octets ≡ Some elements → HaveSameNumbers blocks elements → union_of element octets ≡ Some (listed (merged blocks))
-  union_same elements blocks sequence_is same = rw sequence_is (ap (λ (bs : List Block). Some (listed bs)) (merged_one elements blocks (λ n. sym (same n))))
+  pub union_same : (elements blocks : List Block) → sequence_of element octets ≡ Some elements →
+      HaveSameNumbers blocks elements → union_of element octets ≡ Some (listed (merged blocks))
+  union_same elements blocks sequence_is same =
+      rw sequence_is (ap (λ (bs : List Block). Some (listed bs)) (merged_one elements blocks (λ n. sym (same n))))
 
   -- what is no sequence has no union
   pub union_none : sequence_of element octets ≡ None → union_of element octets ≡ None

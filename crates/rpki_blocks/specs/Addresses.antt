@@ -44,7 +44,9 @@ ordered low high = cond (nat_lt high low) None (Some (record { min = low; max = 
 
 -- min IPAddress, max IPAddress: the first address of one prefix, and the last of another
 abbrev pub ip_address_ends_format : Family → Format Block
-ip_address_ends_format family = image (λ x. ordered x.0.min x.1.max) (λ r. (around (zero_bits r.min) r.min, around (one_bits r.max) r.max)) (then (ip_address_format family) (ip_address_format family))
+ip_address_ends_format family =
+    image (λ x. ordered x.0.min x.1.max) (λ r. (around (zero_bits r.min) r.min, around (one_bits r.max) r.max))
+    (then (ip_address_format family) (ip_address_format family))
 
 -- IPAddressRange ::= SEQUENCE { min IPAddress, max IPAddress }   (RFC 3779 2.2.3.9)
 -- the least address, without zeros at its end, and the greatest, without ones. A range that is a
@@ -56,7 +58,8 @@ ip_address_range_format family = tagged SEQUENCE (ip_address_ends_format family)
 --   addressPrefix IPAddress, addressRange IPAddressRange }   (RFC 3779 2.2.3.7)
 -- a block that is a prefix is written as one
 unfoldable pub ip_address_or_range_format : Family → Format Block
-ip_address_or_range_format family = CHOICE SEQUENCE (λ r. not (is_prefix r (prefix_bits r))) (ip_address_range_format family) (ip_address_format family)
+ip_address_or_range_format family = CHOICE SEQUENCE (λ r. not (is_prefix r (prefix_bits r)))
+    (ip_address_range_format family) (ip_address_format family)
 
 -- the address family identifier
 abbrev pub afi : Family → List ℕ

@@ -17,5 +17,6 @@ module _ (x : Context) (q : RpkiQuestion) (t : Terms) where
   pub trusted_path : (path : PathStrings) (j : Judged) → AnswersTrusted x q t path (Ok j) → BeginPath path
   trusted_path path j (inl (asks, inl none)) = absurd none
   trusted_path path j (inl (asks, inr (octets, cut, inl none))) = absurd none
-  trusted_path path j (inl (asks, inr (octets, cut, inr (lists, are, is)))) = accepted_begin x (by_named_lists t.asks_names x lists) path j is
+  trusted_path path j (inl (asks, inr (octets, cut, inr (lists, are, is)))) =
+      accepted_begin x (by_named_lists t.asks_names x lists) path j is
   trusted_path path j (inr (asks, is)) = accepted_begin x nobody path j is

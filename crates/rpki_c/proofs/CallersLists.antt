@@ -1,6 +1,7 @@
 -- The caller's lists, as they are read one after the other, and those among all that are asked.
 use Rattle.std.specs.Prelude.{◌↔◌, Contains, MatchOption, Option, Some, None}
-use Rattle.std.proofs.Common.{◌≡◌, ◌+◌, ◌<◌, ◌⊎◌, ℕ, zero, suc, List, [], ◌∷◌, ◌++◌, length, take, get_or, false, refl, sym, ap, subst, ◌∙◌, inl, inr, arith}
+use Rattle.std.proofs.Common.{◌≡◌, ◌+◌, ◌<◌, ◌⊎◌, ℕ, zero, suc, List, [], ◌∷◌, ◌++◌, length, take, get_or, false}
+use Rattle.std.proofs.Common.{refl, sym, ap, subst, ◌∙◌, inl, inr, arith}
 use Rattle.std.proofs.lemmas.List.{append-nil, take_more}
 use Rattle.std.proofs.lemmas.List.Elements.{Contains-append_right}
 use Rattle.rpki_der.specs.Reading.{Reads}
@@ -21,30 +22,49 @@ use Rattle.rpki_c.specs.declared.refusal.Refusal.TheVariants as refusal
 -- ---- one string more
 
 module _ (MayPass : List ℕ → Type 0) where
-  pass_push : (strings : List (List ℕ)) (lists : List CrlState) (octets : List ℕ) → AreListsBut MayPass strings lists → MayPass octets → AreListsBut MayPass (strings ++ octets ∷ []) lists
+  pass_push : (strings : List (List ℕ)) (lists : List CrlState) (octets : List ℕ) →
+      AreListsBut MayPass strings lists → MayPass octets → AreListsBut MayPass (strings ++ octets ∷ []) lists
   pass_push [] lists octets are passes = inl (passes, are)
   pass_push (s ∷ strings) lists octets (inl (p, are)) passes = inl (p, pass_push strings lists octets are passes)
-  pass_push (s ∷ strings) lists octets (inr (l, others, e, given, are)) passes = inr (l, others, e, given, pass_push strings others octets are passes)
+  pass_push (s ∷ strings) lists octets (inr (l, others, e, given, are)) passes =
+      inr (l, others, e, given, pass_push strings others octets are passes)
 
-  give_push : (strings : List (List ℕ)) (lists : List CrlState) (octets : List ℕ) (m : CrlState) → AreListsBut MayPass strings lists → IsGiven octets m → AreListsBut MayPass (strings ++ octets ∷ []) (lists ++ m ∷ [])
+  give_push : (strings : List (List ℕ)) (lists : List CrlState) (octets : List ℕ) (m : CrlState) →
+      AreListsBut MayPass strings lists → IsGiven octets m →
+      AreListsBut MayPass (strings ++ octets ∷ []) (lists ++ m ∷ [])
   give_push [] lists octets m are is = inr (m, [], ap (λ (ls : List CrlState). ls ++ m ∷ []) are, is, refl)
   give_push (s ∷ strings) lists octets m (inl (p, are)) is = inl (p, give_push strings lists octets m are is)
-  give_push (s ∷ strings) lists octets m (inr (l, others, e, given, are)) is = inr (l, others ++ m ∷ [], ap (λ (ls : List CrlState). ls ++ m ∷ []) e, given, give_push strings others octets m are is)
+  give_push (s ∷ strings) lists octets m (inr (l, others, e, given, are)) is =
+      inr (
+        l,
+        others ++ m ∷ [],
+        ap (λ (ls : List CrlState). ls ++ m ∷ []) e,
+        given,
+        give_push strings others octets m are is,
+      )
 
-  module _ (strings : List (List ℕ)) (i : ℕ) (within : i < length strings) (lists : List CrlState) (are : AreListsBut MayPass (take i strings) lists) where
+  module _ (strings : List (List ℕ)) (i : ℕ) (within : i < length strings) (lists : List CrlState)
+      (are : AreListsBut MayPass (take i strings) lists) where
     -- the next string is passed over
     pub one_passed : MayPass (get_or strings i []) → AreListsBut MayPass (take (i + 1) strings) lists
-    one_passed passes = subst (λ (front : List (List ℕ)). AreListsBut MayPass front lists) (sym (take_more strings i [] within)) (pass_push (take i strings) lists (get_or strings i []) are passes)
+    one_passed passes = subst (λ (front : List (List ℕ)). AreListsBut MayPass front lists)
+        (sym (take_more strings i [] within)) (pass_push (take i strings) lists (get_or strings i []) are passes)
 
     -- or it is a list
-    pub one_given : (m : CrlState) → IsGiven (get_or strings i []) m → AreListsBut MayPass (take (i + 1) strings) (lists ++ m ∷ [])
-    one_given m is = subst (λ (front : List (List ℕ)). AreListsBut MayPass front (lists ++ m ∷ [])) (sym (take_more strings i [] within)) (give_push (take i strings) lists (get_or strings i []) m are is)
+    pub one_given : (m : CrlState) → IsGiven (get_or strings i []) m →
+        AreListsBut MayPass (take (i + 1) strings) (lists ++ m ∷ [])
+    one_given m is = subst (λ (front : List (List ℕ)). AreListsBut MayPass front (lists ++ m ∷ []))
+        (sym (take_more strings i [] within)) (give_push (take i strings) lists (get_or strings i []) m are is)
 
     -- as it was read
-    pub one_more : (o : Option CrlState) (items : List CrlState) → MatchOption o (MayPass (get_or strings i [])) (IsGiven (get_or strings i [])) → MatchOption o (items ≡ lists) (λ l. items ≡ lists ++ l ∷ [])
+    pub one_more : (o : Option CrlState) (items : List CrlState) →
+        MatchOption o (MayPass (get_or strings i [])) (IsGiven (get_or strings i [])) →
+        MatchOption o (items ≡ lists) (λ l. items ≡ lists ++ l ∷ [])
         → AreListsBut MayPass (take (i + 1) strings) items
-    one_more None items passes same = subst (λ (ls : List CrlState). AreListsBut MayPass (take (i + 1) strings) ls) (sym same) (one_passed passes)
-    one_more (Some m) items is same = subst (λ (ls : List CrlState). AreListsBut MayPass (take (i + 1) strings) ls) (sym same) (one_given m is)
+    one_more None items passes same = subst (λ (ls : List CrlState). AreListsBut MayPass (take (i + 1) strings) ls)
+        (sym same) (one_passed passes)
+    one_more (Some m) items is same = subst (λ (ls : List CrlState). AreListsBut MayPass (take (i + 1) strings) ls)
+        (sym same) (one_given m is)
 
 -- ---- the same keys
 
@@ -55,13 +75,16 @@ module _ (Is Other : List ℕ → Type 0) (same : (key : List ℕ) → Is key �
   foreign_back : (octets : List ℕ) → IsForeign Other octets → IsForeign Is octets
   foreign_back octets (key, names, none) = (key, names, λ is. none ((same key).0 is))
 
-  pub naming_so : (strings : List (List ℕ)) (lists : List CrlState) → AreListsNaming Is strings lists → AreListsNaming Other strings lists
+  pub naming_so : (strings : List (List ℕ)) (lists : List CrlState) → AreListsNaming Is strings lists →
+      AreListsNaming Other strings lists
   naming_so [] lists are = are
   naming_so (s ∷ strings) lists (inl (p, are)) = inl (foreign_so s p, naming_so strings lists are)
-  naming_so (s ∷ strings) lists (inr (l, others, e, given, are)) = inr (l, others, e, given, naming_so strings others are)
+  naming_so (s ∷ strings) lists (inr (l, others, e, given, are)) =
+      inr (l, others, e, given, naming_so strings others are)
 
   pub unread_so : (strings : List (List ℕ)) (r : Refusal) → IsUnreadList Is strings r → IsUnreadList Other strings r
-  unread_so strings (refusal.List place e) (within, h) = (within, rejects e (λ none. (none.0, λ foreign. none.1 (foreign_back (get_or strings place []) foreign))) h)
+  unread_so strings (refusal.List place e) (within, h) =
+      (within, rejects e (λ none. (none.0, λ foreign. none.1 (foreign_back (get_or strings place []) foreign))) h)
   unread_so strings refusal.Memory h = tt
   unread_so strings refusal.BadCall h = absurd h
   unread_so strings (refusal.Locator e) h = absurd h
@@ -76,11 +99,15 @@ module _ (Is Other : List ℕ → Type 0) (same : (key : List ℕ) → Is key �
 module _ (IsKey : List ℕ → Type 0) (octets : List ℕ) where
   -- without a head there is no list
   pub no_key : ((key : List ℕ) → NamesKey key octets → ⊥) → AreNoList octets × (IsForeign IsKey octets → ⊥)
-  no_key none = ((λ l is. none l.fields.extensions.authority_key_identifier (list_names l octets is)), λ foreign. none foreign.0 foreign.1)
+  no_key none = (
+    (λ l is. none l.fields.extensions.authority_key_identifier (list_names l octets is)),
+    λ foreign. none foreign.0 foreign.1,
+  )
 
   -- what names one of the keys isn't foreign
   pub not_foreign : (key : List ℕ) → NamesKey key octets → IsKey key → IsForeign IsKey octets → ⊥
-  not_foreign key names is (other, names_other, none) = none (subst IsKey (one_key key other octets names names_other) is)
+  not_foreign key names is (other, names_other, none) =
+      none (subst IsKey (one_key key other octets names names_other) is)
 
 -- ---- all lists
 
@@ -90,15 +117,20 @@ octets_of key octets (h, (content, head, enc), same) = value_octets enc
 list_reads : Reads (certificate_list_format levels).read IsCertificateList
 list_reads = alone_reads (certificate_list_format levels) (certificate_list_alone levels)
 
-as_read : (octets : List ℕ) → AreOctets octets → (o : Option (CrlFields × List ℕ)) → (certificate_list_format levels).read octets ≡ o → ((l : CrlFields) × IsCertificateList l octets) ⊎ AreNoList octets
+as_read : (octets : List ℕ) → AreOctets octets → (o : Option (CrlFields × List ℕ)) →
+    (certificate_list_format levels).read octets ≡ o →
+    ((l : CrlFields) × IsCertificateList l octets) ⊎ AreNoList octets
 as_read octets low None e = inr (λ l is.
-    let again : (certificate_list_format levels).read octets ≡ some {A = CrlFields × List ℕ} (l, []) = subst (λ (b : List ℕ). (certificate_list_format levels).read b ≡ some {A = CrlFields × List ℕ} (l, [])) (append-nil octets) (list_reads.again l octets [] is) in
+    let again : (certificate_list_format levels).read octets ≡ some {A = CrlFields × List ℕ} (l, []) =
+    subst (λ (b : List ℕ). (certificate_list_format levels).read b ≡ some {A = CrlFields × List ℕ} (l, []))
+    (append-nil octets) (list_reads.again l octets [] is) in
     nothing {B = ⊥} (l, []) (sym e ∙ again))
 as_read octets low (Some (l, [])) e =
     let b = list_reads.takes octets l [] low e in
     inl (l, subst (λ (text : List ℕ). IsCertificateList l text) (sym (b.parts ∙ append-nil b.text)) b.encoded)
 as_read octets low (Some (l, y ∷ rest)) e =
-    inr (λ m is. none_encoded (certificate_list_format levels).read IsCertificateList list_reads l m octets octets (y ∷ rest) refl (λ nil. absurd (cc nil)) (list_reads.takes octets l (y ∷ rest) low e) is)
+    inr (λ m is. none_encoded (certificate_list_format levels).read IsCertificateList list_reads l m octets octets
+    (y ∷ rest) refl (λ nil. absurd (cc nil)) (list_reads.takes octets l (y ∷ rest) low e) is)
 
 -- octets are a list or none
 read_list : (octets : List ℕ) → AreOctets octets → ((l : CrlFields) × IsCertificateList l octets) ⊎ AreNoList octets
@@ -116,7 +148,8 @@ first_or_later l m ls (suc k, low, is) = inr (k, omega (arith, low), is)
 later : (l m : CrlState) (ls : List CrlState) → Contains ls m → Contains (l ∷ ls) m
 later l m ls there = Contains-append_right (l ∷ []) ls m there
 
-beside : (l m : CrlState) (ls others : List CrlState) → (Contains ls m → Contains others m) → Contains (l ∷ ls) m → Contains (l ∷ others) m
+beside : (l m : CrlState) (ls others : List CrlState) → (Contains ls m → Contains others m) → Contains (l ∷ ls) m →
+    Contains (l ∷ others) m
 beside l m ls others go there = elim (first_or_later l m ls there) [
   | inl same ↦ (0, omega arith, same)
   | inr after ↦ later l m others (go after)
@@ -124,15 +157,19 @@ beside l m ls others go there = elim (first_or_later l m ls there) [
 
 module _ (IsKey : List ℕ → Type 0) where
   -- beside the lists that are read stand the foreign ones
-  pub all_lists : (strings : List (List ℕ)) (kept : List CrlState) → AreListsNaming IsKey strings kept → (lists : List CrlState) × AreAllLists IsKey strings lists × AreSameNaming IsKey kept lists
+  pub all_lists : (strings : List (List ℕ)) (kept : List CrlState) → AreListsNaming IsKey strings kept →
+      (lists : List CrlState) × AreAllLists IsKey strings lists × AreSameNaming IsKey kept lists
   all_lists [] kept are = (kept, are, λ l key. ((λ h. h), (λ h. h)))
   all_lists (s ∷ strings) kept (inl (foreign, are)) =
       let (lists, all, same) = all_lists strings kept are in
       elim (read_list s (octets_of foreign.0 s foreign.1)) [
         | inl (f, is) ↦
             let l : CrlState = record { list = f; is_cached = false } in
-            let other : (m : CrlState) → IsKey m.list.fields.extensions.authority_key_identifier → l ≡ m → ⊥ = λ m key e.
-            not_foreign IsKey s f.fields.extensions.authority_key_identifier (list_names f s is) (subst (λ (n : CrlState). IsKey n.list.fields.extensions.authority_key_identifier) (sym e) key) foreign in (
+            let other : (m : CrlState) → IsKey m.list.fields.extensions.authority_key_identifier → l ≡ m →
+            ⊥ = λ m key e.
+            not_foreign IsKey s f.fields.extensions.authority_key_identifier (list_names f s is)
+            (subst (λ (n : CrlState). IsKey n.list.fields.extensions.authority_key_identifier) (sym e) key)
+            foreign in (
               l ∷ lists,
               inr (l, lists, refl, is, all),
               λ m key. (
@@ -151,6 +188,7 @@ module _ (IsKey : List ℕ → Type 0) where
         inr (l, lists, refl, given, all),
         λ m key. (
           (λ there. beside l m others lists (same m key).0 (subst (λ (ls : List CrlState). Contains ls m) e there)),
-          (λ there. subst (λ (ls : List CrlState). Contains ls m) (sym e) (beside l m lists others (same m key).1 there)),
+          (λ there. subst (λ (ls : List CrlState). Contains ls m) (sym e)
+              (beside l m lists others (same m key).1 there)),
         ),
       )

@@ -1,6 +1,7 @@
 -- What stands where in the octets of a certificate.
 use Rattle.std.specs.Prelude.{IfErr, IfOk, Result, Ok, Err}
-use Rattle.std.proofs.Common.{◌≡◌, ◌≤◌, ◌<◌, ◌+◌, ◌-◌, ℕ, List, [], ◌∷◌, ◌++◌, length, drop, get_or, slice_range, refl, sym, ap, subst, ◌∙◌, append_assoc, arith}
+use Rattle.std.proofs.Common.{◌≡◌, ◌≤◌, ◌<◌, ◌+◌, ◌-◌, ℕ, List, [], ◌∷◌, ◌++◌, length, drop, get_or, slice_range}
+use Rattle.std.proofs.Common.{refl, sym, ap, subst, ◌∙◌, append_assoc, arith}
 use Rattle.std.proofs.lemmas.List.{append-nil, drop_all, drop_more}
 use Rattle.std.proofs.lemmas.List.Edits.{length-between}
 use Rattle.rpki_der.specs.Answers.{AnswersBy}
@@ -21,8 +22,11 @@ use Rattle.rpki_parts.specs.Names.{name_format, rdn_sequence_format}
 use Rattle.rpki_parts.specs.Validities.{validity_format}
 use Rattle.rpki_parts.proofs.PartFormats.{whole_bits_are}
 use Rattle.rpki_parts.proofs.SignedFormats.{SignedParts, signed_parts}
-use Rattle.rpki_cert.specs.Certificates.{CertFields, IsCertificate, TbsFields, certificate_content_format, tbs_content_format, tbs_format, version_format}
-use Rattle.rpki_c.specs.CertificateSpans.{AreSignedSpans, AreTagged, BitsStoodAt, GoesBehind, HasBits, HasTag, IsAtFields, IsAtKey, IsInside, IsKeySpan, IsSpan, StandsNoBits, StandsNone, StoodAt}
+use Rattle.rpki_cert.specs.Certificates.{CertFields, IsCertificate, TbsFields, certificate_content_format}
+use Rattle.rpki_cert.specs.Certificates.{tbs_content_format, tbs_format, version_format}
+use Rattle.rpki_c.specs.CertificateSpans.{AreSignedSpans, AreTagged, BitsStoodAt, GoesBehind, HasBits, HasTag}
+use Rattle.rpki_c.specs.CertificateSpans.{IsAtFields, IsAtKey, IsInside, IsKeySpan, IsSpan, StandsNoBits}
+use Rattle.rpki_c.specs.CertificateSpans.{StandsNone, StoodAt}
 use Rattle.rpki_folder.specs.Folders.{BeginsNoCertificate}
 
 -- ---- answers, and cursors that go on
@@ -47,7 +51,8 @@ twice old mid new p q = record { source = q.source ∙ p.source; to = q.to ∙ p
 -- ---- values that stand next
 
 -- octets that begin with a value begin with its content in it, and the same follows
-pub same_value : (tag : ℕ) (content text rest octets inner after : List ℕ) → IsEnc tag content text → octets ≡ text ++ rest → Begins (IsEnc tag) octets inner after → (inner ≡ content) × (after ≡ rest)
+pub same_value : (tag : ℕ) (content text rest octets inner after : List ℕ) → IsEnc tag content text →
+    octets ≡ text ++ rest → Begins (IsEnc tag) octets inner after → (inner ≡ content) × (after ≡ rest)
 same_value tag content text rest octets inner after is parts b =
     let e : enc tag inner ++ after ≡ enc tag content ++ rest =
     ap (λ (t : List ℕ). t ++ after) (sym b.encoded.is) ∙ sym b.parts ∙ parts ∙ ap (λ (t : List ℕ). t ++ rest) is.is in
@@ -69,24 +74,30 @@ module _ (tags : List ℕ) (i d : ℕ) (old now : Place) (below : i < length tag
   next_left l are = subst (λ (ts : List ℕ). AreTagged ts l) (drop_more tags i d below) are
 
   -- it was read
-  pub one_less : (next : Place) (inner : List ℕ) → Begins (IsEnc (get_or tags i d)) (remaining now) inner (remaining next) → IsLeft tags (i + 1) old next
+  pub one_less : (next : Place) (inner : List ℕ) →
+      Begins (IsEnc (get_or tags i d)) (remaining now) inner (remaining next) → IsLeft tags (i + 1) old next
   one_less next inner read = λ text rest are parts.
       let l = left text rest are parts in
       let here = next_left l.0 l.1 in
-      let whole : remaining now ≡ here.0 ++ (here.1 ++ rest) = l.2 ∙ ap (λ (t : List ℕ). t ++ rest) here.4 ∙ append_assoc here.0 here.1 rest in
-      let same = same_value (get_or tags i d) here.2.0 here.0 (here.1 ++ rest) (remaining now) inner (remaining next) here.2.1 whole read in
+      let whole : remaining now ≡ here.0 ++ (here.1 ++ rest) = l.2 ∙ ap (λ (t : List ℕ). t ++ rest) here.4 ∙
+      append_assoc here.0 here.1 rest in
+      let same = same_value (get_or tags i d) here.2.0 here.0 (here.1 ++ rest) (remaining now) inner
+      (remaining next) here.2.1 whole read in
       (here.1, here.3, same.1)
 
   -- it isn't there
-  pub none_next : ((inner after : List ℕ) → Begins (IsEnc (get_or tags i d)) (remaining now) inner after → ⊥) → StandsNone (AreTagged tags) old
+  pub none_next : ((inner after : List ℕ) → Begins (IsEnc (get_or tags i d)) (remaining now) inner after → ⊥) →
+      StandsNone (AreTagged tags) old
   none_next none = λ text rest are parts.
       let l = left text rest are parts in
       let here = next_left l.0 l.1 in
-      let whole : remaining now ≡ here.0 ++ (here.1 ++ rest) = l.2 ∙ ap (λ (t : List ℕ). t ++ rest) here.4 ∙ append_assoc here.0 here.1 rest in
+      let whole : remaining now ≡ here.0 ++ (here.1 ++ rest) = l.2 ∙ ap (λ (t : List ℕ). t ++ rest) here.4 ∙
+      append_assoc here.0 here.1 rest in
       none here.2.0 (here.1 ++ rest) (record { text = here.0; encoded = here.2.1; parts = whole })
 
 -- none are left
-pub none_left : (tags : List ℕ) (i : ℕ) (old now : Place) → length tags ≤ i → IsLeft tags i old now → GoesBehind (AreTagged tags) old now
+pub none_left : (tags : List ℕ) (i : ℕ) (old now : Place) → length tags ≤ i → IsLeft tags i old now →
+    GoesBehind (AreTagged tags) old now
 none_left tags i old now whole left = λ text rest are parts.
     let l = left text rest are parts in
     let none : l.0 ≡ [] = subst (λ (ts : List ℕ). AreTagged ts l.0) (drop_all i tags whole) l.1 in
@@ -95,11 +106,13 @@ none_left tags i old now whole left = λ text rest are parts.
 -- ---- where a value stands
 
 -- what a cursor went over is a span of the source
-pub span_between : (old new : Place) → old.to ≤ length old.source → new.from ≤ new.to → MovesOn old new → IsSpan old.source (old.from, new.from)
+pub span_between : (old new : Place) → old.to ≤ length old.source → new.from ≤ new.to → MovesOn old new →
+    IsSpan old.source (old.from, new.from)
 span_between old new within later moves = record { order = moves.from; within = omega (arith, moves.to, later, within) }
 
 -- and stands from its place to the next one
-pub stands_between : (old new : Place) (text rest : List ℕ) → old.from ≤ old.to → old.to ≤ length old.source → new.from ≤ new.to → MovesOn old new
+pub stands_between : (old new : Place) (text rest : List ℕ) → old.from ≤ old.to → old.to ≤ length old.source →
+    new.from ≤ new.to → MovesOn old new
     → remaining old ≡ text ++ rest → remaining new ≡ rest → slice_range old.source old.from new.from ≡ text
 stands_between old new text rest order within later moves parts behind =
     let whole : remaining old ≡ text ++ remaining new = parts ∙ ap (λ (r : List ℕ). text ++ r) (sym behind) in
@@ -110,34 +123,43 @@ stands_between old new text rest order within later moves parts behind =
     let end : new.from ≡ old.from + length text = omega (arith, c.fits, long, moves.to, later) in
     ap (λ (n : ℕ). slice_range old.source old.from n) end ∙ c.front
 
-module _ (tag : ℕ) (old new : Place) (inner : List ℕ) (read : Begins (IsEnc tag) (remaining old) inner (remaining new)) where
+module _ (tag : ℕ) (old new : Place) (inner : List ℕ)
+    (read : Begins (IsEnc tag) (remaining old) inner (remaining new)) where
   -- the cursor went behind the value that was read
   pub value_behind : GoesBehind (HasTag tag) old new
-  value_behind = λ text rest has parts. (same_value tag has.0 text rest (remaining old) inner (remaining new) has.1 parts read).1
+  value_behind = λ text rest has parts.
+      (same_value tag has.0 text rest (remaining old) inner (remaining new) has.1 parts read).1
 
   -- where it stood
-  pub value_stood : old.from ≤ old.to → old.to ≤ length old.source → new.from ≤ new.to → MovesOn old new → StoodAt (HasTag tag) old (old.from, new.from)
-  value_stood order within later moves = λ text rest has parts. stands_between old new text rest order within later moves parts (value_behind text rest has parts)
+  pub value_stood : old.from ≤ old.to → old.to ≤ length old.source → new.from ≤ new.to → MovesOn old new →
+      StoodAt (HasTag tag) old (old.from, new.from)
+  value_stood order within later moves = λ text rest has parts. stands_between old new text rest order within later
+      moves parts (value_behind text rest has parts)
 
 -- no value was there
-pub no_value : (tag : ℕ) (old : Place) → ((inner after : List ℕ) → Begins (IsEnc tag) (remaining old) inner after → ⊥) → StandsNone (HasTag tag) old
+pub no_value : (tag : ℕ) (old : Place) →
+    ((inner after : List ℕ) → Begins (IsEnc tag) (remaining old) inner after → ⊥) → StandsNone (HasTag tag) old
 no_value tag old none = λ text rest has parts. none has.0 rest (record { text = text; encoded = has.1; parts = parts })
 
 -- ---- inside a certificate
 
 -- what stands in the SEQUENCE of a certificate: its parts, and its fields
-pub content_parts : (c : CertFields) (content : List ℕ) → (certificate_content_format levels).encodes c content → SignedParts c.signed_data content × (tbs_format levels).encodes c.fields c.signed_data.message
+pub content_parts : (c : CertFields) (content : List ℕ) → (certificate_content_format levels).encodes c content →
+    SignedParts c.signed_data content × (tbs_format levels).encodes c.fields c.signed_data.message
 unfolding certificate_content_format
 content_parts c content is = (signed_parts c.signed_data content is.0, is.1)
 
 -- the content that was read of a certificate's SEQUENCE
-pub inside_read : (octets : List ℕ) (old new : Place) (r : Result Place DecodeError) → old.source ≡ octets → remaining old ≡ octets
-    → AnswersBy remaining (any_octets SEQUENCE) old r new → IfOk r (λ inner. IsWithin inner old) → IfOk r (IsInside octets)
+pub inside_read : (octets : List ℕ) (old new : Place) (r : Result Place DecodeError) → old.source ≡ octets →
+    remaining old ≡ octets
+    → AnswersBy remaining (any_octets SEQUENCE) old r new → IfOk r (λ inner. IsWithin inner old) →
+    IfOk r (IsInside octets)
 inside_read octets old new (Ok inner) source all answers within = record {
   source = within.source ∙ source;
   content = λ c means.
       let b = means.1 in
-      let same = same_value SEQUENCE b.encoded.0 b.text means.0 (remaining old) (remaining inner) (remaining new) b.encoded.2 (all ∙ b.parts) answers.encoded in
+      let same = same_value SEQUENCE b.encoded.0 b.text means.0 (remaining old) (remaining inner) (remaining new)
+      b.encoded.2 (all ∙ b.parts) answers.encoded in
       subst (λ (content : List ℕ). (certificate_content_format levels).encodes c content) (sym same.0) b.encoded.1;
 }
 inside_read octets old new (Err e) source all answers within = tt
@@ -152,7 +174,8 @@ inside_none octets old new (Err e) all answers = λ c means.
 
 module _ (octets : List ℕ) (old new : Place) (inside : IsInside octets old) where
   -- the parts of the certificate
-  parts_of : (c : CertFields) → Means IsCertificate c octets → SignedParts c.signed_data (remaining old) × (tbs_format levels).encodes c.fields c.signed_data.message
+  parts_of : (c : CertFields) → Means IsCertificate c octets →
+      SignedParts c.signed_data (remaining old) × (tbs_format levels).encodes c.fields c.signed_data.message
   parts_of c means = content_parts c (remaining old) (inside.content c means)
 
   -- what is signed is a SEQUENCE
@@ -160,24 +183,28 @@ module _ (octets : List ℕ) (old new : Place) (inside : IsInside octets old) wh
   message_tagged c means = let signed = (parts_of c means).1 in (signed.0, signed.2)
 
   -- the fields that were read
-  pub fields_read : (r : Result Place DecodeError) → AnswersBy remaining (any_octets SEQUENCE) old r new → IfOk r (λ inner. IsWithin inner old) → IfOk r (IsAtFields octets)
+  pub fields_read : (r : Result Place DecodeError) → AnswersBy remaining (any_octets SEQUENCE) old r new →
+      IfOk r (λ inner. IsWithin inner old) → IfOk r (IsAtFields octets)
   fields_read (Ok inner) answers within = record {
     source = within.source ∙ inside.source;
     content = λ c means.
         let parts = (parts_of c means).0 in
         let signed = (parts_of c means).1 in
-        let same = same_value SEQUENCE signed.0 c.signed_data.message (parts.algorithm ++ parts.signature) (remaining old) (remaining inner) (remaining new) signed.2 parts.is answers.encoded in
+        let same = same_value SEQUENCE signed.0 c.signed_data.message (parts.algorithm ++ parts.signature)
+        (remaining old) (remaining inner) (remaining new) signed.2 parts.is answers.encoded in
         subst (λ (content : List ℕ). (tbs_content_format levels).encodes c.fields content) (sym same.0) signed.1;
   }
   fields_read (Err e) answers within = tt
 
   -- there are none
-  pub fields_none : (r : Result Place DecodeError) → AnswersBy remaining (any_octets SEQUENCE) old r new → IfErr r (λ e. BeginsNoCertificate octets)
+  pub fields_none : (r : Result Place DecodeError) → AnswersBy remaining (any_octets SEQUENCE) old r new →
+      IfErr r (λ e. BeginsNoCertificate octets)
   fields_none (Ok inner) answers = tt
   fields_none (Err e) answers = λ c means.
       let parts = (parts_of c means).0 in
       let signed = (parts_of c means).1 in
-      answers.encoded.1 signed.0 (parts.algorithm ++ parts.signature) (record { text = c.signed_data.message; encoded = signed.2; parts = parts.is })
+      answers.encoded.1 signed.0 (parts.algorithm ++ parts.signature)
+      (record { text = c.signed_data.message; encoded = signed.2; parts = parts.is })
 
 -- ---- the key
 
@@ -194,12 +221,37 @@ pub record HasKey (f : TbsFields) (content : List ℕ) : Type 0 where
   pub info_is : IsPublicKey f.key info
   pub parts : content ≡ before ++ (info ++ behind)
 
-six_then : (a b c d e f rest : List ℕ) → (a ++ (b ++ (c ++ (d ++ (e ++ (f ++ [])))))) ++ rest ≡ a ++ (b ++ (c ++ (d ++ (e ++ (f ++ rest)))))
+six_then : (a b c d e f rest : List ℕ) → (a ++ (b ++ (c ++ (d ++ (e ++ (f ++ [])))))) ++ rest ≡ a ++
+    (b ++ (c ++ (d ++ (e ++ (f ++ rest)))))
 six_then a b c d e f rest = simp append_assoc
 
 pub has_key : (f : TbsFields) (content : List ℕ) → (tbs_content_format levels).encodes f content → HasKey f content
 unfolding tbs_content_format version_format algorithm_format name_format rdn_sequence_format validity_format
-has_key f content (v, from_serial, v_is, (s, from_algorithm, s_is, (g, from_issuer, g_is, (n, from_validity, n_is, (d, from_subject, d_is, (u, from_key, u_is, (info, behind, k_is, x_is, k_then), u_then), d_then), n_then), g_then), s_then), v_then) = record {
+has_key f content (
+  v,
+  from_serial,
+  v_is,
+  (
+    s,
+    from_algorithm,
+    s_is,
+    (
+      g,
+      from_issuer,
+      g_is,
+      (
+        n,
+        from_validity,
+        n_is,
+        (d, from_subject, d_is, (u, from_key, u_is, (info, behind, k_is, x_is, k_then), u_then), d_then),
+        n_then,
+      ),
+      g_then,
+    ),
+    s_then,
+  ),
+  v_then,
+) = record {
   before = v ++ (s ++ (g ++ (n ++ (d ++ (u ++ [])))));
   info = info;
   behind = behind;
@@ -265,8 +317,15 @@ module _ (octets : List ℕ) (at : Place) (fields : IsAtFields octets at) where
   key_next next behind moves = record {
     source = moves.source ∙ fields.source;
     key = λ c means.
-        let k = key_in c means in
-        (k.behind, record { text = k.info; encoded = k.info_is; parts = behind k.before (k.info ++ k.behind) k.before_are k.parts });
+        let k = key_in c means in (
+          k.behind,
+          record {
+            text = k.info;
+            encoded = k.info_is;
+            parts =
+                behind k.before (k.info ++ k.behind) k.before_are k.parts;
+          },
+        );
   }
 
 -- a key is a SEQUENCE
@@ -283,12 +342,15 @@ module _ (octets : List ℕ) (at : Place) (is : IsAtKey octets at) where
   no_key none = λ c means. let k = is.key c means in none k.1.text k.0 (tagged_at c means) k.1.parts
 
   -- its span
-  pub key_stood : (r : Result (ℕ × ℕ) DecodeError) → IfOk r (IsSpan at.source) → IfOk r (StoodAt (HasTag SEQUENCE) at) → IfOk r (IsKeySpan octets)
+  pub key_stood : (r : Result (ℕ × ℕ) DecodeError) → IfOk r (IsSpan at.source) →
+      IfOk r (StoodAt (HasTag SEQUENCE) at) → IfOk r (IsKeySpan octets)
   key_stood (Ok span) is_span stood = record {
     is_span = subst (λ (s : List ℕ). IsSpan s span) is.source is_span;
     key = λ c means.
         let k = is.key c means in
-        let there : slice_range octets span.0 span.1 ≡ k.1.text = subst (λ (s : List ℕ). slice_range s span.0 span.1 ≡ k.1.text) is.source (stood k.1.text k.0 (tagged_at c means) k.1.parts) in
+        let there : slice_range octets span.0 span.1 ≡ k.1.text =
+        subst (λ (s : List ℕ). slice_range s span.0 span.1 ≡ k.1.text) is.source
+        (stood k.1.text k.0 (tagged_at c means) k.1.parts) in
         subst (λ (info : List ℕ). IsPublicKey c.fields.key info) (sym there) k.1.encoded;
   }
   key_stood (Err e) is_span stood = tt
@@ -296,20 +358,27 @@ module _ (octets : List ℕ) (at : Place) (is : IsAtKey octets at) where
 -- ---- bits behind an algorithm
 
 -- a BIT STRING that stands there begins there
-bits_begin : (bits text octets : List ℕ) → whole_bits_format.encodes bits text → octets ≡ text → (v : ℕ × List ℕ) × Begins IsBits octets v []
+bits_begin : (bits text octets : List ℕ) → whole_bits_format.encodes bits text → octets ≡ text →
+    (v : ℕ × List ℕ) × Begins IsBits octets v []
 unfolding whole_bits_format
-bits_begin bits text octets is parts = (is.0, record { text = text; encoded = is.1; parts = parts ∙ sym (append-nil text) })
+bits_begin bits text octets is parts =
+    (is.0, record { text = text; encoded = is.1; parts = parts ∙ sym (append-nil text) })
 
 -- and has these octets
-bits_read : (bits text octets : List ℕ) (v : ℕ × List ℕ) (after : List ℕ) → whole_bits_format.encodes bits text → octets ≡ text → Begins IsBits octets v after → v.1 ≡ bits
+bits_read : (bits text octets : List ℕ) (v : ℕ × List ℕ) (after : List ℕ) → whole_bits_format.encodes bits text →
+    octets ≡ text → Begins IsBits octets v after → v.1 ≡ bits
 bits_read bits text octets v after is parts b =
-    let read : Begins (IsEnc BIT_STRING) octets (v.0 ∷ v.1) after = record { text = b.text; encoded = b.encoded.enc; parts = b.parts } in
-    let same = same_value BIT_STRING (0 ∷ bits) text [] octets (v.0 ∷ v.1) after (whole_bits_are bits text is) (parts ∙ sym (append-nil text)) read in
+    let read : Begins (IsEnc BIT_STRING) octets (v.0 ∷ v.1) after =
+    record { text = b.text; encoded = b.encoded.enc; parts = b.parts } in
+    let same = same_value BIT_STRING (0 ∷ bits) text [] octets (v.0 ∷ v.1) after (whole_bits_are bits text is)
+    (parts ∙ sym (append-nil text)) read in
     (heads v.0 0 v.1 bits same.0).1
 
 -- what was read there is a span of the source
-pub bits_span_is : (old mid : Place) → MovesOn old mid → (bits : Place) → IsWithin bits mid → bits.from ≤ bits.to → bits.to ≤ length bits.source → IsSpan old.source (bits.from, bits.to)
-bits_span_is old mid moves bits within order inside = subst (λ (s : List ℕ). IsSpan s (bits.from, bits.to)) (within.source ∙ moves.source) (record { order = order; within = inside })
+pub bits_span_is : (old mid : Place) → MovesOn old mid → (bits : Place) → IsWithin bits mid → bits.from ≤ bits.to →
+    bits.to ≤ length bits.source → IsSpan old.source (bits.from, bits.to)
+bits_span_is old mid moves bits within order inside = subst (λ (s : List ℕ). IsSpan s (bits.from, bits.to))
+    (within.source ∙ moves.source) (record { order = order; within = inside })
 
 module _ (old mid : Place) (behind : GoesBehind (HasTag SEQUENCE) old mid) where
   -- behind the algorithm
@@ -317,16 +386,20 @@ module _ (old mid : Place) (behind : GoesBehind (HasTag SEQUENCE) old mid) where
   bits_left bits has = behind has.0 has.1 has.2 has.4
 
   -- they aren't there
-  pub no_bits_behind : ((v : ℕ × List ℕ) (after : List ℕ) → Begins IsBits (remaining mid) v after → ⊥) → StandsNoBits old
+  pub no_bits_behind : ((v : ℕ × List ℕ) (after : List ℕ) → Begins IsBits (remaining mid) v after → ⊥) →
+      StandsNoBits old
   no_bits_behind none = λ bits has.
       let begins = bits_begin bits has.1 (remaining mid) has.3 (bits_left bits has) in
       none begins.0 [] begins.1
 
   -- where they stand
-  pub bits_there : (unused : ℕ) (bits after : Place) → MovesOn old mid → Begins IsBits (remaining mid) (unused, remaining bits) (remaining after) → IsWithin bits mid → BitsStoodAt old (bits.from, bits.to)
+  pub bits_there : (unused : ℕ) (bits after : Place) → MovesOn old mid →
+      Begins IsBits (remaining mid) (unused, remaining bits) (remaining after) → IsWithin bits mid →
+      BitsStoodAt old (bits.from, bits.to)
   bits_there unused bits after moves read within = λ these has.
       subst (λ (s : List ℕ). slice_range s bits.from bits.to ≡ these) (within.source ∙ moves.source)
-      (bits_read these has.1 (remaining mid) (unused, remaining bits) (remaining after) has.3 (bits_left these has) read)
+      (bits_read these has.1 (remaining mid) (unused, remaining bits) (remaining after) has.3 (bits_left these has)
+      read)
 
 -- ---- what is signed, and the signature
 
@@ -339,18 +412,21 @@ module _ (octets : List ℕ) (at : Place) (inside : IsInside octets at) where
   pub no_message : StandsNone (HasTag SEQUENCE) at → BeginsNoCertificate octets
   no_message none = λ c means.
       let parts = (parts_of octets at at inside c means).0 in
-      none c.signed_data.message (parts.algorithm ++ parts.signature) (message_tagged octets at at inside c means) parts.is
+      none c.signed_data.message (parts.algorithm ++ parts.signature) (message_tagged octets at at inside c means)
+      parts.is
 
   module _ (second : Place) (behind_message : GoesBehind (HasTag SEQUENCE) at second) where
     -- the signature stands behind it
-    signature_left : (c : CertFields) → Means IsCertificate c octets → HasBits c.signed_data.signature.value (remaining second)
+    signature_left : (c : CertFields) → Means IsCertificate c octets →
+        HasBits c.signed_data.signature.value (remaining second)
     signature_left c means =
         let parts = (parts_of octets at at inside c means).0 in (
           parts.algorithm,
           parts.signature,
           algorithm_tagged c.signed_data.signature.algorithm parts.algorithm parts.algorithm_is,
           parts.signature_is,
-          behind_message c.signed_data.message (parts.algorithm ++ parts.signature) (message_tagged octets at at inside c means) parts.is,
+          behind_message c.signed_data.message (parts.algorithm ++ parts.signature)
+              (message_tagged octets at at inside c means) parts.is,
         )
 
     -- it isn't there
@@ -358,7 +434,8 @@ module _ (octets : List ℕ) (at : Place) (inside : IsInside octets at) where
     no_signature none = λ c means. none c.signed_data.signature.value (signature_left c means)
 
     -- both spans
-    pub both_stood : (message signature : ℕ × ℕ) → IsSpan at.source message → StoodAt (HasTag SEQUENCE) at message → MovesOn at second → IsSpan second.source signature → BitsStoodAt second signature
+    pub both_stood : (message signature : ℕ × ℕ) → IsSpan at.source message → StoodAt (HasTag SEQUENCE) at message →
+        MovesOn at second → IsSpan second.source signature → BitsStoodAt second signature
         → AreSignedSpans octets message signature
     both_stood message signature is stood moves is_too stood_too =
         let source : second.source ≡ octets = moves.source ∙ inside.source in
@@ -368,6 +445,9 @@ module _ (octets : List ℕ) (at : Place) (inside : IsInside octets at) where
           message_is = λ c means.
               let parts = (parts_of octets at at inside c means).0 in
               subst (λ (s : List ℕ). slice_range s message.0 message.1 ≡ c.signed_data.message) inside.source
-              (stood c.signed_data.message (parts.algorithm ++ parts.signature) (message_tagged octets at at inside c means) parts.is);
-          signature_is = λ c means. subst (λ (s : List ℕ). slice_range s signature.0 signature.1 ≡ c.signed_data.signature.value) source (stood_too c.signed_data.signature.value (signature_left c means));
+              (stood c.signed_data.message (parts.algorithm ++ parts.signature)
+              (message_tagged octets at at inside c means) parts.is);
+          signature_is = λ c means.
+              subst (λ (s : List ℕ). slice_range s signature.0 signature.1 ≡ c.signed_data.signature.value) source
+              (stood_too c.signed_data.signature.value (signature_left c means));
         }

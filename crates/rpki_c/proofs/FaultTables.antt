@@ -19,8 +19,11 @@ use Rattle.rpki_issuing.specs.declared.next.NextListError.TheVariants as next
 use Rattle.rpki_keys.specs.TalErrors.{tal_error_name}
 use Rattle.rpki_keys.specs.declared.tal.tal_error.TalError.{TalError}
 use Rattle.rpki_keys.specs.declared.tal.tal_error.TalError.TheVariants as tal
-use Rattle.rpki_files.specs.FaultTable.{general_faults, inspection_faults, issuing_faults, locator_faults, part_table, reading_faults, revocation_faults, fault_named, verification_faults}
-use Rattle.rpki_c.specs.FaultNumbers.{decode_number, inspection_number, verification_number, revocation_number, locator_number, next_list_number}
+use Rattle.rpki_files.specs.FaultTable.{general_faults, inspection_faults, issuing_faults, locator_faults}
+use Rattle.rpki_files.specs.FaultTable.{part_table, reading_faults, revocation_faults, fault_named}
+use Rattle.rpki_files.specs.FaultTable.{verification_faults}
+use Rattle.rpki_c.specs.FaultNumbers.{decode_number, inspection_number, verification_number, revocation_number}
+use Rattle.rpki_c.specs.FaultNumbers.{locator_number, next_list_number}
 use Rattle.rpki_c.specs.FaultTexts.{name_told}
 
 -- a number that is 1 or at least 100, and what is added to it

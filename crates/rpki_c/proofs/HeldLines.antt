@@ -1,6 +1,7 @@
 -- Ranges that are held, and lines that tell of them, as others follow.
 use Rattle.std.specs.Prelude.{Bool}
-use Rattle.std.proofs.Common.{◌≡◌, ◌+◌, ◌-◌, ◌<◌, ◌≤◌, ℕ, List, [], ◌∷◌, ◌++◌, length, map, take, drop, get_or, sym, ap, subst, ◌∙◌, inl, inr, arith}
+use Rattle.std.proofs.Common.{◌≡◌, ◌+◌, ◌-◌, ◌<◌, ◌≤◌, ℕ, List, [], ◌∷◌, ◌++◌, length, map, take, drop, get_or, sym}
+use Rattle.std.proofs.Common.{ap, subst, ◌∙◌, inl, inr, arith}
 use Rattle.std.proofs.Math.ListN.{get_or-append}
 use Rattle.std.proofs.lemmas.Bool.{cases_lt}
 use Rattle.std.proofs.lemmas.List.{append-nil, drop-append-le, get_or_push, length-append, length-drop, take-append-le}
@@ -54,7 +55,8 @@ held_stays r old new held on h = record {
 
 -- a line of a fate is one without limits
 module _ (asks : Bool) (top : ℕ) (octets : List ℕ) (ranges : Ranges) where
-  line_bare : (fate : Fate) (line : RpkiLine) → IsLineOf asks top octets fate ranges line → IsLineOf asks top octets fate ranges (but_for_limits line)
+  line_bare : (fate : Fate) (line : RpkiLine) → IsLineOf asks top octets fate ranges line →
+      IsLineOf asks top octets fate ranges (but_for_limits line)
   line_bare unseen line h = ap but_for_limits h
   line_bare anchor line h = ap but_for_limits h
   line_bare (accepted above j) line h = (
@@ -70,9 +72,11 @@ module _ (asks : Bool) (top : ℕ) (octets : List ℕ) (ranges : Ranges) where
   line_bare neither line h = ap but_for_limits h
 
   -- and tells limits where these are added
-  pub line_with : (fate : Fate) (r : Reached) (line told : RpkiLine) → IsLineOf asks top octets fate ranges line → but_for_limits told ≡ but_for_limits line → TellsReached r told
+  pub line_with : (fate : Fate) (r : Reached) (line told : RpkiLine) → IsLineOf asks top octets fate ranges line →
+      but_for_limits told ≡ but_for_limits line → TellsReached r told
       → IsLineWith asks top octets fate r ranges told
-  line_with fate r line told h same tells = (subst (λ (l : RpkiLine). IsLineOf asks top octets fate ranges l) (sym same) (line_bare fate line h), tells)
+  line_with fate r line told h same tells =
+      (subst (λ (l : RpkiLine). IsLineOf asks top octets fate ranges l) (sym same) (line_bare fate line h), tells)
 
 module _ (asks : Bool) (top : ℕ) (old new : Ranges) (on : HaveGrown old new) where
   line_stays : (octets : List ℕ) (fate : Fate) (line : RpkiLine)
@@ -96,9 +100,11 @@ module _ (asks : Bool) (top : ℕ) (old new : Ranges) (on : HaveGrown old new) w
   stays_with octets fate r line h = (line_stays octets fate (but_for_limits line) h.0, h.1)
 
   -- one line more
-  pub lines_more : (strings : List (List ℕ)) (fate : ℕ → Fate) (reached : ℕ → Reached) (n : ℕ) (it told : ToldLines) (line : RpkiLine)
+  pub lines_more : (strings : List (List ℕ)) (fate : ℕ → Fate) (reached : ℕ → Reached) (n : ℕ) (it told : ToldLines)
+      (line : RpkiLine)
       → it.ranges ≡ old → told.ranges ≡ new → told.lines.items ≡ it.lines.items ++ line ∷ []
-      → AreLinesOf asks top strings fate reached n it → IsLineWith asks top (octets_at strings n) (fate n) (reached n) new line
+      → AreLinesOf asks top strings fate reached n it →
+      IsLineWith asks top (octets_at strings n) (fate n) (reached n) new line
       → AreLinesOf asks top strings fate reached (n + 1) told
   lines_more strings fate reached n it told line were are pushed h is =
       let size = length-append it.lines.items (line ∷ []) in
@@ -107,21 +113,27 @@ module _ (asks : Bool) (top : ℕ) (old new : Ranges) (on : HaveGrown old new) w
       record {
         count_is = all;
         line_is = λ place d low.
-            subst (λ (r : Ranges). IsLineWith asks top (octets_at strings place) (fate place) (reached place) r (get_or told.lines.items place d)) (sym are)
-            (subst (λ (l : List RpkiLine). IsLineWith asks top (octets_at strings place) (fate place) (reached place) new (get_or l place d)) (sym pushed)
+            subst (λ (r : Ranges). IsLineWith asks top (octets_at strings place) (fate place) (reached place) r
+            (get_or told.lines.items place d)) (sym are)
+            (subst (λ (l : List RpkiLine). IsLineWith asks top (octets_at strings place) (fate place)
+            (reached place) new (get_or l place d)) (sym pushed)
             (elim (cases_lt place n) [
               | inl before ↦
                   let within : place < length it.lines.items = omega (arith, before, count) in
-                  subst (λ (l : RpkiLine). IsLineWith asks top (octets_at strings place) (fate place) (reached place) new l)
+                  subst (λ (l : RpkiLine). IsLineWith asks top (octets_at strings place) (fate place)
+                  (reached place) new l)
                   (sym (get_or-append it.lines.items (line ∷ []) d place within))
                   (stays_with (octets_at strings place) (fate place) (reached place) (get_or it.lines.items place d)
-                  (subst (λ (r : Ranges). IsLineWith asks top (octets_at strings place) (fate place) (reached place) r (get_or it.lines.items place d)) were
+                  (subst (λ (r : Ranges). IsLineWith asks top (octets_at strings place) (fate place) (reached place)
+                  r (get_or it.lines.items place d)) were
                   (h.line_is place d before)))
               | inr behind ↦
                   let same : place ≡ n = omega (arith, low, behind) in
                   let here : length it.lines.items ≡ place = count ∙ sym same in
-                  subst (λ (l : RpkiLine). IsLineWith asks top (octets_at strings place) (fate place) (reached place) new l)
+                  subst (λ (l : RpkiLine). IsLineWith asks top (octets_at strings place) (fate place)
+                  (reached place) new l)
                   (sym (get_or_push it.lines.items line d place here))
-                  (subst (λ (m : ℕ). IsLineWith asks top (octets_at strings m) (fate m) (reached m) new line) (sym same) is)
+                  (subst (λ (m : ℕ). IsLineWith asks top (octets_at strings m) (fate m) (reached m) new line)
+                  (sym same) is)
             ]));
       }

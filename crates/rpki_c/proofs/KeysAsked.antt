@@ -11,16 +11,22 @@ use Rattle.rpki_c.specs.declared.refusal.Refusal.{Refusal}
 use Rattle.rpki_c.specs.declared.refusal.Refusal.TheVariants.{UnusedKey}
 
 -- the answer of an accepted path is that of its names
-pub named_answer : (x : Context) (q : RpkiQuestion) (t : Terms) (path : PathStrings) (judged : Judged) (r : Result Judged Refusal) → AnswersTrusted x q t path (Ok judged)
-    → IfOk r (λ it. (it ≡ judged) × AreChainedIf t.asks_names path) → IfErr r (IsOtherName t.asks_names path) → AnswersNamed x q t path r
-named_answer x q t path judged (Ok it) trusted chained other = inr (subst (λ (j : Judged). AnswersTrusted x q t path (Ok j)) (sym chained.0) trusted, chained.1)
+pub named_answer : (x : Context) (q : RpkiQuestion) (t : Terms) (path : PathStrings) (judged : Judged)
+    (r : Result Judged Refusal) → AnswersTrusted x q t path (Ok judged)
+    → IfOk r (λ it. (it ≡ judged) × AreChainedIf t.asks_names path) → IfErr r (IsOtherName t.asks_names path) →
+    AnswersNamed x q t path r
+named_answer x q t path judged (Ok it) trusted chained other =
+    inr (subst (λ (j : Judged). AnswersTrusted x q t path (Ok j)) (sym chained.0) trusted, chained.1)
 named_answer x q t path judged (Err e) trusted chained other = inl (other, (judged, trusted))
 
 -- the answer of an accepted path is that of its last key
-pub keyed_answer : (x : Context) (q : RpkiQuestion) (t : Terms) (path : PathStrings) (judged : Judged) (r : Result Judged Refusal) → AnswersNamed x q t path (Ok judged)
-    → IfOk r (λ it. (it ≡ judged) × HasKeyAsked t.asks_key judged) → IfErr r (λ e. (e ≡ UnusedKey) × (HasKeyAsked t.asks_key judged → ⊥)) → AnswersKeyed x q t path r
+pub keyed_answer : (x : Context) (q : RpkiQuestion) (t : Terms) (path : PathStrings) (judged : Judged)
+    (r : Result Judged Refusal) → AnswersNamed x q t path (Ok judged)
+    → IfOk r (λ it. (it ≡ judged) × HasKeyAsked t.asks_key judged) →
+    IfErr r (λ e. (e ≡ UnusedKey) × (HasKeyAsked t.asks_key judged → ⊥)) → AnswersKeyed x q t path r
 keyed_answer x q t path judged (Ok it) trusted asked unused = inr (
   subst (λ (j : Judged). AnswersNamed x q t path (Ok j)) (sym asked.0) trusted,
   subst (λ (j : Judged). HasKeyAsked t.asks_key j) (sym asked.0) asked.1,
 )
-keyed_answer x q t path judged (Err e) trusted asked unused = inl (ap (λ (f : Refusal). Err f) unused.0, (judged, trusted, unused.1))
+keyed_answer x q t path judged (Err e) trusted asked unused =
+    inl (ap (λ (f : Refusal). Err f) unused.0, (judged, trusted, unused.1))

@@ -1,6 +1,7 @@
 -- The keys of strings, gathered from one certificate after the other.
 use Rattle.std.specs.Prelude.{Any, Contains, Option, Some, None, map}
-use Rattle.std.proofs.Common.{◌≡◌, ◌+◌, ◌<◌, ◌⊎◌, ℕ, zero, suc, List, [], ◌∷◌, ◌++◌, append_assoc, get_or, length, take, refl, sym, ap, subst, ◌∙◌, inl, inr, arith}
+use Rattle.std.proofs.Common.{◌≡◌, ◌+◌, ◌<◌, ◌⊎◌, ℕ, zero, suc, List, [], ◌∷◌, ◌++◌, append_assoc, get_or, length}
+use Rattle.std.proofs.Common.{take, refl, sym, ap, subst, ◌∙◌, inl, inr, arith}
 use Rattle.std.proofs.lemmas.List.{take_more}
 use Rattle.std.proofs.lemmas.List.Elements.{Contains-append_cases, Contains-append_left, Contains-append_right}
 use Rattle.rpki_der.specs.Values.{IsUnambiguous}
@@ -17,8 +18,10 @@ use Rattle.rpki_c.specs.Verdicts.{IsKeyIn, all_strings}
 
 module _ (P : List ℕ → Type 0) where
   any_push : (strings : List (List ℕ)) (octets : List ℕ) → Any P strings ⊎ P octets → Any P (strings ++ octets ∷ [])
-  any_push strings octets (inl (k, s, low, is, p)) = let (j, below, at) = Contains-append_left strings (octets ∷ []) s (k, low, is) in (j, s, below, at, p)
-  any_push strings octets (inr p) = let (j, below, at) = Contains-append_right strings (octets ∷ []) octets (0, omega arith, refl) in (j, octets, below, at, p)
+  any_push strings octets (inl (k, s, low, is, p)) = let (j, below, at) = Contains-append_left strings (octets ∷ [])
+      s (k, low, is) in (j, s, below, at, p)
+  any_push strings octets (inr p) = let (j, below, at) = Contains-append_right strings (octets ∷ []) octets
+      (0, omega arith, refl) in (j, octets, below, at, p)
 
   any_cases : (strings : List (List ℕ)) (octets : List ℕ) → Any P (strings ++ octets ∷ []) → Any P strings ⊎ P octets
   any_cases strings octets (k, s, low, is, p) = elim (Contains-append_cases strings (octets ∷ []) s (k, low, is)) [
@@ -40,22 +43,31 @@ named_back None key (k, low, is) = absurd (omega (arith, low))
 named_back (Some j) key (zero, low, is) = ap (λ (l : List ℕ). Some l) is
 named_back (Some j) key (suc k, low, is) = absurd (omega (arith, low))
 
-module _ (law : IsUnambiguous IsCertificate) (c : CertFields) (octets : List ℕ) (begins : Means IsCertificate c octets) where
+module _ (law : IsUnambiguous IsCertificate) (c : CertFields) (octets : List ℕ)
+    (begins : Means IsCertificate c octets) where
   keys_there : (key : List ℕ) → IsKeyIn key octets → Contains (keys_in c) key
   keys_there key (d, other, is) =
       let same = one_meant IsCertificate law d c octets other begins in
       elim is [
-        | inl own ↦ (0, omega arith, sym (ap (λ (f : CertFields). f.fields.extensions.subject_key_identifier) same) ∙ own)
-        | inr named ↦ Contains-append_right (c.fields.extensions.subject_key_identifier ∷ []) (key_named c.fields.extensions.authority_key_identifier) key
-            (named_there c.fields.extensions.authority_key_identifier key (sym (ap (λ (f : CertFields). f.fields.extensions.authority_key_identifier) same) ∙ named))
+        | inl own ↦ (
+          0,
+          omega arith,
+          sym (ap (λ (f : CertFields). f.fields.extensions.subject_key_identifier) same) ∙ own,
+        )
+        | inr named ↦ Contains-append_right (c.fields.extensions.subject_key_identifier ∷ [])
+            (key_named c.fields.extensions.authority_key_identifier) key
+            (named_there c.fields.extensions.authority_key_identifier key
+            (sym (ap (λ (f : CertFields). f.fields.extensions.authority_key_identifier) same) ∙ named))
       ]
 
   keys_back : (key : List ℕ) → Contains (keys_in c) key → IsKeyIn key octets
   keys_back key (zero, low, is) = (c, begins, inl is)
-  keys_back key (suc k, low, is) = (c, begins, inr (named_back c.fields.extensions.authority_key_identifier key (k, omega (arith, low), is)))
+  keys_back key (suc k, low, is) =
+      (c, begins, inr (named_back c.fields.extensions.authority_key_identifier key (k, omega (arith, low), is)))
 
   -- those of one certificate more
-  pub keys_more : (strings keys : List (List ℕ)) → AreKeysOf strings keys → AreKeysOf (strings ++ octets ∷ []) (keys ++ keys_in c)
+  pub keys_more : (strings keys : List (List ℕ)) → AreKeysOf strings keys →
+      AreKeysOf (strings ++ octets ∷ []) (keys ++ keys_in c)
   keys_more strings keys are key = (
     (λ there. any_push (IsKeyIn key) strings octets (elim (Contains-append_cases keys (keys_in c) key there) [
       | inl before ↦ inl ((are key).0 before)
@@ -68,7 +80,8 @@ module _ (law : IsUnambiguous IsCertificate) (c : CertFields) (octets : List ℕ
   )
 
 -- a string that begins with no certificate has none
-pub keys_same : (octets : List ℕ) → ((c : CertFields) → Means IsCertificate c octets → ⊥) → (strings keys : List (List ℕ)) → AreKeysOf strings keys → AreKeysOf (strings ++ octets ∷ []) keys
+pub keys_same : (octets : List ℕ) → ((c : CertFields) → Means IsCertificate c octets → ⊥) →
+    (strings keys : List (List ℕ)) → AreKeysOf strings keys → AreKeysOf (strings ++ octets ∷ []) keys
 keys_same octets none strings keys are key = (
   (λ there. any_push (IsKeyIn key) strings octets (inl ((are key).0 there))),
   (λ some. elim (any_cases (IsKeyIn key) strings octets some) [
@@ -77,7 +90,9 @@ keys_same octets none strings keys are key = (
   ]),
 )
 
-below_strings : (cas : List (List ℕ)) (end : Option Last) → map (λ (s : Candidate). s.octets) (members_below cas end ++ router_candidates (last_router end)) ≡ cas ++ last_strings end
+below_strings : (cas : List (List ℕ)) (end : Option Last) →
+    map (λ (s : Candidate). s.octets) (members_below cas end ++ router_candidates (last_router end)) ≡ cas ++
+    last_strings end
 below_strings [] None = refl
 below_strings [] (Some (last.Ee octets)) = refl
 below_strings [] (Some (last.DetachedEe octets)) = refl
@@ -85,11 +100,14 @@ below_strings [] (Some (last.Router octets)) = refl
 below_strings (ca ∷ cas) end = ap (λ (ss : List (List ℕ)). ca ∷ ss) (below_strings cas end)
 
 -- the strings of a path are those of its certificates, one after the other
-pub strings_are : (anchor : List ℕ) (cas : List (List ℕ)) (end : Option Last) → all_strings (path_strings anchor cas end) ≡ ((anchor ∷ []) ++ cas) ++ last_strings end
+pub strings_are : (anchor : List ℕ) (cas : List (List ℕ)) (end : Option Last) →
+    all_strings (path_strings anchor cas end) ≡ ((anchor ∷ []) ++ cas) ++ last_strings end
 strings_are anchor cas end = ap (λ (ss : List (List ℕ)). anchor ∷ ss) (below_strings cas end)
 
 -- one string more of others
-pub next_strings : (strings others : List (List ℕ)) (i : ℕ) (octets : List ℕ) → i < length others → octets ≡ get_or others i [] → (strings ++ take i others) ++ octets ∷ [] ≡ strings ++ take (i + 1) others
+pub next_strings : (strings others : List (List ℕ)) (i : ℕ) (octets : List ℕ) → i < length others →
+    octets ≡ get_or others i [] → (strings ++ take i others) ++ octets ∷ [] ≡ strings ++ take (i + 1) others
 next_strings strings others i octets within is =
     append_assoc strings (take i others) (octets ∷ [])
-    ∙ ap (λ (ss : List (List ℕ)). strings ++ ss) (ap (λ (o : List ℕ). take i others ++ o ∷ []) is ∙ sym (take_more others i [] within))
+    ∙ ap (λ (ss : List (List ℕ)). strings ++ ss)
+    (ap (λ (o : List ℕ). take i others ++ o ∷ []) is ∙ sym (take_more others i [] within))

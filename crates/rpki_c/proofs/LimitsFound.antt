@@ -1,10 +1,12 @@
 -- From the limits that a walk told to those at the certificate of each string.
 use Rattle.std.specs.List.{AllByRecursion}
 use Rattle.std.specs.Prelude.{◌↔◌, ◌==◌, Bool, Any, Option, None, Some, fold, if◌then◌else◌, min}
-use Rattle.std.proofs.Common.{◌≡◌, ◌<◌, ◌≤◌, ◌⊎◌, ℕ, zero, suc, List, [], ◌∷◌, ◌++◌, length, get_or, append_assoc, ◌∙◌, refl, sym, ap, subst, inl, inr, arith}
+use Rattle.std.proofs.Common.{◌≡◌, ◌<◌, ◌≤◌, ◌⊎◌, ℕ, zero, suc, List, [], ◌∷◌, ◌++◌, length, get_or, append_assoc}
+use Rattle.std.proofs.Common.{◌∙◌, refl, sym, ap, subst, inl, inr, arith}
 use Rattle.std.proofs.lemmas.Bool.{cases_lt, cases_eq, eq-eqb, ne_eqb}
 use Rattle.std.proofs.lemmas.List.{append-nil, get_or_past, length-map}
-use Rattle.std.proofs.lemmas.List.Elements.{Contains-append_cases, Contains-append_left, Contains-append_right, length_all_zip}
+use Rattle.std.proofs.lemmas.List.Elements.{Contains-append_cases, Contains-append_left, Contains-append_right}
+use Rattle.std.proofs.lemmas.List.Elements.{length_all_zip}
 use Rattle.rpki_der.specs.Values.{IsUnambiguous}
 use Rattle.rpki_der.proofs.Formats.{one_meant}
 use Rattle.rpki_ext.specs.Kinds.{Means}
@@ -31,10 +33,12 @@ use Rattle.rpki_c.proofs.SortedMore.{filed_at}
 
 module _ (P : LimitedCa → Type 0) where
   any_front : (ls : List LimitedCa) (l : LimitedCa) → Any P ls → Any P (ls ++ l ∷ [])
-  any_front ls l (k, m, low, is, p) = let (j, below, at) = Contains-append_left ls (l ∷ []) m (k, low, is) in (j, m, below, at, p)
+  any_front ls l (k, m, low, is, p) = let (j, below, at) = Contains-append_left ls (l ∷ []) m (k, low, is) in
+      (j, m, below, at, p)
 
   any_last : (ls : List LimitedCa) (l : LimitedCa) → P l → Any P (ls ++ l ∷ [])
-  any_last ls l p = let (j, below, at) = Contains-append_right ls (l ∷ []) l (0, omega arith, refl) in (j, l, below, at, p)
+  any_last ls l p = let (j, below, at) = Contains-append_right ls (l ∷ []) l (0, omega arith, refl) in
+      (j, l, below, at, p)
 
   any_split : (ls : List LimitedCa) (l : LimitedCa) → Any P (ls ++ l ∷ []) → Any P ls ⊎ P l
   any_split ls l (k, m, low, is, p) = elim (Contains-append_cases ls (l ∷ []) m (k, low, is)) [
@@ -53,7 +57,8 @@ module _ (Of : LimitedCa → Type 0) (before : List LimitedCa) (l : LimitedCa) w
   IsDeep m = Of m × (m.limit ≡ Depth)
 
   -- one that needs no number of steps that is known changes nothing
-  need_same : ((n : ℕ) → IsShort (Some n) l → ⊥) → (o : Option ℕ) → IsLeastNeed Of before o → IsLeastNeed Of (before ++ l ∷ []) o
+  need_same : ((n : ℕ) → IsShort (Some n) l → ⊥) → (o : Option ℕ) → IsLeastNeed Of before o →
+      IsLeastNeed Of (before ++ l ∷ []) o
   need_same none None h = λ n there. elim (any_split (IsShort (Some n)) before l there) [
     | inl front ↦ h n front
     | inr last ↦ none n last
@@ -67,7 +72,8 @@ module _ (Of : LimitedCa → Type 0) (before : List LimitedCa) (l : LimitedCa) w
   )
 
   -- of two numbers the lesser
-  need_lesser : (n : ℕ) → Of l → l.limit ≡ steps (Some n) → (o : Option ℕ) → IsLeastNeed Of before o → IsLeastNeed Of (before ++ l ∷ []) (lesser (Some n) o)
+  need_lesser : (n : ℕ) → Of l → l.limit ≡ steps (Some n) → (o : Option ℕ) → IsLeastNeed Of before o →
+      IsLeastNeed Of (before ++ l ∷ []) (lesser (Some n) o)
   need_lesser n of is None h = (
     any_last (IsShort (Some n)) before l (of, is),
     λ m there. elim (any_split (IsShort (Some m)) before l there) [
@@ -79,7 +85,8 @@ module _ (Of : LimitedCa → Type 0) (before : List LimitedCa) (l : LimitedCa) w
     elim (cases_lt n k) [
       | inl low ↦
           let e : n ≡ min n k = omega (arith, low) in
-          subst (λ (m : ℕ). IsShortAmong Of (before ++ l ∷ []) (Some m)) e (any_last (IsShort (Some n)) before l (of, is))
+          subst (λ (m : ℕ). IsShortAmong Of (before ++ l ∷ []) (Some m)) e
+          (any_last (IsShort (Some n)) before l (of, is))
       | inr high ↦
           let e : k ≡ min n k = omega (arith, high) in
           subst (λ (m : ℕ). IsShortAmong Of (before ++ l ∷ []) (Some m)) e (any_front (IsShort (Some k)) before l h.0)
@@ -111,7 +118,8 @@ module _ (Of : LimitedCa → Type 0) (before : List LimitedCa) (l : LimitedCa) w
   }
 
   -- at this one
-  there_as : Of l → (limit : Limit) → l.limit ≡ limit → (r : Reached) → AreReachedAt Of before r → AreReachedAt Of (before ++ l ∷ []) (both (of_limit limit) r)
+  there_as : Of l → (limit : Limit) → l.limit ≡ limit → (r : Reached) → AreReachedAt Of before r →
+      AreReachedAt Of (before ++ l ∷ []) (both (of_limit limit) r)
   there_as of Depth is r are = record {
     deep_is = ((λ h. any_last IsDeep before l (of, is)), (λ there. refl));
     short_is = (
@@ -150,20 +158,25 @@ module _ (Of : LimitedCa → Type 0) (place : LimitedCa → ℕ) (p : ℕ) (same
   abbrev step : Reached → LimitedCa → Reached
   step r l = if place l == p then both (of_limit l.limit) r else r
 
-  one_more : (before : List LimitedCa) (l : LimitedCa) (r : Reached) → AreReachedAt Of before r → AreReachedAt Of (before ++ l ∷ []) (step r l)
+  one_more : (before : List LimitedCa) (l : LimitedCa) (r : Reached) → AreReachedAt Of before r →
+      AreReachedAt Of (before ++ l ∷ []) (step r l)
   one_more before l r are = elim (cases_eq (place l) p) [
     | inl is ↦
-        subst (λ (b : Bool). AreReachedAt Of (before ++ l ∷ []) (if b then both (of_limit l.limit) r else r)) (sym (eq-eqb (place l) p is))
+        subst (λ (b : Bool). AreReachedAt Of (before ++ l ∷ []) (if b then both (of_limit l.limit) r else r))
+        (sym (eq-eqb (place l) p is))
         (there_as Of before l ((same l).1 is) l.limit refl r are)
     | inr apart ↦
-        subst (λ (b : Bool). AreReachedAt Of (before ++ l ∷ []) (if b then both (of_limit l.limit) r else r)) (sym (ne_eqb (place l) p apart))
+        subst (λ (b : Bool). AreReachedAt Of (before ++ l ∷ []) (if b then both (of_limit l.limit) r else r))
+        (sym (ne_eqb (place l) p apart))
         (not_there Of before l (λ of. apart ((same l).0 of)) r are)
   ]
 
-  all_more : (before after : List LimitedCa) (r : Reached) → AreReachedAt Of before r → AreReachedAt Of (before ++ after) (fold step r after)
+  all_more : (before after : List LimitedCa) (r : Reached) → AreReachedAt Of before r →
+      AreReachedAt Of (before ++ after) (fold step r after)
   all_more before [] r are = subst (λ (ls : List LimitedCa). AreReachedAt Of ls r) (sym (append-nil before)) are
   all_more before (l ∷ after) r are =
-      subst (λ (ls : List LimitedCa). AreReachedAt Of ls (fold step (step r l) after)) (append_assoc before (l ∷ []) after)
+      subst (λ (ls : List LimitedCa). AreReachedAt Of ls (fold step (step r l) after))
+      (append_assoc before (l ∷ []) after)
       (all_more (before ++ l ∷ []) after (step r l) (one_more before l r are))
 
 -- at first no limit was reached
@@ -175,7 +188,8 @@ nothing_yet Of = record {
 }
 
 -- nor is one where no CA is this one
-none_reached : (Of : LimitedCa → Type 0) (limited : List LimitedCa) → ((l : LimitedCa) → Of l → ⊥) → AreReachedAt Of limited nothing
+none_reached : (Of : LimitedCa → Type 0) (limited : List LimitedCa) → ((l : LimitedCa) → Of l → ⊥) →
+    AreReachedAt Of limited nothing
 none_reached Of limited none = record {
   deep_is = ((λ h. absurd (cc h)), (λ (k, l, low, is, there). absurd (none l there.0)));
   short_is = ((λ h. absurd (cc h)), (λ (needed, (k, l, low, is, there)). absurd (none l there.0)));
@@ -183,13 +197,19 @@ none_reached Of limited none = record {
 }
 
 -- the last of the CAs
-last_is : (certs : List (List ℕ)) (top : ℕ) (above : List ℕ) → last_octets certs (octets_at certs top) above ≡ octets_at certs (ca_at top above)
+last_is : (certs : List (List ℕ)) (top : ℕ) (above : List ℕ) →
+    last_octets certs (octets_at certs top) above ≡ octets_at certs (ca_at top above)
 last_is certs top [] = refl
 last_is certs top (p ∷ above) = last_is certs p above
 
 -- ---- at each string
 
-module _ (w : WalkLines) (sorted : IsSorted w.sorted.now) (law : IsUnambiguous IsCertificate) (are : AreFirstsIn w.sorted.now.folder.certs w.firsts.now) (limited : List LimitedCa) (table : IsTableOf (first_of w.firsts.now w.anchor) (length w.sorted.now.folder.certs) limited w.limits.now) (at_first : AllByRecursion (λ l. first_of w.firsts.now (ca_at w.anchor l.above) ≡ ca_at (first_of w.firsts.now w.anchor) l.above) limited) where
+module _ (w : WalkLines) (sorted : IsSorted w.sorted.now) (law : IsUnambiguous IsCertificate)
+    (are : AreFirstsIn w.sorted.now.folder.certs w.firsts.now) (limited : List LimitedCa)
+    (table : IsTableOf (first_of w.firsts.now w.anchor) (length w.sorted.now.folder.certs) limited w.limits.now)
+    (at_first : AllByRecursion
+    (λ l. first_of w.firsts.now (ca_at w.anchor l.above) ≡ ca_at (first_of w.firsts.now w.anchor) l.above)
+    limited) where
   abbrev certs : List (List ℕ)
   certs = w.sorted.now.folder.certs
 
@@ -203,22 +223,29 @@ module _ (w : WalkLines) (sorted : IsSorted w.sorted.now) (law : IsUnambiguous I
   ca l = ca_at w.anchor l.above
 
   -- a CA is the certificate at a place if and only if both have one first place
-  module _ (p : ℕ) (c : CertFields) (stands : StandsAt certs p c) (octets : List ℕ) (begins : Means IsCertificate c octets) where
+  module _ (p : ℕ) (c : CertFields) (stands : StandsAt certs p c) (octets : List ℕ)
+      (begins : Means IsCertificate c octets) where
     abbrev Of : LimitedCa → Type 0
     Of = IsCaOf certs (octets_at certs w.anchor) octets
 
     first_there : (l : LimitedCa) → Of l → first (ca l) ≡ first p
     first_there l (d, here, last) =
         let same : d ≡ c = one_meant IsCertificate law d c octets here begins in
-        let other : StandsAt certs (ca l) c = subst (λ (e : CertFields). StandsAt certs (ca l) e) same (subst (λ (o : List ℕ). Means IsCertificate d o) (last_is certs w.anchor l.above) last) in
+        let other : StandsAt certs (ca l) c = subst (λ (e : CertFields). StandsAt certs (ca l) e) same
+        (subst (λ (o : List ℕ). Means IsCertificate d o) (last_is certs w.anchor l.above) last) in
         first_same law certs w.firsts.now are (ca l) p c other stands
 
     one_there : (l : LimitedCa) (low : ca l < length certs) → first (ca l) ≡ first p → Of l
     one_there l low is =
         let one = (first_is law certs w.firsts.now are (ca l) low).one in
-        let filed : StandsAt certs (first (ca l)) c = subst (λ (n : ℕ). StandsAt certs n c) (sym is) (stands_first law certs w.firsts.now are p c stands) in
-        let same : one.0 ≡ c = one_meant IsCertificate law one.0 c (octets_at certs (first (ca l))) one.2 filed in
-        (c, begins, subst (λ (o : List ℕ). Means IsCertificate c o) (sym (last_is certs w.anchor l.above)) (subst (λ (e : CertFields). StandsAt certs (ca l) e) same one.1))
+        let filed : StandsAt certs (first (ca l)) c = subst (λ (n : ℕ). StandsAt certs n c) (sym is)
+        (stands_first law certs w.firsts.now are p c stands) in
+        let same : one.0 ≡ c = one_meant IsCertificate law one.0 c (octets_at certs (first (ca l))) one.2 filed in (
+          c,
+          begins,
+          subst (λ (o : List ℕ). Means IsCertificate c o) (sym (last_is certs w.anchor l.above))
+              (subst (λ (e : CertFields). StandsAt certs (ca l) e) same one.1),
+        )
 
     inside : first p < length certs
     inside = inside_at certs c (first p) (stands_first law certs w.firsts.now are p c stands)
@@ -227,31 +254,43 @@ module _ (w : WalkLines) (sorted : IsSorted w.sorted.now) (law : IsUnambiguous I
     beyond n high =
         let table_is = are.2.each in
         get_or_past w.firsts.now.firsts.items n n
-        (omega (arith, high, length_all_zip IsCertificateOctets certs are.0 are.1, ap length table_is, length-map w.firsts.now.firsts.items (λ (q : ℕ). Some q), length-map are.0 (first_from 0 are.0)))
+        (omega (
+          arith,
+          high,
+          length_all_zip IsCertificateOctets certs are.0 are.1,
+          ap length table_is,
+          length-map w.firsts.now.firsts.items (λ (q : ℕ). Some q),
+          length-map are.0 (first_from 0 are.0),
+        ))
 
     same_place : (l : LimitedCa) → Of l ↔ (first (ca l) ≡ first p)
     same_place l = (
       first_there l,
       λ is. elim (cases_lt (ca l) (length certs)) [
         | inl low ↦ one_there l low is
-        | inr high ↦ let itself = beyond (ca l) high in let low = inside in absurd (omega (arith, high, is, itself, low))
+        | inr high ↦ let itself = beyond (ca l) high in let low = inside in
+            absurd (omega (arith, high, is, itself, low))
       ],
     )
 
     cert_found : AreReachedAt Of limited (cert_reached w p)
     cert_found =
-        subst (λ (r : Reached). AreReachedAt Of limited r) (sym (table.each (first p) (omega (arith, inside)) ∙ first_reached w.firsts.now w.anchor (first p) limited at_first nothing))
+        subst (λ (r : Reached). AreReachedAt Of limited r)
+        (sym (table.each (first p) (omega (arith, inside)) ∙ first_reached w.firsts.now w.anchor (first p)
+        limited at_first nothing))
         (all_more Of (λ l. first (ca l)) (first p) same_place [] limited nothing (nothing_yet Of))
 
   module _ (anchor : List ℕ) (there : octets_at certs w.anchor ≡ anchor) (i : ℕ) (low : i < length strings) where
     abbrev IsHere : LimitedCa → Type 0
     IsHere = IsCaOf certs anchor (octets_at strings i)
 
-    added_found : (a : Added) → get_or w.sorted.now.added.items i Neither ≡ a → IsAddedAs (octets_at strings i) a → AreReachedAt IsHere limited (added_reached w a)
+    added_found : (a : Added) → get_or w.sorted.now.added.items i Neither ≡ a → IsAddedAs (octets_at strings i) a →
+        AreReachedAt IsHere limited (added_reached w a)
     added_found (Certificate p) is (c, begins) =
         let filed = filed_at w.sorted.now sorted i p low is in
         let stands : StandsAt certs p c = subst (λ (o : List ℕ). Means IsCertificate c o) (sym filed.1) begins in
-        subst (λ (o : List ℕ). AreReachedAt (IsCaOf certs o (octets_at strings i)) limited (cert_reached w p)) there (cert_found p c stands (octets_at strings i) begins)
+        subst (λ (o : List ℕ). AreReachedAt (IsCaOf certs o (octets_at strings i)) limited (cert_reached w p)) there
+        (cert_found p c stands (octets_at strings i) begins)
     added_found list_added is says = none_reached IsHere limited (λ l (c, begins, last). says.1.no_certificate c begins)
     added_found Neither is says = none_reached IsHere limited (λ l (c, begins, last). says.0 c begins)
 

@@ -1,20 +1,27 @@
 -- What holds of the items of a list, one more at a time.
-use Rattle.std.proofs.Common.{◌≡◌, ℕ, ◌+◌, ◌<◌, zero, suc, List, [], ◌∷◌, ◌++◌, length, map, take, get_or, sym, subst, arith}
+use Rattle.std.proofs.Common.{◌≡◌, ℕ, ◌+◌, ◌<◌, zero, suc, List, [], ◌∷◌, ◌++◌, length, map, take, get_or, sym}
+use Rattle.std.proofs.Common.{subst, arith}
 use Rattle.std.specs.List.{AllByRecursion}
 use Rattle.std.proofs.lemmas.List.{take_more, map-append}
 
-pub map_more : {A B : Type 0} (f : A → B) (xs : List A) (i : ℕ) (d : A) → i < length xs → map f (take (i + 1) xs) ≡ map f (take i xs) ++ f (get_or xs i d) ∷ []
-map_more f xs i d within = subst (λ l. map f l ≡ map f (take i xs) ++ f (get_or xs i d) ∷ []) (sym (take_more xs i d within)) (map-append f (take i xs) (get_or xs i d ∷ []))
+pub map_more : {A B : Type 0} (f : A → B) (xs : List A) (i : ℕ) (d : A) → i < length xs →
+    map f (take (i + 1) xs) ≡ map f (take i xs) ++ f (get_or xs i d) ∷ []
+map_more f xs i d within = subst (λ l. map f l ≡ map f (take i xs) ++ f (get_or xs i d) ∷ [])
+    (sym (take_more xs i d within)) (map-append f (take i xs) (get_or xs i d ∷ []))
 
-pub all_push : {A : Type 0} (P : A → Type 0) (xs : List A) (x : A) → AllByRecursion P xs → P x → AllByRecursion P (xs ++ x ∷ [])
+pub all_push : {A : Type 0} (P : A → Type 0) (xs : List A) (x : A) → AllByRecursion P xs → P x →
+    AllByRecursion P (xs ++ x ∷ [])
 all_push P [] x all h = (h, tt)
 all_push P (y ∷ ys) x all h = (all.0, all_push P ys x all.1 h)
 
-pub all_more : {A : Type 0} (P : A → Type 0) (xs : List A) (i : ℕ) (d : A) → i < length xs → AllByRecursion P (take i xs) → P (get_or xs i d) → AllByRecursion P (take (i + 1) xs)
-all_more P xs i d within all h = subst (AllByRecursion P) (sym (take_more xs i d within)) (all_push P (take i xs) (get_or xs i d) all h)
+pub all_more : {A : Type 0} (P : A → Type 0) (xs : List A) (i : ℕ) (d : A) → i < length xs →
+    AllByRecursion P (take i xs) → P (get_or xs i d) → AllByRecursion P (take (i + 1) xs)
+all_more P xs i d within all h = subst (AllByRecursion P) (sym (take_more xs i d within))
+    (all_push P (take i xs) (get_or xs i d) all h)
 
 -- where it doesn't hold of one, it doesn't hold of all
-pub not_at : {A : Type 0} (P : A → Type 0) (xs : List A) (i : ℕ) (d : A) → i < length xs → (P (get_or xs i d) → ⊥) → AllByRecursion P xs → ⊥
+pub not_at : {A : Type 0} (P : A → Type 0) (xs : List A) (i : ℕ) (d : A) → i < length xs → (P (get_or xs i d) → ⊥) →
+    AllByRecursion P xs → ⊥
 not_at P [] i d within not all = absurd (omega (arith, within))
 not_at P (x ∷ xs) zero d within not all = not all.0
 not_at P (x ∷ xs) (suc i) d within not all = not_at P xs i d (omega (arith, within)) not all.1

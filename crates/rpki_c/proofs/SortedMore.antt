@@ -1,6 +1,7 @@
 -- One string more, sorted into a folder.
 use Rattle.std.specs.Prelude.{◌⊎◌}
-use Rattle.std.proofs.Common.{◌≡◌, ◌+◌, ◌<◌, ◌≤◌, ℕ, List, [], ◌∷◌, ◌++◌, length, get_or, refl, sym, ap, subst, ◌∙◌, inl, inr, arith}
+use Rattle.std.proofs.Common.{◌≡◌, ◌+◌, ◌<◌, ◌≤◌, ℕ, List, [], ◌∷◌, ◌++◌, length, get_or, refl, sym, ap, subst, ◌∙◌}
+use Rattle.std.proofs.Common.{inl, inr, arith}
 use Rattle.std.proofs.Math.ListN.{get_or-append}
 use Rattle.std.proofs.Math.Nat.{eq-or-lt_of_le}
 use Rattle.std.proofs.Math.Seq.{get_or-append_seam}
@@ -18,18 +19,26 @@ use Rattle.rpki_c.specs.declared.sorting.Sorted.{Sorted}
 
 -- ---- lists
 
-no_list_more : (strings : List (List ℕ)) (lists : List CrlState) (octets : List ℕ) → IsNoList octets → AreListsAmong strings lists → AreListsAmong (strings ++ octets ∷ []) lists
+no_list_more : (strings : List (List ℕ)) (lists : List CrlState) (octets : List ℕ) → IsNoList octets →
+    AreListsAmong strings lists → AreListsAmong (strings ++ octets ∷ []) lists
 no_list_more [] lists octets never h = inl (never, h)
 no_list_more (s ∷ strings) lists octets never h = elim h [
   | inl k ↦ inl (k.0, no_list_more strings lists octets never k.1)
   | inr k ↦ inr (k.0, k.1, k.2, k.3, no_list_more strings k.1 octets never k.4)
 ]
 
-list_more : (strings : List (List ℕ)) (lists : List CrlState) (octets : List ℕ) (l : CrlState) → IsTakenFor octets l → AreListsAmong strings lists → AreListsAmong (strings ++ octets ∷ []) (lists ++ l ∷ [])
+list_more : (strings : List (List ℕ)) (lists : List CrlState) (octets : List ℕ) (l : CrlState) →
+    IsTakenFor octets l → AreListsAmong strings lists → AreListsAmong (strings ++ octets ∷ []) (lists ++ l ∷ [])
 list_more [] lists octets l taken h = inr (l, [], ap (λ (ls : List CrlState). ls ++ l ∷ []) h, taken, refl)
 list_more (s ∷ strings) lists octets l taken h = elim h [
   | inl k ↦ inl (k.0, list_more strings lists octets l taken k.1)
-  | inr k ↦ inr (k.0, k.1 ++ l ∷ [], ap (λ (ls : List CrlState). ls ++ l ∷ []) k.2, k.3, list_more strings k.1 octets l taken k.4)
+  | inr k ↦ inr (
+    k.0,
+    k.1 ++ l ∷ [],
+    ap (λ (ls : List CrlState). ls ++ l ∷ []) k.2,
+    k.3,
+    list_more strings k.1 octets l taken k.4,
+  )
 ]
 
 certificate_no_list : (octets : List ℕ) (c : CertFields) → Means IsCertificate c octets → IsNoList octets
@@ -40,18 +49,26 @@ neither_no_list octets never l taken = never l.list taken.list_is
 
 -- ---- certificates
 
-no_cert_more : (strings certs : List (List ℕ)) (octets : List ℕ) → BeginsNoCertificate octets → AreCertificatesAmong strings certs → AreCertificatesAmong (strings ++ octets ∷ []) certs
+no_cert_more : (strings certs : List (List ℕ)) (octets : List ℕ) → BeginsNoCertificate octets →
+    AreCertificatesAmong strings certs → AreCertificatesAmong (strings ++ octets ∷ []) certs
 no_cert_more [] certs octets never h = inl (never, h)
 no_cert_more (s ∷ strings) certs octets never h = elim h [
   | inl k ↦ inl (k.0, no_cert_more strings certs octets never k.1)
   | inr k ↦ inr (k.0, k.1, k.2, k.3, no_cert_more strings k.1 octets never k.4)
 ]
 
-one_cert_more : (strings certs : List (List ℕ)) (octets : List ℕ) (c : CertFields) → Means IsCertificate c octets → AreCertificatesAmong strings certs → AreCertificatesAmong (strings ++ octets ∷ []) (certs ++ octets ∷ [])
+one_cert_more : (strings certs : List (List ℕ)) (octets : List ℕ) (c : CertFields) → Means IsCertificate c octets →
+    AreCertificatesAmong strings certs → AreCertificatesAmong (strings ++ octets ∷ []) (certs ++ octets ∷ [])
 one_cert_more [] certs octets c means h = inr (c, [], ap (λ (l : List (List ℕ)). l ++ octets ∷ []) h, means, refl)
 one_cert_more (s ∷ strings) certs octets c means h = elim h [
   | inl k ↦ inl (k.0, one_cert_more strings certs octets c means k.1)
-  | inr k ↦ inr (k.0, k.1 ++ octets ∷ [], ap (λ (l : List (List ℕ)). l ++ octets ∷ []) k.2, k.3, one_cert_more strings k.1 octets c means k.4)
+  | inr k ↦ inr (
+    k.0,
+    k.1 ++ octets ∷ [],
+    ap (λ (l : List (List ℕ)). l ++ octets ∷ []) k.2,
+    k.3,
+    one_cert_more strings k.1 octets c means k.4,
+  )
 ]
 
 -- ---- places
@@ -72,7 +89,8 @@ module _ (strings : List (List ℕ)) (octets : List ℕ) where
   old_or_new : (i : ℕ) → i < length more → (i ≡ length strings) ⊎ (i < length strings)
   old_or_new i h = let low : i ≤ length strings = omega (arith, longer) in eq-or-lt_of_le low
 
-  module _ (f : FolderFields) (added : List Added) (origins : List ℕ) (old : AreSorted strings f added origins) (one : Added) where
+  module _ (f : FolderFields) (added : List Added) (origins : List ℕ) (old : AreSorted strings f added origins)
+      (one : Added) where
     abbrev addeds : List Added
     addeds = added ++ one ∷ []
 
@@ -85,10 +103,12 @@ module _ (strings : List (List ℕ)) (octets : List ℕ) where
     new_added : (d : Added) → get_or addeds (length strings) d ≡ one
     new_added d = subst (λ (n : ℕ). get_or addeds n d ≡ one) old.count (get_or-append_seam added one [] d)
 
-    begins_more : IsAddedAs octets one → (i : ℕ) (d : Added) → i < length more → IsAddedAs (octets_at more i) (get_or addeds i d)
+    begins_more : IsAddedAs octets one → (i : ℕ) (d : Added) → i < length more →
+        IsAddedAs (octets_at more i) (get_or addeds i d)
     begins_more says i d h = elim (old_or_new i h) [
       | inl is ↦ subst (λ (n : ℕ). IsAddedAs (octets_at more n) (get_or addeds n d)) (sym is)
-          (subst (λ (o : List ℕ). IsAddedAs o (get_or addeds (length strings) d)) (sym new_string) (subst (λ (a : Added). IsAddedAs octets a) (sym (new_added d)) says))
+          (subst (λ (o : List ℕ). IsAddedAs o (get_or addeds (length strings) d)) (sym new_string)
+          (subst (λ (a : Added). IsAddedAs octets a) (sym (new_added d)) says))
       | inr low ↦ subst (λ (o : List ℕ). IsAddedAs o (get_or addeds i d)) (sym (old_string i low))
           (subst (λ (a : Added). IsAddedAs (octets_at strings i) a) (sym (old_added i d low)) (old.begins i d low))
     ]
@@ -101,12 +121,16 @@ module _ (strings : List (List ℕ)) (octets : List ℕ) where
           let there = old.inside place d low in
           omega (arith, longer, there)
 
-      still_from : (place d : ℕ) → place < length g.certs → octets_at more (get_or origins place d) ≡ octets_at g.certs place
+      still_from : (place d : ℕ) → place < length g.certs →
+          octets_at more (get_or origins place d) ≡ octets_at g.certs place
       still_from place d h =
           let low : place < length f.certs = subst (λ (l : List (List ℕ)). place < length l) same h in
-          old_string (get_or origins place d) (old.inside place d low) ∙ old.came_from place d low ∙ ap (λ (l : List (List ℕ)). octets_at l place) (sym same)
+          old_string (get_or origins place d) (old.inside place d low) ∙ old.came_from place d low ∙
+          ap (λ (l : List (List ℕ)). octets_at l place) (sym same)
 
-      still_placed : ((place : ℕ) → one ≡ Certificate place → ⊥) → (i place : ℕ) (d : Added) → i < length more → get_or addeds i d ≡ Certificate place → (place < length g.certs) × ((e : ℕ) → get_or origins place e ≡ i)
+      still_placed : ((place : ℕ) → one ≡ Certificate place → ⊥) → (i place : ℕ) (d : Added) → i < length more →
+          get_or addeds i d ≡ Certificate place →
+          (place < length g.certs) × ((e : ℕ) → get_or origins place e ≡ i)
       still_placed never i place d h is = elim (old_or_new i h) [
         | inl new ↦ absurd (never place (sym (new_added d) ∙ ap (λ (n : ℕ). get_or addeds n d) (sym new) ∙ is))
         | inr low ↦
@@ -114,37 +138,47 @@ module _ (strings : List (List ℕ)) (octets : List ℕ) where
             (subst (λ (l : List (List ℕ)). place < length l) (sym same) p.0, p.1)
       ]
 
-      other_more : ((place : ℕ) → one ≡ Certificate place → ⊥) → IsAddedAs octets one → BeginsNoCertificate octets → AreListsAmong more g.lists → AreSorted more g addeds origins
+      other_more : ((place : ℕ) → one ≡ Certificate place → ⊥) → IsAddedAs octets one → BeginsNoCertificate octets →
+          AreListsAmong more g.lists → AreSorted more g addeds origins
       other_more never says no_cert lists = record {
         count = count_more;
         origin_count = old.origin_count ∙ ap (λ (l : List (List ℕ)). length l) (sym same);
         inside = still_inside;
-        ascend = λ place other d e less h. old.ascend place other d e less (subst (λ (l : List (List ℕ)). other < length l) same h);
+        ascend = λ place other d e less h. old.ascend place other d e less
+            (subst (λ (l : List (List ℕ)). other < length l) same h);
         came_from = still_from;
         begins = begins_more says;
         placed = still_placed never;
         lists_are = lists;
-        certs_are = subst (λ (l : List (List ℕ)). AreCertificatesAmong more l) (sym same) (no_cert_more strings f.certs octets no_cert old.certs_are);
+        certs_are = subst (λ (l : List (List ℕ)). AreCertificatesAmong more l) (sym same)
+            (no_cert_more strings f.certs octets no_cert old.certs_are);
       }
 
-module _ (strings : List (List ℕ)) (octets : List ℕ) (f g : FolderFields) (added addeds : List Added) (origins : List ℕ) (old : AreSorted strings f added origins) where
+module _ (strings : List (List ℕ)) (octets : List ℕ) (f g : FolderFields) (added addeds : List Added)
+    (origins : List ℕ) (old : AreSorted strings f added origins) where
   -- a string that is taken for a list
-  pub sorted_list : (l : CrlState) → IsTakenFor octets l → g ≡ with_list f l → addeds ≡ added ++ list_added ∷ [] → AreSorted (strings ++ octets ∷ []) g addeds origins
+  pub sorted_list : (l : CrlState) → IsTakenFor octets l → g ≡ with_list f l → addeds ≡ added ++ list_added ∷ [] →
+      AreSorted (strings ++ octets ∷ []) g addeds origins
   sorted_list l taken folder items =
       subst (λ (l : List Added). AreSorted (strings ++ octets ∷ []) g l origins) (sym items)
-      (subst (λ (h : FolderFields). AreSorted (strings ++ octets ∷ []) h (added ++ list_added ∷ []) origins) (sym folder)
-      (other_more strings octets f added origins old list_added (with_list f l) refl (λ place e. cc) (l, taken) taken.no_certificate (list_more strings f.lists octets l taken old.lists_are)))
+      (subst (λ (h : FolderFields). AreSorted (strings ++ octets ∷ []) h (added ++ list_added ∷ []) origins)
+      (sym folder)
+      (other_more strings octets f added origins old list_added (with_list f l) refl (λ place e. cc) (l, taken)
+      taken.no_certificate (list_more strings f.lists octets l taken old.lists_are)))
 
   -- a string that begins with neither
-  pub sorted_neither : BeginsNoCertificate octets → AreNoList octets → g ≡ f → addeds ≡ added ++ Neither ∷ [] → AreSorted (strings ++ octets ∷ []) g addeds origins
+  pub sorted_neither : BeginsNoCertificate octets → AreNoList octets → g ≡ f → addeds ≡ added ++ Neither ∷ [] →
+      AreSorted (strings ++ octets ∷ []) g addeds origins
   sorted_neither no_cert no_list folder items =
       subst (λ (l : List Added). AreSorted (strings ++ octets ∷ []) g l origins) (sym items)
       (subst (λ (h : FolderFields). AreSorted (strings ++ octets ∷ []) h (added ++ Neither ∷ []) origins) (sym folder)
-      (other_more strings octets f added origins old Neither f refl (λ place e. cc) (no_cert, no_list) no_cert (no_list_more strings f.lists octets (neither_no_list octets no_list) old.lists_are)))
+      (other_more strings octets f added origins old Neither f refl (λ place e. cc) (no_cert, no_list) no_cert
+      (no_list_more strings f.lists octets (neither_no_list octets no_list) old.lists_are)))
 
 -- ---- a certificate
 
-module _ (strings : List (List ℕ)) (octets : List ℕ) (f : FolderFields) (added : List Added) (origins : List ℕ) (old : AreSorted strings f added origins) (c : CertFields) (means : Means IsCertificate c octets) where
+module _ (strings : List (List ℕ)) (octets : List ℕ) (f : FolderFields) (added : List Added) (origins : List ℕ)
+    (old : AreSorted strings f added origins) (c : CertFields) (means : Means IsCertificate c octets) where
   abbrev g : FolderFields
   g = with_cert f octets
 
@@ -164,18 +198,23 @@ module _ (strings : List (List ℕ)) (octets : List ℕ) (f : FolderFields) (add
   old_or_last place h = let low : place ≤ length f.certs = omega (arith, more_certs) in eq-or-lt_of_le low
 
   old_origin : (place d : ℕ) → place < length f.certs → get_or froms place d ≡ get_or origins place d
-  old_origin place d h = let e = old.origin_count in get_or-append origins (length strings ∷ []) d place (omega (arith, h, e))
+  old_origin place d h = let e = old.origin_count in
+      get_or-append origins (length strings ∷ []) d place (omega (arith, h, e))
 
   new_origin : (d : ℕ) → get_or froms (length f.certs) d ≡ length strings
-  new_origin d = subst (λ (n : ℕ). get_or froms n d ≡ length strings) old.origin_count (get_or-append_seam origins (length strings) [] d)
+  new_origin d = subst (λ (n : ℕ). get_or froms n d ≡ length strings) old.origin_count
+      (get_or-append_seam origins (length strings) [] d)
 
   cert_inside : (place d : ℕ) → place < length g.certs → get_or froms place d < length (strings ++ octets ∷ [])
   cert_inside place d h = elim (old_or_last place h) [
-    | inl is ↦ let there : get_or froms place d ≡ length strings = ap (λ (n : ℕ). get_or froms n d) is ∙ new_origin d in omega (arith, longer strings octets, there)
-    | inr low ↦ let there = old.inside place d low in let same = old_origin place d low in omega (arith, longer strings octets, there, same)
+    | inl is ↦ let there : get_or froms place d ≡ length strings = ap (λ (n : ℕ). get_or froms n d) is ∙
+        new_origin d in omega (arith, longer strings octets, there)
+    | inr low ↦ let there = old.inside place d low in let same = old_origin place d low in
+        omega (arith, longer strings octets, there, same)
   ]
 
-  cert_ascend : (place other d e : ℕ) → place < other → other < length g.certs → get_or froms place d < get_or froms other e
+  cert_ascend : (place other d e : ℕ) → place < other → other < length g.certs →
+      get_or froms place d < get_or froms other e
   cert_ascend place other d e less h = elim (old_or_last other h) [
     | inl is ↦
         let before : place < length f.certs = omega (arith, less, is) in
@@ -191,18 +230,24 @@ module _ (strings : List (List ℕ)) (octets : List ℕ) (f : FolderFields) (add
         omega (arith, here, there, later)
   ]
 
-  cert_from : (place d : ℕ) → place < length g.certs → octets_at (strings ++ octets ∷ []) (get_or froms place d) ≡ octets_at g.certs place
+  cert_from : (place d : ℕ) → place < length g.certs → octets_at (strings ++ octets ∷ []) (get_or froms place d) ≡
+      octets_at g.certs place
   cert_from place d h = elim (old_or_last place h) [
-    | inl is ↦ ap (λ (n : ℕ). octets_at (strings ++ octets ∷ []) n) (ap (λ (n : ℕ). get_or froms n d) is ∙ new_origin d) ∙ new_string strings octets
+    | inl is ↦ ap (λ (n : ℕ). octets_at (strings ++ octets ∷ []) n)
+        (ap (λ (n : ℕ). get_or froms n d) is ∙ new_origin d) ∙ new_string strings octets
         ∙ sym (ap (λ (n : ℕ). octets_at g.certs n) is ∙ get_or-append_seam f.certs octets [] [])
-    | inr low ↦ ap (λ (n : ℕ). octets_at (strings ++ octets ∷ []) n) (old_origin place d low) ∙ old_string strings octets (get_or origins place d) (old.inside place d low)
+    | inr low ↦ ap (λ (n : ℕ). octets_at (strings ++ octets ∷ []) n) (old_origin place d low) ∙
+        old_string strings octets (get_or origins place d) (old.inside place d low)
         ∙ old.came_from place d low ∙ sym (get_or-append f.certs (octets ∷ []) [] place low)
   ]
 
-  cert_placed : (i place : ℕ) (d : Added) → i < length (strings ++ octets ∷ []) → get_or (added ++ one ∷ []) i d ≡ Certificate place → (place < length g.certs) × ((e : ℕ) → get_or froms place e ≡ i)
+  cert_placed : (i place : ℕ) (d : Added) → i < length (strings ++ octets ∷ []) →
+      get_or (added ++ one ∷ []) i d ≡ Certificate place →
+      (place < length g.certs) × ((e : ℕ) → get_or froms place e ≡ i)
   cert_placed i place d h is = elim (old_or_new strings octets i h) [
     | inl new ↦
-        let same : one ≡ Certificate place = sym (new_added strings octets f added origins old one d) ∙ ap (λ (n : ℕ). get_or (added ++ one ∷ []) n d) (sym new) ∙ is in
+        let same : one ≡ Certificate place = sym (new_added strings octets f added origins old one d) ∙
+        ap (λ (n : ℕ). get_or (added ++ one ∷ []) n d) (sym new) ∙ is in
         let at : place ≡ length f.certs = cc in
         (omega (arith, more_certs, at), λ e. ap (λ (n : ℕ). get_or froms n e) at ∙ new_origin e ∙ sym new)
     | inr low ↦
@@ -225,16 +270,19 @@ module _ (strings : List (List ℕ)) (octets : List ℕ) (f : FolderFields) (add
   }
 
   -- a string that begins with a certificate
-  pub sorted_cert : (h : FolderFields) (addeds : List Added) (more_froms : List ℕ) → h ≡ g → addeds ≡ added ++ one ∷ [] → more_froms ≡ froms → AreSorted (strings ++ octets ∷ []) h addeds more_froms
+  pub sorted_cert : (h : FolderFields) (addeds : List Added) (more_froms : List ℕ) → h ≡ g →
+      addeds ≡ added ++ one ∷ [] → more_froms ≡ froms → AreSorted (strings ++ octets ∷ []) h addeds more_froms
   sorted_cert h addeds more_froms folder items from =
       subst (λ (ns : List ℕ). AreSorted (strings ++ octets ∷ []) h addeds ns) (sym from)
       (subst (λ (l : List Added). AreSorted (strings ++ octets ∷ []) h l froms) (sym items)
-      (subst (λ (k : FolderFields). AreSorted (strings ++ octets ∷ []) k (added ++ one ∷ []) froms) (sym folder) cert_more))
+      (subst (λ (k : FolderFields). AreSorted (strings ++ octets ∷ []) k (added ++ one ∷ []) froms) (sym folder)
+      cert_more))
 
 -- ---- places
 
 -- a certificate that was added stands in the folder as the string at its place
-pub filed_at : (s : Sorted) → IsSorted s → (place at : ℕ) → place < length s.strings.now → get_or s.added.items place Neither ≡ Certificate at
+pub filed_at : (s : Sorted) → IsSorted s → (place at : ℕ) → place < length s.strings.now →
+    get_or s.added.items place Neither ≡ Certificate at
     → (at < length s.folder.certs) × (octets_at s.folder.certs at ≡ octets_at s.strings.now place)
 filed_at s sorted place at inside is =
     let placed = sorted.placed place at Neither inside is in

@@ -3,7 +3,8 @@ use Rattle.std.proofs.Common.{◌≢◌, ◌<◌, Bool, true, false, arith, subs
 use Rattle.rpki_der.specs.Times.{IsMoment}
 use Rattle.rpki_c.specs.Questions.{HasNoTerms}
 use Rattle.rpki_c.specs.TimeParts.{moment_of_parts}
-use Rattle.rpki_c.specs.WantedQuestions.{completion_size, trim_number, wanted_size, HasNoCompletionTerms, HasNoWantedTerms}
+use Rattle.rpki_c.specs.WantedQuestions.{completion_size, trim_number, wanted_size, HasNoCompletionTerms}
+use Rattle.rpki_c.specs.WantedQuestions.{HasNoWantedTerms}
 use Rattle.rpki_c.specs.declared.completing.RpkiCompletion.{RpkiCompletion}
 use Rattle.rpki_c.specs.declared.wanted.RpkiWanted.{RpkiWanted}
 use Rattle.rpki_c.proofs.QuestionTerms.{kind_small}

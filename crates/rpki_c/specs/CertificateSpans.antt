@@ -29,7 +29,8 @@ GoesBehind Is old new = (text rest : List ℕ) → Is text → remaining old ≡
 
 -- and from the first place to the second they stand
 abbrev pub StoodAt : (List ℕ → Type 0) → Place → ℕ × ℕ → Type 0
-StoodAt Is old span = (text rest : List ℕ) → Is text → remaining old ≡ text ++ rest → slice_range old.source span.0 span.1 ≡ text
+StoodAt Is old span = (text rest : List ℕ) → Is text → remaining old ≡ text ++ rest →
+    slice_range old.source span.0 span.1 ≡ text
 
 -- an algorithm, and behind it these bits, none of which is unused
 abbrev pub HasBits : List ℕ → List ℕ → Type 0

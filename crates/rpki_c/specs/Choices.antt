@@ -8,7 +8,8 @@ use Rattle.rpki_cert.specs.Certificates.{TbsFields}
 use Rattle.rpki_c.specs.declared.certificates.Family.{Family}
 use Rattle.rpki_c.specs.declared.certificates.Family.TheVariants.{V4, V6}
 use Rattle.rpki_c.specs.declared.certificates.CertUri.{CertUri}
-use Rattle.rpki_c.specs.declared.certificates.CertUri.TheVariants.{CaIssuer, Crl, Repository, Manifest, SignedObject, Notify}
+use Rattle.rpki_c.specs.declared.certificates.CertUri.TheVariants.{CaIssuer, Crl, Repository, Manifest}
+use Rattle.rpki_c.specs.declared.certificates.CertUri.TheVariants.{SignedObject, Notify}
 use Rattle.rpki_c.specs.declared.certificates.CertName.{CertName}
 use Rattle.rpki_c.specs.declared.certificates.CertName.TheVariants.{Issuer, Subject, IssuerText, SubjectText}
 

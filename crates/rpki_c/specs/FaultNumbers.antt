@@ -6,7 +6,8 @@ use Rattle.rpki_ext.specs.declared.inspection.InspectionError.{InspectionError}
 use Rattle.rpki_cert.specs.declared.validation_error.ValidationError.TheVariants as validation
 use Rattle.rpki_cert.specs.declared.verification_error.VerificationError.{VerificationError}
 use Rattle.rpki_crl.specs.declared.revocation_error.RevocationError.{RevocationError}
-use Rattle.rpki_files.specs.FaultTable.{field_number, inspection_fault, locator_fault, reading_fault, revocation_fault, fault_named, verification_fault}
+use Rattle.rpki_files.specs.FaultTable.{field_number, inspection_fault, locator_fault, reading_fault}
+use Rattle.rpki_files.specs.FaultTable.{revocation_fault, fault_named, verification_fault}
 use Rattle.rpki_files.specs.declared.faults.FaultKind.TheVariants as kind
 use Rattle.rpki_issuing.specs.NextLists.{next_list_error_name}
 use Rattle.rpki_issuing.specs.declared.issuing_error.IssuingError.{IssuingError}

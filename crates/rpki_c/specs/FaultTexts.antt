@@ -1,5 +1,6 @@
 -- What callers in C are told of a fault's number: the fault's name and its sentence (own).
-use Rattle.std.specs.Prelude.{◌≡◌, ℕ, ◌-◌, ◌%◌, ◌++◌, ◌&&◌, Bool, if◌then◌else◌, nat_le, nat_lt, List, [], Option, Some, None, option_map}
+use Rattle.std.specs.Prelude.{◌≡◌, ℕ, ◌-◌, ◌%◌, ◌++◌, ◌&&◌, Bool, if◌then◌else◌, nat_le, nat_lt, List, [], Option}
+use Rattle.std.specs.Prelude.{Some, None, option_map}
 use Rattle.rpki_files.specs.FaultTable.{FaultFields, PartFields, fault_numbered, part_numbered}
 use Rattle.rpki_c.specs.Writing.{IsWritten}
 

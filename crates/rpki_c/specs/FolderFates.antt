@@ -18,7 +18,8 @@ use Rattle.rpki_path.specs.declared.path_fault.PathFault.{PathFault}
 use Rattle.rpki_folder.specs.FirstPlaces.{AreFirstsIn, IsFirstIn}
 use Rattle.rpki_folder.specs.Folders.{octets_at, AreOneAt, BeginsNoCertificate}
 use Rattle.rpki_folder.specs.FoundAnchors.{HasNoValid, IsAnchorAt}
-use Rattle.rpki_folder.specs.Walks.{Root, at_anchor, members_at, IsAcceptedAs, IsReached, IsRightOf, Covers, AreAdmitted, IsLookedAt, HasBelow, IsShort}
+use Rattle.rpki_folder.specs.Walks.{Root, at_anchor, members_at, IsAcceptedAs, IsReached, IsRightOf, Covers}
+use Rattle.rpki_folder.specs.Walks.{AreAdmitted, IsLookedAt, HasBelow, IsShort}
 use Rattle.rpki_folder.specs.declared.bounds.Ended.{Ended}
 use Rattle.rpki_folder.specs.declared.firsts.Firsts.{Firsts}
 use Rattle.rpki_folder.specs.declared.bounds.Ended.TheVariants.{TooDeep, OutOfSteps}

@@ -17,7 +17,8 @@ use Rattle.rpki_folder.specs.Walks.{HasOtherName}
 use Rattle.rpki_folder.specs.declared.bounds.Ended.{Ended}
 use Rattle.rpki_folder.specs.declared.bounds.Ended.TheVariants.{Whole, TooDeep, OutOfSteps}
 use Rattle.rpki_c.specs.FaultNumbers.{path_number, refusal_number}
-use Rattle.rpki_c.specs.FolderFates.{Fate, anchor, list, neither, unseen, accepted, rejected, AreListsAmong, HasNoAnchor, NoneHasKey, AreJudged}
+use Rattle.rpki_c.specs.FolderFates.{Fate, anchor, list, neither, unseen, accepted, rejected, AreListsAmong}
+use Rattle.rpki_c.specs.FolderFates.{HasNoAnchor, NoneHasKey, AreJudged}
 use Rattle.rpki_c.specs.FolderLimits.{TellsReached, but_for_limits}
 use Rattle.rpki_c.specs.FolderQuestions.{HasFolderTerms, HasNoFolderTerms}
 use Rattle.rpki_c.specs.HeldRanges.{AreHeldAt, nothing_held}

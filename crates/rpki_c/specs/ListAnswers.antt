@@ -12,7 +12,8 @@ use Rattle.rpki_keys.specs.RsaSignatures.{IsSignedByRsa}
 use Rattle.rpki_issuing.specs.WantedLists.{IsListCompleted, IsListPrepared, IsListWanted, WantedListFields}
 use Rattle.rpki_c.specs.Verdicts.{AreNoList}
 use Rattle.rpki_c.specs.WantedAnswers.{IsAuthorityOf, IsNoAuthority}
-use Rattle.rpki_c.specs.WantedLists.{GivesList, HasListCompletionTerms, HasListTerms, HasNoListCompletionTerms, HasNoListTerms, HaveDates}
+use Rattle.rpki_c.specs.WantedLists.{GivesList, HasListCompletionTerms, HasListTerms, HasNoListCompletionTerms}
+use Rattle.rpki_c.specs.WantedLists.{HasNoListTerms, HaveDates}
 use Rattle.rpki_c.specs.declared.list_completing.RpkiListCompletion.{RpkiListCompletion}
 use Rattle.rpki_c.specs.declared.question.Terms.{Terms}
 use Rattle.rpki_c.specs.declared.unissued.Unissued.{Unissued}

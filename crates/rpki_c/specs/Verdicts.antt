@@ -1,5 +1,6 @@
 -- What is answered to a question about a path, and what is then told of it (own).
-use Rattle.std.specs.Prelude.{◌≡◌, ◌≢◌, ◌⊎◌, ◌<◌, ℕ, Bool, true, false, List, [], ◌∷◌, Any, length, map, sum, get_or, Some, Result, Ok, Err, IfOk, IsTrue}
+use Rattle.std.specs.Prelude.{◌≡◌, ◌≢◌, ◌⊎◌, ◌<◌, ℕ, Bool, true, false, List, [], ◌∷◌, Any, length, map, sum}
+use Rattle.std.specs.Prelude.{get_or, Some, Result, Ok, Err, IfOk, IsTrue}
 use Rattle.rpki_ext.specs.Kinds.{Means}
 use Rattle.rpki_der.specs.Place.{Rejects}
 use Rattle.rpki_parts.specs.Signatures.{Verifies}
@@ -15,7 +16,8 @@ use Rattle.rpki_keys.specs.Locators.{TalFields, IsLocator}
 use Rattle.rpki_path.specs.GivenPaths.{PathStrings, CanEndIn, IsSplitAs}
 use Rattle.rpki_path.specs.Judging.{Judges, IsAcceptedWith, last_key}
 use Rattle.rpki_path.specs.NameChains.{BeginChained, IsUnchained, strings_below}
-use Rattle.rpki_path.specs.LocatedPaths.{IsLocatorOf, BeginsWithKey, BeginsWithNoNumber, BeginsWithNumbers, BeginsWithOtherKey}
+use Rattle.rpki_path.specs.LocatedPaths.{IsLocatorOf, BeginsWithKey, BeginsWithNoNumber, BeginsWithNumbers}
+use Rattle.rpki_path.specs.LocatedPaths.{BeginsWithOtherKey}
 use Rattle.rpki_path.specs.Paths.Steps.{IsUnread}
 use Rattle.rpki_path.specs.declared.judging.Judged.{Judged}
 use Rattle.rpki_c.specs.Questions.{HasTerms, HasNoTerms}
@@ -206,13 +208,15 @@ AnswersPath x q t path r =
 abbrev pub AnswersStrings : Context → RpkiQuestion → Terms → List (List ℕ) → Result Judged Refusal → Type 0
 AnswersStrings x q t strings r =
     Refused (IsUncalled (CanEndIn t.last (length strings) → ⊥)) r
-    ⊎ ((path : PathStrings) × CanEndIn t.last (length strings) × IsSplitAs strings t.last path × AnswersPath x q t path r)
+    ⊎ ((path : PathStrings) × CanEndIn t.last (length strings) × IsSplitAs strings t.last path ×
+    AnswersPath x q t path r)
 
 -- the answer of the question's members
 abbrev pub AnswersMembers : Verifies → RpkiQuestion → Terms → Result Judged Refusal → Type 0
 AnswersMembers verifies q t r =
     Refused (IsUncalled (DontAddUp q.members)) r
-    ⊎ ((strings : List (List ℕ)) × AreStringsOf q.members strings × AnswersStrings (context verifies t.now t.strict) q t strings r)
+    ⊎ ((strings : List (List ℕ)) × AreStringsOf q.members strings × AnswersStrings (context verifies t.now t.strict)
+    q t strings r)
 
 -- the answer to a question, by this relation of signatures
 abbrev pub AnswersQuestion : Verifies → RpkiQuestion → Result Judged Refusal → Type 0

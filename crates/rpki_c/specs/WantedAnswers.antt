@@ -21,8 +21,10 @@ use Rattle.rpki_issuing.specs.PreparedOctets.{IsCompleted, IsPrepared, IsToSign,
 use Rattle.rpki_issuing.specs.declared.wanted.preparing.WantedError.{WantedError}
 use Rattle.rpki_issuing.specs.declared.wanted.preparing.WantedError.TheVariants as wanting
 use Rattle.rpki_issuing.specs.declared.wanted.wanted.Wanted.{Wanted}
-use Rattle.rpki_c.specs.Verdicts.{AnswersQuestion, AreListsNaming, AreStringsOf, DontAddUp, IsKeyOf, IsUncalled, IsUnreadList}
-use Rattle.rpki_c.specs.WantedQuestions.{GivesWanted, HasCompletionTerms, HasNoCompletionTerms, HasNoWantedTerms, HasWantedTerms, IsKeyGiven}
+use Rattle.rpki_c.specs.Verdicts.{AnswersQuestion, AreListsNaming, AreStringsOf, DontAddUp, IsKeyOf, IsUncalled}
+use Rattle.rpki_c.specs.Verdicts.{IsUnreadList}
+use Rattle.rpki_c.specs.WantedQuestions.{GivesWanted, HasCompletionTerms, HasNoCompletionTerms, HasNoWantedTerms}
+use Rattle.rpki_c.specs.WantedQuestions.{HasWantedTerms, IsKeyGiven}
 use Rattle.rpki_c.specs.declared.certificates.CertUri.{CertUri}
 use Rattle.rpki_c.specs.declared.certificates.CertUri.TheVariants as uri
 use Rattle.rpki_c.specs.declared.completing.CompletionTerms.{CompletionTerms}

@@ -1,7 +1,8 @@
 -- What a caller wants of a certificate, by octets, lengths and numbers (own).
 use Rattle.std.specs.Int.{w128, from_be_bytes}
 use Rattle.std.specs.List.{AllByRecursion}
-use Rattle.std.specs.Prelude.{◌≡◌, ◌≢◌, ◌⊎◌, ◌≤◌, ◌+◌, ◌-◌, ◌*◌, ◌/◌, ◌^◌, ℕ, Bool, true, false, List, [], Option, Some, None, map}
+use Rattle.std.specs.Prelude.{◌≡◌, ◌≢◌, ◌⊎◌, ◌≤◌, ◌+◌, ◌-◌, ◌*◌, ◌/◌, ◌^◌, ℕ, Bool, true, false, List, [], Option}
+use Rattle.std.specs.Prelude.{Some, None, map}
 use Rattle.rpki_blocks.specs.Resources.{Resources, missing, inherit}
 use Rattle.rpki_blocks.specs.Sets.{Block, between}
 use Rattle.rpki_blocks.specs.Unions.{IsUnion}

@@ -20,4 +20,5 @@ pub record IsFit (issuer : ResourceFields) (now : Moment) (c : CertFields) : Typ
 -- is fit
 pub record IsIssuable (f : TbsFields) (key : KeyFields) (issuer : ResourceFields) (now : Moment) : Type 0 where
   pub written : CanBeWritten f
-  pub fit : (s : SignatureFields) → s.algorithm ≡ f.algorithm → IsStandInSignature key f.algorithm (encoding f) s.value → IsFit issuer now (made_with f s)
+  pub fit : (s : SignatureFields) → s.algorithm ≡ f.algorithm →
+      IsStandInSignature key f.algorithm (encoding f) s.value → IsFit issuer now (made_with f s)

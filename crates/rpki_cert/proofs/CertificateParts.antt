@@ -13,7 +13,8 @@ use Rattle.rpki_parts.proofs.PartFormats.{algorithm_value, public_key_value, val
 use Rattle.rpki_parts.proofs.SignedFormats.{SignedParts, signed_parts}
 use Rattle.rpki_ext.specs.CertificateExtensions.{GiveFieldsWithin}
 use Rattle.rpki_cert.proofs.Reordering.{all_append}
-use Rattle.rpki_cert.specs.Certificates.{CertFields, IsCertificateWithin, TbsFields, certificate_content_format, tagged_extensions_format, tbs_content_format, version_format}
+use Rattle.rpki_cert.specs.Certificates.{CertFields, IsCertificateWithin, TbsFields, certificate_content_format}
+use Rattle.rpki_cert.specs.Certificates.{tagged_extensions_format, tbs_content_format, version_format}
 
 -- ---- values
 
@@ -55,17 +56,64 @@ pub record TbsParts (depth : ℕ) (f : TbsFields) (content : List ℕ) : Type 0 
   pub extensions_is : IsNested (CONTEXT_CONSTRUCTED 3 ∷ SEQUENCE ∷ []) elements extensions
   pub gives : GiveFieldsWithin depth triples f.extensions
   pub is : content ≡ concat (front ++ extensions ∷ [])
-  pub with_others : (xs : List Extension) (others text : List ℕ) → AreEncodings IsExtension xs others → IsNested (CONTEXT_CONSTRUCTED 3 ∷ SEQUENCE ∷ []) others text → GiveFieldsWithin depth xs f.extensions → (tbs_content_format depth).encodes f (concat front ++ text)
+  pub with_others : (xs : List Extension) (others text : List ℕ) → AreEncodings IsExtension xs others →
+      IsNested (CONTEXT_CONSTRUCTED 3 ∷ SEQUENCE ∷ []) others text → GiveFieldsWithin depth xs f.extensions →
+      (tbs_content_format depth).encodes f (concat front ++ text)
 
 -- it is made of them
 pub tbs_parts : (depth : ℕ) (f : TbsFields) (content : List ℕ) → (tbs_content_format depth).encodes f content → TbsParts depth f content
 unfolding tbs_content_format version_format
-tbs_parts depth f content (version, _, version_is, (serial, _, serial_is, (algorithm, _, algorithm_is, (issuer, _, issuer_is, (validity, _, validity_is, (subject, _, subject_is, (key, extensions, key_is, tagged, from_key), from_subject), from_validity), from_issuer), from_algorithm), from_serial), from_version) =
+tbs_parts depth f content (
+  version,
+  _,
+  version_is,
+  (
+    serial,
+    _,
+    serial_is,
+    (
+      algorithm,
+      _,
+      algorithm_is,
+      (
+        issuer,
+        _,
+        issuer_is,
+        (
+          validity,
+          _,
+          validity_is,
+          (subject, _, subject_is, (key, extensions, key_is, tagged, from_key), from_subject),
+          from_validity,
+        ),
+        from_issuer,
+      ),
+      from_algorithm,
+    ),
+    from_serial,
+  ),
+  from_version,
+) =
     let (inner, (elements, (triples, are, gives), sequence), outer) = tagged in
     let front : List (List ℕ) = version ∷ serial ∷ algorithm ∷ issuer ∷ validity ∷ subject ∷ key ∷ [] in
     record {
       front = front;
-      front_values = (of_enc version_is.2, (of_enc serial_is.number.enc, (algorithm_value f.algorithm algorithm algorithm_is, (of_enc (name_sequence depth issuer_is).sequence, (validity_value f.validity validity validity_is, (of_enc (name_sequence depth subject_is).sequence, (public_key_value f.key key key_is, tt)))))));
+      front_values = (
+        of_enc version_is.2,
+        (
+          of_enc serial_is.number.enc,
+          (
+            algorithm_value f.algorithm algorithm algorithm_is,
+            (
+              of_enc (name_sequence depth issuer_is).sequence,
+              (
+                validity_value f.validity validity validity_is,
+                (of_enc (name_sequence depth subject_is).sequence, (public_key_value f.key key key_is, tt)),
+              ),
+            ),
+          ),
+        ),
+      );
       extensions = extensions;
       elements = elements;
       triples = triples;
@@ -74,12 +122,37 @@ tbs_parts depth f content (version, _, version_is, (serial, _, serial_is, (algor
       gives = gives;
       is = rw (from_version, from_serial, from_algorithm, from_issuer, from_validity, from_subject, from_key, append-nil extensions) refl;
       with_others = λ xs others text are_others (within, outside, (content_is, sequence_is, same)) given.
-          let last : (tagged_extensions_format depth).encodes f.extensions text = (within, (content_is, (xs, rw same are_others, given), sequence_is), outside) in
-          (version, _, version_is, (serial, _, serial_is, (algorithm, _, algorithm_is, (issuer, _, issuer_is, (validity, _, validity_is, (subject, _, subject_is, (key, text, key_is, last, refl), refl), refl), refl), refl), refl), concat_front front text);
+          let last : (tagged_extensions_format depth).encodes f.extensions text =
+          (within, (content_is, (xs, rw same are_others, given), sequence_is), outside) in (
+            version,
+            _,
+            version_is,
+            (
+              serial,
+              _,
+              serial_is,
+              (
+                algorithm,
+                _,
+                algorithm_is,
+                (
+                  issuer,
+                  _,
+                  issuer_is,
+                  (validity, _, validity_is, (subject, _, subject_is, (key, text, key_is, last, refl), refl), refl),
+                  refl,
+                ),
+                refl,
+              ),
+              refl,
+            ),
+            concat_front front text,
+          );
     }
 
 -- all parts are values
-pub all_values : {depth : ℕ} {f : TbsFields} {content : List ℕ} → (t : TbsParts depth f content) → AllByRecursion IsValue (t.front ++ t.extensions ∷ [])
+pub all_values : {depth : ℕ} {f : TbsFields} {content : List ℕ} → (t : TbsParts depth f content) →
+    AllByRecursion IsValue (t.front ++ t.extensions ∷ [])
 all_values t = all_append IsValue t.front (t.extensions ∷ []) t.front_values (of_enc t.extensions_is.1, tt)
 
 -- ---- certificates
@@ -97,4 +170,12 @@ pub record CertificateParts (depth : ℕ) (c : CertFields) (text : List ℕ) : T
 pub certificate_parts : (depth : ℕ) (c : CertFields) (text : List ℕ) → IsCertificateWithin depth c text → CertificateParts depth c text
 unfolding certificate_content_format
 certificate_parts depth c text (content, (signed, (inside, are, inside_enc)), enc) =
-    record { content = content; signed = signed_parts c.signed_data content signed; inside = inside; fields = tbs_parts depth c.fields inside are; inside_enc = inside_enc; enc = enc }
+    record {
+      content = content;
+      signed = signed_parts c.signed_data content signed;
+      inside = inside;
+      fields =
+          tbs_parts depth c.fields inside are;
+      inside_enc = inside_enc;
+      enc = enc;
+    }

@@ -16,10 +16,13 @@ use Rattle.rpki_parts.specs.Keys.{key}
 use Rattle.rpki_parts.specs.Names.{IsName}
 use Rattle.rpki_parts.specs.Validities.{validity}
 use Rattle.rpki_parts.proofs.NameReads.{name_sequence}
-use Rattle.rpki_parts.proofs.PartFormats.{algorithm_alone, algorithm_fits, algorithm_value, public_key_alone, public_key_fits, public_key_value, validity_alone, validity_fits, validity_value}
+use Rattle.rpki_parts.proofs.PartFormats.{algorithm_alone, algorithm_fits, algorithm_value, public_key_alone}
+use Rattle.rpki_parts.proofs.PartFormats.{public_key_fits, public_key_value, validity_alone, validity_fits}
+use Rattle.rpki_parts.proofs.PartFormats.{validity_value}
 use Rattle.rpki_ext.specs.CertificateExtensions.{AreExtensions, extensions}
 use Rattle.rpki_ext.proofs.FieldsRead.{resources_read, v4_read}
-use Rattle.rpki_cert.specs.Certificates.{TbsFields, IsTbsCertificate, CanBeWritten, Fits, encoding, tagged_extensions, tbs_content, tbs_format, version_format}
+use Rattle.rpki_cert.specs.Certificates.{TbsFields, IsTbsCertificate, CanBeWritten, Fits, encoding, tagged_extensions}
+use Rattle.rpki_cert.specs.Certificates.{tbs_content, tbs_format, version_format}
 use Rattle.rpki_cert.proofs.CertificateFormats.{pieces, pieces_are, tbs_lawful, tbs_made, version_alone}
 use Rattle.rpki_cert.proofs.CertificateParts.{TbsParts, all_values, tbs_parts}
 
@@ -58,12 +61,22 @@ module _ (f g : TbsFields) (fits : Fits f) (read : IsTbsCertificate g (encoding 
         (
           of_enc (number_made f.serial serial).enc,
           (
-            algorithm_value f.algorithm (algorithm f.algorithm) (algorithm_alone.law.made f.algorithm (algorithm_fits f.algorithm) algorithm_short.0),
+            algorithm_value f.algorithm (algorithm f.algorithm)
+                (algorithm_alone.law.made f.algorithm (algorithm_fits f.algorithm) algorithm_short.0),
             (
               name_value f.issuer fits.issuer_is,
               (
-                validity_value f.validity (validity f.validity) (validity_alone.law.made f.validity (validity_fits f.validity fits.not_before_is fits.not_after_is) validity_short.0),
-                (name_value f.subject fits.subject_is, (public_key_value f.key (key f.key) (public_key_alone.law.made f.key (public_key_fits f.key fits.key_is key_short.0) key_short.0), (of_enc sequence_nested.1, tt))),
+                validity_value f.validity (validity f.validity)
+                    (validity_alone.law.made f.validity
+                    (validity_fits f.validity fits.not_before_is fits.not_after_is) validity_short.0),
+                (
+                  name_value f.subject fits.subject_is,
+                  (
+                    public_key_value f.key (key f.key)
+                        (public_key_alone.law.made f.key (public_key_fits f.key fits.key_is key_short.0) key_short.0),
+                    (of_enc sequence_nested.1, tt),
+                  ),
+                ),
               ),
             ),
           ),
@@ -73,12 +86,19 @@ module _ (f g : TbsFields) (fits : Fits f) (read : IsTbsCertificate g (encoding 
   -- the sequence that is read is the sequence that is written
   sequence_read : parts.elements ≡ extensions f.extensions
   sequence_read =
-      let all = one_row (parts.front ++ parts.extensions ∷ []) (pieces f) (all_values parts) written_values (sym parts.is ∙ same ∙ pieces_are f) in
+      let all = one_row (parts.front ++ parts.extensions ∷ []) (pieces f) (all_values parts) written_values
+      (sym parts.is ∙ same ∙ pieces_are f) in
       let tagged = (same_from_push parts.front (take 7 (pieces f)) parts.extensions (tagged_extensions f.extensions) all).1 in
-      one_content tags parts.elements (extensions f.extensions) (tagged_extensions f.extensions) (subst (λ (b : List ℕ). IsNested tags parts.elements b) tagged parts.extensions_is) sequence_nested
+      one_content tags parts.elements (extensions f.extensions) (tagged_extensions f.extensions)
+      (subst (λ (b : List ℕ). IsNested tags parts.elements b) tagged parts.extensions_is) sequence_nested
 
   extensions_read : AreExtensions g.extensions (extensions f.extensions)
-  extensions_read = (parts.triples, subst (λ (b : List ℕ). AreEncodings IsExtension parts.triples b) sequence_read parts.elements_are, parts.gives)
+  extensions_read = (
+    parts.triples,
+    subst (λ (b : List ℕ). AreEncodings IsExtension parts.triples b) sequence_read
+        parts.elements_are,
+    parts.gives,
+  )
 
   -- the fields can be written
   pub can_be_written : CanBeWritten f
@@ -94,4 +114,5 @@ module _ (f g : TbsFields) (fits : Fits f) (read : IsTbsCertificate g (encoding 
   pub fields_same : g ≡ f
   fields_same =
       let can = can_be_written in
-      (one_meaning (tbs_format levels) refl tbs_lawful g f (encoding f) (encoding f) [] [] read (tbs_made f fits can.only_v4 can.resources (encoding f) refl) refl).0
+      (one_meaning (tbs_format levels) refl tbs_lawful g f (encoding f) (encoding f) [] [] read
+      (tbs_made f fits can.only_v4 can.resources (encoding f) refl) refl).0

@@ -45,10 +45,20 @@ some_fields = record {
 }
 
 is_moment : IsMoment year_2000
-is_moment = record { year = omega arith; month = (omega arith, omega arith); day = (omega arith, omega arith); hour = omega arith; minute = omega arith; second = omega arith }
+is_moment = record {
+  year = omega arith;
+  month = (omega arith, omega arith);
+  day = (omega arith, omega arith);
+  hour =
+      omega arith;
+  minute = omega arith;
+  second = omega arith;
+}
 
 short : length (tbs_content some_fields) < 2 ^ 32
-unfolding extensions enc length_octets number time tbs_content_format version_format algorithm_format name_format validity_format public_key_format key_algorithm_format whole_bits_format extension_format key_identifier_format key_usage_format certificate_policies_format addresses_format
+unfolding extensions enc length_octets number time tbs_content_format version_format algorithm_format name_format
+    validity_format public_key_format key_algorithm_format whole_bits_format extension_format key_identifier_format
+    key_usage_format certificate_policies_format addresses_format
 short = omega arith
 
 -- the fields of the example have an encoding

@@ -32,27 +32,39 @@ not_both None s n = cc
 not_both (Some v) s n = cc
 
 -- a certificate that meets the profile lacks the fault at this place
-lacks : (kind : Kind) (strict : Bool) (c : CertFields) (f : InspectionError) (place : ℕ) → slice_get (faults kind) place ≡ Some f → MeetsProfile kind strict c → Lacks kind strict c f
+lacks : (kind : Kind) (strict : Bool) (c : CertFields) (f : InspectionError) (place : ℕ) →
+    slice_get (faults kind) place ≡ Some f → MeetsProfile kind strict c → Lacks kind strict c f
 lacks kind strict c f place e p = at (Lacks kind strict c) (faults kind) place f e p
 
 module _ (strict other : Bool) (c : CertFields) where
   anchor_authority : MeetsProfile Anchor strict c → MeetsProfile Authority other c → ⊥
-  anchor_authority p q = not_both c.fields.extensions.crl_uri (lacks Authority other c fault.MissingCrlUri 13 refl q) (lacks Anchor strict c fault.CrlUriPresent 14 refl p)
+  anchor_authority p q = not_both c.fields.extensions.crl_uri (lacks Authority other c fault.MissingCrlUri 13 refl q)
+      (lacks Anchor strict c fault.CrlUriPresent 14 refl p)
 
   authority_detached : MeetsProfile Authority strict c → MeetsProfile Detached other c → ⊥
-  authority_detached p q = not_both c.fields.extensions.basic_ca (lacks Authority strict c fault.MissingBasicConstraints 7 refl p) (lacks Detached other c fault.BasicConstraintsPresent 7 refl q)
+  authority_detached p q =
+      not_both c.fields.extensions.basic_ca (lacks Authority strict c fault.MissingBasicConstraints 7 refl p)
+      (lacks Detached other c fault.BasicConstraintsPresent 7 refl q)
 
   anchor_detached : MeetsProfile Anchor strict c → MeetsProfile Detached other c → ⊥
-  anchor_detached p q = not_both c.fields.extensions.basic_ca (lacks Anchor strict c fault.MissingBasicConstraints 7 refl p) (lacks Detached other c fault.BasicConstraintsPresent 7 refl q)
+  anchor_detached p q =
+      not_both c.fields.extensions.basic_ca (lacks Anchor strict c fault.MissingBasicConstraints 7 refl p)
+      (lacks Detached other c fault.BasicConstraintsPresent 7 refl q)
 
   authority_router : MeetsProfile Authority strict c → MeetsProfile Router other c → ⊥
-  authority_router p q = not_both c.fields.extensions.basic_ca (lacks Authority strict c fault.MissingBasicConstraints 7 refl p) (lacks Router other c fault.BasicConstraintsPresent 4 refl q)
+  authority_router p q =
+      not_both c.fields.extensions.basic_ca (lacks Authority strict c fault.MissingBasicConstraints 7 refl p)
+      (lacks Router other c fault.BasicConstraintsPresent 4 refl q)
 
   anchor_router : MeetsProfile Anchor strict c → MeetsProfile Router other c → ⊥
-  anchor_router p q = not_both c.fields.extensions.basic_ca (lacks Anchor strict c fault.MissingBasicConstraints 7 refl p) (lacks Router other c fault.BasicConstraintsPresent 4 refl q)
+  anchor_router p q = not_both c.fields.extensions.basic_ca
+      (lacks Anchor strict c fault.MissingBasicConstraints 7 refl p)
+      (lacks Router other c fault.BasicConstraintsPresent 4 refl q)
 
   detached_router : MeetsProfile Detached strict c → MeetsProfile Router other c → ⊥
-  detached_router p q = not_both c.fields.extensions.extended_key_usage (lacks Router other c fault.MissingExtendedKeyUsage 7 refl q) (lacks Detached strict c fault.ExtendedKeyUsagePresent 5 refl p)
+  detached_router p q = not_both c.fields.extensions.extended_key_usage
+      (lacks Router other c fault.MissingExtendedKeyUsage 7 refl q)
+      (lacks Detached strict c fault.ExtendedKeyUsagePresent 5 refl p)
 
 -- what is asked of an end entity is what is asked of a detached one, and one more
 pub plain_is_detached : (strict : Bool) (c : CertFields) → MeetsProfile EndEntity strict c → MeetsProfile Detached strict c
@@ -97,12 +109,16 @@ no_other (Some id) own h = inr (ap Some h)
 
 -- a trust anchor's Basic Constraints say that it is a CA
 pub anchor_is_ca : (strict : Bool) (c : CertFields) → MeetsProfile Anchor strict c → c.fields.extensions.basic_ca ≡ Some true
-anchor_is_ca strict c p = is_true c.fields.extensions.basic_ca (lacks Anchor strict c fault.CaFlagFalse 6 refl p) (lacks Anchor strict c fault.MissingBasicConstraints 7 refl p)
+anchor_is_ca strict c p = is_true c.fields.extensions.basic_ca (lacks Anchor strict c fault.CaFlagFalse 6 refl p)
+    (lacks Anchor strict c fault.MissingBasicConstraints 7 refl p)
 
 -- a CA's Basic Constraints say that it is one
 pub authority_is_ca : (strict : Bool) (c : CertFields) → MeetsProfile Authority strict c → c.fields.extensions.basic_ca ≡ Some true
-authority_is_ca strict c p = is_true c.fields.extensions.basic_ca (lacks Authority strict c fault.CaFlagFalse 6 refl p) (lacks Authority strict c fault.MissingBasicConstraints 7 refl p)
+authority_is_ca strict c p =
+    is_true c.fields.extensions.basic_ca (lacks Authority strict c fault.CaFlagFalse 6 refl p)
+    (lacks Authority strict c fault.MissingBasicConstraints 7 refl p)
 
 -- a trust anchor names no other key as the one that signs
 pub signs_itself : (strict : Bool) (c : CertFields) → MeetsProfile Anchor strict c → NamesNoOtherKey c.fields.extensions
-signs_itself strict c p = no_other c.fields.extensions.authority_key_identifier c.fields.extensions.subject_key_identifier (lacks Anchor strict c fault.AuthorityKeyIdentifier 13 refl p)
+signs_itself strict c p = no_other c.fields.extensions.authority_key_identifier
+    c.fields.extensions.subject_key_identifier (lacks Anchor strict c fault.AuthorityKeyIdentifier 13 refl p)

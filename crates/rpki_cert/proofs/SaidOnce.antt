@@ -60,6 +60,10 @@ authority_says strict c meets =
     let apart = meets.1.1.1.1.1.1.0 in
     let some = meets.1.1.1.1.1.1.1.0 in
     let ca : SaysAuthority c.fields = flag_true c.fields.extensions.basic_ca apart some in (
-      (λ says. elim says [ inl named ↦ no_some HasRouterPurpose c.fields.extensions.extended_key_usage purposes named | inr curve ↦ curve.1 ca ]),
+      (λ says. elim says [
+        | inl named ↦ no_some HasRouterPurpose c.fields.extensions.extended_key_usage purposes
+            named
+        | inr curve ↦ curve.1 ca
+      ]),
       ca,
     )

@@ -34,7 +34,8 @@ one_short P (x ∷ []) v h = omega arith
 one_short P (x ∷ y ∷ more) v h = absurd h
 
 module _ (xs ys : List Extension) (same : SameKinds xs ys) where
-  one : {V : Type 0} (P : Extension → V → Type 0) (ids : List (List ℕ)) (v : Option V) → AreKnown ids → IsAtMostOne P (only ids xs) v → IsAtMostOne P (only ids ys) v
+  one : {V : Type 0} (P : Extension → V → Type 0) (ids : List (List ℕ)) (v : Option V) → AreKnown ids →
+      IsAtMostOne P (only ids xs) v → IsAtMostOne P (only ids ys) v
   one P ids v in_known h = subst (λ (s : List Extension). IsAtMostOne P s v) (same ids in_known (one_short P (only ids xs) v h)) h
 
   given : (t : KindTable) (v : Values t) → AreKnown (identifiers_of t) → GiveEach t xs v → GiveEach t ys v
@@ -44,11 +45,13 @@ module _ (xs ys : List Extension) (same : SameKinds xs ys) where
     given t v.1 (λ x e. (or_parts _ _ (in_known x e)).1) h.1,
   )
   given (modes ks t) v in_known h = (
-    one (TellsUnder ks v.0.0) (identifiers_by_mode ks) v.0.1 (λ x e. let p = or_parts _ _ (in_known x e) in or_from _ _ p.0 (or_from _ _ (or_parts _ _ p.1).0 refl)) h.0,
+    one (TellsUnder ks v.0.0) (identifiers_by_mode ks) v.0.1 (λ x e. let p = or_parts _ _ (in_known x e) in
+        or_from _ _ p.0 (or_from _ _ (or_parts _ _ p.1).0 refl)) h.0,
     given t v.1 (λ x e. (or_parts _ _ (or_parts _ _ (in_known x e)).1).1) h.1,
   )
 
-  same_fields : (f : ExtensionFields) → AllByRecursion (λ x. is_of known x ≡ false → x.critical ≡ false) ys → GiveFields xs f → GiveFields ys f
+  same_fields : (f : ExtensionFields) → AllByRecursion (λ x. is_of known x ≡ false → x.critical ≡ false) ys →
+      GiveFields xs f → GiveFields ys f
   same_fields f passed_over g = record {
     passed_over = passed_over;
     access = g.access;
@@ -76,7 +79,8 @@ same_kinds_back xs ys r ids in_known short =
 
 -- what the extensions of one sequence of pieces give, those of the other give
 abbrev pub GiveAlike : List (List ℕ) → List (List ℕ) → Type 0
-GiveAlike old new = (xs : List Extension) (f : ExtensionFields) → AllZip IsExtension xs old → GiveFields xs f → (ys : List Extension) × AllZip IsExtension ys new × GiveFields ys f
+GiveAlike old new = (xs : List Extension) (f : ExtensionFields) → AllZip IsExtension xs old → GiveFields xs f →
+    (ys : List Extension) × AllZip IsExtension ys new × GiveFields ys f
 
 passed_is : (piece : List ℕ) → IsPassedOver piece → (x : Extension) × IsExtension x piece × IsPassed x
 passed_is piece h = (h.extension, h.piece_is, (h.unknown, h.not_critical))
@@ -85,7 +89,8 @@ passed_is piece h = (h.extension, h.piece_is, (h.unknown, h.not_critical))
 pub new_give : (old new : List (List ℕ)) → IsReordered IsPassedOver old new → GiveAlike old new
 new_give old new r xs f zipped g =
     let carried = carry IsExtension IsPassedOver IsPassed passed_is xs old new zipped r in
-    let passed_over = all_moved IsPassed (λ x. is_of known x ≡ false → x.critical ≡ false) (λ x h _. h.1) xs carried.0 carried.2 g.passed_over in
+    let passed_over = all_moved IsPassed (λ x. is_of known x ≡ false → x.critical ≡ false) (λ x h _. h.1) xs carried.0
+    carried.2 g.passed_over in
     (carried.0, carried.1, same_fields xs carried.0 (same_kinds xs carried.0 carried.2) f passed_over g)
 
 some_sequence : (pieces : List (List ℕ)) → AllByRecursion IsSomeExtension pieces → (xs : List Extension) × AllZip IsExtension xs pieces

@@ -25,7 +25,9 @@ use Rattle.rpki_cert.proofs.Checks.{first_not_all}
 module _ {E : Type 0} (f : TbsFields) (MayAnswer : Result SignatureFields (SigningError E) → Type 0) where
   -- ---- it is signed
 
-  module _ (short : length (tbs_content f) < 2 ^ 32) (signs : (e : SigningError E) → MayAnswer (Err e) → e ≡ signing.Memory) (fits : (s : SignatureFields) → MayAnswer (Ok s) → length (signed_content (made_with f s).signed_data) < 2 ^ 32) where
+  module _ (short : length (tbs_content f) < 2 ^ 32) (signs : (e : SigningError E) → MayAnswer (Err e) →
+      e ≡ signing.Memory) (fits : (s : SignatureFields) → MayAnswer (Ok s) →
+      length (signed_content (made_with f s).signed_data) < 2 ^ 32) where
     signed : (e : SigningError E) → IsRefusal (tbs_content f) MayAnswer e → IsMemory {E = E} (Signing e)
     signed signing.Memory h = tt
     signed signing.TooLong (inl long) = omega arith
@@ -39,8 +41,12 @@ module _ {E : Type 0} (f : TbsFields) (MayAnswer : Result SignatureFields (Signi
 
   made_is : (c : CertFields) → IsReadOf f MayAnswer c → c ≡ made_with f c.signed_data.signature
   made_is c is =
-      let first : c ≡ record { fields = f; signed_data = c.signed_data } = ap (λ (g : TbsFields). let d : CertFields = record { fields = g; signed_data = c.signed_data } in d) is.fields_are in
-      first ∙ ap (λ (m : List ℕ). let d : CertFields = record { fields = f; signed_data = record { message = m; signature = c.signed_data.signature } } in d) is.message_is
+      let first : c ≡ record { fields = f; signed_data = c.signed_data } =
+      ap (λ (g : TbsFields). let d : CertFields = record { fields = g; signed_data = c.signed_data } in d)
+      is.fields_are in
+      first ∙ ap (λ (m : List ℕ). let d : CertFields =
+      record { fields = f; signed_data = record { message = m; signature = c.signed_data.signature } } in
+      d) is.message_is
 
   module _ (can : CanBeWritten f) where
     module _ (x : Context) (issuer : ResourceFields) (kind : Kind) where
@@ -51,16 +57,21 @@ module _ {E : Type 0} (f : TbsFields) (MayAnswer : Result SignatureFields (Signi
         valid : (c : CertFields) → IsReadOf f MayAnswer c → Valid c
         valid c is = subst Valid (sym (made_is c is)) (all_valid c.signed_data.signature is.signed)
 
-        validated : (e : ValidationError) (c : CertFields) → IsReadOf f MayAnswer c → IsInvalidBelow x issuer kind c e → IsMemory {E = E} (Validation e)
+        validated : (e : ValidationError) (c : CertFields) → IsReadOf f MayAnswer c →
+            IsInvalidBelow x issuer kind c e → IsMemory {E = E} (Validation e)
         validated (Inspection e) c is h = absurd (first_not_all (Lacks kind x.strict c) (faults kind) e h (valid c is).0)
-        validated (Verification e) c is (meets, inl same) = subst (λ (d : VerificationError). IsMemory {E = E} (Validation (Verification d))) (sym same) tt
-        validated (Verification e) c is (meets, inr first) = absurd (first_not_all (CheckUnder x issuer c) issued_checks e first (valid c is).1)
+        validated (Verification e) c is (meets, inl same) =
+            subst (λ (d : VerificationError). IsMemory {E = E} (Validation (Verification d))) (sym same) tt
+        validated (Verification e) c is (meets, inr first) =
+            absurd (first_not_all (CheckUnder x issuer c) issued_checks e first (valid c is).1)
 
         read : (e : DecodeError) → IsNoReadingFault {E = E} (Decode e) → IsMemory {E = E} (Decode e)
         read reading.Memory h = tt
         read _ h = absurd h
 
-        module _ (signs : (e : SigningError E) → MayAnswer (Err e) → e ≡ signing.Memory) (fits : (s : SignatureFields) → MayAnswer (Ok s) → length (signed_content (made_with f s).signed_data) < 2 ^ 32) where
+        module _ (signs : (e : SigningError E) → MayAnswer (Err e) → e ≡ signing.Memory)
+            (fits : (s : SignatureFields) → MayAnswer (Ok s) →
+            length (signed_content (made_with f s).signed_data) < 2 ^ 32) where
           memory_alone : (e : IssueCaError E) → IsNotIssued f MayAnswer (IsInvalidBelow x issuer kind) e → IsNoReadingFault e → IsMemory e
           memory_alone (Signing e) h r = signed can.fits.short signs fits e h
           memory_alone (Encode writing.TooLong) h r = absurd r
@@ -68,6 +79,8 @@ module _ {E : Type 0} (f : TbsFields) (MayAnswer : Result SignatureFields (Signi
           memory_alone (Decode e) h r = read e r
           memory_alone (Validation e) (c, is, invalid) r = validated e c is invalid
 
-          pub issued_or_memory : {T : Type 0} (r : Result T (IssueCaError E)) → IfErr r (IsNotIssued f MayAnswer (IsInvalidBelow x issuer kind)) → IfErr r IsNoReadingFault → IfErr r IsMemory
+          pub issued_or_memory : {T : Type 0} (r : Result T (IssueCaError E)) →
+              IfErr r (IsNotIssued f MayAnswer (IsInvalidBelow x issuer kind)) → IfErr r IsNoReadingFault →
+              IfErr r IsMemory
           issued_or_memory (Ok v) h k = tt
           issued_or_memory (Err e) h k = memory_alone e h k

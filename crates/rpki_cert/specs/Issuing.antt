@@ -19,7 +19,8 @@ use Rattle.rpki_cert.specs.declared.verification_error.VerificationError.TheVari
 
 -- the signed data is made of the fields, with a signer that may give these answers, and isn't too
 -- long
-pub record IsMadeOf {E : Type 0} (f : TbsFields) (MayAnswer : Result SignatureFields (SigningError E) → Type 0) (s : SignedFields) : Type 0 where
+pub record IsMadeOf {E : Type 0} (f : TbsFields) (MayAnswer : Result SignatureFields (SigningError E) → Type 0)
+    (s : SignedFields) : Type 0 where
   pub message_is : s.message ≡ encoding f
   pub signed : MayAnswer (Ok s.signature)
   pub short : length (signed_content s) < 2 ^ 32
@@ -40,7 +41,8 @@ IsNotMade f MayAnswer (Validation e) = ⊥
 
 -- a certificate that was read again, from its own octets, of what was made of the fields, with a
 -- signer that may give these answers
-pub record IsReadOf {E : Type 0} (f : TbsFields) (MayAnswer : Result SignatureFields (SigningError E) → Type 0) (c : CertFields) : Type 0 where
+pub record IsReadOf {E : Type 0} (f : TbsFields) (MayAnswer : Result SignatureFields (SigningError E) → Type 0)
+    (c : CertFields) : Type 0 where
   pub read : IsCertificate c (signed_data c.signed_data)
   pub message_is : c.signed_data.message ≡ encoding f
   pub fields_are : c.fields ≡ f

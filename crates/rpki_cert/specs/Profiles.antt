@@ -64,7 +64,8 @@ Lacks kind strict c fault.MissingCaRepository = IsSome c.fields.extensions.acces
 Lacks kind strict c fault.MissingManifest = IsSome c.fields.extensions.access.rpki_manifest
 Lacks kind strict c fault.ManifestNotChild = HasManifestWithin c.fields.extensions.access
 Lacks kind strict c fault.SignedObjectPresent = IsNone c.fields.extensions.access.signed_object
-Lacks kind strict c fault.AuthorityKeyIdentifier = IfSome c.fields.extensions.authority_key_identifier (λ id. id ≡ c.fields.extensions.subject_key_identifier)
+Lacks kind strict c fault.AuthorityKeyIdentifier = IfSome c.fields.extensions.authority_key_identifier
+    (λ id. id ≡ c.fields.extensions.subject_key_identifier)
 Lacks kind strict c fault.CrlUriPresent = IsNone c.fields.extensions.crl_uri
 Lacks kind strict c fault.CaIssuerPresent = IsNone c.fields.extensions.ca_issuer
 Lacks kind strict c fault.MissingCrlUri = IsSome c.fields.extensions.crl_uri

@@ -1,6 +1,7 @@
 -- What is made of a certificate when its extensions are set in another order and others are added
 -- (RFC 5280 4.1, 4.2; what may be asked for is own).
-use Rattle.std.specs.Prelude.{ℕ, List, [], ◌∷◌, ◌++◌, ◌+◌, ◌^◌, ◌≡◌, ◌<◌, ◌≤◌, Bool, true, false, length, map, filter, get_or, nat_eq, bytes_eq}
+use Rattle.std.specs.Prelude.{ℕ, List, [], ◌∷◌, ◌++◌, ◌+◌, ◌^◌, ◌≡◌, ◌<◌, ◌≤◌, Bool, true, false, length, map, filter}
+use Rattle.std.specs.Prelude.{get_or, nat_eq, bytes_eq}
 use Rattle.std.specs.List.{AllByRecursion, IsDistinct, concat, list_any}
 use Rattle.rpki_der.specs.Tags.{CONTEXT_CONSTRUCTED, SEQUENCE}
 use Rattle.rpki_der.specs.Values.{enc, nested}

@@ -3,7 +3,8 @@
 use Rattle.std.specs.Prelude.{Bool, List, ℕ, codes}
 use Rattle.rpki_cert.specs.Certificates.{CertFields}
 use Rattle.rpki_cert.specs.Profiles.{MeetsProfile, IsFirstFault}
-use Rattle.rpki_cert.specs.Verification.{Context, CheckUnder, TrustAnchorCheck, IsVerified, IsFirstFalseOrMemory, ResourceFields, HasListed, HasIssued, issued_checks, trust_anchor_checks}
+use Rattle.rpki_cert.specs.Verification.{Context, CheckUnder, TrustAnchorCheck, IsVerified, IsFirstFalseOrMemory}
+use Rattle.rpki_cert.specs.Verification.{ResourceFields, HasListed, HasIssued, issued_checks, trust_anchor_checks}
 use Rattle.rpki_cert.specs.declared.inspect.Kind.{Kind}
 use Rattle.rpki_cert.specs.declared.inspect.Kind.TheVariants.{Anchor}
 use Rattle.rpki_cert.specs.declared.validation_error.ValidationError.{ValidationError}

@@ -16,8 +16,11 @@ use Rattle.rpki_parts.specs.ValidAt.{IsInTime}
 use Rattle.rpki_parts.specs.declared.valid_at.ValidityError.TheVariants as time
 use Rattle.rpki_cert.specs.Certificates.{TbsFields, CertFields}
 use Rattle.rpki_cert.specs.declared.verification_error.VerificationError.{VerificationError}
-use Rattle.rpki_cert.specs.declared.verification_error.VerificationError.TheVariants.{NotYetValid, Expired, InheritedV4, InheritedV6, InheritedAs}
-use Rattle.rpki_cert.specs.declared.verification_error.VerificationError.TheVariants.{MissingKeyId, WrongKeyId, MissingIssuerUri, BadSignature}
+use Rattle.rpki_cert.specs.declared.verification_error.VerificationError.TheVariants.{NotYetValid, Expired}
+use Rattle.rpki_cert.specs.declared.verification_error.VerificationError.TheVariants.{InheritedV4, InheritedV6}
+use Rattle.rpki_cert.specs.declared.verification_error.VerificationError.TheVariants.{InheritedAs}
+use Rattle.rpki_cert.specs.declared.verification_error.VerificationError.TheVariants.{MissingKeyId, WrongKeyId}
+use Rattle.rpki_cert.specs.declared.verification_error.VerificationError.TheVariants.{MissingIssuerUri, BadSignature}
 use Rattle.rpki_cert.specs.declared.verification_error.VerificationError.TheVariants.{OverclaimV4, OverclaimV6, OverclaimAs, Memory}
 pub mod Views
 
@@ -122,7 +125,8 @@ trust_anchor_checks = NotYetValid ∷ Expired ∷ InheritedV4 ∷ InheritedV6 �
 
 -- of a certificate that another one issued
 abbrev pub issued_checks : List VerificationError
-issued_checks = NotYetValid ∷ Expired ∷ MissingKeyId ∷ WrongKeyId ∷ MissingIssuerUri ∷ BadSignature ∷ OverclaimV4 ∷ OverclaimV6 ∷ OverclaimAs ∷ []
+issued_checks = NotYetValid ∷ Expired ∷ MissingKeyId ∷ WrongKeyId ∷ MissingIssuerUri ∷ BadSignature ∷ OverclaimV4 ∷
+    OverclaimV6 ∷ OverclaimAs ∷ []
 
 -- of a router's certificate the AS numbers alone
 abbrev pub router_checks : List VerificationError

@@ -41,9 +41,11 @@ module _ (reads : Reads) (lists : Lists) (r : RequestFields) (now : Moment) (tex
   by_files : (q : RequestFields) (said : List ℕ) → IsAnswer reads q now WrongUse text said → ⊥
   by_files q said answer =
       let its = answer.whole in
-      no_misuse q.task (context IsSignedByRsa now q.strict) (demands_by q (locator_files its.locators)) (contents its.files) (contents its.lists) its.ends.1
+      no_misuse q.task (context IsSignedByRsa now q.strict) (demands_by q (locator_files its.locators))
+      (contents its.files) (contents its.lists) its.ends.1
 
-  by_found : (q : RequestFields) (said : List ℕ) (found : Outcome) (are_all_read : Bool) → IsAnswer reads q now found text said → MatchBool are_all_read (WrongUse ≡ found) (WrongUse ≡ Unread) → ⊥
+  by_found : (q : RequestFields) (said : List ℕ) (found : Outcome) (are_all_read : Bool) →
+      IsAnswer reads q now found text said → MatchBool are_all_read (WrongUse ≡ found) (WrongUse ≡ Unread) → ⊥
   by_found q said found true answer is = by_files q said (subst (λ (o : Outcome). IsAnswer reads q now o text said) (sym is) answer)
   by_found q said found false answer is = cc
 
@@ -55,9 +57,11 @@ module _ (reads : Reads) (lists : Lists) (r : RequestFields) (now : Moment) (tex
   never_misuse [] said h = by_files (record r { files = h.names; folders = roots_of r.files }) h.of_files h.answer
   never_misuse (folder ∷ folders) said h = by_sought (with_files r h.names) h.of_files h.sought h.answer
 
-module _ (reads : Reads) (lists : Lists) (tells : Moment → Type 0) (words : List (List ℕ)) (r : RequestFields) (line : IsCommandLine r words) where
+module _ (reads : Reads) (lists : Lists) (tells : Moment → Type 0) (words : List (List ℕ)) (r : RequestFields)
+    (line : IsCommandLine r words) where
   -- a text about the command
-  about_ends : (task : Task) → (AsksOfFiles task → ⊥) → TaskEnds task (topic_of words) reads lists tells r Success (about_text task (topic_of words)) []
+  about_ends : (task : Task) → (AsksOfFiles task → ⊥) →
+      TaskEnds task (topic_of words) reads lists tells r Success (about_text task (topic_of words)) []
   about_ends Show none = absurd (none (inl refl))
   about_ends Validate none = absurd (none (inr (inl refl)))
   about_ends Tree none = absurd (none (inr (inr refl)))
@@ -68,7 +72,9 @@ module _ (reads : Reads) (lists : Lists) (tells : Moment → Type 0) (words : Li
   run_about none = (r, line, about_ends r.task none)
 
   -- the answer of files
-  answer_ends : (task : Task) → AsksOfFiles task → (now : Moment) (outcome : Outcome) (text said : List ℕ) → IsMomentBy tells r.at now → IsAnswerOf reads lists r now outcome text said → TaskEnds task (topic_of words) reads lists tells r outcome text said
+  answer_ends : (task : Task) → AsksOfFiles task → (now : Moment) (outcome : Outcome) (text said : List ℕ) →
+      IsMomentBy tells r.at now → IsAnswerOf reads lists r now outcome text said →
+      TaskEnds task (topic_of words) reads lists tells r outcome text said
   answer_ends Show asks now outcome text said moment answer = (now, moment, answer)
   answer_ends Validate asks now outcome text said moment answer = (now, moment, answer)
   answer_ends Tree asks now outcome text said moment answer = (now, moment, answer)
@@ -84,7 +90,8 @@ module _ (reads : Reads) (lists : Lists) (tells : Moment → Type 0) (words : Li
     answer_is_use : (text said : List ℕ) → IsAnswerOf reads lists r now WrongUse text said → ⊥
     answer_is_use text said answer = never_misuse reads lists r now text r.folders said answer
 
-    pub run_answer : (outcome : Outcome) (text said : List ℕ) → IsAnswerOf reads lists r now outcome text said → LineEnds reads lists tells words outcome text said
+    pub run_answer : (outcome : Outcome) (text said : List ℕ) → IsAnswerOf reads lists r now outcome text said →
+        LineEnds reads lists tells words outcome text said
     run_answer Success text said answer = (r, line, answer_ends r.task asks now Success text said moment answer)
     run_answer Rejection text said answer = (r, line, answer_ends r.task asks now Rejection text said moment answer)
     run_answer WrongUse text said answer = absurd (answer_is_use text said answer)
@@ -94,28 +101,38 @@ module _ (reads : Reads) (lists : Lists) (tells : Moment → Type 0) (words : Li
 
 module _ (reads : Reads) (lists : Lists) (r : RequestFields) (now : Moment) (outcome : Outcome) (text said : List ℕ) where
   -- where there is no folder
-  pub of_named : (folders : List (List ℕ)) → folders ≡ [] → IsAnswerOfNamed reads lists r now outcome text said → IsAnswerAmong folders reads lists r now outcome text said
+  pub of_named : (folders : List (List ℕ)) → folders ≡ [] → IsAnswerOfNamed reads lists r now outcome text said →
+      IsAnswerAmong folders reads lists r now outcome text said
   of_named [] e h = h
   of_named (folder ∷ folders) e h = absurd cc
 
   -- and where there are some
-  pub of_sought : (folders : List (List ℕ)) → (folders ≡ [] → ⊥) → IsAnswerIn reads lists r now outcome text said → IsAnswerAmong folders reads lists r now outcome text said
+  pub of_sought : (folders : List (List ℕ)) → (folders ≡ [] → ⊥) → IsAnswerIn reads lists r now outcome text said →
+      IsAnswerAmong folders reads lists r now outcome text said
   of_sought [] some h = absurd (some refl)
   of_sought (folder ∷ folders) some h = h
 
 -- some names are there
-pub some_names : {X Y Z : Type 0} (f : X → Y) (names : Vec X Z) (none : Bool) → none ≡ (names.len == 0) → names.len ≡ length names.items → none ≡ false → map f names.items ≡ [] → ⊥
+pub some_names : {X Y Z : Type 0} (f : X → Y) (names : Vec X Z) (none : Bool) → none ≡ (names.len == 0) →
+    names.len ≡ length names.items → none ≡ false → map f names.items ≡ [] → ⊥
 some_names f names none is len some e =
     let empty : length names.items ≡ 0 = sym (length-map names.items f) ∙ ap length e in
     false≢true (sym some ∙ is ∙ eq-eqb names.len 0 (len ∙ empty))
 
 -- what is written and said of an answer is written and said of it by another name
-pub so_answered : {T E : Type 0} (A B : T → List ℕ → List ℕ → Type 0) (W : T → List ℕ → Type 0) (S : List ℕ → Type 0) (r : Result T E) → ((e : T) (text said : List ℕ) → A e text said → B e text said) → IfOk r (λ e. (text : List ℕ) × (said : List ℕ) × A e text said × W e text × S said) → IfOk r (λ e. (text : List ℕ) × (said : List ℕ) × B e text said × W e text × S said)
+pub so_answered : {T E : Type 0} (A B : T → List ℕ → List ℕ → Type 0) (W : T → List ℕ → Type 0) (S : List ℕ → Type 0)
+    (r : Result T E) → ((e : T) (text said : List ℕ) → A e text said → B e text said) →
+    IfOk r (λ e. (text : List ℕ) × (said : List ℕ) × A e text said × W e text × S said) →
+    IfOk r (λ e. (text : List ℕ) × (said : List ℕ) × B e text said × W e text × S said)
 so_answered A B W S (Ok e) f h = (h.0, h.1, f e h.0 h.1 h.2, h.3, h.4)
 so_answered A B W S (Err e) f h = tt
 
 -- and with what was said before
-pub so_said : {T E : Type 0} (A B : T → List ℕ → List ℕ → Type 0) (W : T → List ℕ → Type 0) (before between after : Option (List ℕ)) (first : List ℕ) (r : Result T E) → Appends before between first → ((e : T) (text said : List ℕ) → A e text said → B e text (first ++ said)) → IfOk r (λ e. (text : List ℕ) × (said : List ℕ) × A e text said × W e text × Appends between after said) → IfOk r (λ e. (text : List ℕ) × (said : List ℕ) × B e text said × W e text × Appends before after said)
+pub so_said : {T E : Type 0} (A B : T → List ℕ → List ℕ → Type 0) (W : T → List ℕ → Type 0)
+    (before between after : Option (List ℕ)) (first : List ℕ) (r : Result T E) → Appends before between first →
+    ((e : T) (text said : List ℕ) → A e text said → B e text (first ++ said)) →
+    IfOk r (λ e. (text : List ℕ) × (said : List ℕ) × A e text said × W e text × Appends between after said) →
+    IfOk r (λ e. (text : List ℕ) × (said : List ℕ) × B e text said × W e text × Appends before after said)
 so_said A B W before between after first (Ok e) p f h =
     (h.0, first ++ h.1, f e h.0 h.1 h.2, h.3, appends_both before between after first h.1 p h.4)
 so_said A B W before between after first (Err e) p f h = tt
@@ -129,7 +146,8 @@ as_success Ends (Ok WrongUse) ends told = cc
 as_success Ends (Ok Unread) ends told = cc
 as_success Ends (Err why) ends told = cc
 
-as_rejection : {F : Type 0} (Ends : Outcome → Type 0) (settled : Result Outcome F) → IfOk settled Ends → run_status settled ≡ 1 → Ends Rejection
+as_rejection : {F : Type 0} (Ends : Outcome → Type 0) (settled : Result Outcome F) → IfOk settled Ends →
+    run_status settled ≡ 1 → Ends Rejection
 as_rejection Ends (Ok Success) ends told = cc
 as_rejection Ends (Ok Rejection) ends told = ends
 as_rejection Ends (Ok WrongUse) ends told = cc
@@ -143,7 +161,8 @@ as_misuse Ends (Ok WrongUse) ends told = ends
 as_misuse Ends (Ok Unread) ends told = cc
 as_misuse Ends (Err why) ends told = cc
 
-as_unread : {F : Type 0} (Ends : Outcome → Type 0) (settled : Result Outcome F) → IfOk settled Ends → (outcome : Outcome) → settled ≡ Ok outcome → run_status settled ≡ 3 → Ends Unread
+as_unread : {F : Type 0} (Ends : Outcome → Type 0) (settled : Result Outcome F) → IfOk settled Ends →
+    (outcome : Outcome) → settled ≡ Ok outcome → run_status settled ≡ 3 → Ends Unread
 as_unread Ends (Ok Success) ends outcome is told = cc
 as_unread Ends (Ok Rejection) ends outcome is told = cc
 as_unread Ends (Ok WrongUse) ends outcome is told = cc
@@ -151,23 +170,29 @@ as_unread Ends (Ok Unread) ends outcome is told = ends
 as_unread Ends (Err why) ends outcome is told = absurd cc
 
 module _ {E F : Type 0} (Ends : Outcome → Type 0) where
-  settled_ends : (ran : Result Ended E) (settled : Result Outcome F) → IfOk ran (λ e. Ends e.outcome) → IfOk settled (λ outcome. IsOkAnd ran (λ e. outcome ≡ e.outcome)) → IfOk settled Ends
+  settled_ends : (ran : Result Ended E) (settled : Result Outcome F) → IfOk ran (λ e. Ends e.outcome) →
+      IfOk settled (λ outcome. IsOkAnd ran (λ e. outcome ≡ e.outcome)) → IfOk settled Ends
   settled_ends (Ok e) (Ok outcome) ends same = subst (λ (o : Outcome). Ends o) (sym same) ends
   settled_ends (Err why) (Ok outcome) ends same = absurd same
   settled_ends ran (Err why) ends same = tt
 
   -- where it is 2
-  pub told_misuse : (ran : Result Ended E) (settled : Result Outcome F) → IfOk ran (λ e. Ends e.outcome) → IfOk settled (λ outcome. IsOkAnd ran (λ e. outcome ≡ e.outcome)) → run_status settled ≡ 2 → Ends WrongUse
+  pub told_misuse : (ran : Result Ended E) (settled : Result Outcome F) → IfOk ran (λ e. Ends e.outcome) →
+      IfOk settled (λ outcome. IsOkAnd ran (λ e. outcome ≡ e.outcome)) → run_status settled ≡ 2 → Ends WrongUse
   told_misuse ran settled ends same told = as_misuse Ends settled (settled_ends ran settled ends same) told
 
   -- where it is 0
-  pub told_success : (ran : Result Ended E) (settled : Result Outcome F) → IfOk ran (λ e. Ends e.outcome) → IfOk settled (λ outcome. IsOkAnd ran (λ e. outcome ≡ e.outcome)) → run_status settled ≡ 0 → Ends Success
+  pub told_success : (ran : Result Ended E) (settled : Result Outcome F) → IfOk ran (λ e. Ends e.outcome) →
+      IfOk settled (λ outcome. IsOkAnd ran (λ e. outcome ≡ e.outcome)) → run_status settled ≡ 0 → Ends Success
   told_success ran settled ends same told = as_success Ends settled (settled_ends ran settled ends same) told
 
   -- where it is 1
-  pub told_rejection : (ran : Result Ended E) (settled : Result Outcome F) → IfOk ran (λ e. Ends e.outcome) → IfOk settled (λ outcome. IsOkAnd ran (λ e. outcome ≡ e.outcome)) → run_status settled ≡ 1 → Ends Rejection
+  pub told_rejection : (ran : Result Ended E) (settled : Result Outcome F) → IfOk ran (λ e. Ends e.outcome) →
+      IfOk settled (λ outcome. IsOkAnd ran (λ e. outcome ≡ e.outcome)) → run_status settled ≡ 1 → Ends Rejection
   told_rejection ran settled ends same told = as_rejection Ends settled (settled_ends ran settled ends same) told
 
   -- where it is 3, and the run hasn't failed
-  pub told_unread : (ran : Result Ended E) (settled : Result Outcome F) → IfOk ran (λ e. Ends e.outcome) → IfOk settled (λ outcome. IsOkAnd ran (λ e. outcome ≡ e.outcome)) → (outcome : Outcome) → settled ≡ Ok outcome → run_status settled ≡ 3 → Ends Unread
+  pub told_unread : (ran : Result Ended E) (settled : Result Outcome F) → IfOk ran (λ e. Ends e.outcome) →
+      IfOk settled (λ outcome. IsOkAnd ran (λ e. outcome ≡ e.outcome)) → (outcome : Outcome) →
+      settled ≡ Ok outcome → run_status settled ≡ 3 → Ends Unread
   told_unread ran settled ends same outcome is told = as_unread Ends settled (settled_ends ran settled ends same) outcome is told

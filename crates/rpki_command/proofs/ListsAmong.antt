@@ -9,7 +9,9 @@ pub gone_over : {X : Type 0} (xs : List X) (i : ℕ) (x : X) → i < length xs �
 gone_over xs i x low there = take_more xs i x low ∙ ap (λ (y : _). take i xs ++ y ∷ []) (sym there)
 
 -- of files, and of one more
-pub lists_more : (files : List FileFields) (names : List (List ℕ)) → AreListNames files names → (file : FileFields) (its : List (List ℕ)) → AreListNames (file ∷ []) its → AreListNames (files ++ file ∷ []) (names ++ its)
+pub lists_more : (files : List FileFields) (names : List (List ℕ)) → AreListNames files names →
+    (file : FileFields) (its : List (List ℕ)) → AreListNames (file ∷ []) its →
+    AreListNames (files ++ file ∷ []) (names ++ its)
 lists_more [] names h file its one = subst (λ (l : List (List ℕ)). AreListNames (file ∷ []) (l ++ its)) (sym h) one
 lists_more (f ∷ fs) names (inl h) file its one = inl (h.0, lists_more fs names h.1 file its one)
 lists_more (f ∷ fs) names (inr h) file its one =

@@ -5,7 +5,9 @@ use Rattle.std.proofs.Common.{◌≡◌, ◌∙◌, ◌++◌, ◌<◌, ℕ, List
 use Rattle.std.proofs.lemmas.Grind.{common_steps}
 
 -- is all of it, where less is read than may be taken
-pub whole_read : (left : Option (List ℕ)) (limit : ℕ) (old new : List ℕ) → IfSome (option_map (take limit) left) (λ xs. new ≡ old ++ xs) → old ≡ [] → length new < limit → IfSome left (λ all. new ≡ all)
+pub whole_read : (left : Option (List ℕ)) (limit : ℕ) (old new : List ℕ) →
+    IfSome (option_map (take limit) left) (λ xs. new ≡ old ++ xs) → old ≡ [] → length new < limit →
+    IfSome left (λ all. new ≡ all)
 whole_read None limit old new read none short = tt
 whole_read (Some all) limit old new read none short =
     let taken : new ≡ take limit all = read ∙ ap (λ (l : List ℕ). l ++ take limit all) none in

@@ -11,7 +11,8 @@ use Rattle.rpki_command.specs.UnreadFiles.{called, file_message}
 abbrev pub neither_text : ℕ → List ℕ
 neither_text left =
     if left == 0 then codes "neither a certificate nor a CRL"
-    else codes "neither a certificate nor a CRL, " ++ (decimal left ++ ((if left == 1 then codes " byte follows" else codes " bytes follow") ++ codes " its CRL"))
+    else codes "neither a certificate nor a CRL, " ++
+    (decimal left ++ ((if left == 1 then codes " byte follows" else codes " bytes follow") ++ codes " its CRL"))
 
 -- that a file is neither a certificate nor a list, in a line, and why, where it begins with a list:
 -- so many octets stand behind that

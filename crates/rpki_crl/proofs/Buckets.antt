@@ -1,5 +1,6 @@
 -- Buckets of serial numbers: how many there are, and where they begin, as the loop over them finds it.
-use Rattle.std.proofs.Common.{◌≡◌, ℕ, ◌+◌, ◌-◌, ◌*◌, ◌/◌, ◌^◌, ◌<◌, ◌≤◌, ◌⊎◌, min, List, [], ◌∷◌, ◌++◌, length, get_or, refl, ap, ◌∙◌, inl, inr, arith, length-append}
+use Rattle.std.proofs.Common.{◌≡◌, ℕ, ◌+◌, ◌-◌, ◌*◌, ◌/◌, ◌^◌, ◌<◌, ◌≤◌, ◌⊎◌, min, List, [], ◌∷◌, ◌++◌, length}
+use Rattle.std.proofs.Common.{get_or, refl, ap, ◌∙◌, inl, inr, arith, length-append}
 use Rattle.std.proofs.Math.ListN.{get_or-append}
 use Rattle.std.proofs.Math.Nat.{div-mul-le_self, lt-div-mul-add}
 use Rattle.std.proofs.Math.Pow.{pow_mono}
@@ -30,7 +31,8 @@ pub below_power : (k zeros m n : ℕ) → zeros + m ≡ k → n < 2 ^ m → n < 
 below_power k zeros m n e h = let same : k - zeros ≡ m = omega (arith, e) in rw same h
 
 -- half as many buckets as numbers, or fewer, where the shift leaves so many digits of the span
-pub few_buckets : (span bits wanted shift count : ℕ) → span < 2 ^ bits → bits ≤ 160 → 2 ^ wanted ≤ count / 2 + 1 → shift ≡ min (bits - wanted) 159 → 0 < count → 2 * (span / 2 ^ shift) ≤ count + 1
+pub few_buckets : (span bits wanted shift count : ℕ) → span < 2 ^ bits → bits ≤ 160 → 2 ^ wanted ≤ count / 2 + 1 →
+    shift ≡ min (bits - wanted) 159 → 0 < count → 2 * (span / 2 ^ shift) ≤ count + 1
 few_buckets span bits wanted shift count below most few is some = elim (cases_lt 159 (bits - wanted)) [
   | inl far ↦
       let all : shift ≡ 159 = omega (arith, is) in
@@ -44,7 +46,8 @@ few_buckets span bits wanted shift count below most few is some = elim (cases_lt
 ]
 
 -- and an eighth as many, or more, where the shift isn't 0
-pub many_buckets : (span bits wanted shift count : ℕ) → 2 ^ bits ≤ 2 * span + 1 → bits ≤ 160 → count / 4 < 2 ^ wanted → shift ≡ min (bits - wanted) 159 → (shift ≡ 0) ⊎ (count ≤ 8 * (span / 2 ^ shift + 1))
+pub many_buckets : (span bits wanted shift count : ℕ) → 2 ^ bits ≤ 2 * span + 1 → bits ≤ 160 →
+    count / 4 < 2 ^ wanted → shift ≡ min (bits - wanted) 159 → (shift ≡ 0) ⊎ (count ≤ 8 * (span / 2 ^ shift + 1))
 many_buckets span bits wanted shift count no_more most many is = elim (cases_lt 159 (bits - wanted)) [
   | inl far ↦
       let none : wanted ≡ 0 = omega (arith, far, most) in
@@ -56,8 +59,11 @@ many_buckets span bits wanted shift count no_more most many is = elim (cases_lt 
         let power : 2 ^ bits ≡ 2 ^ wanted * 2 ^ shift = ap (λ n. 2 ^ n) sum ∙ pow-add 2 wanted shift in
         let positive = pow_pos shift in
         let rest : span < span / 2 ^ shift * 2 ^ shift + 2 ^ shift = lt-div-mul-add positive in
-        let high : 2 ^ wanted * 2 ^ shift / 2 ^ shift < 2 * (span / 2 ^ shift) + 2 = div_below (2 ^ wanted * 2 ^ shift) (2 ^ shift) (2 * (span / 2 ^ shift) + 2) positive (omega (arith, no_more, power, rest)) in
-        let low : 2 ^ wanted ≤ 2 ^ wanted * 2 ^ shift / 2 ^ shift = le-div (2 ^ wanted) (2 ^ wanted * 2 ^ shift) (2 ^ shift) positive (omega arith) in
+        let high : 2 ^ wanted * 2 ^ shift / 2 ^ shift < 2 * (span / 2 ^ shift) + 2 =
+        div_below (2 ^ wanted * 2 ^ shift) (2 ^ shift) (2 * (span / 2 ^ shift) + 2) positive
+        (omega (arith, no_more, power, rest)) in
+        let low : 2 ^ wanted ≤ 2 ^ wanted * 2 ^ shift / 2 ^ shift = le-div (2 ^ wanted) (2 ^ wanted * 2 ^ shift)
+        (2 ^ shift) positive (omega arith) in
         inr (omega (arith, many, high, low))
     | inr more ↦ inl (omega (arith, is, more))
   ]
@@ -65,20 +71,25 @@ many_buckets span bits wanted shift count no_more most many is = elim (cases_lt 
 
 -- between the starts of two buckets
 module _ (base shift : ℕ) (xs : List ℕ) (serial low high : ℕ) where
-  bucket_between : IsStart base shift xs (bucket_of base shift serial) low → IsStart base shift xs (bucket_of base shift serial + 1) high → IsBetween xs serial low high
+  bucket_between : IsStart base shift xs (bucket_of base shift serial) low →
+      IsStart base shift xs (bucket_of base shift serial + 1) high → IsBetween xs serial low high
   bucket_between begins ends = record {
     order = elim (cases_lt high low) [
-      | inl less ↦ let early = begins.before high less in let late = ends.after high (omega arith) (omega (arith, begins.inside)) in absurd (omega (arith, early, late))
+      | inl less ↦ let early = begins.before high less in
+          let late = ends.after high (omega arith) (omega (arith, begins.inside)) in
+          absurd (omega (arith, early, late))
       | inr more ↦ more
     ];
     inside = ends.inside;
     before = λ i h. elim (cases_lt (get_or xs i 0) serial) [
       | inl less ↦ less
-      | inr more ↦ let early = begins.before i h in let grow = bucket_grows base shift serial (get_or xs i 0) more in absurd (omega (arith, early, grow))
+      | inr more ↦ let early = begins.before i h in let grow = bucket_grows base shift serial (get_or xs i 0) more in
+          absurd (omega (arith, early, grow))
     ];
     after = λ i h l. elim (cases_lt serial (get_or xs i 0)) [
       | inl less ↦ less
-      | inr more ↦ let late = ends.after i h l in let grow = bucket_grows base shift (get_or xs i 0) serial more in absurd (omega (arith, late, grow))
+      | inr more ↦ let late = ends.after i h l in let grow = bucket_grows base shift (get_or xs i 0) serial more in
+          absurd (omega (arith, late, grow))
     ];
   }
 
@@ -93,17 +104,20 @@ range_between xs serial low high range = elim range.places [
 module _ (base shift : ℕ) (xs : List ℕ) (ascending : AreAscending xs) (i : ℕ) (inside : i < length xs) where
   -- none is in a bucket behind the last one
   pub last_is_last : bucket_of base shift (get_or xs i 0) ≤ last_bucket base shift xs
-  last_is_last = bucket_grows base shift (get_or xs i 0) (get_or xs (length xs - 1) 0) (ascending i (length xs - 1) (omega (arith, inside)) (omega (arith, inside)))
+  last_is_last = bucket_grows base shift (get_or xs i 0) (get_or xs (length xs - 1) 0)
+      (ascending i (length xs - 1) (omega (arith, inside)) (omega (arith, inside)))
 
   -- each has a bucket
-  pub in_scale : IsScale base shift xs → length xs < 2 ^ 64 → (get_or xs i 0 < base * 2 ^ 32) ⊎ (2 ^ 96 ≤ bucket_of base shift (get_or xs i 0)) → ⊥
+  pub in_scale : IsScale base shift xs → length xs < 2 ^ 64 →
+      (get_or xs i 0 < base * 2 ^ 32) ⊎ (2 ^ 96 ≤ bucket_of base shift (get_or xs i 0)) → ⊥
   in_scale scale short outside = elim outside [
     | inl low ↦ let least = ascending 0 i (omega arith) inside in omega (arith, low, least, scale.base_is)
     | inr far ↦ omega (arith, far, last_is_last, scale.few, short)
   ]
 
   -- one start more is known: the number in place i is the first one of the bucket that is next
-  pub one_begun : (starts : List ℕ) → AreBegun base shift xs starts i → length starts ≤ bucket_of base shift (get_or xs i 0) → AreBegun base shift xs (starts ++ i ∷ []) i
+  pub one_begun : (starts : List ℕ) → AreBegun base shift xs starts i →
+      length starts ≤ bucket_of base shift (get_or xs i 0) → AreBegun base shift xs (starts ++ i ∷ []) i
   one_begun starts begun next =
       let more : length (starts ++ i ∷ []) ≡ length starts + 1 = length-append starts (i ∷ []) in
       record {
@@ -114,14 +128,16 @@ module _ (base shift : ℕ) (xs : List ℕ) (ascending : AreAscending xs) (i : �
               rw (same, get_or-append_seam starts i [] 0) (record {
                 inside = omega (arith, inside);
                 before = begun.before;
-                after = λ j p l. let grow = bucket_grows base shift (get_or xs i 0) (get_or xs j 0) (ascending i j p l) in omega (arith, grow, next);
+                after = λ j p l. let grow = bucket_grows base shift (get_or xs i 0) (get_or xs j 0)
+                    (ascending i j p l) in omega (arith, grow, next);
               })
         ];
         before = λ j h. let early = begun.before j h in omega (arith, early, more);
       }
 
   -- one number more is in a bucket with a start
-  pub one_inside : (starts : List ℕ) → AreBegun base shift xs starts i → bucket_of base shift (get_or xs i 0) < length starts → AreBegun base shift xs starts (i + 1)
+  pub one_inside : (starts : List ℕ) → AreBegun base shift xs starts i →
+      bucket_of base shift (get_or xs i 0) < length starts → AreBegun base shift xs starts (i + 1)
   one_inside starts begun last = record {
     known = begun.known;
     before = λ j h. elim (cases_lt j i) [

@@ -11,7 +11,8 @@ use Rattle.rpki_crl.specs.Lists.{CrlState}
 use Rattle.rpki_crl.specs.Stores.{Stored, IsUnder, IsEarliest}
 use Rattle.rpki_crl.specs.Revocation.{ListCheck, RevocationCheck, IsUnderUri, revocation_checks}
 use Rattle.rpki_crl.specs.declared.revocation_error.RevocationError.{RevocationError}
-use Rattle.rpki_crl.specs.declared.revocation_error.RevocationError.TheVariants.{NoCrl, WrongKeyId, BadSignature, Stale, Revoked, WrongIssuer}
+use Rattle.rpki_crl.specs.declared.revocation_error.RevocationError.TheVariants.{NoCrl, WrongKeyId, BadSignature}
+use Rattle.rpki_crl.specs.declared.revocation_error.RevocationError.TheVariants.{Stale, Revoked, WrongIssuer}
 
 -- ---- the first with P is one
 
@@ -20,11 +21,13 @@ module _ {X : Type 0} (P : X → Type 0) where
   has_none [] x after p none = none.0 p
   has_none (y ∷ before) x after p none = has_none before x after p none.1
 
-  one_first : (bs cs : List X) (x y : X) (ds es : List X) → bs ++ x ∷ ds ≡ cs ++ y ∷ es → P x → P y → AllByRecursion (λ z. P z → ⊥) bs → AllByRecursion (λ z. P z → ⊥) cs → x ≡ y
+  one_first : (bs cs : List X) (x y : X) (ds es : List X) → bs ++ x ∷ ds ≡ cs ++ y ∷ es → P x → P y →
+      AllByRecursion (λ z. P z → ⊥) bs → AllByRecursion (λ z. P z → ⊥) cs → x ≡ y
   one_first [] [] x y ds es e p q none other = cc e
   one_first [] (c ∷ cs) x y ds es e p q none other = let same : x ≡ c = cc e in absurd (other.0 (subst P same p))
   one_first (b ∷ bs) [] x y ds es e p q none other = let same : y ≡ b = cc e in absurd (none.0 (subst P same q))
-  one_first (b ∷ bs) (c ∷ cs) x y ds es e p q none other = let same : bs ++ x ∷ ds ≡ cs ++ y ∷ es = cc e in one_first bs cs x y ds es same p q none.1 other.1
+  one_first (b ∷ bs) (c ∷ cs) x y ds es e p q none other = let same : bs ++ x ∷ ds ≡ cs ++ y ∷ es = cc e in
+      one_first bs cs x y ds es same p q none.1 other.1
 
   -- the first element with a property is one
   pub first_is_one : (xs : List X) (x y : X) → IsFirstWith P x xs → IsFirstWith P y xs → x ≡ y
@@ -66,8 +69,11 @@ module _ (x : Context) (issuer : TbsFields) (serial : ℕ) (IsAsked : CrlState �
     list_of WrongIssuer l = tt
 
     -- what is tested of the list is what is tested
-    pub tests_of : (r : Result (Unit {0}) RevocationError) → Tests (ListCheck x issuer serial crl.list) revocation_checks r → Tests (RevocationCheck x issuer serial IsAsked) revocation_checks r
-    tests_of r = tests_map (ListCheck x issuer serial crl.list) (RevocationCheck x issuer serial IsAsked) revocation_checks r (λ e. (check_of e, list_of e))
+    pub tests_of : (r : Result (Unit {0}) RevocationError) →
+        Tests (ListCheck x issuer serial crl.list) revocation_checks r →
+        Tests (RevocationCheck x issuer serial IsAsked) revocation_checks r
+    tests_of r = tests_map (ListCheck x issuer serial crl.list) (RevocationCheck x issuer serial IsAsked)
+        revocation_checks r (λ e. (check_of e, list_of e))
 
   -- without one the first check is false
   pub no_list : ((d : CrlState) → IsAsked d → ⊥) → IsFirstFalse (RevocationCheck x issuer serial IsAsked) revocation_checks NoCrl

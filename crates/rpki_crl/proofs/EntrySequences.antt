@@ -1,6 +1,7 @@
 -- A sequence of entries, gone over one entry at a time.
 use Rattle.std.specs.Prelude.{nat_eq, not, map}
-use Rattle.std.proofs.Common.{◌≡◌, ℕ, zero, suc, ◌<◌, Bool, List, [], ◌∷◌, length, get_or, Option, Some, None, refl, sym, ap, subst, ◌∙◌, inl, inr, arith}
+use Rattle.std.proofs.Common.{◌≡◌, ℕ, zero, suc, ◌<◌, Bool, List, [], ◌∷◌, length, get_or, Option, Some, None, refl}
+use Rattle.std.proofs.Common.{sym, ap, subst, ◌∙◌, inl, inr, arith}
 use Rattle.std.proofs.lemmas.Bool.{cases_Bool, eqb-true, eqb-false, eq-eqb, ne_eqb}
 use Rattle.rpki_der.specs.Folding.{each, over, pass, steps}
 use Rattle.rpki_der.specs.Sequences.Reading.{sequence_of}
@@ -21,13 +22,17 @@ all_read = refl
 pub entries_are : (octets : List ℕ) → entries_pass octets ≡ Some tt → sequence_of entry_format.read octets ≡ Some (entries_in octets)
 unfolding entries_pass
 entries_are octets whole =
-    let elements = bind_some (sequence_of entry_format.read octets) (λ entries. Some tt) tt (sym (passed entry_format.read octets) ∙ whole) in
+    let elements = bind_some (sequence_of entry_format.read octets) (λ entries. Some tt) tt
+    (sym (passed entry_format.read octets) ∙ whole) in
     rw elements.1 refl
 
 -- and they are encoded so
-pub kept_entries : (octets : List ℕ) (r : Revoked) → record { entries = entries_in octets; octets = octets } ≡ r → entries_pass octets ≡ Some tt → AreOctets octets → AreEntries r.entries r.octets
+pub kept_entries : (octets : List ℕ) (r : Revoked) → record { entries = entries_in octets; octets = octets } ≡ r →
+    entries_pass octets ≡ Some tt → AreOctets octets → AreEntries r.entries r.octets
 kept_entries octets r view whole fits =
-    subst (λ (s : Revoked). AreEntries s.entries s.octets) view (elements_are entry_format.read IsEntry entry_reads octets (entries_in octets) fits (entries_are octets whole))
+    subst (λ (s : Revoked). AreEntries s.entries s.octets) view
+    (elements_are entry_format.read IsEntry entry_reads octets (entries_in octets) fits
+    (entries_are octets whole))
 
 -- ---- one entry after the other
 
@@ -55,7 +60,9 @@ module _ (octets : List ℕ) (whole : entries_pass octets ≡ Some tt) where
     pub first_entry : entries_in octets ≡ e ∷ entries_in rest
     first_entry =
         let less : length rest < length octets = entry_shrinks octets e rest was in
-        let elements : sequence_of entry_format.read octets ≡ Some (e ∷ entries_in rest) = sequence_steps entry_format.read entry_shrinks octets (omega (arith, less)) ∙ rw (was, entries_are rest others_pass) refl in
+        let elements : sequence_of entry_format.read octets ≡ Some (e ∷ entries_in rest) =
+        sequence_steps entry_format.read entry_shrinks octets (omega (arith, less)) ∙
+        rw (was, entries_are rest others_pass) refl in
         ap or_none elements
 
 -- ---- a serial among those of entries
@@ -80,7 +87,8 @@ module _ (serial : ℕ) where
             (suc later.0, omega arith, later.2)
       ]
 
-  spared_by : (entries : List Entry) (k : ℕ) → steps (each differs) tt entries ≡ Some tt → k < length (map (λ (entry : Entry). entry.serial) entries)
+  spared_by : (entries : List Entry) (k : ℕ) → steps (each differs) tt entries ≡ Some tt →
+      k < length (map (λ (entry : Entry). entry.serial) entries)
       → get_or (map (λ (entry : Entry). entry.serial) entries) k serial ≡ serial → ⊥
   spared_by [] k e less same = omega (arith, less)
   spared_by (entry ∷ entries) k e less same =
@@ -89,18 +97,23 @@ module _ (serial : ℕ) where
         | inr n ↦ behind k (eqb-false entry.serial serial n) (spared_by entries) (rw n at e) less same
       ]
     where
-      behind : (k : ℕ) → (entry.serial ≡ serial → ⊥) → ((j : ℕ) → steps (each differs) tt entries ≡ Some tt → j < length (map (λ (entry : Entry). entry.serial) entries)
+      behind : (k : ℕ) → (entry.serial ≡ serial → ⊥) →
+          ((j : ℕ) → steps (each differs) tt entries ≡ Some tt →
+          j < length (map (λ (entry : Entry). entry.serial) entries)
           → get_or (map (λ (entry : Entry). entry.serial) entries) j serial ≡ serial → ⊥) → steps (each differs) tt entries ≡ Some tt
-          → k < length (map (λ (entry : Entry). entry.serial) (entry ∷ entries)) → get_or (map (λ (entry : Entry). entry.serial) (entry ∷ entries)) k serial ≡ serial → ⊥
+          → k < length (map (λ (entry : Entry). entry.serial) (entry ∷ entries)) →
+          get_or (map (λ (entry : Entry). entry.serial) (entry ∷ entries)) k serial ≡ serial → ⊥
       behind zero other later e less same = other same
       behind (suc j) other later e less same = later j e (omega (arith, less)) same
 
   -- what a kept list is seen as
-  module _ (octets : List ℕ) (r : Revoked) (view : record { entries = entries_in octets; octets = octets } ≡ r) (whole : entries_pass octets ≡ Some tt) where
+  module _ (octets : List ℕ) (r : Revoked) (view : record { entries = entries_in octets; octets = octets } ≡ r)
+      (whole : entries_pass octets ≡ Some tt) where
     -- where the walk over entries is ended by the serial, it is revoked
     pub found : spares r.octets ≡ None → IsRevoked serial r.entries
     unfolding spares over
-    found = subst (λ (s : Revoked). spares s.octets ≡ None → IsRevoked serial s.entries) view (λ e. found_among (entries_in octets) (rw (entries_are octets whole) at e))
+    found = subst (λ (s : Revoked). spares s.octets ≡ None → IsRevoked serial s.entries) view
+        (λ e. found_among (entries_in octets) (rw (entries_are octets whole) at e))
 
     -- where the walk over entries isn't ended by the serial, it isn't revoked
     pub spared : spares r.octets ≡ Some tt → IsRevoked serial r.entries → ⊥

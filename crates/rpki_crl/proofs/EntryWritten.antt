@@ -13,7 +13,8 @@ use Rattle.rpki_der.proofs.RoundTrips.{enc_small, unsigned_small}
 use Rattle.rpki_der.proofs.Sequences.{sequence_again}
 use Rattle.rpki_der.proofs.SequenceWalks.{passed}
 use Rattle.rpki_parts.proofs.Lengths.{time_short}
-use Rattle.rpki_crl.specs.RevokedEntries.{Entry, IsEntry, AreEntries, FitsEntry, entry, entry_content_format, entry_format, entries, entries_in, entries_pass, or_none}
+use Rattle.rpki_crl.specs.RevokedEntries.{Entry, IsEntry, AreEntries, FitsEntry, entry, entry_content_format}
+use Rattle.rpki_crl.specs.RevokedEntries.{entry_format, entries, entries_in, entries_pass, or_none}
 use Rattle.rpki_crl.proofs.EntryReads.{entry_alone, entry_reads, entry_shrinks}
 
 -- a serial number that is written has at most 23 octets

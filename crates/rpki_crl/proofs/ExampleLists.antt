@@ -36,10 +36,19 @@ some_list = record {
 }
 
 is_moment : IsMoment year_2000
-is_moment = record { year = omega arith; month = (omega arith, omega arith); day = (omega arith, omega arith); hour = omega arith; minute = omega arith; second = omega arith }
+is_moment = record {
+  year = omega arith;
+  month = (omega arith, omega arith);
+  day = (omega arith, omega arith);
+  hour =
+      omega arith;
+  minute = omega arith;
+  second = omega arith;
+}
 
 short : length (list_content some_list) < 2 ^ 32
-unfolding list_content_format version_2 algorithm_format name_format revoked_format extension_format authority_key_identifier_format enc length_octets number time
+unfolding list_content_format version_2 algorithm_format name_format revoked_format extension_format
+    authority_key_identifier_format enc length_octets number time
 short = omega arith
 
 -- the fields of the example have an encoding

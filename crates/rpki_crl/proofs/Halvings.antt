@@ -37,9 +37,16 @@ digits_grow m n h = digits_grow_by n m n (omega arith) h
 module _ (xs : List ℕ) (serial : ℕ) where
   -- at first the serial is searched for between the ends of the table
   pub at_first : IsBetween xs serial 0 (length xs)
-  at_first = record { order = omega arith; inside = omega arith; before = λ i h. absurd (omega arith); after = λ i h l. absurd (omega arith) }
+  at_first = record {
+    order = omega arith;
+    inside = omega arith;
+    before = λ i h. absurd (omega arith);
+    after =
+        λ i h l. absurd (omega arith);
+  }
 
-  module _ (ascending : AreAscending xs) (low middle high : ℕ) (between : IsBetween xs serial low high) (p : low ≤ middle) (q : middle < high) where
+  module _ (ascending : AreAscending xs) (low middle high : ℕ) (between : IsBetween xs serial low high)
+      (p : low ≤ middle) (q : middle < high) where
     -- a serial above the middle one is searched for above it
     pub go_up : get_or xs middle 0 < serial → IsBetween xs serial (middle + 1) high
     go_up less = record {

@@ -17,7 +17,10 @@ use Rattle.rpki_parts.proofs.PartFormats.{algorithm_alone, algorithm_fits}
 use Rattle.rpki_parts.proofs.SignedFormats.{signed_lawful}
 use Rattle.rpki_crl.specs.ListExtensions.{FitListExtensions, list_extensions_format}
 use Rattle.rpki_crl.specs.ListHeads.{head_format, skipped_format}
-use Rattle.rpki_crl.specs.Lists.{IsTbsCertList, ListFields, ListFits, IsTbsCertListWithin, list_content, list_encoding, certificate_list_content_format, certificate_list_format, content_with, has_one_algorithm, list_content_format, list_format, tagged_extensions_format, version_2}
+use Rattle.rpki_crl.specs.Lists.{IsTbsCertList, ListFields, ListFits, IsTbsCertListWithin, list_content}
+use Rattle.rpki_crl.specs.Lists.{list_encoding, certificate_list_content_format, certificate_list_format}
+use Rattle.rpki_crl.specs.Lists.{content_with, has_one_algorithm, list_content_format, list_format}
+use Rattle.rpki_crl.specs.Lists.{tagged_extensions_format, version_2}
 use Rattle.rpki_crl.specs.RevokedEntries.{Revoked, revoked_format}
 use Rattle.rpki_crl.proofs.ListExtensionsReads.{list_extensions_lawful}
 use Rattle.rpki_crl.proofs.ListReads.{revoked_fits, revoked_lawful}
@@ -25,12 +28,18 @@ use Rattle.rpki_crl.proofs.ListReads.{revoked_fits, revoked_lawful}
 -- anything may follow the version
 pub version_alone : IsAlone version_2
 unfolding version_2
-version_alone = record { law = only_lawful (1 ∷ []) (any_octets INTEGER) (any_octets_lawful INTEGER (omega arith) (omega arith)); none = refl }
+version_alone = record {
+  law = only_lawful (1 ∷ []) (any_octets INTEGER)
+      (any_octets_lawful INTEGER (omega arith) (omega arith));
+  none = refl;
+}
 
 entries_and_extensions : IsAlone (then revoked_format tagged_extensions_format)
 unfolding revoked_format
 entries_and_extensions = record {
-  law = then_lawful revoked_format tagged_extensions_format refl revoked_lawful (tagged_lawful (CONTEXT_CONSTRUCTED 0) list_extensions_format (omega arith) (omega arith) list_extensions_lawful);
+  law = then_lawful revoked_format tagged_extensions_format refl revoked_lawful
+      (tagged_lawful (CONTEXT_CONSTRUCTED 0) list_extensions_format (omega arith) (omega arith)
+      list_extensions_lawful);
   none = refl;
 }
 
@@ -49,7 +58,9 @@ module _ (depth : ℕ) where
   content_alone : {C : Type 0} (entries : Format C) → IsAlone (then entries tagged_extensions_format) → IsAlone (content_with entries depth)
   content_alone entries last =
       let times = then_alone time_format _ time_alone (then_alone time_format _ time_alone last) in
-      let parts = then_alone version_2 _ version_alone (then_alone algorithm_format _ algorithm_alone (then_alone (name_format depth) _ (name_alone depth) times)) in
+      let parts = then_alone version_2 _ version_alone
+      (then_alone algorithm_format _ algorithm_alone
+      (then_alone (name_format depth) _ (name_alone depth) times)) in
       record { law = fields_lawful _ _ (λ x. refl) (λ f. refl) parts.law; none = parts.none }
 
   -- anything may follow the content of a TBSCertList
@@ -60,12 +71,20 @@ module _ (depth : ℕ) where
   -- anything may follow a TBSCertList whose entries aren't looked at
   pub head_alone : IsAlone (head_format depth)
   unfolding head_format
-  head_alone = record { law = tagged_lawful SEQUENCE (content_with skipped_format depth) (omega arith) (omega arith) (content_alone skipped_format skipped_and_extensions).law; none = refl }
+  head_alone = record {
+    law = tagged_lawful SEQUENCE (content_with skipped_format depth) (omega arith) (omega arith)
+        (content_alone skipped_format skipped_and_extensions).law;
+    none = refl;
+  }
 
   -- anything may follow a TBSCertList
   pub list_alone : IsAlone (list_format depth)
   unfolding list_format
-  list_alone = record { law = tagged_lawful SEQUENCE (list_content_format depth) (omega arith) (omega arith) list_content_alone.law; none = refl }
+  list_alone = record {
+    law = tagged_lawful SEQUENCE (list_content_format depth) (omega arith) (omega arith)
+        list_content_alone.law;
+    none = refl;
+  }
 
   -- a TBSCertList is one value
   pub list_value : (f : ListFields Revoked) (text : List ℕ) → IsTbsCertListWithin depth f text → IsValue text
@@ -76,14 +95,20 @@ module _ (depth : ℕ) where
   pub certificate_list_content_alone : IsAlone (certificate_list_content_format depth)
   unfolding certificate_list_content_format
   certificate_list_content_alone = record {
-    law = such_that_lawful has_one_algorithm _ (fields_lawful _ _ (λ x. refl) (λ r. refl) (signed_lawful (list_format depth) list_alone list_value));
+    law = such_that_lawful has_one_algorithm
+        _ (fields_lawful _ _ (λ x. refl) (λ r. refl) (signed_lawful (list_format depth) list_alone list_value));
     none = refl;
   }
 
   -- anything may follow a CertificateList
   pub certificate_list_alone : IsAlone (certificate_list_format depth)
   unfolding certificate_list_format
-  certificate_list_alone = record { law = tagged_lawful SEQUENCE (certificate_list_content_format depth) (omega arith) (omega arith) certificate_list_content_alone.law; none = refl }
+  certificate_list_alone =
+      record {
+        law = tagged_lawful SEQUENCE (certificate_list_content_format depth) (omega arith) (omega arith)
+            certificate_list_content_alone.law;
+        none = refl;
+      }
 
 -- ---- what is written
 
@@ -97,13 +122,28 @@ module _ (f : ListFields Revoked) (fits : ListFits f) where
   pub list_fits : (list_content_format levels).fits f
   unfolding list_content_format version_2 name_format
   list_fits =
-      let extensions : FitListExtensions f.extensions = record { identifier_is = fits.identifier_is; number_is = fits.number_is } in
-      ((omega arith, tt), (algorithm_fits f.algorithm, (fits.issuer_is.0, (fits.this_update_is, (fits.next_update_is, (revoked_fits f.revoked fits.entries_are, extensions))))))
+      let extensions : FitListExtensions f.extensions = record { identifier_is = fits.identifier_is; number_is = fits.number_is } in (
+        (omega arith, tt),
+        (
+          algorithm_fits f.algorithm,
+          (
+            fits.issuer_is.0,
+            (fits.this_update_is, (fits.next_update_is, (revoked_fits f.revoked fits.entries_are, extensions))),
+          ),
+        ),
+      )
 
   -- the encoding of a list's fields is a SEQUENCE of their content
   pub data_made : (b : List ℕ) → b ≡ list_encoding f → IsEnc SEQUENCE (list_content f) b
   unfolding list_format
-  data_made b is = record { octet = omega arith; low_tag = omega arith; octets = (list_content_alone levels).law.octets f list_fits fits.short; short = fits.short; is = is }
+  data_made b is = record {
+    octet = omega arith;
+    low_tag = omega arith;
+    octets =
+        (list_content_alone levels).law.octets f list_fits fits.short;
+    short = fits.short;
+    is = is;
+  }
 
   -- the encoding of a list's fields is a TBSCertList of them
   pub list_made : IsTbsCertList f (list_encoding f)

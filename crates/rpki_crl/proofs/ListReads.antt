@@ -18,7 +18,9 @@ use Rattle.rpki_der.proofs.Sequences.{sequence_again, elements_are}
 use Rattle.rpki_der.proofs.SequenceWalks.{passed}
 use Rattle.rpki_der.proofs.WrittenOctets.{value_octets}
 use Rattle.rpki_der.specs.Answers.{AnswersOrAbsentOrMemory}
-use Rattle.rpki_crl.specs.RevokedEntries.{AreEntries, AreKept, Entry, FitsRevoked, IsEntry, IsRevokedCertificates, Revoked, entries_in, entries_pass, entry_format, kept_entries, or_no_entries, revoked_format, revoked_of, some_entries}
+use Rattle.rpki_crl.specs.RevokedEntries.{AreEntries, AreKept, Entry, FitsRevoked, IsEntry, IsRevokedCertificates}
+use Rattle.rpki_crl.specs.RevokedEntries.{Revoked, entries_in, entries_pass, entry_format, kept_entries}
+use Rattle.rpki_crl.specs.RevokedEntries.{or_no_entries, revoked_format, revoked_of, some_entries}
 use Rattle.rpki_crl.proofs.EntryReads.{entry_reads, entry_shrinks}
 use Rattle.rpki_crl.proofs.EntrySequences.{all_read, entries_are}
 
@@ -29,12 +31,17 @@ unfolding revoked_of
 content_takes content r fits e =
     let made : Revoked = record { entries = entries_in content; octets = content } in
     let a = bind_some (entries_pass content) (λ elements. some made) r e in
-    subst (λ (s : Revoked). AreKept s content) (some_is made r a.2) (elements_are entry_format.read IsEntry entry_reads content (entries_in content) fits (entries_are content a.1), refl)
+    subst (λ (s : Revoked). AreKept s content) (some_is made r a.2) (
+      elements_are entry_format.read IsEntry entry_reads content (entries_in content) fits
+          (entries_are content a.1),
+      refl,
+    )
 
 content_again : (r : Revoked) (content : List ℕ) → AreKept r content → revoked_of content ≡ some r
 unfolding revoked_of entries_pass
 content_again r content is =
-    let elements : sequence_of entry_format.read content ≡ some r.entries = sequence_again entry_format.read IsEntry entry_reads entry_shrinks r.entries content is.0 in
+    let elements : sequence_of entry_format.read content ≡ some r.entries = sequence_again entry_format.read IsEntry
+    entry_reads entry_shrinks r.entries content is.0 in
     rw (passed entry_format.read content, elements, is.1) refl
 
 content_is_read : ReadsWhole revoked_of AreKept
@@ -57,25 +64,39 @@ unfolding revoked_format
 revoked_lawful =
     image_lawful (λ o. Some (or_no_entries o)) (λ r. some_entries r.octets r.entries) (OPTIONAL SEQUENCE kept_entries)
     (optional_lawful SEQUENCE kept_entries refl refl (omega arith)
-    (primitive_lawful SEQUENCE revoked_of AreKept FitsRevoked (λ r. r.octets) (omega arith) (omega arith) content_is_read (λ r fits short. entries_octets r.entries r.octets fits) (λ r fits short. (fits, refl))))
+    (primitive_lawful SEQUENCE revoked_of AreKept FitsRevoked (λ r. r.octets) (omega arith) (omega arith)
+    content_is_read (λ r fits short. entries_octets r.entries r.octets fits) (λ r fits short. (fits, refl))))
 
 -- revokedCertificates are read as they are encoded, absent or not
 pub revoked_reads : ReadsOrAbsent SEQUENCE revoked_format.read IsRevokedCertificates
 unfolding revoked_format
 revoked_reads =
-    map_value_or_absent SEQUENCE or_no_entries (optional SEQUENCE (content SEQUENCE revoked_of)) (Optional (Inside SEQUENCE AreKept)) revoked_format.encodes
-    (optional_or_absent SEQUENCE (content SEQUENCE revoked_of) (Inside SEQUENCE AreKept) (content_reads SEQUENCE revoked_of AreKept content_is_read) (inside_begins SEQUENCE AreKept))
+    map_value_or_absent SEQUENCE or_no_entries (optional SEQUENCE (content SEQUENCE revoked_of))
+    (Optional (Inside SEQUENCE AreKept)) revoked_format.encodes
+    (optional_or_absent SEQUENCE (content SEQUENCE revoked_of) (Inside SEQUENCE AreKept)
+    (content_reads SEQUENCE revoked_of AreKept content_is_read) (inside_begins SEQUENCE AreKept))
     (λ o text s. (o, s, refl))
     (λ r text s. (s.0, some_is (or_no_entries s.0) r s.2, s.1))
 
 -- a reader of them answers both ways
-pub answers_revoked : (old : Place) (r : Result Revoked DecodeError) (new : Place) → AreOctets (remaining old) → TookOrMemory revoked_format.read old r new → Keeps r old new → AnswersOrAbsentOrMemory SEQUENCE revoked_format old r new
-answers_revoked old r new fits took keeps = record { encoded = answers_or_absent_or_memory SEQUENCE revoked_format.read IsRevokedCertificates revoked_reads old r new fits took; reads = took; keeps = keeps }
+pub answers_revoked : (old : Place) (r : Result Revoked DecodeError) (new : Place) → AreOctets (remaining old) →
+    TookOrMemory revoked_format.read old r new → Keeps r old new →
+    AnswersOrAbsentOrMemory SEQUENCE revoked_format old r new
+answers_revoked old r new fits took keeps =
+    record {
+      encoded = answers_or_absent_or_memory SEQUENCE revoked_format.read IsRevokedCertificates revoked_reads
+          old r new fits took;
+      reads = took;
+      keeps = keeps;
+    }
 
 no_octets : (entries : List Entry) → AreEntries entries [] → [] ≡ entries
-no_octets entries are = some_is [] entries (sym all_read ∙ sequence_again entry_format.read IsEntry entry_reads entry_shrinks entries [] are)
+no_octets entries are =
+    some_is [] entries
+    (sym all_read ∙ sequence_again entry_format.read IsEntry entry_reads entry_shrinks entries [] are)
 
-fits_so : (octets : List ℕ) (entries : List Entry) → AreEntries entries octets → revoked_format.fits (record { entries = entries; octets = octets })
+fits_so : (octets : List ℕ) (entries : List Entry) → AreEntries entries octets →
+    revoked_format.fits (record { entries = entries; octets = octets })
 unfolding revoked_format
 fits_so [] entries are = (ap (λ (es : List Entry). some {A = Revoked} (record { entries = es; octets = [] })) (no_octets entries are), tt)
 fits_so (octet ∷ octets) entries are = (refl, are)

@@ -14,16 +14,29 @@ use Rattle.rpki_crl.specs.Lists.{ListFields, list_content, list_content_format, 
 use Rattle.rpki_crl.specs.RevokedEntries.{Revoked, kept_entries, revoked, revoked_format, revoked_part, some_entries}
 
 -- each extension, in the sequence
-pub identifier_longer : (x : ListExtensions) → length (extension_part authority_key_identifier.identifier false (authority_key_identifier.format.written x.authority_key_identifier)).inside ≤ length (list_sequence x)
-identifier_longer x = omega (arith, extension_longer authority_key_identifier.identifier false (authority_key_identifier.format.written x.authority_key_identifier), length-append {A = ℕ})
+pub identifier_longer : (x : ListExtensions) →
+    length (extension_part authority_key_identifier.identifier false
+    (authority_key_identifier.format.written x.authority_key_identifier)).inside ≤ length (list_sequence x)
+identifier_longer x =
+    omega (
+      arith,
+      extension_longer authority_key_identifier.identifier false
+          (authority_key_identifier.format.written x.authority_key_identifier),
+      length-append {A = ℕ},
+    )
 
 -- the extension of a CRL number isn't longer than the sequence
-pub number_longer : (x : ListExtensions) → length (extension_part crl_number.identifier false (number x.crl_number)).inside ≤ length (list_sequence x)
+pub number_longer : (x : ListExtensions) →
+    length (extension_part crl_number.identifier false (number x.crl_number)).inside ≤ length (list_sequence x)
 number_longer x = omega (arith, extension_longer crl_number.identifier false (number x.crl_number), length-append {A = ℕ})
 
 -- the sequence, and its SEQUENCE, in the tag
 pub elements_longer : (x : ListExtensions) → length (list_sequence x) ≤ length (tagged_list_extensions x)
-elements_longer x = omega (arith, enc_longer (CONTEXT_CONSTRUCTED 0) (enc SEQUENCE (list_sequence x)), enc_longer SEQUENCE (list_sequence x))
+elements_longer x = omega (
+  arith,
+  enc_longer (CONTEXT_CONSTRUCTED 0) (enc SEQUENCE (list_sequence x)),
+  enc_longer SEQUENCE (list_sequence x),
+)
 
 -- the SEQUENCE of extensions isn't longer than inside its tag
 pub sequence_longer : (x : ListExtensions) → length (enc SEQUENCE (list_sequence x)) ≤ length (tagged_list_extensions x)

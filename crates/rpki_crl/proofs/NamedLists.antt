@@ -9,9 +9,11 @@ use Rattle.rpki_crl.specs.Lists.{CrlState}
 use Rattle.rpki_crl.specs.Revocation.{RevocationCheck, CertRevocationCheck, IsUnderUri, IsListOf, IsUnrevoked, revocation_checks}
 use Rattle.rpki_crl.specs.Stores.{Stored}
 use Rattle.rpki_crl.specs.declared.revocation_error.RevocationError.{RevocationError}
-use Rattle.rpki_crl.specs.declared.revocation_error.RevocationError.TheVariants.{NoCrl, WrongKeyId, BadSignature, Stale, Revoked, WrongIssuer}
+use Rattle.rpki_crl.specs.declared.revocation_error.RevocationError.TheVariants.{NoCrl, WrongKeyId, BadSignature}
+use Rattle.rpki_crl.specs.declared.revocation_error.RevocationError.TheVariants.{Stale, Revoked, WrongIssuer}
 
-module _ (x : Context) (pairs : List Stored) (issuer : TbsFields) (c : CertFields) (uri : List ℕ) (is : c.fields.extensions.crl_uri ≡ Some uri) where
+module _ (x : Context) (pairs : List Stored) (issuer : TbsFields) (c : CertFields) (uri : List ℕ)
+    (is : c.fields.extensions.crl_uri ≡ Some uri) where
   abbrev UnderUri : RevocationError → Type 0
   UnderUri = RevocationCheck x issuer c.fields.serial (IsUnderUri pairs uri)
 
@@ -37,10 +39,13 @@ module _ (x : Context) (pairs : List Stored) (issuer : TbsFields) (c : CertField
   under_of WrongIssuer l = λ crl at. tt
 
   -- what is tested under the URI is what is tested of the certificate
-  module _ (serial : ℕ) (number : c.fields.serial ≡ serial) (r : Result (Unit {0}) RevocationError) (t : Tests (RevocationCheck x issuer serial (IsUnderUri pairs uri)) revocation_checks r) where
+  module _ (serial : ℕ) (number : c.fields.serial ≡ serial) (r : Result (Unit {0}) RevocationError)
+      (t : Tests (RevocationCheck x issuer serial (IsUnderUri pairs uri)) revocation_checks r) where
     pub tests_named : Tests (CertRevocationCheck x pairs issuer c) revocation_checks r
     tests_named =
-        let own : Tests UnderUri revocation_checks r = subst (λ (n : ℕ). Tests (RevocationCheck x issuer n (IsUnderUri pairs uri)) revocation_checks r) (sym number) t in
+        let own : Tests UnderUri revocation_checks r =
+        subst (λ (n : ℕ). Tests (RevocationCheck x issuer n (IsUnderUri pairs uri)) revocation_checks r)
+        (sym number) t in
         tests_map UnderUri (CertRevocationCheck x pairs issuer c) revocation_checks r (λ e. (check_of e, under_of e)) own
 
     pub ok_unrevoked : IsOk r ↔ IsUnrevoked x pairs issuer c

@@ -8,7 +8,8 @@ use Rattle.rpki_crl.specs.RevokedEntries.{Entry, IsRevoked}
 use Rattle.rpki_crl.specs.SerialSearches.{IsSearch, IsTableSearch}
 use Rattle.rpki_crl.specs.SerialTables.{AreAscending, digits, serials_of, IsCacheOf}
 
-module _ (entries : List Entry) (cache : Option (List ℕ)) (table : List ℕ) (holds : IsCacheOf entries cache) (there : cache ≡ Some table) where
+module _ (entries : List Entry) (cache : Option (List ℕ)) (table : List ℕ) (holds : IsCacheOf entries cache)
+    (there : cache ≡ Some table) where
   shuffled : IsPermutation (serials_of entries) table
   shuffled = subst (λ (c : Option (List ℕ)). IsCacheOf entries c) there holds
 
@@ -22,7 +23,8 @@ module _ (entries : List Entry) (cache : Option (List ℕ)) (table : List ℕ) (
   -- few looks into the table are few for the entries
   pub few_in_table : (count : ℕ) → count ≤ digits (length table) → count ≤ digits (length entries)
   few_in_table count few =
-      let same : length table ≡ length entries = length_permutation (serials_of entries) table shuffled ∙ length-map entries (λ e. e.serial) in
+      let same : length table ≡ length entries = length_permutation (serials_of entries) table shuffled ∙
+      length-map entries (λ e. e.serial) in
       omega (arith, few, ap digits same)
 
   -- a search of the table is one of the entries' serials

@@ -12,7 +12,8 @@ use Rattle.rpki_crl.specs.declared.entry.CrlEntry.{CrlEntry}
 
 -- some iterator that c becomes gives these entries, in their order, and then ends
 abbrev pub AreGiven : {C It : Type 0} → (C → It → Type 0) → (It → Option CrlEntry → It → Type 0) → C → List Entry → Type 0
-AreGiven {C} {It} into_iter next c es = (it : It) × (items : List CrlEntry) × into_iter c it × Drains next it items × (es ≡ map entry_of items)
+AreGiven {C} {It} into_iter next c es = (it : It) × (items : List CrlEntry) × into_iter c it × Drains next it items ×
+    (es ≡ map entry_of items)
 
 -- fields with these entries, as they are written
 abbrev pub with_entries : {C : Type 0} → ListFields C → List Entry → ListFields Revoked

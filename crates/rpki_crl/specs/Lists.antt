@@ -43,7 +43,15 @@ tagged_extensions_format = tagged (CONTEXT_CONSTRUCTED 0) list_extensions_format
 -- revokedCertificates in this format
 abbrev pub content_with : {C : Type 0} → Format C → ℕ → Format (ListFields C)
 content_with entries depth = fields
-    (λ x. record { algorithm = x.1.0; issuer = x.1.1.0; this_update = x.1.1.1.0; next_update = x.1.1.1.1.0; revoked = x.1.1.1.1.1.0; extensions = x.1.1.1.1.1.1 })
+    (λ x. record {
+      algorithm = x.1.0;
+      issuer = x.1.1.0;
+      this_update = x.1.1.1.0;
+      next_update = x.1.1.1.1.0;
+      revoked =
+          x.1.1.1.1.1.0;
+      extensions = x.1.1.1.1.1.1;
+    })
     ((λ f. tt) ∶ version_2
     ⨟ (λ f. f.algorithm) ∶ algorithm_format
     ⨟ (λ f. f.issuer) ∶ name_format depth

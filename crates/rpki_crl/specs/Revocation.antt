@@ -9,7 +9,8 @@ use Rattle.rpki_crl.specs.Lists.{CrlFields, CrlState}
 use Rattle.rpki_crl.specs.RevokedEntries.{IsRevoked}
 use Rattle.rpki_crl.specs.Stores.{Stored, IsEarliest}
 use Rattle.rpki_crl.specs.declared.revocation_error.RevocationError.{RevocationError}
-use Rattle.rpki_crl.specs.declared.revocation_error.RevocationError.TheVariants.{NoCrl, WrongKeyId, BadSignature, Stale, Revoked, WrongIssuer}
+use Rattle.rpki_crl.specs.declared.revocation_error.RevocationError.TheVariants.{NoCrl, WrongKeyId, BadSignature}
+use Rattle.rpki_crl.specs.declared.revocation_error.RevocationError.TheVariants.{Stale, Revoked, WrongIssuer}
 
 -- the list names the issuer's key as the one that signs it (RFC 5280 5.2.1)
 abbrev pub NamesIssuer : TbsFields → CrlFields → Type 0

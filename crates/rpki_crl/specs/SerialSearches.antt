@@ -14,8 +14,10 @@ middle low high = low + (high - low) / 2
 pub data Halving (xs : List ℕ) (serial : ℕ) : ℕ → ℕ → ℕ → Type 0 where
   nothing : (low high : ℕ) → high ≤ low → Halving xs serial low high 0
   found : (low high : ℕ) → low < high → get_or xs (middle low high) 0 ≡ serial → Halving xs serial low high 1
-  above : (low high looks : ℕ) → low < high → get_or xs (middle low high) 0 < serial → Halving xs serial (middle low high + 1) high looks → Halving xs serial low high (looks + 1)
-  below : (low high looks : ℕ) → low < high → serial < get_or xs (middle low high) 0 → Halving xs serial low (middle low high) looks → Halving xs serial low high (looks + 1)
+  above : (low high looks : ℕ) → low < high → get_or xs (middle low high) 0 < serial →
+      Halving xs serial (middle low high + 1) high looks → Halving xs serial low high (looks + 1)
+  below : (low high looks : ℕ) → low < high → serial < get_or xs (middle low high) 0 →
+      Halving xs serial low (middle low high) looks → Halving xs serial low high (looks + 1)
 
 -- from low to high the serial's bucket stands, where a later bucket has a number
 pub record IsBucket (base shift : ℕ) (xs : List ℕ) (serial low high : ℕ) : Type 0 where

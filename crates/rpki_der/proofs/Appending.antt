@@ -7,7 +7,8 @@ use Rattle.rpki_der.specs.Extensions.{extension_content}
 use Rattle.rpki_der.specs.Tags.{OBJECT_IDENTIFIER, OCTET_STRING, SEQUENCE}
 
 -- what was appended may be written in another form
-pub appends : {T E : Type 0} (r : Result T E) (old ds es new : List ℕ) → ds ≡ es → new ≡ (if is_ok r then old ++ ds else old) → OnOk r (new ≡ old ++ es)
+pub appends : {T E : Type 0} (r : Result T E) (old ds es new : List ℕ) → ds ≡ es →
+    new ≡ (if is_ok r then old ++ ds else old) → OnOk r (new ≡ old ++ es)
 appends (Ok x) old ds es new same e = e ∙ ap (λ (s : List ℕ). old ++ s) same
 appends (Err d) old ds es new same e = tt
 
@@ -29,12 +30,19 @@ regrouped : (s t : ℕ) (a b c d e : List ℕ) → (s ∷ (a ++ (b ++ (c ++ (t �
 regrouped s t a b c d e = simp append_assoc
 
 -- what stands before the content of an extension, and the content
-pub fronted : (id flag content : List ℕ) (len content_len : ℕ) → len ≡ length (extension_content id flag content) → content_len ≡ length content → (SEQUENCE ∷ (length_octets len ++ (enc OBJECT_IDENTIFIER id ++ (flag ++ (OCTET_STRING ∷ length_octets content_len))))) ++ content ≡ enc SEQUENCE (extension_content id flag content)
+pub fronted : (id flag content : List ℕ) (len content_len : ℕ) → len ≡ length (extension_content id flag content) →
+    content_len ≡ length content →
+    (SEQUENCE ∷ (length_octets len ++
+    (enc OBJECT_IDENTIFIER id ++ (flag ++ (OCTET_STRING ∷ length_octets content_len))))) ++ content ≡
+    enc SEQUENCE (extension_content id flag content)
 unfolding enc
-fronted id flag content len content_len e f = rw (e, f) (regrouped SEQUENCE OCTET_STRING (length_octets (length (extension_content id flag content))) (enc OBJECT_IDENTIFIER id) flag (length_octets (length content)) content)
+fronted id flag content len content_len e f =
+    rw (e, f) (regrouped SEQUENCE OCTET_STRING (length_octets (length (extension_content id flag content)))
+    (enc OBJECT_IDENTIFIER id) flag (length_octets (length content)) content)
 
 -- the contents in an extension aren't longer than what stands inside its SEQUENCE
-pub contents_shorter : (id flag content : List ℕ) → (length id ≤ length (extension_content id flag content)) × (length content ≤ length (extension_content id flag content))
+pub contents_shorter : (id flag content : List ℕ) → (length id ≤ length (extension_content id flag content)) ×
+    (length content ≤ length (extension_content id flag content))
 contents_shorter id flag content =
     let pieces = length-pieces (enc OBJECT_IDENTIFIER id) flag (enc OCTET_STRING content) in
     (omega (arith, pieces, length-enc OBJECT_IDENTIFIER id), omega (arith, pieces, length-enc OCTET_STRING content))

@@ -23,7 +23,8 @@ by_second t f g (b ∷ bytes) other = rw (ne_eqb b t other) refl
 
 choice_takes : {V : Type 0} (t : ℕ) (f g : List ℕ → Option (V × List ℕ)) (S T : V → List ℕ → Type 0) → Reads f S → Reads g T
     → (bytes : List ℕ) (v : V) (rest : List ℕ) → AreOctets bytes → choice t f g bytes ≡ Some (v, rest) → Begins (Either S T) bytes v rest
-choice_takes t f g S T F G [] v rest fits e = let r = G.takes [] v rest fits e in record { text = r.text; encoded = inr r.encoded; parts = r.parts }
+choice_takes t f g S T F G [] v rest fits e = let r = G.takes [] v rest fits e in
+    record { text = r.text; encoded = inr r.encoded; parts = r.parts }
 choice_takes t f g S T F G (b ∷ bytes) v rest fits e =
     elim (cases_Bool (eqb b t)) [
       | inl y ↦ let r = F.takes (b ∷ bytes) v rest fits (rw y at e) in record { text = r.text; encoded = inl r.encoded; parts = r.parts }
@@ -32,11 +33,13 @@ choice_takes t f g S T F G (b ∷ bytes) v rest fits e =
 
 -- where the second form begins otherwise
 pub choice_reads : {V : Type 0} (t : ℕ) (f g : List ℕ → Option (V × List ℕ)) (S T : V → List ℕ → Type 0)
-    → Reads f S → Reads g T → BeginWith t S → ((v : V) (text rest : List ℕ) → T v text → BeginsOther t (text ++ rest)) → Reads (choice t f g) (Either S T)
+    → Reads f S → Reads g T → BeginWith t S →
+    ((v : V) (text rest : List ℕ) → T v text → BeginsOther t (text ++ rest)) → Reads (choice t f g) (Either S T)
 choice_reads t f g S T F G begin other = record {
   takes = choice_takes t f g S T F G;
   again = λ v text rest s. elim s [
-    | inl a ↦ let b = begin v text a in by_first t f g (text ++ rest) (b.0 ++ rest) (ap (λ (x : List ℕ). x ++ rest) b.1) ∙ F.again v text rest a
+    | inl a ↦ let b = begin v text a in
+        by_first t f g (text ++ rest) (b.0 ++ rest) (ap (λ (x : List ℕ). x ++ rest) b.1) ∙ F.again v text rest a
     | inr a ↦ by_second t f g (text ++ rest) (other v text rest a) ∙ G.again v text rest a
   ];
 }
@@ -44,7 +47,8 @@ choice_reads t f g S T F G begin other = record {
 -- ---- what a function makes of a value
 
 -- what a function makes of a whole
-pub conversion_reads_whole : {X Y : Type 0} (f : X → Option Y) (read : List ℕ → Option X) (S : X → List ℕ → Type 0) → ReadsWhole read S → ReadsWhole (λ c. read c >>= f) (IsConversion f S)
+pub conversion_reads_whole : {X Y : Type 0} (f : X → Option Y) (read : List ℕ → Option X) (S : X → List ℕ → Type 0) →
+    ReadsWhole read S → ReadsWhole (λ c. read c >>= f) (IsConversion f S)
 conversion_reads_whole {X} {Y} f read S F = record {
   takes = λ octets y fits e.
       let a = bind_some (read octets) f y e in
@@ -55,8 +59,14 @@ conversion_reads_whole {X} {Y} f read S F = record {
 -- ---- the whole of some octets
 
 -- a sequence is a whole
-pub sequence_reads : {X : Type 0} (read : List ℕ → Option (X × List ℕ)) (S : X → List ℕ → Type 0) → Reads read S → Shrinks read → ReadsWhole (sequence_of read) (AreEncodings S)
-sequence_reads read S F less = record { takes = λ octets xs fits e. elements_are read S F octets xs fits e; again = λ xs octets s. sequence_again read S F less xs octets s }
+pub sequence_reads : {X : Type 0} (read : List ℕ → Option (X × List ℕ)) (S : X → List ℕ → Type 0) → Reads read S →
+    Shrinks read → ReadsWhole (sequence_of read) (AreEncodings S)
+sequence_reads read S F less =
+    record {
+      takes = λ octets xs fits e. elements_are read S F octets xs fits e;
+      again =
+          λ xs octets s. sequence_again read S F less xs octets s;
+    }
 
 -- ---- a content, or something else
 
@@ -88,7 +98,8 @@ inside_shrinks {X} t f = λ bytes x rest e.
     omega (arith, ap length same, value_shorter t bytes p.0.0 p.0.1 p.1)
 
 -- a reading that is turned uses octets up where the reading does
-pub conversion_shrinks : {X Y : Type 0} (f : X → Option Y) (read : List ℕ → Option (X × List ℕ)) → Shrinks read → Shrinks (conversion f read)
+pub conversion_shrinks : {X Y : Type 0} (f : X → Option Y) (read : List ℕ → Option (X × List ℕ)) → Shrinks read →
+    Shrinks (conversion f read)
 conversion_shrinks {X} {Y} f read less = λ bytes y rest e.
     let a = bind_some (read bytes) (λ x. f x.0 >>= λ z. some {A = Y × List ℕ} (z, x.1)) (y, rest) e in
     let b = bind_some (f a.0.0) (λ z. some {A = Y × List ℕ} (z, a.0.1)) (y, rest) a.2 in

@@ -18,7 +18,10 @@ pub behind : (start : ℕ) (old inside mid : List ℕ) → start ≡ length old 
 behind start old inside mid at is = rw is (drop_at old inside start (sym at))
 
 -- they wrote the part, or left the octets as they were
-pub ended : (p : List ℕ → Part) (start : ℕ) (old inside mid new : List ℕ) (content r : Result (Unit {0}) EncodeError) → start ≡ length old → OnOk content (mid ≡ old ++ inside) → OnErr content (take (length old) mid ≡ old) → SaysLong content (p inside).inside → Ends p start mid content r new → Writes (p inside) old r new
+pub ended : (p : List ℕ → Part) (start : ℕ) (old inside mid new : List ℕ)
+    (content r : Result (Unit {0}) EncodeError) → start ≡ length old → OnOk content (mid ≡ old ++ inside) →
+    OnErr content (take (length old) mid ≡ old) → SaysLong content (p inside).inside →
+    Ends p start mid content r new → Writes (p inside) old r new
 ended p start old inside mid new (Ok u) (Ok v) at ok err says e =
     let front : take start mid ≡ old = rw ok (take_at old inside start (sym at)) in
     let rest : drop start mid ≡ inside = behind start old inside mid at ok in
@@ -27,7 +30,8 @@ ended p start old inside mid new (Ok u) (Ok v) at ok err says e =
       err = tt;
       fits = elim (cases_lt (length (p inside).inside) (2 ^ 32)) [
         | inl short ↦ short
-        | inr much ↦ absurd (let long : 2 ^ 32 ≤ length (p (drop start mid)).inside = rw rest much in let is : Ok v ≡ Err TooLong = (e.too_long refl).1 long in cc)
+        | inr much ↦ absurd (let long : 2 ^ 32 ≤ length (p (drop start mid)).inside = rw rest much in
+            let is : Ok v ≡ Err TooLong = (e.too_long refl).1 long in cc)
       ];
       too_long = λ h. absurd cc;
     }
@@ -40,19 +44,23 @@ ended p start old inside mid new (Err d) (Err f) at ok err says e =
     record { ok = tt; err = e.err ∙ ap (λ (n : ℕ). take n mid) at ∙ err; fits = tt; too_long = λ h. says (sym e.handed_on ∙ h) }
 
 -- what stands behind the first octets isn't longer than the whole, so where it is too long, that is
-pub enclosed_long : {T : Type 0} (r : Result T EncodeError) (start : ℕ) (old inside mid whole : List ℕ) → SaysLong r (drop start mid) → start ≡ length old → mid ≡ old ++ inside → length inside ≤ length whole → SaysLong r whole
+pub enclosed_long : {T : Type 0} (r : Result T EncodeError) (start : ℕ) (old inside mid whole : List ℕ) →
+    SaysLong r (drop start mid) → start ≡ length old → mid ≡ old ++ inside → length inside ≤ length whole →
+    SaysLong r whole
 enclosed_long r start old inside mid whole says at is le = λ long.
     let much : 2 ^ 32 ≤ length (drop start mid) = says long in
     omega (arith, ap length (behind start old inside mid at is))
 
 -- a value of what stands behind the first octets
-pub enclosed : (tag start : ℕ) (old inside mid new : List ℕ) → start ≡ length old → mid ≡ old ++ inside → new ≡ take start mid ++ enc tag (drop start mid) → new ≡ old ++ enc tag inside
+pub enclosed : (tag start : ℕ) (old inside mid new : List ℕ) → start ≡ length old → mid ≡ old ++ inside →
+    new ≡ take start mid ++ enc tag (drop start mid) → new ≡ old ++ enc tag inside
 enclosed tag start old inside mid new at is e =
     let front : take start mid ≡ old = rw is (take_at old inside start (sym at)) in
     e ∙ ap (λ (b : List ℕ). b ++ enc tag (drop start mid)) front ∙ ap (λ (b : List ℕ). old ++ enc tag b) (behind start old inside mid at is)
 
 -- where the end went well, the content did
-pub ended_well : (P Q : Type 0) (content r : Result (Unit {0}) EncodeError) → OnOk content P → OnOk r (IsOk content) → OnOk r Q → OnOk r (P × Q)
+pub ended_well : (P Q : Type 0) (content r : Result (Unit {0}) EncodeError) → OnOk content P → OnOk r (IsOk content) →
+    OnOk r Q → OnOk r (P × Q)
 ended_well P Q (Ok u) (Ok v) p well q = (p, q)
 ended_well P Q (Ok u) (Err d) p well q = tt
 ended_well P Q (Err d) (Ok v) p well q = absurd cc

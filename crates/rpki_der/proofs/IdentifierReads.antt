@@ -1,5 +1,6 @@
 -- The content of an OBJECT IDENTIFIER, both ways.
-use Rattle.std.proofs.Common.{◌≡◌, ℕ, ◌<◌, ◌≤◌, Bool, true, false, not, ◌&&◌, eqb, ltb, List, [], ◌∷◌, ◌++◌, Some, refl, ap, subst, ◌⊎◌, inl, inr, arith}
+use Rattle.std.proofs.Common.{◌≡◌, ℕ, ◌<◌, ◌≤◌, Bool, true, false, not, ◌&&◌, eqb, ltb, List, [], ◌∷◌, ◌++◌, Some}
+use Rattle.std.proofs.Common.{refl, ap, subst, ◌⊎◌, inl, inr, arith}
 use Rattle.std.proofs.lemmas.Bool.{cases_Bool, ltb-true, ltb-false, lt-ltb, le-ltb, eqb-true, and_parts}
 use Rattle.rpki_der.specs.Reading.{content, Reads, Inside}
 use Rattle.rpki_der.specs.Primitives.Reading.{ends_oid, is_oid, oid_of, oid_at}
@@ -67,7 +68,8 @@ not_now true h id p =
       | inr n ↦ rw n refl
     ]
 
-ends_again : (b : Bool) (id front : List ℕ) (last : ℕ) → id ≡ front ++ last ∷ [] → last < 128 → ((x y : List ℕ) → id ≡ x ++ 128 ∷ y → Before b x) → ends_oid b id ≡ true
+ends_again : (b : Bool) (id front : List ℕ) (last : ℕ) → id ≡ front ++ last ∷ [] → last < 128 →
+    ((x y : List ℕ) → id ≡ x ++ 128 ∷ y → Before b x) → ends_oid b id ≡ true
 ends_again b [] [] last is low pad = absurd cc
 ends_again b [] (h ∷ front) last is low pad = absurd cc
 ends_again b (n ∷ id) [] last is low pad =
@@ -98,6 +100,7 @@ pub oid_reads : Reads oid_at IsObjectIdentifier
 unfolding oid_at
 oid_reads =
     same_reads (content OBJECT_IDENTIFIER oid_of) (Inside OBJECT_IDENTIFIER IsOidContent) IsObjectIdentifier
-    (content_reads OBJECT_IDENTIFIER oid_of IsOidContent (record { takes = λ c id low e. whole_takes c id e; again = λ id c s. rw (s.0, oid_again id s.1) refl }))
+    (content_reads OBJECT_IDENTIFIER oid_of IsOidContent
+    (record { takes = λ c id low e. whole_takes c id e; again = λ id c s. rw (s.0, oid_again id s.1) refl }))
     (λ id text s. record { enc = rw (← s.1.0) s.2; oid = s.1.1 })
     (λ id text s. (id, (refl, s.oid), s.enc))

@@ -50,18 +50,36 @@ same_number a b y m d = let same : unsigned_abs a.year ≡ unsigned_abs b.year =
 abbrev Order : ℤ → ℤ → ℤ → ℤ → Type 0
 Order a b x y = ((a <ℤ b) × (x <ℤ y)) ⊎ (((b <ℤ a) × (y <ℤ x)) ⊎ ((a ≡ b) × (x ≡ y)))
 
-order : (a b : DateTime) → IsWhole a → IsWhole b → Order (civil_nanos a) (civil_nanos b) (pos (second_number (moment_of a))) (pos (second_number (moment_of b)))
+order : (a b : DateTime) → IsWhole a → IsWhole b →
+    Order (civil_nanos a) (civil_nanos b) (pos (second_number (moment_of a))) (pos (second_number (moment_of b)))
 order a b p q =
     elim (cases_date a.date b.date) [
-      | inl lt ↦ inl (civil_nanos-lt a b (epoch_day-lt a.date b.date lt), omega (arith, signed_arith, earlier a.date b.date p.year lt, at_day a, at_day b, in_day a.time))
-      | inr (inl gt) ↦ inr (inl (civil_nanos-lt b a (epoch_day-lt b.date a.date gt), omega (arith, signed_arith, earlier b.date a.date q.year gt, at_day a, at_day b, in_day b.time)))
+      | inl lt ↦ inl (
+        civil_nanos-lt a b (epoch_day-lt a.date b.date lt),
+        omega (arith, signed_arith, earlier a.date b.date p.year lt, at_day a, at_day b, in_day a.time),
+      )
+      | inr (inl gt) ↦ inr (inl (
+        civil_nanos-lt b a (epoch_day-lt b.date a.date gt),
+        omega (arith, signed_arith, earlier b.date a.date q.year gt, at_day a, at_day b, in_day b.time),
+      ))
       | inr (inr same) ↦
           let day : epoch_day a.date ≡ epoch_day b.date = epoch_day_same a.date b.date same.0 same.1 same.2 in
           let number : day_number a.date ≡ day_number b.date = same_number a.date b.date same.0 same.1 same.2 in
           elim (cases_order (time_seconds a.time) (time_seconds b.time)) [
-            | inl e ↦ inr (inr (omega (arith, signed_arith, civil_nanos-parts a, civil_nanos-parts b, p.second, q.second), omega (arith, signed_arith, at_day a, at_day b)))
-            | inr (inl lt) ↦ inl (omega (arith, signed_arith, civil_nanos-parts a, civil_nanos-parts b, p.second, q.second), omega (arith, signed_arith, at_day a, at_day b))
-            | inr (inr gt) ↦ inr (inl (omega (arith, signed_arith, civil_nanos-parts a, civil_nanos-parts b, p.second, q.second), omega (arith, signed_arith, at_day a, at_day b)))
+            | inl e ↦ inr (inr (
+              omega
+                  (arith, signed_arith, civil_nanos-parts a, civil_nanos-parts b, p.second, q.second),
+              omega (arith, signed_arith, at_day a, at_day b),
+            ))
+            | inr (inl lt) ↦ inl (
+              omega
+                  (arith, signed_arith, civil_nanos-parts a, civil_nanos-parts b, p.second, q.second),
+              omega (arith, signed_arith, at_day a, at_day b),
+            )
+            | inr (inr gt) ↦ inr (inl (
+              omega (arith, signed_arith, civil_nanos-parts a, civil_nanos-parts b, p.second, q.second),
+              omega (arith, signed_arith, at_day a, at_day b),
+            ))
           ]
     ]
 
@@ -72,9 +90,11 @@ pos_eq : (m n : ℕ) → int_eq (pos m) (pos n) ≡ nat_eq m n
 pos_eq m n = grind (arith, ints)
 
 -- whole seconds are ordered as their moments are
-pub moment_cmp : (a b : DateTime) → IsWhole a → IsWhole b → int_cmp (civil_nanos a) (civil_nanos b) ≡ nat_cmp (second_number (moment_of a)) (second_number (moment_of b))
+pub moment_cmp : (a b : DateTime) → IsWhole a → IsWhole b →
+    int_cmp (civil_nanos a) (civil_nanos b) ≡ nat_cmp (second_number (moment_of a)) (second_number (moment_of b))
 moment_cmp a b p q = (cmp_agrees _ _ _ _ (order a b p q)).0 ∙ pos_cmp (second_number (moment_of a)) (second_number (moment_of b))
 
 -- whole seconds are equal where their moments are
-pub moment_eq : (a b : DateTime) → IsWhole a → IsWhole b → int_eq (civil_nanos a) (civil_nanos b) ≡ nat_eq (second_number (moment_of a)) (second_number (moment_of b))
+pub moment_eq : (a b : DateTime) → IsWhole a → IsWhole b →
+    int_eq (civil_nanos a) (civil_nanos b) ≡ nat_eq (second_number (moment_of a)) (second_number (moment_of b))
 moment_eq a b p q = (cmp_agrees _ _ _ _ (order a b p q)).1 ∙ pos_eq (second_number (moment_of a)) (second_number (moment_of b))

@@ -34,11 +34,14 @@ pub exists_moment : (m : Moment) → IsMoment m → is_moment m ≡ true
 unfolding is_moment
 exists_moment m h =
     and_from _ _
-    (and_from _ _ (and_from _ _ (lt-ltb m.year 10000 h.year) (and_from _ _ (le-leb 1 m.month h.month.0) (le-leb m.month 12 h.month.1))) (and_from _ _ (le-leb 1 m.day h.day.0) (le-leb m.day (days_in_month m.year m.month) h.day.1)))
+    (and_from _ _ (and_from _ _ (lt-ltb m.year 10000 h.year)
+    (and_from _ _ (le-leb 1 m.month h.month.0) (le-leb m.month 12 h.month.1)))
+    (and_from _ _ (le-leb 1 m.day h.day.0) (le-leb m.day (days_in_month m.year m.month) h.day.1)))
     (and_from _ _ (lt-ltb m.hour 24 h.hour) (and_from _ _ (lt-ltb m.minute 60 h.minute) (lt-ltb m.second 60 h.second)))
 
 -- a function that answers exactly the moments that exist
-pub gives_moment : (o : Option Moment) (m : Moment) (d : DecodeError) → IsSome o ↔ IsMoment m → IfSome o (λ t. t ≡ m) → d ≢ Memory → Returns (ok_or o d) (cond (is_moment m) (Some m) None)
+pub gives_moment : (o : Option Moment) (m : Moment) (d : DecodeError) → IsSome o ↔ IsMoment m →
+    IfSome o (λ t. t ≡ m) → d ≢ Memory → Returns (ok_or o d) (cond (is_moment m) (Some m) None)
 gives_moment None m d exists value other =
     elim (cases_Bool (is_moment m)) [
       | inl y ↦ absurd (none (exists.1 (moment_exists m y)))

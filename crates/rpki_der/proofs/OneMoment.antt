@@ -6,8 +6,10 @@ use Rattle.rpki_der.proofs.WrittenOctets.{days}
 
 -- a number has one last digit in a base, and one front
 one_digit : (base a b x y : ℕ) → x < base → y < base → a * base + x ≡ b * base + y → (a ≡ b) × (x ≡ y)
-one_digit base a b x y p q e =
-    (sym (div-mul-add a base x p) ∙ ap (λ (n : ℕ). n / base) e ∙ div-mul-add b base y q, sym (mod-mul-add a base x p) ∙ ap (λ (n : ℕ). n % base) e ∙ mod-mul-add b base y q)
+one_digit base a b x y p q e = (
+  sym (div-mul-add a base x p) ∙ ap (λ (n : ℕ). n / base) e ∙ div-mul-add b base y q,
+  sym (mod-mul-add a base x p) ∙ ap (λ (n : ℕ). n % base) e ∙ mod-mul-add b base y q,
+)
 
 -- moments with one number of seconds are one
 pub one_moment : (m n : Moment) → IsMoment m → IsMoment n → second_number m ≡ second_number n → m ≡ n

@@ -1,7 +1,11 @@
 -- Values of the primitive types, both ways.
 use Rattle.std.specs.Int.Digits.{number_from_digits}
-use Rattle.std.proofs.Common.{◌≡◌, ℕ, ◌+◌, ◌-◌, ◌*◌, ◌%◌, ◌^◌, ◌<◌, ◌≤◌, Bool, true, false, not, ◌&&◌, ◌||◌, cond, eqb, ltb, List, [], ◌∷◌, ◌++◌, length, get_or, take, drop, Option, Some, None, refl, sym, ap, subst, ◌∙◌, arith, inl, inr}
-use Rattle.std.proofs.lemmas.Bool.{cases_Bool, cases_eq, ltb-true, ltb-false, lt-ltb, le-ltb, eqb-true, eq-eqb, and_parts, and_from, and_right, or_cases, or_left, or_right, not-true, not_from_false}
+use Rattle.std.proofs.Common.{◌≡◌, ℕ, ◌+◌, ◌-◌, ◌*◌, ◌%◌, ◌^◌, ◌<◌, ◌≤◌, Bool, true, false, not, ◌&&◌, ◌||◌, cond}
+use Rattle.std.proofs.Common.{eqb, ltb, List, [], ◌∷◌, ◌++◌, length, get_or, take, drop, Option, Some, None, refl}
+use Rattle.std.proofs.Common.{sym, ap, subst, ◌∙◌, arith, inl, inr}
+use Rattle.std.proofs.lemmas.Bool.{cases_Bool, cases_eq, ltb-true, ltb-false, lt-ltb, le-ltb, eqb-true, eq-eqb}
+use Rattle.std.proofs.lemmas.Bool.{and_parts, and_from, and_right, or_cases, or_left, or_right, not-true}
+use Rattle.std.proofs.lemmas.Bool.{not_from_false}
 use Rattle.std.proofs.lemmas.List.{take-append-drop}
 use Rattle.std.proofs.Math.Seq.{take-length}
 use Rattle.std.proofs.lemmas.Nat.{pow-add}
@@ -9,7 +13,9 @@ use Rattle.std.proofs.Math.Nat.{mul-add-mod_self_right}
 use Rattle.std.proofs.lemmas.Int.Digits.{number_after_append, number_after_ge, number_more}
 use Rattle.rpki_der.specs.Values.{length_octets, enc, IsEnc}
 use Rattle.rpki_der.specs.Primitives.{IsNull, IsBits, IsU32, IsUnsigned, IsBoolOrFalse, IsInteger, IsNumber}
-use Rattle.rpki_der.specs.Primitives.Reading.{null_of, null_at, or_false, bool_or_false_at, has_zero_bits, bits_of, bits_at, is_unsigned, unsigned_of, unsigned_at, number_below, u32_at, bool_of, bool_at}
+use Rattle.rpki_der.specs.Primitives.Reading.{null_of, null_at, or_false, bool_or_false_at, has_zero_bits, bits_of}
+use Rattle.rpki_der.specs.Primitives.Reading.{bits_at, is_unsigned, unsigned_of, unsigned_at, number_below, u32_at}
+use Rattle.rpki_der.specs.Primitives.Reading.{bool_of, bool_at}
 use Rattle.rpki_der.specs.Reading.{content, optional, Reads, ReadsBefore, ReadsOrAbsent, Inside, Optional, BeginWith}
 use Rattle.rpki_der.specs.Encoding.{BeginsOther}
 use Rattle.rpki_der.specs.Tags.{BIT_STRING, BOOLEAN, INTEGER, NULL}
@@ -78,7 +84,11 @@ octet_of false = omega arith
 
 is_flag : (b : Bool) (text : List ℕ) → IsBoolean b text → Inside BOOLEAN IsFlag b text
 unfolding enc length_octets
-is_flag b text e = (cond b 0xFF 0x00 ∷ [], refl, record { octet = omega arith; low_tag = omega arith; octets = (octet_of b, tt); short = omega arith; is = e })
+is_flag b text e = (
+  cond b 0xFF 0x00 ∷ [],
+  refl,
+  record { octet = omega arith; low_tag = omega arith; octets = (octet_of b, tt); short = omega arith; is = e },
+)
 
 bool_reads : Reads bool_at IsBoolean
 unfolding bool_at
@@ -102,7 +112,8 @@ to_option false text s = elim s [ inl e ↦ (None, refl, e) | inr e ↦ (Some fa
 -- a BOOLEAN DEFAULT FALSE is read as it is encoded
 pub bool_or_false : ReadsOrAbsent BOOLEAN bool_or_false_at IsBoolOrFalse
 unfolding bool_or_false_at
-bool_or_false = map_value_or_absent BOOLEAN or_false (optional BOOLEAN bool_at) (Optional IsBoolean) IsBoolOrFalse (optional_or_absent BOOLEAN bool_at IsBoolean bool_reads bool_begins) from_option to_option
+bool_or_false = map_value_or_absent BOOLEAN or_false (optional BOOLEAN bool_at) (Optional IsBoolean) IsBoolOrFalse
+    (optional_or_absent BOOLEAN bool_at IsBoolean bool_reads bool_begins) from_option to_option
 
 -- what follows decides whether it is absent: `before_then` and `inside_before` lead on
 pub bool_or_false_reads : ReadsBefore (BeginsOther BOOLEAN) bool_or_false_at IsBoolOrFalse
@@ -118,12 +129,15 @@ low_bits k a b few =
     ap (λ (n : ℕ). (n + b) % 2 ^ k) product ∙ mul-add-mod_self_right (a * 2 ^ (8 - k)) (2 ^ k) b
 
 -- the last octet alone decides
-pub last_octet : (unused : ℕ) (octets : List ℕ) → unused < 8 → 0 < length octets → number_from_digits 256 octets % 2 ^ unused ≡ get_or octets (length octets - 1) 0 % 2 ^ unused
+pub last_octet : (unused : ℕ) (octets : List ℕ) → unused < 8 → 0 < length octets →
+    number_from_digits 256 octets % 2 ^ unused ≡ get_or octets (length octets - 1) 0 % 2 ^ unused
 last_octet unused octets few some_octet =
     let i = length octets - 1 in
     let last : length octets - 1 < length octets = omega arith in
     let end : length octets - 1 + 1 ≡ length octets = omega arith in
-    let whole : number_from_digits 256 octets ≡ number_from_digits 256 (take i octets) * 256 + get_or octets i 0 = ap (number_from_digits 256) (sym (take-length octets) ∙ ap (λ (k : ℕ). take k octets) (sym end)) ∙ number_more 256 octets i last in
+    let whole : number_from_digits 256 octets ≡ number_from_digits 256 (take i octets) * 256 + get_or octets i 0 =
+    ap (number_from_digits 256) (sym (take-length octets) ∙ ap (λ (k : ℕ). take k octets) (sym end)) ∙
+    number_more 256 octets i last in
     ap (λ (n : ℕ). n % 2 ^ unused) whole ∙ low_bits unused (number_from_digits 256 (take i octets)) (get_or octets i 0) few
 
 abbrev AreBits : ℕ × List ℕ → List ℕ → Type 0
@@ -135,7 +149,8 @@ zero_bits_are unused (b ∷ octets) e =
     let parts = and_parts _ _ e in
     (refl, ltb-true unused 8 parts.0, λ empty. absurd cc, eqb-true _ 0 parts.1)
 
-are_zero_bits : (unused : ℕ) (octets : List ℕ) → unused < 8 → (octets ≡ [] → unused ≡ 0) → number_from_digits 256 octets % 2 ^ unused ≡ 0 → has_zero_bits unused octets ≡ true
+are_zero_bits : (unused : ℕ) (octets : List ℕ) → unused < 8 → (octets ≡ [] → unused ≡ 0) →
+    number_from_digits 256 octets % 2 ^ unused ≡ 0 → has_zero_bits unused octets ≡ true
 are_zero_bits unused [] few none zero_bits = eq-eqb unused 0 (none refl)
 are_zero_bits unused (b ∷ octets) few none zero_bits = and_from _ _ (lt-ltb unused 8 few) (eq-eqb _ 0 zero_bits)
 
@@ -153,17 +168,21 @@ bits_again v c s = rw (s.0, are_zero_bits v.0 v.1 s.1 s.2 s.3) refl
 pub bits_reads : Reads bits_at IsBits
 unfolding bits_at
 bits_reads =
-    same_reads (content BIT_STRING bits_of) (Inside BIT_STRING AreBits) IsBits (content_reads BIT_STRING bits_of AreBits (record { takes = λ c v fits e. bits_takes c v e; again = bits_again }))
+    same_reads (content BIT_STRING bits_of) (Inside BIT_STRING AreBits) IsBits
+    (content_reads BIT_STRING bits_of AreBits
+    (record { takes = λ c v fits e. bits_takes c v e; again = bits_again }))
     (λ v text s. record { enc = subst (λ (c : List ℕ). IsEnc BIT_STRING c text) s.1.0 s.2; few = s.1.1; none = s.1.2; zero_bits = s.1.3 })
     (λ v text b. (v.0 ∷ v.1, (refl, b.few, b.none, b.zero_bits), b.enc))
 
 -- ---- INTEGER
 
 -- a number is no less than a front and one octet more
-pub number_grows : (octets : List ℕ) (i : ℕ) → i < length octets → number_from_digits 256 (take i octets) * 256 ≤ number_from_digits 256 octets
+pub number_grows : (octets : List ℕ) (i : ℕ) → i < length octets →
+    number_from_digits 256 (take i octets) * 256 ≤ number_from_digits 256 octets
 number_grows octets i lt =
     let more = number_more 256 octets i lt in
-    let split : number_from_digits 256 octets ≡ number_from_digits 256 (take (i + 1) octets ++ drop (i + 1) octets) = ap (number_from_digits 256) (sym (take-append-drop (i + 1) octets)) in
+    let split : number_from_digits 256 octets ≡ number_from_digits 256 (take (i + 1) octets ++ drop (i + 1) octets) =
+    ap (number_from_digits 256) (sym (take-append-drop (i + 1) octets)) in
     let all = number_after_append 256 0 (take (i + 1) octets) (drop (i + 1) octets) in
     omega (arith, more, split, all, number_after_ge 256 (number_from_digits 256 (take (i + 1) octets)) (drop (i + 1) octets) (omega arith))
 
@@ -214,7 +233,8 @@ number_is limit n (x ∷ more) text s v =
 pub number_reads : (limit : ℕ) → Reads (content INTEGER (number_below limit)) (λ n b. IsNumber n b × (n < limit))
 number_reads limit =
     same_reads (content INTEGER (number_below limit)) (Inside INTEGER (IsNumberContent limit)) (λ n b. IsNumber n b × (n < limit))
-    (content_reads INTEGER (number_below limit) (IsNumberContent limit) (record { takes = λ c n fits e. below_takes limit c n e; again = below_again limit }))
+    (content_reads INTEGER (number_below limit) (IsNumberContent limit)
+    (record { takes = λ c n fits e. below_takes limit c n e; again = below_again limit }))
     (λ n text s. number_is limit n s.0 text s.1 s.2)
     (λ n text s. (s.0.first ∷ s.0.more, (s.0.is, s.1, number_again s.0.first s.0.more s.0.shortest s.0.not_negative), s.0.enc))
 

@@ -20,7 +20,8 @@ one_reading {A} read encodes law bytes x y p q a b =
     both_are (x, p) (y, q) (sym one ∙ two)
 
 -- the content of a value that octets begin with is octets
-pub AreOctets-content : {rest : List ℕ} (bytes : List ℕ) (t : ℕ) (c : List ℕ) → Begins (IsEnc t) bytes c rest → AreOctets bytes → AreOctets c
+pub AreOctets-content : {rest : List ℕ} (bytes : List ℕ) (t : ℕ) (c : List ℕ) → Begins (IsEnc t) bytes c rest →
+    AreOctets bytes → AreOctets c
 unfolding enc
 AreOctets-content {rest} bytes t c v fits =
     let text = AreOctets-front bytes v.text rest v.parts fits in
@@ -34,11 +35,13 @@ ended_some (b ∷ rest) x y e = nothing y e
 -- ---- what begins some octets
 
 -- equal answers begin the octets alike
-pub begins_same : {X : Type 0} (S : X → List ℕ → Type 0) (octets : List ℕ) (a b : X × List ℕ) → a ≡ b → Begins S octets a.0 a.1 → Begins S octets b.0 b.1
+pub begins_same : {X : Type 0} (S : X → List ℕ → Type 0) (octets : List ℕ) (a b : X × List ℕ) → a ≡ b →
+    Begins S octets a.0 a.1 → Begins S octets b.0 b.1
 begins_same {X} S octets a b e h = subst (λ (q : X × List ℕ). Begins S octets q.0 q.1) e h
 
 -- where nothing remains, the octets are encoded
-encoded_all : {X : Type 0} (S : X → List ℕ → Type 0) (octets : List ℕ) (x y : X) (rest : List ℕ) → rest ≡ [] → x ≡ y → Begins S octets x rest → S y octets
+encoded_all : {X : Type 0} (S : X → List ℕ → Type 0) (octets : List ℕ) (x y : X) (rest : List ℕ) → rest ≡ [] → x ≡ y →
+    Begins S octets x rest → S y octets
 encoded_all {X} S octets x y rest none same b =
     let used : b.text ≡ octets = sym (append-nil b.text) ∙ ap (λ (r : List ℕ). b.text ++ r) (sym none) ∙ sym b.parts in
     subst (λ (c : List ℕ). S y c) used (subst (λ (z : X). S z b.text) same b.encoded)
@@ -48,7 +51,9 @@ one_after : (octets a next b rest : List ℕ) → octets ≡ a ++ next → next 
 one_after octets a next b rest first second = first ∙ ap (λ (t : List ℕ). a ++ t) second ∙ sym (append_assoc a b rest)
 
 -- one value after the other
-both_begin : {X Y : Type 0} (S : X → List ℕ → Type 0) (T : Y → List ℕ → Type 0) (octets : List ℕ) (x : X) (next : List ℕ) (y : Y) (rest : List ℕ) → Begins S octets x next → Begins T next y rest → Begins (Both S T) octets (x, y) rest
+both_begin : {X Y : Type 0} (S : X → List ℕ → Type 0) (T : Y → List ℕ → Type 0) (octets : List ℕ) (x : X)
+    (next : List ℕ) (y : Y) (rest : List ℕ) → Begins S octets x next → Begins T next y rest →
+    Begins (Both S T) octets (x, y) rest
 both_begin S T octets x next y rest one two = record {
   text = one.text ++ two.text;
   encoded = (one.text, two.text, one.encoded, two.encoded, refl);
@@ -57,7 +62,8 @@ both_begin S T octets x next y rest one two = record {
 
 -- a content that isn't used up
 pub not_used_up : {X : Type 0} {c rest more : List ℕ} {x : X} {now ahead : Place} (t : ℕ) (f : List ℕ → Option (X × List ℕ))
-    → ahead ≡ now → value_at t (remaining ahead) ≡ Some (c, rest) → f c ≡ Some (x, more) → (more ≡ [] → ⊥) → inside t f (remaining now) ≡ None
+    → ahead ≡ now → value_at t (remaining ahead) ≡ Some (c, rest) → f c ≡ Some (x, more) → (more ≡ [] → ⊥) →
+    inside t f (remaining now) ≡ None
 not_used_up {X} {c} {rest} {more} {x} {now} {ahead} t f same v e h =
     let here : value_at t (remaining now) ≡ Some (c, rest) = subst (λ (p : Place). value_at t (remaining p) ≡ Some (c, rest)) same v in
     rw (here, e) (unended more (x, rest) h)
@@ -74,26 +80,33 @@ module _ (P : List ℕ → Type 0) where
   before f S F = record { takes = F.takes; again = λ v text rest s p. F.again v text rest s }
 
   -- a lawful reading stays lawful for an equivalent relation
-  pub same_before : {X : Type 0} (f : List ℕ → Option (X × List ℕ)) (S T : X → List ℕ → Type 0) → ReadsBefore P f S → ((x : X) (text : List ℕ) → S x text → T x text) → ((x : X) (text : List ℕ) → T x text → S x text) → ReadsBefore P f T
+  pub same_before : {X : Type 0} (f : List ℕ → Option (X × List ℕ)) (S T : X → List ℕ → Type 0) → ReadsBefore P f S →
+      ((x : X) (text : List ℕ) → S x text → T x text) → ((x : X) (text : List ℕ) → T x text → S x text) →
+      ReadsBefore P f T
   same_before f S T F to back = record {
-    takes = λ bytes x rest fits e. let one = F.takes bytes x rest fits e in record { text = one.text; encoded = to x one.text one.encoded; parts = one.parts };
+    takes = λ bytes x rest fits e. let one = F.takes bytes x rest fits e in
+        record { text = one.text; encoded = to x one.text one.encoded; parts = one.parts };
     again = λ x text rest t p. F.again x text rest (back x text t) p;
   }
 
   -- what a function makes of the value
-  pub map_value_before : {X Y : Type 0} (to : X → Y) (f : List ℕ → Option (X × List ℕ)) (S : X → List ℕ → Type 0) (T : Y → List ℕ → Type 0) → ReadsBefore P f S
-      → ((x : X) (text : List ℕ) → S x text → T (to x) text) → ((y : Y) (text : List ℕ) → T y text → (x : X) × (to x ≡ y) × S x text) → ReadsBefore P (map_value to f) T
+  pub map_value_before : {X Y : Type 0} (to : X → Y) (f : List ℕ → Option (X × List ℕ)) (S : X → List ℕ → Type 0)
+      (T : Y → List ℕ → Type 0) → ReadsBefore P f S
+      → ((x : X) (text : List ℕ) → S x text → T (to x) text) →
+      ((y : Y) (text : List ℕ) → T y text → (x : X) × (to x ≡ y) × S x text) → ReadsBefore P (map_value to f) T
   map_value_before {X} {Y} to f S T F there back = record {
     takes = λ bytes y rest fits e.
         let a = bind_some (f bytes) (λ x. Some (to x.0, x.1)) (y, rest) e in
         let one = F.takes bytes a.0.0 a.0.1 fits a.1 in
         let made : Y × List ℕ = (to a.0.0, a.0.1) in
-        begins_same T bytes made (y, rest) (some_is made (y, rest) a.2) (record { text = one.text; encoded = there a.0.0 one.text one.encoded; parts = one.parts });
+        begins_same T bytes made (y, rest) (some_is made (y, rest) a.2)
+        (record { text = one.text; encoded = there a.0.0 one.text one.encoded; parts = one.parts });
     again = λ y text rest t p. let x = back y text t in rw (F.again x.0 text rest x.2 p, x.1) refl;
   }
 
   -- a lawful reading that depends on one before it is lawful before such octets
-  pub and_then_before : {X Y : Type 0} (f : List ℕ → Option (X × List ℕ)) (g : X → List ℕ → Option (Y × List ℕ)) (S : X → List ℕ → Type 0) (T : X → Y → List ℕ → Type 0)
+  pub and_then_before : {X Y : Type 0} (f : List ℕ → Option (X × List ℕ)) (g : X → List ℕ → Option (Y × List ℕ))
+      (S : X → List ℕ → Type 0) (T : X → Y → List ℕ → Type 0)
       → Reads f S → ((x : X) → ReadsBefore P (g x) (T x)) → ReadsBefore P (and_then f g) (AndThen S T)
   and_then_before f g S T F G = record {
     takes = λ bytes y rest fits e.
@@ -111,7 +124,8 @@ module _ (P : List ℕ → Type 0) where
   }
 
   -- the octets end
-  pub whole_before : {X : Type 0} (f : List ℕ → Option (X × List ℕ)) (S : X → List ℕ → Type 0) → P [] → ReadsBefore P f S → ReadsWhole (whole f) S
+  pub whole_before : {X : Type 0} (f : List ℕ → Option (X × List ℕ)) (S : X → List ℕ → Type 0) → P [] →
+      ReadsBefore P f S → ReadsWhole (whole f) S
   whole_before {X} f S end F = record {
     takes = λ octets x fits e.
         let a = bind_some (f octets) (λ r. at_end r.1 r.0) x e in
@@ -123,7 +137,8 @@ module _ (P : List ℕ → Type 0) where
   }
 
   -- the enclosing value ends
-  pub inside_before : {X : Type 0} (t : ℕ) (f : List ℕ → Option (X × List ℕ)) (S : X → List ℕ → Type 0) → P [] → ReadsBefore P f S → Reads (inside t f) (Inside t S)
+  pub inside_before : {X : Type 0} (t : ℕ) (f : List ℕ → Option (X × List ℕ)) (S : X → List ℕ → Type 0) → P [] →
+      ReadsBefore P f S → Reads (inside t f) (Inside t S)
   inside_before {X} t f S end F = record {
     takes = λ bytes p rest fits e.
         let a = bind_some (value_at t bytes) (λ v. f v.0 >>= λ x. at_end x.1 (x.0, v.1)) (p, rest) e in
@@ -144,8 +159,11 @@ module _ (P : List ℕ → Type 0) where
   }
 
   -- a second value stands between the first and what follows
-  pub both_before : {X Y : Type 0} (Q : List ℕ → Type 0) (f : List ℕ → Option (X × List ℕ)) (g : List ℕ → Option (Y × List ℕ)) (S : X → List ℕ → Type 0) (T : Y → List ℕ → Type 0)
-      → ReadsBefore Q f S → ReadsBefore P g T → ((y : Y) (text rest : List ℕ) → T y text → P rest → Q (text ++ rest)) → ReadsBefore P (both f g) (Both S T)
+  pub both_before : {X Y : Type 0} (Q : List ℕ → Type 0) (f : List ℕ → Option (X × List ℕ))
+      (g : List ℕ → Option (Y × List ℕ)) (S : X → List ℕ → Type 0) (T : Y → List ℕ → Type 0)
+      → ReadsBefore Q f S → ReadsBefore P g T →
+      ((y : Y) (text rest : List ℕ) → T y text → P rest → Q (text ++ rest)) →
+      ReadsBefore P (both f g) (Both S T)
   both_before {X} {Y} Q f g S T F G other = record {
     takes = λ bytes p rest fits e.
         let a = bind_some (f bytes) (λ x. g x.1 >>= λ y. Some ((x.0, y.0), y.1)) (p, rest) e in
@@ -166,17 +184,22 @@ pub before_anything : {X : Type 0} (f : List ℕ → Option (X × List ℕ)) (S 
 before_anything f S F = record { takes = F.takes; again = λ v text rest s. F.again v text rest s tt }
 
 -- another value follows
-pub before_then : {X Y : Type 0} (P : List ℕ → Type 0) (f : List ℕ → Option (X × List ℕ)) (g : List ℕ → Option (Y × List ℕ)) (S : X → List ℕ → Type 0) (T : Y → List ℕ → Type 0)
+pub before_then : {X Y : Type 0} (P : List ℕ → Type 0) (f : List ℕ → Option (X × List ℕ))
+    (g : List ℕ → Option (Y × List ℕ)) (S : X → List ℕ → Type 0) (T : Y → List ℕ → Type 0)
     → ReadsBefore P f S → Reads g T → ((y : Y) (text rest : List ℕ) → T y text → P (text ++ rest)) → Reads (both f g) (Both S T)
-before_then P f g S T F G other = before_anything (both f g) (Both S T) (both_before Anything P f g S T F (before Anything g T G) (λ y text rest s follows. other y text rest s))
+before_then P f g S T F G other =
+    before_anything (both f g) (Both S T)
+    (both_before Anything P f g S T F (before Anything g T G) (λ y text rest s follows. other y text rest s))
 
 -- two lawful readings, one after the other, are lawful
-pub both_reads : {X Y : Type 0} (f : List ℕ → Option (X × List ℕ)) (g : List ℕ → Option (Y × List ℕ)) (S : X → List ℕ → Type 0) (T : Y → List ℕ → Type 0)
+pub both_reads : {X Y : Type 0} (f : List ℕ → Option (X × List ℕ)) (g : List ℕ → Option (Y × List ℕ))
+    (S : X → List ℕ → Type 0) (T : Y → List ℕ → Type 0)
     → Reads f S → Reads g T → Reads (both f g) (Both S T)
 both_reads f g S T F G = before_then Anything f g S T (before Anything f S F) G (λ y text rest s. tt)
 
 -- a lawful reading inside a tag is lawful
-pub inside_reads : {X : Type 0} (t : ℕ) (f : List ℕ → Option (X × List ℕ)) (S : X → List ℕ → Type 0) → Reads f S → Reads (inside t f) (Inside t S)
+pub inside_reads : {X : Type 0} (t : ℕ) (f : List ℕ → Option (X × List ℕ)) (S : X → List ℕ → Type 0) → Reads f S →
+    Reads (inside t f) (Inside t S)
 inside_reads t f S F = inside_before Anything t f S tt (before Anything f S F)
 
 -- the whole of some octets
@@ -184,7 +207,8 @@ pub whole_reads : {X : Type 0} (f : List ℕ → Option (X × List ℕ)) (S : X 
 whole_reads f S F = whole_before Anything f S tt (before Anything f S F)
 
 -- a lawful reading of a whole content is lawful inside its tag
-pub content_reads : {X : Type 0} (t : ℕ) (f : List ℕ → Option X) (S : X → List ℕ → Type 0) → ReadsWhole f S → Reads (content t f) (Inside t S)
+pub content_reads : {X : Type 0} (t : ℕ) (f : List ℕ → Option X) (S : X → List ℕ → Type 0) → ReadsWhole f S →
+    Reads (content t f) (Inside t S)
 content_reads {X} t f S F = record {
   takes = λ bytes p rest fits e.
       let a = bind_some (value_at t bytes) (λ v. f v.0 >>= λ x. Some (x, v.1)) (p, rest) e in
@@ -201,5 +225,6 @@ content_reads {X} t f S F = record {
 }
 
 -- a lawful reading stays lawful for an equivalent relation
-pub same_reads : {X : Type 0} (f : List ℕ → Option (X × List ℕ)) (S T : X → List ℕ → Type 0) → Reads f S → ((x : X) (text : List ℕ) → S x text → T x text) → ((x : X) (text : List ℕ) → T x text → S x text) → Reads f T
+pub same_reads : {X : Type 0} (f : List ℕ → Option (X × List ℕ)) (S T : X → List ℕ → Type 0) → Reads f S →
+    ((x : X) (text : List ℕ) → S x text → T x text) → ((x : X) (text : List ℕ) → T x text → S x text) → Reads f T
 same_reads f S T F to back = before_anything f T (same_before Anything f S T (before Anything f S F) to back)

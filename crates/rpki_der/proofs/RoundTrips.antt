@@ -42,7 +42,12 @@ utc_small : (m : Moment) → 1950 ≤ m.year → m.year < 2050 → length (time 
 utc_small m p q = rw (utc_written m p q, enc_small UTC_TIME (two (m.year % 100) ++ after_year m) (omega arith)) (omega arith)
 
 generalized_small : (m : Moment) → (m.year < 1950) ⊎ (2050 ≤ m.year) → length (time m) < 2 ^ 32
-generalized_small m h = rw (generalized_written m h, enc_small GENERALIZED_TIME (two (m.year / 100) ++ (two (m.year % 100) ++ after_year m)) (omega arith)) (omega arith)
+generalized_small m h =
+    rw (
+      generalized_written m h,
+      enc_small GENERALIZED_TIME (two (m.year / 100) ++ (two (m.year % 100) ++ after_year m)) (omega arith),
+    )
+    (omega arith)
 
 time_small : (m : Moment) → length (time m) < 2 ^ 32
 time_small m =
@@ -56,11 +61,14 @@ pub moment_made : (m : Moment) → IsMoment m → IsTime m (time m)
 moment_made m h = time_made m h (time_small m, ok_time m h (time_small m))
 
 -- what is written begins with its value, and with no other
-pub begins : {V : Type 0} (encodes : V → List ℕ → Type 0) (v : V) (text rest : List ℕ) → encodes v text → Begins encodes (text ++ rest) v rest
+pub begins : {V : Type 0} (encodes : V → List ℕ → Type 0) (v : V) (text rest : List ℕ) → encodes v text →
+    Begins encodes (text ++ rest) v rest
 begins encodes v text rest s = record { text = text; encoded = s; parts = refl }
 
 -- octets that begin with one value begin with no other
-pub begins_one : {V : Type 0} (encodes : V → List ℕ → Type 0) → IsUnambiguous encodes → (v w : V) (text rest tail : List ℕ) → encodes v text → Begins encodes (text ++ rest) w tail → (w ≡ v) × (tail ≡ rest)
+pub begins_one : {V : Type 0} (encodes : V → List ℕ → Type 0) → IsUnambiguous encodes →
+    (v w : V) (text rest tail : List ℕ) → encodes v text → Begins encodes (text ++ rest) w tail →
+    (w ≡ v) × (tail ≡ rest)
 begins_one encodes one v w text rest tail s b =
     let same = one v w text b.text rest tail s b.encoded b.parts in
     (sym same.0, append_cancel_left text tail rest (ap (λ (x : List ℕ). x ++ tail) same.1 ∙ sym b.parts))

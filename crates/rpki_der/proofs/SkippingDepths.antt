@@ -7,8 +7,14 @@ use Rattle.rpki_der.proofs.Lists.{weaken}
 one_deeper : (d : ℕ) (b : List ℕ) → IsSkippableWithin d b → IsSkippableWithin (suc d) b
 unfolding IsSkippableWithin
 one_deeper zero b h = (h.0, inl h.1)
-one_deeper (suc d) b h =
-    (h.0, elim h.1 [ inl p ↦ inl p | inr r ↦ inr (r.0, r.1, weaken (IsSkippableWithin d) (IsSkippableWithin (suc d)) (one_deeper d) r.0 r.2) ])
+one_deeper (suc d) b h = (
+  h.0,
+  elim h.1 [
+    | inl p ↦ inl p
+    | inr r ↦ inr
+        (r.0, r.1, weaken (IsSkippableWithin d) (IsSkippableWithin (suc d)) (one_deeper d) r.0 r.2)
+  ],
+)
 
 -- what can be skipped at one depth can be skipped at a greater one
 pub deeper : (d e : ℕ) (b : List ℕ) → d ≤ e → IsSkippableWithin d b → IsSkippableWithin e b

@@ -12,7 +12,8 @@ pairs upper octets = flat_map (λ octet. digit_glyph upper (octet / 16) ∷ digi
 
 -- one octet more, as `{:02X}` or `{:02x}` writes it
 pub pairs_more : (upper : Bool) (octets : List ℕ) (i : ℕ) → i < length octets → get_or octets i 0 < 256
-    → pairs upper (take i octets) ++ padded_integral (format_spec 32 0 4 2 (2 ^ 64 - 1)) false [] (digits 16 upper (get_or octets i 0)) ≡ pairs upper (take (i + 1) octets)
+    → pairs upper (take i octets) ++ padded_integral (format_spec 32 0 4 2 (2 ^ 64 - 1)) false []
+    (digits 16 upper (get_or octets i 0)) ≡ pairs upper (take (i + 1) octets)
 pairs_more upper octets i there small =
     let x = get_or octets i 0 in
     ap (λ (l : List ℕ). pairs upper (take i octets) ++ l) (hex_byte upper x small)

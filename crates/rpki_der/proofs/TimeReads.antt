@@ -1,7 +1,8 @@
 -- A time that is read is the time that was written.
 use Rattle.std.specs.Prelude.{nat_lt, nat_le, ◌&&◌, bytes_eq, if◌then◌else◌, Result, Ok, Err, IfSome, IfNone}
 use Rattle.std.specs.Result.{result_ok}
-use Rattle.std.proofs.Common.{◌≡◌, ℕ, suc, ◌+◌, ◌-◌, ◌*◌, ◌/◌, ◌%◌, ◌<◌, ◌≤◌, true, cond, List, [], ◌∷◌, ◌++◌, length, get_or, drop, Option, Some, None, refl, sym, ap, subst, ◌∙◌, arith, inl, inr, drop-cons}
+use Rattle.std.proofs.Common.{◌≡◌, ℕ, suc, ◌+◌, ◌-◌, ◌*◌, ◌/◌, ◌%◌, ◌<◌, ◌≤◌, true, cond, List, [], ◌∷◌, ◌++◌, length}
+use Rattle.std.proofs.Common.{get_or, drop, Option, Some, None, refl, sym, ap, subst, ◌∙◌, arith, inl, inr, drop-cons}
 use Rattle.std.proofs.lemmas.Slice.Eq.{bytes_eq-Decides}
 use Rattle.std.proofs.lemmas.Bool.{leb-true, le-leb, lt-ltb, le-ltb, and_parts, and_from, cases_lt, cases_Bool}
 use Rattle.std.proofs.lemmas.List.{drop_all}
@@ -12,7 +13,8 @@ use Rattle.rpki_der.specs.Place.Reading.{Returns}
 use Rattle.rpki_der.specs.declared.error.DecodeError.{DecodeError}
 use Rattle.rpki_der.specs.Times.{Moment, moment, IsMoment, IsTime, two, day_and_time, after_year, fourteen_digits}
 use Rattle.rpki_der.specs.Choices.{Either}
-use Rattle.rpki_der.specs.Times.Reading.{is_digit, two_at, IsPair, full_year, existing, after_year_of, utc_of, moment_at, generalized_of, time_at, is_moment}
+use Rattle.rpki_der.specs.Times.Reading.{is_digit, two_at, IsPair, full_year, existing, after_year_of, utc_of}
+use Rattle.rpki_der.specs.Times.Reading.{moment_at, generalized_of, time_at, is_moment}
 use Rattle.rpki_der.specs.Values.{enc}
 use Rattle.rpki_der.specs.Tags.{GENERALIZED_TIME, UTC_TIME}
 use Rattle.rpki_der.proofs.Choices.{choice_reads}
@@ -48,8 +50,10 @@ two_takes (a ∷ b ∷ text) n rest e =
 two_again : (n : ℕ) (rest : List ℕ) → n < 100 → two_at (two n ++ rest) ≡ Some (n, rest)
 unfolding two_at
 two_again n rest h =
-    let tens : is_digit (48 + n / 10) ≡ true = and_from _ _ (le-leb 48 (48 + n / 10) (omega arith)) (le-leb (48 + n / 10) 57 (omega arith)) in
-    let ones : is_digit (48 + n % 10) ≡ true = and_from _ _ (le-leb 48 (48 + n % 10) (omega arith)) (le-leb (48 + n % 10) 57 (omega arith)) in
+    let tens : is_digit (48 + n / 10) ≡ true = and_from _ _ (le-leb 48 (48 + n / 10) (omega arith))
+    (le-leb (48 + n / 10) 57 (omega arith)) in
+    let ones : is_digit (48 + n % 10) ≡ true = and_from _ _ (le-leb 48 (48 + n % 10) (omega arith))
+    (le-leb (48 + n % 10) 57 (omega arith)) in
     let number : (48 + n / 10 - 48) * 10 + (48 + n % 10 - 48) ≡ n = omega arith in
     rw (tens, ones, number) refl
 
@@ -62,14 +66,18 @@ next_two text n rest tail e h = two_before text n n rest tail (two_takes text n 
 
 -- five times two digits, and what ends the text
 five_before : (month day hour minute second : ℕ) (t0 t1 t2 t3 t4 t5 tail : List ℕ)
-    → two_at t0 ≡ Some (month, t1) → two_at t1 ≡ Some (day, t2) → two_at t2 ≡ Some (hour, t3) → two_at t3 ≡ Some (minute, t4) → two_at t4 ≡ Some (second, t5) → t5 ≡ tail
+    → two_at t0 ≡ Some (month, t1) → two_at t1 ≡ Some (day, t2) → two_at t2 ≡ Some (hour, t3) →
+    two_at t3 ≡ Some (minute, t4) → two_at t4 ≡ Some (second, t5) → t5 ≡ tail
     → t0 ≡ two month ++ (two day ++ (two hour ++ (two minute ++ (two second ++ tail))))
 five_before month day hour minute second t0 t1 t2 t3 t4 t5 tail e1 e2 e3 e4 e5 end =
-    next_two t0 month t1 _ e1 (next_two t1 day t2 _ e2 (next_two t2 hour t3 _ e3 (next_two t3 minute t4 _ e4 (next_two t4 second t5 tail e5 end))))
+    next_two t0 month t1 _ e1
+    (next_two t1 day t2 _ e2
+    (next_two t2 hour t3 _ e3 (next_two t3 minute t4 _ e4 (next_two t4 second t5 tail e5 end))))
 
 -- the steps after the year
 abbrev from_second : List ℕ → ℕ → ℕ → ℕ → ℕ → ℕ → List ℕ → Option Moment
-from_second end year month day hour minute text = two_at text >>= λ s. existing end s.1 (record { year = year; month = month; day = day; hour = hour; minute = minute; second = s.0 })
+from_second end year month day hour minute text = two_at text >>= λ s.
+    existing end s.1 (record { year = year; month = month; day = day; hour = hour; minute = minute; second = s.0 })
 
 abbrev from_minute : List ℕ → ℕ → ℕ → ℕ → ℕ → List ℕ → Option Moment
 from_minute end year month day hour text = two_at text >>= λ s. from_second end year month day hour s.0 s.1
@@ -93,20 +101,39 @@ after_takes end year text m e =
     let day = bind_some (two_at month.0.1) (λ s. from_hour end year month.0.0 s.0 s.1) m month.2 in
     let hour = bind_some (two_at day.0.1) (λ s. from_minute end year month.0.0 day.0.0 s.0 s.1) m day.2 in
     let minute = bind_some (two_at hour.0.1) (λ s. from_second end year month.0.0 day.0.0 hour.0.0 s.0 s.1) m hour.2 in
-    let found : ℕ → Moment = λ s. record { year = year; month = month.0.0; day = day.0.0; hour = hour.0.0; minute = minute.0.0; second = s } in
+    let found : ℕ → Moment =
+    λ s. record {
+      year = year;
+      month = month.0.0;
+      day = day.0.0;
+      hour = hour.0.0;
+      minute = minute.0.0;
+      second =
+          s;
+    } in
     let second = bind_some (two_at minute.0.1) (λ s. existing end s.1 (found s.0)) m minute.2 in
     let last = if_some (bytes_eq second.0.1 end && is_moment (found second.0.0)) (found second.0.0) m second.2 in
     let tests = and_parts (bytes_eq second.0.1 end) (is_moment (found second.0.0)) last.0 in
     let ends : second.0.1 ≡ end = (bytes_eq-Decides second.0.1 end).0 tests.0 in
-    let all = five_before month.0.0 day.0.0 hour.0.0 minute.0.0 second.0.0 text month.0.1 day.0.1 hour.0.1 minute.0.1 second.0.1 end month.1 day.1 hour.1 minute.1 second.1 ends in
-    subst (λ (n : Moment). IsAfterYear end year text n) {x = found second.0.0} last.1 (record { exists = moment_exists (found second.0.0) tests.1; year_is = refl; text_is = all })
+    let all = five_before month.0.0 day.0.0 hour.0.0 minute.0.0 second.0.0 text month.0.1 day.0.1 hour.0.1 minute.0.1
+    second.0.1 end month.1 day.1 hour.1 minute.1 second.1 ends in
+    subst (λ (n : Moment). IsAfterYear end year text n) {x = found second.0.0} last.1
+    (record { exists = moment_exists (found second.0.0) tests.1; year_is = refl; text_is = all })
 
 after_again : (end : List ℕ) (m : Moment) → IsMoment m → after_year_of end m.year (day_and_time m ++ end) ≡ Some m
 unfolding after_year_of
 after_again end m h =
     let ends : bytes_eq end end ≡ true = (bytes_eq-Decides end end).1 refl in
     let day : m.day < 100 = omega (arith, h.day, days m.year m.month) in
-    rw (two_again m.month _ (omega (arith, h.month)), two_again m.day _ day, two_again m.hour _ (omega (arith, h.hour)), two_again m.minute _ (omega (arith, h.minute)), two_again m.second _ (omega (arith, h.second)), ends, exists_moment m h) refl
+    rw (
+      two_again m.month _ (omega (arith, h.month)),
+      two_again m.day _ day,
+      two_again m.hour _ (omega (arith, h.hour)),
+      two_again m.minute _ (omega (arith, h.minute)),
+      two_again m.second _ (omega (arith, h.second)),
+      ends,
+      exists_moment m h,
+    ) refl
 
 -- ---- whole contents
 
@@ -150,12 +177,17 @@ utc_whole : ReadsWhole utc_of IsUtcText
 unfolding utc_of
 utc_whole = record {
   takes = λ text m fits e. utc_takes text m e;
-  again = λ m text s. rw (s.text_is, two_again (m.year % 100) (after_year m) (omega arith), century_again m.year s.from s.below) (after_again (90 ∷ []) m s.exists);
+  again = λ m text s. rw (
+    s.text_is,
+    two_again (m.year % 100) (after_year m) (omega arith),
+    century_again m.year s.from s.below,
+  ) (after_again (90 ∷ []) m s.exists);
 }
 
 unlike : (text : List ℕ) (o : Option Moment) → utc_of text ≡ o → (length text ≡ 13 → get_or text 12 0 ≡ 90 → ⊥) → o ≡ None
 unlike text None e other = refl
-unlike text (Some m) e other = let is = (utc_takes text m e).text_is in absurd (other (ap length is) (ap (λ (t : List ℕ). get_or t 12 0) is))
+unlike text (Some m) e other = let is = (utc_takes text m e).text_is in
+    absurd (other (ap length is) (ap (λ (t : List ℕ). get_or t 12 0) is))
 
 -- the content of a UTCTime has thirteen octets, and Z at the end
 pub utc_other : (text : List ℕ) → (length text ≡ 13 → get_or text 12 0 ≡ 90 → ⊥) → utc_of text ≡ None
@@ -168,7 +200,8 @@ abbrev existent : Moment → Option Moment
 existent m = cond (is_moment m) (Some m) None
 
 -- a number below 100 is read, as it is in a moment that exists
-small_read : (n : ℕ) (rest : List ℕ) (next : ℕ × List ℕ → Option Moment) (m : Moment) → (IsMoment m → n < 100) → next (n, rest) ≡ existent m → ((if nat_lt n 100 then Some (n, rest) else None) >>= next) ≡ existent m
+small_read : (n : ℕ) (rest : List ℕ) (next : ℕ × List ℕ → Option Moment) (m : Moment) → (IsMoment m → n < 100) →
+    next (n, rest) ≡ existent m → ((if nat_lt n 100 then Some (n, rest) else None) >>= next) ≡ existent m
 small_read n rest next m small e = elim (cases_lt n 100) [
   | inl l ↦ rw (lt-ltb n 100 l) e
   | inr g ↦ elim (cases_Bool (is_moment m)) [
@@ -179,7 +212,8 @@ small_read n rest next m small e = elim (cases_lt n 100) [
 
 module _ (text : List ℕ) where
   -- two octets from place k on
-  pair_read : (k n : ℕ) → suc k < length text → IsPair (get_or text k 0) (get_or text (suc k) 0) n → two_at (drop k text) ≡ (if nat_lt n 100 then Some (n, drop (suc (suc k)) text) else None)
+  pair_read : (k n : ℕ) → suc k < length text → IsPair (get_or text k 0) (get_or text (suc k) 0) n →
+      two_at (drop k text) ≡ (if nat_lt n 100 then Some (n, drop (suc (suc k)) text) else None)
   pair_read k n inside pair = rw (drop-cons text k 0 (omega arith), drop-cons text (suc k) 0 inside) (pair (drop (suc (suc k)) text))
 
   module _ (long : length text ≡ 13) (end : get_or text 12 0 ≡ 90) where
@@ -188,7 +222,8 @@ module _ (text : List ℕ) where
 
     -- MMDDhhmmssZ by its pairs
     after_year_pairs : (year month day hour minute second : ℕ)
-        → IsPair (get_or text 2 0) (get_or text 3 0) month → IsPair (get_or text 4 0) (get_or text 5 0) day → IsPair (get_or text 6 0) (get_or text 7 0) hour
+        → IsPair (get_or text 2 0) (get_or text 3 0) month → IsPair (get_or text 4 0) (get_or text 5 0) day →
+        IsPair (get_or text 6 0) (get_or text 7 0) hour
         → IsPair (get_or text 8 0) (get_or text 9 0) minute → IsPair (get_or text 10 0) (get_or text 11 0) second
         → after_year_of (90 ∷ []) year (drop 2 text) ≡ existent (moment year month day hour minute second)
     unfolding after_year_of
@@ -209,8 +244,10 @@ module _ (text : List ℕ) where
 
     -- YYMMDDhhmmssZ by its pairs
     pub utc_pairs : (last year month day hour minute second : ℕ) → last < 100 → year ≡ full_year last
-        → IsPair (get_or text 0 0) (get_or text 1 0) last → IsPair (get_or text 2 0) (get_or text 3 0) month → IsPair (get_or text 4 0) (get_or text 5 0) day
-        → IsPair (get_or text 6 0) (get_or text 7 0) hour → IsPair (get_or text 8 0) (get_or text 9 0) minute → IsPair (get_or text 10 0) (get_or text 11 0) second
+        → IsPair (get_or text 0 0) (get_or text 1 0) last → IsPair (get_or text 2 0) (get_or text 3 0) month →
+        IsPair (get_or text 4 0) (get_or text 5 0) day
+        → IsPair (get_or text 6 0) (get_or text 7 0) hour → IsPair (get_or text 8 0) (get_or text 9 0) minute →
+        IsPair (get_or text 10 0) (get_or text 11 0) second
         → utc_of text ≡ existent (moment year month day hour minute second)
     unfolding utc_of
     utc_pairs last year month day hour minute second small whole p0 p2 p4 p6 p8 p10 =
@@ -240,7 +277,12 @@ moment_again : (end : List ℕ) (m : Moment) (text : List ℕ) → IsMomentText 
 unfolding moment_at
 moment_again end m text s =
     let whole : m.year / 100 * 100 + m.year % 100 ≡ m.year = omega arith in
-    rw (s.1, two_again (m.year / 100) (two (m.year % 100) ++ (day_and_time m ++ end)) (omega (arith, s.0.year)), two_again (m.year % 100) (day_and_time m ++ end) (omega arith), whole) (after_again end m s.0)
+    rw (
+      s.1,
+      two_again (m.year / 100) (two (m.year % 100) ++ (day_and_time m ++ end)) (omega (arith, s.0.year)),
+      two_again (m.year % 100) (day_and_time m ++ end) (omega arith),
+      whole,
+    ) (after_again end m s.0)
 
 abbrev IsGeneralizedText : Moment → List ℕ → Type 0
 IsGeneralizedText = IsMomentText (90 ∷ [])
@@ -254,12 +296,14 @@ digits_are : (text : List ℕ) (m : Moment) → IsMoment m → text ≡ fourteen
 digits_are text m exists is = moment_again [] m text (exists, is)
 
 -- what is found in digits
-pub found_digits : (text : List ℕ) (r : Result Moment DecodeError) → Returns r (moment_at [] text) → IfSome (result_ok r) (λ m. IsMoment m × (text ≡ fourteen_digits m))
+pub found_digits : (text : List ℕ) (r : Result Moment DecodeError) → Returns r (moment_at [] text) →
+    IfSome (result_ok r) (λ m. IsMoment m × (text ≡ fourteen_digits m))
 found_digits text (Ok m) found = moment_takes [] text m found
 found_digits text (Err e) rejected = tt
 
 -- a text that isn't read as fourteen digits is that of no moment
-pub no_digits : (text : List ℕ) (r : Result Moment DecodeError) → Returns r (moment_at [] text) → IfNone (result_ok r) ((m : Moment) → IsMoment m → text ≡ fourteen_digits m → ⊥)
+pub no_digits : (text : List ℕ) (r : Result Moment DecodeError) → Returns r (moment_at [] text) →
+    IfNone (result_ok r) ((m : Moment) → IsMoment m → text ≡ fourteen_digits m → ⊥)
 no_digits text (Ok m) found = tt
 no_digits text (Err e) rejected = λ m exists is.
     let found : moment_at [] text ≡ Some m = digits_are text m exists is in
@@ -271,7 +315,8 @@ utc_begins : BeginWith UTC_TIME (Inside UTC_TIME IsUtcText)
 unfolding enc
 utc_begins m text s = (_, s.2.is)
 
-generalized_other : (m : Moment) (text rest : List ℕ) → Inside GENERALIZED_TIME IsGeneralizedText m text → BeginsOther UTC_TIME (text ++ rest)
+generalized_other : (m : Moment) (text rest : List ℕ) → Inside GENERALIZED_TIME IsGeneralizedText m text →
+    BeginsOther UTC_TIME (text ++ rest)
 unfolding enc
 generalized_other m text rest s = rw s.2.is (λ e. omega (arith, e))
 
@@ -280,7 +325,8 @@ pub time_reads : Reads time_at IsTime
 unfolding time_at
 time_reads =
     same_reads time_at (Either (Inside UTC_TIME IsUtcText) (Inside GENERALIZED_TIME IsGeneralizedText)) IsTime
-    (choice_reads UTC_TIME (content UTC_TIME utc_of) (content GENERALIZED_TIME generalized_of) (Inside UTC_TIME IsUtcText) (Inside GENERALIZED_TIME IsGeneralizedText)
+    (choice_reads UTC_TIME (content UTC_TIME utc_of) (content GENERALIZED_TIME generalized_of)
+    (Inside UTC_TIME IsUtcText) (Inside GENERALIZED_TIME IsGeneralizedText)
     (content_reads UTC_TIME utc_of IsUtcText utc_whole)
     (content_reads GENERALIZED_TIME generalized_of IsGeneralizedText generalized_whole)
     utc_begins generalized_other)

@@ -12,7 +12,8 @@ unfolding time
 utc_written m p q = rw (le-leb 1950 m.year p, lt-ltb m.year 2050 q) refl
 
 -- a moment of another year is written as GeneralizedTime
-pub generalized_written : (m : Moment) → (m.year < 1950) ⊎ (2050 ≤ m.year) → time m ≡ enc GENERALIZED_TIME (two (m.year / 100) ++ (two (m.year % 100) ++ after_year m))
+pub generalized_written : (m : Moment) → (m.year < 1950) ⊎ (2050 ≤ m.year) →
+    time m ≡ enc GENERALIZED_TIME (two (m.year / 100) ++ (two (m.year % 100) ++ after_year m))
 unfolding time
 generalized_written m (inl before) = rw (lt-leb 1950 m.year before) refl
 generalized_written m (inr after) = rw (and_false (nat_le 1950 m.year) (nat_lt m.year 2050) (le-ltb m.year 2050 after)) refl

@@ -1,6 +1,9 @@
 -- A value that is read is the value that was written, and what was written is read again.
-use Rattle.std.proofs.Common.{◌≡◌, ◌≢◌, ℕ, ◌+◌, ◌*◌, ◌/◌, ◌%◌, ◌^◌, ◌<◌, ◌≤◌, Bool, true, false, cond, not, ◌&&◌, eqb, ltb, List, [], ◌∷◌, ◌++◌, length, take, drop, Option, Some, None, refl, sym, ap, subst, ◌∙◌, append_assoc, arith, inl, inr, ◌⊎◌}
-use Rattle.std.proofs.lemmas.Bool.{cases_lt, cases_Bool, not-true, ltb-true, ltb-false, lt-ltb, le-ltb, eqb-true, eqb-false, eq-eqb, ne_eqb, and_parts}
+use Rattle.std.proofs.Common.{◌≡◌, ◌≢◌, ℕ, ◌+◌, ◌*◌, ◌/◌, ◌%◌, ◌^◌, ◌<◌, ◌≤◌, Bool, true, false, cond, not, ◌&&◌, eqb}
+use Rattle.std.proofs.Common.{ltb, List, [], ◌∷◌, ◌++◌, length, take, drop, Option, Some, None, refl, sym, ap, subst}
+use Rattle.std.proofs.Common.{◌∙◌, append_assoc, arith, inl, inr, ◌⊎◌}
+use Rattle.std.proofs.lemmas.Bool.{cases_lt, cases_Bool, not-true, ltb-true, ltb-false, lt-ltb, le-ltb, eqb-true}
+use Rattle.std.proofs.lemmas.Bool.{eqb-false, eq-eqb, ne_eqb, and_parts}
 use Rattle.std.proofs.lemmas.List.{length-append, length-take, take-append-drop, drop_at, take_at}
 use Rattle.rpki_der.specs.Values.{length_octets, enc, IsEnc}
 use Rattle.rpki_der.proofs.Lengths.{length_short, length_81, length_82, length_83, length_84}
@@ -31,7 +34,8 @@ long2_takes (a ∷ b ∷ bytes) n rest (fa, (fb, _)) e =
     let least : 0x100 ≤ a * 0x100 + b = ltb-false _ _ g.0 in
     let ea : (a * 0x100 + b) / 0x100 ≡ a = omega arith in
     let eb : (a * 0x100 + b) % 0x100 ≡ b = omega arith in
-    subst (λ (p : ℕ × List ℕ). IsLength (0x82 ∷ a ∷ b ∷ bytes) p.0 p.1) g.1 (rw (length_82 (a * 0x100 + b) least (omega arith), ea, eb) refl, omega arith)
+    subst (λ (p : ℕ × List ℕ). IsLength (0x82 ∷ a ∷ b ∷ bytes) p.0 p.1) g.1
+    (rw (length_82 (a * 0x100 + b) least (omega arith), ea, eb) refl, omega arith)
 
 long3_takes : (bytes : List ℕ) (n : ℕ) (rest : List ℕ) → AreOctets bytes → long3 bytes ≡ Some (n, rest) → IsLength (0x83 ∷ bytes) n rest
 long3_takes [] n rest fits e = absurd cc
@@ -43,7 +47,8 @@ long3_takes (a ∷ b ∷ c ∷ bytes) n rest (fa, (fb, (fc, _))) e =
     let ea : (a * 0x10000 + b * 0x100 + c) / 0x10000 ≡ a = omega arith in
     let eb : (a * 0x10000 + b * 0x100 + c) / 0x100 % 0x100 ≡ b = omega arith in
     let ec : (a * 0x10000 + b * 0x100 + c) % 0x100 ≡ c = omega arith in
-    subst (λ (p : ℕ × List ℕ). IsLength (0x83 ∷ a ∷ b ∷ c ∷ bytes) p.0 p.1) g.1 (rw (length_83 (a * 0x10000 + b * 0x100 + c) least (omega arith), ea, eb, ec) refl, omega arith)
+    subst (λ (p : ℕ × List ℕ). IsLength (0x83 ∷ a ∷ b ∷ c ∷ bytes) p.0 p.1) g.1
+    (rw (length_83 (a * 0x10000 + b * 0x100 + c) least (omega arith), ea, eb, ec) refl, omega arith)
 
 long4_takes : (bytes : List ℕ) (n : ℕ) (rest : List ℕ) → AreOctets bytes → long4 bytes ≡ Some (n, rest) → IsLength (0x84 ∷ bytes) n rest
 long4_takes [] n rest fits e = absurd cc
@@ -51,15 +56,22 @@ long4_takes (a ∷ []) n rest fits e = absurd cc
 long4_takes (a ∷ b ∷ []) n rest fits e = absurd cc
 long4_takes (a ∷ b ∷ c ∷ []) n rest fits e = absurd cc
 long4_takes (a ∷ b ∷ c ∷ d ∷ bytes) n rest (fa, (fb, (fc, (fd, _)))) e =
-    let g = unless_some (ltb (a * 0x1000000 + b * 0x10000 + c * 0x100 + d) 0x1000000) (a * 0x1000000 + b * 0x10000 + c * 0x100 + d, bytes) (n, rest) e in
+    let g = unless_some (ltb (a * 0x1000000 + b * 0x10000 + c * 0x100 + d) 0x1000000)
+    (a * 0x1000000 + b * 0x10000 + c * 0x100 + d, bytes) (n, rest) e in
     let least : 0x1000000 ≤ a * 0x1000000 + b * 0x10000 + c * 0x100 + d = ltb-false _ _ g.0 in
     let ea : (a * 0x1000000 + b * 0x10000 + c * 0x100 + d) / 0x1000000 ≡ a = omega arith in
     let eb : (a * 0x1000000 + b * 0x10000 + c * 0x100 + d) / 0x10000 % 0x100 ≡ b = omega arith in
     let ec : (a * 0x1000000 + b * 0x10000 + c * 0x100 + d) / 0x100 % 0x100 ≡ c = omega arith in
     let ed : (a * 0x1000000 + b * 0x10000 + c * 0x100 + d) % 0x100 ≡ d = omega arith in
-    subst (λ (p : ℕ × List ℕ). IsLength (0x84 ∷ a ∷ b ∷ c ∷ d ∷ bytes) p.0 p.1) g.1 (rw (length_84 (a * 0x1000000 + b * 0x10000 + c * 0x100 + d) least (omega arith), ea, eb, ec, ed) refl, omega arith)
+    subst (λ (p : ℕ × List ℕ). IsLength (0x84 ∷ a ∷ b ∷ c ∷ d ∷ bytes) p.0 p.1) g.1 (
+      rw (length_84 (a * 0x1000000 + b * 0x10000 + c * 0x100 + d) least (omega arith), ea, eb, ec, ed) refl,
+      omega arith,
+    )
 
-long_takes : (k : ℕ) (bytes : List ℕ) (n : ℕ) (rest : List ℕ) → AreOctets bytes → cond (eqb k 0x81) (long1 bytes) (cond (eqb k 0x82) (long2 bytes) (cond (eqb k 0x83) (long3 bytes) (cond (eqb k 0x84) (long4 bytes) None))) ≡ Some (n, rest) → IsLength (k ∷ bytes) n rest
+long_takes : (k : ℕ) (bytes : List ℕ) (n : ℕ) (rest : List ℕ) → AreOctets bytes →
+    cond (eqb k 0x81) (long1 bytes)
+    (cond (eqb k 0x82) (long2 bytes) (cond (eqb k 0x83) (long3 bytes) (cond (eqb k 0x84) (long4 bytes) None))) ≡
+    Some (n, rest) → IsLength (k ∷ bytes) n rest
 long_takes k bytes n rest fits e =
     elim (cases_Bool (eqb k 0x81)) [
       | inl y1 ↦ rw (eqb-true k 0x81 y1) (long1_takes bytes n rest fits (rw y1 at e))
@@ -104,7 +116,8 @@ length_again n rest lt =
                 let e : n / 0x10000 * 0x10000 + n / 0x100 % 0x100 * 0x100 + n % 0x100 ≡ n = omega arith in
                 rw (length_83 n g2 l3, e, le-ltb n 0x10000 g2) refl
             | inr g3 ↦
-                let e : n / 0x1000000 * 0x1000000 + n / 0x10000 % 0x100 * 0x10000 + n / 0x100 % 0x100 * 0x100 + n % 0x100 ≡ n = omega arith in
+                let e : n / 0x1000000 * 0x1000000 + n / 0x10000 % 0x100 * 0x10000 + n / 0x100 % 0x100 * 0x100 +
+                n % 0x100 ≡ n = omega arith in
                 rw (length_84 n g3 lt, e, le-ltb n 0x1000000 g3) refl
           ]
         ]
@@ -115,7 +128,8 @@ content_takes : (x : ℕ × List ℕ) (c rest : List ℕ) → content_at x ≡ S
 content_takes x c rest e =
     let g = unless_some (ltb (length x.1) x.0) (take x.0 x.1, drop x.0 x.1) (c, rest) e in
     let le : x.0 ≤ length x.1 = ltb-false _ _ g.0 in
-    subst (λ (p : List ℕ × List ℕ). (x.0 ≡ length p.0) × (x.1 ≡ p.0 ++ p.1)) g.1 (omega (arith, length-take x.0 x.1), sym (take-append-drop x.0 x.1))
+    subst (λ (p : List ℕ × List ℕ). (x.0 ≡ length p.0) × (x.1 ≡ p.0 ++ p.1)) g.1
+    (omega (arith, length-take x.0 x.1), sym (take-append-drop x.0 x.1))
 
 content_again : (c rest : List ℕ) → content_at (length c, c ++ rest) ≡ Some (c, rest)
 content_again c rest =
@@ -135,11 +149,20 @@ value_takes t (found ∷ bytes) c rest fits e =
     let same : found ≡ t = eqb-true _ _ b.0 in
     let other : t % 32 ≢ 31 = eqb-false _ _ (not-true _ b.1) in
     let low : t % 32 < 31 = omega arith in
-    let whole : bytes ≡ (length_octets (length c) ++ c) ++ rest = n.0 ∙ rw (k.0, k.1) (sym (append_assoc (length_octets (length c)) c rest)) in
-    let content_octets : AreOctets c = AreOctets-after (length_octets (length c) ++ c) (length_octets (length c)) c refl (AreOctets-front bytes (length_octets (length c) ++ c) rest whole fits.1) in
+    let whole : bytes ≡ (length_octets (length c) ++ c) ++ rest =
+    n.0 ∙ rw (k.0, k.1) (sym (append_assoc (length_octets (length c)) c rest)) in
+    let content_octets : AreOctets c = AreOctets-after (length_octets (length c) ++ c) (length_octets (length c)) c
+    refl (AreOctets-front bytes (length_octets (length c) ++ c) rest whole fits.1) in
     record {
       text = enc t c;
-      encoded = record { octet = omega (arith, fits.0); low_tag = low; octets = content_octets; short = omega (arith, k.0, n.1); is = refl };
+      encoded = record {
+        octet = omega (arith, fits.0);
+        low_tag = low;
+        octets = content_octets;
+        short =
+            omega (arith, k.0, n.1);
+        is = refl;
+      };
       parts = rw (same, whole) refl;
     }
 
@@ -149,7 +172,8 @@ unfolding value_at enc
 value_again t c text rest v =
     let same : eqb t t ≡ true = eq-eqb t t refl in
     let low : eqb (t % 32) 31 ≡ false = ne_eqb _ _ (λ e. omega (arith, v.low_tag, e)) in
-    let regrouped : text ++ rest ≡ t ∷ (length_octets (length c) ++ (c ++ rest)) = rw v.is (ap (λ (x : List ℕ). t ∷ x) (append_assoc (length_octets (length c)) c rest)) in
+    let regrouped : text ++ rest ≡ t ∷ (length_octets (length c) ++ (c ++ rest)) =
+    rw v.is (ap (λ (x : List ℕ). t ∷ x) (append_assoc (length_octets (length c)) c rest)) in
     ap (value_at t) regrouped ∙ rw (same, low, length_again (length c) (c ++ rest) v.short, content_again c rest) refl
 
 -- a value of a tag is read as it is encoded
@@ -165,7 +189,8 @@ pub record Parts (bytes c rest : List ℕ) : Type 0 where
 abbrev HasFront : List ℕ → List ℕ → Type 0
 HasFront bytes rest = (head : List ℕ) × (bytes ≡ head ++ rest)
 
-least_parts : (least n : ℕ) (head bytes : List ℕ) (m : ℕ) (rest : List ℕ) → at_least least n bytes ≡ Some (m, rest) → HasFront (head ++ bytes) rest
+least_parts : (least n : ℕ) (head bytes : List ℕ) (m : ℕ) (rest : List ℕ) → at_least least n bytes ≡ Some (m, rest) →
+    HasFront (head ++ bytes) rest
 least_parts least n head bytes m rest e =
     let g = unless_some (ltb n least) (n, bytes) (m, rest) e in
     subst (λ (p : ℕ × List ℕ). HasFront (head ++ bytes) p.1) g.1 (head, refl)
@@ -190,14 +215,16 @@ long4_parts k [] n rest e = absurd cc
 long4_parts k (a ∷ []) n rest e = absurd cc
 long4_parts k (a ∷ b ∷ []) n rest e = absurd cc
 long4_parts k (a ∷ b ∷ c ∷ []) n rest e = absurd cc
-long4_parts k (a ∷ b ∷ c ∷ d ∷ bytes) n rest e = least_parts 0x1000000 (a * 0x1000000 + b * 0x10000 + c * 0x100 + d) (k ∷ a ∷ b ∷ c ∷ d ∷ []) bytes n rest e
+long4_parts k (a ∷ b ∷ c ∷ d ∷ bytes) n rest e = least_parts 0x1000000 (a * 0x1000000 + b * 0x10000 + c * 0x100 + d)
+    (k ∷ a ∷ b ∷ c ∷ d ∷ []) bytes n rest e
 
 -- an `else if` that gave a value
 else_if : {A : Type 0} (b : Bool) (x y : Option A) (z : A) → cond b x y ≡ Some z → (x ≡ Some z) ⊎ (y ≡ Some z)
 else_if true x y z e = inl e
 else_if false x y z e = inr e
 
-long0_parts : (k : ℕ) (bytes : List ℕ) (n : ℕ) (rest : List ℕ) → some {A = ℕ × List ℕ} (k, bytes) ≡ some {A = ℕ × List ℕ} (n, rest) → HasFront (k ∷ bytes) rest
+long0_parts : (k : ℕ) (bytes : List ℕ) (n : ℕ) (rest : List ℕ) →
+    some {A = ℕ × List ℕ} (k, bytes) ≡ some {A = ℕ × List ℕ} (n, rest) → HasFront (k ∷ bytes) rest
 long0_parts k bytes n rest e = (k ∷ [], ap (λ (x : List ℕ). k ∷ x) (both_are (k, bytes) (n, rest) e).1)
 
 abbrev else4 : ℕ → List ℕ → Option (ℕ × List ℕ)

@@ -2,7 +2,8 @@
 use Rattle.std.specs.List.{AllByRecursion, concat}
 use Rattle.std.specs.Prelude.{◌≢◌, nat_le, nat_lt, ◌&&◌}
 use Rattle.std.specs.Int.Digits.{number_from_digits, digits_of}
-use Rattle.std.proofs.Common.{◌≡◌, ◌⊎◌, Bool, true, false, refl, inl, inr, ℕ, ◌^◌, ◌<◌, List, length, ◌≤◌, arith, [], ◌∷◌, ◌%◌, ◌/◌, get_or, sym, subst, zero, suc, ◌++◌, ap}
+use Rattle.std.proofs.Common.{◌≡◌, ◌⊎◌, Bool, true, false, refl, inl, inr, ℕ, ◌^◌, ◌<◌, List, length, ◌≤◌, arith, []}
+use Rattle.std.proofs.Common.{◌∷◌, ◌%◌, ◌/◌, get_or, sym, subst, zero, suc, ◌++◌, ap}
 use Rattle.std.proofs.lemmas.List.{length-append}
 use Rattle.std.proofs.lemmas.Bool.{cases_lt, lt-ltb, le-ltb, leb-true, ltb-true, and_parts}
 use Rattle.std.proofs.lemmas.Int.Digits.{first_digits_of, number_digits_of}
@@ -53,7 +54,8 @@ unfolding enc
 made t c tag h = let inside = content_short t c h in record { octet = h.1.0; low_tag = tag; octets = inside.1; short = inside.0; is = refl }
 
 -- what is written of a content in several tags is nested so
-pub nested_made : (tags : List ℕ) (c : List ℕ) → AllByRecursion (λ t. t % 32 < 31) tags → Short (nested tags c) → IsNested tags c (nested tags c)
+pub nested_made : (tags : List ℕ) (c : List ℕ) → AllByRecursion (λ t. t % 32 < 31) tags → Short (nested tags c) →
+    IsNested tags c (nested tags c)
 nested_made [] c tags h = refl
 nested_made (t ∷ ts) c tags h = (nested ts c, made t (nested ts c) tags.0 h, nested_made ts c tags.1 (content_short t (nested ts c) h))
 
@@ -62,20 +64,48 @@ pub nested_short : (tags : List ℕ) (c : List ℕ) → Short (nested tags c) �
 nested_short [] c h = h
 nested_short (t ∷ ts) c h = nested_short ts c (content_short t (nested ts c) h)
 
-number_from : (n : ℕ) (ds : List ℕ) → (ds ≢ [] → 0 < get_or ds 0 0) → number_from_digits 256 ds ≡ n → Short (enc INTEGER (unsigned ds)) → IsNumber n (enc INTEGER (unsigned ds))
-number_from n [] first value h = record { first = 0; more = []; enc = made INTEGER (0 ∷ []) (omega arith) h; shortest = tt; not_negative = omega arith; is = sym value }
+number_from : (n : ℕ) (ds : List ℕ) → (ds ≢ [] → 0 < get_or ds 0 0) → number_from_digits 256 ds ≡ n →
+    Short (enc INTEGER (unsigned ds)) → IsNumber n (enc INTEGER (unsigned ds))
+number_from n [] first value h =
+    record {
+      first = 0;
+      more = [];
+      enc = made INTEGER (0 ∷ []) (omega arith) h;
+      shortest = tt;
+      not_negative =
+          omega arith;
+      is = sym value;
+    }
 number_from n (d ∷ ds) first value h =
     let positive : 0 < d = first (λ e. cc) in
     elim (cases_lt d 128) [
       | inl low ↦
           let is : unsigned (d ∷ ds) ≡ d ∷ ds = rw (lt-ltb d 128 low) in
           let short : Short (enc INTEGER (d ∷ ds)) = subst (λ (c : List ℕ). Short (enc INTEGER c)) is h in
-          let result : IsNumber n (enc INTEGER (d ∷ ds)) = record { first = d; more = ds; enc = made INTEGER (d ∷ ds) (omega arith) short; shortest = integer d ds positive low; not_negative = low; is = sym value } in
+          let result : IsNumber n (enc INTEGER (d ∷ ds)) =
+          record {
+            first = d;
+            more = ds;
+            enc = made INTEGER (d ∷ ds) (omega arith) short;
+            shortest =
+                integer d ds positive low;
+            not_negative = low;
+            is = sym value;
+          } in
           subst (λ (c : List ℕ). IsNumber n (enc INTEGER c)) (sym is) result
       | inr high ↦
           let is : unsigned (d ∷ ds) ≡ 0 ∷ d ∷ ds = rw (le-ltb d 128 high) in
           let short : Short (enc INTEGER (0 ∷ d ∷ ds)) = subst (λ (c : List ℕ). Short (enc INTEGER c)) is h in
-          let result : IsNumber n (enc INTEGER (0 ∷ d ∷ ds)) = record { first = 0; more = d ∷ ds; enc = made INTEGER (0 ∷ d ∷ ds) (omega arith) short; shortest = ((λ e. high), λ e. absurd (omega arith)); not_negative = omega arith; is = sym value } in
+          let result : IsNumber n (enc INTEGER (0 ∷ d ∷ ds)) =
+          record {
+            first = 0;
+            more = d ∷ ds;
+            enc = made INTEGER (0 ∷ d ∷ ds) (omega arith) short;
+            shortest =
+                ((λ e. high), λ e. absurd (omega arith));
+            not_negative = omega arith;
+            is = sym value;
+          } in
           subst (λ (c : List ℕ). IsNumber n (enc INTEGER c)) (sym is) result
     ]
   where
@@ -87,7 +117,8 @@ number_from n (d ∷ ds) first value h =
 pub number_made : (n : ℕ) → Short (number n) → IsNumber n (number n)
 unfolding number
 number_made zero h = number_from 0 [] (λ e. absurd (e refl)) refl h
-number_made (suc n) h = number_from (suc n) (digits_of 256 (suc n)) (λ e. first_digits_of 256 (suc n) (omega arith) (omega arith)) (number_digits_of 256 (suc n) (omega arith)) h
+number_made (suc n) h = number_from (suc n) (digits_of 256 (suc n))
+    (λ e. first_digits_of 256 (suc n) (omega arith) (omega arith)) (number_digits_of 256 (suc n) (omega arith)) h
 
 -- what is written of a moment encodes it, where it is short
 pub time_made : (m : Moment) → IsMoment m → Short (time m) → IsTime m (time m)
@@ -97,7 +128,11 @@ time_made m e h =
       | inl t ↦
           let r = and_parts _ _ t in
           let short : Short (enc UTC_TIME (two (m.year % 100) ++ after_year m)) = rw t at h in
-          record { exists = e; encoded = rw t (inl (leb-true 1950 m.year r.0, ltb-true m.year 2050 r.1, made UTC_TIME _ (omega arith) short)) }
+          record {
+            exists = e;
+            encoded =
+                rw t (inl (leb-true 1950 m.year r.0, ltb-true m.year 2050 r.1, made UTC_TIME _ (omega arith) short));
+          }
       | inr f ↦
           let short : Short (enc GENERALIZED_TIME (two (m.year / 100) ++ (two (m.year % 100) ++ after_year m))) = rw f at h in
           record { exists = e; encoded = rw f (inr (made GENERALIZED_TIME _ (omega arith) short)) }
@@ -118,7 +153,14 @@ last_of k (l ∷ id) h = let r = last_of l id h.1 in (k ∷ r.0, r.1, ap (λ (x 
 pub plain_oid : (k : ℕ) (id : List ℕ) → Plain (k ∷ id) → IsOid (k ∷ id)
 plain_oid k id h =
     let r = last_of k id h in
-    record { front = r.0; last = r.1; is = r.2; ends = r.3; no_padding = λ x y e. absurd (plain_apart x y (subst (λ (s : List ℕ). Plain s) e h)) }
+    record {
+      front = r.0;
+      last = r.1;
+      is = r.2;
+      ends = r.3;
+      no_padding =
+          λ x y e. absurd (plain_apart x y (subst (λ (s : List ℕ). Plain s) e h));
+    }
 
 -- what is written of an identifier encodes it, if short
 pub identifier_made : (id : List ℕ) → IsOid id → Short (enc OBJECT_IDENTIFIER id) → IsObjectIdentifier id (enc OBJECT_IDENTIFIER id)

@@ -10,8 +10,10 @@ use Rattle.rpki_der.specs.Reading.{map_value}
 
 module _ {X : Type 0} (read : List ℕ → Option (X × List ℕ)) (less : Shrinks read) (octets : List ℕ) where
   -- a value stands before others
-  pub one_more : (x : X) (rest : List ℕ) → read octets ≡ Some (x, rest) → is_some (sequence_of read octets) ≡ is_some (sequence_of read rest)
-  one_more x rest e = ap is_some (sequence_steps read less octets (omega (arith, less octets x rest e))) ∙ rw e (same (sequence_of read rest))
+  pub one_more : (x : X) (rest : List ℕ) → read octets ≡ Some (x, rest) →
+      is_some (sequence_of read octets) ≡ is_some (sequence_of read rest)
+  one_more x rest e = ap is_some (sequence_steps read less octets (omega (arith, less octets x rest e))) ∙
+      rw e (same (sequence_of read rest))
     where
       same : (o : Option (List X)) → is_some (o >>= λ xs. some (x ∷ xs)) ≡ is_some o
       same (Some xs) = refl
@@ -23,7 +25,8 @@ module _ {X : Type 0} (read : List ℕ → Option (X × List ℕ)) (less : Shrin
 
   -- the same where of the value something is made
   module _ {Y : Type 0} (to : X → Y) where
-    pub one_made : (y : Y) (rest : List ℕ) → map_value to read octets ≡ Some (y, rest) → (is_some (sequence_of read octets) ≡ is_some (sequence_of read rest)) × (length rest < length octets)
+    pub one_made : (y : Y) (rest : List ℕ) → map_value to read octets ≡ Some (y, rest) →
+        (is_some (sequence_of read octets) ≡ is_some (sequence_of read rest)) × (length rest < length octets)
     one_made y rest e = let a = unmapped to read octets y rest e in (one_more a.0 rest a.1, less octets a.0 rest a.1)
 
     pub none_made : 0 < length octets → map_value to read octets ≡ None → is_some (sequence_of read octets) ≡ false

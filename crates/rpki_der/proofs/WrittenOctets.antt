@@ -2,7 +2,8 @@
 use Rattle.std.specs.Prelude.{nat_lt, nat_le, ◌&&◌, if◌then◌else◌, ◌==◌}
 use Rattle.std.specs.List.{AllByRecursion, concat}
 use Rattle.std.specs.Int.Digits.{digits_of, AllBelowBase}
-use Rattle.std.proofs.Common.{◌≡◌, ℕ, ◌%◌, ◌/◌, ◌^◌, ◌<◌, ◌≤◌, Bool, true, false, List, [], ◌∷◌, ◌++◌, length, refl, arith, inl, inr, subst, sym}
+use Rattle.std.proofs.Common.{◌≡◌, ℕ, ◌%◌, ◌/◌, ◌^◌, ◌<◌, ◌≤◌, Bool, true, false, List, [], ◌∷◌, ◌++◌, length, refl}
+use Rattle.std.proofs.Common.{arith, inl, inr, subst, sym}
 use Rattle.std.proofs.lemmas.Bool.{cases_lt, lt-ltb, le-ltb, ltb-true, and_parts}
 use Rattle.std.proofs.lemmas.List.{length-append}
 use Rattle.std.proofs.lemmas.Int.Digits.{length-digits_of-le, all_below_base_digits_of}
@@ -45,7 +46,10 @@ unfolding length_octets
 length_octets_are n h =
     elim (cases_lt n 128) [
       | inl low ↦ rw (lt-ltb n 128 low) (omega arith, tt)
-      | inr high ↦ rw (le-ltb n 128 high) (omega (arith, length-digits_of-le 256 4 n (omega arith) (omega arith)), below _ (all_below_base_digits_of 256 n (omega arith)))
+      | inr high ↦ rw (le-ltb n 128 high) (
+        omega (arith, length-digits_of-le 256 4 n (omega arith) (omega arith)),
+        below _ (all_below_base_digits_of 256 n (omega arith)),
+      )
     ]
 
 -- a value of octets consists of octets
@@ -82,23 +86,35 @@ choose true x y k g h = g
 choose false x y k g h = h
 
 leap : (year : ℕ) → leap_day year ≤ 1
-leap year = choose (year % 400 == 0) _ _ 1 (omega arith) (choose (year % 100 == 0) _ _ 1 (omega arith) (choose (year % 4 == 0) _ _ 1 (omega arith) (omega arith)))
+leap year = choose (year % 400 == 0) _ _ 1 (omega arith)
+    (choose (year % 100 == 0) _ _ 1 (omega arith) (choose (year % 4 == 0) _ _ 1 (omega arith) (omega arith)))
 
 -- a month has at most 31 days
 pub days : (year month : ℕ) → days_in_month year month ≤ 31
 days year month =
-    choose (month == 2) _ _ 31 (omega (arith, leap year)) (choose (month == 4) _ _ 31 (omega arith) (choose (month == 6) _ _ 31 (omega arith) (choose (month == 9) _ _ 31 (omega arith) (choose (month == 11) _ _ 31 (omega arith) (omega arith)))))
+    choose (month == 2) _ _ 31 (omega (arith, leap year))
+    (choose (month == 4) _ _ 31 (omega arith)
+    (choose (month == 6) _ _ 31 (omega arith)
+    (choose (month == 9) _ _ 31 (omega arith) (choose (month == 11) _ _ 31 (omega arith) (omega arith)))))
 
 two_octets : (n : ℕ) → n < 100 → AreOctets (two n)
 two_octets n h = (omega arith, (omega arith, tt))
 
 after_octets : (m : Moment) → IsMoment m → AreOctets (after_year m)
 after_octets m e =
-    let s : AreOctets (two m.second ++ 90 ∷ []) = AreOctets-append (two m.second) (90 ∷ []) (two_octets m.second (omega (arith, e.second))) (omega arith, tt) in
-    let n : AreOctets (two m.minute ++ (two m.second ++ 90 ∷ [])) = AreOctets-append (two m.minute) (two m.second ++ 90 ∷ []) (two_octets m.minute (omega (arith, e.minute))) s in
-    let h : AreOctets (two m.hour ++ (two m.minute ++ (two m.second ++ 90 ∷ []))) = AreOctets-append (two m.hour) (two m.minute ++ (two m.second ++ 90 ∷ [])) (two_octets m.hour (omega (arith, e.hour))) n in
-    let d : AreOctets (two m.day ++ (two m.hour ++ (two m.minute ++ (two m.second ++ 90 ∷ [])))) = AreOctets-append (two m.day) (two m.hour ++ (two m.minute ++ (two m.second ++ 90 ∷ []))) (two_octets m.day (omega (arith, e.day.1, days m.year m.month))) h in
-    AreOctets-append (two m.month) (two m.day ++ (two m.hour ++ (two m.minute ++ (two m.second ++ 90 ∷ [])))) (two_octets m.month (omega (arith, e.month.1))) d
+    let s : AreOctets (two m.second ++ 90 ∷ []) = AreOctets-append (two m.second) (90 ∷ [])
+    (two_octets m.second (omega (arith, e.second))) (omega arith, tt) in
+    let n : AreOctets (two m.minute ++ (two m.second ++ 90 ∷ [])) =
+    AreOctets-append (two m.minute) (two m.second ++ 90 ∷ []) (two_octets m.minute (omega (arith, e.minute)))
+    s in
+    let h : AreOctets (two m.hour ++ (two m.minute ++ (two m.second ++ 90 ∷ []))) =
+    AreOctets-append (two m.hour) (two m.minute ++ (two m.second ++ 90 ∷ []))
+    (two_octets m.hour (omega (arith, e.hour))) n in
+    let d : AreOctets (two m.day ++ (two m.hour ++ (two m.minute ++ (two m.second ++ 90 ∷ [])))) =
+    AreOctets-append (two m.day) (two m.hour ++ (two m.minute ++ (two m.second ++ 90 ∷ [])))
+    (two_octets m.day (omega (arith, e.day.1, days m.year m.month))) h in
+    AreOctets-append (two m.month) (two m.day ++ (two m.hour ++ (two m.minute ++ (two m.second ++ 90 ∷ []))))
+    (two_octets m.month (omega (arith, e.month.1))) d
 
 -- what is written of a moment, if short, consists of octets
 pub ok_time : (m : Moment) → IsMoment m → IfShort (time m)
@@ -107,5 +123,7 @@ ok_time m e =
     let short = AreOctets-append (two (m.year % 100)) (after_year m) (two_octets (m.year % 100) (omega arith)) (after_octets m e) in
     elim (bool_cases (nat_le 1950 m.year && nat_lt m.year 2050)) [
       | inl t ↦ rw t (ok_enc UTC_TIME _ (omega arith) (λ l. short))
-      | inr f ↦ rw f (ok_enc GENERALIZED_TIME _ (omega arith) (λ l. AreOctets-append (two (m.year / 100)) (two (m.year % 100) ++ after_year m) (two_octets (m.year / 100) (omega (arith, e.year))) short))
+      | inr f ↦ rw f (ok_enc GENERALIZED_TIME _ (omega arith)
+          (λ l. AreOctets-append (two (m.year / 100)) (two (m.year % 100) ++ after_year m)
+          (two_octets (m.year / 100) (omega (arith, e.year))) short))
     ]

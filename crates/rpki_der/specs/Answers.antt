@@ -18,7 +18,8 @@ abbrev pub Answers : {X : Type 0} → Format X → Place → Result X DecodeErro
 Answers f = AnswersBy (λ x. x) f
 
 -- the answer of a reader that may run out of memory, seen by view
-pub record AnswersOrMemoryBy {X Y : Type 0} (view : X → Y) (f : Format Y) (old : Place) (r : Result X DecodeError) (new : Place) : Type 0 where
+pub record AnswersOrMemoryBy {X Y : Type 0} (view : X → Y) (f : Format Y) (old : Place) (r : Result X DecodeError)
+    (new : Place) : Type 0 where
   pub encoded : ReadsFrontOrMemoryBy view f.encodes old r new
   pub reads : TookOrMemoryBy view f.read old r new
   pub keeps : Keeps r old new
@@ -35,7 +36,8 @@ pub record AnswersOrAbsent {X : Type 0} (tag : ℕ) (f : Format X) (old : Place)
   pub keeps : Keeps r old new
 
 -- the answer of such a reader that may run out of memory
-pub record AnswersOrAbsentOrMemory {X : Type 0} (tag : ℕ) (f : Format X) (old : Place) (r : Result X DecodeError) (new : Place) : Type 0 where
+pub record AnswersOrAbsentOrMemory {X : Type 0} (tag : ℕ) (f : Format X) (old : Place) (r : Result X DecodeError)
+    (new : Place) : Type 0 where
   pub encoded : ReadsFrontOrAbsentOrMemory tag f.encodes old r new
   pub reads : TookOrMemory f.read old r new
   pub keeps : Keeps r old new

@@ -2,7 +2,8 @@
 use Rattle.std.specs.Prelude.{ℕ, Bool, List, [], ◌∷◌, Option, Some, None, ◌^◌, ◌<◌}
 use Rattle.std.specs.Int.Digits.{digits_of}
 use Rattle.rpki_der.specs.Formats.{Format, any_octets, own_value}
-use Rattle.rpki_der.specs.Primitives.{IsBits, IsBoolOrFalse, IsObjectIdentifier, IsOid, IsNull, IsU32, IsUnsigned, null, bool_or_false, unsigned, number}
+use Rattle.rpki_der.specs.Primitives.{IsBits, IsBoolOrFalse, IsObjectIdentifier, IsOid, IsNull, IsU32, IsUnsigned}
+use Rattle.rpki_der.specs.Primitives.{null, bool_or_false, unsigned, number}
 use Rattle.rpki_der.specs.Primitives.Reading.{bits_at, bool_or_false_at, oid_at, null_at, u32_at, unsigned_at}
 use Rattle.rpki_der.specs.Serials.{IsSerial}
 use Rattle.rpki_der.specs.Serials.Reading.{serial_at}
@@ -35,11 +36,13 @@ u32_format = own_value INTEGER IsU32 u32_at (λ n. n < 2 ^ 32) number (λ n. uns
 
 -- INTEGER (0..MAX), kept as its content
 abbrev pub unsigned_format : Format (List ℕ)
-unsigned_format = own_value INTEGER IsUnsigned unsigned_at (λ content. IsUnsigned content (enc INTEGER content)) (enc INTEGER) (λ content. content)
+unsigned_format = own_value INTEGER IsUnsigned unsigned_at (λ content. IsUnsigned content (enc INTEGER content))
+    (enc INTEGER) (λ content. content)
 
 -- BIT STRING, as the count of unused bits and the octets
 abbrev pub bit_string : Format (ℕ × List ℕ)
-bit_string = own_value BIT_STRING IsBits bits_at (λ v. IsBits v (enc BIT_STRING (v.0 ∷ v.1))) (λ v. enc BIT_STRING (v.0 ∷ v.1)) (λ v. v.0 ∷ v.1)
+bit_string = own_value BIT_STRING IsBits bits_at (λ v. IsBits v (enc BIT_STRING (v.0 ∷ v.1)))
+    (λ v. enc BIT_STRING (v.0 ∷ v.1)) (λ v. v.0 ∷ v.1)
 
 -- BOOLEAN DEFAULT FALSE
 abbrev pub boolean_default_false : Format Bool
@@ -71,7 +74,18 @@ time_format = record {
 
 -- a value of any tag
 abbrev pub unnamed_value : {V : Type 0} → (V → List ℕ → Type 0) → (List ℕ → Option (V × List ℕ)) → (V → Type 0) → (V → List ℕ) → Format V
-unnamed_value encodes read fits written = record { encodes = encodes; read = read; fits = fits; written = written; inside = λ v. []; heads = None; least = 1; shut = [] }
+unnamed_value encodes read fits written =
+    record {
+      encodes = encodes;
+      read = read;
+      fits = fits;
+      written = written;
+      inside = λ v. [];
+      heads = None;
+      least =
+          1;
+      shut = [];
+    }
 
 -- a value that is kept as it stands, its inside untested
 abbrev pub any_value : Format (List ℕ)

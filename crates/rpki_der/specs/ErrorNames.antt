@@ -1,7 +1,10 @@
 -- The names of the errors.
 use Rattle.std.specs.Prelude.{ℕ, List, codes}
 use Rattle.rpki_der.specs.declared.error.DecodeError.{DecodeError}
-use Rattle.rpki_der.specs.declared.error.DecodeError.TheVariants.{Truncated, BadLength, BadTag, BadValue, Trailing, TooDeep, Missing, Duplicate, Critical, NotCritical, UnexpectedCritical, InvalidExtension, WrongResources, AlgorithmMismatch, Memory}
+use Rattle.rpki_der.specs.declared.error.DecodeError.TheVariants.{Truncated, BadLength, BadTag, BadValue, Trailing}
+use Rattle.rpki_der.specs.declared.error.DecodeError.TheVariants.{TooDeep, Missing, Duplicate, Critical, NotCritical}
+use Rattle.rpki_der.specs.declared.error.DecodeError.TheVariants.{UnexpectedCritical, InvalidExtension}
+use Rattle.rpki_der.specs.declared.error.DecodeError.TheVariants.{WrongResources, AlgorithmMismatch, Memory}
 use Rattle.rpki_der.specs.declared.error.EncodeError.{EncodeError}
 use Rattle.rpki_der.specs.declared.error.EncodeError.TheVariants as writing
 

@@ -1,7 +1,8 @@
 -- Formats: one description tells what encodes a value, how it is read, and what is written of it.
 -- The words have the names that ASN.1 has, with the clauses of X.680 (2021) and X.690 (2021) that
 -- they restate.
-use Rattle.std.specs.Prelude.{ℕ, zero, suc, Bool, true, false, List, [], ◌∷◌, ◌++◌, Option, Some, None, ◌≡◌, ◌+◌, ◌&&◌, ◌||◌, not, nat_eq, ◌≤◌, ◌<◌, ◌^◌, length, is_some}
+use Rattle.std.specs.Prelude.{ℕ, zero, suc, Bool, true, false, List, [], ◌∷◌, ◌++◌, Option, Some, None, ◌≡◌, ◌+◌}
+use Rattle.std.specs.Prelude.{◌&&◌, ◌||◌, not, nat_eq, ◌≤◌, ◌<◌, ◌^◌, length, is_some}
 use Rattle.std.specs.List.{flat_map, AllByRecursion}
 use Rattle.rpki_der.specs.Tags.{SEQUENCE, SET}
 use Rattle.rpki_der.specs.Writers.{Part}
@@ -72,8 +73,20 @@ shut_then (suc n) a b = b
 -- ---- descriptions
 
 -- a value of this tag (X.690 8.1), whose relation, reading and writing are its own
-abbrev pub own_value : {V : Type 0} → ℕ → (V → List ℕ → Type 0) → (List ℕ → Option (V × List ℕ)) → (V → Type 0) → (V → List ℕ) → (V → List ℕ) → Format V
-own_value t encodes read fits written inside = record { encodes = encodes; read = read; fits = fits; written = written; inside = inside; heads = Some (t ∷ []); least = 1; shut = [] }
+abbrev pub own_value : {V : Type 0} → ℕ → (V → List ℕ → Type 0) → (List ℕ → Option (V × List ℕ)) → (V → Type 0) →
+    (V → List ℕ) → (V → List ℕ) → Format V
+own_value t encodes read fits written inside =
+    record {
+      encodes = encodes;
+      read = read;
+      fits = fits;
+      written = written;
+      inside = inside;
+      heads =
+          Some (t ∷ []);
+      least = 1;
+      shut = [];
+    }
 
 -- any octets, in a value of this tag (with OCTET_STRING: X.680 23, X.690 8.7)
 abbrev pub any_octets : ℕ → Format (List ℕ)
@@ -82,7 +95,17 @@ any_octets t = own_value t (IsEnc t) (value_at t) AreOctets (enc t) (λ v. v)
 -- in a value of this tag: an EXPLICIT tag, and what stands inside a SEQUENCE (X.680 31.2, X.690
 -- 8.14)
 abbrev pub tagged : {V : Type 0} → ℕ → Format V → Format V
-tagged t f = record { encodes = Inside t f.encodes; read = inside t f.read; fits = f.fits; written = λ v. enc t (f.written v); inside = f.written; heads = Some (t ∷ []); least = 1; shut = [] }
+tagged t f = record {
+  encodes = Inside t f.encodes;
+  read = inside t f.read;
+  fits = f.fits;
+  written =
+      λ v. enc t (f.written v);
+  inside = f.written;
+  heads = Some (t ∷ []);
+  least = 1;
+  shut = [];
+}
 
 -- one after the other: the components of a sequence (X.680 25, X.690 8.9)
 abbrev pub then : {V W : Type 0} → Format V → Format W → Format (V × W)

@@ -63,7 +63,8 @@ ReadsFrontOrMemoryBy view encodes old (Ok x) new = Begins encodes (remaining old
 ReadsFrontOrMemoryBy {X} {Y} view encodes old (Err e) new = Rejects e ((y : Y) (rest : List ℕ) → Begins encodes (remaining old) y rest → ⊥)
 
 -- the answer of a reader whose value may be absent, and that may run out of memory, seen by view
-abbrev pub AnswersOptionalOrMemoryBy : {X Y : Type 0} → (X → Y) → ℕ → (Y → List ℕ → Type 0) → Place → Result (Option X) DecodeError → Place → Type 0
+abbrev pub AnswersOptionalOrMemoryBy : {X Y : Type 0} → (X → Y) → ℕ → (Y → List ℕ → Type 0) → Place →
+    Result (Option X) DecodeError → Place → Type 0
 AnswersOptionalOrMemoryBy view tag encodes old (Ok None) new = BeginsOther tag (remaining old) × (new ≡ old)
 AnswersOptionalOrMemoryBy view tag encodes old (Ok (Some x)) new = Begins encodes (remaining old) (view x) (remaining new)
 AnswersOptionalOrMemoryBy {X} {Y} view tag encodes old (Err e) new =
@@ -77,12 +78,14 @@ AnswersOptionalOrMemory tag encodes = AnswersOptionalOrMemoryBy (λ x. x) tag en
 -- a value too
 abbrev pub ReadsFrontOrAbsent : {X : Type 0} → ℕ → (X → List ℕ → Type 0) → Place → Result X DecodeError → Place → Type 0
 ReadsFrontOrAbsent tag encodes old (Ok x) new = BeginsOrAbsent tag encodes (remaining old) x (remaining new)
-ReadsFrontOrAbsent {X} tag encodes old (Err e) new = (e ≢ Memory) × ((x : X) (rest : List ℕ) → BeginsOrAbsent tag encodes (remaining old) x rest → ⊥)
+ReadsFrontOrAbsent {X} tag encodes old (Err e) new = (e ≢ Memory) ×
+    ((x : X) (rest : List ℕ) → BeginsOrAbsent tag encodes (remaining old) x rest → ⊥)
 
 -- the answer of a reader where an absent value is a value too, and that may run out of memory
 abbrev pub ReadsFrontOrAbsentOrMemory : {X : Type 0} → ℕ → (X → List ℕ → Type 0) → Place → Result X DecodeError → Place → Type 0
 ReadsFrontOrAbsentOrMemory tag encodes old (Ok x) new = BeginsOrAbsent tag encodes (remaining old) x (remaining new)
-ReadsFrontOrAbsentOrMemory {X} tag encodes old (Err e) new = Rejects e ((x : X) (rest : List ℕ) → BeginsOrAbsent tag encodes (remaining old) x rest → ⊥)
+ReadsFrontOrAbsentOrMemory {X} tag encodes old (Err e) new =
+    Rejects e ((x : X) (rest : List ℕ) → BeginsOrAbsent tag encodes (remaining old) x rest → ⊥)
 
 -- a call's answer on whole octets, seen by view: a value that they encode; or they encode none, or
 -- it ran out of memory

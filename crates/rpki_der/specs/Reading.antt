@@ -48,7 +48,8 @@ content t read bytes = do
 -- nothing at the end or before another tag
 abbrev pub optional : {X : Type 0} → ℕ → (List ℕ → Option (X × List ℕ)) → List ℕ → Option (Option X × List ℕ)
 optional t read [] = Some (None, [])
-optional t read (found ∷ bytes) = if nat_eq found t then (read (found ∷ bytes) >>= λ x. Some (Some x.0, x.1)) else Some (None, found ∷ bytes)
+optional t read (found ∷ bytes) = if nat_eq found t then (read (found ∷ bytes) >>= λ x. Some (Some x.0, x.1))
+    else Some (None, found ∷ bytes)
 
 -- a value, or nothing
 abbrev pub Optional : {V : Type 0} → (V → List ℕ → Type 0) → Option V → List ℕ → Type 0
@@ -62,7 +63,8 @@ BeginWith {V} tag encodes = (v : V) (text : List ℕ) → encodes v text → (ta
 -- ---- a reading function and an encoding
 
 -- what is read is encoded so, and what is encoded so is read, where such octets follow
-pub record ReadsBefore {V : Type 0} (follows : List ℕ → Type 0) (read : List ℕ → Option (V × List ℕ)) (encodes : V → List ℕ → Type 0) : Type 0 where
+pub record ReadsBefore {V : Type 0} (follows : List ℕ → Type 0) (read : List ℕ → Option (V × List ℕ))
+    (encodes : V → List ℕ → Type 0) : Type 0 where
   pub takes : (octets : List ℕ) (v : V) (rest : List ℕ) → AreOctets octets → read octets ≡ Some (v, rest) → Begins encodes octets v rest
   pub again : (v : V) (text rest : List ℕ) → encodes v text → follows rest → read (text ++ rest) ≡ Some (v, rest)
 
@@ -82,5 +84,6 @@ pub record ReadsWhole {V : Type 0} (read : List ℕ → Option V) (encodes : V �
 
 -- what is read of a value that may be absent is encoded so, and what is encoded so is read
 pub record ReadsOrAbsent {V : Type 0} (tag : ℕ) (read : List ℕ → Option (V × List ℕ)) (encodes : V → List ℕ → Type 0) : Type 0 where
-  pub takes : (octets : List ℕ) (v : V) (rest : List ℕ) → AreOctets octets → read octets ≡ Some (v, rest) → BeginsOrAbsent tag encodes octets v rest
+  pub takes : (octets : List ℕ) (v : V) (rest : List ℕ) → AreOctets octets → read octets ≡ Some (v, rest) →
+      BeginsOrAbsent tag encodes octets v rest
   pub again : (octets : List ℕ) (v : V) (rest : List ℕ) → BeginsOrAbsent tag encodes octets v rest → read octets ≡ Some (v, rest)

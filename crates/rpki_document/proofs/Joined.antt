@@ -9,8 +9,11 @@ use Rattle.serde_json.specs.declared.value.Value.{Value}
 use Rattle.rpki_document.specs.Documents as doc
 use Rattle.std.proofs.Common.{◌≡◌, ◌∙◌, ℕ, List, [], ◌∷◌, ◌++◌, map, refl, sym, ap}
 use Rattle.serde_json.specs.Data.{Data, Members}
-use Rattle.rpki_document.specs.Documents.{Node, document_of, document_text, document_members, document_items, node_text, node_members, node_items, Pair, put_all, object_of, array_of, span_text, span_members, span_items, spans_text}
-use Rattle.rpki_document.specs.Views.{Entries, Puts, Pushes, part_view, piece_view, parts_text, parts_members, parts_items, pieces_text, pieces_members, pieces_items}
+use Rattle.rpki_document.specs.Documents.{Node, document_of, document_text, document_members, document_items}
+use Rattle.rpki_document.specs.Documents.{node_text, node_members, node_items, Pair, put_all, object_of, array_of}
+use Rattle.rpki_document.specs.Documents.{span_text, span_members, span_items, spans_text}
+use Rattle.rpki_document.specs.Views.{Entries, Puts, Pushes, part_view, piece_view, parts_text, parts_members}
+use Rattle.rpki_document.specs.Views.{parts_items, pieces_text, pieces_members, pieces_items}
 use Rattle.rpki_document.specs.declared.parts.Part.{Part, Inside, Each, Aside, the_lemmas}
 use Rattle.rpki_document.specs.declared.parts.Piece.{Piece}
 
@@ -50,42 +53,60 @@ put_both (pair ∷ a) b ms = put_both a b _
 
 -- ---- parts inside
 
-pub view-Inside : (key : Bor (List ℕ)) (ps : Vec Part Global) → part_view (Inside key ps) ≡ doc.inside key.now (document_of (map part_view ps.items))
+pub view-Inside : (key : Bor (List ℕ)) (ps : Vec Part Global) →
+    part_view (Inside key ps) ≡ doc.inside key.now (document_of (map part_view ps.items))
 view-Inside key ps = search (rules, the_lemmas)
 
-pub view-Each : (key : Bor (List ℕ)) (ps : Vec Part Global) → part_view (Each key ps) ≡ doc.each key.now (document_of (map part_view ps.items))
+pub view-Each : (key : Bor (List ℕ)) (ps : Vec Part Global) →
+    part_view (Each key ps) ≡ doc.each key.now (document_of (map part_view ps.items))
 view-Each key ps = search (rules, the_lemmas)
 
 pub view-Aside : (ps : Vec Part Global) → part_view (Aside ps) ≡ doc.aside (document_of (map part_view ps.items))
 view-Aside ps = search (rules, the_lemmas)
 
 -- parts that are in no line
-pub written_aside : (old : List ℕ) (p : Part) (ps : List Part) → part_view p ≡ doc.aside (document_of (map part_view ps)) → old ≡ old ++ node_text (part_view p)
+pub written_aside : (old : List ℕ) (p : Part) (ps : List Part) →
+    part_view p ≡ doc.aside (document_of (map part_view ps)) → old ≡ old ++ node_text (part_view p)
 written_aside old p ps is = sym (ap (λ (n : Node). old ++ node_text n) is ∙ append-nil old)
 
-pub put_aside : {T E : Type 0} (r : Result T E) (old new : Entries) (p : Part) (ps : List Part) → part_view p ≡ doc.aside (document_of (map part_view ps)) → OnOk r (Puts (parts_members ps) old new) → OnOk r (Puts (node_members (part_view p)) old new)
+pub put_aside : {T E : Type 0} (r : Result T E) (old new : Entries) (p : Part) (ps : List Part) →
+    part_view p ≡ doc.aside (document_of (map part_view ps)) → OnOk r (Puts (parts_members ps) old new) →
+    OnOk r (Puts (node_members (part_view p)) old new)
 put_aside r old new p ps is e = subst (λ (l : List Pair). OnOk r (Puts l old new)) (sym (ap node_members is ∙ members_of_parts ps)) e
 
-pub push_aside : {T E : Type 0} (r : Result T E) (old new : List Value) (p : Part) (ps : List Part) → part_view p ≡ doc.aside (document_of (map part_view ps)) → OnOk r (Pushes (parts_items ps) old new) → OnOk r (Pushes (node_items (part_view p)) old new)
+pub push_aside : {T E : Type 0} (r : Result T E) (old new : List Value) (p : Part) (ps : List Part) →
+    part_view p ≡ doc.aside (document_of (map part_view ps)) → OnOk r (Pushes (parts_items ps) old new) →
+    OnOk r (Pushes (node_items (part_view p)) old new)
 push_aside r old new p ps is e = subst (λ (l : List Data). OnOk r (Pushes l old new)) (sym (ap node_items is ∙ items_of_parts ps)) e
 
 -- the text of parts is that of the part that they are inside of
-pub written_inside : {T E : Type 0} (r : Result T E) (old new key : List ℕ) (p : Part) (ps : List Part) → part_view p ≡ doc.inside key (document_of (map part_view ps)) → OnOk r (new ≡ old ++ parts_text ps) → OnOk r (new ≡ old ++ node_text (part_view p))
+pub written_inside : {T E : Type 0} (r : Result T E) (old new key : List ℕ) (p : Part) (ps : List Part) →
+    part_view p ≡ doc.inside key (document_of (map part_view ps)) → OnOk r (new ≡ old ++ parts_text ps) →
+    OnOk r (new ≡ old ++ node_text (part_view p))
 written_inside (Ok x) old new key p ps is e = e ∙ ap (λ (l : List ℕ). old ++ l) (sym (ap node_text is ∙ text_of_parts ps))
 written_inside (Err x) old new key p ps is e = tt
 
-pub written_each : {T E : Type 0} (r : Result T E) (old new key : List ℕ) (p : Part) (ps : List Part) → part_view p ≡ doc.each key (document_of (map part_view ps)) → OnOk r (new ≡ old ++ parts_text ps) → OnOk r (new ≡ old ++ node_text (part_view p))
+pub written_each : {T E : Type 0} (r : Result T E) (old new key : List ℕ) (p : Part) (ps : List Part) →
+    part_view p ≡ doc.each key (document_of (map part_view ps)) → OnOk r (new ≡ old ++ parts_text ps) →
+    OnOk r (new ≡ old ++ node_text (part_view p))
 written_each (Ok x) old new key p ps is e = e ∙ ap (λ (l : List ℕ). old ++ l) (sym (ap node_text is ∙ text_of_parts ps))
 written_each (Err x) old new key p ps is e = tt
 
 -- the value of parts, put in under their key
-pub put_inside : {T E : Type 0} (r : Result T E) (old new : Entries) (key : List ℕ) (p : Part) (ps : List Part) (made : Value) → part_view p ≡ doc.inside key (document_of (map part_view ps)) → view made ≡ object_of (parts_members ps) → OnOk r (Puts ((key, view made) ∷ []) old new) → OnOk r (Puts (node_members (part_view p)) old new)
+pub put_inside : {T E : Type 0} (r : Result T E) (old new : Entries) (key : List ℕ) (p : Part) (ps : List Part)
+    (made : Value) → part_view p ≡ doc.inside key (document_of (map part_view ps)) →
+    view made ≡ object_of (parts_members ps) → OnOk r (Puts ((key, view made) ∷ []) old new) →
+    OnOk r (Puts (node_members (part_view p)) old new)
 put_inside (Ok x) old new key p ps made is value e =
-    let same : view made ≡ object_of (document_members (document_of (map part_view ps))) = value ∙ ap object_of (sym (members_of_parts ps)) in
+    let same : view made ≡ object_of (document_members (document_of (map part_view ps))) =
+    value ∙ ap object_of (sym (members_of_parts ps)) in
     subst (λ (n : Node). Puts (node_members n) old new) (sym is) (subst (λ (d : Data). Puts ((key, d) ∷ []) old new) same e)
 put_inside (Err x) old new key p ps made is value e = tt
 
-pub put_each : {T E : Type 0} (r : Result T E) (old new : Entries) (key : List ℕ) (p : Part) (ps : List Part) (made : Value) → part_view p ≡ doc.each key (document_of (map part_view ps)) → view made ≡ array_of (parts_items ps) → OnOk r (Puts ((key, view made) ∷ []) old new) → OnOk r (Puts (node_members (part_view p)) old new)
+pub put_each : {T E : Type 0} (r : Result T E) (old new : Entries) (key : List ℕ) (p : Part) (ps : List Part)
+    (made : Value) → part_view p ≡ doc.each key (document_of (map part_view ps)) →
+    view made ≡ array_of (parts_items ps) → OnOk r (Puts ((key, view made) ∷ []) old new) →
+    OnOk r (Puts (node_members (part_view p)) old new)
 put_each (Ok x) old new key p ps made is value e =
     let same : view made ≡ array_of (document_items (document_of (map part_view ps))) = value ∙ ap array_of (sym (items_of_parts ps)) in
     subst (λ (n : Node). Puts (node_members n) old new) (sym is) (subst (λ (d : Data). Puts ((key, d) ∷ []) old new) same e)
@@ -95,16 +116,23 @@ one_pushed : (old new : List Value) (made : Value) (d : Data) → new ≡ old ++
 one_pushed old new made d is value = ap (map view) is ∙ map-append view old (made ∷ []) ∙ ap (λ (e : Data). map view old ++ e ∷ []) value
 
 -- the same, pushed to a list
-pub push_inside : (old new : List Value) (key : List ℕ) (p : Part) (ps : List Part) (made : Value) → part_view p ≡ doc.inside key (document_of (map part_view ps)) → view made ≡ object_of (parts_members ps) → new ≡ old ++ made ∷ [] → Pushes (node_items (part_view p)) old new
+pub push_inside : (old new : List Value) (key : List ℕ) (p : Part) (ps : List Part) (made : Value) →
+    part_view p ≡ doc.inside key (document_of (map part_view ps)) → view made ≡ object_of (parts_members ps) →
+    new ≡ old ++ made ∷ [] → Pushes (node_items (part_view p)) old new
 push_inside old new key p ps made is value e =
-    subst (λ (n : Node). Pushes (node_items n) old new) (sym is) (one_pushed old new made _ e (value ∙ ap object_of (sym (members_of_parts ps))))
+    subst (λ (n : Node). Pushes (node_items n) old new) (sym is)
+    (one_pushed old new made _ e (value ∙ ap object_of (sym (members_of_parts ps))))
 
-pub push_each : (old new : List Value) (key : List ℕ) (p : Part) (ps : List Part) (made : Value) → part_view p ≡ doc.each key (document_of (map part_view ps)) → view made ≡ array_of (parts_items ps) → new ≡ old ++ made ∷ [] → Pushes (node_items (part_view p)) old new
+pub push_each : (old new : List Value) (key : List ℕ) (p : Part) (ps : List Part) (made : Value) →
+    part_view p ≡ doc.each key (document_of (map part_view ps)) → view made ≡ array_of (parts_items ps) →
+    new ≡ old ++ made ∷ [] → Pushes (node_items (part_view p)) old new
 push_each old new key p ps made is value e =
-    subst (λ (n : Node). Pushes (node_items n) old new) (sym is) (one_pushed old new made _ e (value ∙ ap array_of (sym (items_of_parts ps))))
+    subst (λ (n : Node). Pushes (node_items n) old new) (sym is)
+    (one_pushed old new made _ e (value ∙ ap array_of (sym (items_of_parts ps))))
 
 -- ---- the end of a line
 
-pub line_ended : {T E : Type 0} (r : Result T E) (old new more whole : List ℕ) → new ≡ (if is_ok r then old ++ more else old) → old ++ more ≡ whole → OnOk r (new ≡ whole)
+pub line_ended : {T E : Type 0} (r : Result T E) (old new more whole : List ℕ) →
+    new ≡ (if is_ok r then old ++ more else old) → old ++ more ≡ whole → OnOk r (new ≡ whole)
 line_ended (Ok x) old new more whole is same = is ∙ same
 line_ended (Err x) old new more whole is same = tt

@@ -3,14 +3,22 @@
 use Rattle.std.specs.List.{AllByRecursion, flat_map}
 use Rattle.std.specs.Fmt.{decimal}
 use Rattle.std.specs.Prelude.{IsTrue, ◌&&◌, not, Bool, true, false, if◌then◌else◌}
-use Rattle.std.proofs.Common.{◌≡◌, ◌∙◌, ◌≢◌, ℕ, zero, suc, ◌+◌, ◌-◌, ◌^◌, ◌/◌, ◌%◌, ◌<◌, List, [], ◌∷◌, ◌++◌, length, replicate, refl, sym, ap, append_assoc, arith}
+use Rattle.std.proofs.Common.{◌≡◌, ◌∙◌, ◌≢◌, ℕ, zero, suc, ◌+◌, ◌-◌, ◌^◌, ◌/◌, ◌%◌, ◌<◌, List, [], ◌∷◌, ◌++◌, length}
+use Rattle.std.proofs.Common.{replicate, refl, sym, ap, append_assoc, arith}
 use Rattle.std.proofs.lemmas.Bool.Decides.{nat_tests}
 use Rattle.std.proofs.lemmas.Fmt.{decimal_by_steps}
 use Rattle.std.proofs.lemmas.List.{append-nil, append_cancel_left}
 use Rattle.std.proofs.lemmas.Grind.{flat_map-append}
-use Rattle.rpki_document.specs.Documents.{Told, text, inner, printed, characters, words, count, octets, flag, dated, Span, say, tell, show, keep, Node, head, line, further, unsaid, inside, each, aside, Document, nothing, part, told_text, span_text, spans_text, node_text, document_text}
-use Rattle.rpki_document.specs.Texts.{AreVisible, IsUnseparated, is_visible, stands, separates, escaped, digit, two_digits, colons_text, character_text, characters_text, inner_character_text, inner_text, printed_character_text, printed_text, flag_text, pad, further_margin, line_feed}
-use Rattle.rpki_document.specs.Lines.{Row, labelled, under, row_text, node_rows, document_rows, AreOctets, BeginsPlain, IsTold, IsSpan, IsNode, IsMade, IsRow}
+use Rattle.rpki_document.specs.Documents.{Told, text, inner, printed, characters, words, count, octets, flag, dated}
+use Rattle.rpki_document.specs.Documents.{Span, say, tell, show, keep, Node, head, line, further, unsaid, inside}
+use Rattle.rpki_document.specs.Documents.{each, aside, Document, nothing, part, told_text, span_text, spans_text}
+use Rattle.rpki_document.specs.Documents.{node_text, document_text}
+use Rattle.rpki_document.specs.Texts.{AreVisible, IsUnseparated, is_visible, stands, separates, escaped, digit}
+use Rattle.rpki_document.specs.Texts.{two_digits, colons_text, character_text, characters_text, inner_character_text}
+use Rattle.rpki_document.specs.Texts.{inner_text, printed_character_text, printed_text, flag_text, pad}
+use Rattle.rpki_document.specs.Texts.{further_margin, line_feed}
+use Rattle.rpki_document.specs.Lines.{Row, labelled, under, row_text, node_rows, document_rows, AreOctets}
+use Rattle.rpki_document.specs.Lines.{BeginsPlain, IsTold, IsSpan, IsNode, IsMade, IsRow}
 
 -- ---- visible texts
 

@@ -8,7 +8,11 @@ use Rattle.serde_json.specs.Data.{Data, Members, no_members, member, put, number
 use Rattle.serde_json.specs.Find.{of_integer}
 use Rattle.serde_json.specs.View.{items_of}
 use Rattle.serde_json.specs.Written.{has_float, items_have_float, members_have_float}
-use Rattle.rpki_document.specs.Documents.{Told, text, inner, printed, characters, words, count, octets, flag, dated, Span, say, tell, show, keep, Node, head, line, further, unsaid, inside, each, aside, Document, nothing, part, Pair, put_all, told_json, span_items, span_members, node_items, node_members, document_items, document_members, document_json}
+use Rattle.rpki_document.specs.Documents.{Told, text, inner, printed, characters, words, count, octets, flag, dated}
+use Rattle.rpki_document.specs.Documents.{Span, say, tell, show, keep, Node, head, line, further, unsaid, inside}
+use Rattle.rpki_document.specs.Documents.{each, aside, Document, nothing, part, Pair, put_all, told_json, span_items}
+use Rattle.rpki_document.specs.Documents.{span_members, node_items, node_members, document_items, document_members}
+use Rattle.rpki_document.specs.Documents.{document_json}
 
 -- ---- values, members, lists
 
@@ -36,7 +40,8 @@ put_whole k d (member l e ms) whole none =
     (either_whole (has_float d) _ whole parts.1)
     (either_whole (has_float e) _ parts.0 (put_whole k d ms whole parts.1))
 
-all_whole : (pairs : List Pair) (ms : Members) → AreWhole pairs → members_have_float ms ≡ false → members_have_float (put_all pairs ms) ≡ false
+all_whole : (pairs : List Pair) (ms : Members) → AreWhole pairs → members_have_float ms ≡ false →
+    members_have_float (put_all pairs ms) ≡ false
 all_whole [] ms are none = none
 all_whole (pair ∷ more) ms are none = all_whole more _ are.1 (put_whole pair.0 pair.1 ms are.0 none)
 

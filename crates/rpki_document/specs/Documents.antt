@@ -5,7 +5,8 @@ use Rattle.std.specs.Prelude.{ℕ, ℤ, Bool, List, [], ◌∷◌, ◌++◌}
 use Rattle.serde_json.specs.Data.{Data, boolean, number, unsigned, string, array, object, Members, no_members, put}
 use Rattle.serde_json.specs.Find.{of_integer}
 use Rattle.serde_json.specs.View.{items_of}
-use Rattle.rpki_document.specs.Texts.{characters_text, inner_text, printed_text, colons_text, flag_text, label_text, head_text, further_margin, line_feed}
+use Rattle.rpki_document.specs.Texts.{characters_text, inner_text, printed_text, colons_text, flag_text, label_text}
+use Rattle.rpki_document.specs.Texts.{head_text, further_margin, line_feed}
 
 -- ---- values
 

@@ -1,7 +1,9 @@
 -- The lines of a document's text, and what keeps them apart.
 use Rattle.std.specs.List.{AllByRecursion}
 use Rattle.std.specs.Prelude.{ℕ, ◌<◌, ◌^◌, ◌≢◌, List, [], ◌∷◌, ◌++◌}
-use Rattle.rpki_document.specs.Documents.{Told, text, inner, printed, characters, words, count, octets, flag, dated, Span, say, tell, show, keep, Node, head, line, further, unsaid, inside, each, aside, Document, nothing, part, spans_text}
+use Rattle.rpki_document.specs.Documents.{Told, text, inner, printed, characters, words, count, octets, flag, dated}
+use Rattle.rpki_document.specs.Documents.{Span, say, tell, show, keep, Node, head, line, further, unsaid, inside}
+use Rattle.rpki_document.specs.Documents.{each, aside, Document, nothing, part, spans_text}
 use Rattle.rpki_document.specs.Texts.{AreVisible, pad, further_margin, line_feed}
 
 -- a line: its label and what stands behind its colon, or what it says under the label above

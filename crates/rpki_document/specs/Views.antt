@@ -5,7 +5,8 @@ use Rattle.std.specs.declared.alloc.Global.{Global}
 use Rattle.serde_json.specs.Data.{Data}
 use Rattle.serde_json.specs.View.{view, members_view}
 use Rattle.serde_json.specs.declared.value.Value.{Value}
-use Rattle.rpki_document.specs.Documents.{Told, Span, Node, Document, document_of, Pair, put_all, span_text, span_members, span_items, node_text, node_members, node_items}
+use Rattle.rpki_document.specs.Documents.{Told, Span, Node, Document, document_of, Pair, put_all, span_text}
+use Rattle.rpki_document.specs.Documents.{span_members, span_items, node_text, node_members, node_items}
 use Rattle.rpki_document.specs.Documents as doc
 use Rattle.rpki_document.specs.declared.parts.Leaf.{Leaf}
 use Rattle.rpki_document.specs.declared.parts.Leaf.TheVariants as leaf

@@ -30,12 +30,17 @@ abbrev filled : OptionalExtension → List ℕ → Extension
 filled p c = record { identifier = p.identifier; critical = p.critical; content = c }
 
 -- a part that gives something has a content
-has_content : {V : Type 0} (P : Extension → V → Type 0) (p : OptionalExtension) (o : Option (List ℕ)) (v : Option V) → IsAtMostOne P (written (record { identifier = p.identifier; critical = p.critical; content = o } ∷ [])) v → (v ≡ None → ⊥) → (c : List ℕ) × (o ≡ Some c)
+has_content : {V : Type 0} (P : Extension → V → Type 0) (p : OptionalExtension) (o : Option (List ℕ)) (v : Option V) →
+    IsAtMostOne P (written (record { identifier = p.identifier; critical = p.critical; content = o } ∷ [])) v →
+    (v ≡ None → ⊥) → (c : List ℕ) × (o ≡ Some c)
 has_content P p None v h some = absurd (some h)
 has_content P p (Some c) v h some = (c, refl)
 
 -- the content of a part tells something
-tells_something : {V : Type 0} (P : Extension → V → Type 0) (p : OptionalExtension) (o : Option (List ℕ)) (c : List ℕ) (v : Option V) → o ≡ Some c → IsAtMostOne P (written (record { identifier = p.identifier; critical = p.critical; content = o } ∷ [])) v → (w : V) × P (filled p c) w
+tells_something : {V : Type 0} (P : Extension → V → Type 0) (p : OptionalExtension) (o : Option (List ℕ)) (c : List ℕ)
+    (v : Option V) → o ≡ Some c →
+    IsAtMostOne P (written (record { identifier = p.identifier; critical = p.critical; content = o } ∷ [])) v →
+    (w : V) × P (filled p c) w
 tells_something P p None c v e h = absurd cc
 tells_something {V} P p (Some d) c v e h = subst (λ (x : List ℕ). (w : V) × P (filled p x) w) (same_Some _ _ e) (h.0, h.1)
 
@@ -52,15 +57,21 @@ module _ (x y : ExtensionFields) (short : Short (extensions x)) (read : AreExten
   unfolding extensions
   same =
       let again = sequence_again extension_format.read IsExtension extension_reads extension_shrinks in
-      some_is read.0 (written (parts x)) (sym (again read.0 (extensions x) read.1) ∙ again (written (parts x)) (extensions x) (elements_made (parts x) (known_parts x) shorts))
+      some_is read.0 (written (parts x))
+      (sym (again read.0 (extensions x) read.1) ∙ again (written (parts x)) (extensions x)
+      (elements_made (parts x) (known_parts x) shorts))
 
   ones : AllZip (IsOnly (parts x)) (identifiers_by_kind certificate_kinds) (parts x)
   ones = only_ones (parts x) (identifiers_by_kind certificate_kinds) (parts x) (one_each x.overclaim x) (contents_short (parts x) shorts)
 
   -- what the part of a kind with modes gives
-  given : {V : Type 0} (kinds : Overclaim → ExtensionKind V) (p : OptionalExtension) (v : Option V) → IsOnly (parts x) (identifiers_by_mode kinds) p → GivesUnder kinds y.overclaim read.0 v → IsAtMostOne (TellsUnder kinds y.overclaim) (written (p ∷ [])) v
+  given : {V : Type 0} (kinds : Overclaim → ExtensionKind V) (p : OptionalExtension) (v : Option V) →
+      IsOnly (parts x) (identifiers_by_mode kinds) p → GivesUnder kinds y.overclaim read.0 v →
+      IsAtMostOne (TellsUnder kinds y.overclaim) (written (p ∷ [])) v
   given {V} kinds p v one h =
-      let is : only (identifiers_by_mode kinds) read.0 ≡ written (p ∷ []) = ap (only (identifiers_by_mode kinds)) same ∙ only_written (identifiers_by_mode kinds) (parts x) ∙ ap written one.one in
+      let is : only (identifiers_by_mode kinds) read.0 ≡ written (p ∷ []) =
+      ap (only (identifiers_by_mode kinds)) same ∙ only_written (identifiers_by_mode kinds) (parts x) ∙
+      ap written one.one in
       subst (λ (xs : List Extension). IsAtMostOne (TellsUnder kinds y.overclaim) xs v) is h
 
   abbrev address_part : OptionalExtension
@@ -69,7 +80,8 @@ module _ (x y : ExtensionFields) (short : Short (extensions x)) (read : AreExten
   abbrev number_part : OptionalExtension
   number_part = extension_for (as_resources x.overclaim) (kept_if are_there x.as_resources)
 
-  resource_parts : IsOnly (parts x) (identifiers_by_mode ip_resources) address_part × IsOnly (parts x) (identifiers_by_mode as_resources) number_part
+  resource_parts : IsOnly (parts x) (identifiers_by_mode ip_resources) address_part ×
+      IsOnly (parts x) (identifiers_by_mode as_resources) number_part
   resource_parts = let (_, (_, (_, (_, (_, (_, (_, (_, (_, (ips, (asns, _))))))))))) = ones in (ips, asns)
 
   read_resources : GivesUnder ip_resources y.overclaim read.0 read.2.ip × GivesUnder as_resources y.overclaim read.0 read.2.numbers
@@ -101,6 +113,8 @@ module _ (x y : ExtensionFields) (short : Short (extensions x)) (read : AreExten
       by_content : (o : Option (List ℕ)) → address_part.content ≡ o → AreV4 x.v4_resources
       by_content None e = subst AreV4 (sym (ap (λ (j : Ip). j.v4) (no_ip i (sym (addresses_written i) ∙ e)))) tt
       by_content (Some c) e =
-          let (addresses, (_, (_, (rest, begins)))) = tells_something (TellsUnder ip_resources y.overclaim) address_part address_part.content c read.2.ip e addresses_given in
+          let (addresses, (_, (_, (rest, begins)))) = tells_something (TellsUnder ip_resources y.overclaim)
+          address_part address_part.content c read.2.ip e addresses_given in
           let content_short : Short c = subst (λ (o : Option (List ℕ)). IfSome o Short) e resource_parts.0.short in
-          read_as_v4 i begins.encoded.0 c rest kind (sym (addresses_written i) ∙ e) content_short (record { text = begins.text; encoded = begins.encoded.1; parts = begins.parts })
+          read_as_v4 i begins.encoded.0 c rest kind (sym (addresses_written i) ∙ e) content_short
+          (record { text = begins.text; encoded = begins.encoded.1; parts = begins.parts })

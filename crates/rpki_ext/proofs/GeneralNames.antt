@@ -2,7 +2,8 @@
 use Rattle.std.specs.List.{list_all}
 use Rattle.std.specs.Char.{is_ascii}
 use Rattle.std.specs.Prelude.{filter}
-use Rattle.std.proofs.Common.{◌≡◌, ℕ, ◌<◌, ◌%◌, List, [], ◌∷◌, refl, arith, Decides, Some, subst, Option, None, ap, sym, Bool, cond, inl, inr}
+use Rattle.std.proofs.Common.{◌≡◌, ℕ, ◌<◌, ◌%◌, List, [], ◌∷◌, refl, arith, Decides, Some, subst, Option, None, ap}
+use Rattle.std.proofs.Common.{sym, Bool, cond, inl, inr}
 use Rattle.std.proofs.lemmas.Bool.{ltb-true, lt-ltb, cases_Bool}
 use Rattle.std.proofs.lemmas.List.{append-nil}
 use Rattle.rpki_der.specs.Tags.{CONTEXT}
@@ -31,7 +32,11 @@ ascii_decides text = all_decides is_ascii (λ octet. octet < 128) (λ octet. (lt
 -- anything may follow a uniformResourceIdentifier
 pub uri_alone : IsAlone uri_format
 unfolding uri_format
-uri_alone = record { law = restricted_lawful (list_all is_ascii) AreAscii (any_octets (CONTEXT 6)) (λ text b s. ascii_decides text) (any_octets_lawful (CONTEXT 6) (omega arith) (omega arith)); none = refl }
+uri_alone = record {
+  law = restricted_lawful (list_all is_ascii) AreAscii (any_octets (CONTEXT 6))
+      (λ text b s. ascii_decides text) (any_octets_lawful (CONTEXT 6) (omega arith) (omega arith));
+  none = refl;
+}
 
 -- reading a uniformResourceIdentifier uses octets up
 pub uri_shrinks : Shrinks uri_format.read
@@ -44,7 +49,10 @@ abbrev Kept : Fold (List ℕ) (Option (List ℕ))
 Kept = once_fold is_rsync (λ uri. Some uri) (λ x w. x ≡ w)
 
 kept_reads : ReadsWhole (over uri_format.read keep_rsync None) (IsFolded uri_format.encodes Kept)
-kept_reads = over_reads uri_format.read uri_format.encodes (λ x. Unit {0}) Kept (alone_reads uri_format uri_alone) uri_shrinks (λ x text s. tt) (once_law is_rsync (λ uri. Some uri) (λ x w. x ≡ w) (record { takes = λ x v fits e. some_is x v e; again = λ x v e. ap some e }))
+kept_reads = over_reads uri_format.read uri_format.encodes (λ x. Unit {0}) Kept (alone_reads uri_format uri_alone)
+    uri_shrinks (λ x text s. tt)
+    (once_law is_rsync (λ uri. Some uri) (λ x w. x ≡ w)
+    (record { takes = λ x v fits e. some_is x v e; again = λ x v e. ap some e }))
 
 -- GeneralNames are read as they are encoded
 pub names_read : ReadsWhole names_of IsGeneralNames
@@ -52,9 +60,14 @@ names_read = record {
   takes = λ c v low e.
       let a = bind_some (over uri_format.read keep_rsync None c) (λ uri. uri) v e in
       let m = kept_reads.takes c a.0 low a.1 in
-      let one : IsAtMostOne (λ x w. x ≡ w) (filter is_rsync m.0) (Some v) = subst (λ (o : Option (List ℕ)). IsAtMostOne (λ x w. x ≡ w) (filter is_rsync m.0) o) a.2 m.2 in
+      let one : IsAtMostOne (λ x w. x ≡ w) (filter is_rsync m.0) (Some v) =
+      subst (λ (o : Option (List ℕ)). IsAtMostOne (λ x w. x ≡ w) (filter is_rsync m.0) o) a.2 m.2 in
       record { texts = m.0; encoded = m.1; one = only_from is_rsync IsRsync rsync_decides m.0 v (one_from (filter is_rsync m.0) v one) };
-  again = λ v c s. rw (kept_reads.again (Some v) c (s.texts, s.encoded, one_to (filter is_rsync s.texts) v (only_to is_rsync IsRsync rsync_decides s.texts v s.one))) refl;
+  again = λ v c s. rw (kept_reads.again (Some v) c (
+    s.texts,
+    s.encoded,
+    one_to (filter is_rsync s.texts) v (only_to is_rsync IsRsync rsync_decides s.texts v s.one),
+  )) refl;
 }
 
 -- ---- texts that are URIs
@@ -95,7 +108,13 @@ names_ok uri r = uri_alone.law.octets uri (uri_fits uri r.printable)
 pub names_made : (uri : List ℕ) → IsRsync uri → Short (uri_format.written uri) → IsGeneralNames uri (uri_format.written uri)
 names_made uri r short = record {
   texts = uri ∷ [];
-  encoded = (uri_format.written uri, [], uri_alone.law.made uri (uri_fits uri r.printable) short.0, refl, sym (append-nil (uri_format.written uri)));
+  encoded = (
+    uri_format.written uri,
+    [],
+    uri_alone.law.made uri (uri_fits uri r.printable) short.0,
+    refl,
+    sym (append-nil (uri_format.written uri)),
+  );
   one = record { before = []; after = []; is = refl; has = r; none_before = tt; none_after = tt };
 }
 

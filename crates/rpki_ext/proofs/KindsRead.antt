@@ -9,7 +9,8 @@ use Rattle.rpki_der.specs.Reading.{Reads}
 use Rattle.rpki_der.proofs.Octets.{bind_some, some, some_is, nothing}
 use Rattle.rpki_blocks.specs.declared.overclaim.Overclaim.{Overclaim}
 use Rattle.rpki_blocks.specs.declared.overclaim.Overclaim.TheVariants.{Refuse, Trim}
-use Rattle.rpki_ext.specs.Kinds.{Means, Flag, IsFlagFor, ExtensionKind, is_of, identifiers, Tells, identifiers_by_mode, TellsUnder, required, untested}
+use Rattle.rpki_ext.specs.Kinds.{Means, Flag, IsFlagFor, ExtensionKind, is_of, identifiers, Tells}
+use Rattle.rpki_ext.specs.Kinds.{identifiers_by_mode, TellsUnder, required, untested}
 use Rattle.rpki_der.specs.Extensions.{Extension}
 use Rattle.rpki_der.specs.Folding.{IsGiven, IsLawful}
 use Rattle.rpki_der.proofs.ExtensionReads.{HasOctets}
@@ -31,7 +32,9 @@ module _ {V : Type 0} (read : List ℕ → Option (V × List ℕ)) (encodes : V 
   front_again c v m = rw (m.1.parts, law.again v m.1.text m.0 m.1.encoded) refl
 
 module _ {V : Type 0} (kind : ExtensionKind V) (law : Reads kind.format.read kind.format.encodes) where
-  flag_takes : (flag : Flag) (x : Extension) (v : V) → HasOctets x → if_flagged flag x.critical (front kind.format.read x.content) ≡ Some v → IsFlagFor flag x.critical × Means kind.format.encodes v x.content
+  flag_takes : (flag : Flag) (x : Extension) (v : V) → HasOctets x →
+      if_flagged flag x.critical (front kind.format.read x.content) ≡ Some v →
+      IsFlagFor flag x.critical × Means kind.format.encodes v x.content
   flag_takes (untested written) x v low e = (tt, front_takes kind.format.read kind.format.encodes law x.content v low e)
   flag_takes (required true) x v low e =
       elim (cases_Bool x.critical) [
@@ -44,7 +47,9 @@ module _ {V : Type 0} (kind : ExtensionKind V) (law : Reads kind.format.read kin
         | inr n ↦ (n, front_takes kind.format.read kind.format.encodes law x.content v low (rw n at e))
       ]
 
-  flag_again : (flag : Flag) (x : Extension) (v : V) → IsFlagFor flag x.critical × Means kind.format.encodes v x.content → if_flagged flag x.critical (front kind.format.read x.content) ≡ Some v
+  flag_again : (flag : Flag) (x : Extension) (v : V) →
+      IsFlagFor flag x.critical × Means kind.format.encodes v x.content →
+      if_flagged flag x.critical (front kind.format.read x.content) ≡ Some v
   flag_again (untested written) x v h = front_again kind.format.read kind.format.encodes law x.content v h.1
   flag_again (required true) x v h = rw h.0 (front_again kind.format.read kind.format.encodes law x.content v h.1)
   flag_again (required false) x v h = rw h.0 (front_again kind.format.read kind.format.encodes law x.content v h.1)
@@ -63,9 +68,11 @@ module _ {V : Type 0} (kinds : Overclaim → ExtensionKind V) where
   mode_is : (id : List ℕ) (m : Overclaim) → mode_by kinds id ≡ Some m → id ≡ (kinds m).identifier
   mode_is id m e =
       elim (cases_Bool (bytes_eq id (kinds Refuse).identifier)) [
-        | inl y ↦ (bytes_eq-Decides id (kinds Refuse).identifier).0 y ∙ ap (λ (n : Overclaim). (kinds n).identifier) (some_is Refuse m (rw y at e))
+        | inl y ↦ (bytes_eq-Decides id (kinds Refuse).identifier).0 y ∙ ap (λ (n : Overclaim). (kinds n).identifier)
+            (some_is Refuse m (rw y at e))
         | inr n ↦ elim (cases_Bool (bytes_eq id (kinds Trim).identifier)) [
-          | inl y ↦ (bytes_eq-Decides id (kinds Trim).identifier).0 y ∙ ap (λ (n : Overclaim). (kinds n).identifier) (some_is Trim m (rw (n, y) at e))
+          | inl y ↦ (bytes_eq-Decides id (kinds Trim).identifier).0 y ∙ ap (λ (n : Overclaim). (kinds n).identifier)
+              (some_is Trim m (rw (n, y) at e))
           | inr k ↦ nothing m (rw (n, k) at e)
         ]
       ]
@@ -75,12 +82,14 @@ module _ {V : Type 0} (kinds : Overclaim → ExtensionKind V) where
   ShowsMode = (m : Overclaim) → mode_by kinds (kinds m).identifier ≡ Some m
 
   -- the step of a kind with modes is lawful where the identifier shows the mode
-  pub modes_law : ShowsMode → ((m : Overclaim) → Reads (kinds m).format.read (kinds m).format.encodes) → IsLawful HasOctets (modes_fold kinds)
+  pub modes_law : ShowsMode → ((m : Overclaim) → Reads (kinds m).format.read (kinds m).format.encodes) →
+      IsLawful HasOctets (modes_fold kinds)
   modes_law shows law = once_law (is_of (identifiers_by_mode kinds)) (told_with_mode kinds) (λ x v. TellsUnder kinds v.0 x v.1) (record {
     takes = λ x v low e.
         let a = bind_some (mode_by kinds x.identifier) (λ m. told (kinds m) x >>= λ c. some {A = Overclaim × V} (m, c)) v e in
         let b = bind_some (told (kinds a.0) x) (λ c. some {A = Overclaim × V} (a.0, c)) v a.2 in
         let made : Overclaim × V = (a.0, b.0) in
-        subst (λ (w : Overclaim × V). TellsUnder kinds w.0 x w.1) (some_is made v b.2) (mode_is x.identifier a.0 a.1, (tells (kinds a.0) (law a.0)).takes x b.0 low b.1);
+        subst (λ (w : Overclaim × V). TellsUnder kinds w.0 x w.1) (some_is made v b.2)
+        (mode_is x.identifier a.0 a.1, (tells (kinds a.0) (law a.0)).takes x b.0 low b.1);
     again = λ x v h. rw (h.0, shows v.0, (tells (kinds v.0) (law v.0)).again x v.1 h.1) refl;
   })

@@ -22,13 +22,16 @@ use Rattle.rpki_ext.specs.ResourceKinds.{addresses_format, are_there, as_resourc
 use Rattle.rpki_ext.proofs.KindsRead.{ShowsMode}
 
 -- what a function makes of each value
-image_reads : {X Y : Type 0} (f : X → Y) (read : List ℕ → Option (X × List ℕ)) (S : X → List ℕ → Type 0) → Reads read S → Reads (map_value f read) (λ y text. (x : X) × S x text × (f x ≡ y))
+image_reads : {X Y : Type 0} (f : X → Y) (read : List ℕ → Option (X × List ℕ)) (S : X → List ℕ → Type 0) →
+    Reads read S → Reads (map_value f read) (λ y text. (x : X) × S x text × (f x ≡ y))
 image_reads {X} {Y} f read S law = record {
   takes = λ octets y rest fits e.
       let a = bind_some (read octets) (λ x. some {A = Y × List ℕ} (f x.0, x.1)) (y, rest) e in
       let one = law.takes octets a.0.0 a.0.1 fits a.1 in
       let made : Y × List ℕ = (f a.0.0, a.0.1) in
-      subst (λ (q : Y × List ℕ). Begins (λ z text. (x : X) × S x text × (f x ≡ z)) octets q.0 q.1) (some_is made (y, rest) a.2) (record { text = one.text; encoded = (a.0.0, one.encoded, refl); parts = one.parts });
+      subst (λ (q : Y × List ℕ). Begins (λ z text. (x : X) × S x text × (f x ≡ z)) octets q.0 q.1)
+      (some_is made (y, rest) a.2)
+      (record { text = one.text; encoded = (a.0.0, one.encoded, refl); parts = one.parts });
   again = λ y text rest s. rw (law.again s.0 text rest s.1, s.2) refl;
 }
 
@@ -36,7 +39,9 @@ same_ip : (i : Ip) → addresses (Some (written_families i)) ≡ i
 same_ip i = λ j. record { v4 = (present_is i.v4) j; v6 = (present_is i.v6) j }
 
 -- what is written of what is there encodes it and consists of octets, if it is proved so
-text_made : (P : List ℕ → Type 0) (o : Option (List ℕ)) → (o ≡ None → ⊥) → ((c : List ℕ) → o ≡ Some c → length c < 2 ^ 32 → P c × AreOctets c) → length (text_of o) < 2 ^ 32 → P (text_of o) × AreOctets (text_of o)
+text_made : (P : List ℕ → Type 0) (o : Option (List ℕ)) → (o ≡ None → ⊥) →
+    ((c : List ℕ) → o ≡ Some c → length c < 2 ^ 32 → P c × AreOctets c) → length (text_of o) < 2 ^ 32 →
+    P (text_of o) × AreOctets (text_of o)
 text_made P None there h l = absurd (there refl)
 text_made P (Some c) there h l = h c refl l
 
@@ -53,7 +58,9 @@ pub addresses_alone : IsAlone addresses_format
 unfolding addresses_format ip_addr_blocks_format
 addresses_alone = record {
   law = record {
-    reads = before (Follows []) (map_value (λ f. addresses (Some f)) ip_addr_blocks_format.read) AreAddresses (image_reads (λ (f : Families). addresses (Some f)) ip_addr_blocks_format.read ip_addr_blocks_format.encodes (alone_reads ip_addr_blocks_format ip_alone));
+    reads = before (Follows []) (map_value (λ f. addresses (Some f)) ip_addr_blocks_format.read) AreAddresses
+        (image_reads (λ (f : Families). addresses (Some f)) ip_addr_blocks_format.read ip_addr_blocks_format.encodes
+        (alone_reads ip_addr_blocks_format ip_alone));
     starts = λ i text s. ip_alone.law.starts s.0 text s.1;
     shorter = λ octets i rest e.
         let a = bind_some (ip_addr_blocks_format.read octets) (λ f. some {A = Ip × List ℕ} (addresses (Some f.0), f.1)) (i, rest) e in
@@ -64,10 +71,14 @@ addresses_alone = record {
   none = refl;
 }
   where
-    all : (i : Ip) → addresses_format.fits i → length (text_of (ip i)) < 2 ^ 32 → AreAddresses i (text_of (ip i)) × AreOctets (text_of (ip i))
-    all i fits = text_made (AreAddresses i) (ip i) (there i fits.3) (λ c e l. let m = ip_made i c e fits.0 fits.1 fits.2 l in ((written_families i, m.0, same_ip i), m.1))
+    all : (i : Ip) → addresses_format.fits i → length (text_of (ip i)) < 2 ^ 32 →
+        AreAddresses i (text_of (ip i)) × AreOctets (text_of (ip i))
+    all i fits = text_made (AreAddresses i) (ip i) (there i fits.3)
+        (λ c e l. let m = ip_made i c e fits.0 fits.1 fits.2 l in ((written_families i, m.0, same_ip i), m.1))
 
-families_written : (v4 v6 : Resources) → option_map (λ i. text_of (ip i)) (kept_if has_addresses (record { v4 = v4; v6 = v6 })) ≡ ip (record { v4 = v4; v6 = v6 })
+families_written : (v4 v6 : Resources) →
+    option_map (λ i. text_of (ip i)) (kept_if has_addresses (record { v4 = v4; v6 = v6 })) ≡
+    ip (record { v4 = v4; v6 = v6 })
 families_written missing missing = refl
 families_written missing inherit = refl
 families_written missing (blocks bs) = refl
@@ -83,7 +94,8 @@ addresses_written i = families_written i.v4 i.v6
 pub no_addresses_there : (i : Ip) → has_addresses i ≡ false → i ≡ record { v4 = missing; v6 = missing }
 no_addresses_there i h = none_there i.v4 i.v6 h
   where
-    none_there : (v4 v6 : Resources) → (are_there v4 || are_there v6) ≡ false → ◌≡◌ {A = Ip} (record { v4 = v4; v6 = v6 }) (record { v4 = missing; v6 = missing })
+    none_there : (v4 v6 : Resources) → (are_there v4 || are_there v6) ≡ false →
+        ◌≡◌ {A = Ip} (record { v4 = v4; v6 = v6 }) (record { v4 = missing; v6 = missing })
     none_there missing missing h = refl
     none_there missing inherit h = absurd cc
     none_there missing (blocks bs) h = absurd cc
@@ -118,8 +130,11 @@ numbers_alone = record {
   none = refl;
 }
   where
-    all : (r : Resources) → numbers_format.fits r → length (text_of (written_as r)) < 2 ^ 32 → as_identifiers_format.encodes r (text_of (written_as r)) × AreOctets (text_of (written_as r))
-    all r fits = text_made (as_identifiers_format.encodes r) (written_as r) (λ none. let e : are_there r ≡ false = ap are_there (no_as_resources r none) in cc) (λ c e l. as_resources_made r c e fits.0 l)
+    all : (r : Resources) → numbers_format.fits r → length (text_of (written_as r)) < 2 ^ 32 →
+        as_identifiers_format.encodes r (text_of (written_as r)) × AreOctets (text_of (written_as r))
+    all r fits = text_made (as_identifiers_format.encodes r) (written_as r)
+        (λ none. let e : are_there r ≡ false = ap are_there (no_as_resources r none) in cc)
+        (λ c e l. as_resources_made r c e fits.0 l)
 
 -- what is written of AS numbers, where there are some
 pub numbers_written : (r : Resources) → option_map numbers_format.written (kept_if are_there r) ≡ written_as r

@@ -32,9 +32,15 @@ pub found_is : (kept : List ℕ) → AreOctets kept → over oid_at or_router fa
 unfolding over
 found_is kept low e =
     let a = bind_some (sequence_of oid_at kept) (λ ids. steps or_router false ids) true e in
-    record { ids = a.0; elements = elements_are oid_at IsObjectIdentifier oid_reads kept a.0 low a.1; among = some_is (any a.0) true (sym (found_in false a.0) ∙ a.2) }
+    record {
+      ids = a.0;
+      elements = elements_are oid_at IsObjectIdentifier oid_reads kept a.0 low a.1;
+      among =
+          some_is (any a.0) true (sym (found_in false a.0) ∙ a.2);
+    }
 
 -- the router's purpose is found where it is there
 pub is_found : (kept : List ℕ) → HasRouterPurpose kept → over oid_at or_router false kept ≡ Some true
 unfolding over
-is_found kept h = rw (sequence_again oid_at IsObjectIdentifier oid_reads oid_shrinks h.ids kept h.elements) (found_in false h.ids ∙ ap some h.among)
+is_found kept h = rw (sequence_again oid_at IsObjectIdentifier oid_reads oid_shrinks h.ids kept h.elements)
+    (found_in false h.ids ∙ ap some h.among)

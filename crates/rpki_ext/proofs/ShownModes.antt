@@ -25,18 +25,24 @@ module _ {V : Type 0} (kinds : Overclaim → ExtensionKind V) (m : Overclaim) wh
   TellsShown x p = TellsUnder kinds p.0 x p.1
 
   -- what stands under the shown mode is given under it
-  pub under_mode : (xs : List Extension) (v : Option (Overclaim × V)) (w : Option V) → under m v ≡ Some w → IsAtMostOne TellsShown xs v → IsAtMostOne (TellsUnder kinds m) xs w
+  pub under_mode : (xs : List Extension) (v : Option (Overclaim × V)) (w : Option V) → under m v ≡ Some w →
+      IsAtMostOne TellsShown xs v → IsAtMostOne (TellsUnder kinds m) xs w
   under_mode [] v w e h = sym (some_is None w (rw h at e))
   under_mode (x ∷ y ∷ xs) v w e h = elim h [ ]
   under_mode (x ∷ []) v w e h =
       let e1 : cond (same_mode h.0.0 m) (some (some h.0.1)) None ≡ some w = rw h.2 at e in
       elim (cases_Bool (same_mode h.0.0 m)) [
-        | inl y ↦ (h.0.1, subst (λ (n : Overclaim). TellsUnder kinds n x h.0.1) (same_true h.0.0 m y) h.1, sym (some_is (some h.0.1) w (rw y at e1)))
+        | inl y ↦ (
+          h.0.1,
+          subst (λ (n : Overclaim). TellsUnder kinds n x h.0.1) (same_true h.0.0 m y) h.1,
+          sym (some_is (some h.0.1) w (rw y at e1)),
+        )
         | inr n ↦ nothing w (rw n at e1)
       ]
 
   -- what is given under a mode shows it
-  pub mode_under : (xs : List Extension) (w : Option V) → IsAtMostOne (TellsUnder kinds m) xs w → (v : Option (Overclaim × V)) × (under m v ≡ Some w) × IsAtMostOne TellsShown xs v
+  pub mode_under : (xs : List Extension) (w : Option V) → IsAtMostOne (TellsUnder kinds m) xs w →
+      (v : Option (Overclaim × V)) × (under m v ≡ Some w) × IsAtMostOne TellsShown xs v
   mode_under [] w h = (None, ap some (sym h), refl)
   mode_under (x ∷ y ∷ xs) w h = elim h [ ]
   mode_under (x ∷ []) w h =

@@ -22,7 +22,8 @@ Fit (kind k t) v = IfSome v.0 k.format.fits × Fit t v.1
 Fit (modes ks t) v = IfSome v.0.1 (ks v.0.0).format.fits × Fit t v.1
 
 -- what is written of a table's values gives these values
-pub table_given : (t : KindTable) → AreKinds t → (all : List OptionalExtension) (v : Values t) → Fit t v → AllZip (IsOnly all) (identifiers_by_kind t) (parts_of t v) → GiveEach t (written all) v
+pub table_given : (t : KindTable) → AreKinds t → (all : List OptionalExtension) (v : Values t) → Fit t v →
+    AllZip (IsOnly all) (identifiers_by_kind t) (parts_of t v) → GiveEach t (written all) v
 table_given no_kinds is all v fits h = tt
 table_given (kind k t) is all v fits h = (gives k is.0 v.0 h.0 fits.0, table_given t is.1 all v.1 fits.1 h.1)
 table_given (modes ks t) is all v fits h = (gives_under ks v.0.0 (is.0.1 v.0.0) v.0.1 h.0 fits.0, table_given t is.1 all v.1 fits.1 h.1)

@@ -1,5 +1,6 @@
 -- How the extensions are written one by one, and what is too long of them.
-use Rattle.std.proofs.Common.{ℕ, zero, suc, ◌<◌, ◌≤◌, ◌++◌, Bool, false, List, [], ◌∷◌, length, map, get_or, take, Option, Some, None, ◌≡◌, refl, sym, ap, ◌∙◌, append_assoc, arith}
+use Rattle.std.proofs.Common.{ℕ, zero, suc, ◌<◌, ◌≤◌, ◌++◌, Bool, false, List, [], ◌∷◌, length, map, get_or, take}
+use Rattle.std.proofs.Common.{Option, Some, None, ◌≡◌, refl, sym, ap, ◌∙◌, append_assoc, arith}
 use Rattle.std.specs.List.{concat}
 use Rattle.std.proofs.lemmas.List.{append-nil, get_or-map, length-append, length-map, take_all}
 use Rattle.rpki_der.specs.Extensions.{extension_of_some, content_of_some, OptionalExtension, text, part_of}
@@ -16,7 +17,8 @@ use Rattle.rpki_ext.proofs.ResourceKinds.{addresses_written, numbers_written}
 abbrev pub nothing : OptionalExtension
 nothing = record { identifier = []; critical = false; content = None }
 
-some_longer : (id : List ℕ) (critical : Bool) (c : Option (List ℕ)) → length (content_of_some id critical c) ≤ length (extension_of_some id critical c)
+some_longer : (id : List ℕ) (critical : Bool) (c : Option (List ℕ)) →
+    length (content_of_some id critical c) ≤ length (extension_of_some id critical c)
 some_longer id critical None = omega arith
 some_longer id critical (Some c) = extension_longer id critical c
 
@@ -31,7 +33,8 @@ unfolding extensions
 elements_longer x k = longer_at (parts x) k
 
 -- the part of addresses, as it is written
-pub addresses_part : (x : ExtensionFields) (mode : Overclaim) → ip_extension mode x.v4_resources x.v6_resources ≡ part_of (part_for x (IpResources mode))
+pub addresses_part : (x : ExtensionFields) (mode : Overclaim) →
+    ip_extension mode x.v4_resources x.v6_resources ≡ part_of (part_for x (IpResources mode))
 addresses_part x mode = ap (critical (ip_identifier mode)) (sym (addresses_written (record { v4 = x.v4_resources; v6 = x.v6_resources })))
 
 -- the part of AS numbers, as it is written
@@ -39,7 +42,8 @@ pub numbers_part : (x : ExtensionFields) (mode : Overclaim) → as_extension mod
 numbers_part x mode = ap (critical (as_identifier mode)) (sym (numbers_written x.as_resources))
 
 -- the part of a kind in the order of the table
-pub part_at : (x : ExtensionFields) (kinds : List Named) (i : ℕ) (d : Named) → map (part_for x) kinds ≡ parts x → i < length (parts x) → part_for x (get_or kinds i d) ≡ get_or (parts x) i nothing
+pub part_at : (x : ExtensionFields) (kinds : List Named) (i : ℕ) (d : Named) → map (part_for x) kinds ≡ parts x →
+    i < length (parts x) → part_for x (get_or kinds i d) ≡ get_or (parts x) i nothing
 part_at x kinds i d order lt =
     let in_kinds : i < length kinds = omega (arith, lt, length-map kinds (part_for x), ap length order) in
     sym (get_or-map (part_for x) kinds i d nothing in_kinds) ∙ ap (λ (ps : List OptionalExtension). get_or ps i nothing) order
@@ -50,17 +54,21 @@ part_at x kinds i d order lt =
 abbrev pub written_before : ExtensionFields → ℕ → List ℕ
 written_before f k = concat (map text (take k (parts f)))
 
-one_more : (ps : List OptionalExtension) (k : ℕ) → concat (map text (take (suc k) ps)) ≡ concat (map text (take k ps)) ++ text (get_or ps k nothing)
+one_more : (ps : List OptionalExtension) (k : ℕ) →
+    concat (map text (take (suc k) ps)) ≡ concat (map text (take k ps)) ++ text (get_or ps k nothing)
 one_more [] zero = refl
 one_more [] (suc k) = refl
 one_more (p ∷ ps) zero = append-nil (text p)
-one_more (p ∷ ps) (suc k) = ap (λ (b : List ℕ). text p ++ b) (one_more ps k) ∙ sym (append_assoc (text p) (concat (map text (take k ps))) (text (get_or ps k nothing)))
+one_more (p ∷ ps) (suc k) = ap (λ (b : List ℕ). text p ++ b) (one_more ps k) ∙
+    sym (append_assoc (text p) (concat (map text (take k ps))) (text (get_or ps k nothing)))
 
 -- a part that is appended goes on what was written before it
-pub grown : (f : ExtensionFields) (k : ℕ) (old prev new : List ℕ) → prev ≡ old ++ written_before f k → new ≡ prev ++ text (get_or (parts f) k nothing) → new ≡ old ++ written_before f (suc k)
+pub grown : (f : ExtensionFields) (k : ℕ) (old prev new : List ℕ) → prev ≡ old ++ written_before f k →
+    new ≡ prev ++ text (get_or (parts f) k nothing) → new ≡ old ++ written_before f (suc k)
 grown f k old prev new before more =
     let one = text (get_or (parts f) k nothing) in
-    more ∙ ap (λ (b : List ℕ). b ++ one) before ∙ append_assoc old (written_before f k) one ∙ ap (λ (b : List ℕ). old ++ b) (sym (one_more (parts f) k))
+    more ∙ ap (λ (b : List ℕ). b ++ one) before ∙ append_assoc old (written_before f k) one ∙
+    ap (λ (b : List ℕ). old ++ b) (sym (one_more (parts f) k))
 
 -- and so all are written
 pub all_written : (x : ExtensionFields) (k : ℕ) → length (parts x) ≤ k → written_before x k ≡ extensions x

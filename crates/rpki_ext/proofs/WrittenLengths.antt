@@ -18,5 +18,11 @@ inner_longer [] b = omega arith
 inner_longer (t ∷ tags) b = rw (take_rest (t ∷ tags) 1) (enc_longer t (nested tags b))
 
 -- both parts of a description
-pub description_longer : (method uri : List ℕ) → length (enc OBJECT_IDENTIFIER method) + length (uri_format.written uri) ≤ length (description method uri)
-description_longer method uri = omega (arith, enc_longer SEQUENCE (enc OBJECT_IDENTIFIER method ++ uri_format.written uri), length-append (enc OBJECT_IDENTIFIER method) (uri_format.written uri))
+pub description_longer : (method uri : List ℕ) →
+    length (enc OBJECT_IDENTIFIER method) + length (uri_format.written uri) ≤ length (description method uri)
+description_longer method uri =
+    omega (
+      arith,
+      enc_longer SEQUENCE (enc OBJECT_IDENTIFIER method ++ uri_format.written uri),
+      length-append (enc OBJECT_IDENTIFIER method) (uri_format.written uri),
+    )

@@ -1,6 +1,7 @@
 -- The extensions of a certificate (RFC 5280 4.2, RFC 6487 4.8; the order in which they are written
 -- is own).
-use Rattle.std.specs.Prelude.{unwrap_or, ℕ, Bool, ◌||◌, not, true, false, if◌then◌else◌, List, Option, None, Some, is_some, ◌≡◌, ◌≢◌, ◌⊎◌, ◌-◌, map, ◌^◌, IfSome, bytes_eq}
+use Rattle.std.specs.Prelude.{unwrap_or, ℕ, Bool, ◌||◌, not, true, false, if◌then◌else◌, List, Option, None, Some}
+use Rattle.std.specs.Prelude.{is_some, ◌≡◌, ◌≢◌, ◌⊎◌, ◌-◌, map, ◌^◌, IfSome, bytes_eq}
 use Rattle.std.specs.List.{AllByRecursion, concat}
 use Rattle.rpki_der.specs.Sequences.{AreEncodings}
 use Rattle.rpki_der.specs.Extensions.{IsExtension, Extension, OptionalExtension, extension_format, text}
@@ -17,14 +18,22 @@ use Rattle.rpki_blocks.specs.declared.overclaim.Overclaim.TheVariants.{Refuse, T
 use Rattle.rpki_blocks.specs.Resources.{Resources, missing, IsResources}
 use Rattle.rpki_blocks.specs.Addresses.{Ip, addresses}
 use Rattle.rpki_parts.specs.Uris.{IsRsync}
-use Rattle.rpki_ext.specs.ExtensionKinds.{certificate_kinds_within, certificate_kinds, known, basic_constraints, subject_key_identifier, authority_key_identifier, key_usage, extended_key_usage, crl_distribution_points, authority_information_access, subject_information_access, certificate_policies, ip_resources, as_resources, ArePurposes, HasTwentyOctets}
+use Rattle.rpki_ext.specs.ExtensionKinds.{certificate_kinds_within, certificate_kinds, known, basic_constraints}
+use Rattle.rpki_ext.specs.ExtensionKinds.{subject_key_identifier, authority_key_identifier, key_usage}
+use Rattle.rpki_ext.specs.ExtensionKinds.{extended_key_usage, crl_distribution_points, authority_information_access}
+use Rattle.rpki_ext.specs.ExtensionKinds.{subject_information_access, certificate_policies, ip_resources}
+use Rattle.rpki_ext.specs.ExtensionKinds.{as_resources, ArePurposes, HasTwentyOctets}
 use Rattle.rpki_ext.specs.ResourceKinds.{are_there, has_addresses}
 use Rattle.rpki_ext.specs.SubjectAccess.{Access, HasUris, has_uri}
 use Rattle.rpki_ext.specs.Kinds.{Flag, ExtensionKind, is_of, tested, kept_if, extension_for}
 use Rattle.rpki_ext.specs.KindTables.{Values, ◌⨾◌, GiveEach, Sights, table_fold, parts_of}
 use Rattle.rpki_ext.specs.declared.key_usage.KeyUsage.{KeyUsage as Usage}
 use Rattle.rpki_ext.specs.declared.extensions.Named.{Named}
-use Rattle.rpki_ext.specs.declared.extensions.Named.TheVariants.{BasicConstraints, SubjectKeyIdentifier, AuthorityKeyIdentifier, KeyUsage, ExtendedKeyUsage, CrlDistributionPoints, AuthorityInformationAccess, SubjectInformationAccess, CertificatePolicies, IpResources, AsResources}
+use Rattle.rpki_ext.specs.declared.extensions.Named.TheVariants.{BasicConstraints, SubjectKeyIdentifier}
+use Rattle.rpki_ext.specs.declared.extensions.Named.TheVariants.{AuthorityKeyIdentifier, KeyUsage, ExtendedKeyUsage}
+use Rattle.rpki_ext.specs.declared.extensions.Named.TheVariants.{CrlDistributionPoints, AuthorityInformationAccess}
+use Rattle.rpki_ext.specs.declared.extensions.Named.TheVariants.{SubjectInformationAccess, CertificatePolicies}
+use Rattle.rpki_ext.specs.declared.extensions.Named.TheVariants.{IpResources, AsResources}
 use Rattle.rpki_ext.specs.declared.extensions.ReadExtensions.{ReadExtensions}
 use Rattle.rpki_ext.specs.CertificateExtensions.Views.{ip_of}
 pub mod Views
@@ -116,7 +125,8 @@ AreExtensions f elements = (xs : List Extension) × AreEncodings IsExtension xs 
 
 -- what is written of each kind: URIs and resources where there are some
 abbrev pub values_of : ExtensionFields → Values certificate_kinds
-values_of x = values x (kept_if has_uri x.access) (kept_if has_addresses (record { v4 = x.v4_resources; v6 = x.v6_resources })) (kept_if are_there x.as_resources)
+values_of x = values x (kept_if has_uri x.access)
+    (kept_if has_addresses (record { v4 = x.v4_resources; v6 = x.v6_resources })) (kept_if are_there x.as_resources)
 
 -- in the order of the table
 abbrev pub parts : ExtensionFields → List OptionalExtension
@@ -219,7 +229,8 @@ part_for x CrlDistributionPoints = extension_for crl_distribution_points x.crl_u
 part_for x AuthorityInformationAccess = extension_for authority_information_access x.ca_issuer
 part_for x SubjectInformationAccess = extension_for subject_information_access (kept_if has_uri x.access)
 part_for x CertificatePolicies = extension_for certificate_policies (Some x.overclaim)
-part_for x (IpResources mode) = extension_for (ip_resources mode) (kept_if has_addresses (record { v4 = x.v4_resources; v6 = x.v6_resources }))
+part_for x (IpResources mode) =
+    extension_for (ip_resources mode) (kept_if has_addresses (record { v4 = x.v4_resources; v6 = x.v6_resources }))
 part_for x (AsResources mode) = extension_for (as_resources mode) (kept_if are_there x.as_resources)
 
 -- ---- what was seen so far
@@ -238,7 +249,25 @@ all_kinds = side_by_side (each_fold may_stand) (table_fold certificate_kinds)
 
 -- what was seen so far, as the walk has it
 abbrev pub state_of : ReadExtensions → State
-state_of s = (tt, (s.basic_ca, (s.subject_key_identifier, (s.authority_key_identifier, (s.key_usage, (s.extended_key_usage, (s.crl_uri, (s.ca_issuer, (s.access, (s.overclaim, (ip_of s.ip_resources, (s.as_resources, tt))))))))))))
+state_of s = (
+  tt,
+  (
+    s.basic_ca,
+    (
+      s.subject_key_identifier,
+      (
+        s.authority_key_identifier,
+        (
+          s.key_usage,
+          (
+            s.extended_key_usage,
+            (s.crl_uri, (s.ca_issuer, (s.access, (s.overclaim, (ip_of s.ip_resources, (s.as_resources, tt)))))),
+          ),
+        ),
+      ),
+    ),
+  ),
+)
 
 -- whether one of this kind was seen
 abbrev pub is_seen : ReadExtensions → Named → Bool
@@ -286,7 +315,10 @@ listed_under mode ip numbers = record {
 
 -- some resources are there, under the policy's mode
 abbrev pub agreed : Option Overclaim → Option (Overclaim × Ip) → Option (Overclaim × Resources) → Option ListedFields
-agreed overclaim ip numbers = if is_some ip || is_some numbers then (overclaim >>= λ mode. under mode ip >>= λ i. under mode numbers >>= λ n. Some (listed_under mode i n)) else None
+agreed overclaim ip numbers =
+    if is_some ip || is_some numbers
+    then (overclaim >>= λ mode. under mode ip >>= λ i. under mode numbers >>= λ n. Some (listed_under mode i n))
+    else None
 
 -- whether these resources, if they are there, stand under the policy's mode
 abbrev pub is_under : {V : Type 0} → Option Overclaim → Option (Overclaim × V) → Bool
@@ -296,11 +328,24 @@ is_under (Some mode) (Some v) = same_mode v.0 mode
 
 -- what errors name where they don't agree: the addresses, if those are wrong, else the AS numbers
 abbrev pub disagreement : Option Overclaim → Option (Overclaim × Ip) → Option (Overclaim × Resources) → DecodeError
-disagreement overclaim ip numbers = if is_some ip || is_some numbers then WrongResources (if is_under overclaim ip then field.AsResources else field.IpResources) else Missing field.Resources
+disagreement overclaim ip numbers = if is_some ip || is_some numbers then WrongResources
+    (if is_under overclaim ip then field.AsResources else field.IpResources) else Missing field.Resources
 
 -- what must be there is there, and the modes agree
 abbrev pub completed : State → Option ExtensionFields
-completed (_, (basic_ca, (subject, (authority, (usage, (purposes, (crl_uri, (ca_issuer, (access, (overclaim, (ip, (numbers, _)))))))))))) = do
+completed (
+  _,
+  (
+    basic_ca,
+    (
+      subject,
+      (
+        authority,
+        (usage, (purposes, (crl_uri, (ca_issuer, (access, (overclaim, (ip, (numbers, _)))))))),
+      ),
+    ),
+  ),
+) = do
   l ← agreed overclaim ip numbers
   key ← subject
   use_for ← usage

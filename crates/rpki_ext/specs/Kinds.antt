@@ -1,6 +1,7 @@
 -- Kinds of extensions, and what a kind that stands at most once means (RFC 5280 4.1.2.9, 4.2; RFC
 -- 6487 4.8).
-use Rattle.std.specs.Prelude.{◌<◌, ◌^◌, length, Bool, Option, Some, None, ◌≡◌, ℕ, List, bytes_eq, filter, [], ◌∷◌, if◌then◌else◌, option_map}
+use Rattle.std.specs.Prelude.{◌<◌, ◌^◌, length, Bool, Option, Some, None, ◌≡◌, ℕ, List, bytes_eq, filter, [], ◌∷◌}
+use Rattle.std.specs.Prelude.{if◌then◌else◌, option_map}
 use Rattle.std.specs.List.{list_any}
 use Rattle.rpki_der.specs.Extensions.{Extension, OptionalExtension, part_of}
 use Rattle.rpki_der.specs.Sequences.{IsAtMostOne}
@@ -102,4 +103,5 @@ part kind v = part_of (extension_for kind v)
 
 -- what is written of a value that fits encodes it, if it has fewer than 2^32 octets
 abbrev pub IsReadAgain : {V : Type 0} → ExtensionKind V → Type 0
-IsReadAgain {V} kind = (v : V) → kind.format.fits v → length (kind.format.written v) < 2 ^ 32 → kind.format.encodes v (kind.format.written v)
+IsReadAgain {V} kind = (v : V) → kind.format.fits v → length (kind.format.written v) < 2 ^ 32 →
+    kind.format.encodes v (kind.format.written v)

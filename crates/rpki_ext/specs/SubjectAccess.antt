@@ -1,5 +1,6 @@
 -- Subject Information Access (RFC 5280 4.2.2.2, RFC 6487 4.8.8, RFC 8182 3.2).
-use Rattle.std.specs.Prelude.{ℕ, Bool, List, ◌≢◌, ◌∷◌, [], Option, Some, None, ◌≡◌, ◌++◌, ◌||◌, IfSome, bytes_eq, if◌then◌else◌, false, true, is_some}
+use Rattle.std.specs.Prelude.{ℕ, Bool, List, ◌≢◌, ◌∷◌, [], Option, Some, None, ◌≡◌, ◌++◌, ◌||◌, IfSome, bytes_eq}
+use Rattle.std.specs.Prelude.{if◌then◌else◌, false, true, is_some}
 use Rattle.std.specs.List.{flat_map}
 use Rattle.std.specs.Borrow.{Bor}
 use Rattle.std.specs.Option.{option_copied}
@@ -165,13 +166,15 @@ access_of (b ∷ c) = over (description_format levels).read access_fold.step acc
 -- What is skipped stands at most so deep; for other depths than `levels` only what is encoded is
 -- used
 unfoldable pub subject_information_access_format : ℕ → Format Access
-subject_information_access_format depth = primitive SEQUENCE access_of (AreDescriptionsWithin depth) (λ a. HasUris a × (has_uri a ≡ true)) (λ a. written_all (descriptions a))
+subject_information_access_format depth = primitive SEQUENCE access_of (AreDescriptionsWithin depth)
+    (λ a. HasUris a × (has_uri a ≡ true)) (λ a. written_all (descriptions a))
 
 -- ---- the kind
 
 -- id-pe-subjectInfoAccess, not critical, under this bound of depth
 abbrev pub subject_information_access_within : ℕ → ExtensionKind Access
-subject_information_access_within depth = record { identifier = pkix 0x01 0x0B; flag = required false; format = subject_information_access_format depth }
+subject_information_access_within depth =
+    record { identifier = pkix 0x01 0x0B; flag = required false; format = subject_information_access_format depth }
 
 -- under the bound of depth that readers keep
 abbrev pub subject_information_access : ExtensionKind Access

@@ -1,6 +1,7 @@
 -- Signed data is no text: the signature, a BIT STRING of whole octets, begins with an octet 0.
 use Rattle.std.specs.List.{list_any}
-use Rattle.std.proofs.Common.{◌≡◌, ℕ, Bool, true, nat_eq, not, IsTrue, List, [], ◌∷◌, ◌++◌, length, refl, sym, ap, ◌∙◌, append_assoc, append-nil, inl, inr}
+use Rattle.std.proofs.Common.{◌≡◌, ℕ, Bool, true, nat_eq, not, IsTrue, List, [], ◌∷◌, ◌++◌, length, refl, sym, ap}
+use Rattle.std.proofs.Common.{◌∙◌, append_assoc, append-nil, inl, inr}
 use Rattle.std.proofs.lemmas.Bool.{false≢true, or_right}
 use Rattle.std.proofs.lemmas.List.Folds.{list_any-append}
 use Rattle.rpki_der.specs.Tags.{BIT_STRING, SEQUENCE}
@@ -47,7 +48,8 @@ same octets others e h = record { before = h.before; behind = h.behind; is = e �
 no_text : (octets : List ℕ) → HasZero octets → ¬ IsTrue (is_text octets)
 no_text octets h text =
     let p : ℕ → Bool = λ octet. nat_eq octet 0 in
-    let has : list_any p octets ≡ true = ap (list_any p) h.is ∙ list_any-append p h.before (0 ∷ h.behind) ∙ or_right (list_any p h.before) true refl in
+    let has : list_any p octets ≡ true = ap (list_any p) h.is ∙ list_any-append p h.before (0 ∷ h.behind) ∙
+    or_right (list_any p h.before) true refl in
     false≢true (ap not (sym has) ∙ text)
 
 -- the last of three pieces
@@ -57,7 +59,9 @@ at_end a b c = simp (append_assoc, append-nil)
 -- signed data has it
 in_signed : (s : SignedFields) (content : List ℕ) → SignedParts s content → HasZero content
 in_signed s content p =
-    let bits = in_value BIT_STRING (0 ∷ s.signature.value) p.signature (whole_bits_are s.signature.value p.signature p.signature_is) (record { before = []; behind = s.signature.value; is = refl }) in
+    let bits = in_value BIT_STRING (0 ∷ s.signature.value) p.signature
+    (whole_bits_are s.signature.value p.signature p.signature_is)
+    (record { before = []; behind = s.signature.value; is = refl }) in
     same content _ (p.is ∙ at_end s.message p.algorithm p.signature) (around (s.message ++ p.algorithm) p.signature [] bits)
 
 -- a certificate and a list are no texts
@@ -67,10 +71,15 @@ no_text_shown octets shown =
     elim shown [
       | inl (c, (rest, b)) ↦
           let it = certificate_parts levels c b.text b.encoded in
-          no_text octets (same octets _ b.parts (around [] b.text rest (in_value SEQUENCE it.content b.text it.enc (in_signed c.signed_data it.content it.signed))))
+          no_text octets (same octets _ b.parts
+          (around [] b.text rest
+          (in_value SEQUENCE it.content b.text it.enc (in_signed c.signed_data it.content it.signed))))
       | inr (r, (rest, b)) ↦
           let (content, (one_algorithm, (signed, fields)), enc) = b.encoded in
-          no_text octets (same octets _ b.parts (around [] b.text rest (in_value SEQUENCE content b.text enc (in_signed r.signed_data content (signed_parts r.signed_data content signed)))))
+          no_text octets (same octets _ b.parts
+          (around [] b.text rest
+          (in_value SEQUENCE content b.text enc
+          (in_signed r.signed_data content (signed_parts r.signed_data content signed)))))
     ]
 
 -- a file of a certificate or a list is taken as it is

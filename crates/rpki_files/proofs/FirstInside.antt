@@ -48,17 +48,21 @@ certificate_first octets (c, (rest, b)) =
     }
 
 -- a reader that has gone in stands at the one content
-pub entered : (old new : Place) (r : Result Place DecodeError) → ReadsFrontBy remaining (IsEnc SEQUENCE) old r new → (content : List ℕ) → Means (IsEnc SEQUENCE) content (remaining old)
+pub entered : (old new : Place) (r : Result Place DecodeError) → ReadsFrontBy remaining (IsEnc SEQUENCE) old r new →
+    (content : List ℕ) → Means (IsEnc SEQUENCE) content (remaining old)
     → IsSomeAnd (result_ok r) (λ inside. remaining inside ≡ content)
 entered old new (Ok inside) a content m = one_content SEQUENCE (remaining inside) content (remaining old) (remaining new, a) m
 entered old new (Err e) a content m = absurd (a.1 content m.0 m.1)
 
 -- and what it stands at is the content
-pub gone_in : (old new : Place) (r : Result Place DecodeError) → ReadsFrontBy remaining (IsEnc SEQUENCE) old r new → IfSome (result_ok r) (λ inside. Means (IsEnc SEQUENCE) (remaining inside) (remaining old))
+pub gone_in : (old new : Place) (r : Result Place DecodeError) → ReadsFrontBy remaining (IsEnc SEQUENCE) old r new →
+    IfSome (result_ok r) (λ inside. Means (IsEnc SEQUENCE) (remaining inside) (remaining old))
 gone_in old new (Ok inside) a = (remaining new, a)
 gone_in old new (Err e) a = tt
 
 -- the first octet of the inner content, where that has one
-pub first_found : (octets outer inner : List ℕ) → Means (IsEnc SEQUENCE) outer octets → Means (IsEnc SEQUENCE) inner outer → IfSome (slice_get inner 0) (λ first. HasFirstInside first octets)
+pub first_found : (octets outer inner : List ℕ) → Means (IsEnc SEQUENCE) outer octets →
+    Means (IsEnc SEQUENCE) inner outer → IfSome (slice_get inner 0) (λ first. HasFirstInside first octets)
 first_found octets outer [] begins within = tt
-first_found octets outer (first ∷ rest) begins within = record { outer = outer; inner = first ∷ rest; rest = rest; begins = begins; inside = within; first_is = refl }
+first_found octets outer (first ∷ rest) begins within =
+    record { outer = outer; inner = first ∷ rest; rest = rest; begins = begins; inside = within; first_is = refl }

@@ -29,7 +29,8 @@ first_in_front P (y ∷ xs) ys x (inl here) = inl here
 first_in_front P (y ∷ xs) ys x (inr (fails, rest)) = inr (fails, first_in_front P xs ys x rest)
 
 -- none does
-pub first_behind : {X : Type 0} (P : X → Type 0) (xs ys : List X) (o : Option X) → IsFirstTrue P xs None → IsFirstTrue P ys o → IsFirstTrue P (xs ++ ys) o
+pub first_behind : {X : Type 0} (P : X → Type 0) (xs ys : List X) (o : Option X) → IsFirstTrue P xs None →
+    IsFirstTrue P ys o → IsFirstTrue P (xs ++ ys) o
 first_behind P [] ys o none is = is
 first_behind P (x ∷ xs) ys o (inl (p, same)) is = absurd cc
 first_behind P (x ∷ xs) ys o (inr (fails, rest)) is = inr (fails, first_behind P xs ys o rest is)

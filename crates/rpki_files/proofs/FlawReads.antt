@@ -13,7 +13,9 @@ use Rattle.rpki_files.proofs.FirstTrue.{first_so, none_true}
 -- octets begin with one value of an identifier octet at most
 pub one_content : (tag : ℕ) (c d octets : List ℕ) → Means (IsEnc tag) c octets → Means (IsEnc tag) d octets → c ≡ d
 one_content tag c d octets m n =
-    one_meant (IsEnc tag) (unambiguous (IsEnc tag) (record { value = λ v b e. of_enc e; one = λ v w b p q. (same_enc p q).1 })) c d octets m n
+    one_meant (IsEnc tag)
+    (unambiguous (IsEnc tag) (record { value = λ v b e. of_enc e; one = λ v w b p q. (same_enc p q).1 })) c d
+    octets m n
 
 -- the identifier octet is the first one
 pub first_octet : (tag : ℕ) (content octets : List ℕ) → Means (IsEnc tag) content octets → (rest : List ℕ) × (octets ≡ tag ∷ rest)
@@ -26,19 +28,22 @@ module _ {X : Type 0} (tag : ℕ) (Is : X → List ℕ → Type 0) (xs : List X)
   pub first_inside : (inner : Place) (o : Option X) → ReadsFrontBy remaining (IsEnc tag) old (Ok inner) next
       → IsFirstTrue (λ x. Is x (remaining inner)) xs o → IsFirstTrue (λ x. Encloses tag (Is x) (remaining at)) xs o
   first_inside inner o read is =
-      let means : Means (IsEnc tag) (remaining inner) (remaining at) = subst (λ (p : Place). Means (IsEnc tag) (remaining inner) (remaining p)) same (remaining next, read) in
+      let means : Means (IsEnc tag) (remaining inner) (remaining at) =
+      subst (λ (p : Place). Means (IsEnc tag) (remaining inner) (remaining p)) same (remaining next, read) in
       first_so (λ x. Is x (remaining inner)) (λ x. Encloses tag (Is x) (remaining at)) xs o
       (λ x p. (remaining inner, means, p))
       (λ x p. subst (Is x) (one_content tag p.0 (remaining inner) (remaining at) p.1 means) p.2) is
 
   -- none is there
-  pub none_inside : (e : DecodeError) → ReadsFrontBy {X = Place} remaining (IsEnc tag) old (Err e) next → IsFirstTrue (λ x. Encloses tag (Is x) (remaining at)) xs None
+  pub none_inside : (e : DecodeError) → ReadsFrontBy {X = Place} remaining (IsEnc tag) old (Err e) next →
+      IsFirstTrue (λ x. Encloses tag (Is x) (remaining at)) xs None
   none_inside e read =
       none_true (λ x. Encloses tag (Is x) (remaining at)) xs
       (λ x p. read.1 p.0 p.1.0 (subst (λ (a : Place). Begins (IsEnc tag) (remaining a) p.0 p.1.0) (sym same) p.1.1))
 
 -- no value stands where none with the first octet does
-pub none_whole : (identifier : ℕ) (octets : List ℕ) → (rest : List ℕ) × (octets ≡ identifier ∷ rest) → ((content rest : List ℕ) → Begins (IsEnc identifier) octets content rest → ⊥)
+pub none_whole : (identifier : ℕ) (octets : List ℕ) → (rest : List ℕ) × (octets ≡ identifier ∷ rest) →
+    ((content rest : List ℕ) → Begins (IsEnc identifier) octets content rest → ⊥)
     → (tag : ℕ) (content : List ℕ) → Means (IsEnc tag) content octets → ⊥
 none_whole identifier octets first none tag content means =
     let there = first_octet tag content octets means in

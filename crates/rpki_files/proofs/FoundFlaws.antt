@@ -9,7 +9,8 @@ use Rattle.rpki_der.specs.Values.{IsEnc}
 use Rattle.rpki_der.proofs.ExtensionReads.{extension_alone}
 use Rattle.rpki_der.proofs.FormatAnswers.{alone_means}
 use Rattle.rpki_der.proofs.Formats.{one_meant}
-use Rattle.rpki_files.specs.Flaws.{IsContentFlaw, IsExtensionFlaw, IsFirstFlaw, IsFirstTrue, IsFlaw, extension_flaws, extension_of, openings, own_flaws}
+use Rattle.rpki_files.specs.Flaws.{IsContentFlaw, IsExtensionFlaw, IsFirstFlaw, IsFirstTrue, IsFlaw, extension_flaws}
+use Rattle.rpki_files.specs.Flaws.{extension_of, openings, own_flaws}
 use Rattle.rpki_files.specs.KnownKinds.{MayHaveFlag, known_kind}
 use Rattle.rpki_files.specs.declared.expected.Part.{Part}
 use Rattle.rpki_files.specs.declared.expected.Part.TheVariants as part
@@ -34,32 +35,41 @@ opened_by [] identifier some = absurd cc
 opened_by (x ∷ xs) identifier some = (xs, cc)
 
 module _ (is_list : Bool) (p : Part) (identifier : ℕ) where
-  other : (octets rest : List ℕ) → octets ≡ identifier ∷ rest → (Contains (openings is_list p) identifier → ⊥) → IsFirstFlaw is_list p octets (Some (flaw.Other identifier))
-  other octets rest is none = subst (λ (l : List ℕ). IsFirstFlaw is_list p l (Some (flaw.Other identifier))) (sym is) (inl ((rest, refl, none), refl))
+  other : (octets rest : List ℕ) → octets ≡ identifier ∷ rest → (Contains (openings is_list p) identifier → ⊥) →
+      IsFirstFlaw is_list p octets (Some (flaw.Other identifier))
+  other octets rest is none = subst (λ (l : List ℕ). IsFirstFlaw is_list p l (Some (flaw.Other identifier))) (sym is)
+      (inl ((rest, refl, none), refl))
 
   -- the part may not begin with it
-  pub first_other : (octets : List ℕ) → (rest : List ℕ) × (octets ≡ identifier ∷ rest) → (Contains (openings is_list p) identifier → ⊥) → IsFirstFlaw is_list p octets (Some (flaw.Other identifier))
+  pub first_other : (octets : List ℕ) → (rest : List ℕ) × (octets ≡ identifier ∷ rest) →
+      (Contains (openings is_list p) identifier → ⊥) → IsFirstFlaw is_list p octets (Some (flaw.Other identifier))
   first_other octets first none = other octets first.0 first.1 none
 
   -- no value stands there
   pub first_broken : (octets : List ℕ) → (rest : List ℕ) × (octets ≡ identifier ∷ rest) → Contains (openings is_list p) identifier
       → ((tag : ℕ) (content : List ℕ) → Means (IsEnc tag) content octets → ⊥) → IsFirstFlaw is_list p octets (Some flaw.Broken)
   first_broken octets first opens none =
-      subst (λ (l : List ℕ). ((tag : ℕ) (content : List ℕ) → Means (IsEnc tag) content l → ⊥) → IsFirstFlaw is_list p l (Some flaw.Broken)) (sym first.1)
+      subst (λ (l : List ℕ). ((tag : ℕ) (content : List ℕ) → Means (IsEnc tag) content l → ⊥) →
+      IsFirstFlaw is_list p l (Some flaw.Broken)) (sym first.1)
       (λ fails. inr ((λ o. o.2 opens), inl (fails, refl))) none
 
   -- one stands there
-  pub first_own : (octets : List ℕ) (o : Option Flaw) → (rest : List ℕ) × (octets ≡ identifier ∷ rest) → Contains (openings is_list p) identifier
-      → (tag : ℕ) × (content : List ℕ) × Means (IsEnc tag) content octets → IsFirstTrue (IsFlaw is_list p octets) (own_flaws p) o → IsFirstFlaw is_list p octets o
+  pub first_own : (octets : List ℕ) (o : Option Flaw) → (rest : List ℕ) × (octets ≡ identifier ∷ rest) →
+      Contains (openings is_list p) identifier
+      → (tag : ℕ) × (content : List ℕ) × Means (IsEnc tag) content octets →
+      IsFirstTrue (IsFlaw is_list p octets) (own_flaws p) o → IsFirstFlaw is_list p octets o
   first_own octets o first opens whole is =
-      subst (λ (l : List ℕ). ((tag : ℕ) × (content : List ℕ) × Means (IsEnc tag) content l) → IsFirstTrue (IsFlaw is_list p l) (own_flaws p) o → IsFirstFlaw is_list p l o) (sym first.1)
+      subst (λ (l : List ℕ). ((tag : ℕ) × (content : List ℕ) × Means (IsEnc tag) content l) →
+      IsFirstTrue (IsFlaw is_list p l) (own_flaws p) o → IsFirstFlaw is_list p l o) (sym first.1)
       (λ stands own. inr ((λ o. o.2 opens), inr ((λ fails. fails stands.0 stands.1 stands.2), own))) whole is
 
 -- ---- of an extension
 
 -- the flag of its kind is another one
-pub first_flag : (is_list : Bool) (identifier : List ℕ) (critical : Bool) (content : List ℕ) → (MayHaveFlag is_list (known_kind is_list identifier) critical → ⊥)
-    → IsFirstTrue (IsExtensionFlaw is_list (extension_of identifier critical content)) extension_flaws (Some (if critical then Critical else NotCritical))
+pub first_flag : (is_list : Bool) (identifier : List ℕ) (critical : Bool) (content : List ℕ) →
+    (MayHaveFlag is_list (known_kind is_list identifier) critical → ⊥)
+    → IsFirstTrue (IsExtensionFlaw is_list (extension_of identifier critical content)) extension_flaws
+    (Some (if critical then Critical else NotCritical))
 first_flag is_list identifier true content none = inl ((refl, none), refl)
 first_flag is_list identifier false content none = inr ((λ p. false≢true p.0), inl ((refl, none), refl))
 
@@ -72,18 +82,23 @@ module _ (is_list : Bool) (identifier content : List ℕ) (o : Option ExtensionF
   behind_flag false may is = inr ((λ p. false≢true p.0), inr ((λ p. p.1 may), is))
 
   -- and then its content tells
-  pub first_content : (critical : Bool) → MayHaveFlag is_list (known_kind is_list identifier) critical → IsContentFlaw (known_kind is_list identifier) content o
+  pub first_content : (critical : Bool) → MayHaveFlag is_list (known_kind is_list identifier) critical →
+      IsContentFlaw (known_kind is_list identifier) content o
       → IsFirstTrue (IsExtensionFlaw is_list (extension_of identifier critical content)) extension_flaws o
   first_content critical may (inl (told, none)) = behind_flag critical may (inl (none, told))
   first_content critical may (inr (told, has)) = behind_flag critical may (inr ((λ none. none has), inl ((may, has), told)))
 
 -- the extension that was read is the one that stands there
-pub first_extension : (is_list : Bool) (x : Extension) (octets rest : List ℕ) → Begins IsExtension octets x rest → (flaws : List ExtensionFlaw) (o : Option ExtensionFlaw)
-    → IsFirstTrue (IsExtensionFlaw is_list x) flaws o → IsFirstTrue (λ f. (y : Extension) × Means IsExtension y octets × IsExtensionFlaw is_list y f) flaws o
+pub first_extension : (is_list : Bool) (x : Extension) (octets rest : List ℕ) → Begins IsExtension octets x rest →
+    (flaws : List ExtensionFlaw) (o : Option ExtensionFlaw)
+    → IsFirstTrue (IsExtensionFlaw is_list x) flaws o →
+    IsFirstTrue (λ f. (y : Extension) × Means IsExtension y octets × IsExtensionFlaw is_list y f) flaws o
 first_extension is_list x octets rest begins flaws o is =
     first_so (IsExtensionFlaw is_list x) (λ f. (y : Extension) × Means IsExtension y octets × IsExtensionFlaw is_list y f) flaws o
     (λ f p. (x, (rest, begins), p))
-    (λ f p. subst (λ (y : Extension). IsExtensionFlaw is_list y f) (one_meant IsExtension (alone_means extension_format extension_alone) p.0 x octets p.1 (rest, begins)) p.2) is
+    (λ f p. subst (λ (y : Extension). IsExtensionFlaw is_list y f)
+    (one_meant IsExtension (alone_means extension_format extension_alone) p.0 x octets p.1 (rest, begins)) p.2)
+    is
 
 -- the flaws of a kind that a list may have
 pub flaws_of_kind : (k : Kind) → (k ≢ known.NoList) → own_flaws (part.Kind k) ≡ map flaw.Extension extension_flaws

@@ -1,5 +1,6 @@
 -- Whether one of the extensions at the front is one that is looked for, and where extensions stand.
-use Rattle.std.proofs.Common.{◌≡◌, ◌↔◌, ◌<◌, ℕ, List, [], ◌∷◌, ◌++◌, length, Option, Some, refl, sym, ap, subst, ◌∙◌, inl, inr, append_assoc, arith}
+use Rattle.std.proofs.Common.{◌≡◌, ◌↔◌, ◌<◌, ℕ, List, [], ◌∷◌, ◌++◌, length, Option, Some, refl, sym, ap, subst, ◌∙◌}
+use Rattle.std.proofs.Common.{inl, inr, append_assoc, arith}
 use Rattle.rpki_der.specs.Encoding.{Begins, Means}
 use Rattle.rpki_der.specs.Extensions.{Extension, IsExtension, extension_format}
 use Rattle.rpki_der.specs.Reading.{Inside, inside}
@@ -19,19 +20,29 @@ use Rattle.rpki_files.specs.declared.policies.Wanted.{Wanted}
 
 module _ (wanted : Wanted) (octets : List ℕ) where
   -- the first of them, and what stands behind it
-  first_is : (xs : List Extension) (v : Extension) (h : Means (AreEncodings IsExtension) (v ∷ xs) octets) → (b : List ℕ) × (extension_format.read octets ≡ Some (v, b)) × Means (AreEncodings IsExtension) xs b
+  first_is : (xs : List Extension) (v : Extension) (h : Means (AreEncodings IsExtension) (v ∷ xs) octets) →
+      (b : List ℕ) × (extension_format.read octets ≡ Some (v, b)) × Means (AreEncodings IsExtension) xs b
   first_is xs v h =
       let text = h.1.text in
       let s = h.1.encoded in
-      let whole : octets ≡ s.0 ++ (s.1 ++ h.0) = h.1.parts ∙ ap (λ (t : List ℕ). t ++ h.0) s.4 ∙ append_assoc s.0 s.1 h.0 in
-      (s.1 ++ h.0, ap extension_format.read whole ∙ extension_reads.again v s.0 (s.1 ++ h.0) s.2, (h.0, record { text = s.1; encoded = s.3; parts = refl }))
+      let whole : octets ≡ s.0 ++ (s.1 ++ h.0) = h.1.parts ∙ ap (λ (t : List ℕ). t ++ h.0) s.4 ∙ append_assoc s.0 s.1 h.0 in (
+        s.1 ++ h.0,
+        ap extension_format.read whole ∙ extension_reads.again v s.0 (s.1 ++ h.0) s.2,
+        (h.0, record { text = s.1; encoded = s.3; parts = refl }),
+      )
 
   -- none stands there
   pub none_there : ((x : Extension) (rest : List ℕ) → Begins IsExtension octets x rest → ⊥) → BeginsWithOne wanted octets → ⊥
   none_there none ([], means, among) = among
   none_there none (v ∷ xs, means, among) =
       let s = means.1.encoded in
-      none v (s.1 ++ means.0) (record { text = s.0; encoded = s.2; parts = means.1.parts ∙ ap (λ (t : List ℕ). t ++ means.0) s.4 ∙ append_assoc s.0 s.1 means.0 })
+      none v (s.1 ++ means.0)
+      (record {
+        text = s.0;
+        encoded = s.2;
+        parts = means.1.parts ∙ ap (λ (t : List ℕ). t ++ means.0) s.4 ∙
+            append_assoc s.0 s.1 means.0;
+      })
 
   module _ (x : Extension) (rest : List ℕ) (begins : Begins IsExtension octets x rest) where
     one_more : (xs : List Extension) → Means (AreEncodings IsExtension) xs rest → Means (AreEncodings IsExtension) (x ∷ xs) octets
@@ -76,7 +87,8 @@ none_of_nothing wanted octets few (v ∷ xs, means, among) =
 
 module _ (octets : List ℕ) where
   -- none stands at the front of octets that are some
-  pub no_extensions : (octets ≡ [] → ⊥) → ((x : Extension) (rest : List ℕ) → Begins IsExtension octets x rest → ⊥) → AreExtensions octets → ⊥
+  pub no_extensions : (octets ≡ [] → ⊥) → ((x : Extension) (rest : List ℕ) → Begins IsExtension octets x rest → ⊥) →
+      AreExtensions octets → ⊥
   no_extensions some none ([], are) = some are
   no_extensions some none (v ∷ xs, s) = none v s.1 (record { text = s.0; encoded = s.2; parts = s.4 })
 
@@ -91,7 +103,8 @@ module _ (octets : List ℕ) where
       (xs, subst (AreEncodings IsExtension xs) same s.3)
 
   -- the first one aside
-  pub are_more : (x : Extension) (rest : List ℕ) → Begins IsExtension octets x rest → extension_format.read octets ≡ Some (x, rest) → AreExtensions rest ↔ AreExtensions octets
+  pub are_more : (x : Extension) (rest : List ℕ) → Begins IsExtension octets x rest →
+      extension_format.read octets ≡ Some (x, rest) → AreExtensions rest ↔ AreExtensions octets
   are_more x rest begins read = ((λ are. (x ∷ are.0, (begins.text, rest, begins.encoded, are.1, begins.parts))), rest_are x rest read)
 
 -- no octets are no extensions
@@ -101,7 +114,8 @@ are_none (octet ∷ octets) few = absurd (omega arith)
 
 -- ---- where extensions stand
 
-behind_takes : (tags octets rest : List ℕ) → AreOctets octets → behind tags octets ≡ Some rest → StandBefore tags rest octets × AreOctets rest
+behind_takes : (tags octets rest : List ℕ) → AreOctets octets → behind tags octets ≡ Some rest →
+    StandBefore tags rest octets × AreOctets rest
 behind_takes [] octets rest fits e = let same = some_is octets rest e in (same, subst AreOctets same fits)
 behind_takes (tag ∷ tags) octets rest fits e =
     let v = bind_some (value_at tag octets) (λ (v : List ℕ × List ℕ). behind tags v.1) rest e in
@@ -115,10 +129,13 @@ behind_again (tag ∷ tags) octets rest (content, more, begins, stand) =
     let read = ap (value_at tag) begins.parts ∙ (value_reads tag).again content begins.text more begins.encoded in
     ap (λ (r : Option (List ℕ × List ℕ)). r >>= λ v. behind tags v.1) read ∙ behind_again tags more rest stand
 
-value_there : (t : ℕ) (octets content : List ℕ) → Means (IsEnc t) content octets → (rest : List ℕ) × (value_at t octets ≡ Some (content, rest))
+value_there : (t : ℕ) (octets content : List ℕ) → Means (IsEnc t) content octets →
+    (rest : List ℕ) × (value_at t octets ≡ Some (content, rest))
 value_there t octets content m = (m.0, ap (value_at t) m.1.parts ∙ (value_reads t).again content m.1.text m.0 m.1.encoded)
 
-elements_there : (rest elements : List ℕ) → AreOctets rest → (inside 0xA3 (value_at SEQUENCE) rest >>= λ v. Some v.0) ≡ Some elements → Means (Inside 0xA3 (IsEnc SEQUENCE)) elements rest
+elements_there : (rest elements : List ℕ) → AreOctets rest →
+    (inside 0xA3 (value_at SEQUENCE) rest >>= λ v. Some v.0) ≡ Some elements →
+    Means (Inside 0xA3 (IsEnc SEQUENCE)) elements rest
 elements_there rest elements fits e =
     let v = bind_some (inside 0xA3 (value_at SEQUENCE) rest) (λ (v : List ℕ × List ℕ). Some v.0) elements e in
     let found = (inside_reads 0xA3 (value_at SEQUENCE) (IsEnc SEQUENCE) (value_reads SEQUENCE)).takes rest v.0.0 v.0.1 fits v.1 in
@@ -129,10 +146,12 @@ module _ (octets elements : List ℕ) where
   pub extensions_take : AreOctets octets → extensions_at octets ≡ Some elements → HasExtensions elements octets
   unfolding extensions_at rest_at
   extensions_take fits e =
-      let signed_on : List ℕ × List ℕ → Option (List ℕ) = λ signed. behind tags_before signed.0 >>= λ rest. inside 0xA3 (value_at SEQUENCE) rest >>= λ v. Some v.0 in
+      let signed_on : List ℕ × List ℕ → Option (List ℕ) = λ signed. behind tags_before signed.0 >>= λ rest.
+      inside 0xA3 (value_at SEQUENCE) rest >>= λ v. Some v.0 in
       let w = bind_some (value_at SEQUENCE octets) (λ (whole : List ℕ × List ℕ). value_at SEQUENCE whole.0 >>= signed_on) elements e in
       let s = bind_some (value_at SEQUENCE w.0.0) signed_on elements w.2 in
-      let r = bind_some (behind tags_before s.0.0) (λ (rest : List ℕ). inside 0xA3 (value_at SEQUENCE) rest >>= λ v. Some v.0) elements s.2 in
+      let r = bind_some (behind tags_before s.0.0)
+      (λ (rest : List ℕ). inside 0xA3 (value_at SEQUENCE) rest >>= λ v. Some v.0) elements s.2 in
       let whole = (value_reads SEQUENCE).takes octets w.0.0 w.0.1 fits w.1 in
       let signed = (value_reads SEQUENCE).takes w.0.0 s.0.0 s.0.1 whole.encoded.octets s.1 in
       let fields = behind_takes tags_before s.0.0 r.0 signed.encoded.octets r.1 in
@@ -154,5 +173,8 @@ module _ (octets elements : List ℕ) where
       let s = value_there SEQUENCE h.whole h.data_is h.data_begins in
       let r = behind_again tags_before h.data_is h.rest h.fields_before in
       let b = h.elements_begin.1 in
-      let v : inside 0xA3 (value_at SEQUENCE) h.rest ≡ Some (elements, h.elements_begin.0) = ap (inside 0xA3 (value_at SEQUENCE)) b.parts ∙ (inside_reads 0xA3 (value_at SEQUENCE) (IsEnc SEQUENCE) (value_reads SEQUENCE)).again elements b.text h.elements_begin.0 b.encoded in
+      let v : inside 0xA3 (value_at SEQUENCE) h.rest ≡ Some (elements, h.elements_begin.0) =
+      ap (inside 0xA3 (value_at SEQUENCE)) b.parts ∙
+      (inside_reads 0xA3 (value_at SEQUENCE) (IsEnc SEQUENCE) (value_reads SEQUENCE)).again elements b.text
+      h.elements_begin.0 b.encoded in
       rw (w.1, s.1, r, v) refl

@@ -7,7 +7,8 @@ use Rattle.rpki_files.specs.Misreads.{StopsFor, TellsTruth, kept_fault}
 use Rattle.rpki_files.specs.declared.places.Place.{Place}
 
 -- reading stops for it
-pub stops_for_kept : (is_list : Bool) (octets : List ℕ) (fault : DecodeError) (place : Place) (is_true : Bool) → TellsTruth is_list octets fault (place, is_true) → StopsFor is_list octets (kept_fault fault is_true) place
+pub stops_for_kept : (is_list : Bool) (octets : List ℕ) (fault : DecodeError) (place : Place) (is_true : Bool) →
+    TellsTruth is_list octets fault (place, is_true) → StopsFor is_list octets (kept_fault fault is_true) place
 stops_for_kept is_list octets fault place true told = let truth = told.1 in (told.0, truth.0 refl)
 stops_for_kept is_list octets fault place false told = (told.0, tt)
 

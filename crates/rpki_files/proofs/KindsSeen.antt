@@ -2,7 +2,8 @@
 -- that must be there in a list.
 use Rattle.std.specs.List.{AllByRecursion}
 use Rattle.std.specs.Prelude.{Contains, bytes_eq, filter, Some}
-use Rattle.std.proofs.Common.{◌≡◌, ◌≢◌, ℕ, zero, suc, Bool, true, false, List, [], ◌∷◌, ◌++◌, map, refl, sym, ap, subst, ◌∙◌, append_assoc, arith}
+use Rattle.std.proofs.Common.{◌≡◌, ◌≢◌, ℕ, zero, suc, Bool, true, false, List, [], ◌∷◌, ◌++◌, map, refl, sym, ap}
+use Rattle.std.proofs.Common.{subst, ◌∙◌, append_assoc, arith}
 use Rattle.std.proofs.lemmas.Bool.{false≢true}
 use Rattle.std.proofs.lemmas.List.{append-nil}
 use Rattle.std.proofs.lemmas.List.Elements.{Contains-append_left, Contains-append_right}
@@ -25,24 +26,31 @@ use Rattle.rpki_files.proofs.StopWalks.{encodings_more}
 
 -- ---- one more
 
-behind_more : (is_list : Bool) (kinds : List Kind) (xs : List Extension) (x : Extension) → MayStandBehind is_list kinds xs → MayStand is_list (kinds ++ map (kind_of is_list) xs) x → MayStandBehind is_list kinds (xs ++ x ∷ [])
+behind_more : (is_list : Bool) (kinds : List Kind) (xs : List Extension) (x : Extension) →
+    MayStandBehind is_list kinds xs → MayStand is_list (kinds ++ map (kind_of is_list) xs) x →
+    MayStandBehind is_list kinds (xs ++ x ∷ [])
 behind_more is_list kinds [] x h may = (subst (λ (k : List Kind). MayStand is_list k x) (append-nil kinds) may, tt)
 behind_more is_list kinds (y ∷ ys) x h may =
     let more = kinds ++ kind_of is_list y ∷ [] in
-    let same : kinds ++ (kind_of is_list y ∷ map (kind_of is_list) ys) ≡ more ++ map (kind_of is_list) ys = sym (append_assoc kinds (kind_of is_list y ∷ []) (map (kind_of is_list) ys)) in
+    let same : kinds ++ (kind_of is_list y ∷ map (kind_of is_list) ys) ≡ more ++ map (kind_of is_list) ys =
+    sym (append_assoc kinds (kind_of is_list y ∷ []) (map (kind_of is_list) ys)) in
     (h.0, behind_more is_list more ys x h.1 (subst (λ (k : List Kind). MayStand is_list k x) same may))
 
 -- an extension that may stand behind those before it
-pub placed_more : (is_list : Bool) (xs : List Extension) (x : Extension) (a b : List ℕ) → MayStand is_list (map (kind_of is_list) xs) x → AreWellPlaced is_list xs a → IsExtension x b → AreWellPlaced is_list (xs ++ x ∷ []) (a ++ b)
+pub placed_more : (is_list : Bool) (xs : List Extension) (x : Extension) (a b : List ℕ) →
+    MayStand is_list (map (kind_of is_list) xs) x → AreWellPlaced is_list xs a → IsExtension x b →
+    AreWellPlaced is_list (xs ++ x ∷ []) (a ++ b)
 placed_more is_list xs x a b may are is = (encodings_more IsExtension xs x a b are.0 is, behind_more is_list [] xs x are.1 may)
 
 -- their kinds
-pub kinds_more : (is_list : Bool) (xs : List Extension) (x : Extension) → map (kind_of is_list) xs ++ kind_of is_list x ∷ [] ≡ map (kind_of is_list) (xs ++ x ∷ [])
+pub kinds_more : (is_list : Bool) (xs : List Extension) (x : Extension) →
+    map (kind_of is_list) xs ++ kind_of is_list x ∷ [] ≡ map (kind_of is_list) (xs ++ x ∷ [])
 kinds_more is_list [] x = refl
 kinds_more is_list (y ∷ ys) x = ap (λ (k : List Kind). kind_of is_list y ∷ k) (kinds_more is_list ys x)
 
 -- octets are one sequence of extensions
-pub same_extensions : (octets : List ℕ) (xs ys : List Extension) → AreEncodings IsExtension xs octets → AreEncodings IsExtension ys octets → xs ≡ ys
+pub same_extensions : (octets : List ℕ) (xs ys : List Extension) → AreEncodings IsExtension xs octets →
+    AreEncodings IsExtension ys octets → xs ≡ ys
 same_extensions octets xs ys a b =
     let reads = sequence_reads extension_format.read IsExtension extension_reads extension_shrinks in
     let one : sequence_of extension_format.read octets ≡ some xs = reads.again xs octets a in
@@ -55,7 +63,8 @@ in_rest : (k j : Kind) (kinds : List Kind) → (j ≡ k → ⊥) → Contains (j
 in_rest k j kinds not (zero, low, is) = absurd (not is)
 in_rest k j kinds not (suc n, low, is) = (n, omega arith, is)
 
-module _ (k : Kind) (known_is : k ≢ known.Unknown) (test : Extension → Bool) (there : (x : Extension) → test x ≡ true → kind_of true x ≡ k) (back : (x : Extension) → kind_of true x ≡ k → test x ≡ true) where
+module _ (k : Kind) (known_is : k ≢ known.Unknown) (test : Extension → Bool) (there : (x : Extension) →
+    test x ≡ true → kind_of true x ≡ k) (back : (x : Extension) → kind_of true x ≡ k → test x ≡ true) where
   kept : (x : Extension) (xs ys : List Extension) → test x ≡ true → filter test xs ≡ ys → filter test (x ∷ xs) ≡ x ∷ ys
   kept x xs ys e same = rw e (ap (λ (l : List Extension). x ∷ l) same)
 
@@ -64,7 +73,9 @@ module _ (k : Kind) (known_is : k ≢ known.Unknown) (test : Extension → Bool)
 
   none_again : (kinds : List Kind) (xs : List Extension) → Contains kinds k → MayStandBehind true kinds xs → filter test xs ≡ []
   none_again kinds [] has h = refl
-  none_again kinds (x ∷ xs) has h = by_test (test x) refl (none_again (kinds ++ kind_of true x ∷ []) xs (Contains-append_left kinds (kind_of true x ∷ []) k has) h.1)
+  none_again kinds (x ∷ xs) has h =
+      by_test (test x) refl
+      (none_again (kinds ++ kind_of true x ∷ []) xs (Contains-append_left kinds (kind_of true x ∷ []) k has) h.1)
     where
       by_test : (b : Bool) → test x ≡ b → filter test xs ≡ [] → filter test (x ∷ xs) ≡ []
       by_test true e rest =
@@ -72,15 +83,23 @@ module _ (k : Kind) (known_is : k ≢ known.Unknown) (test : Extension → Bool)
           absurd (h.0.first (subst (λ (j : Kind). IsSecond kinds j) (sym same) (known_is, has)))
       by_test false e rest = passed_over x xs [] e rest
 
-  one_there : (kinds : List Kind) (xs : List Extension) → Contains (map (kind_of true) xs) k → MayStandBehind true kinds xs → (x : Extension) × (filter test xs ≡ x ∷ []) × HasContent k x.content
+  one_there : (kinds : List Kind) (xs : List Extension) → Contains (map (kind_of true) xs) k →
+      MayStandBehind true kinds xs → (x : Extension) × (filter test xs ≡ x ∷ []) × HasContent k x.content
   one_there kinds [] (n, low, is) h = absurd (omega arith)
   one_there kinds (x ∷ xs) has h = by_test (test x) refl (λ rest. one_there (kinds ++ kind_of true x ∷ []) xs rest h.1)
     where
-      by_test : (b : Bool) → test x ≡ b → (Contains (map (kind_of true) xs) k → (y : Extension) × (filter test xs ≡ y ∷ []) × HasContent k y.content) → (y : Extension) × (filter test (x ∷ xs) ≡ y ∷ []) × HasContent k y.content
+      by_test : (b : Bool) → test x ≡ b →
+          (Contains (map (kind_of true) xs) k →
+          (y : Extension) × (filter test xs ≡ y ∷ []) × HasContent k y.content) →
+          (y : Extension) × (filter test (x ∷ xs) ≡ y ∷ []) × HasContent k y.content
       by_test true e others =
           let same = there x e in
-          let here : Contains (kinds ++ kind_of true x ∷ []) k = Contains-append_right kinds (kind_of true x ∷ []) k (0, omega arith, same) in
-          (x, kept x xs [] e (none_again (kinds ++ kind_of true x ∷ []) xs here h.1), subst (λ (j : Kind). HasContent j x.content) same h.0.has_content)
+          let here : Contains (kinds ++ kind_of true x ∷ []) k = Contains-append_right kinds (kind_of true x ∷ []) k
+          (0, omega arith, same) in (
+            x,
+            kept x xs [] e (none_again (kinds ++ kind_of true x ∷ []) xs here h.1),
+            subst (λ (j : Kind). HasContent j x.content) same h.0.has_content,
+          )
       by_test false e others =
           let not : kind_of true x ≡ k → ⊥ = λ same. false≢true (sym e ∙ back x same) in
           let rest = others (in_rest k (kind_of true x) (map (kind_of true) xs) not has) in
@@ -91,7 +110,8 @@ module _ (k : Kind) (known_is : k ≢ known.Unknown) (test : Extension → Bool)
   found_there [] x e = absurd cc
   found_there (y ∷ ys) x e = by_test (test y) refl (λ rest. found_there ys x rest)
     where
-      by_test : (b : Bool) → test y ≡ b → (filter test ys ≡ x ∷ [] → Contains (map (kind_of true) ys) k) → Contains (map (kind_of true) (y ∷ ys)) k
+      by_test : (b : Bool) → test y ≡ b → (filter test ys ≡ x ∷ [] → Contains (map (kind_of true) ys) k) →
+          Contains (map (kind_of true) (y ∷ ys)) k
       by_test true t others = (0, omega arith, there y t)
       by_test false t others = let rest = others (rw t at e) in (suc rest.0, omega (arith, rest.1), rest.2)
 
@@ -128,9 +148,11 @@ module _ (x : Extension) where
   number_there : is_of (number ∷ []) x ≡ true → kind_of true x ≡ known.CrlNumber
   number_there is = by_test (bytes_eq x.identifier aki) refl (bytes_eq x.identifier number) refl
     where
-      by_test : (b : Bool) → bytes_eq x.identifier aki ≡ b → (n : Bool) → bytes_eq x.identifier number ≡ n → kind_of true x ≡ known.CrlNumber
+      by_test : (b : Bool) → bytes_eq x.identifier aki ≡ b → (n : Bool) → bytes_eq x.identifier number ≡ n →
+          kind_of true x ≡ known.CrlNumber
       by_test true e true f =
-          let both : bytes_eq number aki ≡ true = subst (λ (id : List ℕ). bytes_eq id aki ≡ true) ((bytes_eq-Decides x.identifier number).0 f) e in
+          let both : bytes_eq number aki ≡ true = subst (λ (id : List ℕ). bytes_eq id aki ≡ true)
+          ((bytes_eq-Decides x.identifier number).0 f) e in
           absurd (false≢true both)
       by_test b e false f = let no : false ≡ true = rw f at is in absurd (false≢true no)
       by_test false e true f = rw (e, f) refl
@@ -146,12 +168,14 @@ module _ (x : Extension) where
   one_of_both : HasContent (kind_of true x) x.content → is_of (identifiers_of list_kinds) x ≡ true
   one_of_both has = by_test (bytes_eq x.identifier aki) refl (bytes_eq x.identifier number) refl
     where
-      by_test : (b : Bool) → bytes_eq x.identifier aki ≡ b → (n : Bool) → bytes_eq x.identifier number ≡ n → is_of (identifiers_of list_kinds) x ≡ true
+      by_test : (b : Bool) → bytes_eq x.identifier aki ≡ b → (n : Bool) → bytes_eq x.identifier number ≡ n →
+          is_of (identifiers_of list_kinds) x ≡ true
       by_test true e n f = rw e refl
       by_test false e true f = rw (e, f) refl
       by_test false e false f = let none : ⊥ = rw (e, f) at has in absurd none
 
-no_others : (kinds : List Kind) (xs : List Extension) → MayStandBehind true kinds xs → AllByRecursion (λ x. is_of (identifiers_of list_kinds) x ≡ true) xs
+no_others : (kinds : List Kind) (xs : List Extension) → MayStandBehind true kinds xs →
+    AllByRecursion (λ x. is_of (identifiers_of list_kinds) x ≡ true) xs
 no_others kinds [] h = tt
 no_others kinds (x ∷ xs) h = (one_of_both x h.0.has_content, no_others (kinds ++ kind_of true x ∷ []) xs h.1)
 
@@ -165,8 +189,10 @@ module _ (kinds : List Kind) (elements : List ℕ) (are : AreOfKinds true kinds 
   pub both_suffice : HasBoth kinds → AreComplete true elements
   both_suffice has =
       let (xs, (encoded, behind), same) = are in
-      let one = one_there known.AuthorityKeyIdentifier aki_known (is_of (aki ∷ [])) aki_there aki_back [] xs (subst (λ (k : List Kind). Contains k known.AuthorityKeyIdentifier) same has.0) behind in
-      let two = one_there known.CrlNumber number_known (is_of (number ∷ [])) number_there number_back [] xs (subst (λ (k : List Kind). Contains k known.CrlNumber) same has.1) behind in
+      let one = one_there known.AuthorityKeyIdentifier aki_known (is_of (aki ∷ [])) aki_there aki_back [] xs
+      (subst (λ (k : List Kind). Contains k known.AuthorityKeyIdentifier) same has.0) behind in
+      let two = one_there known.CrlNumber number_known (is_of (number ∷ [])) number_there number_back [] xs
+      (subst (λ (k : List Kind). Contains k known.CrlNumber) same has.1) behind in
       let f : ListExtensions = record { authority_key_identifier = one.2.0; crl_number = two.2.0 } in (
         f,
         (
@@ -174,8 +200,11 @@ module _ (kinds : List Kind) (elements : List ℕ) (are : AreOfKinds true kinds 
           encoded,
           record {
             no_others = no_others [] xs behind;
-            authority_key_identifier_is = subst (λ (ys : List Extension). IsAtMostOne (Tells (with_any_flag authority_key_identifier)) ys (Some one.2.0)) (sym one.1) (one.2.0, (tt, one.2.1), refl);
-            crl_number_is = subst (λ (ys : List Extension). IsAtMostOne (Tells (with_any_flag crl_number)) ys (Some two.2.0)) (sym two.1) (two.2.0, (tt, two.2.1), refl);
+            authority_key_identifier_is =
+                subst (λ (ys : List Extension). IsAtMostOne (Tells (with_any_flag authority_key_identifier)) ys
+                (Some one.2.0)) (sym one.1) (one.2.0, (tt, one.2.1), refl);
+            crl_number_is = subst (λ (ys : List Extension). IsAtMostOne (Tells (with_any_flag crl_number)) ys
+                (Some two.2.0)) (sym two.1) (two.2.0, (tt, two.2.1), refl);
           },
         ),
       )
@@ -184,9 +213,12 @@ module _ (kinds : List Kind) (elements : List ℕ) (are : AreOfKinds true kinds 
   pub both_needed : AreComplete true elements → HasBoth kinds
   both_needed (f, (ys, ys_are, give)) =
       let (xs, (encoded, behind), same) = are in
-      let given : GiveListExtensions xs f = subst (λ (l : List Extension). GiveListExtensions l f) (same_extensions elements ys xs ys_are encoded) give in
+      let given : GiveListExtensions xs f = subst (λ (l : List Extension). GiveListExtensions l f)
+      (same_extensions elements ys xs ys_are encoded) give in
       let one = only_one (Tells (with_any_flag authority_key_identifier)) _ f.authority_key_identifier given.authority_key_identifier_is in
       let two = only_one (Tells (with_any_flag crl_number)) _ f.crl_number given.crl_number_is in
       let first = found_there known.AuthorityKeyIdentifier aki_known (is_of (aki ∷ [])) aki_there aki_back xs one.0 one.1 in
-      let second = found_there known.CrlNumber number_known (is_of (number ∷ [])) number_there number_back xs two.0 two.1 in
-      (subst (λ (k : List Kind). Contains k known.AuthorityKeyIdentifier) (sym same) first, subst (λ (k : List Kind). Contains k known.CrlNumber) (sym same) second)
+      let second = found_there known.CrlNumber number_known (is_of (number ∷ [])) number_there number_back xs two.0 two.1 in (
+        subst (λ (k : List Kind). Contains k known.AuthorityKeyIdentifier) (sym same) first,
+        subst (λ (k : List Kind). Contains k known.CrlNumber) (sym same) second,
+      )

@@ -14,6 +14,8 @@ rejected decoding.Memory h not_memory = absurd (not_memory refl)
 rejected e h not_memory = h
 
 -- what is read of octets that begin with neither
-pub neither_read : {E : Type 0} (octets : List ℕ) (fault : DecodeError) (r : Result Content E) → IfOk r (λ c. (c ≡ content.Neither fault) × (fault ≢ decoding.Memory)) → (fault ≢ decoding.Memory → BeginsWithEither octets → ⊥) → IfOk r (IsContent octets)
+pub neither_read : {E : Type 0} (octets : List ℕ) (fault : DecodeError) (r : Result Content E) →
+    IfOk r (λ c. (c ≡ content.Neither fault) × (fault ≢ decoding.Memory)) →
+    (fault ≢ decoding.Memory → BeginsWithEither octets → ⊥) → IfOk r (IsContent octets)
 neither_read octets fault (Ok c) is none = subst (IsContent octets) (sym is.0) (is.1, none is.1)
 neither_read octets fault (Err e) is none = tt

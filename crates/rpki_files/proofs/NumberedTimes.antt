@@ -88,7 +88,9 @@ first_second octets rest m begins flaws o is =
     (λ f p.
     let (n, tail, other, flaw) = p in
     let there : Begins IsTime (begins.text ++ rest) n tail = subst (λ (l : List ℕ). Begins IsTime l n tail) begins.parts other in
-    subst (λ (l : List ℕ). IsTimeFlaw l f) (begins_one IsTime (unambiguous IsTime time_format) m n begins.text rest tail begins.encoded there).1 flaw) is
+    subst (λ (l : List ℕ). IsTimeFlaw l f)
+    (begins_one IsTime (unambiguous IsTime time_format) m n begins.text rest tail begins.encoded there).1 flaw)
+    is
 
 -- ---- no numbers
 
@@ -103,7 +105,8 @@ none_anyway P (Some x) p = tt
 none_anyway P None p = p
 
 -- the numbers of a GeneralizedTime are in its content
-pub content_of : (m : Moment) (octets : List ℕ) → Means IsGeneralizedTime m octets → Means (IsEnc GENERALIZED_TIME) (two (m.year / 100) ++ (two (m.year % 100) ++ after_year m)) octets
+pub content_of : (m : Moment) (octets : List ℕ) → Means IsGeneralizedTime m octets →
+    Means (IsEnc GENERALIZED_TIME) (two (m.year / 100) ++ (two (m.year % 100) ++ after_year m)) octets
 content_of m octets (rest, b) = (rest, record { text = b.text; encoded = b.encoded; parts = b.parts })
 
 module _ (content octets : List ℕ) where
@@ -122,7 +125,9 @@ module _ (content octets : List ℕ) where
   none_utc o means none =
       none_so _ _ o none
       (λ fails m (rest, s). elim s.encoded.encoded [
-        | inl g ↦ fails m s.encoded.digits (one_content UTC_TIME content _ octets means (rest, record { text = s.text; encoded = g.2; parts = s.parts }))
+        | inl g ↦ fails m s.encoded.digits
+            (one_content UTC_TIME content _ octets means
+            (rest, record { text = s.text; encoded = g.2; parts = s.parts }))
         | inr g ↦
             let here = first_octet UTC_TIME content octets means in
             let there = first_octet GENERALIZED_TIME _ octets (rest, record { text = s.text; encoded = g; parts = s.parts }) in

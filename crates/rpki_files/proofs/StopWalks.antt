@@ -1,6 +1,7 @@
 -- What readers answer, as places from which they went on, and stops.
 use Rattle.std.specs.Prelude.{IfErr, IfOk, IsOk, MatchResult, OnOk, Some, None, Result, Ok, Err}
-use Rattle.std.proofs.Common.{◌≡◌, ◌≢◌, ◌≤◌, ◌<◌, ◌+◌, ◌-◌, ℕ, zero, suc, List, [], ◌∷◌, ◌++◌, inl, inr, length, take, drop, get_or, slice_range, refl, sym, ap, subst, ◌∙◌, append_assoc, arith}
+use Rattle.std.proofs.Common.{◌≡◌, ◌≢◌, ◌≤◌, ◌<◌, ◌+◌, ◌-◌, ℕ, zero, suc, List, [], ◌∷◌, ◌++◌, inl, inr, length, take}
+use Rattle.std.proofs.Common.{drop, get_or, slice_range, refl, sym, ap, subst, ◌∙◌, append_assoc, arith}
 use Rattle.std.proofs.lemmas.Bool.{false≢true}
 use Rattle.std.proofs.lemmas.List.{append-nil, take-append-drop, take-take, take_more}
 use Rattle.std.proofs.Math.Nat.{eq-or-lt_of_le}
@@ -18,7 +19,8 @@ use Rattle.rpki_der.specs.Values.{IsEnc}
 use Rattle.rpki_der.proofs.Answering.{certainly, rejects}
 use Rattle.rpki_der.proofs.Choices.{enc_begins}
 use Rattle.rpki_der.proofs.Places.{cut}
-use Rattle.rpki_files.specs.StopPlaces.{AnswersWhether, AreFields, BeginsWithNo, EncodesSome, IsField, IsStop, Opens, Passes, StopsAmong, StopsBefore}
+use Rattle.rpki_files.specs.StopPlaces.{AnswersWhether, AreFields, BeginsWithNo, EncodesSome, IsField, IsStop, Opens}
+use Rattle.rpki_files.specs.StopPlaces.{Passes, StopsAmong, StopsBefore}
 use Rattle.rpki_files.specs.declared.expected.Field.{Field}
 use Rattle.rpki_files.specs.declared.expected.Part.{Part}
 use Rattle.rpki_files.specs.declared.expected.Part.TheVariants as part
@@ -28,7 +30,8 @@ use Rattle.rpki_files.specs.declared.places.Stop.TheVariants.{At, Memory}
 -- ---- from one place to the next
 
 -- what a reader took stands from its place to the next one
-pub took : (Is : List ℕ → Type 0) (old new : Place) (text : List ℕ) → old.from ≤ old.to → old.to ≤ length old.source → new.from ≤ new.to → MovesOn old new
+pub took : (Is : List ℕ → Type 0) (old new : Place) (text : List ℕ) → old.from ≤ old.to → old.to ≤ length old.source →
+    new.from ≤ new.to → MovesOn old new
     → Is text → remaining old ≡ text ++ remaining new → Passes Is old new
 took Is old new text order within later moves is parts =
     let c = cut old.source old.from old.to text (remaining new) order within parts in
@@ -67,12 +70,19 @@ stays Is at order within is = record {
 }
 
 -- one text and then another
-pub goes_on : (A B C : List ℕ → Type 0) (at mid next : Place) → ((a b : List ℕ) → A a → B b → C (a ++ b)) → Passes A at mid → Passes B mid next → Passes C at next
+pub goes_on : (A B C : List ℕ → Type 0) (at mid next : Place) → ((a b : List ℕ) → A a → B b → C (a ++ b)) →
+    Passes A at mid → Passes B mid next → Passes C at next
 goes_on A B C at mid next both p q =
-    let second : B (slice_range at.source mid.from next.from) = subst (λ (s : List ℕ). B (slice_range s mid.from next.from)) p.moves.source q.text in
+    let second : B (slice_range at.source mid.from next.from) =
+    subst (λ (s : List ℕ). B (slice_range s mid.from next.from)) p.moves.source q.text in
     record {
       text = subst C (slices at.source at.from mid.from next.from p.moves.from q.moves.from) (both _ _ p.text second);
-      moves = record { source = q.moves.source ∙ p.moves.source; to = q.moves.to ∙ p.moves.to; from = omega (arith, p.moves.from, q.moves.from) };
+      moves = record {
+        source = q.moves.source ∙ p.moves.source;
+        to = q.moves.to ∙ p.moves.to;
+        from =
+            omega (arith, p.moves.from, q.moves.from);
+      };
       order = q.order;
       within = q.within;
     }
@@ -101,13 +111,15 @@ not_at_end at order some =
 -- ---- sequences
 
 -- one more field
-pub fields_more : (fields : List Field) (f : Field) (a b : List ℕ) → AreFields fields a → IsField f b → AreFields (fields ++ f ∷ []) (a ++ b)
+pub fields_more : (fields : List Field) (f : Field) (a b : List ℕ) → AreFields fields a → IsField f b →
+    AreFields (fields ++ f ∷ []) (a ++ b)
 fields_more [] f a b are is = (b, [], is, refl, ap (λ (l : List ℕ). l ++ b) are ∙ sym (append-nil b))
 fields_more (g ∷ fields) f a b (c, d, first, rest, e) is =
     (c, d ++ b, first, fields_more fields f d b rest is, ap (λ (l : List ℕ). l ++ b) e ∙ append_assoc c d b)
 
 -- one more encoding
-pub encodings_more : {V : Type 0} (encodes : V → List ℕ → Type 0) (vs : List V) (v : V) (a b : List ℕ) → AreEncodings encodes vs a → encodes v b → AreEncodings encodes (vs ++ v ∷ []) (a ++ b)
+pub encodings_more : {V : Type 0} (encodes : V → List ℕ → Type 0) (vs : List V) (v : V) (a b : List ℕ) →
+    AreEncodings encodes vs a → encodes v b → AreEncodings encodes (vs ++ v ∷ []) (a ++ b)
 encodings_more encodes [] v a b are is = (b, [], is, refl, ap (λ (l : List ℕ). l ++ b) are ∙ sym (append-nil b))
 encodings_more encodes (w ∷ vs) v a b (c, d, first, rest, e) is =
     (c, d ++ b, first, encodings_more encodes vs v d b rest is, ap (λ (l : List ℕ). l ++ b) e ∙ append_assoc c d b)
@@ -116,34 +128,43 @@ encodings_more encodes (w ∷ vs) v a b (c, d, first, rest, e) is =
 pub around : {X : Type 0} (xs : List X) (i : ℕ) (d : X) → i < length xs → xs ≡ take i xs ++ get_or xs i d ∷ drop (i + 1) xs
 around {X} [] i d low = absurd (omega arith)
 around {X} (x ∷ xs) zero d low = refl
-around {X} (x ∷ xs) (suc i) d low = let on : suc i + 1 ≡ suc (i + 1) = omega arith in rw on (ap (λ (l : List X). x ∷ l) (around xs i d (omega arith)))
+around {X} (x ∷ xs) (suc i) d low = let on : suc i + 1 ≡ suc (i + 1) = omega arith in
+    rw on (ap (λ (l : List X). x ∷ l) (around xs i d (omega arith)))
 
 -- ---- answers
 
 -- a reader of a format, without its value
-pub read_or_memory : {X Y : Type 0} (view : X → Y) (f : Format Y) (old new : Place) (r : Result X DecodeError) (s : Result (Unit {0}) DecodeError)
-    → ReadsFrontOrMemoryBy view f.encodes old r new → Keeps r old new → MatchResult r (λ _. IsOk s) (λ e. s ≡ Err e) → AnswersWhether (EncodesSome f) old s new
+pub read_or_memory : {X Y : Type 0} (view : X → Y) (f : Format Y) (old new : Place) (r : Result X DecodeError)
+    (s : Result (Unit {0}) DecodeError)
+    → ReadsFrontOrMemoryBy view f.encodes old r new → Keeps r old new → MatchResult r (λ _. IsOk s) (λ e. s ≡ Err e) →
+    AnswersWhether (EncodesSome f) old s new
 read_or_memory view f old new (Ok x) (Ok u) a k h = (a.text, (view x, a.encoded), a.parts, k)
 read_or_memory view f old new (Ok x) (Err e) a k h = absurd (false≢true h)
 read_or_memory view f old new (Err e) s a k h =
-    let none : Rejects e (BeginsWithNo (EncodesSome f) (remaining old)) = rejects e (λ no text rest is parts. no is.0 rest (record { text = text; encoded = is.1; parts = parts })) a in
+    let none : Rejects e (BeginsWithNo (EncodesSome f) (remaining old)) =
+    rejects e (λ no text rest is parts. no is.0 rest (record { text = text; encoded = is.1; parts = parts }))
+    a in
     subst (λ (t : Result (Unit {0}) DecodeError). AnswersWhether (EncodesSome f) old t new) (sym h) none
 
 -- of a reader that takes no memory
-pub read_surely : {X Y : Type 0} (view : X → Y) (f : Format Y) (old new : Place) (r : Result X DecodeError) (s : Result (Unit {0}) DecodeError)
-    → ReadsFrontBy view f.encodes old r new → Keeps r old new → MatchResult r (λ _. IsOk s) (λ e. s ≡ Err e) → AnswersWhether (EncodesSome f) old s new
+pub read_surely : {X Y : Type 0} (view : X → Y) (f : Format Y) (old new : Place) (r : Result X DecodeError)
+    (s : Result (Unit {0}) DecodeError)
+    → ReadsFrontBy view f.encodes old r new → Keeps r old new → MatchResult r (λ _. IsOk s) (λ e. s ≡ Err e) →
+    AnswersWhether (EncodesSome f) old s new
 read_surely view f old new (Ok x) s a k h = read_or_memory view f old new (Ok x) s a k h
 read_surely view f old new (Err e) s a k h = read_or_memory view f old new (Err e) s (certainly e a.1) k h
 
 -- of a reader whose value isn't any
-pub read_itself : (f : Format (Unit {0})) (old new : Place) (r : Result (Unit {0}) DecodeError) → ReadsFrontBy (λ x. x) f.encodes old r new → Keeps r old new → AnswersWhether (EncodesSome f) old r new
+pub read_itself : (f : Format (Unit {0})) (old new : Place) (r : Result (Unit {0}) DecodeError) →
+    ReadsFrontBy (λ x. x) f.encodes old r new → Keeps r old new → AnswersWhether (EncodesSome f) old r new
 read_itself f old new (Ok u) a k = read_surely (λ x. x) f old new (Ok u) (Ok u) a k refl
 read_itself f old new (Err e) a k = read_surely (λ x. x) f old new (Err e) (Err e) a k refl
 
 -- ---- stops
 
 -- a stop for a fault other than of memory
-pub stops_for : (P : Part → ℕ → Type 0) (wanted : Part) (octet : ℕ) (fault : DecodeError) (s : Stop) → IsStop (λ stop from. (stop ≡ wanted) × (from ≡ octet) × (fault ≢ decoding.Memory)) s
+pub stops_for : (P : Part → ℕ → Type 0) (wanted : Part) (octet : ℕ) (fault : DecodeError) (s : Stop) →
+    IsStop (λ stop from. (stop ≡ wanted) × (from ≡ octet) × (fault ≢ decoding.Memory)) s
     → (fault ≢ decoding.Memory → P wanted octet) → IsStop P s
 stops_for P wanted octet fault (At stop from) is so = subst (λ (p : Part). P p from) (sym is.0) (subst (P wanted) (sym is.1) (so is.2))
 stops_for P wanted octet fault Memory is so = tt
@@ -154,26 +175,32 @@ stops_so P Q (At stop octet) is so = so stop octet is
 stops_so P Q Memory is so = tt
 
 -- an answer that is passed on
-pub errs_so : {X : Type 0} (P Q : Part → ℕ → Type 0) (r : Result X Stop) → IfErr r (IsStop P) → ((stop : Part) (octet : ℕ) → P stop octet → Q stop octet) → IfErr r (IsStop Q)
+pub errs_so : {X : Type 0} (P Q : Part → ℕ → Type 0) (r : Result X Stop) → IfErr r (IsStop P) →
+    ((stop : Part) (octet : ℕ) → P stop octet → Q stop octet) → IfErr r (IsStop Q)
 errs_so P Q (Ok x) is so = tt
 errs_so P Q (Err s) is so = stops_so P Q s is so
 
 -- an error that is passed on is a stop of another sort
-pub passed : {X : Type 0} (P Q : Part → ℕ → Type 0) (r : Result X Stop) (s : Stop) → r ≡ Err s → IsStop P s → ((stop : Part) (octet : ℕ) → P stop octet → Q stop octet) → IfErr r (IsStop Q)
+pub passed : {X : Type 0} (P Q : Part → ℕ → Type 0) (r : Result X Stop) (s : Stop) → r ≡ Err s → IsStop P s →
+    ((stop : Part) (octet : ℕ) → P stop octet → Q stop octet) → IfErr r (IsStop Q)
 passed {X} P Q r s same is so = subst (λ (t : Result X Stop). IfErr t (IsStop Q)) (sym same) (stops_so P Q s is so)
 
 -- ---- fields, one after the other
 
-module _ (fields : List Field) (i : ℕ) (d : Field) (old mid : Place) (low : i < length fields) (read : Passes (AreFields (take i fields)) old mid) where
+module _ (fields : List Field) (i : ℕ) (d : Field) (old mid : Place) (low : i < length fields)
+    (read : Passes (AreFields (take i fields)) old mid) where
   -- one more was read
   pub field_read : (new : Place) → Passes (IsField (get_or fields i d)) mid new → Passes (AreFields (take (i + 1) fields)) old new
   field_read new p =
       let here = get_or fields i d in
-      let more = goes_on (AreFields (take i fields)) (IsField here) (AreFields (take i fields ++ here ∷ [])) old mid new (λ a b are is. fields_more (take i fields) here a b are is) read p in
+      let more = goes_on (AreFields (take i fields)) (IsField here) (AreFields (take i fields ++ here ∷ [])) old mid
+      new (λ a b are is. fields_more (take i fields) here a b are is) read p in
       subst (λ (fs : List Field). Passes (AreFields fs) old new) (sym (take_more fields i d low)) more
 
   -- the next one isn't there
-  pub field_stops : (stop : Part) (octet : ℕ) → StopsBefore (IsField (get_or fields i d)) (part.Field (get_or fields i d)) mid stop octet → StopsAmong fields old stop octet
+  pub field_stops : (stop : Part) (octet : ℕ) →
+      StopsBefore (IsField (get_or fields i d)) (part.Field (get_or fields i d)) mid stop octet →
+      StopsAmong fields old stop octet
   field_stops stop octet s = record {
     before = take i fields;
     here = get_or fields i d;
@@ -187,7 +214,8 @@ module _ (fields : List Field) (i : ℕ) (d : Field) (old mid : Place) (low : i 
 -- ---- revoked certificates
 
 -- entries in their SEQUENCE, and none
-pub entries_are : (es : List Entry) (content text : List ℕ) → AreEntries es content → IsEnc SEQUENCE content text → EncodesSome revoked_format text
+pub entries_are : (es : List Entry) (content text : List ℕ) → AreEntries es content → IsEnc SEQUENCE content text →
+    EncodesSome revoked_format text
 unfolding revoked_format
 entries_are es content text are enc =
     let r : Revoked = record { entries = es; octets = content } in
@@ -204,7 +232,8 @@ oks_so P Q (Err e) p so = tt
 
 -- ---- values that are opened
 
-pub opens_at : (tag : ℕ) (old inner new : Place) → old.from ≤ old.to → old.to ≤ length old.source → new.from ≤ new.to → inner.from ≤ inner.to → MovesOn old new → IsWithin inner old → EndsAt inner new
+pub opens_at : (tag : ℕ) (old inner new : Place) → old.from ≤ old.to → old.to ≤ length old.source →
+    new.from ≤ new.to → inner.from ≤ inner.to → MovesOn old new → IsWithin inner old → EndsAt inner new
     → Begins (IsEnc tag) (remaining old) (remaining inner) (remaining new) → Opens tag old inner new
 opens_at tag old inner new order within later inner_order moves inside ends begins = record {
   value = took (IsEnc tag (remaining inner)) old new begins.text order within later moves begins.encoded begins.parts;
@@ -227,6 +256,7 @@ holds_anyway P (Err e) p = tt
 pub opens_some : (tag : ℕ) (at inner next : Place) → Opens tag at inner next → next.from ≡ at.from → ⊥
 opens_some tag at inner next opens same =
     let begins = enc_begins tag (remaining inner) (slice_range at.source at.from next.from) opens.value.text in
-    let none : slice_range at.source at.from next.from ≡ [] = ap (λ (n : ℕ). slice_range at.source at.from n) same ∙ no_slice at.source at.from in
+    let none : slice_range at.source at.from next.from ≡ [] = ap (λ (n : ℕ). slice_range at.source at.from n) same ∙
+    no_slice at.source at.from in
     let clash : [] ≡ tag ∷ begins.0 = sym none ∙ begins.1 in
     cc

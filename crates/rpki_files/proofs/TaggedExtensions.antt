@@ -23,24 +23,30 @@ module _ (is_list : Bool) (octets : List ℕ) (tag : ℕ) (tag_is : tag ≡ exte
 
   -- it is, and the second one tells
   pub tagged_with : (tagged : List ℕ) → Means (IsEnc tag) tagged octets → (found : Option Place)
-      → MatchOption found ((content : List ℕ) → Means (IsEnc SEQUENCE) content tagged → ⊥) (λ inside. Means (IsEnc SEQUENCE) (remaining inside) tagged)
+      → MatchOption found ((content : List ℕ) → Means (IsEnc SEQUENCE) content tagged → ⊥)
+      (λ inside. Means (IsEnc SEQUENCE) (remaining inside) tagged)
       → FindsElements is_list octets found
-  tagged_with tagged opens (Some inside) means = (tagged, subst (λ (t : ℕ). Means (IsEnc t) tagged octets) tag_is opens, (remaining inside, means, refl))
+  tagged_with tagged opens (Some inside) means =
+      (tagged, subst (λ (t : ℕ). Means (IsEnc t) tagged octets) tag_is opens, (remaining inside, means, refl))
   tagged_with tagged opens None none = λ content has.
       let here = subst (λ (t : ℕ). Means (IsEnc t) tagged octets) tag_is opens in
-      none has.2.0 (subst (λ (o : List ℕ). Means (IsEnc SEQUENCE) has.2.0 o) (one_content (extensions_tag is_list) has.0 tagged octets has.1 here) has.2.1)
+      none has.2.0 (subst (λ (o : List ℕ). Means (IsEnc SEQUENCE) has.2.0 o)
+      (one_content (extensions_tag is_list) has.0 tagged octets has.1 here) has.2.1)
 
 module _ (is_list : Bool) (Are : List ℕ → Type 0) (octets : List ℕ) where
   -- a test of what stands there
-  pub elements_are : (elements : List ℕ) (holds : Bool) → ExtensionsAre is_list (λ e. e ≡ elements) octets → IsTrue holds ↔ Are elements → IsTrue holds ↔ ExtensionsAre is_list Are octets
+  pub elements_are : (elements : List ℕ) (holds : Bool) → ExtensionsAre is_list (λ e. e ≡ elements) octets →
+      IsTrue holds ↔ Are elements → IsTrue holds ↔ ExtensionsAre is_list Are octets
   elements_are elements holds has says = (
     (λ yes. (has.0, has.1, (has.2.0, has.2.1, subst Are (sym has.2.2) (says.0 yes)))),
     (λ are.
         let tagged = one_content (extensions_tag is_list) are.0 has.0 octets are.1 has.1 in
-        let same = one_content SEQUENCE are.2.0 has.2.0 has.0 (subst (λ (o : List ℕ). Means (IsEnc SEQUENCE) are.2.0 o) tagged are.2.1) has.2.1 in
+        let same = one_content SEQUENCE are.2.0 has.2.0 has.0
+        (subst (λ (o : List ℕ). Means (IsEnc SEQUENCE) are.2.0 o) tagged are.2.1) has.2.1 in
         says.1 (subst Are has.2.2 (subst Are same are.2.2))),
   )
 
   -- nothing stands there
-  pub none_are : ((content : List ℕ) → ExtensionsAre is_list (λ e. e ≡ content) octets → ⊥) → IsTrue false ↔ ExtensionsAre is_list Are octets
+  pub none_are : ((content : List ℕ) → ExtensionsAre is_list (λ e. e ≡ content) octets → ⊥) →
+      IsTrue false ↔ ExtensionsAre is_list Are octets
   none_are none = ((λ no. absurd (false≢true no)), (λ are. absurd (none are.2.0 (are.0, are.1, (are.2.0, are.2.1, refl)))))

@@ -9,7 +9,8 @@ use Rattle.rpki_files.specs.declared.places.Place.{Place}
 
 module _ (octets : List ℕ) (octet : ℕ) (place : Place) (at : place.octet ≡ octet) where
   -- a place tells of it
-  pub told_stop : (is_list : Bool) (p : Part) → StopsAt is_list octets p octet → place.field.now ≡ (part_text p).name → place.wanted.now ≡ (part_text p).wanted
+  pub told_stop : (is_list : Bool) (p : Part) → StopsAt is_list octets p octet →
+      place.field.now ≡ (part_text p).name → place.wanted.now ≡ (part_text p).wanted
       → IsFirstFlaw is_list p (drop octet octets) place.found → IsStopOf is_list octets p place
   told_stop is_list p stops field wanted found = (
     record {

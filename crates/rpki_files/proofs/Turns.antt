@@ -1,7 +1,8 @@
 -- Turns at values of DER that were taken stand in the octets, and those that stand there are taken;
 -- the first of a table.
 use Rattle.std.specs.Prelude.{if◌then◌else◌, IsTrue, bytes_eq, Option, Some, None}
-use Rattle.std.proofs.Common.{◌≡◌, ◌↔◌, ◌<◌, ◌+◌, ℕ, zero, suc, true, List, [], ◌∷◌, ◌++◌, length, take, drop, get_or, refl, sym, ap, subst, ◌∙◌, inl, inr, arith}
+use Rattle.std.proofs.Common.{◌≡◌, ◌↔◌, ◌<◌, ◌+◌, ℕ, zero, suc, true, List, [], ◌∷◌, ◌++◌, length, take, drop, get_or}
+use Rattle.std.proofs.Common.{refl, sym, ap, subst, ◌∙◌, inl, inr, arith}
 use Rattle.std.proofs.lemmas.List.{at_drop_more}
 use Rattle.std.proofs.lemmas.Slice.Eq.{bytes_eq-Decides}
 use Rattle.rpki_der.specs.Encoding.{Begins}
@@ -35,13 +36,18 @@ turns_take (Into tag ∷ turns) octets rest fits e =
     (v.0.0, v.0.1, begins, turns_take turns v.0.0 rest begins.encoded.octets more)
 turns_take (Named type ∷ turns) octets rest fits e =
     let named = type_octets type in
-    let r = bind_some (value_at OBJECT_IDENTIFIER octets >>= λ v. if bytes_eq v.0 named then Some v.1 else None) (λ (r : List ℕ). all_turned turns r) rest e in
-    let v = bind_some (value_at OBJECT_IDENTIFIER octets) (λ (v : List ℕ × List ℕ). if bytes_eq v.0 named then Some v.1 else None) r.0 r.1 in
+    let r = bind_some (value_at OBJECT_IDENTIFIER octets >>= λ v. if bytes_eq v.0 named then Some v.1 else None)
+    (λ (r : List ℕ). all_turned turns r) rest e in
+    let v = bind_some (value_at OBJECT_IDENTIFIER octets)
+    (λ (v : List ℕ × List ℕ). if bytes_eq v.0 named then Some v.1 else None) r.0 r.1 in
     let begins = (value_reads OBJECT_IDENTIFIER).takes octets v.0.0 v.0.1 fits v.1 in
     let both = if_some (bytes_eq v.0.0 named) v.0.1 r.0 v.2 in
     let is : v.0.0 ≡ named = (bytes_eq-Decides v.0.0 named).0 both.0 in
-    let more = ap (all_turned turns) both.1 ∙ r.2 in
-    (v.0.1, subst (λ (content : List ℕ). Begins (IsEnc OBJECT_IDENTIFIER) octets content v.0.1) is begins, turns_take turns v.0.1 rest (AreOctets-after octets begins.text v.0.1 begins.parts fits) more)
+    let more = ap (all_turned turns) both.1 ∙ r.2 in (
+      v.0.1,
+      subst (λ (content : List ℕ). Begins (IsEnc OBJECT_IDENTIFIER) octets content v.0.1) is begins,
+      turns_take turns v.0.1 rest (AreOctets-after octets begins.text v.0.1 begins.parts fits) more,
+    )
 
 -- a value that stands there is read
 read_there : (tag : ℕ) (octets content rest : List ℕ) → Begins (IsEnc tag) octets content rest → value_at tag octets ≡ Some (content, rest)
@@ -63,14 +69,16 @@ turns_again (Named type ∷ turns) octets (more, begins, stand) =
     (further.0, rw (read_there OBJECT_IDENTIFIER octets (type_octets type) more begins, same) further.1)
 
 -- all turns were taken
-pub turns_taken : (turns : List Turn) (octets rest : List ℕ) → AreOctets octets → Some rest ≡ all_turned turns octets → IsTrue true ↔ BeginSo turns octets
+pub turns_taken : (turns : List Turn) (octets rest : List ℕ) → AreOctets octets →
+    Some rest ≡ all_turned turns octets → IsTrue true ↔ BeginSo turns octets
 turns_taken turns octets rest fits e = ((λ yes. turns_take turns octets rest fits (sym e)), (λ stand. refl))
 
 -- one wasn't
 pub turns_not_taken : (turns : List Turn) (octets : List ℕ) → None ≡ all_turned turns octets → BeginSo turns octets → ⊥
 turns_not_taken turns octets e stand = let r = turns_again turns octets stand in nothing r.0 (e ∙ r.1)
 
-module _ (turns : List Turn) (octets old : List ℕ) (i : ℕ) (d : Turn) (low : i < length turns) (so_far : all_turned (drop i turns) old ≡ all_turned turns octets) where
+module _ (turns : List Turn) (octets old : List ℕ) (i : ℕ) (d : Turn) (low : i < length turns)
+    (so_far : all_turned (drop i turns) old ≡ all_turned turns octets) where
   here : all_turned (drop i turns) old ≡ (turned (get_or turns i d) old >>= λ rest. all_turned (drop (i + 1) turns) rest)
   here = at_drop_more (λ (ts : List Turn). all_turned ts old) turns i d low
 
@@ -80,13 +88,16 @@ module _ (turns : List Turn) (octets old : List ℕ) (i : ℕ) (d : Turn) (low :
 
   -- the next one can't be taken
   pub turn_stops : None ≡ turned (get_or turns i d) old → BeginSo turns octets → ⊥
-  turn_stops e = turns_not_taken turns octets (sym (here ∙ ap (λ (o : Option (List ℕ)). o >>= λ rest. all_turned (drop (i + 1) turns) rest) (sym e)) ∙ so_far)
+  turn_stops e = turns_not_taken turns octets
+      (sym (here ∙ ap (λ (o : Option (List ℕ)). o >>= λ rest. all_turned (drop (i + 1) turns) rest) (sym e)) ∙
+      so_far)
 
 -- ---- the first of a table
 
 module _ {X : Type 0} (P : X → Type 0) where
   -- an item that has the property, where none before it has
-  pub found_at : (xs : List X) (i : ℕ) (d : X) → i < length xs → IsFirstOf P (take i xs) None → P (get_or xs i d) → IsFirstOf P xs (Some (get_or xs i d))
+  pub found_at : (xs : List X) (i : ℕ) (d : X) → i < length xs → IsFirstOf P (take i xs) None → P (get_or xs i d) →
+      IsFirstOf P xs (Some (get_or xs i d))
   found_at [] i d low none has = absurd (omega arith)
   found_at (x ∷ xs) zero d low none has = inl (has, refl)
   found_at (x ∷ xs) (suc i) d low (inl (is, e)) has = absurd (nothing x e)

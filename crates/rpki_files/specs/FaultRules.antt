@@ -13,7 +13,8 @@ use Rattle.rpki_parts.specs.declared.key.PublicKeyFormat.TheVariants.{Rsa, Ecdsa
 use Rattle.rpki_crl.specs.declared.revocation_error.RevocationError.{RevocationError}
 use Rattle.rpki_keys.specs.declared.tal.tal_error.TalError.{TalError}
 use Rattle.rpki_cert.specs.declared.verification_error.VerificationError.{VerificationError}
-use Rattle.rpki_files.specs.FaultTable.{FaultFields, field_number, inspection_fault, locator_fault, part_numbered, reading_fault, revocation_fault, fault_named, section_in, verification_fault}
+use Rattle.rpki_files.specs.FaultTable.{FaultFields, field_number, inspection_fault, locator_fault, part_numbered}
+use Rattle.rpki_files.specs.FaultTable.{reading_fault, revocation_fault, fault_named, section_in, verification_fault}
 use Rattle.rpki_files.specs.declared.faults.FaultKind.TheVariants as kind
 use Rattle.rpki_files.specs.PolicyPresence.{HasPolicies, HasPurposes}
 use Rattle.rpki_files.specs.declared.rules.Rule.{Rule}

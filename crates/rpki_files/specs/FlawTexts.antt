@@ -1,7 +1,9 @@
 -- What is told of what is found where reading stops: a table, in the order in which the types name
 -- them.
 use Rattle.std.specs.Prelude.{ℕ, List, [], ◌∷◌, ◌++◌, codes, ◌==◌, if◌then◌else◌}
-use Rattle.rpki_der.specs.Tags.{BIT_STRING, BOOLEAN, CONTEXT_CONSTRUCTED, GENERALIZED_TIME, INTEGER, NULL, OBJECT_IDENTIFIER, OCTET_STRING, PRINTABLE_STRING, SEQUENCE, SET, UTC_TIME, UTF8_STRING}
+use Rattle.rpki_der.specs.Tags.{BIT_STRING, BOOLEAN, CONTEXT_CONSTRUCTED, GENERALIZED_TIME, INTEGER, NULL}
+use Rattle.rpki_der.specs.Tags.{OBJECT_IDENTIFIER, OCTET_STRING, PRINTABLE_STRING, SEQUENCE, SET, UTC_TIME}
+use Rattle.rpki_der.specs.Tags.{UTF8_STRING}
 use Rattle.rpki_files.specs.declared.flaws.ExtensionFlaw.{ExtensionFlaw}
 use Rattle.rpki_files.specs.declared.flaws.ExtensionFlaw.TheVariants.{Critical, NotCritical, OtherContent, Second}
 use Rattle.rpki_files.specs.declared.flaws.Flaw.{Flaw}

@@ -1,11 +1,15 @@
 -- The kinds of extensions that certificates and lists know, by their identifiers.
-use Rattle.std.specs.Prelude.{◌≡◌, ◌⊎◌, ℕ, Bool, true, false, if◌then◌else◌, List, [], ◌∷◌, ◌++◌, bytes_eq, codes, Option, Some, None, Result, Ok, Err}
+use Rattle.std.specs.Prelude.{◌≡◌, ◌⊎◌, ℕ, Bool, true, false, if◌then◌else◌, List, [], ◌∷◌, ◌++◌, bytes_eq, codes}
+use Rattle.std.specs.Prelude.{Option, Some, None, Result, Ok, Err}
 use Rattle.rpki_blocks.specs.Addresses.{IsIPAddrBlocks}
 use Rattle.rpki_der.specs.declared.error.DecodeError.{DecodeError}
 use Rattle.rpki_der.specs.declared.error.Field.{Field}
 use Rattle.rpki_der.specs.declared.error.Field.TheVariants as field
 use Rattle.rpki_der.specs.Encoding.{Means}
-use Rattle.rpki_ext.specs.ExtensionKinds.{basic_constraints, subject_key_identifier, authority_key_identifier, key_usage, extended_key_usage, crl_distribution_points, authority_information_access, subject_information_access, certificate_policies, ip_resources, as_resources, crl_number}
+use Rattle.rpki_ext.specs.ExtensionKinds.{basic_constraints, subject_key_identifier, authority_key_identifier}
+use Rattle.rpki_ext.specs.ExtensionKinds.{key_usage, extended_key_usage, crl_distribution_points}
+use Rattle.rpki_ext.specs.ExtensionKinds.{authority_information_access, subject_information_access}
+use Rattle.rpki_ext.specs.ExtensionKinds.{certificate_policies, ip_resources, as_resources, crl_number}
 use Rattle.rpki_ext.specs.Kinds.{Flag, IsFlagFor, required}
 use Rattle.rpki_blocks.specs.declared.overclaim.Overclaim.TheVariants.{Refuse, Trim}
 use Rattle.rpki_der.specs.Place.{Rejects}

@@ -2,7 +2,8 @@
 -- octet of the file. What stands before that octet was read as the parts before; from there on no
 -- value of the part begins, or the one that begins may not stand there (RFC 5280 4.1, 5.1, RFC 6487
 -- 4, 5).
-use Rattle.std.specs.Prelude.{◌≡◌, ◌≢◌, ◌≤◌, ◌<◌, ◌⊎◌, ℕ, Bool, true, false, List, [], ◌∷◌, ◌++◌, Contains, drop, length, map, slice_range, Result, Ok, Err}
+use Rattle.std.specs.Prelude.{◌≡◌, ◌≢◌, ◌≤◌, ◌<◌, ◌⊎◌, ℕ, Bool, true, false, List, [], ◌∷◌, ◌++◌, Contains, drop}
+use Rattle.std.specs.Prelude.{length, map, slice_range, Result, Ok, Err}
 use Rattle.rpki_parts.specs.Algorithms.{Algorithm, algorithm_format}
 use Rattle.rpki_der.specs.BasicFormats.{serial_format, time_format}
 use Rattle.rpki_ext.specs.CertificateExtensions.{ExtensionFields}

@@ -15,7 +15,8 @@ no_members : (ms : List Member) → AllZip IsMember ms [] → ms ≡ []
 no_members [] h = refl
 no_members (m ∷ ms) h = absurd h
 
-module _ (x : Context) (asked : RevocationChecks) (t : NamedTal) (anchor : List ℕ) (r : ResourceFields) (leads : LeadsTo x asked (at_anchor t anchor) [] r) where
+module _ (x : Context) (asked : RevocationChecks) (t : NamedTal) (anchor : List ℕ) (r : ResourceFields)
+    (leads : LeadsTo x asked (at_anchor t anchor) [] r) where
   abbrev pub top : CertFields
   top = leads.path.anchor
 
@@ -27,7 +28,8 @@ module _ (x : Context) (asked : RevocationChecks) (t : NamedTal) (anchor : List 
   pub anchor_top : r.cert ≡ top
   anchor_top =
       let none = no_members leads.path.below leads.path_of.members in
-      leads.held.cert_is ∙ ap (λ (ms : List Member). get_or (top ∷ map (λ (m : Member). m.cert) ms) (length ms) top) none
+      leads.held.cert_is ∙ ap (λ (ms : List Member). get_or (top ∷ map (λ (m : Member). m.cert) ms) (length ms) top)
+      none
 
   -- there is no other
   pub anchor_is : IsUnambiguous IsCertificate → (c : CertFields) → Means IsCertificate c anchor → r.cert ≡ c

@@ -1,7 +1,8 @@
 -- What is told below an issuer, and that it is sound: each verdict right, on what is let in, and few.
 use Rattle.std.specs.List.{AllByRecursion}
 use Rattle.std.specs.Prelude.{Option, None, Some, IsOk, IsErr, Contains, IfOk, Result, Ok, Err}
-use Rattle.std.proofs.Common.{◌≡◌, ◌⊎◌, ◌+◌, ◌-◌, ◌<◌, ◌≤◌, ℕ, zero, suc, List, [], ◌∷◌, ◌++◌, length, refl, sym, subst, ap, ◌∙◌, inl, inr, append_assoc, arith}
+use Rattle.std.proofs.Common.{◌≡◌, ◌⊎◌, ◌+◌, ◌-◌, ◌<◌, ◌≤◌, ℕ, zero, suc, List, [], ◌∷◌, ◌++◌, length, refl, sym}
+use Rattle.std.proofs.Common.{subst, ap, ◌∙◌, inl, inr, append_assoc, arith}
 use Rattle.std.proofs.lemmas.List.{append-nil, get_or_past}
 use Rattle.std.proofs.lemmas.List.Elements.{Contains-append_left, Contains-append_right}
 use Rattle.rpki_der.specs.Values.{IsUnambiguous, enc}
@@ -22,7 +23,8 @@ use Rattle.rpki_folder.specs.declared.bounds.Ended.{Ended}
 use Rattle.rpki_folder.specs.declared.bounds.Ended.TheVariants.{Whole, TooDeep, OutOfSteps}
 use Rattle.rpki_folder.specs.Folders.{octets_at, NamesSigner}
 use Rattle.rpki_folder.specs.IssuerLists.{ArePicked}
-use Rattle.rpki_folder.specs.Walks.{Root, members_at, LeadsTo, Told, told, IsRight, IsTold, IsVerdictTold, StandsAt, worse, Covers, AreAdmitted, IsLetIn, IsChildOf, TakesStep, AreFew}
+use Rattle.rpki_folder.specs.Walks.{Root, members_at, LeadsTo, Told, told, IsRight, IsTold, IsVerdictTold, StandsAt}
+use Rattle.rpki_folder.specs.Walks.{worse, Covers, AreAdmitted, IsLetIn, IsChildOf, TakesStep, AreFew}
 use Rattle.rpki_folder.specs.Walks.Steps.{IsAnswer, IsOutcome, IsToldOf}
 use Rattle.rpki_folder.proofs.PathsDown.{members_next, leads_further, one_holder}
 use Rattle.rpki_folder.proofs.Outcomes.{right_answer}
@@ -30,31 +32,41 @@ use Rattle.rpki_folder.proofs.Outcomes.{right_answer}
 -- ---- lists
 
 -- what is told stays told
-pub told_more : (ts more : List Told) (above : List ℕ) (place : ℕ) → IsTold ts above place → IsTold (ts ++ more) above place
+pub told_more : (ts more : List Told) (above : List ℕ) (place : ℕ) → IsTold ts above place →
+    IsTold (ts ++ more) above place
 told_more ts more above place h = let c = Contains-append_left ts more h.1 (h.0, h.2, h.3) in (c.0, h.1, c.1, c.2, h.4)
 
-pub told_behind : (ts more : List Told) (above : List ℕ) (place : ℕ) → IsTold more above place → IsTold (ts ++ more) above place
-told_behind ts more above place h = let c = Contains-append_right ts more h.1 (h.0, h.2, h.3) in (c.0, h.1, c.1, c.2, h.4)
+pub told_behind : (ts more : List Told) (above : List ℕ) (place : ℕ) → IsTold more above place →
+    IsTold (ts ++ more) above place
+told_behind ts more above place h = let c = Contains-append_right ts more h.1 (h.0, h.2, h.3) in
+    (c.0, h.1, c.1, c.2, h.4)
 
 -- a verdict that is among these, and accepts
-pub told_here : (ts : List Told) (above : List ℕ) (place : ℕ) (verdict : Result Judged PathFault) → Contains ts (told above place verdict) → IsOk verdict → IsTold ts above place
+pub told_here : (ts : List Told) (above : List ℕ) (place : ℕ) (verdict : Result Judged PathFault) →
+    Contains ts (told above place verdict) → IsOk verdict → IsTold ts above place
 told_here ts above place verdict at ok = (at.0, told above place verdict, at.1, at.2, (refl, refl, ok))
 
 -- so does a verdict
-pub has_more : (ts more : List Told) (above : List ℕ) (place : ℕ) → IsVerdictTold ts above place → IsVerdictTold (ts ++ more) above place
+pub has_more : (ts more : List Told) (above : List ℕ) (place : ℕ) → IsVerdictTold ts above place →
+    IsVerdictTold (ts ++ more) above place
 has_more ts more above place h = let c = Contains-append_left ts more h.1 (h.0, h.2, h.3) in (c.0, h.1, c.1, c.2, h.4)
 
-pub has_behind : (ts more : List Told) (above : List ℕ) (place : ℕ) → IsVerdictTold more above place → IsVerdictTold (ts ++ more) above place
-has_behind ts more above place h = let c = Contains-append_right ts more h.1 (h.0, h.2, h.3) in (c.0, h.1, c.1, c.2, h.4)
+pub has_behind : (ts more : List Told) (above : List ℕ) (place : ℕ) → IsVerdictTold more above place →
+    IsVerdictTold (ts ++ more) above place
+has_behind ts more above place h = let c = Contains-append_right ts more h.1 (h.0, h.2, h.3) in
+    (c.0, h.1, c.1, c.2, h.4)
 
-pub has_here : (ts : List Told) (above : List ℕ) (place : ℕ) (verdict : Result Judged PathFault) → Contains ts (told above place verdict) → IsVerdictTold ts above place
+pub has_here : (ts : List Told) (above : List ℕ) (place : ℕ) (verdict : Result Judged PathFault) →
+    Contains ts (told above place verdict) → IsVerdictTold ts above place
 has_here ts above place verdict at = (at.0, told above place verdict, at.1, at.2, (refl, refl))
 
-pub all_append : {X : Type 0} (P : X → Type 0) (xs ys : List X) → AllByRecursion P xs → AllByRecursion P ys → AllByRecursion P (xs ++ ys)
+pub all_append : {X : Type 0} (P : X → Type 0) (xs ys : List X) → AllByRecursion P xs → AllByRecursion P ys →
+    AllByRecursion P (xs ++ ys)
 all_append P [] ys p q = q
 all_append P (x ∷ xs) ys p q = (p.0, all_append P xs ys p.1 q)
 
-pub all_weaker : {X : Type 0} (P Q : X → Type 0) → ((x : X) → P x → Q x) → (xs : List X) → AllByRecursion P xs → AllByRecursion Q xs
+pub all_weaker : {X : Type 0} (P Q : X → Type 0) → ((x : X) → P x → Q x) → (xs : List X) → AllByRecursion P xs →
+    AllByRecursion Q xs
 all_weaker P Q weaker [] h = tt
 all_weaker P Q weaker (x ∷ xs) h = (weaker x h.0, all_weaker P Q weaker xs h.1)
 
@@ -134,8 +146,11 @@ there certs c place stands = elim (less-or-not place (length certs)) [
 ]
 
 -- a child names its issuer's key
-pub child_names : (verifies : Verifies) (issuer : CertFields) (certs : List (List ℕ)) (place : ℕ) → IsChildOf verifies issuer certs place → NamesSigner issuer.fields.extensions.subject_key_identifier (octets_at certs place)
-child_names verifies issuer certs place child = record { cert = child.cert; begins = child.stands; names = child.names_key }
+pub child_names : (verifies : Verifies) (issuer : CertFields) (certs : List (List ℕ)) (place : ℕ) →
+    IsChildOf verifies issuer certs place →
+    NamesSigner issuer.fields.extensions.subject_key_identifier (octets_at certs place)
+child_names verifies issuer certs place child =
+    record { cert = child.cert; begins = child.stands; names = child.names_key }
 
 -- ---- few
 
@@ -144,8 +159,11 @@ module _ {X : Type 0} (P : X → Type 0) where
   abbrev pub AtMost : ℕ → List X → Type 0
   AtMost n xs = (those : List X) → ArePicked P xs those → length those ≤ n
 
-  picked_split : (xs ys those : List X) → ArePicked P (xs ++ ys) those → (ones : List X) × (bs : List X) × ArePicked P xs ones × ArePicked P ys bs × (length those ≡ length ones + length bs)
-  picked_split [] ys those h = let count : length those ≡ length {A = X} [] + length those = omega arith in ([], those, refl, h, count)
+  picked_split : (xs ys those : List X) → ArePicked P (xs ++ ys) those →
+      (ones : List X) × (bs : List X) × ArePicked P xs ones × ArePicked P ys bs ×
+      (length those ≡ length ones + length bs)
+  picked_split [] ys those h = let count : length those ≡ length {A = X} [] + length those = omega arith in
+      ([], those, refl, h, count)
   picked_split (x ∷ xs) ys those (inl (rest, p, is, h)) =
       let r = picked_split xs ys rest h in
       let count : length those ≡ length (x ∷ r.0) + length r.1 = omega (arith, ap length is, r.4) in
@@ -163,7 +181,8 @@ module _ {X : Type 0} (P : X → Type 0) where
 
   picked_length : (xs those : List X) → ArePicked P xs those → length those ≤ length xs
   picked_length [] those is = omega (arith, ap length is)
-  picked_length (x ∷ xs) those (inl (rest, p, is, h)) = let r = picked_length xs rest h in omega (arith, ap length is, r)
+  picked_length (x ∷ xs) those (inl (rest, p, is, h)) = let r = picked_length xs rest h in
+      omega (arith, ap length is, r)
   picked_length (x ∷ xs) those (inr (not, h)) = let r = picked_length xs those h in omega (arith, r)
 
   pub most_all : (n : ℕ) (xs : List X) → length xs ≤ n → AtMost n xs
@@ -180,17 +199,23 @@ module _ {X : Type 0} (P : X → Type 0) where
 -- ---- below an issuer
 
 module _ (x : Context) (asked : RevocationChecks) (issuer : ResourceFields) where
-  issued : (kind : Kind) (octets : List ℕ) (verdict : Result Judged PathFault) (ca : ResourceFields) → IsAnswer x asked issuer octets kind verdict → kind ≡ Authority → verdict ≡ Ok (record { holder = ca; router = None }) → IsIssuedBy x asked issuer Authority octets ca
+  issued : (kind : Kind) (octets : List ℕ) (verdict : Result Judged PathFault) (ca : ResourceFields) →
+      IsAnswer x asked issuer octets kind verdict → kind ≡ Authority →
+      verdict ≡ Ok (record { holder = ca; router = None }) → IsIssuedBy x asked issuer Authority octets ca
   issued kind octets verdict ca answer is ok =
       let there : IsAnswer x asked issuer octets Authority (Ok (record { holder = ca; router = None })) =
-      subst (λ (k : Kind). IsAnswer x asked issuer octets k (Ok (record { holder = ca; router = None }))) is (subst (λ (v : Result Judged PathFault). IsAnswer x asked issuer octets kind v) ok answer) in
+      subst (λ (k : Kind). IsAnswer x asked issuer octets k (Ok (record { holder = ca; router = None }))) is
+      (subst (λ (v : Result Judged PathFault). IsAnswer x asked issuer octets kind v) ok answer) in
       there.0
 
   -- an accepted CA stands at its place
-  pub ca_stands : (certs : List (List ℕ)) (place : ℕ) (verdict : Result Judged PathFault) (ca : ResourceFields) → IsOutcome x asked issuer (octets_at certs place) verdict (Some ca) → StandsAt certs place ca.cert
-  ca_stands certs place verdict ca o = (issued o.kind (octets_at certs place) verdict ca o.answer o.goes_on.0 o.goes_on.1).begins
+  pub ca_stands : (certs : List (List ℕ)) (place : ℕ) (verdict : Result Judged PathFault) (ca : ResourceFields) →
+      IsOutcome x asked issuer (octets_at certs place) verdict (Some ca) → StandsAt certs place ca.cert
+  ca_stands certs place verdict ca o =
+      (issued o.kind (octets_at certs place) verdict ca o.answer o.goes_on.0 o.goes_on.1).begins
 
-module _ (x : Context) (asked : RevocationChecks) (admits : List ℕ → ℕ → Type 0) (root : Root) (certs : List (List ℕ)) (above : List ℕ) where
+module _ (x : Context) (asked : RevocationChecks) (admits : List ℕ → ℕ → Type 0) (root : Root)
+    (certs : List (List ℕ)) (above : List ℕ) where
   -- what was told is right, on what is let in, and no more of it takes a step
   pub record IsSound (n : ℕ) (ts : List Told) : Type 0 where
     pub right : AllByRecursion (IsRight x asked root certs) ts
@@ -208,7 +233,12 @@ module _ (x : Context) (asked : RevocationChecks) (admits : List ℕ → ℕ →
   }
 
   pub sound_more : (m n : ℕ) (ts : List Told) → m ≤ n → IsSound m ts → IsSound n ts
-  sound_more m n ts low h = record { right = h.right; let_in = h.let_in; few = most_more (TakesStep x asked root certs) m n ts low h.few }
+  sound_more m n ts low h =
+      record {
+        right = h.right;
+        let_in = h.let_in;
+        few = most_more (TakesStep x asked root certs) m n ts low h.few;
+      }
 
   -- where nothing was told
   pub no_sound : (n : ℕ) → IsSound n []
@@ -218,47 +248,70 @@ module _ (x : Context) (asked : RevocationChecks) (admits : List ℕ → ℕ →
   head_admitted place between h = h.0
 
   -- what is let in below a CA that is
-  pub let_in_above : (place : ℕ) → admits above place → (t : Told) → IsLetIn admits (above ++ place ∷ []) t → IsLetIn admits above t
+  pub let_in_above : (place : ℕ) → admits above place → (t : Told) → IsLetIn admits (above ++ place ∷ []) t →
+      IsLetIn admits above t
   let_in_above place admitted t h = (place ∷ h.0, h.1 ∙ append_assoc above (place ∷ []) h.0, (admitted, h.2))
 
-  module _ (law : IsUnambiguous IsCertificate) (issuer : ResourceFields) (a : LeadsTo x asked root (members_at root certs above) issuer) where
+  module _ (law : IsUnambiguous IsCertificate) (issuer : ResourceFields)
+      (a : LeadsTo x asked root (members_at root certs above) issuer) where
     -- a valid path leads to a CA that is accepted
-    pub ca_leads : (place : ℕ) (verdict : Result Judged PathFault) (ca : ResourceFields) → IsOutcome x asked issuer (octets_at certs place) verdict (Some ca) → LeadsTo x asked root (members_at root certs (above ++ place ∷ [])) ca
+    pub ca_leads : (place : ℕ) (verdict : Result Judged PathFault) (ca : ResourceFields) →
+        IsOutcome x asked issuer (octets_at certs place) verdict (Some ca) →
+        LeadsTo x asked root (members_at root certs (above ++ place ∷ [])) ca
     ca_leads place verdict ca o =
         subst (λ (l : List Candidate). LeadsTo x asked root l ca) (sym (members_next root certs above place))
-        (leads_further x asked root law (members_at root certs above) issuer a Authority (octets_at certs place) ca (issued x asked issuer o.kind (octets_at certs place) verdict ca o.answer o.goes_on.0 o.goes_on.1))
+        (leads_further x asked root law (members_at root certs above) issuer a Authority (octets_at certs place) ca
+        (issued x asked issuer o.kind (octets_at certs place) verdict ca o.answer o.goes_on.0 o.goes_on.1))
 
     -- what was told of a place that is let in is right
-    one_right : (t : Told) → (t.above ≡ above) × ((next : Option ResourceFields) × IsOutcome x asked issuer (octets_at certs t.place) t.verdict next) → IsRight x asked root certs t
+    one_right : (t : Told) →
+        (t.above ≡ above) ×
+        ((next : Option ResourceFields) × IsOutcome x asked issuer (octets_at certs t.place) t.verdict next) →
+        IsRight x asked root certs t
     one_right t h =
         let o = h.1.1 in
         subst (λ (l : List ℕ). IsRight x asked root certs (told l t.place t.verdict)) (sym h.0)
-        (right_answer x asked root law (members_at root certs above) issuer a (octets_at certs t.place) o.kind o.says t.verdict o.answer)
+        (right_answer x asked root law (members_at root certs above) issuer a (octets_at certs t.place) o.kind
+        o.says t.verdict o.answer)
 
     one_let_in : (t : Told) → t.above ≡ above → admits above t.place → IsLetIn admits above t
     one_let_in t is admitted = ([], is ∙ sym (append-nil above), (admitted, tt))
 
     module _ (P : ℕ → Type 0) (ts : List Told) (all : AllByRecursion (IsToldOf x asked issuer certs above P) ts) where
       told_right : AllByRecursion (IsRight x asked root certs) ts
-      told_right = all_weaker (IsToldOf x asked issuer certs above P) (IsRight x asked root certs) (λ t h. one_right t (h.0, h.2)) ts all
+      told_right = all_weaker (IsToldOf x asked issuer certs above P) (IsRight x asked root certs)
+          (λ t h. one_right t (h.0, h.2)) ts all
 
       told_let_in : ((place : ℕ) → P place → admits above place) → AllByRecursion (IsLetIn admits above) ts
-      told_let_in weaker = all_weaker (IsToldOf x asked issuer certs above P) (IsLetIn admits above) (λ t h. one_let_in t h.0 (weaker t.place h.1)) ts all
+      told_let_in weaker = all_weaker (IsToldOf x asked issuer certs above P) (IsLetIn admits above)
+          (λ t h. one_let_in t h.0 (weaker t.place h.1)) ts all
 
       -- at most as many as there are
       pub sound_told : ((place : ℕ) → P place → admits above place) → (n : ℕ) → length ts ≤ n → IsSound n ts
-      sound_told weaker n few = record { right = told_right; let_in = told_let_in weaker; few = most_all (TakesStep x asked root certs) n ts few }
+      sound_told weaker n few =
+          record {
+            right = told_right;
+            let_in = told_let_in weaker;
+            few =
+                most_all (TakesStep x asked root certs) n ts few;
+          }
 
-      no_step : ((place : ℕ) → P place → IsChildOf x.verifies issuer.cert certs place → ⊥) → (t : Told) → IsToldOf x asked issuer certs above P t → TakesStep x asked root certs t → ⊥
+      no_step : ((place : ℕ) → P place → IsChildOf x.verifies issuer.cert certs place → ⊥) → (t : Told) →
+          IsToldOf x asked issuer certs above P t → TakesStep x asked root certs t → ⊥
       no_step never t h step =
-          let leads : LeadsTo x asked root (members_at root certs above) step.0 = subst (λ (l : List ℕ). LeadsTo x asked root (members_at root certs l) step.0) h.0 step.1 in
-          let one : step.0.cert ≡ issuer.cert = one_holder x asked root law (members_at root certs above) step.0 issuer leads a in
+          let leads : LeadsTo x asked root (members_at root certs above) step.0 =
+          subst (λ (l : List ℕ). LeadsTo x asked root (members_at root certs l) step.0) h.0 step.1 in
+          let one : step.0.cert ≡ issuer.cert = one_holder x asked root law (members_at root certs above) step.0
+          issuer leads a in
           never t.place h.1 (subst (λ (c : CertFields). IsChildOf x.verifies c certs t.place) one step.2)
 
       -- none, where they are on no children
-      pub sound_others : ((place : ℕ) → P place → admits above place) → ((place : ℕ) → P place → IsChildOf x.verifies issuer.cert certs place → ⊥) → IsSound 0 ts
+      pub sound_others : ((place : ℕ) → P place → admits above place) →
+          ((place : ℕ) → P place → IsChildOf x.verifies issuer.cert certs place → ⊥) → IsSound 0 ts
       sound_others weaker never = record {
         right = told_right;
         let_in = told_let_in weaker;
-        few = most_none (TakesStep x asked root certs) ts (all_weaker (IsToldOf x asked issuer certs above P) (λ t. TakesStep x asked root certs t → ⊥) (no_step never) ts all);
+        few = most_none (TakesStep x asked root certs) ts
+            (all_weaker (IsToldOf x asked issuer certs above P) (λ t. TakesStep x asked root certs t → ⊥)
+            (no_step never) ts all);
       }

@@ -1,7 +1,8 @@
 -- A path by any places of its CAs is one by the first places of their certificates.
 use Rattle.std.specs.List.{AllByRecursion, AllZip}
 use Rattle.std.specs.Prelude.{Bool, Some}
-use Rattle.std.proofs.Common.{◌≡◌, ◌<◌, ◌≤◌, ℕ, suc, List, [], ◌∷◌, ◌++◌, length, map, refl, sym, ap, subst, ◌∙◌, inl, inr, arith}
+use Rattle.std.proofs.Common.{◌≡◌, ◌<◌, ◌≤◌, ℕ, suc, List, [], ◌∷◌, ◌++◌, length, map, refl, sym, ap, subst, ◌∙◌}
+use Rattle.std.proofs.Common.{inl, inr, arith}
 use Rattle.std.proofs.lemmas.List.{append-nil, get_or_past, length-map, map-append}
 use Rattle.rpki_der.specs.Values.{IsUnambiguous, enc}
 use Rattle.rpki_der.proofs.Formats.{one_meant}
@@ -38,18 +39,29 @@ zip_length R (x ∷ xs) (y ∷ ys) h = ap suc (zip_length R xs ys h.1)
 
 module _ (names : Bool) (top : CertFields) (certs : List (List ℕ)) (table : Firsts) where
   -- what is looked at at first places alone is looked at where each place counts
-  pub let_in_all : (above places : List ℕ) → AreAdmitted (IsLookedAt names (IsFirstIn table) top certs) above places → AreAdmitted (IsLookedAt names (λ l p. Unit {0}) top certs) above places
+  pub let_in_all : (above places : List ℕ) →
+      AreAdmitted (IsLookedAt names (IsFirstIn table) top certs) above places →
+      AreAdmitted (IsLookedAt names (λ l p. Unit {0}) top certs) above places
   let_in_all above [] h = tt
-  let_in_all above (p ∷ places) h = (record { admitted = tt; named = h.0.named; no_circle = h.0.no_circle }, let_in_all (above ++ p ∷ []) places h.1)
+  let_in_all above (p ∷ places) h = (
+    record { admitted = tt; named = h.0.named; no_circle = h.0.no_circle },
+    let_in_all (above ++ p ∷ []) places h.1,
+  )
 
   -- and back, at first places
-  let_in_firsts : (above places : List ℕ) → AllByRecursion (λ (p : ℕ). first_of table p ≡ p) places → AreAdmitted (IsLookedAt names (λ l p. Unit {0}) top certs) above places → AreAdmitted (IsLookedAt names (IsFirstIn table) top certs) above places
+  let_in_firsts : (above places : List ℕ) → AllByRecursion (λ (p : ℕ). first_of table p ≡ p) places →
+      AreAdmitted (IsLookedAt names (λ l p. Unit {0}) top certs) above places →
+      AreAdmitted (IsLookedAt names (IsFirstIn table) top certs) above places
   let_in_firsts above [] firsts h = tt
-  let_in_firsts above (p ∷ places) firsts h = (record { admitted = firsts.0; named = h.0.named; no_circle = h.0.no_circle }, let_in_firsts (above ++ p ∷ []) places firsts.1 h.1)
+  let_in_firsts above (p ∷ places) firsts h = (
+    record { admitted = firsts.0; named = h.0.named; no_circle = h.0.no_circle },
+    let_in_firsts (above ++ p ∷ []) places firsts.1 h.1,
+  )
 
 -- ---- first places
 
-module _ (law : IsUnambiguous IsCertificate) (certs : List (List ℕ)) (table : Firsts) (are : AreFirstsIn certs table) where
+module _ (law : IsUnambiguous IsCertificate) (certs : List (List ℕ)) (table : Firsts)
+    (are : AreFirstsIn certs table) where
   abbrev moved : ℕ → ℕ
   moved = first_of table
 
@@ -64,7 +76,8 @@ module _ (law : IsUnambiguous IsCertificate) (certs : List (List ℕ)) (table : 
       subst (λ (d : CertFields). StandsAt certs (moved place) d) same one.2
 
   -- copies have one
-  pub first_same : (place other : ℕ) (c : CertFields) → StandsAt certs place c → StandsAt certs other c → moved place ≡ moved other
+  pub first_same : (place other : ℕ) (c : CertFields) → StandsAt certs place c → StandsAt certs other c →
+      moved place ≡ moved other
   first_same place other c here there =
       let one = first_is place (inside_at certs c place here) in
       let two = first_is other (inside_at certs c other there) in
@@ -96,7 +109,14 @@ module _ (law : IsUnambiguous IsCertificate) (certs : List (List ℕ)) (table : 
   beyond place high =
       let long = zip_length IsCertificateOctets certs are.0 are.1 in
       get_or_past table.firsts.items place place
-      (omega (arith, high, long, ap length are.2.each, length-map table.firsts.items (λ (p : ℕ). Some p), length-map are.0 (first_from 0 are.0)))
+      (omega (
+        arith,
+        high,
+        long,
+        ap length are.2.each,
+        length-map table.firsts.items (λ (p : ℕ). Some p),
+        length-map are.0 (first_from 0 are.0),
+      ))
 
   -- what stands at the first place stands there
   stood : (place : ℕ) (c : CertFields) → StandsAt certs (moved place) c → StandsAt certs place c
@@ -110,15 +130,21 @@ module _ (law : IsUnambiguous IsCertificate) (certs : List (List ℕ)) (table : 
 
   -- ---- members
 
-  members_first : (ms : List Member) (places : List ℕ) (more : List Candidate) → AllZip IsMember ms (cas_at certs places ++ more) → AllZip IsMember ms (cas_at certs (map moved places) ++ more)
+  members_first : (ms : List Member) (places : List ℕ) (more : List Candidate) →
+      AllZip IsMember ms (cas_at certs places ++ more) →
+      AllZip IsMember ms (cas_at certs (map moved places) ++ more)
   members_first ms [] more h = h
   members_first [] (p ∷ places) more h = absurd h
-  members_first (m ∷ ms) (p ∷ places) more h = (record { kind_is = h.0.kind_is; begins = stands_first p m.cert h.0.begins }, members_first ms places more h.1)
+  members_first (m ∷ ms) (p ∷ places) more h = (
+    record { kind_is = h.0.kind_is; begins = stands_first p m.cert h.0.begins },
+    members_first ms places more h.1,
+  )
 
   abbrev AreTheirFirst : List ℕ → Type 0
   AreTheirFirst places = AllByRecursion (λ (p : ℕ). moved p ≡ p) places
 
-  firsts_first : (ms : List Member) (places : List ℕ) (more : List Candidate) → AllZip IsMember ms (cas_at certs places ++ more) → AreTheirFirst (map moved places)
+  firsts_first : (ms : List Member) (places : List ℕ) (more : List Candidate) →
+      AllZip IsMember ms (cas_at certs places ++ more) → AreTheirFirst (map moved places)
   firsts_first ms [] more h = tt
   firsts_first [] (p ∷ places) more h = absurd h
   firsts_first (m ∷ ms) (p ∷ places) more h = (first_itself p m.cert h.0.begins, firsts_first ms places more h.1)
@@ -131,11 +157,16 @@ module _ (law : IsUnambiguous IsCertificate) (certs : List (List ℕ)) (table : 
       leads : LeadsTo x asked (at_anchor t anchor) (cas_at certs (map moved above) ++ more) r
       firsts : AreTheirFirst (map moved above)
 
-    leads_first : (more : List Candidate) (r : ResourceFields) → LeadsTo x asked (at_anchor t anchor) (cas_at certs above ++ more) r → LeadsFirst more r
+    leads_first : (more : List Candidate) (r : ResourceFields) →
+        LeadsTo x asked (at_anchor t anchor) (cas_at certs above ++ more) r → LeadsFirst more r
     leads_first more r h = record {
       leads = record {
         path = h.path;
-        path_of = record { anchor_begins = h.path_of.anchor_begins; members = members_first h.path.below above more h.path_of.members };
+        path_of = record {
+          anchor_begins = h.path_of.anchor_begins;
+          members =
+              members_first h.path.below above more h.path_of.members;
+        };
         is_valid = h.is_valid;
         held = h.held;
       };
@@ -143,16 +174,30 @@ module _ (law : IsUnambiguous IsCertificate) (certs : List (List ℕ)) (table : 
     }
 
     abbrev IsFirstAs : Kind → List ℕ → Judged → Type 0
-    IsFirstAs kind octets j = IsAcceptedAs x asked (at_anchor t anchor) (cas_at certs (map moved above)) kind octets j × AreTheirFirst (map moved above)
+    IsFirstAs kind octets j = IsAcceptedAs x asked (at_anchor t anchor) (cas_at certs (map moved above)) kind octets
+        j × AreTheirFirst (map moved above)
 
-    as_first : (kind : Kind) (octets : List ℕ) (j : Judged) → IsAcceptedAs x asked (at_anchor t anchor) (cas_at certs above) kind octets j → IsFirstAs kind octets j
+    as_first : (kind : Kind) (octets : List ℕ) (j : Judged) →
+        IsAcceptedAs x asked (at_anchor t anchor) (cas_at certs above) kind octets j → IsFirstAs kind octets j
     as_first Router octets j h =
-        let r = leads_first [] j.holder (subst (λ (l : List Candidate). LeadsTo x asked (at_anchor t anchor) l j.holder) (sym (append-nil (cas_at certs above))) h.0) in
-        ((subst (λ (l : List Candidate). LeadsTo x asked (at_anchor t anchor) l j.holder) (append-nil (cas_at certs (map moved above))) r.leads, h.1), r.firsts)
-    as_first Anchor octets j h = let r = leads_first (candidate Anchor octets ∷ []) j.holder h.0 in ((r.leads, h.1), r.firsts)
-    as_first Authority octets j h = let r = leads_first (candidate Authority octets ∷ []) j.holder h.0 in ((r.leads, h.1), r.firsts)
-    as_first EndEntity octets j h = let r = leads_first (candidate EndEntity octets ∷ []) j.holder h.0 in ((r.leads, h.1), r.firsts)
-    as_first Detached octets j h = let r = leads_first (candidate Detached octets ∷ []) j.holder h.0 in ((r.leads, h.1), r.firsts)
+        let r = leads_first [] j.holder
+        (subst (λ (l : List Candidate). LeadsTo x asked (at_anchor t anchor) l j.holder)
+        (sym (append-nil (cas_at certs above))) h.0) in (
+          (
+            subst (λ (l : List Candidate). LeadsTo x asked (at_anchor t anchor) l j.holder)
+                (append-nil (cas_at certs (map moved above))) r.leads,
+            h.1,
+          ),
+          r.firsts,
+        )
+    as_first Anchor octets j h = let r = leads_first (candidate Anchor octets ∷ []) j.holder h.0 in
+        ((r.leads, h.1), r.firsts)
+    as_first Authority octets j h = let r = leads_first (candidate Authority octets ∷ []) j.holder h.0 in
+        ((r.leads, h.1), r.firsts)
+    as_first EndEntity octets j h = let r = leads_first (candidate EndEntity octets ∷ []) j.holder h.0 in
+        ((r.leads, h.1), r.firsts)
+    as_first Detached octets j h = let r = leads_first (candidate Detached octets ∷ []) j.holder h.0 in
+        ((r.leads, h.1), r.firsts)
 
     module _ (place : ℕ) (reached : IsReached x asked (at_anchor t anchor) certs above place) where
       by_firsts : IsFirstAs reached.0 (octets_at certs place) reached.1
@@ -168,17 +213,29 @@ module _ (law : IsUnambiguous IsCertificate) (certs : List (List ℕ)) (table : 
           let c = reached.2.0 in
           let one = octets_at certs place in
           let other = octets_at certs (moved place) in
-          let alike = are_alike law c one other reached.2.1 (stands_first place c reached.2.1) in
-          (reached.0, reached.1, kind_alike one other alike reached.0 reached.2, accepted_alike one other alike x asked (at_anchor t anchor) (cas_at certs (map moved above)) reached.0 reached.1 by_firsts.0)
+          let alike = are_alike law c one other reached.2.1 (stands_first place c reached.2.1) in (
+            reached.0,
+            reached.1,
+            kind_alike one other alike reached.0 reached.2,
+            accepted_alike one other alike x asked (at_anchor t anchor) (cas_at certs (map moved above))
+                reached.0 reached.1 by_firsts.0,
+          )
 
       -- and a walk looks at it there
-      pub looked_firsts : (names : Bool) (top : CertFields) → AreAdmitted (IsLookedAt names (λ l p. Unit {0}) top certs) [] (above ++ place ∷ []) → AreAdmitted (IsLookedAt names (IsFirstIn table) top certs) [] (map moved above ++ moved place ∷ [])
+      pub looked_firsts : (names : Bool) (top : CertFields) →
+          AreAdmitted (IsLookedAt names (λ l p. Unit {0}) top certs) [] (above ++ place ∷ []) →
+          AreAdmitted (IsLookedAt names (IsFirstIn table) top certs) [] (map moved above ++ moved place ∷ [])
       looked_firsts names top looked =
           let there = all_looked_there moved certs certs stood names top [] (above ++ place ∷ []) looked in
           let_in_firsts names top certs table [] (map moved above ++ moved place ∷ [])
-          (all_append (λ (p : ℕ). moved p ≡ p) (map moved above) (moved place ∷ []) by_firsts.1 (first_itself place reached.2.0 reached.2.1, tt))
-          (subst (λ (l : List ℕ). AreAdmitted (IsLookedAt names (λ l p. Unit {0}) top certs) [] l) (map-append moved above (place ∷ [])) there)
+          (all_append (λ (p : ℕ). moved p ≡ p) (map moved above) (moved place ∷ []) by_firsts.1
+          (first_itself place reached.2.0 reached.2.1, tt))
+          (subst (λ (l : List ℕ). AreAdmitted (IsLookedAt names (λ l p. Unit {0}) top certs) [] l)
+          (map-append moved above (place ∷ [])) there)
 
-      pub looked_first : (names : Bool) (top : CertFields) → moved place ≡ place → AreAdmitted (IsLookedAt names (λ l p. Unit {0}) top certs) [] (above ++ place ∷ []) → AreAdmitted (IsLookedAt names (IsFirstIn table) top certs) [] (map moved above ++ place ∷ [])
+      pub looked_first : (names : Bool) (top : CertFields) → moved place ≡ place →
+          AreAdmitted (IsLookedAt names (λ l p. Unit {0}) top certs) [] (above ++ place ∷ []) →
+          AreAdmitted (IsLookedAt names (IsFirstIn table) top certs) [] (map moved above ++ place ∷ [])
       looked_first names top itself looked =
-          subst (λ (n : ℕ). AreAdmitted (IsLookedAt names (IsFirstIn table) top certs) [] (map moved above ++ n ∷ [])) itself (looked_firsts names top looked)
+          subst (λ (n : ℕ). AreAdmitted (IsLookedAt names (IsFirstIn table) top certs) []
+          (map moved above ++ n ∷ [])) itself (looked_firsts names top looked)

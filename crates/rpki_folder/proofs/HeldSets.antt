@@ -1,5 +1,6 @@
 -- What the members of a path hold are sets.
-use Rattle.std.proofs.Common.{◌≡◌, ◌≤◌, ℕ, true, max, min, List, [], ◌∷◌, ◌++◌, refl, sym, subst, inl, inr, append_assoc, arith}
+use Rattle.std.proofs.Common.{◌≡◌, ◌≤◌, ℕ, true, max, min, List, [], ◌∷◌, ◌++◌, refl, sym, subst, inl, inr}
+use Rattle.std.proofs.Common.{append_assoc, arith}
 use Rattle.std.proofs.lemmas.List.{append-nil}
 use Rattle.rpki_blocks.specs.Sets.{Block, between, is_in}
 use Rattle.rpki_blocks.specs.Resources.{Resources, missing, inherit, blocks}
@@ -9,7 +10,8 @@ use Rattle.rpki_blocks.proofs.ChainWalks.{in_append_cases, in_append_left, in_ap
 use Rattle.rpki_cert.specs.Certificates.{CertFields}
 use Rattle.rpki_cert.specs.Verification.{Context, HasIssued, ListsNumbers, ResourceFields}
 use Rattle.rpki_path.specs.Asking.{RevocationChecks}
-use Rattle.rpki_path.specs.Paths.{Path, Member, HasHeld, Holds, NumberKind, v4_addresses, v6_addresses, system_numbers, kind_resources, longer}
+use Rattle.rpki_path.specs.Paths.{Path, Member, HasHeld, Holds, NumberKind, v4_addresses, v6_addresses}
+use Rattle.rpki_path.specs.Paths.{system_numbers, kind_resources, longer}
 use Rattle.rpki_path.proofs.ValidPaths.{held_then}
 
 -- ---- numbers of two sets
@@ -124,9 +126,18 @@ module _ (c : CertFields) where
   top_held : (tal : List ℕ) → HasHeld alone tal (top_holds tal)
   top_held tal = record {
     cert_is = refl;
-    v4_is = λ n. ((λ h. holds_alone v4_addresses n ((is_listed c.fields.extensions.v4_resources n).0 h)), (λ h. (is_listed c.fields.extensions.v4_resources n).1 h.listed));
-    v6_is = λ n. ((λ h. holds_alone v6_addresses n ((is_listed c.fields.extensions.v6_resources n).0 h)), (λ h. (is_listed c.fields.extensions.v6_resources n).1 h.listed));
-    as_is = λ n. ((λ h. holds_alone system_numbers n ((is_listed c.fields.extensions.as_resources n).0 h)), (λ h. (is_listed c.fields.extensions.as_resources n).1 h.listed));
+    v4_is = λ n. (
+      (λ h. holds_alone v4_addresses n ((is_listed c.fields.extensions.v4_resources n).0 h)),
+      (λ h. (is_listed c.fields.extensions.v4_resources n).1 h.listed),
+    );
+    v6_is = λ n. (
+      (λ h. holds_alone v6_addresses n ((is_listed c.fields.extensions.v6_resources n).0 h)),
+      (λ h. (is_listed c.fields.extensions.v6_resources n).1 h.listed),
+    );
+    as_is = λ n. (
+      (λ h. holds_alone system_numbers n ((is_listed c.fields.extensions.as_resources n).0 h)),
+      (λ h. (is_listed c.fields.extensions.as_resources n).1 h.listed),
+    );
     tal_is = refl;
   }
 
@@ -134,13 +145,21 @@ module _ (c : CertFields) where
 
 module _ (x : Context) (asked : RevocationChecks) (tal : List ℕ) where
   -- what the last member holds, if a trust anchor holds something
-  pub held_down : (p : Path) (r : ResourceFields) → HasHeld p tal r → (ms : List Member) → (s : ResourceFields) × HasHeld (record { anchor = p.anchor; below = p.below ++ ms }) tal s
-  held_down p r held [] = (r, subst (λ (l : List Member). HasHeld (record { anchor = p.anchor; below = l }) tal r) (sym (append-nil p.below)) held)
+  pub held_down : (p : Path) (r : ResourceFields) → HasHeld p tal r → (ms : List Member) →
+      (s : ResourceFields) × HasHeld (record { anchor = p.anchor; below = p.below ++ ms }) tal s
+  held_down p r held [] = (
+    r,
+    subst (λ (l : List Member). HasHeld (record { anchor = p.anchor; below = l }) tal r)
+        (sym (append-nil p.below)) held,
+  )
   held_down p r held (m ∷ ms) =
       let s = issued_to r m.cert in
       let more = held_then x asked p tal r held m.kind s (has_issued r m.cert) in
-      let rest = held_down (longer p m) s more ms in
-      (rest.0, subst (λ (l : List Member). HasHeld (record { anchor = p.anchor; below = l }) tal rest.0) (append_assoc p.below (m ∷ []) ms) rest.1)
+      let rest = held_down (longer p m) s more ms in (
+        rest.0,
+        subst (λ (l : List Member). HasHeld (record { anchor = p.anchor; below = l }) tal rest.0)
+            (append_assoc p.below (m ∷ []) ms) rest.1,
+      )
 
   -- what the last member of a path holds
   pub held : (p : Path) → (r : ResourceFields) × HasHeld p tal r

@@ -9,7 +9,8 @@ use Rattle.rpki_cert.specs.Verification.{Context, IsSignedBy}
 use Rattle.rpki_crl.specs.Lists.{CrlState}
 use Rattle.rpki_crl.specs.Revocation.{NamesIssuer, revocation_checks}
 use Rattle.rpki_crl.specs.declared.revocation_error.RevocationError.{RevocationError}
-use Rattle.rpki_path.specs.AskedLists.{HasBegun, IsNamedBy, IsEligibleNamed, HaveNone, IsLatest, IsSaidBy, by_named_lists}
+use Rattle.rpki_path.specs.AskedLists.{HasBegun, IsNamedBy, IsEligibleNamed, HaveNone, IsLatest, IsSaidBy}
+use Rattle.rpki_path.specs.AskedLists.{by_named_lists}
 
 -- the second list has those elements of the first that have P, in their order
 abbrev pub ArePicked : {X : Type 0} → (X → Type 0) → List X → List X → Type 0

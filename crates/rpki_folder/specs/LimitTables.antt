@@ -1,5 +1,6 @@
 -- The limits that a walk reached, by the certificates of the CAs at which it reached them (own).
-use Rattle.std.specs.Prelude.{◌≡◌, ◌==◌, ◌+◌, ◌-◌, ◌^◌, ◌<◌, ◌≤◌, ◌||◌, ℕ, Bool, true, false, if◌then◌else◌, fold, min, List, [], ◌∷◌, slice_index_or, Option, Some, None}
+use Rattle.std.specs.Prelude.{◌≡◌, ◌==◌, ◌+◌, ◌-◌, ◌^◌, ◌<◌, ◌≤◌, ◌||◌, ℕ, Bool, true, false, if◌then◌else◌, fold}
+use Rattle.std.specs.Prelude.{min, List, [], ◌∷◌, slice_index_or, Option, Some, None}
 use Rattle.rpki_folder.specs.ReachedLimits.{LimitedCa, end_of}
 use Rattle.rpki_folder.specs.declared.bounds.Limit.{Limit}
 use Rattle.rpki_folder.specs.declared.bounds.Limit.TheVariants.{Depth, Steps as steps}

@@ -1,12 +1,14 @@
 -- The CAs at which a walk reached a limit, and with how many steps a walk judges their children (own).
-use Rattle.std.specs.Prelude.{◌≡◌, ◌^◌, ◌↔◌, ◌<◌, ◌≤◌, ℕ, Bool, List, [], ◌∷◌, ◌++◌, length, Any, Option, None, Some, Result, Ok, Err, IfOk}
+use Rattle.std.specs.Prelude.{◌≡◌, ◌^◌, ◌↔◌, ◌<◌, ◌≤◌, ℕ, Bool, List, [], ◌∷◌, ◌++◌, length, Any, Option, None}
+use Rattle.std.specs.Prelude.{Some, Result, Ok, Err, IfOk}
 use Rattle.std.specs.List.{AllByRecursion}
 use Rattle.rpki_ext.specs.Kinds.{Means}
 use Rattle.rpki_cert.specs.Certificates.{CertFields, IsCertificate}
 use Rattle.rpki_cert.specs.Verification.{Context}
 use Rattle.rpki_keys.specs.Locators.{NamedTal}
 use Rattle.rpki_path.specs.Asking.{RevocationChecks}
-use Rattle.rpki_folder.specs.Walks.{Root, at_anchor, worse, AreAdmitted, AreChildren, HasShare, HasEnough, HasBelow, IsLookedAt}
+use Rattle.rpki_folder.specs.Walks.{Root, at_anchor, worse, AreAdmitted, AreChildren, HasShare, HasEnough, HasBelow}
+use Rattle.rpki_folder.specs.Walks.{IsLookedAt}
 use Rattle.rpki_folder.specs.declared.bounds.Ended.{Ended}
 use Rattle.rpki_folder.specs.declared.bounds.Ended.TheVariants.{Whole, TooDeep, OutOfSteps}
 use Rattle.rpki_folder.specs.declared.bounds.Limit.{Limit}

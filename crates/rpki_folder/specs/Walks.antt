@@ -1,6 +1,7 @@
 -- Walks down through a folder: to which certificates a valid path leads, and what is told of them
 -- (RFC 6487 7.2, RFC 8630 3; own: the bounds).
-use Rattle.std.specs.Prelude.{◌≡◌, ◌≢◌, ◌⊎◌, ◌+◌, ◌-◌, ◌/◌, ◌<◌, ◌≤◌, ℕ, Bool, List, [], ◌∷◌, ◌++◌, length, Any, Contains, None, Some, Result, Ok, Err, IsOk, IfOk, IsTrue}
+use Rattle.std.specs.Prelude.{◌≡◌, ◌≢◌, ◌⊎◌, ◌+◌, ◌-◌, ◌/◌, ◌<◌, ◌≤◌, ℕ, Bool, List, [], ◌∷◌, ◌++◌, length, Any}
+use Rattle.std.specs.Prelude.{Contains, None, Some, Result, Ok, Err, IsOk, IfOk, IsTrue}
 use Rattle.std.specs.List.{AllByRecursion}
 use Rattle.rpki_ext.specs.Kinds.{Means}
 use Rattle.rpki_cert.specs.Certificates.{CertFields, IsCertificate}

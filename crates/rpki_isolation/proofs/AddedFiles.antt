@@ -14,11 +14,21 @@ use Rattle.rpki_folder.specs.Strangers.{AddsOnly, HasCertificate, HasTwoAlgorith
 
 -- with octets behind, it still begins with the certificate
 means_more : (c : CertFields) (octets more : List ℕ) → Means IsCertificate c octets → Means IsCertificate c (octets ++ more)
-means_more c octets more (rest, b) = (rest ++ more, record { text = b.text; encoded = b.encoded; parts = ap (λ (l : List ℕ). l ++ more) b.parts ∙ append_assoc b.text rest more })
+means_more c octets more (rest, b) = (
+  rest ++ more,
+  record {
+    text = b.text;
+    encoded = b.encoded;
+    parts = ap (λ (l : List ℕ). l ++ more) b.parts ∙
+        append_assoc b.text rest more;
+  },
+)
 
 module _ (law : IsUnambiguous IsCertificate) (verifies : Verifies) (keys : List KeyFields) (old : FolderFields) where
   -- what one further file of certificates adds, if the certificate with which it begins is such a one
-  with_one : (octets : List ℕ) (c : CertFields) → Means IsCertificate c octets → HasCertificate old c ⊎ (IsSignedByOnly verifies keys c.signed_data ⊎ HasTwoAlgorithms c) → AddsOnly verifies keys old (with_cert old octets)
+  with_one : (octets : List ℕ) (c : CertFields) → Means IsCertificate c octets →
+      HasCertificate old c ⊎ (IsSignedByOnly verifies keys c.signed_data ⊎ HasTwoAlgorithms c) →
+      AddsOnly verifies keys old (with_cert old octets)
   with_one octets c means is = record {
     certs_stay = λ d (o, at, m). (o, Contains-append_left old.certs (octets ∷ []) o at, m);
     lists_stay = λ l at. (l, at, refl);
@@ -32,11 +42,13 @@ module _ (law : IsUnambiguous IsCertificate) (verifies : Verifies) (keys : List 
   }
 
   -- a copy of a file, with whatever behind it
-  pub copy_adds : (octets more : List ℕ) → Contains old.certs octets → (c : CertFields) → Means IsCertificate c octets → AddsOnly verifies keys old (with_cert old (octets ++ more))
+  pub copy_adds : (octets more : List ℕ) → Contains old.certs octets → (c : CertFields) →
+      Means IsCertificate c octets → AddsOnly verifies keys old (with_cert old (octets ++ more))
   copy_adds octets more at c means = with_one (octets ++ more) c (means_more c octets more means) (inl (octets, at, means))
 
   -- a certificate that no other key signed
-  pub own_adds : (octets : List ℕ) (c : CertFields) → Means IsCertificate c octets → IsSignedByOnly verifies keys c.signed_data → AddsOnly verifies keys old (with_cert old octets)
+  pub own_adds : (octets : List ℕ) (c : CertFields) → Means IsCertificate c octets →
+      IsSignedByOnly verifies keys c.signed_data → AddsOnly verifies keys old (with_cert old octets)
   own_adds octets c means only = with_one octets c means (inr (inl only))
 
   -- a list that no other key signed

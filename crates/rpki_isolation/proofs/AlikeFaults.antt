@@ -35,7 +35,10 @@ module _ (P : CrlState → Type 0) (c : CertFields) where
   Undenied seen = ((kept : Option CrlState) → IsLatestIfAny P c seen kept → ⊥) → ⊥
 
   one_more : (seen : List CrlState) (l : CrlState) → Undenied seen → Undenied (seen ++ l ∷ [])
-  one_more seen l h denied = h (λ kept is. denied kept (kept_same P c seen kept l is (λ goes. denied (Some l) (kept_next P c seen kept l is goes.0 goes.1))))
+  one_more seen l h denied =
+      h (λ kept is.
+      denied kept (kept_same P c seen kept l is
+      (λ goes. denied (Some l) (kept_next P c seen kept l is goes.0 goes.1))))
 
   all_gone : (seen rest : List CrlState) → Undenied seen → Undenied (seen ++ rest)
   all_gone seen [] h = subst Undenied (sym (append-nil seen)) h
@@ -80,7 +83,8 @@ module _ (names : Bool) (x : Context) (issuer : TbsFields) (c : CertFields) wher
 
     -- where a list can be asked, those that are asked of the others are asked of these
     module _ (some : HaveNone Fits lists → ⊥) where
-      asked_back : (k : CrlState) → IsAskedOf names x others issuer c k → (m : CrlState) × IsAskedOf names x lists issuer c m × (m.list ≡ k.list)
+      asked_back : (k : CrlState) → IsAskedOf names x others issuer c k →
+          (m : CrlState) × IsAskedOf names x lists issuer c m × (m.list ≡ k.list)
       asked_back k (inl latest) =
           let m = same.back k latest.inside latest.has in (
             m.0,
@@ -123,7 +127,8 @@ module _ (names : Bool) (x : Context) (issuer : TbsFields) (c : CertFields) wher
       signed k (inr none) = absurd (none.0 l at fits)
 
     -- if one is signed, in its time, and revokes, one can be asked
-    some_fits : by_named_lists names x lists issuer c BadSignature → by_named_lists names x lists issuer c Stale → (by_named_lists names x lists issuer c Revoked → ⊥) → HaveNone Fits lists → ⊥
+    some_fits : by_named_lists names x lists issuer c BadSignature → by_named_lists names x lists issuer c Stale →
+        (by_named_lists names x lists issuer c Revoked → ⊥) → HaveNone Fits lists → ⊥
     some_fits signed begun revoked none = revoked (λ k asked. free k asked) where
       free : (k : CrlState) → IsAsked k → ListCheck x issuer c.fields.serial k.list Revoked
       free k (inl latest) = absurd (none k latest.inside latest.has)
@@ -140,7 +145,8 @@ module _ (names : Bool) (x : Context) (issuer : TbsFields) (c : CertFields) wher
       reason e (inr (a, inr (b, inl h))) = wanting (want e BadSignature h.0 tt) (none_signed h.1)
       reason e (inr (a, inr (b, inr (s, inl h)))) = late h.0 h.1
       reason e (inr (a, inr (b, inr (s, inr (t, inl h))))) = listed h.0 (some_fits s t h.1) t
-      reason e (inr (a, inr (b, inr (s, inr (t, inr (r, inl h)))))) = wanting (want e WrongIssuer h.0 tt) (none_latest Fits c lists (λ l latest. h.1 (l, inl latest)))
+      reason e (inr (a, inr (b, inr (s, inr (t, inr (r, inl h)))))) =
+          wanting (want e WrongIssuer h.0 tt) (none_latest Fits c lists (λ l latest. h.1 (l, inl latest)))
       reason e (inr (a, inr (b, inr (s, inr (t, inr (r, inr h)))))) = absurd h.1
 
   -- ---- both
@@ -164,12 +170,14 @@ module _ (names : Bool) (x : Context) (issuer : TbsFields) (c : CertFields) wher
     reasons_alike d e (listed i some s) (listed j any t) = inl (i ∙ sym j)
 
     -- the first check that a certificate fails, which names the issuer's key
-    pub lists_alike : c.fields.extensions.authority_key_identifier ≡ Some issuer.extensions.subject_key_identifier → (d e : RevocationError) → Fails lists d → Fails others e → Alike d e
+    pub lists_alike : c.fields.extensions.authority_key_identifier ≡ Some issuer.extensions.subject_key_identifier →
+        (d e : RevocationError) → Fails lists d → Fails others e → Alike d e
     lists_alike names_key d e h k = reasons_alike d e (reason lists names_key d h) (reason others names_key e k)
 
 -- ---- faults of one certificate
 
-module _ (x : Context) (law : IsUnambiguous IsCertificate) (c : CertFields) (kind : Kind) (checks : List VerificationError) (NoList : Type 0) where
+module _ (x : Context) (law : IsUnambiguous IsCertificate) (c : CertFields) (kind : Kind)
+    (checks : List VerificationError) (NoList : Type 0) where
   abbrev AreAlike : PathFault → PathFault → Type 0
   AreAlike e f = (e ≡ f) ⊎ (IsForWantOfList e × IsForWantOfList f × NoList)
 
@@ -181,34 +189,48 @@ module _ (x : Context) (law : IsUnambiguous IsCertificate) (c : CertFields) (kin
   Found check asked (Revocation e) = MeetsProfile kind x.strict c × IsVerified check checks × IsFirstFalse asked revocation_checks e
   Found check asked Memory = ⊥
 
-  pub found_of : (check : CertFields → VerificationError → Type 0) (asked : CertFields → RevocationError → Type 0) (octets : List ℕ) → Means IsCertificate c octets → (e : PathFault) → e ≢ Memory
+  pub found_of : (check : CertFields → VerificationError → Type 0) (asked : CertFields → RevocationError → Type 0)
+      (octets : List ℕ) → Means IsCertificate c octets → (e : PathFault) → e ≢ Memory
       → Finds x (record { kind = kind; check = check; checks = checks; asked_check = asked }) octets e → Found (check c) (asked c) e
   found_of check asked octets means (Decode e) apart h = absurd (h.1 c means)
-  found_of check asked octets means (Inspect e) apart h = subst (λ (d : CertFields). IsFirstFault kind x.strict d e) (one_meant IsCertificate law h.0 c octets h.1 means) h.2
-  found_of check asked octets means (Verify e) apart h = subst (λ (d : CertFields). MeetsProfile kind x.strict d × IsFirstFalse (check d) checks e) (one_meant IsCertificate law h.0 c octets h.1 means) h.2
+  found_of check asked octets means (Inspect e) apart h = subst (λ (d : CertFields). IsFirstFault kind x.strict d e)
+      (one_meant IsCertificate law h.0 c octets h.1 means) h.2
+  found_of check asked octets means (Verify e) apart h =
+      subst (λ (d : CertFields). MeetsProfile kind x.strict d × IsFirstFalse (check d) checks e)
+      (one_meant IsCertificate law h.0 c octets h.1 means) h.2
   found_of check asked octets means (Revocation e) apart h =
-      subst (λ (d : CertFields). MeetsProfile kind x.strict d × IsVerified (check d) checks × IsFirstFalse (asked d) revocation_checks e) (one_meant IsCertificate law h.cert c octets h.begins means) (h.meets, h.verified, h.first)
+      subst (λ (d : CertFields). MeetsProfile kind x.strict d × IsVerified (check d) checks ×
+      IsFirstFalse (asked d) revocation_checks e) (one_meant IsCertificate law h.cert c octets h.begins means)
+      (h.meets, h.verified, h.first)
   found_of check asked octets means Memory apart h = absurd (apart refl)
 
-  module _ (check other : VerificationError → Type 0) (asked next : RevocationError → Type 0) (same : (e : VerificationError) → check e ↔ other e) (alike : IsVerified check checks → (d e : RevocationError) → IsFirstFalse asked revocation_checks d → IsFirstFalse next revocation_checks e → (d ≡ e) ⊎ (IsForWantOfList (Revocation d) × IsForWantOfList (Revocation e) × NoList)) where
+  module _ (check other : VerificationError → Type 0) (asked next : RevocationError → Type 0)
+      (same : (e : VerificationError) → check e ↔ other e) (alike : IsVerified check checks →
+      (d e : RevocationError) → IsFirstFalse asked revocation_checks d → IsFirstFalse next revocation_checks e →
+      (d ≡ e) ⊎ (IsForWantOfList (Revocation d) × IsForWantOfList (Revocation e) × NoList)) where
     -- what is found by checks that are true alike is found alike
     pub faults_alike : (e f : PathFault) → Found check asked e → Found other next f → AreAlike e f
     faults_alike (Decode e) f h k = absurd h
     faults_alike Memory f h k = absurd h
     faults_alike (Inspect e) (Decode f) h k = absurd k
     faults_alike (Inspect e) Memory h k = absurd k
-    faults_alike (Inspect e) (Inspect f) h k = inl (ap (λ (n : InspectionError). let m : PathFault = Inspect n in m) (one_first (Lacks kind x.strict c) (faults kind) e f h k))
+    faults_alike (Inspect e) (Inspect f) h k =
+        inl (ap (λ (n : InspectionError). let m : PathFault = Inspect n in m)
+        (one_first (Lacks kind x.strict c) (faults kind) e f h k))
     faults_alike (Inspect e) (Verify f) h k = absurd (first_not_all (Lacks kind x.strict c) (faults kind) e h k.0)
     faults_alike (Inspect e) (Revocation f) h k = absurd (first_not_all (Lacks kind x.strict c) (faults kind) e h k.0)
     faults_alike (Verify e) (Decode f) h k = absurd k
     faults_alike (Verify e) Memory h k = absurd k
     faults_alike (Verify e) (Inspect f) h k = absurd (first_not_all (Lacks kind x.strict c) (faults kind) f k h.0)
-    faults_alike (Verify e) (Verify f) h k = inl (ap (λ (n : VerificationError). let m : PathFault = Verify n in m) (one_first other checks e f (first_map check other checks e same h.1) k.1))
+    faults_alike (Verify e) (Verify f) h k =
+        inl (ap (λ (n : VerificationError). let m : PathFault = Verify n in m)
+        (one_first other checks e f (first_map check other checks e same h.1) k.1))
     faults_alike (Verify e) (Revocation f) h k = absurd (first_not_all other checks e (first_map check other checks e same h.1) k.1)
     faults_alike (Revocation e) (Decode f) h k = absurd k
     faults_alike (Revocation e) Memory h k = absurd k
     faults_alike (Revocation e) (Inspect f) h k = absurd (first_not_all (Lacks kind x.strict c) (faults kind) f k h.0)
-    faults_alike (Revocation e) (Verify f) h k = absurd (first_not_all other checks f k.1 (all_map check other checks (λ n. (same n).0) h.1))
+    faults_alike (Revocation e) (Verify f) h k =
+        absurd (first_not_all other checks f k.1 (all_map check other checks (λ n. (same n).0) h.1))
     faults_alike (Revocation e) (Revocation f) h k = elim (alike h.1 e f h.2 k.2) [
       | inl is ↦ inl (ap (λ (n : RevocationError). let m : PathFault = Revocation n in m) is)
       | inr none ↦ inr none

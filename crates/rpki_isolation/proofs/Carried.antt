@@ -19,20 +19,37 @@ use Rattle.rpki_isolation.specs.ToldWalks.{BeginAlike}
 module _ (x : Context) (names : Bool) where
   -- what issuers without one of these keys signed in the first folder is in the second one, and let in
   -- there; and the trust anchor's octets begin with one certificate
-  pub record Carries (keys : List KeyFields) (aa : List ℕ) (a : FolderFields) (bb : List ℕ) (b : FolderFields) (ib : List ℕ → ℕ → Type 0) : Type 0 where
+  pub record Carries (keys : List KeyFields) (aa : List ℕ) (a : FolderFields) (bb : List ℕ) (b : FolderFields)
+      (ib : List ℕ → ℕ → Type 0) : Type 0 where
     pub begins : (c : CertFields) → Means IsCertificate c aa → Means IsCertificate c bb
     pub through : (q : Path) → IsFreeOf keys q → LeadsThrough names x a q → LeadsThrough names x b q
-    pub unrevoked : (issuer : TbsFields) → (Contains keys issuer.key → ⊥) → (c : CertFields) → IsUnrevokedBy (by_named_lists names x a.lists) issuer c → IsUnrevokedBy (by_named_lists names x b.lists) issuer c
-    pub signed : (key : KeyFields) → (Contains keys key → ⊥) → (c : CertFields) → IsSignedBy x.verifies key c.signed_data → c.fields.algorithm ≡ c.signed_data.signature.algorithm → HasCertificate a c → HasCertificate b c
+    pub unrevoked : (issuer : TbsFields) → (Contains keys issuer.key → ⊥) → (c : CertFields) →
+        IsUnrevokedBy (by_named_lists names x a.lists) issuer c →
+        IsUnrevokedBy (by_named_lists names x b.lists) issuer c
+    pub signed : (key : KeyFields) → (Contains keys key → ⊥) → (c : CertFields) →
+        IsSignedBy x.verifies key c.signed_data → c.fields.algorithm ≡ c.signed_data.signature.algorithm →
+        HasCertificate a c → HasCertificate b c
     pub lets_in : LetsIn x.verifies keys b.certs ib
 
   -- from a folder to itself
-  pub carries_same : (keys : List KeyFields) (aa : List ℕ) (a : FolderFields) (ia : List ℕ → ℕ → Type 0) → LetsIn x.verifies keys a.certs ia → Carries keys aa a aa a ia
-  carries_same keys aa a ia lets = record { begins = λ c means. means; through = λ q free leads. leads; unrevoked = λ issuer own c is. is; signed = λ key own c signed algorithm has. has; lets_in = lets }
+  pub carries_same : (keys : List KeyFields) (aa : List ℕ) (a : FolderFields) (ia : List ℕ → ℕ → Type 0) →
+      LetsIn x.verifies keys a.certs ia → Carries keys aa a aa a ia
+  carries_same keys aa a ia lets =
+      record {
+        begins = λ c means. means;
+        through = λ q free leads. leads;
+        unrevoked =
+            λ issuer own c is. is;
+        signed = λ key own c signed algorithm has. has;
+        lets_in = lets;
+      }
 
-  module _ (law : IsUnambiguous IsCertificate) (keys : List KeyFields) (old new : FolderFields) (adds : AddsOnly x.verifies keys old new) (anchor other : List ℕ) (alike : BeginAlike anchor other) where
-    turned : (one another : List ℕ) (b : BeginAlike one another) (c : CertFields) → Means IsCertificate c one → Means IsCertificate c another
-    turned one another b c means = let same : b.0 ≡ c = one_meant IsCertificate law b.0 c one b.1 means in subst (λ (d : CertFields). Means IsCertificate d another) same b.2
+  module _ (law : IsUnambiguous IsCertificate) (keys : List KeyFields) (old new : FolderFields)
+      (adds : AddsOnly x.verifies keys old new) (anchor other : List ℕ) (alike : BeginAlike anchor other) where
+    turned : (one another : List ℕ) (b : BeginAlike one another) (c : CertFields) → Means IsCertificate c one →
+        Means IsCertificate c another
+    turned one another b c means = let same : b.0 ≡ c = one_meant IsCertificate law b.0 c one b.1 means in
+        subst (λ (d : CertFields). Means IsCertificate d another) same b.2
 
     pub carries_on : (i : List ℕ → ℕ → Type 0) → LetsIn x.verifies keys new.certs i → Carries keys anchor old other new i
     carries_on i lets = record {

@@ -55,7 +55,8 @@ same_signature s u algorithm value =
     ap (λ (a : Algorithm). record { algorithm = a; value = s.value }) algorithm
     ∙ ap (λ (v : List ℕ). record { algorithm = u.algorithm; value = v }) value
 
-same_signed : (s u : SignedFields) → s.message ≡ u.message → s.signature.algorithm ≡ u.signature.algorithm → s.signature.value ≡ u.signature.value → s ≡ u
+same_signed : (s u : SignedFields) → s.message ≡ u.message → s.signature.algorithm ≡ u.signature.algorithm →
+    s.signature.value ≡ u.signature.value → s ≡ u
 same_signed s u message algorithm value =
     ap (λ (m : List ℕ). record { message = m; signature = s.signature }) message
     ∙ ap (λ (g : SignatureFields). record { message = u.message; signature = g }) (same_signature s.signature u.signature algorithm value)
@@ -65,16 +66,23 @@ one_certificate : IsUnambiguous IsTbsCertificate → (c d : CertFields) (a b : L
     → c.fields.algorithm ≡ c.signed_data.signature.algorithm → d.fields.algorithm ≡ d.signed_data.signature.algorithm
     → c.signed_data.message ≡ d.signed_data.message → c.signed_data.signature.value ≡ d.signed_data.signature.value → c ≡ d
 one_certificate law c d a b here there one other message value =
-    let first : IsTbsCertificate c.fields d.signed_data.message = subst (λ (m : List ℕ). IsTbsCertificate c.fields m) message (certificate_data c here.1.text here.1.encoded) in
+    let first : IsTbsCertificate c.fields d.signed_data.message = subst (λ (m : List ℕ). IsTbsCertificate c.fields m)
+    message (certificate_data c here.1.text here.1.encoded) in
     let second = certificate_data d there.1.text there.1.encoded in
-    let fields : c.fields ≡ d.fields = one_meant IsTbsCertificate law c.fields d.fields d.signed_data.message (whole_means IsTbsCertificate c.fields d.signed_data.message first) (whole_means IsTbsCertificate d.fields d.signed_data.message second) in
-    let algorithm : c.signed_data.signature.algorithm ≡ d.signed_data.signature.algorithm = sym one ∙ ap (λ (f : TbsFields). f.algorithm) fields ∙ other in
+    let fields : c.fields ≡ d.fields = one_meant IsTbsCertificate law c.fields d.fields d.signed_data.message
+    (whole_means IsTbsCertificate c.fields d.signed_data.message first)
+    (whole_means IsTbsCertificate d.fields d.signed_data.message second) in
+    let algorithm : c.signed_data.signature.algorithm ≡ d.signed_data.signature.algorithm =
+    sym one ∙ ap (λ (f : TbsFields). f.algorithm) fields ∙ other in
     ap (λ (f : TbsFields). record { fields = f; signed_data = c.signed_data }) fields
-    ∙ ap (λ (s : SignedFields). record { fields = d.fields; signed_data = s }) (same_signed c.signed_data d.signed_data message algorithm value)
+    ∙ ap (λ (s : SignedFields). record { fields = d.fields; signed_data = s })
+    (same_signed c.signed_data d.signed_data message algorithm value)
 
 module _ (x : Context) (names : Bool) (t : NamedTal) (law : IsUnambiguous IsCertificate) where
   module _ (folder : FolderFields) where
-    in_folder : (place : ℕ) (c : CertFields) → IsValidAt x (by_named_lists names x folder.lists) names t folder.certs place c → IsAnchorIn x names t folder c
+    in_folder : (place : ℕ) (c : CertFields) →
+        IsValidAt x (by_named_lists names x folder.lists) names t folder.certs place c →
+        IsAnchorIn x names t folder c
     in_folder place c valid = record {
       octets = octets_at folder.certs place;
       among = Contains-get_or folder.certs place [] valid.inside;
@@ -82,7 +90,8 @@ module _ (x : Context) (names : Bool) (t : NamedTal) (law : IsUnambiguous IsCert
       is_valid = valid.is_valid;
     }
 
-    at_place : (c : CertFields) → IsAnchorIn x names t folder c → (k : ℕ) × IsValidAt x (by_named_lists names x folder.lists) names t folder.certs k c
+    at_place : (c : CertFields) → IsAnchorIn x names t folder c →
+        (k : ℕ) × IsValidAt x (by_named_lists names x folder.lists) names t folder.certs k c
     at_place c h =
         let k = h.among.0 in
         let low = h.among.1 in
@@ -95,15 +104,20 @@ module _ (x : Context) (names : Bool) (t : NamedTal) (law : IsUnambiguous IsCert
           },
         )
 
-    one_algorithm : (place : ℕ) (c : CertFields) → IsValidAt x (by_named_lists names x folder.lists) names t folder.certs place c → c.fields.algorithm ≡ c.signed_data.signature.algorithm
+    one_algorithm : (place : ℕ) (c : CertFields) →
+        IsValidAt x (by_named_lists names x folder.lists) names t folder.certs place c →
+        c.fields.algorithm ≡ c.signed_data.signature.algorithm
     one_algorithm place c valid =
         let l = valid.is_valid.1 in
-        let same : l.path.anchor ≡ c = one_meant IsCertificate law l.path.anchor c (octets_at folder.certs place) l.path_of.anchor_begins valid.stands in
+        let same : l.path.anchor ≡ c = one_meant IsCertificate law l.path.anchor c (octets_at folder.certs place)
+        l.path_of.anchor_begins valid.stands in
         subst (λ (d : CertFields). d.fields.algorithm ≡ d.signed_data.signature.algorithm) same l.is_valid.is_valid.anchor_meets.0
 
-  pub chosen_same : IsUnambiguous IsTbsCertificate → (keys : List KeyFields) → (Contains keys t.tal.key → ⊥) → (old new : FolderFields) → AddsOnly x.verifies keys old new → (place other : ℕ)
+  pub chosen_same : IsUnambiguous IsTbsCertificate → (keys : List KeyFields) → (Contains keys t.tal.key → ⊥) →
+      (old new : FolderFields) → AddsOnly x.verifies keys old new → (place other : ℕ)
       → IsAnchorAt x (by_named_lists names x old.lists) names t old.certs place
-      → IsAnchorAt x (by_named_lists names x new.lists) names t new.certs other → BeginAlike (octets_at old.certs place) (octets_at new.certs other)
+      → IsAnchorAt x (by_named_lists names x new.lists) names t new.certs other →
+      BeginAlike (octets_at old.certs place) (octets_at new.certs other)
   chosen_same fields_law keys own old new adds place other a b =
       let c = a.cert in
       let d = b.cert in
@@ -114,7 +128,8 @@ module _ (x : Context) (names : Bool) (t : NamedTal) (law : IsUnambiguous IsCert
       let equal : anchor_order c d ≡ Equal = neither (anchor_order c d) (anchor_order d c) (order_total.antisymm c d) not back in
       let last = both_equal _ _ equal in
       let messages = both_equal _ _ last.0 in
-      let same : c ≡ d = one_certificate fields_law c d (octets_at old.certs place) (octets_at new.certs other) a.valid.stands b.valid.stands
+      let same : c ≡ d = one_certificate fields_law c d (octets_at old.certs place) (octets_at new.certs other)
+      a.valid.stands b.valid.stands
       (one_algorithm old place c a.valid) (one_algorithm new other d b.valid)
       (exact_bytes c.signed_data.message d.signed_data.message messages.1)
       (exact_bytes c.signed_data.signature.value d.signed_data.signature.value last.1) in

@@ -14,7 +14,8 @@ use Rattle.rpki_folder.proofs.Descent.{less-or-not, there as inside_at}
 use Rattle.rpki_folder.proofs.FirstSteps.{is_first_of}
 
 -- a certificate has one first place
-one_first : (certs : List (List ℕ)) (c : CertFields) (one other : ℕ) → StandsAt certs one c → StandsAt certs other c → IsFirst certs one → IsFirst certs other → one ≡ other
+one_first : (certs : List (List ℕ)) (c : CertFields) (one other : ℕ) → StandsAt certs one c → StandsAt certs other c →
+    IsFirst certs one → IsFirst certs other → one ≡ other
 one_first certs c one other here there first_one first_other = elim (less-or-not one other) [
   | inl low ↦ absurd (first_other one low (c, there, here))
   | inr high ↦ elim (less-or-not other one) [
@@ -43,11 +44,14 @@ module _ (law : IsUnambiguous IsCertificate) (certs : List (List ℕ)) (table : 
   first_itself place stands =
       let first = first_of table place in
       let there = stands_first place stands in
-      one_first certs c (first_of table first) first (stands_first first there) there (first_is first there).is_first (first_is place stands).is_first
+      one_first certs c (first_of table first) first (stands_first first there) there (first_is first there).is_first
+      (first_is place stands).is_first
 
   -- and the only one
-  pub first_once : (place other : ℕ) → StandsAt certs place c → StandsAt certs other c → first_of table place ≡ place → first_of table other ≡ other → place ≡ other
+  pub first_once : (place other : ℕ) → StandsAt certs place c → StandsAt certs other c →
+      first_of table place ≡ place → first_of table other ≡ other → place ≡ other
   first_once place other here there is other_is =
       sym is
-      ∙ one_first certs c (first_of table place) (first_of table other) (stands_first place here) (stands_first other there) (first_is place here).is_first (first_is other there).is_first
+      ∙ one_first certs c (first_of table place) (first_of table other) (stands_first place here)
+      (stands_first other there) (first_is place here).is_first (first_is other there).is_first
       ∙ other_is

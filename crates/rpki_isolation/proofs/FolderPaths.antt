@@ -29,11 +29,19 @@ default_same (y ∷ l) (suc k) d e low = default_same l k d e (omega (arith, low
 module _ (folder : FolderFields) where
   -- a certificate of the folder stands at a place
   pub place_of : (c : CertFields) → HasCertificate folder c → (place : ℕ) × StandsAt folder.certs place c
-  place_of c (octets, (k, low, is), means) = (k, subst (λ (o : List ℕ). Means IsCertificate c o) (sym (default_same folder.certs k [] octets low ∙ is)) means)
+  place_of c (octets, (k, low, is), means) = (
+    k,
+    subst (λ (o : List ℕ). Means IsCertificate c o) (sym (default_same folder.certs k [] octets low ∙ is))
+        means,
+  )
 
   -- what stands at one is of the folder
   pub has_there : (place : ℕ) (c : CertFields) → StandsAt folder.certs place c → HasCertificate folder c
-  has_there place c stands = (octets_at folder.certs place, Contains-get_or folder.certs place [] (inside_at folder.certs c place stands), stands)
+  has_there place c stands = (
+    octets_at folder.certs place,
+    Contains-get_or folder.certs place [] (inside_at folder.certs c place stands),
+    stands,
+  )
 
   abbrev Has : Member → Type 0
   Has m = HasCertificate folder m.cert
@@ -50,7 +58,8 @@ module _ (folder : FolderFields) where
   as_many (m ∷ ms) (p ∷ places) h = ap suc (as_many ms places h.1)
 
   -- by the number of the member, and for each
-  indexed : (ms : List Member) (d : CertFields) → AllByRecursion Has ms → (i : ℕ) → i < length ms → HasCertificate folder (get_or (map (λ (m : Member). m.cert) ms) i d)
+  indexed : (ms : List Member) (d : CertFields) → AllByRecursion Has ms → (i : ℕ) → i < length ms →
+      HasCertificate folder (get_or (map (λ (m : Member). m.cert) ms) i d)
   indexed [] d has i low = absurd (omega (arith, low))
   indexed (m ∷ ms) d has zero low = has.0
   indexed (m ∷ ms) d has (suc i) low = indexed ms d has.1 i (omega (arith, low))
@@ -62,7 +71,9 @@ module _ (folder : FolderFields) where
 
 -- what is so of the certificate at each index is so of each member
 module _ (P : CertFields → Type 0) where
-  each : (ms : List Member) (d : CertFields) → ((i : ℕ) → i < length ms → P (get_or (map (λ (m : Member). m.cert) ms) i d)) → AllByRecursion (λ (m : Member). P m.cert) ms
+  each : (ms : List Member) (d : CertFields) →
+      ((i : ℕ) → i < length ms → P (get_or (map (λ (m : Member). m.cert) ms) i d)) →
+      AllByRecursion (λ (m : Member). P m.cert) ms
   each [] d has = tt
   each (m ∷ ms) d has = (has 0 (omega arith), each ms d (λ i low. has (suc i) (omega (arith, low))))
 
@@ -76,11 +87,13 @@ all_front P [] ys h = tt
 all_front P (z ∷ xs) ys h = (h.0, all_front P xs ys h.1)
 
 -- with a certificate below the CAs
-pub with_end : (anchor : List ℕ) (certs : List (List ℕ)) (above : List ℕ) (place : ℕ) (kind : Kind) (p : Path) (c : CertFields) → IsPathOf anchor (cas_at certs above) p → StandsAt certs place c
+pub with_end : (anchor : List ℕ) (certs : List (List ℕ)) (above : List ℕ) (place : ℕ) (kind : Kind) (p : Path)
+    (c : CertFields) → IsPathOf anchor (cas_at certs above) p → StandsAt certs place c
     → IsPathOf anchor (cas_at certs above ++ candidate kind (octets_at certs place) ∷ []) (longer p (member kind c))
 with_end anchor certs above place kind p c path_of stands = record {
   anchor_begins = path_of.anchor_begins;
-  members = zip_more IsMember p.below (cas_at certs above) (member kind c) (candidate kind (octets_at certs place)) path_of.members (record { kind_is = refl; begins = stands });
+  members = zip_more IsMember p.below (cas_at certs above) (member kind c) (candidate kind (octets_at certs place))
+      path_of.members (record { kind_is = refl; begins = stands });
 }
 
 -- ---- what leads down a path
@@ -93,10 +106,13 @@ pub record Leads (x : Context) (names : Bool) (t : NamedTal) (folder : FolderFie
   pub held : HasHeld p t.name r
 
 module _ (x : Context) (names : Bool) (t : NamedTal) (anchor : List ℕ) (law : IsUnambiguous IsCertificate) (folder : FolderFields) where
-  pub leads_of : (p : Path) (members : List Candidate) (r : ResourceFields) → LeadsTo x (by_named_lists names x folder.lists) (at_anchor t anchor) members r → IsPathOf anchor members p → AllByRecursion (λ (m : Member). HasCertificate folder m.cert) p.below → Leads x names t folder p r
+  pub leads_of : (p : Path) (members : List Candidate) (r : ResourceFields) →
+      LeadsTo x (by_named_lists names x folder.lists) (at_anchor t anchor) members r → IsPathOf anchor members p →
+      AllByRecursion (λ (m : Member). HasCertificate folder m.cert) p.below → Leads x names t folder p r
   leads_of p members r a path_of has =
       let same : a.path ≡ p = one_path law anchor members a.path p a.path_of path_of in
-      let valid : IsValidFrom x (by_named_lists names x folder.lists) t.tal p = subst (λ (q : Path). IsValidFrom x (by_named_lists names x folder.lists) t.tal q) same a.is_valid in
+      let valid : IsValidFrom x (by_named_lists names x folder.lists) t.tal p =
+      subst (λ (q : Path). IsValidFrom x (by_named_lists names x folder.lists) t.tal q) same a.is_valid in
       record {
         through = record { is_valid = valid.is_valid; members = below_has folder p has };
         key_is = valid.key_is;
@@ -104,7 +120,8 @@ module _ (x : Context) (names : Bool) (t : NamedTal) (anchor : List ℕ) (law : 
         held = subst (λ (q : Path). HasHeld q t.name r) same a.held;
       }
 
-  pub to_leads : (p : Path) (members : List Candidate) (r : ResourceFields) → Leads x names t folder p r → IsPathOf anchor members p → LeadsTo x (by_named_lists names x folder.lists) (at_anchor t anchor) members r
+  pub to_leads : (p : Path) (members : List Candidate) (r : ResourceFields) → Leads x names t folder p r →
+      IsPathOf anchor members p → LeadsTo x (by_named_lists names x folder.lists) (at_anchor t anchor) members r
   to_leads p members r l path_of = record {
     path = p;
     path_of = path_of;

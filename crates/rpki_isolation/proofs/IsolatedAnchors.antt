@@ -21,10 +21,12 @@ none_below : (ms : List Member) → AllZip IsMember ms [] → length ms ≡ 0
 none_below [] h = refl
 none_below (m ∷ ms) h = absurd h
 
-module _ (x : Context) (names : Bool) (t : NamedTal) (law : IsUnambiguous IsCertificate) (keys : List KeyFields) (own : Contains keys t.tal.key → ⊥) where
+module _ (x : Context) (names : Bool) (t : NamedTal) (law : IsUnambiguous IsCertificate) (keys : List KeyFields)
+    (own : Contains keys t.tal.key → ⊥) where
   pub anchor_there : (a b : FolderFields)
       → ((q : Path) → IsFreeOf keys q → LeadsThrough names x a q → LeadsThrough names x b q)
-      → ((c : CertFields) → (Contains keys c.fields.key → ⊥) → MeetsProfile Anchor x.strict c → IsVerified (TrustAnchorCheck x c) trust_anchor_checks → HasCertificate a c → HasCertificate b c)
+      → ((c : CertFields) → (Contains keys c.fields.key → ⊥) → MeetsProfile Anchor x.strict c →
+      IsVerified (TrustAnchorCheck x c) trust_anchor_checks → HasCertificate a c → HasCertificate b c)
       → (c : CertFields) → IsAnchorIn x names t a c → IsAnchorIn x names t b c
   anchor_there a b through carried c h =
       let r = h.is_valid.0 in
@@ -34,7 +36,8 @@ module _ (x : Context) (names : Bool) (t : NamedTal) (law : IsUnambiguous IsCert
       let one : q.anchor ≡ c = one_meant IsCertificate law q.anchor c h.octets l.path_of.anchor_begins h.begins in
       let alone : length q.below ≡ 0 = none_below q.below l.path_of.members in
       let theirs : Contains keys q.anchor.fields.key → ⊥ = λ has. own (subst (λ (k : KeyFields). Contains keys k) valid.key_is has) in
-      let has = carried q.anchor theirs valid.is_valid.anchor_meets valid.is_valid.anchor_verified (h.octets, h.among, l.path_of.anchor_begins) in
+      let has = carried q.anchor theirs valid.is_valid.anchor_meets valid.is_valid.anchor_verified
+      (h.octets, h.among, l.path_of.anchor_begins) in
       let free : IsFreeOf keys q = λ i low at. absurd (omega (arith, low, alone)) in
       let there = through q free (record { is_valid = valid.is_valid; members = λ i low. absurd (omega (arith, low, alone)) }) in
       record {
@@ -53,8 +56,11 @@ module _ (x : Context) (names : Bool) (t : NamedTal) (law : IsUnambiguous IsCert
         );
       }
 
-  pub anchors_same : (old new : FolderFields) → AddsOnly x.verifies keys old new → (c : CertFields) → IsAnchorIn x names t old c ↔ IsAnchorIn x names t new c
+  pub anchors_same : (old new : FolderFields) → AddsOnly x.verifies keys old new → (c : CertFields) →
+      IsAnchorIn x names t old c ↔ IsAnchorIn x names t new c
   anchors_same old new adds c = (
-    anchor_there old new (λ q free. (leads_alike names x keys old new adds q free).0) (λ d theirs meets verified. (anchors_alike names x keys old new adds d theirs meets verified).0) c,
-    anchor_there new old (λ q free. (leads_alike names x keys old new adds q free).1) (λ d theirs meets verified. (anchors_alike names x keys old new adds d theirs meets verified).1) c,
+    anchor_there old new (λ q free. (leads_alike names x keys old new adds q free).0)
+        (λ d theirs meets verified. (anchors_alike names x keys old new adds d theirs meets verified).0) c,
+    anchor_there new old (λ q free. (leads_alike names x keys old new adds q free).1)
+        (λ d theirs meets verified. (anchors_alike names x keys old new adds d theirs meets verified).1) c,
   )

@@ -9,7 +9,8 @@ use Rattle.rpki_keys.specs.Locators.{NamedTal}
 use Rattle.rpki_path.specs.AskedLists.{by_named_lists}
 use Rattle.rpki_path.specs.Paths.{Path, last, certificate_at, IsPathOf}
 use Rattle.rpki_folder.specs.Folders.{FolderFields, cas_at}
-use Rattle.rpki_folder.specs.Walks.{at_anchor, members_at, LeadsTo, StandsAt, IsLookedAt, AreAdmitted, IsChildOf, AreChildren, HasShare, HasEnough}
+use Rattle.rpki_folder.specs.Walks.{at_anchor, members_at, LeadsTo, StandsAt, IsLookedAt, AreAdmitted, IsChildOf}
+use Rattle.rpki_folder.specs.Walks.{AreChildren, HasShare, HasEnough}
 
 -- ---- what is let in
 

@@ -35,7 +35,8 @@ module _ (key : KeyFields) where
   abbrev pub Apart : List ℕ → Type 0
   Apart octets = CertifiesKey key octets → ⊥
 
-  module _ (path : List (List ℕ)) (i : ℕ) (octets : List ℕ) (low : i < length path) (is : octets ≡ get_or path i octets) where
+  module _ (path : List (List ℕ)) (i : ℕ) (octets : List ℕ) (low : i < length path)
+      (is : octets ≡ get_or path i octets) where
     -- the key of one of the strings
     pub key_there : CertifiesKey key octets → IsTrue false ↔ IsNoKeyOf path key
     key_there there = (
@@ -48,7 +49,8 @@ module _ (key : KeyFields) where
     none_further all not = All-more Apart path i octets low all (subst Apart is not)
 
   -- the issuer hasn't the key either
-  pub own_too : {E : Type 0} (issuer : Option ResourceFields) (path : List (List ℕ)) → IsNotIssuersKey issuer key → (r : Result Bool E) → IfOk r (λ is. IsTrue is ↔ IsNoKeyOf path key)
+  pub own_too : {E : Type 0} (issuer : Option ResourceFields) (path : List (List ℕ)) → IsNotIssuersKey issuer key →
+      (r : Result Bool E) → IfOk r (λ is. IsTrue is ↔ IsNoKeyOf path key)
       → IfOk r (λ is. IsTrue is ↔ IsNotIssuersKey issuer key × IsNoKeyOf path key)
   own_too issuer path not (Ok is) h = ((λ yes. (not, h.0 yes)), (λ both. h.1 both.1))
   own_too issuer path not (Err e) h = tt

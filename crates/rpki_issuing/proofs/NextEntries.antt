@@ -1,7 +1,8 @@
 -- Which entries the next list has.
 use Rattle.std.specs.Prelude.{Bool, true, false, not, ◌||◌, nat_eq, cond, Contains}
 use Rattle.std.specs.List.{AllByRecursion, filter, list_any}
-use Rattle.std.proofs.Common.{◌≡◌, ◌⊎◌, ◌<◌, ℕ, zero, suc, List, [], ◌∷◌, ◌++◌, length, get_or, map, sym, ap, subst, ◌∙◌, inl, inr, arith}
+use Rattle.std.proofs.Common.{◌≡◌, ◌⊎◌, ◌<◌, ℕ, zero, suc, List, [], ◌∷◌, ◌++◌, length, get_or, map, sym, ap, subst}
+use Rattle.std.proofs.Common.{◌∙◌, inl, inr, arith}
 use Rattle.std.proofs.lemmas.Bool.{cases_Bool, eq-eqb, eqb-true, false≢true}
 use Rattle.std.proofs.lemmas.List.{map-append, map-id}
 use Rattle.std.proofs.lemmas.List.Elements.{Contains-append_left, Contains-push, Contains-push_cases}
@@ -46,11 +47,14 @@ mapped f (y ∷ ys) x h = elim (cases y ys x h) [
 filter_to : {X : Type 0} (p : X → Bool) (xs : List X) (x : X) → Contains (filter p xs) x → Contains xs x × (p x ≡ true)
 filter_to p [] x h = absurd (none x h)
 filter_to p (y ∷ ys) x h = elim (cases_Bool (p y)) [
-  | inl on ↦ elim (cases y (filter p ys) x (subst (λ (b : Bool). Contains (cond b (y ∷ filter p ys) (filter p ys)) x) on h)) [
-    | inl same ↦ (here y ys x same, ap p (sym same) ∙ on)
-    | inr rest ↦ let found = filter_to p ys x rest in (there y ys x found.0, found.1)
-  ]
-  | inr off ↦ let found = filter_to p ys x (subst (λ (b : Bool). Contains (cond b (y ∷ filter p ys) (filter p ys)) x) off h) in (there y ys x found.0, found.1)
+  | inl on ↦ elim (cases y (filter p ys) x
+      (subst (λ (b : Bool). Contains (cond b (y ∷ filter p ys) (filter p ys)) x) on h)) [
+        | inl same ↦ (here y ys x same, ap p (sym same) ∙ on)
+        | inr rest ↦ let found = filter_to p ys x rest in (there y ys x found.0, found.1)
+      ]
+  | inr off ↦ let found =
+      filter_to p ys x (subst (λ (b : Bool). Contains (cond b (y ∷ filter p ys) (filter p ys)) x) off h) in
+      (there y ys x found.0, found.1)
 ]
 
 filter_from : {X : Type 0} (p : X → Bool) (xs : List X) (x : X) → Contains xs x → p x ≡ true → Contains (filter p xs) x
@@ -60,10 +64,11 @@ filter_from p (y ∷ ys) x h pass = elim (cases_Bool (p y)) [
     | inl same ↦ here y (filter p ys) x same
     | inr rest ↦ there y (filter p ys) x (filter_from p ys x rest pass)
   ])
-  | inr off ↦ subst (λ (b : Bool). Contains (cond b (y ∷ filter p ys) (filter p ys)) x) (sym off) (elim (cases y ys x h) [
-    | inl same ↦ absurd (false≢true (sym off ∙ ap p same ∙ pass))
-    | inr rest ↦ filter_from p ys x rest pass
-  ])
+  | inr off ↦ subst (λ (b : Bool). Contains (cond b (y ∷ filter p ys) (filter p ys)) x) (sym off)
+      (elim (cases y ys x h) [
+        | inl same ↦ absurd (false≢true (sym off ∙ ap p same ∙ pass))
+        | inr rest ↦ filter_from p ys x rest pass
+      ])
 ]
 
 -- ---- numbers that are revoked
@@ -73,13 +78,17 @@ serials e = e.serial
 
 -- one entry more
 pub revoked_cases : (es : List Entry) (x : Entry) (n : ℕ) → IsRevoked n (es ++ x ∷ []) → IsRevoked n es ⊎ (x.serial ≡ n)
-revoked_cases es x n h = Contains-push_cases (map serials es) x.serial n (subst (λ (ns : List ℕ). Contains ns n) (map-append serials es (x ∷ [])) h)
+revoked_cases es x n h = Contains-push_cases (map serials es) x.serial n
+    (subst (λ (ns : List ℕ). Contains ns n) (map-append serials es (x ∷ [])) h)
 
 -- the entry at a place is one that revokes
-pub entry_at : (xs : List CrlEntry) (i : ℕ) (x : CrlEntry) → i < length xs → x ≡ get_or xs i x → IsRevoked (entry_of x).serial (map entry_of xs)
+pub entry_at : (xs : List CrlEntry) (i : ℕ) (x : CrlEntry) → i < length xs → x ≡ get_or xs i x →
+    IsRevoked (entry_of x).serial (map entry_of xs)
 entry_at [] i x low is = absurd (omega arith)
-entry_at (y ∷ ys) zero x low is = here (entry_of y).serial (map serials (map entry_of ys)) (entry_of x).serial (ap (λ (z : CrlEntry). (entry_of z).serial) (sym is))
-entry_at (y ∷ ys) (suc i) x low is = there (entry_of y).serial (map serials (map entry_of ys)) (entry_of x).serial (entry_at ys i x (omega arith) is)
+entry_at (y ∷ ys) zero x low is = here (entry_of y).serial (map serials (map entry_of ys)) (entry_of x).serial
+    (ap (λ (z : CrlEntry). (entry_of z).serial) (sym is))
+entry_at (y ∷ ys) (suc i) x low is = there (entry_of y).serial (map serials (map entry_of ys)) (entry_of x).serial
+    (entry_at ys i x (omega arith) is)
 
 -- ---- numbers that are gone
 
@@ -87,7 +96,8 @@ among : (gone : List ℕ) (n : ℕ) → list_any (λ m. nat_eq m n) gone ≡ tru
 among [] n found = absurd (false≢true found)
 among (m ∷ ms) n found = elim (cases_Bool (nat_eq m n)) [
   | inl same ↦ here m ms n (eqb-true m n same)
-  | inr other ↦ there m ms n (among ms n (subst (λ (b : Bool). (b || list_any (λ k. nat_eq k n) ms) ≡ true) other found))
+  | inr other ↦ there m ms n
+      (among ms n (subst (λ (b : Bool). (b || list_any (λ k. nat_eq k n) ms) ≡ true) other found))
 ]
 
 not_among : (gone : List ℕ) (n : ℕ) → list_any (λ m. nat_eq m n) gone ≡ false → Contains gone n → ⊥
@@ -119,9 +129,12 @@ module _ (old : ListFields Revoked) (gone : List ℕ) where
   -- before any is added
   pub kept_alone : (es : List Entry) → es ≡ filter (keeps gone) old.revoked.entries → HasNextEntries old [] gone es
   kept_alone es is = record {
-    kept = λ e h. subst (λ (fs : List Entry). Contains fs e) (sym is) (filter_from (keeps gone) old.revoked.entries e h.stood (keeps_from gone e h.not_gone));
+    kept = λ e h. subst (λ (fs : List Entry). Contains fs e) (sym is)
+        (filter_from (keeps gone) old.revoked.entries e h.stood (keeps_from gone e h.not_gone));
     revoked = λ e h. absurd (none e h);
-    only = λ e h. let found = filter_to (keeps gone) old.revoked.entries e (subst (λ (fs : List Entry). Contains fs e) is h) in inl (record { stood = found.0; not_gone = keeps_to gone e found.1 });
+    only = λ e h. let found = filter_to (keeps gone) old.revoked.entries e
+        (subst (λ (fs : List Entry). Contains fs e) is h) in
+        inl (record { stood = found.0; not_gone = keeps_to gone e found.1 });
   }
 
   module _ (added es : List Entry) (x : Entry) (so_far : HasNextEntries old added gone es) where
@@ -153,7 +166,8 @@ module _ (old : ListFields Revoked) (gone : List ℕ) where
         pushed e h = mapped serials (es ++ x ∷ []) e h
 
         go : (e : Entry) → Contains added e ⊎ (x ≡ e) → IsRevoked e.serial (es ++ x ∷ [])
-        go e (inl before) = subst (λ (ns : List ℕ). Contains ns e.serial) (sym (map-append serials es (x ∷ []))) (Contains-append_left (map serials es) (x.serial ∷ []) e.serial (so_far.revoked e before))
+        go e (inl before) = subst (λ (ns : List ℕ). Contains ns e.serial) (sym (map-append serials es (x ∷ [])))
+            (Contains-append_left (map serials es) (x.serial ∷ []) e.serial (so_far.revoked e before))
         go e (inr same) = pushed e (subst (λ (y : Entry). Contains (es ++ x ∷ []) y) same (Contains-push es x))
 
         more : (e : Entry) → Contains es e ⊎ (x ≡ e) → IsKept old gone e ⊎ Contains (added ++ x ∷ []) e
@@ -167,20 +181,34 @@ module _ (old : ListFields Revoked) (gone : List ℕ) where
 -- ---- the next list
 
 -- the entries that are given by a vector are its own
-pub given_by : {Z : Type 0} (s : IntoIter CrlEntry Z) (all items : List CrlEntry) (es : List Entry) → into_iter_items s ≡ all → into_iter_len s ≡ length all
+pub given_by : {Z : Type 0} (s : IntoIter CrlEntry Z) (all items : List CrlEntry) (es : List Entry) →
+    into_iter_items s ≡ all → into_iter_len s ≡ length all
     → Drains (into_iter_steps {X = CrlEntry} {Z = Z}) s items → es ≡ map entry_of items → es ≡ map entry_of all
 given_by {Z} s all items es left len drains is =
-    let given = items_from_drains items (drains.1.0, drains.1.1, λ _. (drains.0, drains.1.2)) (YieldsList-from_vec all left len) in
+    let given = items_from_drains items (drains.1.0, drains.1.1, λ _. (drains.0, drains.1.2))
+    (YieldsList-from_vec all left len) in
     is ∙ ap (map entry_of) (sym (map-id items) ∙ given)
 
 -- what is made of these entries, with a number and moments that were checked
-pub next_made : (old : ListFields Revoked) (added : List Entry) (gone : List ℕ) (es : List Entry) (number : ℕ) (this_update next_update : Moment) (t : ListFields Revoked)
-    → t ≡ record { algorithm = old.algorithm; issuer = old.issuer; this_update = this_update; next_update = next_update; revoked = t.revoked; extensions = record { authority_key_identifier = old.extensions.authority_key_identifier; crl_number = number } }
-    → t.revoked.entries ≡ es → HasNextEntries old added gone es → AllByRecursion (NextCheck old number this_update next_update) next_checks → IsNext old added gone t
+pub next_made : (old : ListFields Revoked) (added : List Entry) (gone : List ℕ) (es : List Entry) (number : ℕ)
+    (this_update next_update : Moment) (t : ListFields Revoked)
+    → t ≡ record {
+      algorithm = old.algorithm;
+      issuer = old.issuer;
+      this_update = this_update;
+      next_update =
+          next_update;
+      revoked = t.revoked;
+      extensions =
+          record { authority_key_identifier = old.extensions.authority_key_identifier; crl_number = number };
+    }
+    → t.revoked.entries ≡ es → HasNextEntries old added gone es →
+    AllByRecursion (NextCheck old number this_update next_update) next_checks → IsNext old added gone t
 next_made old added gone es number this_update next_update t is same has checks = record {
   number_is_greater = subst (λ (n : ℕ). old.extensions.crl_number < n) (sym numbers) checks.0;
   number_is_short = subst HasAtMostTwentyOctets (sym numbers) checks.1.0;
-  updates_are_in_order = subst (λ (f : ListFields Revoked). IsNotAfter f.this_update f.next_update) (sym is) checks.1.1.0;
+  updates_are_in_order = subst (λ (f : ListFields Revoked). IsNotAfter f.this_update f.next_update) (sym is)
+      checks.1.1.0;
   entries = subst (λ (fs : List Entry). HasNextEntries old added gone fs) (sym same) has;
   algorithm_is = ap (λ (f : ListFields Revoked). f.algorithm) is;
   issuer_is = ap (λ (f : ListFields Revoked). f.issuer) is;

@@ -16,7 +16,9 @@ pub record AreRead (family : Family) (before behind : List ℕ) (address count :
   pub count_is : IsOnly (λ n. IsNumberText n behind) count
 
 -- the block from an address that has no bit set behind the count
-pub only_prefix : (family : Family) (before behind : List ℕ) (address count first len : ℕ) (b : Block) → AreRead family before behind address count → count ≤ bits_of family → first ≡ address * size_of family → len ≡ count → IsPrefixBlock first len b → b.min ≡ first
+pub only_prefix : (family : Family) (before behind : List ℕ) (address count first len : ℕ) (b : Block) →
+    AreRead family before behind address count → count ≤ bits_of family → first ≡ address * size_of family →
+    len ≡ count → IsPrefixBlock first len b → b.min ≡ first
     → IsOnly (IsPrefix family before behind) b
 only_prefix family before behind address count first len b read fits first_is len_is block whole = (
   record {
@@ -31,13 +33,16 @@ only_prefix family before behind address count first len b read fits first_is le
   λ other is.
       let addresses : is.address ≡ address = read.address_is.1 is.address is.address_is in
       let counts : is.count ≡ count = read.count_is.1 is.count is.count_is in
-      let low : other.min ≡ b.min = is.whole ∙ ap (λ (n : ℕ). n * size_of family) addresses ∙ sym first_is ∙ sym whole in
+      let low : other.min ≡ b.min = is.whole ∙ ap (λ (n : ℕ). n * size_of family) addresses ∙ sym first_is ∙
+      sym whole in
       let wide : 2 ^ (128 - is.count) ≡ 2 ^ (128 - len) = ap (λ (n : ℕ). 2 ^ (128 - n)) (counts ∙ sym len_is) in
       same_block other b low (omega (arith, is.block_is.upper, block.upper)),
 )
 
 -- there is none from an address with such a bit
-pub no_prefix : (family : Family) (before behind : List ℕ) (address count first len : ℕ) (b : Block) → AreRead family before behind address count → first ≡ address * size_of family → len ≡ count → IsPrefixBlock first len b → (b.min ≡ first → ⊥) → (other : Block) → IsPrefix family before behind other → ⊥
+pub no_prefix : (family : Family) (before behind : List ℕ) (address count first len : ℕ) (b : Block) →
+    AreRead family before behind address count → first ≡ address * size_of family → len ≡ count →
+    IsPrefixBlock first len b → (b.min ≡ first → ⊥) → (other : Block) → IsPrefix family before behind other → ⊥
 no_prefix family before behind address count first len b read first_is len_is block cut other is =
     let addresses : is.address ≡ address = read.address_is.1 is.address is.address_is in
     let counts : is.count ≡ count = read.count_is.1 is.count is.count_is in
@@ -47,12 +52,15 @@ no_prefix family before behind address count first len b read first_is len_is bl
     cut (block.lower ∙ sym lower ∙ is.whole ∙ low)
 
 -- the first address of a family's isn't past the last
-in_order : (family : Family) (first last low high : ℕ) → first ≤ last → low ≡ first * size_of family → high + 1 ≡ (last + 1) * size_of family → low ≤ high
+in_order : (family : Family) (first last low high : ℕ) → first ≤ last → low ≡ first * size_of family →
+    high + 1 ≡ (last + 1) * size_of family → low ≤ high
 in_order V4 first last low high le low_is high_is = omega arith
 in_order V6 first last low high le low_is high_is = omega arith
 
 -- the block between two ends
-pub only_range : (family : Family) (before behind : List ℕ) (first last low high : ℕ) (b : Block) → IsOnly (λ n. IsAddressText family n before) first → IsOnly (λ n. IsAddressText family n behind) last → first ≤ last → low ≡ first * size_of family → high + 1 ≡ (last + 1) * size_of family
+pub only_range : (family : Family) (before behind : List ℕ) (first last low high : ℕ) (b : Block) →
+    IsOnly (λ n. IsAddressText family n before) first → IsOnly (λ n. IsAddressText family n behind) last →
+    first ≤ last → low ≡ first * size_of family → high + 1 ≡ (last + 1) * size_of family
     → b.min ≡ min low high → b.max ≡ max low high → IsOnly (IsRange family before behind) b
 only_range family before behind first last low high b firsts lasts le low_is high_is min_is max_is =
     let ordered : low ≤ high = in_order family first last low high le low_is high_is in
@@ -68,7 +76,9 @@ only_range family before behind first last low high b firsts lasts le low_is hig
         max_is = ap (λ (n : ℕ). n + 1) upper ∙ high_is;
       },
       λ other is.
-          let start : other.min ≡ b.min = is.min_is ∙ ap (λ (n : ℕ). n * size_of family) (firsts.1 is.first is.first_is) ∙ sym low_is ∙ sym lower in
-          let end : other.max + 1 ≡ b.max + 1 = is.max_is ∙ ap (λ (n : ℕ). (n + 1) * size_of family) (lasts.1 is.last is.last_is) ∙ sym high_is ∙ ap (λ (n : ℕ). n + 1) (sym upper) in
+          let start : other.min ≡ b.min = is.min_is ∙ ap (λ (n : ℕ). n * size_of family)
+          (firsts.1 is.first is.first_is) ∙ sym low_is ∙ sym lower in
+          let end : other.max + 1 ≡ b.max + 1 = is.max_is ∙ ap (λ (n : ℕ). (n + 1) * size_of family)
+          (lasts.1 is.last is.last_is) ∙ sym high_is ∙ ap (λ (n : ℕ). n + 1) (sym upper) in
           same_block other b start (omega (arith, end)),
     )

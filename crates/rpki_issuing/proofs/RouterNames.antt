@@ -27,9 +27,14 @@ before_text = SEQUENCE ∷ 26 ∷ set_octets []
 pub name-text : (text : List ℕ) → length text ≡ 15 → name_of_digits text ≡ before_text ++ text
 unfolding key_name_format
 name-text text e =
-    let id : enc OBJECT_IDENTIFIER common_name ≡ OBJECT_IDENTIFIER ∷ 3 ∷ common_name = enc_short OBJECT_IDENTIFIER common_name 3 refl (omega arith) in
-    let one : enc PRINTABLE_STRING text ≡ PRINTABLE_STRING ∷ 15 ∷ text = enc_short PRINTABLE_STRING text 15 e (omega arith) in
-    let two : enc SEQUENCE (attribute_content text) ≡ attribute_octets text = enc_short SEQUENCE (attribute_content text) 22 (omega arith) (omega arith) in
-    let three : enc SET (attribute_octets text) ≡ set_octets text = enc_short SET (attribute_octets text) 24 (omega arith) (omega arith) in
-    let four : enc SEQUENCE (set_octets text) ≡ before_text ++ text = enc_short SEQUENCE (set_octets text) 26 (omega arith) (omega arith) in
+    let id : enc OBJECT_IDENTIFIER common_name ≡ OBJECT_IDENTIFIER ∷ 3 ∷ common_name =
+    enc_short OBJECT_IDENTIFIER common_name 3 refl (omega arith) in
+    let one : enc PRINTABLE_STRING text ≡ PRINTABLE_STRING ∷ 15 ∷ text =
+    enc_short PRINTABLE_STRING text 15 e (omega arith) in
+    let two : enc SEQUENCE (attribute_content text) ≡ attribute_octets text =
+    enc_short SEQUENCE (attribute_content text) 22 (omega arith) (omega arith) in
+    let three : enc SET (attribute_octets text) ≡ set_octets text = enc_short SET (attribute_octets text) 24
+    (omega arith) (omega arith) in
+    let four : enc SEQUENCE (set_octets text) ≡ before_text ++ text =
+    enc_short SEQUENCE (set_octets text) 26 (omega arith) (omega arith) in
     rw (id, one, two, three) four

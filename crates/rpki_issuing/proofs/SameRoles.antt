@@ -9,7 +9,8 @@ use Rattle.rpki_cert.specs.declared.validation_error.ValidationError.TheVariants
 use Rattle.rpki_cert.proofs.Checks.{first_not_all}
 use Rattle.rpki_der.specs.Times.{Moment}
 use Rattle.rpki_cert.specs.declared.verification_error.VerificationError.TheVariants.{BadSignature}
-use Rattle.rpki_issuing.specs.Readiness.{IsReady, IsUnready, IsSignatureOf, IsSignatureFault, but_signature, unsigned, signed_with}
+use Rattle.rpki_issuing.specs.Readiness.{IsReady, IsUnready, IsSignatureOf, IsSignatureFault, but_signature}
+use Rattle.rpki_issuing.specs.Readiness.{unsigned, signed_with}
 use Rattle.rpki_issuing.specs.Roles.{kind_of, signing_key, RoleCheck, role_checks}
 use Rattle.rpki_issuing.specs.declared.issuing_error.IssuingError.{IssuingError}
 use Rattle.rpki_issuing.specs.declared.issuing_error.IssuingError.TheVariants.{Unwritable, TooLong, Invalid, Memory}
@@ -40,8 +41,10 @@ module _ (at : Moment) (strict : Bool) (f : TbsFields) where
   pub unready_not : (r : Role) (e : IssuingError) → e ≢ Memory → IsUnready at strict r f e → IsReady at strict r f → ⊥
   unready_not r Unwritable apart h ready = h ready.fields_are
   unready_not r TooLong apart h ready = let short = ready.short in omega arith
-  unready_not r (Invalid (Inspection e)) apart h ready = first_not_all (Lacks (kind_of r) strict (unsigned f)) (faults (kind_of r)) e h ready.valid.meets
-  unready_not r (Invalid (Verification e)) apart h ready = first_not_all (RoleCheck (but_signature at strict) r (unsigned f)) (role_checks r) e h.1 ready.valid.checks
+  unready_not r (Invalid (Inspection e)) apart h ready = first_not_all (Lacks (kind_of r) strict (unsigned f))
+      (faults (kind_of r)) e h ready.valid.meets
+  unready_not r (Invalid (Verification e)) apart h ready =
+      first_not_all (RoleCheck (but_signature at strict) r (unsigned f)) (role_checks r) e h.1 ready.valid.checks
   unready_not r Memory apart h ready = apart refl
 
   abbrev checked : ResourceFields → Type 0
@@ -50,33 +53,63 @@ module _ (at : Moment) (strict : Bool) (f : TbsFields) where
   abbrev router_checked : ResourceFields → Type 0
   router_checked r = IsVerified (CheckUnder (but_signature at strict) r (unsigned f)) router_checks
 
-  same_ready : (r s : Role) → kind_of r ≡ kind_of s → issuer_in r ≡ issuer_in s → IsReady at strict r f → IsReady at strict s f
+  same_ready : (r s : Role) → kind_of r ≡ kind_of s → issuer_in r ≡ issuer_in s → IsReady at strict r f →
+      IsReady at strict s f
   same_ready Anchor Anchor k i h = h
-  same_ready (Authority a) (Authority b) k i h = record { fields_are = h.fields_are; short = h.short; valid = record { meets = h.valid.meets; checks = subst checked (some_same a.now b.now i) h.valid.checks } }
-  same_ready (EndEntity a) (EndEntity b) k i h = record { fields_are = h.fields_are; short = h.short; valid = record { meets = h.valid.meets; checks = subst checked (some_same a.now b.now i) h.valid.checks } }
-  same_ready (Detached a) (Detached b) k i h = record { fields_are = h.fields_are; short = h.short; valid = record { meets = h.valid.meets; checks = subst checked (some_same a.now b.now i) h.valid.checks } }
-  same_ready (Router a) (Router b) k i h = record { fields_are = h.fields_are; short = h.short; valid = record { meets = h.valid.meets; checks = subst router_checked (some_same a.now b.now i) h.valid.checks } }
+  same_ready (Authority a) (Authority b) k i h =
+      record {
+        fields_are = h.fields_are;
+        short = h.short;
+        valid =
+            record { meets = h.valid.meets; checks = subst checked (some_same a.now b.now i) h.valid.checks };
+      }
+  same_ready (EndEntity a) (EndEntity b) k i h =
+      record {
+        fields_are = h.fields_are;
+        short = h.short;
+        valid =
+            record { meets = h.valid.meets; checks = subst checked (some_same a.now b.now i) h.valid.checks };
+      }
+  same_ready (Detached a) (Detached b) k i h =
+      record {
+        fields_are = h.fields_are;
+        short = h.short;
+        valid =
+            record { meets = h.valid.meets; checks = subst checked (some_same a.now b.now i) h.valid.checks };
+      }
+  same_ready (Router a) (Router b) k i h =
+      record {
+        fields_are = h.fields_are;
+        short = h.short;
+        valid =
+            record { meets = h.valid.meets; checks = subst router_checked (some_same a.now b.now i) h.valid.checks };
+      }
   same_ready _ _ k i h = absurd cc
 
   -- what is ready in a role of a kind below an issuer is so in each such role
-  pub role_ready : (kind : Kind) (issuer : Option ResourceFields) (r s : Role) → IsRoleOf kind issuer r → IsRoleOf kind issuer s → IsReady at strict r f → IsReady at strict s f
+  pub role_ready : (kind : Kind) (issuer : Option ResourceFields) (r s : Role) → IsRoleOf kind issuer r →
+      IsRoleOf kind issuer s → IsReady at strict r f → IsReady at strict s f
   role_ready kind issuer r s a b h = same_ready r s (a.kind_is ∙ sym b.kind_is) (a.issuer_is ∙ sym b.issuer_is) h
 
   -- and one key signs in each
-  pub role_key : (kind : Kind) (issuer : Option ResourceFields) (r s : Role) → IsRoleOf kind issuer r → IsRoleOf kind issuer s → signing_key r f ≡ signing_key s f
+  pub role_key : (kind : Kind) (issuer : Option ResourceFields) (r s : Role) → IsRoleOf kind issuer r →
+      IsRoleOf kind issuer s → signing_key r f ≡ signing_key s f
   role_key kind issuer r s a b =
       let same : issuer_in r ≡ issuer_in s = a.issuer_is ∙ sym b.issuer_is in
       signs_below r f ∙ ap (λ (o : Option ResourceFields). key_below f o) same ∙ sym (signs_below s f)
 
 -- what is signed isn't refused for its signature
-pub signature_not : (V : Verifies) (r : Role) (f : TbsFields) (value : List ℕ) (e : IssuingError) → e ≢ Memory → IsSignatureFault V r f value e → length (signed_content (signed_with f value).signed_data) < 2 ^ 32 → IsSignatureOf V r f value → ⊥
+pub signature_not : (V : Verifies) (r : Role) (f : TbsFields) (value : List ℕ) (e : IssuingError) → e ≢ Memory →
+    IsSignatureFault V r f value e → length (signed_content (signed_with f value).signed_data) < 2 ^ 32 →
+    IsSignatureOf V r f value → ⊥
 signature_not V r f value (Invalid (Verification BadSignature)) apart h short signed = h signed
 signature_not V r f value TooLong apart h short signed = omega arith
 signature_not V r f value Memory apart h short signed = apart refl
 signature_not V r f value _ apart h short signed = h
 
 -- what an answer says, carried over
-pub on_ok : {X E : Type 0} (P Q : X → Type 0) (S : Type 0) (r : Result X E) → IfOk r P → (IsOk r → S) → ((x : X) → P x → S → Q x) → IfOk r Q
+pub on_ok : {X E : Type 0} (P Q : X → Type 0) (S : Type 0) (r : Result X E) → IfOk r P → (IsOk r → S) →
+    ((x : X) → P x → S → Q x) → IfOk r Q
 on_ok P Q S (Ok x) p s f = f x p (s refl)
 on_ok P Q S (Err e) p s f = tt
 

@@ -1,6 +1,7 @@
 -- The certificate that is asked: what each of its fields is (RFC 6487 4, RFC 8209 3.1).
 use Rattle.std.specs.Int.{w32, to_be_bytes}
-use Rattle.std.specs.Prelude.{ℕ, Bool, true, false, if◌then◌else◌, List, ◌∷◌, ◌++◌, Option, Some, None, option_map, codes}
+use Rattle.std.specs.Prelude.{ℕ, Bool, true, false, if◌then◌else◌, List, ◌∷◌, ◌++◌, Option, Some, None, option_map}
+use Rattle.std.specs.Prelude.{codes}
 use Rattle.rpki_blocks.specs.Resources.{Resources, blocks}
 use Rattle.rpki_blocks.specs.declared.overclaim.Overclaim.TheVariants.{Refuse, Trim}
 use Rattle.rpki_cert.specs.Certificates.{TbsFields}

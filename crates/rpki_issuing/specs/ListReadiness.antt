@@ -22,7 +22,12 @@ use Rattle.rpki_issuing.specs.declared.list_error.ListError.TheVariants.{Invalid
 -- what is made of the fields with these octets as signature, made by the algorithm that the fields
 -- name
 abbrev pub list_signed_with : ListFields Revoked → List ℕ → CrlFields
-list_signed_with f value = record { fields = f; signed_data = record { message = list_encoding f; signature = record { algorithm = f.algorithm; value = value } } }
+list_signed_with f value =
+    record {
+      fields = f;
+      signed_data =
+          record { message = list_encoding f; signature = record { algorithm = f.algorithm; value = value } };
+    }
 
 -- as it stands before it is signed: its signature has no octets
 abbrev pub list_unsigned : ListFields Revoked → CrlFields
@@ -87,11 +92,13 @@ IsListSignatureFault V issuer f value Memory = Unit {0}
 -- each certificate of the issuer whose serial number isn't on the list passes each check of the
 -- list
 abbrev pub LeavesOthers : Context → TbsFields → CrlFields → Type 0
-LeavesOthers x issuer list = (serial : ℕ) → (IsRevoked serial list.fields.revoked.entries → ⊥) → IsVerified (ListCheck x issuer serial list) revocation_checks
+LeavesOthers x issuer list = (serial : ℕ) → (IsRevoked serial list.fields.revoked.entries → ⊥) →
+    IsVerified (ListCheck x issuer serial list) revocation_checks
 
 -- a certificate of the issuer whose serial number is on the list fails as revoked
 abbrev pub RevokesItsOwn : Context → TbsFields → CrlFields → Type 0
-RevokesItsOwn x issuer list = (serial : ℕ) → IsRevoked serial list.fields.revoked.entries → IsFirstFalse (ListCheck x issuer serial list) revocation_checks revocation.Revoked
+RevokesItsOwn x issuer list = (serial : ℕ) → IsRevoked serial list.fields.revoked.entries →
+    IsFirstFalse (ListCheck x issuer serial list) revocation_checks revocation.Revoked
 
 -- ---- names
 

@@ -18,7 +18,8 @@ pub record IsKept (old : ListFields Revoked) (gone : List ℕ) (e : Entry) : Typ
 
 -- which entries the next list has: those of the old one whose certificates aren't gone, and those
 -- that are added, and no others. A serial number that is kept isn't added a second time (own).
-pub record HasNextEntries (old : ListFields Revoked) (added : List Entry) (gone : List ℕ) (es : List Entry) : Type 0 where
+pub record HasNextEntries (old : ListFields Revoked) (added : List Entry) (gone : List ℕ) (es : List Entry) : Type
+    0 where
   pub kept : (e : Entry) → IsKept old gone e → Contains es e
   pub revoked : (e : Entry) → Contains added e → IsRevoked e.serial es
   pub only : (e : Entry) → Contains es e → IsKept old gone e ⊎ Contains added e
@@ -29,7 +30,8 @@ HasAtMostTwentyOctets number = length (unsigned (digits_of 256 number)) ≤ 20
 
 -- the next list: a greater number that isn't too long, moments in order, these entries, and else
 -- what the old one has
-pub record IsNext (old : ListFields Revoked) (added : List Entry) (gone : List ℕ) (f : ListFields Revoked) : Type 0 where
+pub record IsNext (old : ListFields Revoked) (added : List Entry) (gone : List ℕ) (f : ListFields Revoked) : Type
+    0 where
   pub number_is_greater : old.extensions.crl_number < f.extensions.crl_number
   pub number_is_short : HasAtMostTwentyOctets f.extensions.crl_number
   pub updates_are_in_order : IsNotAfter f.this_update f.next_update
@@ -54,7 +56,8 @@ next_checks = Number ∷ LongNumber ∷ UpdateOrder ∷ []
 
 -- the first of them that isn't so; or memory was wanted
 abbrev pub IsNoNext : ListFields Revoked → ℕ → Moment → Moment → NextListError → Type 0
-IsNoNext old number this_update next_update e = (e ≡ Memory) ⊎ IsFirstFalse (NextCheck old number this_update next_update) next_checks e
+IsNoNext old number this_update next_update e = (e ≡ Memory) ⊎
+    IsFirstFalse (NextCheck old number this_update next_update) next_checks e
 
 -- ---- names
 

@@ -5,7 +5,8 @@ use Rattle.rpki_parts.specs.Keys.{KeyFields}
 use Rattle.rpki_cert.specs.Certificates.{TbsFields, CertFields}
 use Rattle.rpki_cert.specs.Profiles.{MeetsProfile}
 use Rattle.rpki_cert.specs.Validation.{IsInvalid}
-use Rattle.rpki_cert.specs.Verification.{Context, CheckUnder, TrustAnchorCheck, IsVerified, ResourceFields, HasIssued, trust_anchor_checks, issued_checks, router_checks}
+use Rattle.rpki_cert.specs.Verification.{Context, CheckUnder, TrustAnchorCheck, IsVerified, ResourceFields}
+use Rattle.rpki_cert.specs.Verification.{HasIssued, trust_anchor_checks, issued_checks, router_checks}
 use Rattle.rpki_cert.specs.declared.inspect.Kind.{Kind}
 use Rattle.rpki_cert.specs.declared.inspect.Kind.TheVariants as kind
 use Rattle.rpki_cert.specs.declared.verification_error.VerificationError.{VerificationError}
@@ -64,5 +65,6 @@ GetsNumbers (Router issuer) c = Unit {0}
 abbrev pub IsInvalidAs : Context → Role → CertFields → IssuingError → Type 0
 IsInvalidAs x role c Unwritable = ⊥
 IsInvalidAs x role c TooLong = ⊥
-IsInvalidAs x role c (Invalid e) = IsInvalid (kind_of role) x.strict c (IsFirstFalse (RoleCheck x role c) (role_checks role)) e
+IsInvalidAs x role c (Invalid e) =
+    IsInvalid (kind_of role) x.strict c (IsFirstFalse (RoleCheck x role c) (role_checks role)) e
 IsInvalidAs x role c Memory = Unit {0}

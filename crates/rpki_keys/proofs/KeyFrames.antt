@@ -1,6 +1,8 @@
 -- The bits of the keys of the RPKI: the octets of the modulus in a frame.
 use Rattle.std.specs.List.{concat}
-use Rattle.std.proofs.Common.{◌≡◌, ℕ, zero, suc, ◌+◌, ◌*◌, ◌%◌, ◌^◌, ◌<◌, ◌≤◌, ◌↔◌, IsTrue, Bool, Option, None, Some, is_some, MatchOption, List, [], ◌∷◌, ◌++◌, length, get_or, refl, sym, ap, ◌∙◌, arith, inl, inr}
+use Rattle.std.proofs.Common.{◌≡◌, ℕ, zero, suc, ◌+◌, ◌*◌, ◌%◌, ◌^◌, ◌<◌, ◌≤◌, ◌↔◌, IsTrue, Bool, Option, None, Some}
+use Rattle.std.proofs.Common.{is_some, MatchOption, List, [], ◌∷◌, ◌++◌, length, get_or, refl, sym, ap, ◌∙◌, arith}
+use Rattle.std.proofs.Common.{inl, inr}
 use Rattle.std.proofs.Math.Nat.{le_trans, lt_irrefl, mod-eq_of_lt, mul-le-mul_right, pow-suc}
 use Rattle.std.proofs.Math.Pow.{pow_mono}
 use Rattle.std.proofs.lemmas.Bool.{cases_lt}
@@ -14,7 +16,8 @@ use Rattle.rpki_der.proofs.Octets.{AreOctets-append, AreOctets-after, AreOctets-
 use Rattle.rpki_keys.specs.Octets.{os2ip, i2osp}
 use Rattle.rpki_keys.specs.RsaKeys.{IsRpkiSize, IsRpkiRsaKey, IsRpkiKey}
 use Rattle.rpki_keys.specs.Moduli.{IsOnlyModulus}
-use Rattle.rpki_keys.proofs.OctetNumbers.{length-i2osp, os2ip-i2osp, i2osp-os2ip, i2osp-wider, os2ip-below, os2ip-digits, pow-256, first-high, first-low, last-parity}
+use Rattle.rpki_keys.proofs.OctetNumbers.{length-i2osp, os2ip-i2osp, i2osp-os2ip, i2osp-wider, os2ip-below}
+use Rattle.rpki_keys.proofs.OctetNumbers.{os2ip-digits, pow-256, first-high, first-low, last-parity}
 
 -- the octets of a key of the RPKI before its modulus
 abbrev pub head : List ℕ
@@ -105,7 +108,8 @@ exponent-octets content e is i =
 modulus-value : (o : List ℕ) → length o ≡ 256 → enc INTEGER (0 ∷ o) ≡ 0x02 ∷ 0x82 ∷ 0x01 ∷ 0x01 ∷ 0x00 ∷ o
 unfolding enc
 modulus-value o l =
-    let long : length_octets (length (0 ∷ o)) ≡ 0x82 ∷ 0x01 ∷ 0x01 ∷ [] = ap (λ z. length_octets (suc z)) l ∙ length_82 257 (omega arith) (omega arith) in
+    let long : length_octets (length (0 ∷ o)) ≡ 0x82 ∷ 0x01 ∷ 0x01 ∷ [] = ap (λ z. length_octets (suc z)) l ∙
+    length_82 257 (omega arith) (omega arith) in
     ap (λ z. 0x02 ∷ (z ++ (0 ∷ o))) long
 
 exponent-value : enc INTEGER (1 ∷ 0 ∷ 1 ∷ []) ≡ tail
@@ -124,7 +128,8 @@ pieces : (o : List ℕ) → length o ≡ 256
     → concat (enc INTEGER (0 ∷ o) ∷ enc INTEGER (1 ∷ 0 ∷ 1 ∷ []) ∷ []) ≡ (0x02 ∷ 0x82 ∷ 0x01 ∷ 0x01 ∷ 0x00 ∷ o) ++ tail
 pieces o l = rw (modulus-value o l, exponent-value) (ap (λ z. (0x02 ∷ 0x82 ∷ 0x01 ∷ 0x01 ∷ 0x00 ∷ o) ++ z) (append-nil tail))
 
-frame : (o : List ℕ) → length o ≡ 256 → enc SEQUENCE (concat (enc INTEGER (0 ∷ o) ∷ enc INTEGER (1 ∷ 0 ∷ 1 ∷ []) ∷ [])) ≡ head ++ (o ++ tail)
+frame : (o : List ℕ) → length o ≡ 256 →
+    enc SEQUENCE (concat (enc INTEGER (0 ∷ o) ∷ enc INTEGER (1 ∷ 0 ∷ 1 ∷ []) ∷ [])) ≡ head ++ (o ++ tail)
 frame o l = ap (λ z. enc SEQUENCE z) (pieces o l) ∙ whole-value o l
 
 -- the bits of a key of the RPKI
@@ -157,7 +162,8 @@ pub key-long : (bits o : List ℕ) (n e : ℕ) → bits ≡ head ++ (o ++ tail) 
 key-long bits o n e b k = ap length (key-octets bits o n e b k) ∙ length-i2osp n 256
 
 -- a modulus whose top bit is 0 is none of a key of the RPKI
-pub key-high : (bits o : List ℕ) (n e : ℕ) → bits ≡ head ++ (o ++ tail) → AreOctets o → length o ≡ 256 → get_or o 0 0 < 128 → IsRpkiRsaKey n e bits → ⊥
+pub key-high : (bits o : List ℕ) (n e : ℕ) → bits ≡ head ++ (o ++ tail) → AreOctets o → length o ≡ 256 →
+    get_or o 0 0 < 128 → IsRpkiRsaKey n e bits → ⊥
 key-high bits o n e b a l h k =
     let below : os2ip o < 2 ^ 2047 = first-low o 255 a l h in
     let low : 2 ^ 2047 ≤ os2ip o = rw (← key-modulus bits o n e b k) k.size.low in
@@ -196,7 +202,13 @@ is-exponent : IsNumber 65537 (enc INTEGER (1 ∷ 0 ∷ 1 ∷ []))
 is-exponent = record {
   first = 1;
   more = 0 ∷ 1 ∷ [];
-  enc = record { octet = omega arith; low_tag = omega arith; octets = (omega arith, (omega arith, (omega arith, tt))); short = omega arith; is = refl };
+  enc = record {
+    octet = omega arith;
+    low_tag = omega arith;
+    octets = (omega arith, (omega arith, (omega arith, tt)));
+    short = omega arith;
+    is = refl;
+  };
   shortest = ((λ e. absurd (omega arith)), λ e. absurd (omega arith));
   not_negative = omega arith;
   is = refl;
@@ -207,7 +219,8 @@ is-sequence : (bits o : List ℕ) → bits ≡ head ++ (o ++ tail) → AreOctets
 is-sequence bits o b a l =
     let content = (0x02 ∷ 0x82 ∷ 0x01 ∷ 0x01 ∷ 0x00 ∷ o) ++ tail in
     let octets : AreOctets content = AreOctets-append (0x02 ∷ 0x82 ∷ 0x01 ∷ 0x01 ∷ 0x00 ∷ o) tail
-    (omega arith, (omega arith, (omega arith, (omega arith, (omega arith, a))))) (omega arith, (omega arith, (omega arith, (omega arith, (omega arith, tt))))) in
+    (omega arith, (omega arith, (omega arith, (omega arith, (omega arith, a)))))
+    (omega arith, (omega arith, (omega arith, (omega arith, (omega arith, tt))))) in
     let short : length content < 2 ^ 32 = omega (arith, length-append o tail) in
     record {
       octet = omega arith;

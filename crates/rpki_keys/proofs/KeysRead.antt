@@ -37,7 +37,8 @@ said Memory P h other = absurd (other refl)
 said _ P h other = h
 
 -- octets that are no key, whose digits these are and no others
-pub not_a_key : (octets digits : List ℕ) (lines : List (List ℕ)) (k : KeyFields) → digits ≡ flat_map without_white_space lines → ((k : KeyFields) → IsPublicKey k octets → ⊥)
+pub not_a_key : (octets digits : List ℕ) (lines : List (List ℕ)) (k : KeyFields) →
+    digits ≡ flat_map without_white_space lines → ((k : KeyFields) → IsPublicKey k octets → ⊥)
     → ((others : List ℕ) → IsBytes others → digits ≡ base64_of others → others ≡ octets) → ¬ HasKey k lines
 not_a_key octets digits lines k are none only has =
     none k (subst (IsPublicKey k) (only has.octets has.are_octets (are ∙ has.digits_are)) has.key_is)

@@ -62,7 +62,8 @@ key-read bits modulus exponent octets e =
     }
 
 -- the modulus that is read is the content of an INTEGER
-pub modulus-read : (bits modulus exponent : List ℕ) → AreOctets bits → rsa_numbers_of bits ≡ Some (modulus, exponent) → (text : List ℕ) × IsUnsigned modulus text
+pub modulus-read : (bits modulus exponent : List ℕ) → AreOctets bits →
+    rsa_numbers_of bits ≡ Some (modulus, exponent) → (text : List ℕ) × IsUnsigned modulus text
 modulus-read bits modulus exponent octets e =
     let s = numbers-read.takes bits (modulus, exponent) octets e in
     (s.1.0, s.1.2)

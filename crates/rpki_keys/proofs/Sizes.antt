@@ -1,6 +1,7 @@
 -- The size of a number, by its octets.
 use Rattle.std.specs.Int.Digits.{number_from_digits}
-use Rattle.std.proofs.Common.{◌≡◌, ℕ, suc, ◌+◌, ◌-◌, ◌*◌, ◌%◌, ◌^◌, ◌<◌, ◌≤◌, ◌↔◌, IsTrue, eqb, List, [], ◌∷◌, length, get_or, refl, sym, ◌∙◌, arith, inl, inr}
+use Rattle.std.proofs.Common.{◌≡◌, ℕ, suc, ◌+◌, ◌-◌, ◌*◌, ◌%◌, ◌^◌, ◌<◌, ◌≤◌, ◌↔◌, IsTrue, eqb, List, [], ◌∷◌, length}
+use Rattle.std.proofs.Common.{get_or, refl, sym, ◌∙◌, arith, inl, inr}
 use Rattle.std.proofs.Math.Nat.{mul-le-mul_right, pow-suc}
 use Rattle.std.proofs.Math.Pow.{pow_mono}
 use Rattle.std.proofs.lemmas.Bool.{cases_lt, eqb-true, eq-eqb}
@@ -28,7 +29,8 @@ not-odd n other = omega (arith, other)
 -- ---- how many digits it has
 
 -- the content of a positive number begins with a 0 only before an octet of 80 or more
-zero-bits : (content : List ℕ) (k : ℕ) → length content ≡ suc k → AreOctets content → IsInteger content → get_or content 0 0 ≡ 0 → 0 < os2ip content
+zero-bits : (content : List ℕ) (k : ℕ) → length content ≡ suc k → AreOctets content → IsInteger content →
+    get_or content 0 0 ≡ 0 → 0 < os2ip content
     → HasBits (os2ip content) (8 * k)
 unfolding os2ip
 zero-bits [] k l octets shortest zero some = absurd (omega arith)
@@ -46,7 +48,8 @@ zero-bits (x ∷ y ∷ ys) k l octets shortest zero some =
     }
 
 -- another first octet adds as many digits as it has
-some-bits : (content : List ℕ) (k log : ℕ) → length content ≡ suc k → AreOctets content → 2 ^ log ≤ get_or content 0 0 → get_or content 0 0 < 2 * 2 ^ log
+some-bits : (content : List ℕ) (k log : ℕ) → length content ≡ suc k → AreOctets content →
+    2 ^ log ≤ get_or content 0 0 → get_or content 0 0 < 2 * 2 ^ log
     → HasBits (os2ip content) (8 * k + log + 1)
 unfolding os2ip
 some-bits [] k log l octets low high = absurd (omega arith)
@@ -67,11 +70,13 @@ some-bits (x ∷ xs) k log l octets low high =
 as-digits : {count : ℕ} (content : List ℕ) → HasBits (os2ip content) count → HasBits (number_from_digits 256 content) count
 as-digits content h = rw os2ip-digits at h
 
-pub zero-digits : (content : List ℕ) (k : ℕ) → length content ≡ suc k → AreOctets content → IsInteger content → get_or content 0 0 ≡ 0 → 0 < number_from_digits 256 content
+pub zero-digits : (content : List ℕ) (k : ℕ) → length content ≡ suc k → AreOctets content → IsInteger content →
+    get_or content 0 0 ≡ 0 → 0 < number_from_digits 256 content
     → HasBits (number_from_digits 256 content) (8 * k)
 zero-digits content k l octets shortest zero some = as-digits content (zero-bits content k l octets shortest zero (rw os2ip-digits some))
 
-pub some-digits : (content : List ℕ) (k log : ℕ) → length content ≡ suc k → AreOctets content → 2 ^ log ≤ get_or content 0 0 → get_or content 0 0 < 2 * 2 ^ log
+pub some-digits : (content : List ℕ) (k log : ℕ) → length content ≡ suc k → AreOctets content →
+    2 ^ log ≤ get_or content 0 0 → get_or content 0 0 < 2 * 2 ^ log
     → HasBits (number_from_digits 256 content) (8 * k + log + 1)
 some-digits content k log l octets low high = as-digits content (some-bits content k log l octets low high)
 

@@ -32,7 +32,8 @@ usable-rsa bits (RsaKey count exponent) x = (
   λ k.
       let n : ℕ = k.0 in
       let same = one-key x.n x.e n k.1 bits x.key k.2.key in
-      let size : HasBits n 2048 = record { below = k.2.size.high; least = doubled (2 ^ 2047) (2 ^ 2048) n (pow-suc 2 2047) k.2.size.low } in (
+      let size : HasBits n 2048 =
+      record { below = k.2.size.high; least = doubled (2 ^ 2047) (2 ^ 2048) n (pow-suc 2 2047) k.2.size.low } in (
         one-count n count 2048 (rw same.0 at x.size) size,
         one-exponent k.1 exponent (Some 65537) (rw same.1 at x.exponent_is) (usual k.1 k.2.size.exponent),
       ),
@@ -66,6 +67,7 @@ usable-point bits NoPoint x = (λ p. absurd (x.0 (point-uncompressed bits p)), �
 usable-point bits _ x = absurd x
 
 -- the RPKI uses a key exactly where its form is one of those
-pub usable-form : (format : PublicKeyFormat) (bits : List ℕ) (form : KeyForm) → AreOfForm form format bits → AreUsable format bits ↔ IsUsableForm form
+pub usable-form : (format : PublicKeyFormat) (bits : List ℕ) (form : KeyForm) → AreOfForm form format bits →
+    AreUsable format bits ↔ IsUsableForm form
 usable-form Rsa bits form h = usable-rsa bits form h
 usable-form EcdsaP256 bits form h = usable-point bits form h

@@ -1,5 +1,6 @@
 -- Hexadecimal digits, as they are decoded and as they are defined.
-use Rattle.std.proofs.Common.{◌≡◌, ℕ, ◌+◌, ◌-◌, ◌*◌, ◌%◌, ◌≤◌, ◌==◌, ◌⊎◌, inl, inr, Bool, true, false, cond, ◌&&◌, List, [], ◌∷◌, length, Option, Some, None, Result, Ok, Err, refl, subst, ◌∙◌, arith}
+use Rattle.std.proofs.Common.{◌≡◌, ℕ, ◌+◌, ◌-◌, ◌*◌, ◌%◌, ◌≤◌, ◌==◌, ◌⊎◌, inl, inr, Bool, true, false, cond, ◌&&◌}
+use Rattle.std.proofs.Common.{List, [], ◌∷◌, length, Option, Some, None, Result, Ok, Err, refl, subst, ◌∙◌, arith}
 use Rattle.std.specs.Prelude.{nat_le, nat_eq, codes, IfOk, IfNone}
 use Rattle.std.specs.Cmp.Lexicographic.{pointwise}
 use Rattle.std.proofs.lemmas.Bool.{and_parts, leb-true, ne_eqb, false≢true}
@@ -124,7 +125,8 @@ pub other_word : (word : List ℕ) → false ≡ pointwise nat_eq word (codes "-
 other_word word e same = false≢true (e ∙ rw same refl)
 
 -- what holds where nothing was found implies what follows from it
-pub none_found : {X E : Type 0} {P Q : Type 0} (r : Result (Option X) E) → (P → Q) → IfOk r (λ found. IfNone found P) → IfOk r (λ found. IfNone found Q)
+pub none_found : {X E : Type 0} {P Q : Type 0} (r : Result (Option X) E) → (P → Q) →
+    IfOk r (λ found. IfNone found P) → IfOk r (λ found. IfNone found Q)
 none_found (Ok (Some x)) f h = h
 none_found (Ok None) f h = f h
 none_found (Err e) f h = h

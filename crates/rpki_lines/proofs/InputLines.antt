@@ -1,7 +1,8 @@
 -- Which line of an input doesn't fit.
 use Rattle.std.specs.List.{AllZip}
 use Rattle.std.specs.Prelude.{Bool, IfOk, get_or}
-use Rattle.std.proofs.Common.{◌≡◌, ◌≢◌, ◌==◌, ℕ, ◌+◌, ◌⊎◌, inl, inr, true, false, List, [], ◌∷◌, ◌++◌, length, None, Result, Ok, Err, refl, sym, ap, subst, ◌∙◌, arith, codes, lit<}
+use Rattle.std.proofs.Common.{◌≡◌, ◌≢◌, ◌==◌, ℕ, ◌+◌, ◌⊎◌, inl, inr, true, false, List, [], ◌∷◌, ◌++◌, length, None}
+use Rattle.std.proofs.Common.{Result, Ok, Err, refl, sym, ap, subst, ◌∙◌, arith, codes, lit<}
 use Rattle.std.proofs.lemmas.Bool.{eqb-true, eq-eqb, false≢true}
 use Rattle.std.proofs.lemmas.List.{append-nil, append_assoc}
 use Rattle.rpki_der.specs.Times.{Moment}
@@ -10,12 +11,14 @@ use Rattle.rpki_path.specs.declared.validating.Leaf.TheVariants.{Ee, DetachedEe}
 use Rattle.rpki_lines.specs.declared.input.Input.{Input}
 use Rattle.rpki_lines.specs.declared.input.Input.TheVariants.{Bad}
 use Rattle.rpki_lines.specs.TextLines.{AreLines, line_end}
-use Rattle.rpki_lines.specs.InputLines.{at_moment, strictness, anchor, authority, end_entity, IsLine, IsRevokedLine, IsMomentLine, IsOctetsLine}
+use Rattle.rpki_lines.specs.InputLines.{at_moment, strictness, anchor, authority, end_entity, IsLine, IsRevokedLine}
+use Rattle.rpki_lines.specs.InputLines.{IsMomentLine, IsOctetsLine}
 use Rattle.rpki_lines.specs.Program.{PathQuestion, Question, is_revoked, is_valid_path, Ask, AreInput, BeginInput}
 use Rattle.rpki_lines.specs.Questions.{IsFirstLine, AreReadAs, IsReadBehind}
 
 -- every text has lines
-first_octet : (x : ℕ) (text : List ℕ) (ends : Bool) → (x == line_end) ≡ ends → (lines : List (List ℕ)) → AreLines lines text → (more : List (List ℕ)) × AreLines more (x ∷ text)
+first_octet : (x : ℕ) (text : List ℕ) (ends : Bool) → (x == line_end) ≡ ends → (lines : List (List ℕ)) →
+    AreLines lines text → (more : List (List ℕ)) × AreLines more (x ∷ text)
 first_octet x text true e lines are = ([] ∷ lines, (tt, inr (text, cc (eqb-true x line_end e), are)))
 first_octet x text false e [] are =
     let other : x ≢ line_end = λ same. false≢true (sym e ∙ eq-eqb x line_end same) in
@@ -49,7 +52,8 @@ no_lines (line ∷ lines) are =
     absurd (elim are.1 [ inl only ↦ only.1 (sym only.2) | inr more ↦ some_there line more.0 more.1 ])
 
 -- a first line before the lines of the rest is a line more
-pub one_more : (line rest text : List ℕ) (lines : List (List ℕ)) → IsFirstLine line rest text → AreLines lines rest → AreLines (line ∷ lines) text
+pub one_more : (line rest text : List ℕ) (lines : List (List ℕ)) → IsFirstLine line rest text → AreLines lines rest →
+    AreLines (line ∷ lines) text
 one_more line rest text lines first are = (
   first.0,
   elim first.1 [
@@ -59,7 +63,8 @@ one_more line rest text lines first are = (
 )
 
 -- what is read behind the first line is read behind those before it
-pub behind_line : (before : List (List ℕ)) (line rest text : List ℕ) (input : Input) → IsFirstLine line rest text → IsReadBehind (before ++ line ∷ []) rest input → IsReadBehind before text input
+pub behind_line : (before : List (List ℕ)) (line rest text : List ℕ) (input : Input) → IsFirstLine line rest text →
+    IsReadBehind (before ++ line ∷ []) rest input → IsReadBehind before text input
 behind_line before line rest text input first read = (
   line ∷ read.0,
   one_more line rest text read.0 first read.1,
@@ -68,15 +73,40 @@ behind_line before line rest text input first read = (
 
 module _ (before : List (List ℕ)) (fit : BeginInput before) (number : ℕ) (e : number ≡ length before + 1) (text : List ℕ) where
   -- the first line of the text doesn't fit
-  pub bad_line : (line rest : List ℕ) → IsFirstLine line rest text → (BeginInput (before ++ line ∷ []) → ⊥) → IsReadBehind before text (Bad number)
+  pub bad_line : (line rest : List ℕ) → IsFirstLine line rest text → (BeginInput (before ++ line ∷ []) → ⊥) →
+      IsReadBehind before text (Bad number)
   bad_line line rest first unfit =
-      let more = some_lines rest in
-      (line ∷ more.0, one_more line rest text more.0 first more.1, record { before = before; others = line ∷ more.0; lines_are = refl; number_is = e; before_fit = fit; next_unfit = unfit })
+      let more = some_lines rest in (
+        line ∷ more.0,
+        one_more line rest text more.0 first more.1,
+        record {
+          before = before;
+          others = line ∷ more.0;
+          lines_are = refl;
+          number_is = e;
+          before_fit =
+              fit;
+          next_unfit = unfit;
+        },
+      )
 
   -- no further line fits, and there is one
-  bad_of_lines : (lines : List (List ℕ)) → AreLines lines text → (text ≡ [] → ⊥) → ((line : List ℕ) → BeginInput (before ++ line ∷ []) → ⊥) → IsReadBehind before text (Bad number)
+  bad_of_lines : (lines : List (List ℕ)) → AreLines lines text → (text ≡ [] → ⊥) →
+      ((line : List ℕ) → BeginInput (before ++ line ∷ []) → ⊥) → IsReadBehind before text (Bad number)
   bad_of_lines [] are some unfit = absurd (some are)
-  bad_of_lines (line ∷ more) are some unfit = (line ∷ more, are, record { before = before; others = line ∷ more; lines_are = refl; number_is = e; before_fit = fit; next_unfit = unfit line })
+  bad_of_lines (line ∷ more) are some unfit = (
+    line ∷ more,
+    are,
+    record {
+      before = before;
+      others = line ∷ more;
+      lines_are = refl;
+      number_is = e;
+      before_fit =
+          fit;
+      next_unfit = unfit line;
+    },
+  )
 
   -- a line with which no input begins is the first that doesn't fit
   pub bad_after : (text ≡ [] → ⊥) → ((line : List ℕ) → BeginInput (before ++ line ∷ []) → ⊥) → IsReadBehind before text (Bad number)
@@ -84,7 +114,19 @@ module _ (before : List (List ℕ)) (fit : BeginInput before) (number : ℕ) (e 
 
   -- there is none
   pub line_missing : text ≡ [] → (AreInput before → ⊥) → IsReadBehind before text (Bad number)
-  line_missing none unfit = ([], none, record { before = before; others = []; lines_are = refl; number_is = e; before_fit = fit; next_unfit = unfit })
+  line_missing none unfit = (
+    [],
+    none,
+    record {
+      before = before;
+      others = [];
+      lines_are = refl;
+      number_is = e;
+      before_fit =
+          fit;
+      next_unfit = unfit;
+    },
+  )
 
 -- ---- inputs
 
@@ -144,12 +186,14 @@ first_tells (is_revoked list serial) line more h = inl (list, serial, h.0)
 first_tells (is_valid_path q) line more h = inr (q.now, h.0)
 
 -- a first line of neither form begins no input
-pub first_unfit : (line : List ℕ) → ((list : List ℕ) (serial : ℕ) → IsRevokedLine list serial line → ⊥) → ((now : Moment) → IsMomentLine now line → ⊥) → BeginInput (line ∷ []) → ⊥
+pub first_unfit : (line : List ℕ) → ((list : List ℕ) (serial : ℕ) → IsRevokedLine list serial line → ⊥) →
+    ((now : Moment) → IsMomentLine now line → ⊥) → BeginInput (line ∷ []) → ⊥
 first_unfit line no_list no_moment (more, (q, asked)) =
     elim (first_tells q line more asked) [ inl l ↦ no_list l.0 l.1 l.2 | inr m ↦ no_moment m.0 m.1 ]
 
 -- a list has one line
-list_alone : (list : List ℕ) (serial : ℕ) (q : Question) (line next : List ℕ) (more : List (List ℕ)) → IsRevokedLine list serial line → Ask q (line ∷ next ∷ more) → ⊥
+list_alone : (list : List ℕ) (serial : ℕ) (q : Question) (line next : List ℕ) (more : List (List ℕ)) →
+    IsRevokedLine list serial line → Ask q (line ∷ next ∷ more) → ⊥
 list_alone list serial (is_revoked list' serial') line next more is h = h.1
 list_alone list serial (is_valid_path q) line next more is h = not_both q.now list serial line h.0 is
 
@@ -168,7 +212,8 @@ module _ (list : List ℕ) (serial : ℕ) (line : List ℕ) (is : IsRevokedLine 
 abbrev short_path : Moment → Bool → List ℕ → PathQuestion
 short_path now strict octets = record { now = now; strict = strict; anchor_octets = octets; authorities = []; leaf = None }
 
-second_tells : (q : Question) (m line : List ℕ) (more : List (List ℕ)) → Ask q (m ∷ line ∷ more) → (strict : Bool) × IsLine (strictness strict) line
+second_tells : (q : Question) (m line : List ℕ) (more : List (List ℕ)) → Ask q (m ∷ line ∷ more) →
+    (strict : Bool) × IsLine (strictness strict) line
 second_tells (is_revoked list serial) m line more h = absurd h.1
 second_tells (is_valid_path q) m line more h = (q.strict, h.1.0)
 
@@ -182,7 +227,10 @@ Moments now before = AllZip IsLine (at_moment now ∷ []) before
 module _ (now : Moment) where
   moment_begins : (before : List (List ℕ)) → Moments now before → BeginInput before
   moment_begins [] is = elim is [ ]
-  moment_begins (m ∷ []) is = (codes "strict" ∷ codes "ta -" ∷ [], (is_valid_path (short_path now true []), (is.0, (refl, (no_octets (codes "ta "), tt)))))
+  moment_begins (m ∷ []) is = (
+    codes "strict" ∷ codes "ta -" ∷ [],
+    (is_valid_path (short_path now true []), (is.0, (refl, (no_octets (codes "ta "), tt)))),
+  )
   moment_begins (m ∷ s ∷ more) is = elim is.1 [ ]
 
   one_so_far : (before : List (List ℕ)) → Moments now before → 2 ≡ length before + 1
@@ -190,7 +238,8 @@ module _ (now : Moment) where
   one_so_far (m ∷ []) is = refl
   one_so_far (m ∷ s ∷ more) is = elim is.1 [ ]
 
-  second_unfit : (before : List (List ℕ)) → Moments now before → (line : List ℕ) → ((strict : Bool) → IsLine (strictness strict) line → ⊥) → BeginInput (before ++ line ∷ []) → ⊥
+  second_unfit : (before : List (List ℕ)) → Moments now before → (line : List ℕ) →
+      ((strict : Bool) → IsLine (strictness strict) line → ⊥) → BeginInput (before ++ line ∷ []) → ⊥
   second_unfit [] is line none b = elim is [ ]
   second_unfit (m ∷ []) is line none (more, (q, asked)) = let (strict, tells) = second_tells q m line more asked in none strict tells
   second_unfit (m ∷ s ∷ more) is line none b = elim is.1 [ ]
@@ -206,12 +255,15 @@ module _ (now : Moment) where
     no_second none = line_missing before (moment_begins before is) 2 (one_so_far before is) text none (second_needed before is)
 
     -- a second line that tells no mode doesn't fit
-    pub bad_second : (line rest : List ℕ) → IsFirstLine line rest text → ((strict : Bool) → IsLine (strictness strict) line → ⊥) → IsReadBehind before text (Bad 2)
-    bad_second line rest first none = bad_line before (moment_begins before is) 2 (one_so_far before is) text line rest first (second_unfit before is line none)
+    pub bad_second : (line rest : List ℕ) → IsFirstLine line rest text →
+        ((strict : Bool) → IsLine (strictness strict) line → ⊥) → IsReadBehind before text (Bad 2)
+    bad_second line rest first none = bad_line before (moment_begins before is) 2 (one_so_far before is) text line
+        rest first (second_unfit before is line none)
 
 -- ---- the third line
 
-third_tells : (q : Question) (m s line : List ℕ) (more : List (List ℕ)) → Ask q (m ∷ s ∷ line ∷ more) → (octets : List ℕ) × IsLine (anchor octets) line
+third_tells : (q : Question) (m s line : List ℕ) (more : List (List ℕ)) → Ask q (m ∷ s ∷ line ∷ more) →
+    (octets : List ℕ) × IsLine (anchor octets) line
 third_tells (is_revoked list serial) m s line more h = absurd h.1
 third_tells (is_valid_path q) m s line more (_, (_, (tells, _))) = (q.anchor_octets, tells)
 
@@ -226,7 +278,10 @@ module _ (now : Moment) (strict : Bool) where
   pair_begins : (before : List (List ℕ)) → Pairs now strict before → BeginInput before
   pair_begins [] is = elim is [ ]
   pair_begins (m ∷ []) is = elim is.1 [ ]
-  pair_begins (m ∷ s ∷ []) is = (codes "ta -" ∷ [], (is_valid_path (short_path now strict []), (is.0, (is.1.0, (no_octets (codes "ta "), tt)))))
+  pair_begins (m ∷ s ∷ []) is = (
+    codes "ta -" ∷ [],
+    (is_valid_path (short_path now strict []), (is.0, (is.1.0, (no_octets (codes "ta "), tt)))),
+  )
   pair_begins (m ∷ s ∷ t ∷ more) (_, (_, none)) = elim none [ ]
 
   two_so_far : (before : List (List ℕ)) → Pairs now strict before → 3 ≡ length before + 1
@@ -235,7 +290,8 @@ module _ (now : Moment) (strict : Bool) where
   two_so_far (m ∷ s ∷ []) is = refl
   two_so_far (m ∷ s ∷ t ∷ more) (_, (_, none)) = elim none [ ]
 
-  third_unfit : (before : List (List ℕ)) → Pairs now strict before → (line : List ℕ) → ((octets : List ℕ) → IsLine (anchor octets) line → ⊥) → BeginInput (before ++ line ∷ []) → ⊥
+  third_unfit : (before : List (List ℕ)) → Pairs now strict before → (line : List ℕ) →
+      ((octets : List ℕ) → IsLine (anchor octets) line → ⊥) → BeginInput (before ++ line ∷ []) → ⊥
   third_unfit [] is line none b = elim is [ ]
   third_unfit (m ∷ []) is line none b = elim is.1 [ ]
   third_unfit (m ∷ s ∷ []) is line none (more, (q, asked)) = let (octets, tells) = third_tells q m s line more asked in none octets tells
@@ -253,8 +309,10 @@ module _ (now : Moment) (strict : Bool) where
     no_third none = line_missing before (pair_begins before is) 3 (two_so_far before is) text none (third_needed before is)
 
     -- a third line that tells no trust anchor doesn't fit
-    pub bad_third : (line rest : List ℕ) → IsFirstLine line rest text → ((octets : List ℕ) → IsLine (anchor octets) line → ⊥) → IsReadBehind before text (Bad 3)
-    bad_third line rest first none = bad_line before (pair_begins before is) 3 (two_so_far before is) text line rest first (third_unfit before is line none)
+    pub bad_third : (line rest : List ℕ) → IsFirstLine line rest text →
+        ((octets : List ℕ) → IsLine (anchor octets) line → ⊥) → IsReadBehind before text (Bad 3)
+    bad_third line rest first none = bad_line before (pair_begins before is) 3 (two_so_far before is) text line rest
+        first (third_unfit before is line none)
 
 -- ---- what holds of an answer
 

@@ -18,4 +18,5 @@ appends_more (Some ps) (Some bs) (Some cs) xs ys p q = q ∙ ap (λ (l : List �
 
 -- a further front of what remains
 pub parts_more : (whole front rest : List ℕ) (n : ℕ) → whole ≡ front ++ rest → whole ≡ (front ++ take n rest) ++ drop n rest
-parts_more whole front rest n e = e ∙ ap (λ (l : List ℕ). front ++ l) (sym (take-append-drop n rest)) ∙ sym (append_assoc front (take n rest) (drop n rest))
+parts_more whole front rest n e = e ∙ ap (λ (l : List ℕ). front ++ l) (sym (take-append-drop n rest)) ∙
+    sym (append_assoc front (take n rest) (drop n rest))

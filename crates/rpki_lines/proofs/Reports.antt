@@ -3,7 +3,10 @@ use Rattle.std.proofs.Common.{◌≡◌, ℕ, Bool, true, false, inl, inr, List,
 use Rattle.std.specs.Prelude.{IsTrue, ◌↔◌, Contains, IfOk, OnOk, cond, codes, string_bytes}
 use Rattle.std.proofs.lemmas.Bool.{false≢true}
 use Rattle.rpki_der.specs.declared.error.DecodeError.{DecodeError}
-use Rattle.rpki_der.specs.declared.error.DecodeError.TheVariants.{Truncated, BadLength, BadTag, BadValue, Trailing, TooDeep, Missing, Duplicate, Critical, NotCritical, UnexpectedCritical, InvalidExtension, WrongResources, AlgorithmMismatch, Memory}
+use Rattle.rpki_der.specs.declared.error.DecodeError.TheVariants.{Truncated, BadLength, BadTag, BadValue, Trailing}
+use Rattle.rpki_der.specs.declared.error.DecodeError.TheVariants.{TooDeep, Missing, Duplicate, Critical, NotCritical}
+use Rattle.rpki_der.specs.declared.error.DecodeError.TheVariants.{UnexpectedCritical, InvalidExtension}
+use Rattle.rpki_der.specs.declared.error.DecodeError.TheVariants.{WrongResources, AlgorithmMismatch, Memory}
 use Rattle.rpki_der.specs.ErrorNames.{decode_error_name}
 use Rattle.rpki_der.specs.Place.{Rejects}
 use Rattle.rpki_cert.specs.Verification.{ResourceFields}
@@ -18,7 +21,8 @@ use Rattle.rpki_path.specs.declared.path_fault.PathFault.TheVariants as fault
 use Rattle.rpki_path.specs.Paths.{IsAccepted, IsFault, IsNoValidPath}
 use Rattle.rpki_path.specs.Paths as paths
 use Rattle.rpki_lines.specs.PrintedSets.{v4_end, v6_end, ranges, name_and_words}
-use Rattle.rpki_lines.specs.Program.{PathQuestion, question_context, asked_below, decode_faults, output_of, IsToldBy, PrintsFault, SaysOfList, SaysOfPath}
+use Rattle.rpki_lines.specs.Program.{PathQuestion, question_context, asked_below, decode_faults, output_of, IsToldBy}
+use Rattle.rpki_lines.specs.Program.{PrintsFault, SaysOfList, SaysOfPath}
 use Rattle.rpki_lines.specs.Reports.{accepted_text, HasSortedSets}
 
 other_fault : {P : Type 0} (e : DecodeError) → (e ≡ Memory → ⊥) → Rejects e P → P
@@ -46,18 +50,22 @@ fault_name Memory other = absurd (other refl)
 -- ---- a report of this text and status
 
 -- what a status and a text say, a report with them says
-pub says_with : (P : List ℕ → Status → Type 0) (report : Report) (s : Status) (t : List ℕ) → report.status ≡ s → string_bytes report.text ≡ t → P t s → P (string_bytes report.text) report.status
+pub says_with : (P : List ℕ → Status → Type 0) (report : Report) (s : Status) (t : List ℕ) → report.status ≡ s →
+    string_bytes report.text ≡ t → P t s → P (string_bytes report.text) report.status
 says_with P report s t e f h = subst (λ (x : Status). P (string_bytes report.text) x) (sym e) (subst (λ (y : List ℕ). P y s) (sym f) h)
 
 -- what a status and a text say, an Ok report with them says
-pub answered : {E : Type 0} (P : List ℕ → Status → Type 0) (r : Result Report E) (s : Status) (t : List ℕ) → IfOk r (λ report. report.status ≡ s) → IfOk r (λ report. string_bytes report.text ≡ t) → P t s → IfOk r (λ report. P (string_bytes report.text) report.status)
+pub answered : {E : Type 0} (P : List ℕ → Status → Type 0) (r : Result Report E) (s : Status) (t : List ℕ) →
+    IfOk r (λ report. report.status ≡ s) → IfOk r (λ report. string_bytes report.text ≡ t) → P t s →
+    IfOk r (λ report. P (string_bytes report.text) report.status)
 answered P (Ok report) s t e f h = says_with P report s t e f h
 answered P (Err x) s t e f h = tt
 
 -- ---- lists
 
 -- a report of what was found in a list says whether the serial is revoked
-pub found_says : (list : List ℕ) (serial : ℕ) (r : Revoked) (found : Bool) → IsRevokedCertificates r list → IsTrue found ↔ IsRevoked serial r.entries
+pub found_says : (list : List ℕ) (serial : ℕ) (r : Revoked) (found : Bool) → IsRevokedCertificates r list →
+    IsTrue found ↔ IsRevoked serial r.entries
     → SaysOfList list serial (output_of (cond found (codes "yes") (codes "no") ∷ [])) status.Done
 found_says list serial r true is same = (r, is, inl (same.0 refl, refl))
 found_says list serial r false is same = (r, is, inr ((λ found. false≢true (same.1 found)), refl))
@@ -66,15 +74,20 @@ abbrev NamesFault : List ℕ → Type 0
 NamesFault text = (name : List ℕ) × Contains decode_faults name × (text ≡ output_of (codes "refused decode " ∷ name ∷ []))
 
 -- a report of a list that wasn't read says that it is none
-pub rejected_says : {E : Type 0} (list : List ℕ) (serial : ℕ) (e : DecodeError) (r : Result Report E) → Rejects e ((r : Revoked) → IsRevokedCertificates r list → ⊥) → OnOk r (e ≡ Memory → ⊥)
-    → IfOk r (λ report. report.status ≡ status.Refused) → IfOk r (λ report. NamesFault (string_bytes report.text)) → IfOk r (λ report. SaysOfList list serial (string_bytes report.text) report.status)
+pub rejected_says : {E : Type 0} (list : List ℕ) (serial : ℕ) (e : DecodeError) (r : Result Report E) →
+    Rejects e ((r : Revoked) → IsRevokedCertificates r list → ⊥) → OnOk r (e ≡ Memory → ⊥)
+    → IfOk r (λ report. report.status ≡ status.Refused) → IfOk r (λ report. NamesFault (string_bytes report.text)) →
+    IfOk r (λ report. SaysOfList list serial (string_bytes report.text) report.status)
 rejected_says list serial e (Ok report) none other s named =
-    subst (λ (x : Status). SaysOfList list serial (string_bytes report.text) x) (sym s) (other_fault e other none, named.0, named.1, named.2)
+    subst (λ (x : Status). SaysOfList list serial (string_bytes report.text) x) (sym s)
+    (other_fault e other none, named.0, named.1, named.2)
 rejected_says list serial e (Err x) none other s named = tt
 
 -- ---- paths
 
-accepted_says : (q : PathQuestion) (tal : List ℕ) (r : ResourceFields) → IsAccepted (question_context q) nobody q.anchor_octets (asked_below q) tal r → HasSortedSets r → SaysOfPath q (accepted_text r) status.Done
+accepted_says : (q : PathQuestion) (tal : List ℕ) (r : ResourceFields) →
+    IsAccepted (question_context q) nobody q.anchor_octets (asked_below q) tal r → HasSortedSets r →
+    SaysOfPath q (accepted_text r) status.Done
 accepted_says q tal r a sorted = (
   a.path,
   a.path_of,
@@ -91,9 +104,13 @@ accepted_says q tal r a sorted = (
 )
 
 -- a report of an accepted path says what its last member holds
-pub path_accepted : {E : Type 0} (q : PathQuestion) (tal : List ℕ) (cert : ResourceFields) (r : Result Report E) → IsAccepted (question_context q) nobody q.anchor_octets (asked_below q) tal cert
-    → IfOk r (λ report. report.status ≡ status.Done) → IfOk r (λ report. string_bytes report.text ≡ accepted_text cert) → OnOk r (HasSortedSets cert) → IfOk r (λ report. SaysOfPath q (string_bytes report.text) report.status)
-path_accepted q tal cert (Ok report) a s t sorted = says_with (SaysOfPath q) report status.Done (accepted_text cert) s t (accepted_says q tal cert a sorted)
+pub path_accepted : {E : Type 0} (q : PathQuestion) (tal : List ℕ) (cert : ResourceFields) (r : Result Report E) →
+    IsAccepted (question_context q) nobody q.anchor_octets (asked_below q) tal cert
+    → IfOk r (λ report. report.status ≡ status.Done) →
+    IfOk r (λ report. string_bytes report.text ≡ accepted_text cert) → OnOk r (HasSortedSets cert) →
+    IfOk r (λ report. SaysOfPath q (string_bytes report.text) report.status)
+path_accepted q tal cert (Ok report) a s t sorted = says_with (SaysOfPath q) report status.Done (accepted_text cert) s
+    t (accepted_says q tal cert a sorted)
 path_accepted q tal cert (Err x) a s t sorted = tt
 
 -- what is told of a fault is none of being out of memory
@@ -105,8 +122,13 @@ not_memory (fault.Revocation e) stage name t h = h
 not_memory fault.Memory stage name t h = absurd t
 
 -- a report that prints the fault of a rejected path says what the line program has to say
-pub path_wrong : {E : Type 0} (q : PathQuestion) (e : PathError) (r : Result Report E) → paths.UnlessMemory e.fault (IsNoValidPath (question_context q) nobody q.anchor_octets (asked_below q)) → IsFault (question_context q) nobody q.anchor_octets (asked_below q) e
-    → IfOk r (λ report. report.status ≡ status.Refused) → IfOk r (λ report. PrintsFault e (string_bytes report.text)) → IfOk r (λ report. SaysOfPath q (string_bytes report.text) report.status)
+pub path_wrong : {E : Type 0} (q : PathQuestion) (e : PathError) (r : Result Report E) →
+    paths.UnlessMemory e.fault (IsNoValidPath (question_context q) nobody q.anchor_octets (asked_below q)) →
+    IsFault (question_context q) nobody q.anchor_octets (asked_below q) e
+    → IfOk r (λ report. report.status ≡ status.Refused) →
+    IfOk r (λ report. PrintsFault e (string_bytes report.text)) →
+    IfOk r (λ report. SaysOfPath q (string_bytes report.text) report.status)
 path_wrong q e (Ok report) none is s prints =
-    subst (λ (x : Status). SaysOfPath q (string_bytes report.text) x) (sym s) (not_memory e.fault prints.stage prints.name prints.told none, e, is, prints)
+    subst (λ (x : Status). SaysOfPath q (string_bytes report.text) x) (sym s)
+    (not_memory e.fault prints.stage prints.name prints.told none, e, is, prints)
 path_wrong q e (Err x) none is s prints = tt

@@ -25,7 +25,8 @@ word_no_space [] word h = let differ : (x : ℕ) → x ≡ 45 → x ≢ 32 = λ 
 word_no_space (o ∷ octets) word h = digits_no_space (o ∷ octets) word h
 
 no_dash : (o : ℕ) (octets word : List ℕ) → word ≡ codes "-" → AreHexDigits (o ∷ octets) word → ⊥
-no_dash o octets word e d = let h : AreHexDigits (o ∷ octets) (codes "-") = subst (λ (w : List ℕ). AreHexDigits (o ∷ octets) w) e d in elim h [ ]
+no_dash o octets word e d = let h : AreHexDigits (o ∷ octets) (codes "-") =
+    subst (λ (w : List ℕ). AreHexDigits (o ∷ octets) w) e d in elim h [ ]
 
 -- a word is the digits of one string
 pub one_value : (a b word : List ℕ) → IsHexWord a word → IsHexWord b word → a ≡ b
@@ -43,7 +44,8 @@ pub record SameWords (list octets lw sw : List ℕ) : Type 0 where
   pub octets_are : IsHexWord octets sw
 
 -- the words of a line, where it is cut at its spaces
-pub same_words : (line lw sw list : List ℕ) (serial : ℕ) → line ≡ revoked_line lw sw → IsWithout 32 lw → (h : IsRevokedLine list serial line) → SameWords list h.serial_octets lw sw
+pub same_words : (line lw sw list : List ℕ) (serial : ℕ) → line ≡ revoked_line lw sw → IsWithout 32 lw →
+    (h : IsRevokedLine list serial line) → SameWords list h.serial_octets lw sw
 same_words line lw sw list serial e without h =
     let tails : h.list_word ++ 32 ∷ (h.serial_word ++ []) ≡ lw ++ 32 ∷ (sw ++ []) = ap (λ (l : List ℕ). drop 8 l) (sym h.is ∙ e) in
     let parts = one_split 32 h.list_word lw (h.serial_word ++ []) (sw ++ []) (word_no_space list h.list_word h.list_is) without tails in
@@ -54,5 +56,6 @@ same_words line lw sw list serial e without h =
     }
 
 -- a line that isn't "revoked" and two words tells of no list
-pub no_words : (line : List ℕ) → ((lw sw : List ℕ) → IsWithout 32 lw → line ≡ revoked_line lw sw → ⊥) → (list : List ℕ) (serial : ℕ) → IsRevokedLine list serial line → ⊥
+pub no_words : (line : List ℕ) → ((lw sw : List ℕ) → IsWithout 32 lw → line ≡ revoked_line lw sw → ⊥) →
+    (list : List ℕ) (serial : ℕ) → IsRevokedLine list serial line → ⊥
 no_words line none list serial h = none h.list_word h.serial_word (word_no_space list h.list_word h.list_is) h.is

@@ -1,5 +1,7 @@
 -- Where a separator stands first.
-use Rattle.std.proofs.Common.{◌≡◌, ◌==◌, ℕ, zero, suc, ◌+◌, ◌-◌, ◌<◌, ◌≤◌, Bool, true, false, not, List, [], ◌∷◌, ◌++◌, length, get_or, take, drop, Option, Some, None, refl, sym, ap, subst, ◌∙◌, arith, add-one, drop-cons, take-append-drop}
+use Rattle.std.proofs.Common.{◌≡◌, ◌==◌, ℕ, zero, suc, ◌+◌, ◌-◌, ◌<◌, ◌≤◌, Bool, true, false, not, List, [], ◌∷◌}
+use Rattle.std.proofs.Common.{◌++◌, length, get_or, take, drop, Option, Some, None, refl, sym, ap, subst, ◌∙◌, arith}
+use Rattle.std.proofs.Common.{add-one, drop-cons, take-append-drop}
 use Rattle.std.specs.Prelude.{nat_lt, nat_eq, cond, bytes_eq, MatchOption, IfSome, IfNone, codes, ◌≢◌}
 use Rattle.std.specs.Cmp.Lexicographic.{pointwise}
 use Rattle.std.specs.List.{position, position_or_len}
@@ -20,20 +22,24 @@ is octet = λ other. other == octet
 without_below : (octet : ℕ) (text : List ℕ) (n : ℕ) → ((k : ℕ) → k < n → is octet (get_or text k 0) ≡ false) → IsWithout octet (take n text)
 without_below octet text zero none = tt
 without_below octet [] (suc n) none = tt
-without_below octet (x ∷ text) (suc n) none =
-    (λ same. false≢true (sym (none 0 (omega arith)) ∙ eq-eqb x octet same), without_below octet text n (λ k below. none (suc k) (omega arith)))
+without_below octet (x ∷ text) (suc n) none = (
+  λ same. false≢true (sym (none 0 (omega arith)) ∙ eq-eqb x octet same),
+  without_below octet text n (λ k below. none (suc k) (omega arith)),
+)
 
 -- before the first place of an octet it doesn't stand
 pub without_before : (octet : ℕ) (text : List ℕ) (n : ℕ) → position (is octet) text ≡ Some n → IsWithout octet (take n text)
 without_before octet text n e = without_below octet text n (position-Some (is octet) text n 0 e).2
 
 -- and there it stands
-pub parts_at : (octet : ℕ) (text : List ℕ) (n : ℕ) → position (is octet) text ≡ Some n → text ≡ take n text ++ octet ∷ take (length text - (n + 1)) (drop (n + 1) text)
+pub parts_at : (octet : ℕ) (text : List ℕ) (n : ℕ) → position (is octet) text ≡ Some n →
+    text ≡ take n text ++ octet ∷ take (length text - (n + 1)) (drop (n + 1) text)
 parts_at octet text n e =
     let found = position-Some (is octet) text n 0 e in
     let here : get_or text n 0 ≡ octet = eqb-true (get_or text n 0) octet found.1 in
     let whole : text ≡ take n text ++ octet ∷ drop (suc n) text =
-    sym (take-append-drop n text) ∙ ap (λ (l : List ℕ). take n text ++ l) (drop-cons text n 0 found.0 ∙ ap (λ (x : ℕ). x ∷ drop (suc n) text) here) in
+    sym (take-append-drop n text) ∙ ap (λ (l : List ℕ). take n text ++ l)
+    (drop-cons text n 0 found.0 ∙ ap (λ (x : ℕ). x ∷ drop (suc n) text) here) in
     rw (take_rest text (n + 1), add-one) whole
 
 no_place : (found : Bool) (n : ℕ) → cond found (Some n) None ≡ None → found ≡ false
@@ -50,7 +56,9 @@ without_any octet text e =
     let m = position_or_len (is octet) text in
     let past : length text ≤ m = ltb-false m (length text) (no_place (nat_lt m (length text)) m e) in
     let whole : IsWithout octet (take (length text) text) =
-    without_below octet text (length text) (λ k below. fails (is octet (get_or text k 0)) (prefix_len_passes (λ x. not (is octet x)) text k 0 (omega arith))) in
+    without_below octet text (length text)
+    (λ k below. fails (is octet (get_or text k 0))
+    (prefix_len_passes (λ x. not (is octet x)) text k 0 (omega arith))) in
     rw take-length at whole
 
 -- what stands before the first separator, and after it, is determined
@@ -77,11 +85,23 @@ none_where None f h = f h
 -- ---- the words of a line
 
 one_word : IsWithout 32 (codes "revoked")
-one_word = let differ : (x : ℕ) → 32 < x → x ≢ 32 = λ x more e. omega arith in
-    (differ 114 (omega arith), (differ 101 (omega arith), (differ 118 (omega arith), (differ 111 (omega arith), (differ 107 (omega arith), (differ 101 (omega arith), (differ 100 (omega arith), tt)))))))
+one_word = let differ : (x : ℕ) → 32 < x → x ≢ 32 = λ x more e. omega arith in (
+  differ 114 (omega arith),
+  (
+    differ 101 (omega arith),
+    (
+      differ 118 (omega arith),
+      (
+        differ 111 (omega arith),
+        (differ 107 (omega arith), (differ 101 (omega arith), (differ 100 (omega arith), tt))),
+      ),
+    ),
+  ),
+)
 
 -- "revoked" is the first word of such a line, and its other words follow
-pub words_of : (line form words list serial : List ℕ) → IsWithout 32 form → line ≡ form ++ 32 ∷ words → line ≡ revoked_line list serial → (form ≡ codes "revoked") × (words ≡ list ++ 32 ∷ (serial ++ []))
+pub words_of : (line form words list serial : List ℕ) → IsWithout 32 form → line ≡ form ++ 32 ∷ words →
+    line ≡ revoked_line list serial → (form ≡ codes "revoked") × (words ≡ list ++ 32 ∷ (serial ++ []))
 words_of line form words list serial without is e =
     one_split 32 form (codes "revoked") words (list ++ 32 ∷ (serial ++ [])) without one_word (sym is ∙ e)
 
@@ -95,14 +115,16 @@ module _ {X : Type 0} (now : X → List ℕ) (beginning line : List ℕ) where
   abbrev Strips : Option X → Type 0
   Strips o =
       MatchOption o (bytes_eq (take (length beginning) line) beginning ≡ false)
-      (λ x. (bytes_eq (take (length beginning) line) beginning ≡ true) × (now x ≡ drop (length beginning) line) × (length (now x) + length beginning ≡ length line))
+      (λ x. (bytes_eq (take (length beginning) line) beginning ≡ true) × (now x ≡ drop (length beginning) line) ×
+      (length (now x) + length beginning ≡ length line))
 
   -- what is stripped off a line is its beginning
   pub stripped : (o : Option X) → Strips o → IfSome o (λ x. line ≡ beginning ++ now x)
   stripped None h = tt
   stripped (Some x) h =
       let front : take (length beginning) line ≡ beginning = (bytes_eq-Decides (take (length beginning) line) beginning).0 h.0 in
-      sym (take-append-drop (length beginning) line) ∙ ap (λ (l : List ℕ). l ++ drop (length beginning) line) front ∙ ap (λ (l : List ℕ). beginning ++ l) (sym h.1)
+      sym (take-append-drop (length beginning) line) ∙ ap (λ (l : List ℕ). l ++ drop (length beginning) line) front ∙
+      ap (λ (l : List ℕ). beginning ++ l) (sym h.1)
 
   front_of : (a b : List ℕ) → take (length a) (a ++ b) ≡ a
   front_of [] b = refl
@@ -116,7 +138,8 @@ module _ {X : Type 0} (now : X → List ℕ) (beginning line : List ℕ) where
       false≢true (sym h ∙ (bytes_eq-Decides (take (length beginning) line) beginning).1 front)
 
 -- a word is all that stands behind a name
-pub no_word : (name word line : List ℕ) → line ≡ name ++ word → ((octets : List ℕ) → IsHexWord octets word → ⊥) → (octets : List ℕ) → IsOctetsLine name octets line → ⊥
+pub no_word : (name word line : List ℕ) → line ≡ name ++ word → ((octets : List ℕ) → IsHexWord octets word → ⊥) →
+    (octets : List ℕ) → IsOctetsLine name octets line → ⊥
 no_word name word line e none octets h =
     let same : h.word ≡ word = append_cancel_left name h.word word (sym h.is ∙ e) in
     none octets (subst (λ (w : List ℕ). IsHexWord octets w) same h.word_is)

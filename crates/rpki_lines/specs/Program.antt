@@ -1,5 +1,6 @@
 -- What the line program says to its input (own).
-use Rattle.std.specs.Prelude.{◌≡◌, ℕ, ◌+◌, ◌^◌, ◌≤◌, ◌⊎◌, Bool, Option, Some, None, List, [], ◌∷◌, ◌++◌, length, map, Contains, codes, decimal}
+use Rattle.std.specs.Prelude.{◌≡◌, ℕ, ◌+◌, ◌^◌, ◌≤◌, ◌⊎◌, Bool, Option, Some, None, List, [], ◌∷◌, ◌++◌, length, map}
+use Rattle.std.specs.Prelude.{Contains, codes, decimal}
 use Rattle.std.specs.List.{concat, AllZip}
 use Rattle.std.specs.Io.KnownBytes.{Appends, Consumes, IsAtEnd}
 use Rattle.rpki_der.specs.Times.{Moment}
@@ -15,7 +16,8 @@ use Rattle.rpki_lines.specs.declared.running.Status.{Status}
 use Rattle.rpki_lines.specs.declared.running.Status.TheVariants.{Done, Refused, BadInput}
 use Rattle.rpki_path.specs.declared.validating.Leaf.{Leaf}
 use Rattle.rpki_lines.specs.InputLines.{InputLine, seeks, at_moment, strictness, anchor, authority, end_entity, IsLine}
-use Rattle.rpki_path.specs.Paths.{Path, Holds, v4_addresses, v6_addresses, system_numbers, candidates, Candidate, IsPathOf, IsValidPath, IsNoValidPath, IsFault}
+use Rattle.rpki_path.specs.Paths.{Path, Holds, v4_addresses, v6_addresses, system_numbers, candidates, Candidate}
+use Rattle.rpki_path.specs.Paths.{IsPathOf, IsValidPath, IsNoValidPath, IsFault}
 use Rattle.rpki_path.specs.Paths as paths
 use Rattle.rpki_lines.specs.PrintedSets.{v4_end, v6_end, IsSetLine}
 use Rattle.rpki_lines.specs.TextLines.{line_end, AreLines}
@@ -110,7 +112,9 @@ pub record PrintsHeld (p : Path) (output : List ℕ) : Type 0 where
   pub v4_is : IsSetLine (codes "v4") v4_end (Holds p (paths.last p) v4_addresses) v4_line
   pub v6_is : IsSetLine (codes "v6") v6_end (Holds p (paths.last p) v6_addresses) v6_line
   pub as_is : IsSetLine (codes "as") decimal (Holds p (paths.last p) system_numbers) as_line
-  pub is : output ≡ stand_in ++ concat (output_of (codes "accepted" ∷ []) ∷ output_of (v4_line ∷ []) ∷ output_of (v6_line ∷ []) ∷ output_of (as_line ∷ []) ∷ [])
+  pub is : output ≡ stand_in ++
+      concat (output_of (codes "accepted" ∷ []) ∷ output_of (v4_line ∷ []) ∷ output_of (v6_line ∷ []) ∷
+      output_of (as_line ∷ []) ∷ [])
 
 -- where a fault was met, and its name; which of its faults a reader names is free, and nobody is
 -- asked for revocation

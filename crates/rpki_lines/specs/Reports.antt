@@ -10,7 +10,8 @@ use Rattle.rpki_lines.specs.Program.{output_of, stand_in}
 abbrev pub accepted_text : ResourceFields → List ℕ
 accepted_text r =
     stand_in ++ concat (output_of (codes "accepted" ∷ []) ∷ output_of (name_and_words (codes "v4") (ranges v4_end r.v4) ∷ [])
-    ∷ output_of (name_and_words (codes "v6") (ranges v6_end r.v6) ∷ []) ∷ output_of (name_and_words (codes "as") (ranges decimal r.as_numbers) ∷ []) ∷ [])
+    ∷ output_of (name_and_words (codes "v6") (ranges v6_end r.v6) ∷ []) ∷
+    output_of (name_and_words (codes "as") (ranges decimal r.as_numbers) ∷ []) ∷ [])
 
 -- each set is in its one form
 pub record HasSortedSets (r : ResourceFields) : Type 0 where

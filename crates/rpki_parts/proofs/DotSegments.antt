@@ -31,11 +31,13 @@ all_are : (ss : List (List ℕ)) → Fine true ss → list_all is_segment ss ≡
 all_are [] f = refl
 all_are (s ∷ ss) f = rw (segment_is s (f.1 refl), f.0) refl
 
-longer_is : (behind : Bool) (x : ℕ) (ss : List (List ℕ)) → (behind ≡ true → not (x == 46) ≡ true) → Fine false ss → Fine behind (onto_first x ss)
+longer_is : (behind : Bool) (x : ℕ) (ss : List (List ℕ)) → (behind ≡ true → not (x == 46) ≡ true) → Fine false ss →
+    Fine behind (onto_first x ss)
 longer_is behind x [] h f = (refl, h)
 longer_is behind x (s ∷ ss) h f = (f.0, h)
 
-step_is : (behind slash : Bool) (x : ℕ) (ss : List (List ℕ)) → (behind ≡ true → not (x == 46) ≡ true) → Fine slash ss → Fine behind (cond slash ([] ∷ ss) (onto_first x ss))
+step_is : (behind slash : Bool) (x : ℕ) (ss : List (List ℕ)) → (behind ≡ true → not (x == 46) ≡ true) →
+    Fine slash ss → Fine behind (cond slash ([] ∷ ss) (onto_first x ss))
 step_is behind true x ss h f = (all_are ss f, λ _. refl)
 step_is behind false x ss h f = longer_is behind x ss h f
 
@@ -51,7 +53,8 @@ split_is : (before : ℕ) (path : List ℕ) → none_begins before path ≡ true
 split_is before [] h = (refl, λ _. refl)
 split_is before (x ∷ xs) h =
     let parts = both_true (not (is_slash before && (x == 46))) (none_begins x xs) h in
-    step_is (is_slash before) (is_slash x) x (slice_split is_slash xs) (behind_is (is_slash before) (x == 46) parts.0) (split_is x xs parts.1)
+    step_is (is_slash before) (is_slash x) x (slice_split is_slash xs) (behind_is (is_slash before) (x == 46) parts.0)
+    (split_is x xs parts.1)
 
 pub no_dots_from : (path : List ℕ) → none_begins 47 path ≡ true → list_all is_segment (slice_split is_slash path) ≡ true
 no_dots_from path h = all_are (slice_split is_slash path) (split_is 47 path h)

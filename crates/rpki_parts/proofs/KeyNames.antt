@@ -10,7 +10,8 @@ use Rattle.rpki_der.proofs.FormatAnswers.{IsAlone, format_laws}
 use Rattle.rpki_der.proofs.FormatLaws.{tagged_lawful}
 use Rattle.rpki_der.specs.Tags.{OBJECT_IDENTIFIER, PRINTABLE_STRING, SEQUENCE, SET}
 use Rattle.rpki_der.proofs.ValueWritten.{plain_oid}
-use Rattle.rpki_parts.specs.Names.{common_name, Attribute, attribute_format, is_name, rdn_sequence_format, relative_distinguished_name_format}
+use Rattle.rpki_parts.specs.Names.{common_name, Attribute, attribute_format, is_name, rdn_sequence_format}
+use Rattle.rpki_parts.specs.Names.{relative_distinguished_name_format}
 use Rattle.rpki_parts.specs.KeyNames.{common_name_format, digit, hexadecimal, key_name_format, name_of_digits}
 use Rattle.rpki_parts.proofs.NameReads.{is_name_again}
 
@@ -24,7 +25,10 @@ digit_small n h =
 -- hexadecimal digits are octets
 pub digits_octets : (octets : List ℕ) → AreOctets octets → AreOctets (hexadecimal octets)
 digits_octets [] h = tt
-digits_octets (x ∷ xs) h = (digit_small (x / 16) (let l : x < 256 = h.0 in omega arith), (digit_small (x % 16) (omega arith), digits_octets xs h.1))
+digits_octets (x ∷ xs) h = (
+  digit_small (x / 16) (let l : x < 256 = h.0 in omega arith),
+  (digit_small (x % 16) (omega arith), digits_octets xs h.1),
+)
 
 -- there are two hexadecimal digits for each octet
 pub length-digits : (octets : List ℕ) → length (hexadecimal octets) ≡ 2 * length octets
@@ -53,11 +57,15 @@ before_digits = SEQUENCE ∷ 51 ∷ set_octets []
 pub name-digits : (digits : List ℕ) → length digits ≡ 40 → name_of_digits digits ≡ before_digits ++ digits
 unfolding key_name_format
 name-digits digits e =
-    let id : enc OBJECT_IDENTIFIER common_name ≡ OBJECT_IDENTIFIER ∷ 3 ∷ common_name = enc_short OBJECT_IDENTIFIER common_name 3 refl (omega arith) in
+    let id : enc OBJECT_IDENTIFIER common_name ≡ OBJECT_IDENTIFIER ∷ 3 ∷ common_name =
+    enc_short OBJECT_IDENTIFIER common_name 3 refl (omega arith) in
     let one : enc PRINTABLE_STRING digits ≡ PRINTABLE_STRING ∷ 40 ∷ digits = enc_short PRINTABLE_STRING digits 40 e (omega arith) in
-    let two : enc SEQUENCE (attribute_content digits) ≡ attribute_octets digits = enc_short SEQUENCE (attribute_content digits) 47 (omega arith) (omega arith) in
-    let three : enc SET (attribute_octets digits) ≡ set_octets digits = enc_short SET (attribute_octets digits) 49 (omega arith) (omega arith) in
-    let four : enc SEQUENCE (set_octets digits) ≡ before_digits ++ digits = enc_short SEQUENCE (set_octets digits) 51 (omega arith) (omega arith) in
+    let two : enc SEQUENCE (attribute_content digits) ≡ attribute_octets digits =
+    enc_short SEQUENCE (attribute_content digits) 47 (omega arith) (omega arith) in
+    let three : enc SET (attribute_octets digits) ≡ set_octets digits = enc_short SET (attribute_octets digits) 49
+    (omega arith) (omega arith) in
+    let four : enc SEQUENCE (set_octets digits) ≡ before_digits ++ digits = enc_short SEQUENCE (set_octets digits) 51
+    (omega arith) (omega arith) in
     rw (id, one, two, three) four
 
 primitive : (content b : List ℕ) → IsEnc PRINTABLE_STRING content b → IsSkippable b
@@ -66,18 +74,26 @@ primitive content b e = (record { tag = PRINTABLE_STRING; content = content; enc
 
 key_name_alone : IsAlone key_name_format
 unfolding key_name_format
-key_name_alone = record { law = tagged_lawful SEQUENCE (tagged SET common_name_format) (omega arith) (omega arith) (tagged_lawful SET common_name_format (omega arith) (omega arith) (search format_laws)); none = refl }
+key_name_alone = record {
+  law = tagged_lawful SEQUENCE (tagged SET common_name_format) (omega arith) (omega arith)
+      (tagged_lawful SET common_name_format (omega arith) (omega arith) (search format_laws));
+  none = refl;
+}
 
 -- a key's name is a Name
 pub is_name_of_digits : (digits : List ℕ) → length digits ≡ 40 → AreOctets digits → is_name (name_of_digits digits) ≡ true
 unfolding key_name_format rdn_sequence_format relative_distinguished_name_format attribute_format
 is_name_of_digits digits e octets =
     let short : length (name_of_digits digits) < 2 ^ 32 = rw (name-digits digits e) (omega (arith, length-append before_digits digits)) in
-    let id : IsOid common_name × AreOctets common_name = (plain_oid 0x55 (4 ∷ 3 ∷ []) (omega arith, (omega arith, (omega arith, tt))), omega arith) in
-    let (set, (attribute, (pieces, (type, value, type_is, value_is, both), attribute_is), set_is), name_is) = key_name_alone.law.made digits (id, octets) short in
+    let id : IsOid common_name × AreOctets common_name =
+    (plain_oid 0x55 (4 ∷ 3 ∷ []) (omega arith, (omega arith, (omega arith, tt))), omega arith) in
+    let (set, (attribute, (pieces, (type, value, type_is, value_is, both), attribute_is), set_is), name_is) =
+    key_name_alone.law.made digits (id, octets) short in
     let a : Attribute = record { type_id = common_name; value_tag = PRINTABLE_STRING } in
-    let encoded : (attribute_format levels).encodes a attribute = (pieces, (type, value, type_is, (digits, value_is, primitive digits value value_is), both), attribute_is) in
-    let part : (relative_distinguished_name_format levels).encodes (a ∷ []) set = (attribute, ((attribute, [], encoded, refl, sym (append-nil attribute)), omega arith), set_is) in
+    let encoded : (attribute_format levels).encodes a attribute =
+    (pieces, (type, value, type_is, (digits, value_is, primitive digits value value_is), both), attribute_is) in
+    let part : (relative_distinguished_name_format levels).encodes (a ∷ []) set =
+    (attribute, ((attribute, [], encoded, refl, sym (append-nil attribute)), omega arith), set_is) in
     is_name_again ((a ∷ []) ∷ []) (name_of_digits digits) (set, (set, [], part, refl, sym (append-nil set)), name_is)
 
 -- the name of a key, by its identifier

@@ -1,6 +1,7 @@
 -- The formats of names are lawful, and what that says of octets that are kept as a Name.
 use Rattle.std.specs.Prelude.{is_some, Bool}
-use Rattle.std.proofs.Common.{◌≡◌, ℕ, ◌+◌, ◌≤◌, zero, suc, true, false, List, [], ◌∷◌, ◌++◌, length, Option, Some, None, refl, sym, ap, subst, ◌∙◌, arith}
+use Rattle.std.proofs.Common.{◌≡◌, ℕ, ◌+◌, ◌≤◌, zero, suc, true, false, List, [], ◌∷◌, ◌++◌, length, Option, Some}
+use Rattle.std.proofs.Common.{None, refl, sym, ap, subst, ◌∙◌, arith}
 use Rattle.rpki_der.specs.Values.{AreOctets, enc, IsEnc, IsValue}
 use Rattle.rpki_der.specs.Sequences.Reading.{sequence_of, Shrinks}
 use Rattle.rpki_der.specs.Skipping.{levels, IsSkippableWithin}
@@ -19,7 +20,8 @@ use Rattle.rpki_der.proofs.ValueReads.{value_reads}
 use Rattle.rpki_der.proofs.SkippingReads.{within_reads, begins_tag}
 use Rattle.rpki_der.proofs.SkippingSteps.{within_shrinks}
 use Rattle.rpki_der.proofs.Readings.{before, whole_reads}
-use Rattle.rpki_parts.specs.Names.{Attribute, IsName, IsNameWithin, attribute_format, is_name, name_format, rdn_sequence_format, relative_distinguished_name_format, skipped_value, tag_within}
+use Rattle.rpki_parts.specs.Names.{Attribute, IsName, IsNameWithin, attribute_format, is_name, name_format}
+use Rattle.rpki_parts.specs.Names.{rdn_sequence_format, relative_distinguished_name_format, skipped_value, tag_within}
 
 -- ---- a value that is skipped, by its identifier octet
 
@@ -34,7 +36,9 @@ module _ (depth : ℕ) where
   tag_again tag [] tail rest e s = absurd cc
   tag_again tag (t ∷ bytes) tail rest e s = let same : t ≡ tag = cc in rw (s, same) refl
 
-  tag_takes : (octets : List ℕ) (tag : ℕ) (rest : List ℕ) → AreOctets octets → tag_within depth octets ≡ some {A = ℕ × List ℕ} (tag, rest) → Begins (skipped_value depth).encodes octets tag rest
+  tag_takes : (octets : List ℕ) (tag : ℕ) (rest : List ℕ) → AreOctets octets →
+      tag_within depth octets ≡ some {A = ℕ × List ℕ} (tag, rest) →
+      Begins (skipped_value depth).encodes octets tag rest
   tag_takes [] tag rest fits e = nothing (tag, rest) e
   tag_takes (t ∷ bytes) tag rest fits e =
       let a = bind_some (skip_within depth (t ∷ bytes)) (λ v. some {A = ℕ × List ℕ} (t, v.1)) (tag, rest) e in
@@ -65,7 +69,8 @@ module _ (depth : ℕ) where
   skipped_lawful = record {
     reads = before (Follows []) (tag_within depth) (skipped_value depth).encodes (record {
       takes = tag_takes;
-      again = λ tag text rest s. let b = begins_tag tag s.0 text rest s.1 in tag_again tag (text ++ rest) b.0 rest b.1 ((within_reads depth).again tt text rest s.2);
+      again = λ tag text rest s. let b = begins_tag tag s.0 text rest s.1 in
+          tag_again tag (text ++ rest) b.0 rest b.1 ((within_reads depth).again tt text rest s.2);
     });
     starts = tag_starts;
     shorter = tag_shorter;
@@ -83,17 +88,29 @@ module _ (depth : ℕ) where
   -- anything may follow a RelativeDistinguishedName
   pub part_alone : IsAlone (relative_distinguished_name_format depth)
   unfolding relative_distinguished_name_format attribute_format
-  part_alone = record { law = some_lawful SET (attribute_format depth) (omega arith) (omega arith) refl (omega arith) attribute_alone.law; none = refl }
+  part_alone = record {
+    law = some_lawful SET (attribute_format depth) (omega arith) (omega arith) refl (omega arith)
+        attribute_alone.law;
+    none = refl;
+  }
 
   -- anything may follow an RDNSequence
   pub parts_alone : IsAlone (rdn_sequence_format depth)
   unfolding rdn_sequence_format relative_distinguished_name_format
-  parts_alone = record { law = list_lawful SEQUENCE (relative_distinguished_name_format depth) (omega arith) (omega arith) refl (omega arith) part_alone.law; none = refl }
+  parts_alone = record {
+    law = list_lawful SEQUENCE (relative_distinguished_name_format depth) (omega arith)
+        (omega arith) refl (omega arith) part_alone.law;
+    none = refl;
+  }
 
   -- anything may follow a Name
   pub name_alone : IsAlone (name_format depth)
   unfolding name_format rdn_sequence_format
-  name_alone = record { law = kept_lawful (rdn_sequence_format depth) refl (λ parts text s. record { tag = SEQUENCE; content = s.0; enc = s.2 }) parts_alone.law; none = refl }
+  name_alone = record {
+    law = kept_lawful (rdn_sequence_format depth) refl
+        (λ parts text s. record { tag = SEQUENCE; content = s.0; enc = s.2 }) parts_alone.law;
+    none = refl;
+  }
 
 -- reading an AttributeTypeAndValue uses octets up
 pub attribute_shrinks : Shrinks (attribute_format levels).read
@@ -122,15 +139,18 @@ unfolding name_format rdn_sequence_format
 name_sequence depth ((parts, (content, are, sequence)), kept) = record { content = content; sequence = sequence; kept = kept }
 
 parts_read : ReadsWhole (whole (rdn_sequence_format levels).read) (rdn_sequence_format levels).encodes
-parts_read = whole_reads (rdn_sequence_format levels).read (rdn_sequence_format levels).encodes (alone_reads (rdn_sequence_format levels) (parts_alone levels))
+parts_read = whole_reads (rdn_sequence_format levels).read (rdn_sequence_format levels).encodes
+    (alone_reads (rdn_sequence_format levels) (parts_alone levels))
 
 -- octets that pass the test are a name
 pub name_is : (octets : List ℕ) → AreOctets octets → is_name octets ≡ true → IsName octets octets
 unfolding name_format
-name_is octets fits e = let p = one_of (whole (rdn_sequence_format levels).read octets) e in ((p.0, parts_read.takes octets p.0 fits p.1), refl)
+name_is octets fits e = let p = one_of (whole (rdn_sequence_format levels).read octets) e in
+    ((p.0, parts_read.takes octets p.0 fits p.1), refl)
 
 -- a Name passes the test
-pub is_name_again : (parts : List (List Attribute)) (octets : List ℕ) → (rdn_sequence_format levels).encodes parts octets → is_name octets ≡ true
+pub is_name_again : (parts : List (List Attribute)) (octets : List ℕ) →
+    (rdn_sequence_format levels).encodes parts octets → is_name octets ≡ true
 is_name_again parts octets s = ap is_some (parts_read.again parts octets s)
 
 -- a Name is read as it is encoded
@@ -146,7 +166,8 @@ name_none bytes fits e = none_of ((name_format levels).read bytes) refl
     none_of (Some v) h =
         let b = name_reads.takes bytes v.0 v.1 fits h in
         let t = name_sequence levels b.encoded in
-        let one : value_at SEQUENCE bytes ≡ some {A = List ℕ × List ℕ} (t.content, v.1) = ap (value_at SEQUENCE) b.parts ∙ (value_reads SEQUENCE).again t.content b.text v.1 t.sequence in
+        let one : value_at SEQUENCE bytes ≡ some {A = List ℕ × List ℕ} (t.content, v.1) =
+        ap (value_at SEQUENCE) b.parts ∙ (value_reads SEQUENCE).again t.content b.text v.1 t.sequence in
         nothing (t.content, v.1) (sym e ∙ one)
 
 -- ---- the test, step by step
@@ -162,11 +183,13 @@ tested {X} o rest = is_some ((o >>= λ x. some {A = X × List ℕ} (x, rest)) >>
 
 -- a SEQUENCE is a Name where nothing stands behind it and its content is a sequence of parts
 pub name_ends : (octets c rest : List ℕ) → value_at SEQUENCE octets ≡ some {A = List ℕ × List ℕ} (c, rest)
-    → (rest ≡ [] → is_name octets ≡ is_some (sequence_of (relative_distinguished_name_format levels).read c)) × ((rest ≡ [] → ⊥) → is_name octets ≡ false)
+    → (rest ≡ [] → is_name octets ≡ is_some (sequence_of (relative_distinguished_name_format levels).read c)) ×
+    ((rest ≡ [] → ⊥) → is_name octets ≡ false)
 unfolding rdn_sequence_format
 name_ends octets c rest e = rw e (by_rest (sequence_of (relative_distinguished_name_format levels).read c) rest)
   where
-    by_rest : {X : Type 0} (o : Option X) (rest : List ℕ) → (rest ≡ [] → tested o rest ≡ is_some o) × ((rest ≡ [] → ⊥) → tested o rest ≡ false)
+    by_rest : {X : Type 0} (o : Option X) (rest : List ℕ) →
+        (rest ≡ [] → tested o rest ≡ is_some o) × ((rest ≡ [] → ⊥) → tested o rest ≡ false)
     by_rest (Some x) [] = (λ e. refl, λ n. absurd (n refl))
     by_rest (Some x) (b ∷ rest) = (λ e. absurd cc, λ n. refl)
     by_rest None rest = (λ e. refl, λ n. refl)

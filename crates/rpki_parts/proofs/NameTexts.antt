@@ -1,6 +1,7 @@
 -- A text that is written piece by piece, and the values of a sequence one after the other.
 use Rattle.std.specs.Prelude.{◌&&◌, not, nat_lt, if◌then◌else◌}
-use Rattle.std.proofs.Common.{◌≡◌, ℕ, zero, suc, Bool, true, false, ◌<◌, ◌≤◌, List, [], ◌∷◌, ◌++◌, length, Option, Some, None, refl, sym, ap, ◌∙◌, append_assoc, arith}
+use Rattle.std.proofs.Common.{◌≡◌, ℕ, zero, suc, Bool, true, false, ◌<◌, ◌≤◌, List, [], ◌∷◌, ◌++◌, length, Option}
+use Rattle.std.proofs.Common.{Some, None, refl, sym, ap, ◌∙◌, append_assoc, arith}
 use Rattle.std.proofs.lemmas.List.{append-nil}
 use Rattle.std.proofs.Output.{has_written_append, has_written_of_eq, writes_in_calls_nil}
 use Rattle.std.specs.Fmt.{HasWritten, IsPlainFormatter}
@@ -24,15 +25,22 @@ module _ {W : Type 0} (took : W → List ℕ → W → Type 0) where
   pub nothing_written : (f : Formatter W) (text : List ℕ) → IsPlainFormatter f → IsPartWritten f text f text
   nothing_written f text plain = ([], record { wrote = writes_in_calls_nil took f.writer; plain = plain }, refl)
 
-  pub piece_written : (f : Formatter W) (text : List ℕ) (g : Formatter W) (piece more : List ℕ) (h : Formatter W) → IsPartWritten f text g (piece ++ more) → HasWritten took g piece h → IsPartWritten f text h more
-  piece_written f text g piece more h (done, wrote, e) next = (done ++ piece, has_written_append took f done g piece h wrote next, append_assoc done piece more ∙ e)
+  pub piece_written : (f : Formatter W) (text : List ℕ) (g : Formatter W) (piece more : List ℕ) (h : Formatter W) →
+      IsPartWritten f text g (piece ++ more) → HasWritten took g piece h → IsPartWritten f text h more
+  piece_written f text g piece more h (done, wrote, e) next =
+      (done ++ piece, has_written_append took f done g piece h wrote next, append_assoc done piece more ∙ e)
 
-  pub all_written : (f : Formatter W) (text : List ℕ) (g : Formatter W) (more : List ℕ) → IsPartWritten f text g more → more ≡ [] → HasWritten took f text g
-  all_written f text g more (done, wrote, e) end = has_written_of_eq took f done text g (sym (append-nil done) ∙ ap (λ (l : List ℕ). done ++ l) (sym end) ∙ e) wrote
+  pub all_written : (f : Formatter W) (text : List ℕ) (g : Formatter W) (more : List ℕ) →
+      IsPartWritten f text g more → more ≡ [] → HasWritten took f text g
+  all_written f text g more (done, wrote, e) end =
+      has_written_of_eq took f done text g (sym (append-nil done) ∙ ap (λ (l : List ℕ). done ++ l) (sym end) ∙ e)
+      wrote
 
   -- one more of texts with separators
-  pub text_written : (f : Formatter W) (text : List ℕ) (g : Formatter W) (before between one : List ℕ) (more : List (List ℕ)) (h i : Formatter W)
-      → IsPartWritten f text g (separated before between (one ∷ more)) → (IsPlainFormatter g → HasWritten took g before h) → (IsPlainFormatter h → HasWritten took h one i)
+  pub text_written : (f : Formatter W) (text : List ℕ) (g : Formatter W) (before between one : List ℕ)
+      (more : List (List ℕ)) (h i : Formatter W)
+      → IsPartWritten f text g (separated before between (one ∷ more)) →
+      (IsPlainFormatter g → HasWritten took g before h) → (IsPlainFormatter h → HasWritten took h one i)
       → IsPartWritten f text i (separated between between more)
   text_written f text g before between one more h i so_far first second =
       let a = piece_written f text g before (one ++ separated between between more) h so_far (first so_far.1.plain) in
@@ -62,12 +70,14 @@ module _ {X : Type 0} (read : List ℕ → Option (X × List ℕ)) (less : Shrin
   no_values octets e = none_of_none (length octets) octets e
 
   -- where no octets are left, there is no value
-  at_end : (r : Option (X × List ℕ)) (f : List ℕ → List X) (octets : List ℕ) → read octets ≡ r → length octets ≤ 0 → or_nothing (r >>= λ x. Some (x.0 ∷ f x.1)) ≡ []
+  at_end : (r : Option (X × List ℕ)) (f : List ℕ → List X) (octets : List ℕ) → read octets ≡ r → length octets ≤ 0 →
+      or_nothing (r >>= λ x. Some (x.0 ∷ f x.1)) ≡ []
   at_end (Some x) f octets e p = let s : length x.1 < length octets = less octets x.0 x.1 e in absurd (omega arith)
   at_end None f octets e p = refl
 
   -- a greater bound changes nothing
-  pub enough_values : (n m : ℕ) (octets : List ℕ) → length octets ≤ n → length octets ≤ m → values_at read n octets ≡ values_at read m octets
+  pub enough_values : (n m : ℕ) (octets : List ℕ) → length octets ≤ n → length octets ≤ m →
+      values_at read n octets ≡ values_at read m octets
   enough_values zero zero octets p q = refl
   enough_values zero (suc m) octets p q = sym (at_end (read octets) (values_at read m) octets refl p)
   enough_values (suc n) zero octets p q = at_end (read octets) (values_at read n) octets refl q
@@ -76,7 +86,8 @@ module _ {X : Type 0} (read : List ℕ → Option (X × List ℕ)) (less : Shrin
       (λ x e. let s : length x.1 < length octets = less octets x.0 x.1 e in enough_values n m x.1 (omega arith) (omega arith))
 
   -- a value, and the values after it
-  pub one_value : (octets : List ℕ) (x : X) (rest : List ℕ) → read octets ≡ some {A = X × List ℕ} (x, rest) → values_in read octets ≡ x ∷ values_in read rest
+  pub one_value : (octets : List ℕ) (x : X) (rest : List ℕ) → read octets ≡ some {A = X × List ℕ} (x, rest) →
+      values_in read octets ≡ x ∷ values_in read rest
   unfolding values_in
   one_value octets x rest e = first (length octets) refl
     where
@@ -90,11 +101,13 @@ module _ {X : Type 0} (read : List ℕ → Option (X × List ℕ)) (less : Shrin
 
 -- what ends with one octet is written before the others
 pub numbers_split : (is_first : Bool) (number octet : ℕ) (ns : List ℕ)
-    → numbers_text is_first (ended_with number octet ++ ns) ≡ numbers_text is_first (ended_with number octet) ++ numbers_text (is_first && not (nat_lt octet 128)) ns
+    → numbers_text is_first (ended_with number octet ++ ns) ≡ numbers_text is_first (ended_with number octet) ++
+    numbers_text (is_first && not (nat_lt octet 128)) ns
 numbers_split is_first number octet ns = by_end is_first (with_octet number octet) ns (nat_lt octet 128)
   where
     by_end : (is_first : Bool) (n : ℕ) (ns : List ℕ) (ends : Bool)
-        → numbers_text is_first ((if ends then n ∷ [] else []) ++ ns) ≡ numbers_text is_first (if ends then n ∷ [] else []) ++ numbers_text (is_first && not ends) ns
+        → numbers_text is_first ((if ends then n ∷ [] else []) ++ ns) ≡
+        numbers_text is_first (if ends then n ∷ [] else []) ++ numbers_text (is_first && not ends) ns
     by_end true n ns true = ap (λ (l : List ℕ). l ++ numbers_text false ns) (sym (append-nil (number_text true n)))
     by_end false n ns true = ap (λ (l : List ℕ). l ++ numbers_text false ns) (sym (append-nil (number_text false n)))
     by_end true n ns false = refl

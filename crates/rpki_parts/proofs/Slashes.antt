@@ -1,5 +1,6 @@
 -- Texts cut at slashes.
-use Rattle.std.proofs.Common.{◌≡◌, ◌≢◌, inl, inr, ℕ, suc, ◌+◌, Bool, true, false, not, cond, List, [], ◌∷◌, ◌++◌, length, take, drop, refl, sym, ap, ◌∙◌, subst, ◌==◌, ◌↔◌, append_assoc, arith}
+use Rattle.std.proofs.Common.{◌≡◌, ◌≢◌, inl, inr, ℕ, suc, ◌+◌, Bool, true, false, not, cond, List, [], ◌∷◌, ◌++◌}
+use Rattle.std.proofs.Common.{length, take, drop, refl, sym, ap, ◌∙◌, subst, ◌==◌, ◌↔◌, append_assoc, arith}
 use Rattle.std.proofs.lemmas.Bool.{eqb-true, eqb-false, ne_eqb, cases_Bool}
 use Rattle.std.proofs.lemmas.Bool.Decides.{same_from_decides}
 use Rattle.std.proofs.lemmas.Slice.Eq.{bytes_eq-Decides}
@@ -23,8 +24,10 @@ empty_is [] = refl
 empty_is (x ∷ t) = ne_eqb (suc (length t)) 0 (λ e. absurd (omega arith))
 
 -- what `eq_ignore_ascii_case` answers, as a test
-pub folded : (r : Bool) (a b : List ℕ) → ((r ≡ true) ↔ (str_to_ascii_lowercase a ≡ str_to_ascii_lowercase b)) → r ≡ str_eq_ignore_ascii_case a b
-folded r a b h = same_from_decides r (str_eq_ignore_ascii_case a b) h (bytes_eq-Decides (str_to_ascii_lowercase a) (str_to_ascii_lowercase b))
+pub folded : (r : Bool) (a b : List ℕ) → ((r ≡ true) ↔ (str_to_ascii_lowercase a ≡ str_to_ascii_lowercase b)) →
+    r ≡ str_eq_ignore_ascii_case a b
+folded r a b h = same_from_decides r (str_eq_ignore_ascii_case a b) h
+    (bytes_eq-Decides (str_to_ascii_lowercase a) (str_to_ascii_lowercase b))
 
 -- ---- the first slash
 
@@ -46,7 +49,8 @@ pub before_has_none : (t : List ℕ) → HasNoSlash (before_slash t)
 before_has_none [] = tt
 before_has_none (x ∷ t) = before_step (is_slash x) x (before_slash t) (other_is x) (before_has_none t)
 
-from_step : (b : Bool) (x : ℕ) (t r : List ℕ) → (b ≡ true → x ≡ slash) → IsEmptyOrBeginsWithSlash r → IsEmptyOrBeginsWithSlash (cond b (x ∷ t) r)
+from_step : (b : Bool) (x : ℕ) (t r : List ℕ) → (b ≡ true → x ≡ slash) → IsEmptyOrBeginsWithSlash r →
+    IsEmptyOrBeginsWithSlash (cond b (x ∷ t) r)
 from_step true x t r h g = inr (t, ap (λ (y : ℕ). y ∷ t) (h refl))
 from_step false x t r h g = g
 
@@ -190,22 +194,31 @@ pub record IsKept (kept t : List ℕ) : Type 0 where
   pub name_is : HasNoSlash name
   pub kept_is : IsEmptyOrEndsWithSlash kept
 
-kept_none : (b : Bool) (x : ℕ) (t : List ℕ) → (b ≡ true → x ≡ slash) → (b ≡ false → x ≢ slash) → HasNoSlash t → IsKept (cond b (x ∷ []) []) (x ∷ t)
+kept_none : (b : Bool) (x : ℕ) (t : List ℕ) → (b ≡ true → x ≡ slash) → (b ≡ false → x ≢ slash) → HasNoSlash t →
+    IsKept (cond b (x ∷ []) []) (x ∷ t)
 kept_none true x t h g n = record { name = t; split = refl; name_is = n; kept_is = inr ([], ap (λ (y : ℕ). y ∷ []) (h refl)) }
 kept_none false x t h g n = record { name = x ∷ t; split = refl; name_is = (g refl, n); kept_is = inl refl }
 
-kept_more : (x : ℕ) (t k : List ℕ) (last : List ℕ) → IsKept k t → IsEmptyOrEndsWithSlash k → (k ≡ [] → HasNoSlash t → IsKept last (x ∷ t)) → IsKept (cond (is_empty k) last (x ∷ k)) (x ∷ t)
+kept_more : (x : ℕ) (t k : List ℕ) (last : List ℕ) → IsKept k t → IsEmptyOrEndsWithSlash k →
+    (k ≡ [] → HasNoSlash t → IsKept last (x ∷ t)) → IsKept (cond (is_empty k) last (x ∷ k)) (x ∷ t)
 kept_more x t [] last k o none = none refl (subst HasNoSlash (sym k.split) k.name_is)
 kept_more x t (y ∷ ys) last k (inl e) none = absurd cc
 kept_more x t (y ∷ ys) last k (inr m) none =
-    record { name = k.name; split = ap (λ (l : List ℕ). x ∷ l) k.split; name_is = k.name_is; kept_is = inr (x ∷ m.0, ap (λ (l : List ℕ). x ∷ l) m.1) }
+    record {
+      name = k.name;
+      split = ap (λ (l : List ℕ). x ∷ l) k.split;
+      name_is = k.name_is;
+      kept_is =
+          inr (x ∷ m.0, ap (λ (l : List ℕ). x ∷ l) m.1);
+    }
 
 -- what the function keeps is the text through its last slash
 pub through_is : (t : List ℕ) → IsKept (through_slash t) t
 through_is [] = record { name = []; split = refl; name_is = tt; kept_is = inl refl }
 through_is (x ∷ t) =
     let k = through_is t in
-    kept_more x t (through_slash t) (cond (is_slash x) (x ∷ []) []) k k.kept_is (λ _ none. kept_none (is_slash x) x t (slash_is x) (other_is x) none)
+    kept_more x t (through_slash t) (cond (is_slash x) (x ∷ []) []) k k.kept_is
+    (λ _ none. kept_none (is_slash x) x t (slash_is x) (other_is x) none)
 
 -- a text that ends with its last slash is kept before a name
 pub through_again : (kept name : List ℕ) → HasNoSlash name → IsEmptyOrEndsWithSlash kept → through_slash (kept ++ name) ≡ kept
@@ -223,7 +236,8 @@ segments_exist (x ∷ t) =
       | inr e ↦ (x ∷ r.0, r.1, rw (e, r.2) refl)
     ]
 
-onto-append : (x : ℕ) (a b : List (List ℕ)) (first : List ℕ) (more : List (List ℕ)) → a ≡ first ∷ more → onto_first x (a ++ b) ≡ onto_first x a ++ b
+onto-append : (x : ℕ) (a b : List (List ℕ)) (first : List ℕ) (more : List (List ℕ)) → a ≡ first ∷ more →
+    onto_first x (a ++ b) ≡ onto_first x a ++ b
 onto-append x a b first more e = rw e refl
 
 -- texts joined by a slash have the segments of both

@@ -13,9 +13,11 @@ pub text_is : (a b : List ℕ) → a ≡ b → bytes_eq a b ≡ true
 text_is a b e = (bytes_eq-Decides a b).1 e
 
 -- behind a front that is a, the rest tells
-pub joined : (s a b : List ℕ) → bytes_eq (take (length a) s) a ≡ true → (bytes_eq (drop (length a) s) b ≡ true → s ≡ a ++ b) × (s ≡ a ++ b → bytes_eq (drop (length a) s) b ≡ true)
+pub joined : (s a b : List ℕ) → bytes_eq (take (length a) s) a ≡ true →
+    (bytes_eq (drop (length a) s) b ≡ true → s ≡ a ++ b) × (s ≡ a ++ b → bytes_eq (drop (length a) s) b ≡ true)
 joined s a b e = (
-  (λ r. sym (take-append-drop (length a) s) ∙ ap (λ (x : List ℕ). x ++ drop (length a) s) (same_text (take (length a) s) a e) ∙ ap (λ (x : List ℕ). a ++ x) (same_text (drop (length a) s) b r)),
+  (λ r. sym (take-append-drop (length a) s) ∙ ap (λ (x : List ℕ). x ++ drop (length a) s)
+      (same_text (take (length a) s) a e) ∙ ap (λ (x : List ℕ). a ++ x) (same_text (drop (length a) s) b r)),
   λ j. text_is (drop (length a) s) b (ap (drop (length a)) j ∙ drop_at a b (length a) refl),
 )
 

@@ -13,13 +13,26 @@ same : (scheme a r uri : List ℕ) → IsUri scheme a r uri → AreEqual scheme 
 same scheme a r uri u = record { authority = a; other_authority = a; rest = r; is = u; other_is = u; authorities = refl }
 
 turned : (scheme x y : List ℕ) → AreEqual scheme x y → AreEqual scheme y x
-turned scheme x y e = record { authority = e.other_authority; other_authority = e.authority; rest = e.rest; is = e.other_is; other_is = e.is; authorities = sym e.authorities }
+turned scheme x y e =
+    record {
+      authority = e.other_authority;
+      other_authority = e.authority;
+      rest = e.rest;
+      is =
+          e.other_is;
+      other_is = e.is;
+      authorities = sym e.authorities;
+    }
 
 through : (scheme x y z : List ℕ) → length scheme ≡ 8 → AreEqual scheme x y → AreEqual scheme y z → AreEqual scheme x z
 through scheme x y z eight e f =
-    let rests : f.rest ≡ e.rest = sym (rest_again scheme f.authority f.rest y eight f.is) ∙ rest_again scheme e.other_authority e.rest y eight e.other_is in
+    let rests : f.rest ≡ e.rest = sym (rest_again scheme f.authority f.rest y eight f.is) ∙
+    rest_again scheme e.other_authority e.rest y eight e.other_is in
     let between : str_to_ascii_lowercase e.other_authority ≡ str_to_ascii_lowercase f.authority =
-    rw (← authority_again scheme e.other_authority e.rest y eight e.other_is, authority_again scheme f.authority f.rest y eight f.is) refl in
+    rw (
+      ← authority_again scheme e.other_authority e.rest y eight e.other_is,
+      authority_again scheme f.authority f.rest y eight f.is,
+    ) refl in
     record {
       authority = e.authority;
       other_authority = f.other_authority;
@@ -53,8 +66,22 @@ pub identical_equivalence : IsEquivalence IsRsync AreIdentical
 identical_equivalence = record {
   reflexive = λ x r.
       let u = trimmed_top r.authority r.top r.tail x r.top_is.0 r.is in
-      record { trimmed = trimmed x; other_trimmed = trimmed x; is = trimmed_is x; other_is = trimmed_is x; equal = same (codes "rsync://") r.authority u.0 (trimmed x) u.1 };
-  symmetric = λ x y i. record { trimmed = i.other_trimmed; other_trimmed = i.trimmed; is = i.other_is; other_is = i.is; equal = turned (codes "rsync://") i.trimmed i.other_trimmed i.equal };
+      record {
+        trimmed = trimmed x;
+        other_trimmed = trimmed x;
+        is = trimmed_is x;
+        other_is = trimmed_is x;
+        equal =
+            same (codes "rsync://") r.authority u.0 (trimmed x) u.1;
+      };
+  symmetric = λ x y i. record {
+    trimmed = i.other_trimmed;
+    other_trimmed = i.trimmed;
+    is = i.other_is;
+    other_is =
+        i.is;
+    equal = turned (codes "rsync://") i.trimmed i.other_trimmed i.equal;
+  };
   transitive = λ x y z i j.
       let between = one_trimmed y j.trimmed i.other_trimmed j.is i.other_is in
       record {
@@ -62,10 +89,13 @@ identical_equivalence = record {
         other_trimmed = j.other_trimmed;
         is = i.is;
         other_is = j.other_is;
-        equal = through (codes "rsync://") i.trimmed i.other_trimmed j.other_trimmed refl i.equal (subst (λ t. AreEqual (codes "rsync://") t j.other_trimmed) between j.equal);
+        equal = through (codes "rsync://") i.trimmed i.other_trimmed j.other_trimmed refl i.equal
+            (subst (λ t. AreEqual (codes "rsync://") t j.other_trimmed) between j.equal);
       };
 }
 
 -- the parent of an rsync URI is one
 pub parent_is_rsync : (uri p : List ℕ) → IsRsync uri → IsParent uri p → IsRsync p
-parent_is_rsync uri p r h = subst IsRsync (parent_again uri p h) (parent_rsync uri r (λ e. h.path_is (sym (path_found h.front h.path uri h.is) ∙ e)))
+parent_is_rsync uri p r h =
+    subst IsRsync (parent_again uri p h)
+    (parent_rsync uri r (λ e. h.path_is (sym (path_found h.front h.path uri h.is) ∙ e)))

@@ -1,33 +1,41 @@
 -- Identical URIs, and the parent of a URI.
-use Rattle.std.proofs.Common.{◌≡◌, ◌≢◌, inl, inr, ℕ, ◌≤◌, List, [], ◌∷◌, ◌++◌, drop, codes, refl, sym, ap, ◌∙◌, subst, append_assoc, append-nil, Decides}
+use Rattle.std.proofs.Common.{◌≡◌, ◌≢◌, inl, inr, ℕ, ◌≤◌, List, [], ◌∷◌, ◌++◌, drop, codes, refl, sym, ap, ◌∙◌, subst}
+use Rattle.std.proofs.Common.{append_assoc, append-nil, Decides}
 use Rattle.std.specs.List.{AllByRecursion, concat, slice_split}
-use Rattle.rpki_parts.specs.Uris.{slash, IsEmptyOrEndsWithSlash, ArePrintable, IsUri, HasNoDots, IsRsync, AreEqual, IsTrimmed, AreIdentical, HasPath, HasNoPath, IsParent, HasParent}
+use Rattle.rpki_parts.specs.Uris.{slash, IsEmptyOrEndsWithSlash, ArePrintable, IsUri, HasNoDots, IsRsync, AreEqual}
+use Rattle.rpki_parts.specs.Uris.{IsTrimmed, AreIdentical, HasPath, HasNoPath, IsParent, HasParent}
 use Rattle.rpki_parts.specs.Uris.Tests.{is_slash, is_empty, path_of, are_equal, trimmed, through_slash}
 use Rattle.rpki_parts.proofs.Slashes.{trimmed_is, trimmed_again, trimmed-append, through-front, through_is, through_again, segments-append}
 use Rattle.rpki_parts.proofs.UriTests.{empty_decides, path_again, tail_begins, nothing_dotted, equal_decides}
 
 -- ---- identical
 
-trimmed_rest : (a : List ℕ) (y : ℕ) (m uri : List ℕ) → IsUri (codes "rsync://") a (slash ∷ y ∷ m) uri → IsUri (codes "rsync://") a (slash ∷ trimmed (y ∷ m)) (trimmed uri)
+trimmed_rest : (a : List ℕ) (y : ℕ) (m uri : List ℕ) → IsUri (codes "rsync://") a (slash ∷ y ∷ m) uri →
+    IsUri (codes "rsync://") a (slash ∷ trimmed (y ∷ m)) (trimmed uri)
 trimmed_rest a y m uri u =
     let front = u.written ++ a in
-    let whole : uri ≡ front ++ slash ∷ y ∷ m = rw append_assoc (u.is ∙ ap (λ (l : List ℕ). u.written ++ (a ++ l)) (append-nil (slash ∷ y ∷ m))) in
+    let whole : uri ≡ front ++ slash ∷ y ∷ m =
+    rw append_assoc (u.is ∙ ap (λ (l : List ℕ). u.written ++ (a ++ l)) (append-nil (slash ∷ y ∷ m))) in
     let cut : trimmed uri ≡ front ++ slash ∷ trimmed (y ∷ m) = rw whole (trimmed-append front slash (y ∷ m)) in
     record {
       written = u.written;
       written_is = u.written_is;
-      is = cut ∙ (append_assoc u.written a (slash ∷ trimmed (y ∷ m)) ∙ ap (λ (l : List ℕ). u.written ++ (a ++ l)) (sym (append-nil (slash ∷ trimmed (y ∷ m)))));
+      is = cut ∙ (append_assoc u.written a (slash ∷ trimmed (y ∷ m)) ∙ ap (λ (l : List ℕ). u.written ++ (a ++ l))
+          (sym (append-nil (slash ∷ trimmed (y ∷ m)))));
       authority_is = u.authority_is;
       rest_is = inr (trimmed (y ∷ m), refl);
     }
 
 -- an rsync URI without one slash at its end is a URI with the authority that it had
-pub trimmed_top : (a top tail uri : List ℕ) → top ≢ [] → IsUri (codes "rsync://") a (concat (codes "/" ∷ top ∷ tail ∷ [])) uri → (rest : List ℕ) × IsUri (codes "rsync://") a rest (trimmed uri)
+pub trimmed_top : (a top tail uri : List ℕ) → top ≢ [] →
+    IsUri (codes "rsync://") a (concat (codes "/" ∷ top ∷ tail ∷ [])) uri →
+    (rest : List ℕ) × IsUri (codes "rsync://") a rest (trimmed uri)
 trimmed_top a [] tail uri h u = absurd (h refl)
 trimmed_top a (y ∷ top) tail uri h u = (slash ∷ trimmed (y ∷ (top ++ (tail ++ []))), trimmed_rest a y (top ++ (tail ++ [])) uri u)
 
 -- two rsync URIs are identical where they compare equal when trimmed
-pub identical_decides : (uri other : List ℕ) → IsRsync uri → IsRsync other → Decides (are_equal (trimmed uri) (trimmed other)) (AreIdentical uri other)
+pub identical_decides : (uri other : List ℕ) → IsRsync uri → IsRsync other →
+    Decides (are_equal (trimmed uri) (trimmed other)) (AreIdentical uri other)
 identical_decides uri other r s =
     let u = trimmed_top r.authority r.top r.tail uri r.top_is.0 r.is in
     let v = trimmed_top s.authority s.top s.tail other s.top_is.0 s.is in
@@ -36,7 +44,8 @@ identical_decides uri other r s =
       λ i.
           let first = trimmed_again uri i.trimmed i.is in
           let second = trimmed_again other i.other_trimmed i.other_is in
-          d.1 (subst (λ t. AreEqual (codes "rsync://") t (trimmed other)) (sym first) (subst (λ t. AreEqual (codes "rsync://") i.trimmed t) (sym second) i.equal)),
+          d.1 (subst (λ t. AreEqual (codes "rsync://") t (trimmed other)) (sym first)
+          (subst (λ t. AreEqual (codes "rsync://") i.trimmed t) (sym second) i.equal)),
     )
 
 -- ---- the parent
@@ -65,12 +74,16 @@ trimmed-path : (f path : List ℕ) → path ≢ [] → trimmed (f ++ slash ∷ p
 trimmed-path f [] h = absurd (h refl)
 trimmed-path f (y ∷ path) h = trimmed-append f slash (y ∷ path)
 
-parent_kept : (front path uri kept name : List ℕ) → HasPath front path uri → path ≢ [] → trimmed path ≡ kept ++ name → through_slash (kept ++ name) ≡ kept → through_slash (trimmed uri) ≡ front ++ kept
+parent_kept : (front path uri kept name : List ℕ) → HasPath front path uri → path ≢ [] → trimmed path ≡ kept ++ name →
+    through_slash (kept ++ name) ≡ kept → through_slash (trimmed uri) ≡ front ++ kept
 parent_kept front path uri kept name h filled split through =
     let b = before_path front path uri h in
     let cut : trimmed uri ≡ b.f ++ slash ∷ trimmed path = ap trimmed b.is ∙ trimmed-path b.f path filled in
     let last : through_slash (trimmed path) ≡ kept = ap through_slash split ∙ through in
-    ap through_slash cut ∙ (through-front b.f (trimmed path) ∙ (ap (λ (l : List ℕ). b.f ++ slash ∷ l) last ∙ (sym (append_assoc b.f (slash ∷ []) kept) ∙ ap (λ (l : List ℕ). l ++ kept) (sym b.front_is))))
+    ap through_slash cut ∙
+    (through-front b.f (trimmed path) ∙
+    (ap (λ (l : List ℕ). b.f ++ slash ∷ l) last ∙
+    (sym (append_assoc b.f (slash ∷ []) kept) ∙ ap (λ (l : List ℕ). l ++ kept) (sym b.front_is))))
 
 -- the parent is the trimmed URI through its last slash
 pub parent_again : (uri parent : List ℕ) → IsParent uri parent → through_slash (trimmed uri) ≡ parent
@@ -122,7 +135,8 @@ parent_takes uri r filled =
       split = k.split;
       kept_is = k.kept_is;
       name_is = k.name_is;
-      parent_is = parent_kept p.front p.path uri (through_slash (trimmed p.path)) k.name p.is p.path_is k.split (through_again (through_slash (trimmed p.path)) k.name k.name_is k.kept_is);
+      parent_is = parent_kept p.front p.path uri (through_slash (trimmed p.path)) k.name p.is p.path_is k.split
+          (through_again (through_slash (trimmed p.path)) k.name k.name_is k.kept_is);
     }
 
 -- ---- the parent is a URI
@@ -139,10 +153,12 @@ abbrev IsPlain : List ℕ → Type 0
 IsPlain s = (s ≢ codes ".") × (s ≢ codes "..")
 
 dots_before : (a b : List ℕ) → HasNoDots (a ++ slash ∷ b) → HasNoDots a
-dots_before a b h = front_of IsPlain (slice_split is_slash a) (slice_split is_slash b) (subst (AllByRecursion IsPlain) (segments-append a b) h)
+dots_before a b h = front_of IsPlain (slice_split is_slash a) (slice_split is_slash b)
+    (subst (AllByRecursion IsPlain) (segments-append a b) h)
 
 dots_ended : (a : List ℕ) → HasNoDots a → HasNoDots (a ++ slash ∷ [])
-dots_ended a h = subst (AllByRecursion IsPlain) (sym (segments-append a [])) (joined IsPlain (slice_split is_slash a) (slice_split is_slash []) h nothing_dotted)
+dots_ended a h = subst (AllByRecursion IsPlain) (sym (segments-append a []))
+    (joined IsPlain (slice_split is_slash a) (slice_split is_slash []) h nothing_dotted)
 
 dots_trimmed : (path t : List ℕ) → IsTrimmed path t → HasNoDots path → HasNoDots t
 dots_trimmed path t (inl e) h = dots_before t [] (subst HasNoDots e h)
@@ -165,12 +181,15 @@ parent_rsync uri r filled =
     let parent = through_slash (trimmed uri) in
     let k = through_is (trimmed p.path) in
     let kept = through_slash (trimmed p.path) in
-    let e : parent ≡ p.front ++ kept = parent_kept p.front p.path uri kept k.name p.is p.path_is k.split (through_again kept k.name k.name_is k.kept_is) in
+    let e : parent ≡ p.front ++ kept = parent_kept p.front p.path uri kept k.name p.is p.path_is k.split
+    (through_again kept k.name k.name_is k.kept_is) in
     let b = before_path p.front p.path uri p.is in
     let end = trimmed_front p.path (trimmed p.path) (trimmed_is p.path) in
     let path_whole : p.path ≡ (kept ++ k.name) ++ end.0 = end.1 ∙ ap (λ (l : List ℕ). l ++ end.0) k.split in
-    let front_path : p.front ++ p.path ≡ uri = ap (λ (l : List ℕ). l ++ p.path) b.front_is ∙ (append_assoc b.f (slash ∷ []) p.path ∙ sym b.is) in
-    let whole : uri ≡ (p.front ++ kept) ++ (k.name ++ end.0) = sym front_path ∙ (ap (λ (l : List ℕ). p.front ++ l) path_whole ∙ simp append_assoc) in
+    let front_path : p.front ++ p.path ≡ uri = ap (λ (l : List ℕ). l ++ p.path) b.front_is ∙
+    (append_assoc b.f (slash ∷ []) p.path ∙ sym b.is) in
+    let whole : uri ≡ (p.front ++ kept) ++ (k.name ++ end.0) = sym front_path ∙
+    (ap (λ (l : List ℕ). p.front ++ l) path_whole ∙ simp append_assoc) in
     let u : IsUri (codes "rsync://") p.is.authority (concat (codes "/" ∷ p.is.top ∷ (slash ∷ kept) ∷ [])) parent = record {
       written = p.is.is.written;
       written_is = p.is.is.written_is;
@@ -184,8 +203,15 @@ parent_rsync uri r filled =
       tail = slash ∷ kept;
       is = u;
       top_is = p.is.top_is;
-      tail_is = inr (kept, refl, dots_kept kept k.name k.kept_is (subst HasNoDots k.split (dots_trimmed p.path (trimmed p.path) (trimmed_is p.path) p.dots)));
-      printable = subst ArePrintable (sym e) (front_of (λ octet. (0x21 ≤ octet) × (octet ≤ 0x7E)) (p.front ++ kept) (k.name ++ end.0) (subst ArePrintable whole r.printable));
+      tail_is = inr (
+        kept,
+        refl,
+        dots_kept kept k.name k.kept_is
+            (subst HasNoDots k.split (dots_trimmed p.path (trimmed p.path) (trimmed_is p.path) p.dots)),
+      );
+      printable = subst ArePrintable (sym e)
+          (front_of (λ octet. (0x21 ≤ octet) × (octet ≤ 0x7E)) (p.front ++ kept) (k.name ++ end.0)
+          (subst ArePrintable whole r.printable));
     }
 
 -- a URI without path has an empty one

@@ -22,13 +22,17 @@ module _ (x : Context) (lists : List CrlState) (issuer : TbsFields) (c : CertFie
   pub no_list : HaveNone (IsFor c) lists → IsFirstFalse (by_lists x lists issuer c) revocation_checks NoCrl
   no_list none = named.no_list false x lists issuer c none (λ l inside is. none l inside is.0)
 
-  module _ (none : HaveNone Fits lists) (l : CrlState) (one : Contains lists l × IsFor c l) (key : NamesIssuer issuer l.list) where
-    pub unsigned : (EachHas (IsFor c) Signs lists → ⊥) → IsFirstFalse (by_lists x lists issuer c) revocation_checks BadSignature
+  module _ (none : HaveNone Fits lists) (l : CrlState) (one : Contains lists l × IsFor c l)
+      (key : NamesIssuer issuer l.list) where
+    pub unsigned : (EachHas (IsFor c) Signs lists → ⊥) →
+        IsFirstFalse (by_lists x lists issuer c) revocation_checks BadSignature
     unsigned not = named.unsigned false x lists issuer c none l one key not
 
     pub not_begun : EachHas (IsFor c) Signs lists → IsFirstFalse (by_lists x lists issuer c) revocation_checks Stale
     not_begun signed = named.not_begun false x lists issuer c none l one key signed
 
   -- what the latest list says is answered
-  pub answered : (l : CrlState) → IsLatest Fits c lists l → NamesIssuer issuer l.list → {T : Type 0} (r : Result T RevocationError) → IsSaidBy x.now c l r → Tests (by_lists x lists issuer c) revocation_checks r
+  pub answered : (l : CrlState) → IsLatest Fits c lists l → NamesIssuer issuer l.list →
+      {T : Type 0} (r : Result T RevocationError) → IsSaidBy x.now c l r →
+      Tests (by_lists x lists issuer c) revocation_checks r
   answered l last key r said = named.answered false x lists issuer c l last key r said

@@ -40,12 +40,14 @@ same_key k l = after (same_format k.format l.format) (same_octets k.bits l.bits)
   after (inr not) _ = inr (λ g. not (ap (λ (k : KeyFields). k.format) g))
 
 same_entity : (names : Bool) (c d : CertFields) → Decided (AreOneEntity names c d)
-same_entity names c d = after names (same_key c.fields.key d.fields.key) (same_octets c.fields.subject d.fields.subject) where
-  after : (names : Bool) → Decided (c.fields.key ≡ d.fields.key) → Decided (c.fields.subject ≡ d.fields.subject) → Decided (AreOneEntity names c d)
-  after names (inr not) _ = inr (λ one. not one.0)
-  after true (inl e) (inl f) = inl (e, λ asks. f)
-  after true (inl e) (inr not) = inr (λ one. not (one.1 refl))
-  after false (inl e) _ = inl (e, λ asks. absurd (cc asks))
+same_entity names c d = after names (same_key c.fields.key d.fields.key)
+    (same_octets c.fields.subject d.fields.subject) where
+      after : (names : Bool) → Decided (c.fields.key ≡ d.fields.key) → Decided (c.fields.subject ≡ d.fields.subject) →
+          Decided (AreOneEntity names c d)
+      after names (inr not) _ = inr (λ one. not one.0)
+      after true (inl e) (inl f) = inl (e, λ asks. f)
+      after true (inl e) (inr not) = inr (λ one. not (one.1 refl))
+      after false (inl e) _ = inl (e, λ asks. absurd (cc asks))
 
 -- ---- paths
 
@@ -65,7 +67,10 @@ module _ (names : Bool) (p : Path) where
   seek : (j n : ℕ) → Before j n ⊎ ((i : ℕ) → i < n → AreOneEntity names (certificate_at p i) (certificate_at p j) → ⊥)
   seek j zero = inr (λ i low. absurd (omega (arith, low)))
   seek j (suc n) = after (seek j n) (same_entity names (certificate_at p n) (certificate_at p j)) where
-    after : Before j n ⊎ ((i : ℕ) → i < n → AreOneEntity names (certificate_at p i) (certificate_at p j) → ⊥) → Decided (AreOneEntity names (certificate_at p n) (certificate_at p j)) → Before j (suc n) ⊎ ((i : ℕ) → i < suc n → AreOneEntity names (certificate_at p i) (certificate_at p j) → ⊥)
+    after : Before j n ⊎ ((i : ℕ) → i < n → AreOneEntity names (certificate_at p i) (certificate_at p j) → ⊥) →
+        Decided (AreOneEntity names (certificate_at p n) (certificate_at p j)) →
+        Before j (suc n) ⊎ ((i : ℕ) → i < suc n → AreOneEntity names (certificate_at p i) (certificate_at p j) →
+        ⊥)
     after (inl (i, low, one)) _ = inl (i, omega (arith, low), one)
     after (inr none) (inl one) = inl (n, omega arith, one)
     after (inr none) (inr not) = inr (λ i low one. elim (cases_eq i n) [
@@ -74,12 +79,27 @@ module _ (names : Bool) (p : Path) where
     ])
 
   -- a path has such issuers or it has none
-  pub told_repeat : (n : ℕ) → Repeat names p n ⊎ ((i j : ℕ) → i < j → j < n → AreOneEntity names (certificate_at p i) (certificate_at p j) → ⊥)
+  pub told_repeat : (n : ℕ) →
+      Repeat names p n ⊎
+      ((i j : ℕ) → i < j → j < n → AreOneEntity names (certificate_at p i) (certificate_at p j) → ⊥)
   told_repeat zero = inr (λ i j before low. absurd (omega (arith, low)))
   told_repeat (suc n) = after (told_repeat n) (seek n n) where
-    after : Repeat names p n ⊎ ((i j : ℕ) → i < j → j < n → AreOneEntity names (certificate_at p i) (certificate_at p j) → ⊥) → Before n n ⊎ ((i : ℕ) → i < n → AreOneEntity names (certificate_at p i) (certificate_at p n) → ⊥) → Repeat names p (suc n) ⊎ ((i j : ℕ) → i < j → j < suc n → AreOneEntity names (certificate_at p i) (certificate_at p j) → ⊥)
-    after (inl r) _ = inl (record { first = r.first; second = r.second; before = r.before; within = omega (arith, r.within); one = r.one })
-    after (inr none) (inl (i, low, one)) = inl (record { first = i; second = n; before = low; within = omega arith; one = one })
+    after : Repeat names p n ⊎
+        ((i j : ℕ) → i < j → j < n → AreOneEntity names (certificate_at p i) (certificate_at p j) → ⊥) →
+        Before n n ⊎ ((i : ℕ) → i < n → AreOneEntity names (certificate_at p i) (certificate_at p n) → ⊥) →
+        Repeat names p (suc n) ⊎
+        ((i j : ℕ) → i < j → j < suc n → AreOneEntity names (certificate_at p i) (certificate_at p j) → ⊥)
+    after (inl r) _ = inl
+        (record {
+          first = r.first;
+          second = r.second;
+          before = r.before;
+          within = omega (arith, r.within);
+          one =
+              r.one;
+        })
+    after (inr none) (inl (i, low, one)) =
+        inl (record { first = i; second = n; before = low; within = omega arith; one = one })
     after (inr none) (inr last_none) = inr (λ i j before low one. elim (cases_eq j n) [
       | inl e ↦
           let less : i < n = omega (arith, before, e) in

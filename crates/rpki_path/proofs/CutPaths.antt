@@ -1,9 +1,11 @@
 -- A walkable path on which an entity comes twice stays walkable without the certificates between.
 use Rattle.std.specs.List.{AllByRecursion}
 use Rattle.std.specs.Prelude.{Bool, IsTrue, IfSome}
-use Rattle.std.proofs.Common.{◌≡◌, ◌⊎◌, ◌+◌, ◌-◌, ◌<◌, ◌≤◌, ℕ, zero, suc, List, [], ◌∷◌, ◌++◌, length, map, take, drop, get_or, sym, ap, subst, ◌∙◌, inl, inr, arith}
+use Rattle.std.proofs.Common.{◌≡◌, ◌⊎◌, ◌+◌, ◌-◌, ◌<◌, ◌≤◌, ℕ, zero, suc, List, [], ◌∷◌, ◌++◌, length, map, take}
+use Rattle.std.proofs.Common.{drop, get_or, sym, ap, subst, ◌∙◌, inl, inr, arith}
 use Rattle.std.proofs.lemmas.Bool.{cases_order}
-use Rattle.std.proofs.lemmas.List.{map-append, length-map, length-append, length-take-le, length-drop, get_or-take, get_or-drop, get_or_append_left, get_or-append_right, take-map, drop-map}
+use Rattle.std.proofs.lemmas.List.{map-append, length-map, length-append, length-take-le, length-drop, get_or-take}
+use Rattle.std.proofs.lemmas.List.{get_or-drop, get_or_append_left, get_or-append_right, take-map, drop-map}
 use Rattle.rpki_parts.specs.Keys.{KeyFields, key_identifier}
 use Rattle.rpki_cert.specs.Certificates.{TbsFields, CertFields}
 use Rattle.rpki_cert.specs.Profiles.{MeetsProfile}
@@ -11,12 +13,19 @@ use Rattle.rpki_cert.specs.Verification.{Context, Held, Check, IsSignedBy, issue
 use Rattle.rpki_cert.specs.declared.inspect.Kind.{Kind}
 use Rattle.rpki_cert.specs.declared.inspect.Kind.TheVariants.{Anchor, Authority, EndEntity, Detached, Router}
 use Rattle.rpki_cert.specs.declared.verification_error.VerificationError.{VerificationError}
-use Rattle.rpki_cert.specs.declared.verification_error.VerificationError.TheVariants.{NotYetValid, Expired, InheritedV4, InheritedV6, InheritedAs, MissingKeyId, WrongKeyId, MissingIssuerUri, BadSignature, OverclaimV4, OverclaimV6, OverclaimAs, Memory}
+use Rattle.rpki_cert.specs.declared.verification_error.VerificationError.TheVariants.{NotYetValid, Expired}
+use Rattle.rpki_cert.specs.declared.verification_error.VerificationError.TheVariants.{InheritedV4, InheritedV6}
+use Rattle.rpki_cert.specs.declared.verification_error.VerificationError.TheVariants.{InheritedAs, MissingKeyId}
+use Rattle.rpki_cert.specs.declared.verification_error.VerificationError.TheVariants.{WrongKeyId, MissingIssuerUri}
+use Rattle.rpki_cert.specs.declared.verification_error.VerificationError.TheVariants.{BadSignature, OverclaimV4}
+use Rattle.rpki_cert.specs.declared.verification_error.VerificationError.TheVariants.{OverclaimV6, OverclaimAs}
+use Rattle.rpki_cert.specs.declared.verification_error.VerificationError.TheVariants.{Memory}
 use Rattle.rpki_cert.proofs.Checks.{all_map}
 use Rattle.rpki_crl.specs.Revocation.{revocation_checks}
 use Rattle.rpki_path.specs.Asking.{RevocationChecks, IsUnrevokedBy}
 use Rattle.rpki_path.specs.NameChains.{NamesChain, IsNamedBelow}
-use Rattle.rpki_path.specs.Paths.{Path, Member, last, certificate_at, NumberKind, v4_addresses, v6_addresses, system_numbers, PassesOn, Holds, HeldAt, CheckBelow, IsValidPath}
+use Rattle.rpki_path.specs.Paths.{Path, Member, last, certificate_at, NumberKind, v4_addresses, v6_addresses}
+use Rattle.rpki_path.specs.Paths.{system_numbers, PassesOn, Holds, HeldAt, CheckBelow, IsValidPath}
 use Rattle.rpki_path.specs.Repeats.{AreOneEntity, AreAlike, AsksByEntity, IsWalkable, without}
 
 -- ---- lists without some of their items
@@ -26,7 +35,14 @@ module _ {X : Type 0} (xs : List X) (i j : ℕ) (before : i ≤ j) (within : j �
   low = omega (arith, before, within)
 
   pub cut_length : length (take i xs ++ drop j xs) + (j - i) ≡ length xs
-  cut_length = omega (arith, length-append (take i xs) (drop j xs), length-take-le i xs low, length-drop j xs, before, within)
+  cut_length = omega (
+    arith,
+    length-append (take i xs) (drop j xs),
+    length-take-le i xs low,
+    length-drop j xs,
+    before,
+    within,
+  )
 
   pub cut_below : (d : X) (n : ℕ) → n < i → get_or (take i xs ++ drop j xs) n d ≡ get_or xs n d
   cut_below d n h =
@@ -46,7 +62,8 @@ module _ {X : Type 0} (P : X → Type 0) where
   all_dropped [] (suc j) all = tt
   all_dropped (x ∷ xs) (suc j) all = all_dropped xs j all.1
 
-  all_taken : (xs : List X) (i : ℕ) (rest : List X) → AllByRecursion P xs → AllByRecursion P rest → AllByRecursion P (take i xs ++ rest)
+  all_taken : (xs : List X) (i : ℕ) (rest : List X) → AllByRecursion P xs → AllByRecursion P rest →
+      AllByRecursion P (take i xs ++ rest)
   all_taken xs zero rest all more = more
   all_taken [] (suc i) rest all more = more
   all_taken (x ∷ xs) (suc i) rest all more = (all.0, all_taken xs i rest all.1 more)
@@ -54,7 +71,8 @@ module _ {X : Type 0} (P : X → Type 0) where
 -- ---- identifiers
 
 -- a certificate that meets a profile has the identifier of its key
-names_its_key : (kind : Kind) (strict : Bool) (c : CertFields) → MeetsProfile kind strict c → c.fields.extensions.subject_key_identifier ≡ key_identifier c.fields.key
+names_its_key : (kind : Kind) (strict : Bool) (c : CertFields) → MeetsProfile kind strict c →
+    c.fields.extensions.subject_key_identifier ≡ key_identifier c.fields.key
 names_its_key Anchor strict c h = h.1.1.1.1.0
 names_its_key Authority strict c h = h.1.1.1.1.0
 names_its_key EndEntity strict c h = h.1.1.1.1.0
@@ -63,17 +81,24 @@ names_its_key Router strict c h = h.1.1.1.1.1.0
 
 module _ (x : Context) (asked : RevocationChecks) (names : Bool) (p : Path) where
   -- the certificate of each member has
-  members_named : (l : List Member) → AllByRecursion (λ m. MeetsProfile m.kind x.strict m.cert) l → (n : ℕ) (d : CertFields) → n < length l → (get_or (map (λ (m : Member). m.cert) l) n d).fields.extensions.subject_key_identifier ≡ key_identifier (get_or (map (λ (m : Member). m.cert) l) n d).fields.key
+  members_named : (l : List Member) → AllByRecursion (λ m. MeetsProfile m.kind x.strict m.cert) l →
+      (n : ℕ) (d : CertFields) → n < length l →
+      (get_or (map (λ (m : Member). m.cert) l) n d).fields.extensions.subject_key_identifier ≡
+      key_identifier (get_or (map (λ (m : Member). m.cert) l) n d).fields.key
   members_named [] all n d h = absurd (omega (arith, h))
   members_named (m ∷ l) all zero d h = names_its_key m.kind x.strict m.cert all.0
   members_named (m ∷ l) all (suc n) d h = members_named l all.1 n d (omega (arith, h))
 
-  at_named : IsValidPath x asked p → (n : ℕ) → n ≤ last p → (certificate_at p n).fields.extensions.subject_key_identifier ≡ key_identifier (certificate_at p n).fields.key
+  at_named : IsValidPath x asked p → (n : ℕ) → n ≤ last p →
+      (certificate_at p n).fields.extensions.subject_key_identifier ≡
+      key_identifier (certificate_at p n).fields.key
   at_named valid zero h = names_its_key Anchor x.strict p.anchor valid.anchor_meets
   at_named valid (suc n) h = members_named p.below valid.members_meet n p.anchor (omega (arith, h))
 
   -- one entity's identifier is one
-  pub one_entity_alike : IsValidPath x asked p → (i j : ℕ) → i ≤ last p → j ≤ last p → AreOneEntity names (certificate_at p i) (certificate_at p j) → AreAlike names (certificate_at p j).fields (certificate_at p i).fields
+  pub one_entity_alike : IsValidPath x asked p → (i j : ℕ) → i ≤ last p → j ≤ last p →
+      AreOneEntity names (certificate_at p i) (certificate_at p j) →
+      AreAlike names (certificate_at p j).fields (certificate_at p i).fields
   one_entity_alike valid i j low high one = record {
     key_is = sym one.0;
     identifier_is = at_named valid j high ∙ ap key_identifier (sym one.0) ∙ sym (at_named valid i low);
@@ -83,7 +108,9 @@ module _ (x : Context) (asked : RevocationChecks) (names : Bool) (p : Path) wher
 -- ---- checks
 
 -- a check that is true below an issuer is true below one that is alike and holds as much
-module _ (x : Context) (names : Bool) (f g : TbsFields) (alike : AreAlike names f g) (h k : Held) (v4 : (n : ℕ) → h.v4 n → k.v4 n) (v6 : (n : ℕ) → h.v6 n → k.v6 n) (numbers : (n : ℕ) → h.as_numbers n → k.as_numbers n) where
+module _ (x : Context) (names : Bool) (f g : TbsFields) (alike : AreAlike names f g) (h k : Held)
+    (v4 : (n : ℕ) → h.v4 n → k.v4 n) (v6 : (n : ℕ) → h.v6 n → k.v6 n) (numbers : (n : ℕ) → h.as_numbers n →
+    k.as_numbers n) where
   check_alike : (c : CertFields) (e : VerificationError) → Check x f h c e → Check x g k c e
   check_alike c NotYetValid l = l
   check_alike c Expired l = l
@@ -91,7 +118,9 @@ module _ (x : Context) (names : Bool) (f g : TbsFields) (alike : AreAlike names 
   check_alike c InheritedV6 l = l
   check_alike c InheritedAs l = l
   check_alike c MissingKeyId l = l
-  check_alike c WrongKeyId l = subst (λ (key : List ℕ). IfSome c.fields.extensions.authority_key_identifier (λ id. id ≡ key)) alike.identifier_is l
+  check_alike c WrongKeyId l =
+      subst (λ (key : List ℕ). IfSome c.fields.extensions.authority_key_identifier (λ id. id ≡ key))
+      alike.identifier_is l
   check_alike c MissingIssuerUri l = l
   check_alike c BadSignature l = subst (λ (key : KeyFields). IsSignedBy x.verifies key c.signed_data) alike.key_is l
   check_alike c OverclaimV4 l = λ mode n small listed. v4 n (l mode n small listed)
@@ -130,7 +159,8 @@ module _ (p : Path) (i j : ℕ) (before : i ≤ j) (within : j ≤ last p) where
   pub at_above : (n : ℕ) → n ≤ i → certificate_at q n ≡ certificate_at p n
   at_above n h =
       let short : n < suc i = omega (arith, h) in
-      ap (λ (cs : List CertFields). get_or cs n p.anchor) certs_cut ∙ cut_below (certs p) (suc i) (suc j) ordered high p.anchor n short
+      ap (λ (cs : List CertFields). get_or cs n p.anchor) certs_cut ∙ cut_below (certs p) (suc i) (suc j) ordered
+      high p.anchor n short
 
   -- and those below it
   pub at_below : (n : ℕ) → i < n → certificate_at q n ≡ certificate_at p (n + (j - i))
@@ -159,7 +189,8 @@ module _ (p : Path) (i j : ℕ) (before : i ≤ j) (within : j ≤ last p) where
           subst (λ (c : CertFields). PassesOn c k n) (sym (at_above t short)) (held.passed_on t one most);
     }
 
-    passed : (m : ℕ) → i ≤ m → Holds p (m + (j - i)) k n → (t : ℕ) → 1 ≤ t → t ≤ m → (t ≤ i) ⊎ (i < t) → PassesOn (certificate_at q t) k n
+    passed : (m : ℕ) → i ≤ m → Holds p (m + (j - i)) k n → (t : ℕ) → 1 ≤ t → t ≤ m → (t ≤ i) ⊎ (i < t) →
+        PassesOn (certificate_at q t) k n
     passed m low held t one most (inl short) =
         let all : t ≤ m + (j - i) = omega (arith, most) in
         subst (λ (c : CertFields). PassesOn c k n) (sym (at_above t short)) (held.passed_on t one all)
@@ -226,7 +257,8 @@ module _ (p : Path) (i j : ℕ) (before : i ≤ j) (within : j ≤ last p) where
       place = m;
       above = omega (arith, last_cut, low);
       next = let short : m + 1 ≤ i = omega (arith, less) in at_above (m + 1) short;
-      alike = let short : m ≤ i = omega (arith, less) in itself (certificate_at p m) (certificate_at q m) (at_above m short);
+      alike = let short : m ≤ i = omega (arith, less) in
+          itself (certificate_at p m) (certificate_at q m) (at_above m short);
       holds = λ k n held. let short : m ≤ i = omega (arith, less) in holds_before k n m short held;
     }
     stands m low (inr (inr more)) = record {
@@ -242,7 +274,8 @@ module _ (p : Path) (i j : ℕ) (before : i ≤ j) (within : j ≤ last p) where
 
     -- ---- the path is walkable
 
-    module _ (x : Context) (asked : RevocationChecks) (by_entity : AsksByEntity names asked) (walkable : IsWalkable x asked names p) where
+    module _ (x : Context) (asked : RevocationChecks) (by_entity : AsksByEntity names asked)
+        (walkable : IsWalkable x asked names p) where
       abbrev valid : IsValidPath x asked p
       valid = walkable.is_valid
 
@@ -252,7 +285,9 @@ module _ (p : Path) (i j : ℕ) (before : i ≤ j) (within : j ≤ last p) where
           let c = certificate_at p (s.place + 1) in
           subst (λ (c : CertFields). IsVerified (CheckBelow x q m c) issued_checks) (sym s.next)
           (all_map (CheckBelow x p s.place c) (CheckBelow x q m c) issued_checks
-          (check_alike x names (certificate_at p s.place).fields (certificate_at q m).fields s.alike (HeldAt p s.place) (HeldAt q m) (s.holds v4_addresses) (s.holds v6_addresses) (s.holds system_numbers) c)
+          (check_alike x names (certificate_at p s.place).fields (certificate_at q m).fields s.alike
+          (HeldAt p s.place) (HeldAt q m) (s.holds v4_addresses) (s.holds v6_addresses)
+          (s.holds system_numbers) c)
           (valid.members_verified s.place s.above))
 
       unrevoked : (m : ℕ) → m < last q → IsUnrevokedBy asked (certificate_at q m).fields (certificate_at q (m + 1))
@@ -262,9 +297,11 @@ module _ (p : Path) (i j : ℕ) (before : i ≤ j) (within : j ≤ last p) where
           let f = (certificate_at p s.place).fields in
           let g = (certificate_at q m).fields in
           subst (λ (c : CertFields). IsUnrevokedBy asked g c) (sym s.next)
-          (all_map (asked f c) (asked g c) revocation_checks (λ e l. by_entity f g c e s.alike l) (valid.members_unrevoked s.place s.above))
+          (all_map (asked f c) (asked g c) revocation_checks (λ e l. by_entity f g c e s.alike l)
+          (valid.members_unrevoked s.place s.above))
 
-      named : IsTrue names → NamesChain p → (m : ℕ) → m < last q → IsNamedBelow (certificate_at q m) (certificate_at q (m + 1))
+      named : IsTrue names → NamesChain p → (m : ℕ) → m < last q →
+          IsNamedBelow (certificate_at q m) (certificate_at q (m + 1))
       named asks chain m low =
           let s = stands m low (cases_order m i) in
           subst (λ (c : CertFields). IsNamedBelow (certificate_at q m) c) (sym s.next)
@@ -274,10 +311,13 @@ module _ (p : Path) (i j : ℕ) (before : i ≤ j) (within : j ≤ last p) where
       cut_walkable = record {
         is_valid = record {
           anchor_meets = valid.anchor_meets;
-          members_meet = all_taken (λ (m : Member). MeetsProfile m.kind x.strict m.cert) p.below i (drop j p.below) valid.members_meet (all_dropped (λ (m : Member). MeetsProfile m.kind x.strict m.cert) p.below j valid.members_meet);
+          members_meet = all_taken (λ (m : Member). MeetsProfile m.kind x.strict m.cert) p.below i (drop j p.below)
+              valid.members_meet
+              (all_dropped (λ (m : Member). MeetsProfile m.kind x.strict m.cert) p.below j valid.members_meet);
           anchor_verified = valid.anchor_verified;
           members_verified = verified;
           members_unrevoked = unrevoked;
         };
-        chained = λ asks. let chain = walkable.chained asks in record { anchor_named = chain.anchor_named; members_named = named asks chain };
+        chained = λ asks. let chain = walkable.chained asks in
+            record { anchor_named = chain.anchor_named; members_named = named asks chain };
       }

@@ -23,7 +23,8 @@ use Rattle.rpki_path.specs.Paths.{Demand, Finds}
 use Rattle.rpki_path.specs.Paths.Steps.{IsUnread, IsIssuedBy, demand_under}
 
 -- an error of reading says that no certificate begins the string
-pub not_decoded : (octets : List ℕ) (e : DecodeError) → Rejects e ((c : CertFields) → Means IsCertificate c octets → ⊥) → IsUnread octets (of_decoding e)
+pub not_decoded : (octets : List ℕ) (e : DecodeError) →
+    Rejects e ((c : CertFields) → Means IsCertificate c octets → ⊥) → IsUnread octets (of_decoding e)
 not_decoded octets decoding.Memory h = tt
 not_decoded octets e h = ((λ same. absurd (cc same)), h)
 
@@ -37,23 +38,31 @@ module _ (x : Context) (d : Demand) (octets : List ℕ) where
   unread Memory h = tt
 
   module _ (c : CertFields) (begins : Means IsCertificate c octets) where
-    first_false : (e : VerificationError) → IsInvalid d.kind x.strict c (IsFirstFalse (d.check c) d.checks) (Verification e) → Finds x d octets (of_verification e)
+    first_false : (e : VerificationError) →
+        IsInvalid d.kind x.strict c (IsFirstFalse (d.check c) d.checks) (Verification e) →
+        Finds x d octets (of_verification e)
     first_false verification.Memory h = tt
     first_false _ h = (c, begins, h)
 
-    not_verified : (e : VerificationError) → IsInvalid d.kind x.strict c (IsFirstFalseOrMemory (d.check c) d.checks) (Verification e) → Finds x d octets (of_verification e)
+    not_verified : (e : VerificationError) →
+        IsInvalid d.kind x.strict c (IsFirstFalseOrMemory (d.check c) d.checks) (Verification e) →
+        Finds x d octets (of_verification e)
     not_verified verification.Memory h = tt
     not_verified e (meets, inl same) = absurd (cc same)
     not_verified e (meets, inr h) = first_false e (meets, h)
 
     -- a certificate that isn't valid is found so
-    pub not_valid : (e : ValidationError) → IsInvalid d.kind x.strict c (IsFirstFalseOrMemory (d.check c) d.checks) e → Finds x d octets (of_validation e)
+    pub not_valid : (e : ValidationError) →
+        IsInvalid d.kind x.strict c (IsFirstFalseOrMemory (d.check c) d.checks) e →
+        Finds x d octets (of_validation e)
     not_valid (Inspection e) h = (c, begins, h)
     not_valid (Verification e) h = not_verified e h
 
 -- ---- a member, from the certificate that is decoded
 
-module _ (x : Context) (asked : RevocationChecks) (issuer : ResourceFields) (k : Kind) (octets : List ℕ) (c : CertFields) (r : ResourceFields) (begins : Means IsCertificate c octets) (below : IsValidBelow x issuer k c r) where
+module _ (x : Context) (asked : RevocationChecks) (issuer : ResourceFields) (k : Kind) (octets : List ℕ)
+    (c : CertFields) (r : ResourceFields) (begins : Means IsCertificate c octets)
+    (below : IsValidBelow x issuer k c r) where
   pub issued_by : IsVerified (asked issuer.cert.fields r.cert) revocation_checks → IsIssuedBy x asked issuer k octets r
   issued_by free =
       let same : c ≡ r.cert = sym below.issued.cert_is in
@@ -64,11 +73,13 @@ module _ (x : Context) (asked : RevocationChecks) (issuer : ResourceFields) (k :
       }
 
   -- a member that is revoked is found so
-  pub revoked_below : (e : RevocationError) → IsFirstFalse (asked issuer.cert.fields r.cert) revocation_checks e → Finds x (demand_under x asked issuer k) octets (Revocation e)
+  pub revoked_below : (e : RevocationError) → IsFirstFalse (asked issuer.cert.fields r.cert) revocation_checks e →
+      Finds x (demand_under x asked issuer k) octets (Revocation e)
   revoked_below e first = record {
     cert = c;
     begins = begins;
     meets = below.meets;
     verified = below.checks;
-    first = subst (λ (d : CertFields). IsFirstFalse (asked issuer.cert.fields d) revocation_checks e) below.issued.cert_is first;
+    first = subst (λ (d : CertFields). IsFirstFalse (asked issuer.cert.fields d) revocation_checks e)
+        below.issued.cert_is first;
   }

@@ -40,14 +40,19 @@ abbrev Ordered : ℕ → ℕ → Type 0
 Ordered m n = (m ≡ n) ⊎ ((m < n) ⊎ (n < m))
 
 -- of two lists neither of which is later the nextUpdate is one
-one_next : (l k : CrlState) → (IsLater l k → ⊥) → (IsLater k l → ⊥) → second_number l.list.fields.next_update ≡ second_number k.list.fields.next_update
-one_next l k not other = among (cases_order (second_number l.list.fields.this_update) (second_number k.list.fields.this_update)) (cases_order (second_number l.list.fields.next_update) (second_number k.list.fields.next_update)) where
-  among : Ordered (second_number l.list.fields.this_update) (second_number k.list.fields.this_update) → Ordered (second_number l.list.fields.next_update) (second_number k.list.fields.next_update) → second_number l.list.fields.next_update ≡ second_number k.list.fields.next_update
-  among (inl same) (inl due) = due
-  among (inl same) (inr (inl low)) = absurd (other (inr (sym same, low)))
-  among (inl same) (inr (inr low)) = absurd (not (inr (same, low)))
-  among (inr (inl low)) _ = absurd (other (inl low))
-  among (inr (inr low)) _ = absurd (not (inl low))
+one_next : (l k : CrlState) → (IsLater l k → ⊥) → (IsLater k l → ⊥) →
+    second_number l.list.fields.next_update ≡ second_number k.list.fields.next_update
+one_next l k not other =
+    among (cases_order (second_number l.list.fields.this_update) (second_number k.list.fields.this_update))
+    (cases_order (second_number l.list.fields.next_update) (second_number k.list.fields.next_update)) where
+      among : Ordered (second_number l.list.fields.this_update) (second_number k.list.fields.this_update) →
+          Ordered (second_number l.list.fields.next_update) (second_number k.list.fields.next_update) →
+          second_number l.list.fields.next_update ≡ second_number k.list.fields.next_update
+      among (inl same) (inl due) = due
+      among (inl same) (inr (inl low)) = absurd (other (inr (sym same, low)))
+      among (inl same) (inr (inr low)) = absurd (not (inr (same, low)))
+      among (inr (inl low)) _ = absurd (other (inl low))
+      among (inr (inr low)) _ = absurd (not (inl low))
 
 -- ---- the order
 
@@ -57,7 +62,8 @@ module _ (cert : CertFields) where
   equal_through a b c (inl (does, not)) (inl (also, none)) = absurd (not also)
   equal_through a b c (inl (does, not)) (inr (both, later)) = inl (does, λ r. not (both.1 r))
   equal_through a b c (inr (both, later)) (inl (does, not)) = inl (both.1 does, not)
-  equal_through a b c (inr (both, later)) (inr (also, last)) = inr (((λ r. also.0 (both.0 r)), (λ r. both.1 (also.1 r))), later_through a b c later last)
+  equal_through a b c (inr (both, later)) (inr (also, last)) =
+      inr (((λ r. also.0 (both.0 r)), (λ r. both.1 (also.1 r))), later_through a b c later last)
 
   pub through : (a b c : CrlState) → Supersedes cert a b → Supersedes cert b c → Supersedes cert a c
   through a b c (inl low) (inl lower) = inl (omega (arith, low, lower))
@@ -80,7 +86,11 @@ module _ (cert : CertFields) where
   equal_alike : (l k : CrlState) → (SupersedesEqual cert l k → ⊥) → (SupersedesEqual cert k l → ⊥) → Alike l k
   equal_alike l k not other = after (revokes_told cert l) (revokes_told cert k) where
     agreed : (Revokes cert l ↔ Revokes cert k) → Alike l k
-    agreed both = record { revokes = both; next_update = one_next l k (λ later. not (inr (both, later))) (λ later. other (inr ((both.1, both.0), later))) }
+    agreed both = record {
+      revokes = both;
+      next_update = one_next l k (λ later. not (inr (both, later)))
+          (λ later. other (inr ((both.1, both.0), later)));
+    }
 
     after : Told (Revokes cert l) → Told (Revokes cert k) → Alike l k
     after (inl does) (inl also) = agreed ((λ r. also), (λ r. does))
@@ -90,8 +100,9 @@ module _ (cert : CertFields) where
 
   -- lists that don't supersede one another are alike
   pub alike : (l k : CrlState) → (Supersedes cert l k → ⊥) → (Supersedes cert k l → ⊥) → Alike l k
-  alike l k not other = among (cases_order l.list.fields.extensions.crl_number k.list.fields.extensions.crl_number) where
-    among : Ordered l.list.fields.extensions.crl_number k.list.fields.extensions.crl_number → Alike l k
-    among (inl e) = equal_alike l k (λ more. not (inr (e, more))) (λ more. other (inr (sym e, more)))
-    among (inr (inl low)) = absurd (other (inl low))
-    among (inr (inr low)) = absurd (not (inl low))
+  alike l k not other =
+      among (cases_order l.list.fields.extensions.crl_number k.list.fields.extensions.crl_number) where
+        among : Ordered l.list.fields.extensions.crl_number k.list.fields.extensions.crl_number → Alike l k
+        among (inl e) = equal_alike l k (λ more. not (inr (e, more))) (λ more. other (inr (sym e, more)))
+        among (inr (inl low)) = absurd (other (inl low))
+        among (inr (inr low)) = absurd (not (inl low))

@@ -1,6 +1,7 @@
 -- Paths with further members below their last, and what is true of their places.
 use Rattle.std.specs.List.{AllByRecursion, AllZip}
-use Rattle.std.proofs.Common.{◌≡◌, ◌⊎◌, ◌↔◌, ◌+◌, ◌<◌, ◌≤◌, ℕ, List, [], ◌∷◌, ◌++◌, length, map, get_or, refl, sym, ap, subst, ◌∙◌, inl, inr, arith}
+use Rattle.std.proofs.Common.{◌≡◌, ◌⊎◌, ◌↔◌, ◌+◌, ◌<◌, ◌≤◌, ℕ, List, [], ◌∷◌, ◌++◌, length, map, get_or, refl, sym}
+use Rattle.std.proofs.Common.{ap, subst, ◌∙◌, inl, inr, arith}
 use Rattle.std.proofs.Math.Nat.{eq-or-lt_of_le}
 use Rattle.std.proofs.lemmas.List.{map-append, length-map, length-append}
 use Rattle.std.proofs.Math.ListN.{get_or-append}
@@ -51,7 +52,8 @@ module _ (R : CertFields → CertFields → Type 0) (p : Path) (m : Member) wher
   abbrev pub AllBelow : Path → Type 0
   AllBelow q = (i : ℕ) → i < last q → R (certificate_at q i) (certificate_at q (i + 1))
 
-  at_place : AllBelow p → R (certificate_at p (last p)) m.cert → (i : ℕ) → (i ≡ last p) ⊎ (i < last p) → R (certificate_at (extended p m []) i) (certificate_at (extended p m []) (i + 1))
+  at_place : AllBelow p → R (certificate_at p (last p)) m.cert → (i : ℕ) → (i ≡ last p) ⊎ (i < last p) →
+      R (certificate_at (extended p m []) i) (certificate_at (extended p m []) (i + 1))
   at_place all h i (inl e) =
       let same : last p ≤ last p = omega arith in
       subst (λ (j : ℕ). R (certificate_at (extended p m []) j) (certificate_at (extended p m []) (j + 1))) (sym e)
@@ -65,7 +67,8 @@ module _ (R : CertFields → CertFields → Type 0) (p : Path) (m : Member) wher
 
   -- each member of the longer path does, where those of the path do, and the one below the last
   pub all_below_more : AllBelow p → R (certificate_at p (last p)) m.cert → AllBelow (extended p m [])
-  all_below_more all h = λ i low. let here : i ≤ last p = omega (arith, last_extended p m) in at_place all h i (eq-or-lt_of_le here)
+  all_below_more all h = λ i low. let here : i ≤ last p = omega (arith, last_extended p m) in
+      at_place all h i (eq-or-lt_of_le here)
 
   -- where each of the longer path does, those of the path do, and the one below the last
   pub all_below_fewer : AllBelow (extended p m []) → AllBelow p × R (certificate_at p (last p)) m.cert
@@ -79,7 +82,8 @@ module _ (R : CertFields → CertFields → Type 0) (p : Path) (m : Member) wher
     (let same : last p ≤ last p = omega arith in
         let low : last p < last (extended p m []) = omega (arith, last_extended p m) in
         subst (λ (c : CertFields). R (certificate_at p (last p)) c) (there p m [])
-        (subst (λ (c : CertFields). R c (certificate_at (extended p m []) (last p + 1))) (above p m [] (last p) same) (all (last p) low))),
+        (subst (λ (c : CertFields). R c (certificate_at (extended p m []) (last p + 1)))
+        (above p m [] (last p) same) (all (last p) low))),
   )
 
 -- ---- numbers
@@ -90,16 +94,20 @@ module _ (p : Path) (m : Member) (more : List Member) (k : NumberKind) (n : ℕ)
   holds_above i h = (
     (λ held. record {
       listed = held.listed;
-      passed_on = λ j low high. let short : j ≤ last p = omega arith in subst (λ (c : CertFields). PassesOn c k n) (sym (above p m more j short)) (held.passed_on j low high);
+      passed_on = λ j low high. let short : j ≤ last p = omega arith in
+          subst (λ (c : CertFields). PassesOn c k n) (sym (above p m more j short)) (held.passed_on j low high);
     }),
     (λ held. record {
       listed = held.listed;
-      passed_on = λ j low high. let short : j ≤ last p = omega arith in subst (λ (c : CertFields). PassesOn c k n) (above p m more j short) (held.passed_on j low high);
+      passed_on = λ j low high. let short : j ≤ last p = omega arith in
+          subst (λ (c : CertFields). PassesOn c k n) (above p m more j short) (held.passed_on j low high);
     }),
   )
 
-  holds_then : Holds p (last p) k n → PassesOn m.cert k n → (j : ℕ) → 1 ≤ j → (j ≡ last p + 1) ⊎ (j < last p + 1) → PassesOn (certificate_at (extended p m more) j) k n
-  holds_then held passes j low (inl e) = subst (λ (i : ℕ). PassesOn (certificate_at (extended p m more) i) k n) (sym e) (subst (λ (c : CertFields). PassesOn c k n) (sym (there p m more)) passes)
+  holds_then : Holds p (last p) k n → PassesOn m.cert k n → (j : ℕ) → 1 ≤ j → (j ≡ last p + 1) ⊎ (j < last p + 1) →
+      PassesOn (certificate_at (extended p m more) j) k n
+  holds_then held passes j low (inl e) = subst (λ (i : ℕ). PassesOn (certificate_at (extended p m more) i) k n)
+      (sym e) (subst (λ (c : CertFields). PassesOn c k n) (sym (there p m more)) passes)
   holds_then held passes j low (inr h) =
       let short : j ≤ last p = omega arith in
       subst (λ (c : CertFields). PassesOn c k n) (sym (above p m more j short)) (held.passed_on j low short)
@@ -110,24 +118,33 @@ module _ (p : Path) (m : Member) (more : List Member) (k : NumberKind) (n : ℕ)
     (λ held. (
       record {
         listed = held.listed;
-        passed_on = λ j low high. let further : j ≤ last p + 1 = omega arith in subst (λ (c : CertFields). PassesOn c k n) (above p m more j high) (held.passed_on j low further);
+        passed_on = λ j low high. let further : j ≤ last p + 1 = omega arith in
+            subst (λ (c : CertFields). PassesOn c k n) (above p m more j high) (held.passed_on j low further);
       },
-      (let low : 1 ≤ last p + 1 = omega arith in let high : last p + 1 ≤ last p + 1 = omega arith in subst (λ (c : CertFields). PassesOn c k n) (there p m more) (held.passed_on (last p + 1) low high)),
+      (let low : 1 ≤ last p + 1 = omega arith in let high : last p + 1 ≤ last p + 1 = omega arith in
+          subst (λ (c : CertFields). PassesOn c k n) (there p m more) (held.passed_on (last p + 1) low high)),
     )),
-    (λ both. record { listed = both.0.listed; passed_on = λ j low high. holds_then both.0 both.1 j low (eq-or-lt_of_le high) }),
+    (λ both. record {
+      listed = both.0.listed;
+      passed_on = λ j low high. holds_then both.0 both.1 j low
+          (eq-or-lt_of_le high);
+    }),
   )
 
 -- what is issued is what is held and passed on
-pub gets_passed : (held : ℕ → Type 0) (r : Resources) (n : ℕ) → Gets held r n ↔ (held n × (IsListed n r ⊎ (r ≡ inherit)))
+pub gets_passed : (held : ℕ → Type 0) (r : Resources) (n : ℕ) →
+    Gets held r n ↔ (held n × (IsListed n r ⊎ (r ≡ inherit)))
 gets_passed held missing n = ((λ h. absurd h), (λ h. elim h.1 [ inl x ↦ absurd x | inr e ↦ absurd (cc e) ]))
 gets_passed held inherit n = ((λ h. (h, inr refl)), (λ h. h.0))
-gets_passed held (blocks chain) n = ((λ h. (h.1, inl h.0)), (λ h. elim h.1 [ inl x ↦ (x, h.0) | inr e ↦ absurd (cc e) ]))
+gets_passed held (blocks chain) n =
+    ((λ h. (h.1, inl h.0)), (λ h. elim h.1 [ inl x ↦ (x, h.0) | inr e ↦ absurd (cc e) ]))
 
 -- ---- lists
 
 module _ {A B : Type 0} (R : A → B → Type 0) where
   -- pairs that are related go on with one that is
-  pub zip_more : (xs : List A) (ys : List B) (x : A) (y : B) → AllZip R xs ys → R x y → AllZip R (xs ++ x ∷ []) (ys ++ y ∷ [])
+  pub zip_more : (xs : List A) (ys : List B) (x : A) (y : B) → AllZip R xs ys → R x y →
+      AllZip R (xs ++ x ∷ []) (ys ++ y ∷ [])
   zip_more [] [] x y all r = (r, tt)
   zip_more [] (b ∷ ys) x y all r = absurd all
   zip_more (a ∷ xs) [] x y all r = absurd all
@@ -143,7 +160,8 @@ module _ {A B : Type 0} (R : A → B → Type 0) where
     pub items : R item y
 
   -- what is related to a list that is cut is cut too
-  pub parted : (xs : List A) (before : List B) (y : B) (after : List B) → AllZip R xs (before ++ y ∷ after) → Parted xs before y
+  pub parted : (xs : List A) (before : List B) (y : B) (after : List B) → AllZip R xs (before ++ y ∷ after) →
+      Parted xs before y
   parted [] [] y after all = absurd all
   parted [] (b ∷ before) y after all = absurd all
   parted (a ∷ xs) [] y after all = record { front = []; item = a; more = xs; parts = refl; fronts = tt; items = all.0 }
@@ -159,14 +177,16 @@ module _ {A B : Type 0} (R : A → B → Type 0) where
       }
 
   -- where an item stands with one alone, a list does
-  pub zip_one : ((x y : A) (b : B) → R x b → R y b → x ≡ y) → (xs ys : List A) (bs : List B) → AllZip R xs bs → AllZip R ys bs → xs ≡ ys
+  pub zip_one : ((x y : A) (b : B) → R x b → R y b → x ≡ y) → (xs ys : List A) (bs : List B) → AllZip R xs bs →
+      AllZip R ys bs → xs ≡ ys
   zip_one one [] [] bs p q = refl
   zip_one one [] (y ∷ ys) [] p q = absurd q
   zip_one one [] (y ∷ ys) (b ∷ bs) p q = absurd p
   zip_one one (x ∷ xs) [] [] p q = absurd p
   zip_one one (x ∷ xs) [] (b ∷ bs) p q = absurd q
   zip_one one (x ∷ xs) (y ∷ ys) [] p q = absurd p
-  zip_one one (x ∷ xs) (y ∷ ys) (b ∷ bs) p q = ap (λ (z : A). z ∷ xs) (one x y b p.0 q.0) ∙ ap (λ (l : List A). y ∷ l) (zip_one one xs ys bs p.1 q.1)
+  zip_one one (x ∷ xs) (y ∷ ys) (b ∷ bs) p q = ap (λ (z : A). z ∷ xs) (one x y b p.0 q.0) ∙
+      ap (λ (l : List A). y ∷ l) (zip_one one xs ys bs p.1 q.1)
 
 module _ {X : Type 0} (P : X → Type 0) where
   -- what all elements and one more have, the longer list's elements have

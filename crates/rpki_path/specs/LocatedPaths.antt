@@ -9,7 +9,8 @@ use Rattle.rpki_keys.specs.Locators.{IsLocator, NamedTal, TalFields}
 use Rattle.rpki_path.specs.declared.located.LocatedError.{LocatedError}
 use Rattle.rpki_path.specs.declared.located.LocatedError.TheVariants.{OtherKey, NoResources, Path as path}
 use Rattle.rpki_path.specs.declared.path_fault.PathFault.TheVariants.{Memory}
-use Rattle.rpki_path.specs.Paths.{Path, Candidate, NumberKind, Lists, IsPathOf, IsValidPath, HasHeld, UnlessMemory, IsFault}
+use Rattle.rpki_path.specs.Paths.{Path, Candidate, NumberKind, Lists, IsPathOf, IsValidPath, HasHeld, UnlessMemory}
+use Rattle.rpki_path.specs.Paths.{IsFault}
 use Rattle.rpki_path.specs.Paths.Steps.{IsUnread}
 
 -- ---- keys

@@ -1,7 +1,8 @@
 -- Valid paths: what they are, and which numbers their members hold (RFC 6487 7.2, RFC 8360 4.2.4.4;
 -- own: whoever is asked for revocation is the caller's to choose, and the chaining of names the
 -- caller's to ask, by NameChains).
-use Rattle.std.specs.Prelude.{◌≡◌, ◌≢◌, ◌↔◌, ◌⊎◌, ◌+◌, ◌-◌, ◌^◌, ◌<◌, ◌≤◌, ℕ, List, [], ◌∷◌, ◌++◌, length, map, slice_index_or, Option, Some, None, Result, Ok, Err}
+use Rattle.std.specs.Prelude.{◌≡◌, ◌≢◌, ◌↔◌, ◌⊎◌, ◌+◌, ◌-◌, ◌^◌, ◌<◌, ◌≤◌, ℕ, List, [], ◌∷◌, ◌++◌, length, map}
+use Rattle.std.specs.Prelude.{slice_index_or, Option, Some, None, Result, Ok, Err}
 use Rattle.std.specs.List.{AllByRecursion, AllZip}
 use Rattle.rpki_der.specs.declared.error.DecodeError.TheVariants as decoding
 use Rattle.rpki_blocks.specs.Sets.{Has}
@@ -12,7 +13,8 @@ use Rattle.rpki_ext.specs.Kinds.{Means}
 use Rattle.rpki_cert.specs.Certificates.{TbsFields, CertFields, IsCertificate}
 use Rattle.rpki_cert.specs.Profiles.{MeetsProfile}
 use Rattle.rpki_cert.specs.Validation.{IsInvalid}
-use Rattle.rpki_cert.specs.Verification.{Context, Held, Check, TrustAnchorCheck, trust_anchor_checks, issued_checks, IsVerified, ResourceFields}
+use Rattle.rpki_cert.specs.Verification.{Context, Held, Check, TrustAnchorCheck, trust_anchor_checks, issued_checks}
+use Rattle.rpki_cert.specs.Verification.{IsVerified, ResourceFields}
 use Rattle.rpki_cert.specs.declared.inspect.Kind.{Kind}
 use Rattle.rpki_cert.specs.declared.inspect.Kind.TheVariants.{Anchor, Authority, EndEntity, Detached}
 use Rattle.rpki_cert.specs.declared.validation_error.ValidationError.{ValidationError}

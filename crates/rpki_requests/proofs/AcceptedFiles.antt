@@ -27,13 +27,15 @@ use Rattle.rpki_path.specs.Asking.{RevocationChecks, nobody}
 use Rattle.rpki_path.specs.GivenPaths.{PathStrings, anchor_alone, path_to}
 use Rattle.rpki_path.specs.Judging.{IsRouterIfAny}
 use Rattle.rpki_path.specs.NameChains.{BeginChained, router_candidates}
-use Rattle.rpki_path.specs.Paths.{Candidate, IsAccepted, IsMember, IsPathOf, IsValidPath, Member, Path, candidate, certificate_at, last, longer, member}
+use Rattle.rpki_path.specs.Paths.{Candidate, IsAccepted, IsMember, IsPathOf, IsValidPath, Member, Path, candidate}
+use Rattle.rpki_path.specs.Paths.{certificate_at, last, longer, member}
 use Rattle.rpki_path.specs.declared.judging.Judged.{Judged}
 use Rattle.rpki_verdicts.proofs.OneVerdict.{same_lists}
 use Rattle.rpki_verdicts.specs.PathAnswers.{IsPathVerdict, IsUsablePath, IsVerdictBy}
 use Rattle.rpki_verdicts.specs.PathFiles.{IsGivenBy, IsJudgedAs}
 use Rattle.rpki_verdicts.specs.declared.path.Verdict.TheVariants.{Accepted}
-use Rattle.rpki_requests.specs.Fulfilment.{AnswersForIssuer, IsAcceptedCertificate, IsAcceptedMade, IsAcceptedOf, context_of}
+use Rattle.rpki_requests.specs.Fulfilment.{AnswersForIssuer, IsAcceptedCertificate, IsAcceptedMade, IsAcceptedOf}
+use Rattle.rpki_requests.specs.Fulfilment.{context_of}
 use Rattle.rpki_requests.specs.RequestFiles.{InputFields, IsIssuerOf, IsPathIssuer, IsSoAsked, chained}
 use Rattle.rpki_requests.specs.RequestWords.{AskedFields}
 use Rattle.rpki_requests.specs.declared.fulfilling.Made.{Made}
@@ -178,10 +180,12 @@ module _ (one_certificate : IsUnambiguous IsCertificate) where
       at_kind anchor cas end is kinds.Anchor (inl says) path = absurd says.2
       at_kind anchor cas end is kinds.Anchor (inr other) path = absurd (cc other.0)
       at_kind anchor cas end is kinds.EndEntity (inl says) path =
-          absurd (says.2.0.1 (says_authority (map (candidate kinds.Authority) cas) kinds.EndEntity end (ap (λ (s : PathStrings). s.below) path) says.0 says.1))
+          absurd (says.2.0.1 (says_authority (map (candidate kinds.Authority) cas) kinds.EndEntity end
+          (ap (λ (s : PathStrings). s.below) path) says.0 says.1))
       at_kind anchor cas end is kinds.EndEntity (inr other) path = absurd (cc other.0)
       at_kind anchor cas end is kinds.Detached (inl says) path =
-          absurd (says.2.0.1 (says_authority (map (candidate kinds.Authority) cas) kinds.Detached end (ap (λ (s : PathStrings). s.below) path) says.0 says.1))
+          absurd (says.2.0.1 (says_authority (map (candidate kinds.Authority) cas) kinds.Detached end
+          (ap (λ (s : PathStrings). s.below) path) says.0 says.1))
       at_kind anchor cas end is kinds.Detached (inr other) path = absurd (cc other.0)
 
       -- the last of the files is a CA
@@ -193,7 +197,8 @@ module _ (one_certificate : IsUnambiguous IsCertificate) where
         router_is = ap (λ (s : PathStrings). s.router) one.2;
       }
       split_of (inr end) =
-          at_kind end.split.anchor end.split.cas end.split.octets end.split.strings_are end.kind end.kind_is end.split.path_is
+          at_kind end.split.anchor end.split.cas end.split.octets end.split.strings_are end.kind end.kind_is
+          end.split.path_is
 
       module _ (s : Split files g) (said : Kind) (made : IsAcceptedCertificate x asked (Some r) said octets) where
         abbrev above : List Candidate
@@ -217,7 +222,8 @@ module _ (one_certificate : IsUnambiguous IsCertificate) where
             let p = chained_above.path in
             let m = member kind made.cert in
             let same : accepted_above.path ≡ p =
-            paths.one_path one_certificate g.anchor above accepted_above.path p accepted_above.path_of chained_above.path_of in
+            paths.one_path one_certificate g.anchor above accepted_above.path p accepted_above.path_of
+            chained_above.path_of in
             let end : r.cert ≡ certificate_at p (last p) =
             accepted_above.held.cert_is ∙ ap (λ (q : Path). certificate_at q (last q)) same in
             record {
@@ -249,7 +255,8 @@ module _ (one_certificate : IsUnambiguous IsCertificate) where
         abbrev with_last : Kind → PathStrings
         with_last kind = record { anchor = g.anchor; below = above ++ candidate kind octets ∷ []; router = None }
 
-        behind : (kind : Kind) → IsGivenBy (files ++ octets ∷ []) (with_last kind) → IsAcceptedLast x asked r kind octets → AcceptsBehind x asked files octets
+        behind : (kind : Kind) → IsGivenBy (files ++ octets ∷ []) (with_last kind) →
+            IsAcceptedLast x asked r kind octets → AcceptsBehind x asked files octets
         behind kind is last_is =
             let got = last_is g.anchor above [] accepted_above in
             let begun = last_begins g.anchor above (candidate kind octets) got.1.path got.1.path_of in
@@ -271,7 +278,8 @@ module _ (one_certificate : IsUnambiguous IsCertificate) where
             )
 
         -- by its kind
-        by_kind : (kind : Kind) → SaysKind kind made.cert.fields → IsAcceptedBelow x asked kind (Some r) octets → AcceptsBehind x asked files octets
+        by_kind : (kind : Kind) → SaysKind kind made.cert.fields → IsAcceptedBelow x asked kind (Some r) octets →
+            AcceptsBehind x asked files octets
         by_kind kinds.Anchor says is = absurd says
         by_kind kinds.Authority says is = behind kinds.Authority (given kinds.Authority says) is
         by_kind kinds.EndEntity says is = behind kinds.EndEntity (given kinds.EndEntity says) is
@@ -301,7 +309,8 @@ module _ (one_certificate : IsUnambiguous IsCertificate) where
         let split = split_of files verdict.0 r verdict.2 authority verdict.1 in
         by_kind files verdict.0 r verdict.2 authority split kind made kind made.kind_is made.accepted
 
-    accepts_alone : (files : List (List ℕ)) → files ≡ [] → (kind : Kind) → IsAcceptedCertificate x asked None kind octets → AcceptsBehind x asked files octets
+    accepts_alone : (files : List (List ℕ)) → files ≡ [] → (kind : Kind) →
+        IsAcceptedCertificate x asked None kind octets → AcceptsBehind x asked files octets
     accepts_alone files empty kind made =
         let is = subst (λ (k : Kind). IsAcceptedBelow x asked k None octets) made.kind_is made.accepted in
         subst (λ (l : List (List ℕ)). AcceptsBehind x asked l octets) (sym empty)
@@ -326,7 +335,8 @@ module _ (one_certificate : IsUnambiguous IsCertificate) where
     accepted_by octets files (list ∷ lists) (Some r) is so =
         let read = is.accepted.0 in
         let same = same_lists one_certificate one_list (list ∷ lists) so.0 read so.1 is.accepted.1 in
-        let made = subst (λ (l : List CrlState). IsAcceptedCertificate x (by_named_lists true x l) (Some r) so.2.0 octets) same so.2.1 in
+        let made = subst (λ (l : List CrlState). IsAcceptedCertificate x (by_named_lists true x l) (Some r) so.2.0
+        octets) same so.2.1 in
         let got = accepts_behind x (by_named_lists true x read) octets files r is.authority is.accepted.2 so.2.0 made in
         (got.0, (read, is.accepted.1, got.1))
 
@@ -336,7 +346,11 @@ module _ (one_certificate : IsUnambiguous IsCertificate) where
     by_any (list ∷ lists) Is so = so.2
 
   -- what is completed is accepted
-  pub accepted_of : IsUnambiguous IsCertificateList → (asked : AskedFields) (inputs : InputFields) (at : Moment) (issuer : Option ResourceFields) → IsIssuerOf (context_of asked at) inputs.issuers inputs.lists issuer → (given : Made) → IsSoAsked (context_of asked at) inputs.lists (λ checks. IsAcceptedMade (context_of asked at) checks issuer given) → IsAcceptedOf asked inputs at given
+  pub accepted_of : IsUnambiguous IsCertificateList →
+      (asked : AskedFields) (inputs : InputFields) (at : Moment) (issuer : Option ResourceFields) →
+      IsIssuerOf (context_of asked at) inputs.issuers inputs.lists issuer → (given : Made) →
+      IsSoAsked (context_of asked at) inputs.lists
+      (λ checks. IsAcceptedMade (context_of asked at) checks issuer given) → IsAcceptedOf asked inputs at given
   accepted_of one_list asked inputs at issuer is (made.ToSign octets) so =
       by_any one_list (context_of asked at) inputs.lists ⊥ so
   accepted_of one_list asked inputs at issuer is (made.Certificate octets) so =
@@ -344,5 +358,6 @@ module _ (one_certificate : IsUnambiguous IsCertificate) where
   accepted_of one_list asked inputs at issuer is (made.RevocationList octets) so = record {
     issuer = issuer;
     issuer_is = is;
-    is_so = by_any one_list (context_of asked at) inputs.lists (AnswersForIssuer (context_of asked at) issuer octets) so;
+    is_so = by_any one_list (context_of asked at) inputs.lists
+        (AnswersForIssuer (context_of asked at) issuer octets) so;
   }

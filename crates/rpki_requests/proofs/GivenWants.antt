@@ -9,9 +9,12 @@ use Rattle.rpki_issuing.specs.ValueTexts.{IsSerialText, IsRsyncText, IsHttpsText
 use Rattle.rpki_issuing.specs.declared.values.families.Family.TheVariants.{V4, V6}
 use Rattle.rpki_issuing.specs.declared.wanted.wanted.Numbers.{Numbers}
 use Rattle.rpki_issuing.specs.declared.wanted.wanted.Places.{Places}
-use Rattle.rpki_requests.specs.OptionValues.{GivesNumbers, GivesPlaces, GivesWanted, IsMomentSaid, SaysAtMostOnce, SaysOnce}
+use Rattle.rpki_requests.specs.OptionValues.{GivesNumbers, GivesPlaces, GivesWanted, IsMomentSaid, SaysAtMostOnce}
+use Rattle.rpki_requests.specs.OptionValues.{SaysOnce}
 use Rattle.rpki_requests.specs.RequestWords.{GivenFields, values_of}
-use Rattle.rpki_requests.specs.declared.words.Setting.TheVariants.{Serial, From, Until, Ipv4, Ipv6, AsNumbers, Repository, Manifest, Notify, Object, IssuerUri, CrlUri}
+use Rattle.rpki_requests.specs.declared.words.Setting.TheVariants.{Serial, From, Until, Ipv4, Ipv6, AsNumbers}
+use Rattle.rpki_requests.specs.declared.words.Setting.TheVariants.{Repository, Manifest, Notify, Object, IssuerUri}
+use Rattle.rpki_requests.specs.declared.words.Setting.TheVariants.{CrlUri}
 
 -- ---- one option
 
@@ -72,7 +75,8 @@ module _ (given : List GivenFields) where
   abbrev pub AreNumbers : (Resources × Resources) × Resources → Type 0
   AreNumbers p = Both (Both IsV4 IsV6) IsSystems p
 
-  pub numbers_ok : (t : (Resources × Resources) × Resources) → IsOnly AreNumbers t → IsOnly (GivesNumbers given) (record { v4 = t.0.0; v6 = t.0.1; systems = t.1 })
+  pub numbers_ok : (t : (Resources × Resources) × Resources) → IsOnly AreNumbers t →
+      IsOnly (GivesNumbers given) (record { v4 = t.0.0; v6 = t.0.1; systems = t.1 })
   numbers_ok t only = (
     record { v4_is = only.0.0.0; v6_is = only.0.0.1; systems_is = only.0.1 },
     λ n h.
@@ -80,7 +84,8 @@ module _ (given : List GivenFields) where
         λ i. record { v4 = (e i).0.0; v6 = (e i).0.1; systems = (e i).1 },
   )
 
-  pub numbers_none : ((p : (Resources × Resources) × Resources) → AreNumbers p → ⊥) → (n : Numbers) → GivesNumbers given n → ⊥
+  pub numbers_none : ((p : (Resources × Resources) × Resources) → AreNumbers p → ⊥) → (n : Numbers) →
+      GivesNumbers given n → ⊥
   numbers_none none n h = none ((n.v4, n.v6), n.systems) ((h.v4_is, h.v6_is), h.systems_is)
 
   abbrev pub Uri : Type 0
@@ -89,21 +94,54 @@ module _ (given : List GivenFields) where
   abbrev pub ArePlaces : ((Uri × Uri) × (Uri × Uri)) × (Uri × Uri) → Type 0
   ArePlaces p = Both (Both (Both IsRepository IsManifest) (Both IsObject IsNotify)) (Both IsIssuerUri IsList) p
 
-  pub places_ok : (t : ((Uri × Uri) × (Uri × Uri)) × (Uri × Uri)) → IsOnly ArePlaces t → IsOnly (GivesPlaces given) (record { repository = t.0.0.0; manifest = t.0.0.1; object = t.0.1.0; notify = t.0.1.1; issuer = t.1.0; list = t.1.1 })
+  pub places_ok : (t : ((Uri × Uri) × (Uri × Uri)) × (Uri × Uri)) → IsOnly ArePlaces t →
+      IsOnly (GivesPlaces given)
+      (record {
+        repository = t.0.0.0;
+        manifest = t.0.0.1;
+        object = t.0.1.0;
+        notify = t.0.1.1;
+        issuer =
+            t.1.0;
+        list = t.1.1;
+      })
   places_ok t only = (
-    record { repository_is = only.0.0.0.0; manifest_is = only.0.0.0.1; object_is = only.0.0.1.0; notify_is = only.0.0.1.1; issuer_is = only.0.1.0; list_is = only.0.1.1 },
+    record {
+      repository_is = only.0.0.0.0;
+      manifest_is = only.0.0.0.1;
+      object_is = only.0.0.1.0;
+      notify_is =
+          only.0.0.1.1;
+      issuer_is = only.0.1.0;
+      list_is = only.0.1.1;
+    },
     λ p h.
-        let e = only.1 (((p.repository, p.manifest), (p.object, p.notify)), (p.issuer, p.list)) (((h.repository_is, h.manifest_is), (h.object_is, h.notify_is)), (h.issuer_is, h.list_is)) in
-        λ i. record { repository = (e i).0.0.0; manifest = (e i).0.0.1; object = (e i).0.1.0; notify = (e i).0.1.1; issuer = (e i).1.0; list = (e i).1.1 },
+        let e = only.1 (((p.repository, p.manifest), (p.object, p.notify)), (p.issuer, p.list))
+        (((h.repository_is, h.manifest_is), (h.object_is, h.notify_is)), (h.issuer_is, h.list_is)) in
+        λ i. record {
+          repository = (e i).0.0.0;
+          manifest = (e i).0.0.1;
+          object = (e i).0.1.0;
+          notify =
+              (e i).0.1.1;
+          issuer = (e i).1.0;
+          list = (e i).1.1;
+        },
   )
 
-  pub places_none : ((p : ((Uri × Uri) × (Uri × Uri)) × (Uri × Uri)) → ArePlaces p → ⊥) → (p : Places) → GivesPlaces given p → ⊥
-  places_none none p h = none (((p.repository, p.manifest), (p.object, p.notify)), (p.issuer, p.list)) (((h.repository_is, h.manifest_is), (h.object_is, h.notify_is)), (h.issuer_is, h.list_is))
+  pub places_none : ((p : ((Uri × Uri) × (Uri × Uri)) × (Uri × Uri)) → ArePlaces p → ⊥) → (p : Places) →
+      GivesPlaces given p → ⊥
+  places_none none p h = none (((p.repository, p.manifest), (p.object, p.notify)), (p.issuer, p.list))
+      (((h.repository_is, h.manifest_is), (h.object_is, h.notify_is)), (h.issuer_is, h.list_is))
 
   abbrev pub AreParts : Numbers × Places → Type 0
   AreParts p = Both (GivesNumbers given) (GivesPlaces given) p
 
-  pub wanted_ok : (serial : ℕ) (from until : Moment) (numbers : Numbers) (places : Places) → IsOnly IsSerialGiven serial → IsOnly IsFrom from → IsOnly IsUntil until → IsOnly AreParts (numbers, places) → IsOnly (GivesWanted given) (record { serial = serial; not_before = from; not_after = until; numbers = numbers; places = places })
+  pub wanted_ok : (serial : ℕ) (from until : Moment) (numbers : Numbers) (places : Places) →
+      IsOnly IsSerialGiven serial → IsOnly IsFrom from → IsOnly IsUntil until →
+      IsOnly AreParts (numbers, places) →
+      IsOnly (GivesWanted given)
+      (record { serial = serial; not_before = from; not_after = until; numbers = numbers; places = places })
   wanted_ok serial from until numbers places one first last parts = (
     record { serial_is = one.0; from_is = first.0; until_is = last.0; numbers_are = parts.0.0; places_are = parts.0.1 },
     λ w h.

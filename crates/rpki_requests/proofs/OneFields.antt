@@ -25,12 +25,16 @@ use Rattle.rpki_requests.specs.RequestWords.{AskedFields}
 abbrev pub Says : AskedFields → List (List ℕ) → Wanted × KeyFields → Type 0
 Says asked keys p = GivesWanted asked.given p.0 × IsKeyFile keys p.1
 
-module _ (kind : Kind) (asked : AskedFields) (keys : List (List ℕ)) (issuer : Option ResourceFields) (wanted : Wanted) (key : KeyFields) (only : IsOnly (Says asked keys) (wanted, key)) where
-  same_parts : (f : TbsFields) (h : AsksFields kind asked keys issuer f) → ◌≡◌ {A = Wanted × KeyFields} (h.wanted, h.key) (wanted, key)
+module _ (kind : Kind) (asked : AskedFields) (keys : List (List ℕ)) (issuer : Option ResourceFields)
+    (wanted : Wanted) (key : KeyFields) (only : IsOnly (Says asked keys) (wanted, key)) where
+  same_parts : (f : TbsFields) (h : AsksFields kind asked keys issuer f) →
+      ◌≡◌ {A = Wanted × KeyFields} (h.wanted, h.key) (wanted, key)
   same_parts f h = only.1 (h.wanted, h.key) (h.wanted_is, h.key_is)
 
   -- these fields are asked for, and no others
-  pub asks_only : (f : TbsFields) (subject : List ℕ) → f ≡ fields_asked kind asked.trims wanted (fields_above issuer) key → subject ≡ f.subject → IsName subject subject → IsOnly (AsksFields kind asked keys issuer) f
+  pub asks_only : (f : TbsFields) (subject : List ℕ) →
+      f ≡ fields_asked kind asked.trims wanted (fields_above issuer) key → subject ≡ f.subject →
+      IsName subject subject → IsOnly (AsksFields kind asked keys issuer) f
   asks_only f subject is subject_is name = (
     record {
       wanted = wanted;
@@ -41,22 +45,30 @@ module _ (kind : Kind) (asked : AskedFields) (keys : List (List ℕ)) (issuer : 
       fields_are = is;
     },
     λ g h.
-        h.fields_are ∙ ap (λ (p : Wanted × KeyFields). fields_asked kind asked.trims p.0 (fields_above issuer) p.1) (same_parts g h) ∙ sym is,
+        h.fields_are ∙ ap (λ (p : Wanted × KeyFields). fields_asked kind asked.trims p.0 (fields_above issuer) p.1)
+        (same_parts g h) ∙ sym is,
   )
 
   -- where the subject is no name, none are
-  pub asks_none : (let subject = subject_asked kind wanted.numbers.systems key in IsName subject subject → ⊥) → (f : TbsFields) → AsksFields kind asked keys issuer f → ⊥
+  pub asks_none : (let subject = subject_asked kind wanted.numbers.systems key in IsName subject subject → ⊥) →
+      (f : TbsFields) → AsksFields kind asked keys issuer f → ⊥
   asks_none not f h =
-      not (subst (λ (p : Wanted × KeyFields). let subject = subject_asked kind p.0.numbers.systems p.1 in IsName subject subject) (same_parts f h) h.named)
+      not (subst (λ (p : Wanted × KeyFields). let subject = subject_asked kind p.0.numbers.systems p.1 in
+      IsName subject subject) (same_parts f h) h.named)
 
 -- ---- what is completed
 
 -- as one kind
-pub one_completed : (issuer : Option ResourceFields) (f : TbsFields) (a b : Kind) → IsCompletedAs issuer f a → IsCompletedAs issuer f b → a ≡ b
+pub one_completed : (issuer : Option ResourceFields) (f : TbsFields) (a b : Kind) → IsCompletedAs issuer f a →
+    IsCompletedAs issuer f b → a ≡ b
 one_completed None f a b p q = p ∙ sym q
 one_completed (Some issuer) f a b p q = says_one f a b p q
 
-pub same_completed : (issuer : Option ResourceFields) (path : List (List ℕ)) (checks : RevocationChecks) (at : Moment) (strict : Bool) (signature octets : List ℕ) (a b : Kind) (f g : TbsFields) (prepared given : List ℕ) → a ≡ b → f ≡ g → prepared ≡ given → IsCompleted a issuer path checks at strict f prepared signature octets → IsCompleted b issuer path checks at strict g given signature octets
+pub same_completed : (issuer : Option ResourceFields) (path : List (List ℕ)) (checks : RevocationChecks)
+    (at : Moment) (strict : Bool) (signature octets : List ℕ) (a b : Kind) (f g : TbsFields)
+    (prepared given : List ℕ) → a ≡ b → f ≡ g → prepared ≡ given →
+    IsCompleted a issuer path checks at strict f prepared signature octets →
+    IsCompleted b issuer path checks at strict g given signature octets
 same_completed issuer path checks at strict signature octets a b f g prepared given kinds fields files p =
     subst (λ (k : Kind). IsCompleted k issuer path checks at strict g given signature octets) kinds
     (subst (λ (h : TbsFields). IsCompleted a issuer path checks at strict h given signature octets) fields

@@ -9,9 +9,13 @@ use Rattle.rpki_requests.specs.RefusedErrands.{IsAskedListFault, IsFieldsFault, 
 use Rattle.rpki_requests.specs.Refusals.{AnswersOnly, AnswersOnlyBy, IsPathless}
 use Rattle.rpki_requests.specs.RequestFiles.{InputFields}
 use Rattle.rpki_requests.specs.RequestWords.{AskedFields, GivenFields}
-use Rattle.rpki_requests.specs.ToldRefusals.{IsDataFault, IsKeyFault, IsUnfit, IsUnsaid, IsValueOf, HasListValue, HasValue}
+use Rattle.rpki_requests.specs.ToldRefusals.{IsDataFault, IsKeyFault, IsUnfit, IsUnsaid, IsValueOf, HasListValue}
+use Rattle.rpki_requests.specs.ToldRefusals.{HasValue}
 use Rattle.rpki_requests.specs.declared.refusals.Refusal.{Refusal}
-use Rattle.rpki_requests.specs.declared.refusals.Refusal.TheVariants.{Value, NoKey, UnusedKey, Rejected, NoAuthority, OtherCrl, NoIssuer, OtherList, OtherCertificate, NoName, Files, NotToSign, OtherName, Unfit, Memory}
+use Rattle.rpki_requests.specs.declared.refusals.Refusal.TheVariants.{Value, NoKey, UnusedKey, Rejected}
+use Rattle.rpki_requests.specs.declared.refusals.Refusal.TheVariants.{NoAuthority, OtherCrl, NoIssuer, OtherList}
+use Rattle.rpki_requests.specs.declared.refusals.Refusal.TheVariants.{OtherCertificate, NoName, Files, NotToSign}
+use Rattle.rpki_requests.specs.declared.refusals.Refusal.TheVariants.{OtherName, Unfit, Memory}
 use Rattle.rpki_requests.specs.declared.words.Errand.{Errand}
 use Rattle.rpki_requests.specs.declared.words.Errand.TheVariants as errand
 use Rattle.rpki_requests.specs.declared.words.Setting.{Setting}
@@ -37,7 +41,9 @@ value_is setting (Unfit e) not of = absurd of
 -- the options of an errand
 module _ (Has : Setting → Type 0) where
   -- an option that says nothing has no value that it takes
-  pub value_told : {V : Type 0} (setting : Setting) (Is : V → Type 0) (why : Refusal) → (Has setting → (v : V) × Is v) → IsValueOf setting why → (why ≢ Memory → (v : V) → Is v → ⊥) → IsUnsaid Has why
+  pub value_told : {V : Type 0} (setting : Setting) (Is : V → Type 0) (why : Refusal) →
+      (Has setting → (v : V) × Is v) → IsValueOf setting why → (why ≢ Memory → (v : V) → Is v → ⊥) →
+      IsUnsaid Has why
   value_told setting Is (Value other) has of none = λ such.
       let found = has (subst (λ (t : Setting). Has t) of such) in
       let known : Value other ≢ Memory = λ is. cc in
@@ -57,12 +63,15 @@ module _ (Has : Setting → Type 0) where
   value_told setting Is (OtherName place) has of none = absurd of
   value_told setting Is (Unfit e) has of none = absurd of
 
-  pub told : {V : Type 0} (setting : Setting) (Is : V → Type 0) (r : Result V Refusal) → (Has setting → (v : V) × Is v) → AnswersOnly (IsValueOf setting) Is r → AnswersOnly (IsUnsaid Has) Is r
+  pub told : {V : Type 0} (setting : Setting) (Is : V → Type 0) (r : Result V Refusal) →
+      (Has setting → (v : V) × Is v) → AnswersOnly (IsValueOf setting) Is r → AnswersOnly (IsUnsaid Has) Is r
   told setting Is (Ok v) has answers = answers
   told setting Is (Err why) has answers = (value_told setting Is why has answers.0 answers.1, answers.1)
 
   -- the same of an answer that is seen by view
-  pub told_by : {X V : Type 0} (setting : Setting) (view : X → V) (Is : V → Type 0) (r : Result X Refusal) → (Has setting → (v : V) × Is v) → AnswersOnlyBy (IsValueOf setting) view Is r → AnswersOnlyBy (IsUnsaid Has) view Is r
+  pub told_by : {X V : Type 0} (setting : Setting) (view : X → V) (Is : V → Type 0) (r : Result X Refusal) →
+      (Has setting → (v : V) × Is v) → AnswersOnlyBy (IsValueOf setting) view Is r →
+      AnswersOnlyBy (IsUnsaid Has) view Is r
   told_by setting view Is (Ok x) has answers = answers
   told_by setting view Is (Err why) has answers = (value_told setting Is why has answers.0 answers.1, answers.1)
 
@@ -124,7 +133,8 @@ data_pathless octets Files h = absurd h
 data_pathless octets (OtherName place) h = absurd h
 data_pathless octets (Unfit e) h = absurd h
 
-pub fields_pathless : (kind : Kind) (given : List GivenFields) (keys : List (List ℕ)) (why : Refusal) → IsFieldsFault kind given keys why → IsPathless why
+pub fields_pathless : (kind : Kind) (given : List GivenFields) (keys : List (List ℕ)) (why : Refusal) →
+    IsFieldsFault kind given keys why → IsPathless why
 fields_pathless kind given keys why (inl option) = unsaid_pathless (HasValue given) why option
 fields_pathless kind given keys why (inr (inl key)) = key_pathless keys why key
 fields_pathless kind given keys why (inr (inr name)) = is_pathless why NoName name.0 tt
@@ -133,25 +143,29 @@ unfit_pathless : (Is : WantedError → Type 0) (why : Refusal) → IsUnfit Is wh
 unfit_pathless Is why (inl memory) = is_pathless why Memory memory tt
 unfit_pathless Is why (inr unfit) = is_pathless why (Unfit unfit.0) unfit.1 tt
 
-pub list_pathless : (given : List GivenFields) (inputs : InputFields) (at : Moment) (issuer : TbsFields) (why : Refusal) → IsAskedListFault given inputs at issuer why → IsPathless why
+pub list_pathless : (given : List GivenFields) (inputs : InputFields) (at : Moment) (issuer : TbsFields)
+    (why : Refusal) → IsAskedListFault given inputs at issuer why → IsPathless why
 list_pathless given inputs at issuer why (inl other) = is_pathless why OtherList other.0 tt
 list_pathless given inputs at issuer why (inr (inl (inl option))) = unsaid_pathless (HasListValue given) why option
 list_pathless given inputs at issuer why (inr (inl (inr (inl memory)))) = is_pathless why Memory memory tt
 list_pathless given inputs at issuer why (inr (inl (inr (inr other)))) =
     is_pathless why (OtherCertificate other.0) other.1 tt
-list_pathless given inputs at issuer why (inr (inr unfit)) = unfit_pathless (MayNotFollow given inputs at issuer) why unfit
+list_pathless given inputs at issuer why (inr (inr unfit)) = unfit_pathless (MayNotFollow given inputs at issuer)
+    why unfit
 
 -- ---- what isn't ready
 
 -- what is said of an error is said of the refusal that it gives
-pub unfit_so : (Is : WantedError → Type 0) (error : WantedError) (why : Refusal) → (why ≡ Memory) ⊎ (why ≡ Unfit error) → (why ≢ Memory → Is error) → IsUnfit Is why
+pub unfit_so : (Is : WantedError → Type 0) (error : WantedError) (why : Refusal) →
+    (why ≡ Memory) ⊎ (why ≡ Unfit error) → (why ≢ Memory → Is error) → IsUnfit Is why
 unfit_so Is error why (inl memory) is = inl memory
 unfit_so Is error why (inr unfit) is =
     let known : why ≢ Memory = λ memory. let both : Unfit error ≡ Memory = sym unfit ∙ memory in cc in
     inr (error, unfit, is known)
 
 -- that memory ran out is so whatever is asked
-pub memory_so : (e : Errand) (asked : AskedFields) (inputs : InputFields) (at : Moment) → IsSoAs e asked inputs at Memory
+pub memory_so : (e : Errand) (asked : AskedFields) (inputs : InputFields) (at : Moment) →
+    IsSoAs e asked inputs at Memory
 memory_so errand.Authority asked inputs at = inl tt
 memory_so errand.EndEntity asked inputs at = inl tt
 memory_so errand.Detached asked inputs at = inl tt

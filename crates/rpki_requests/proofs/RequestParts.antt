@@ -2,17 +2,22 @@
 use Rattle.std.specs.List.{before_first, after_first, position_or_len}
 use Rattle.std.specs.Prelude.{codes, Option, Some, None, cond, Result, Ok, Err, OnOk}
 use Rattle.std.specs.Str.{bytes_eq}
-use Rattle.std.proofs.Common.{◌≡◌, ℕ, Bool, true, false, List, [], ◌∷◌, ◌++◌, refl, sym, ap, ◌∙◌, subst, take, drop, inl, inr, lit<}
+use Rattle.std.proofs.Common.{◌≡◌, ℕ, Bool, true, false, List, [], ◌∷◌, ◌++◌, refl, sym, ap, ◌∙◌, subst, take, drop}
+use Rattle.std.proofs.Common.{inl, inr, lit<}
 use Rattle.std.proofs.lemmas.List.{take-append-drop, append-nil}
 use Rattle.std.proofs.lemmas.Slice.Eq.{bytes_eq-Decides}
 use Rattle.rpki_text.specs.WordParts.{AddsPart, BeginsNoPart, IsOption, GivesValue, Joins}
 use Rattle.rpki_text.proofs.JoinedNames.{is_equals}
 use Rattle.rpki_text.proofs.PartsOfWords.{Sort, single, before, joining, Grammar, Shape, IsClear, alone_is, given_is}
 use Rattle.rpki_requests.specs.declared.words.Setting.{Setting}
-use Rattle.rpki_requests.specs.declared.words.Setting.TheVariants.{Issuer, Key, Serial, From, Until, Ipv4, Ipv6, AsNumbers, Repository, Manifest, Notify, Object, IssuerUri, CrlUri, Crl, Previous, Number, Revoke, NextUpdate, At, Out}
+use Rattle.rpki_requests.specs.declared.words.Setting.TheVariants.{Issuer, Key, Serial, From, Until, Ipv4, Ipv6}
+use Rattle.rpki_requests.specs.declared.words.Setting.TheVariants.{AsNumbers, Repository, Manifest, Notify, Object}
+use Rattle.rpki_requests.specs.declared.words.Setting.TheVariants.{IssuerUri, CrlUri, Crl, Previous, Number, Revoke}
+use Rattle.rpki_requests.specs.declared.words.Setting.TheVariants.{NextUpdate, At, Out}
 use Rattle.rpki_requests.specs.declared.words.Switch.{Switch}
 use Rattle.rpki_requests.specs.declared.words.Switch.TheVariants.{Trim, Lenient, Pem, Force}
-use Rattle.rpki_requests.specs.RequestWords.{AskedFields, IsRequestPart, RequestPart, file, option, switch, setting_name, switch_name, with_part}
+use Rattle.rpki_requests.specs.RequestWords.{AskedFields, IsRequestPart, RequestPart, file, option, switch}
+use Rattle.rpki_requests.specs.RequestWords.{setting_name, switch_name, with_part}
 use Rattle.rpki_requests.proofs.Settings.{setting_of, first_named, settings, found, none_found, dashed}
 
 -- ---- the first word
@@ -53,7 +58,8 @@ named : (setting : Setting) → sort_of (setting_name setting) ≡ before settin
 unfolding sort_of or_before
 named setting = rw (found setting) refl
 
-joined : (setting : Setting) (value : List ℕ) → sort_of (setting_name setting ++ codes "=" ++ value) ≡ joining setting value
+joined : (setting : Setting) (value : List ℕ) → sort_of (setting_name setting ++ codes "=" ++ value) ≡
+    joining setting value
 unfolding sort_of or_before or_joining first_named
 joined Issuer value = refl
 joined Key value = refl
@@ -78,7 +84,8 @@ joined At value = refl
 joined Out value = refl
 
 -- what stands before its first `=` is its name
-pub front_is : (setting : Setting) (value : List ℕ) → before_first is_equals (setting_name setting ++ codes "=" ++ value) ≡ setting_name setting
+pub front_is : (setting : Setting) (value : List ℕ) →
+    before_first is_equals (setting_name setting ++ codes "=" ++ value) ≡ setting_name setting
 front_is Issuer value = refl
 front_is Key value = refl
 front_is Serial value = refl
@@ -109,7 +116,8 @@ module _ (word : List ℕ) (not_option : IsOption word → ⊥) where
 
   no_front : (n : ℕ) (setting : Setting) → take n word ≡ setting_name setting → ⊥
   no_front n setting is =
-      not_option (subst IsOption (ap (λ (l : List ℕ). l ++ drop n word) (sym is) ∙ take-append-drop n word) (dashed setting (drop n word)))
+      not_option (subst IsOption (ap (λ (l : List ℕ). l ++ drop n word) (sym is) ∙ take-append-drop n word)
+      (dashed setting (drop n word)))
 
   not_same : (other : List ℕ) → IsOption other → bytes_eq word other ≡ true → ⊥
   not_same other is_option same = not_option (subst IsOption (sym ((bytes_eq-Decides word other).0 same)) is_option)
@@ -130,7 +138,11 @@ module _ (word : List ℕ) (not_option : IsOption word → ⊥) where
   file_sort : sort_of word ≡ single (file word)
   unfolding sort_of or_before or_joining or_switch
   file_sort =
-      rw (none_found settings word no_name, none_found settings (before_first is_equals word) (no_front (position_or_len is_equals word)), no_switch) refl
+      rw (
+        none_found settings word no_name,
+        none_found settings (before_first is_equals word) (no_front (position_or_len is_equals word)),
+        no_switch,
+      ) refl
 
 -- ---- a part
 
@@ -142,10 +154,12 @@ IsSet setting value part = part ≡ option (record { setting = setting; value = 
 abbrev pub request_grammar : Grammar RequestPart Setting
 request_grammar = record { IsPart = IsRequestPart; name = setting_name; IsSet = IsSet; sort_of = sort_of }
 
-one_set : (setting : Setting) (value : List ℕ) (p q : RequestPart) → IsSet setting value p → IsSet setting value q → p ≡ q
+one_set : (setting : Setting) (value : List ℕ) (p q : RequestPart) → IsSet setting value p → IsSet setting value q →
+    p ≡ q
 one_set setting value p q h k = h ∙ sym k
 
-is_part : (setting : Setting) (value : List ℕ) (part : RequestPart) (words : List (List ℕ)) → IsSet setting value part → GivesValue (setting_name setting) value words → IsRequestPart part words
+is_part : (setting : Setting) (value : List ℕ) (part : RequestPart) (words : List (List ℕ)) →
+    IsSet setting value part → GivesValue (setting_name setting) value words → IsRequestPart part words
 is_part setting value part words set gives = subst (λ (p : RequestPart). IsRequestPart p words) (sym set) gives
 
 switch_sort : (s : Switch) → sort_of (switch_name s) ≡ single (switch s)
@@ -168,8 +182,11 @@ request_clear = record { named = named; joined = joined; one_set = one_set; is_p
 -- ---- words that begin no part
 
 -- a word that is an option and none of those that there are
-module _ (word : List ℕ) (is_option : IsOption word) (unnamed : (setting : Setting) → word ≡ setting_name setting → ⊥) (unjoined : (setting : Setting) (value : List ℕ) → Joins (setting_name setting) value word → ⊥) (unswitched : (s : Switch) → word ≡ switch_name s → ⊥) where
-  not_given : (setting : Setting) (value : List ℕ) (its behind rest : List (List ℕ)) → GivesValue (setting_name setting) value its → (word ∷ []) ++ behind ≡ its ++ rest → ⊥
+module _ (word : List ℕ) (is_option : IsOption word) (unnamed : (setting : Setting) → word ≡ setting_name setting →
+    ⊥) (unjoined : (setting : Setting) (value : List ℕ) → Joins (setting_name setting) value word → ⊥)
+    (unswitched : (s : Switch) → word ≡ switch_name s → ⊥) where
+  not_given : (setting : Setting) (value : List ℕ) (its behind rest : List (List ℕ)) →
+      GivesValue (setting_name setting) value its → (word ∷ []) ++ behind ≡ its ++ rest → ⊥
   not_given setting value its behind rest (inl is) e = unnamed setting cc
   not_given setting value its behind rest (inr is) e = unjoined setting value cc
 
@@ -181,11 +198,17 @@ module _ (word : List ℕ) (is_option : IsOption word) (unnamed : (setting : Set
 -- ---- parts that are added
 
 -- a file is
-pub file_added : {T E : Type 0} (r : Result T E) (old new : AskedFields) (name : List ℕ) → OnOk r (new ≡ with_part old (file name)) → (IsOption name → ⊥) → OnOk r (AddsPart IsRequestPart with_part (name ∷ []) old new)
+pub file_added : {T E : Type 0} (r : Result T E) (old new : AskedFields) (name : List ℕ) →
+    OnOk r (new ≡ with_part old (file name)) → (IsOption name → ⊥) →
+    OnOk r (AddsPart IsRequestPart with_part (name ∷ []) old new)
 file_added (Ok x) old new name e not_option = (file name, (refl, not_option), e)
 file_added (Err x) old new name e not_option = e
 
 -- an option is, whose value stands behind `=`
-pub joined_added : {T E : Type 0} (r : Result T E) (old new : AskedFields) (setting : Setting) (value word : List ℕ) → Joins (setting_name setting) value word → OnOk r (new ≡ with_part old (option (record { setting = setting; value = value }))) → OnOk r (AddsPart IsRequestPart with_part (word ∷ []) old new)
-joined_added (Ok x) old new setting value word joins e = (option (record { setting = setting; value = value }), inr (ap (λ (w : List ℕ). w ∷ []) joins), e)
+pub joined_added : {T E : Type 0} (r : Result T E) (old new : AskedFields) (setting : Setting)
+    (value word : List ℕ) → Joins (setting_name setting) value word →
+    OnOk r (new ≡ with_part old (option (record { setting = setting; value = value }))) →
+    OnOk r (AddsPart IsRequestPart with_part (word ∷ []) old new)
+joined_added (Ok x) old new setting value word joins e =
+    (option (record { setting = setting; value = value }), inr (ap (λ (w : List ℕ). w ∷ []) joins), e)
 joined_added (Err x) old new setting value word joins e = e

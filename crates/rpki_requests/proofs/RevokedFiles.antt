@@ -13,7 +13,8 @@ use Rattle.rpki_der.specs.Times.{Moment}
 use Rattle.rpki_der.specs.Values.{IsUnambiguous}
 use Rattle.rpki_issuing.specs.OnlyValues.{IsOnly}
 use Rattle.rpki_issuing.specs.ValueTexts.{IsSerialText}
-use Rattle.rpki_requests.specs.OptionValues.{GivesEntries, GivesList, IsMomentSaid, SaysAtMostOnce, SaysOnce, given_alone, revoked_at}
+use Rattle.rpki_requests.specs.OptionValues.{GivesEntries, GivesList, IsMomentSaid, SaysAtMostOnce, SaysOnce}
+use Rattle.rpki_requests.specs.OptionValues.{given_alone, revoked_at}
 use Rattle.rpki_requests.specs.RequestFiles.{IsOwnListIn, IsPreviousOf, IsRevokedFile}
 use Rattle.rpki_issuing.specs.Issuers.{IsOwnList}
 use Rattle.rpki_requests.specs.RequestWords.{GivenFields, values_of}
@@ -47,38 +48,55 @@ module _ (issuer : TbsFields) (files : List (List ℕ)) where
     same_file other is = let both : other ∷ [] ≡ octets ∷ [] = sym is ∙ alone in cc
 
     -- the one that the file is
-    pub previous_one : (list : CrlFields) → IsOnly (IsOwnListIn issuer octets) list → IsOnly (IsPreviousOf issuer files) (Some list)
+    pub previous_one : (list : CrlFields) → IsOnly (IsOwnListIn issuer octets) list →
+        IsOnly (IsPreviousOf issuer files) (Some list)
     previous_one list one = (record { octets = octets; alone = alone; is_own = one.0 }, only)
       where
         only : (other : Option CrlFields) → IsPreviousOf issuer files other → other ≡ Some list
         only None is = let both : [] ≡ octets ∷ [] = sym is ∙ alone in absurd cc
-        only (Some l) is = ap Some (one.1 l (subst (λ (b : List ℕ). IsOwnListIn issuer b l) (same_file is.octets is.alone) is.is_own))
+        only (Some l) is = ap Some
+            (one.1 l (subst (λ (b : List ℕ). IsOwnListIn issuer b l) (same_file is.octets is.alone) is.is_own))
 
     -- where the file is none
-    pub previous_not : ((list : CrlFields) → IsOwnListIn issuer octets list → ⊥) → (other : Option CrlFields) → IsPreviousOf issuer files other → ⊥
+    pub previous_not : ((list : CrlFields) → IsOwnListIn issuer octets list → ⊥) → (other : Option CrlFields) →
+        IsPreviousOf issuer files other → ⊥
     previous_not none None is = let both : [] ≡ octets ∷ [] = sym is ∙ alone in absurd cc
-    previous_not none (Some l) is = none l (subst (λ (b : List ℕ). IsOwnListIn issuer b l) (same_file is.octets is.alone) is.is_own)
+    previous_not none (Some l) is =
+        none l (subst (λ (b : List ℕ). IsOwnListIn issuer b l) (same_file is.octets is.alone) is.is_own)
 
-module _ (issuer : TbsFields) (octets : List ℕ) (one : IsUnambiguous IsCertificateList) (list : CrlFields) (is : IsCertificateList list octets) where
+module _ (issuer : TbsFields) (octets : List ℕ) (one : IsUnambiguous IsCertificateList) (list : CrlFields)
+    (is : IsCertificateList list octets) where
   -- the list that the octets are, where it is the issuer's
   pub own_is : IsOwnList issuer list → IsOnly (IsOwnListIn issuer octets) list
-  own_is own = (record { is_list = is; own = own }, λ other h. whole_only IsCertificateList one list other octets is h.is_list)
+  own_is own = (
+    record { is_list = is; own = own },
+    λ other h. whole_only IsCertificateList one list other octets is
+        h.is_list,
+  )
 
   pub own_not : (IsOwnList issuer list → ⊥) → (other : CrlFields) → IsOwnListIn issuer octets other → ⊥
-  own_not not other h = not (subst (λ (l : CrlFields). IsOwnList issuer l) (whole_only IsCertificateList one list other octets is h.is_list) h.own)
+  own_not not other h =
+      not (subst (λ (l : CrlFields). IsOwnList issuer l)
+      (whole_only IsCertificateList one list other octets is h.is_list) h.own)
 
 -- ---- a certificate that is revoked
 
-module _ (issuer : TbsFields) (octets : List ℕ) (one : IsUnambiguous IsCertificate) (cert : CertFields) (is : IsCertificate cert octets) where
-  pub revoked_is : cert.fields.extensions.authority_key_identifier ≡ Some issuer.extensions.subject_key_identifier → IsOnly (λ serial. IsRevokedFile issuer serial octets) cert.fields.serial
+module _ (issuer : TbsFields) (octets : List ℕ) (one : IsUnambiguous IsCertificate) (cert : CertFields)
+    (is : IsCertificate cert octets) where
+  pub revoked_is : cert.fields.extensions.authority_key_identifier ≡ Some issuer.extensions.subject_key_identifier →
+      IsOnly (λ serial. IsRevokedFile issuer serial octets) cert.fields.serial
   revoked_is names = (
     record { cert = cert; is_cert = is; names = names; serial_is = refl },
-    λ serial h. h.serial_is ∙ ap (λ (c : CertFields). c.fields.serial) (whole_only IsCertificate one cert h.cert octets is h.is_cert),
+    λ serial h. h.serial_is ∙ ap (λ (c : CertFields). c.fields.serial)
+        (whole_only IsCertificate one cert h.cert octets is h.is_cert),
   )
 
-  pub revoked_not : (cert.fields.extensions.authority_key_identifier ≡ Some issuer.extensions.subject_key_identifier → ⊥) → (serial : ℕ) → IsRevokedFile issuer serial octets → ⊥
+  pub revoked_not : (cert.fields.extensions.authority_key_identifier ≡
+      Some issuer.extensions.subject_key_identifier → ⊥) → (serial : ℕ) → IsRevokedFile issuer serial octets → ⊥
   revoked_not not serial h =
-      not (subst (λ (c : CertFields). c.fields.extensions.authority_key_identifier ≡ Some issuer.extensions.subject_key_identifier) (whole_only IsCertificate one cert h.cert octets is h.is_cert) h.names)
+      not (subst (λ (c : CertFields). c.fields.extensions.authority_key_identifier ≡
+      Some issuer.extensions.subject_key_identifier)
+      (whole_only IsCertificate one cert h.cert octets is h.is_cert) h.names)
 
 -- ---- what is wanted of the list
 
@@ -90,7 +108,14 @@ module _ (given : List GivenFields) (files : List (List ℕ)) (issuer : TbsField
   OfNumbers serials = AllZip IsSerialText serials (values_of Serial given)
 
   -- both are, or one isn't
-  pub both_revoked : {X Y : Type 0} (view : X → List ℕ) (look : Y → List ℕ) (first : Result X Refusal) (second : Result Y Refusal) (r : Result (X × Y) Refusal) → IfOk r (λ p. (first ≡ Ok p.0) × (second ≡ Ok p.1)) → IfErr r (λ why. (first ≡ Err why) ⊎ (second ≡ Err why)) → AnswersOnlyBy (IsOtherFile issuer files) view OfFiles first → AnswersOnlyBy (IsValueOf Serial) look OfNumbers second → AnswersOnlyBy (IsWantedFault given files issuer) (λ (p : X × Y). (view p.0, look p.1)) (λ (p : List ℕ × List ℕ). OfFiles p.0 × OfNumbers p.1) r
+  pub both_revoked : {X Y : Type 0} (view : X → List ℕ) (look : Y → List ℕ) (first : Result X Refusal)
+      (second : Result Y Refusal) (r : Result (X × Y) Refusal) →
+      IfOk r (λ p. (first ≡ Ok p.0) × (second ≡ Ok p.1)) →
+      IfErr r (λ why. (first ≡ Err why) ⊎ (second ≡ Err why)) →
+      AnswersOnlyBy (IsOtherFile issuer files) view OfFiles first →
+      AnswersOnlyBy (IsValueOf Serial) look OfNumbers second →
+      AnswersOnlyBy (IsWantedFault given files issuer) (λ (p : X × Y). (view p.0, look p.1))
+      (λ (p : List ℕ × List ℕ). OfFiles p.0 × OfNumbers p.1) r
   both_revoked view look first second r are why by_files by_numbers =
       let MayBe = IsWantedFault given files issuer in
       let some = may_be_by (IsOtherFile issuer files) MayBe view OfFiles first (λ w h. inr h) by_files in
@@ -99,23 +124,40 @@ module _ (given : List GivenFields) (files : List (List ℕ)) (issuer : TbsField
       both_only_by MayBe view look OfFiles OfNumbers first second r are why some others
 
   -- the entries of these serial numbers
-  pub entries_ok : (es : List Entry) (by_files by_numbers : List ℕ) → es ≡ map (revoked_at at) (by_files ++ by_numbers) → IsOnly (λ (p : List ℕ × List ℕ). OfFiles p.0 × OfNumbers p.1) (by_files, by_numbers) → IsOnly (GivesEntries given files issuer at) es
+  pub entries_ok : (es : List Entry) (by_files by_numbers : List ℕ) →
+      es ≡ map (revoked_at at) (by_files ++ by_numbers) →
+      IsOnly (λ (p : List ℕ × List ℕ). OfFiles p.0 × OfNumbers p.1) (by_files, by_numbers) →
+      IsOnly (GivesEntries given files issuer at) es
   entries_ok es by_files by_numbers is only = (
     record {
       serials = by_files ++ by_numbers;
-      serials_are = record { by_files = by_files; files_are = only.0.0; by_numbers = by_numbers; numbers_are = only.0.1; serials_are = refl };
+      serials_are = record {
+        by_files = by_files;
+        files_are = only.0.0;
+        by_numbers = by_numbers;
+        numbers_are =
+            only.0.1;
+        serials_are = refl;
+      };
       entries_are = is;
     },
     λ fs h.
         let s = h.serials_are in
         let same = only.1 (s.by_files, s.by_numbers) (s.files_are, s.numbers_are) in
-        h.entries_are ∙ ap (λ (l : List ℕ). map (revoked_at at) l) (s.serials_are ∙ ap (λ (p : List ℕ × List ℕ). p.0 ++ p.1) same) ∙ sym is,
+        h.entries_are ∙ ap (λ (l : List ℕ). map (revoked_at at) l)
+        (s.serials_are ∙ ap (λ (p : List ℕ × List ℕ). p.0 ++ p.1) same) ∙ sym is,
   )
 
-  pub entries_none : ((p : List ℕ × List ℕ) → OfFiles p.0 × OfNumbers p.1 → ⊥) → (es : List Entry) → GivesEntries given files issuer at es → ⊥
+  pub entries_none : ((p : List ℕ × List ℕ) → OfFiles p.0 × OfNumbers p.1 → ⊥) → (es : List Entry) →
+      GivesEntries given files issuer at es → ⊥
   entries_none none es h = let s = h.serials_are in none (s.by_files, s.by_numbers) (s.files_are, s.numbers_are)
 
-  pub list_ok : (number : Option ℕ) (next : Moment) (es : List Entry) → IsOnly (λ n. SaysAtMostOnce IsSerialText (values_of Number given) n) number → IsOnly (λ m. SaysOnce IsMomentSaid (values_of NextUpdate given) m) next → IsOnly (GivesEntries given files issuer at) es → IsOnly (GivesList given files issuer at) (record { number = number; revoked = es; this_update = at; next_update = next })
+  pub list_ok : (number : Option ℕ) (next : Moment) (es : List Entry) →
+      IsOnly (λ n. SaysAtMostOnce IsSerialText (values_of Number given) n) number →
+      IsOnly (λ m. SaysOnce IsMomentSaid (values_of NextUpdate given) m) next →
+      IsOnly (GivesEntries given files issuer at) es →
+      IsOnly (GivesList given files issuer at)
+      (record { number = number; revoked = es; this_update = at; next_update = next })
   list_ok number next es one last all = (
     record { number_is = one.0; revoked_are = all.0; this_update_is = refl; next_update_is = last.0 },
     λ w h.
@@ -131,7 +173,9 @@ abbrev pub made_at : Moment → ℕ → CrlEntry
 made_at at serial = record { user_certificate = serial; revocation_date = at }
 
 -- the code's entries that revoke these serial numbers are seen so
-pub entries_seen : {E Z : Type 0} (at : Moment) (serials : List ℕ) (r : Result (Vec CrlEntry Z) E) → IfOk r (λ v. v.items ≡ map (made_at at) serials) → IfOk r (λ v. map entry_of v.items ≡ map (revoked_at at) serials)
+pub entries_seen : {E Z : Type 0} (at : Moment) (serials : List ℕ) (r : Result (Vec CrlEntry Z) E) →
+    IfOk r (λ v. v.items ≡ map (made_at at) serials) →
+    IfOk r (λ v. map entry_of v.items ≡ map (revoked_at at) serials)
 entries_seen at serials (Ok v) is =
     ap (λ (l : List CrlEntry). map entry_of l) is ∙ map-map entry_of (made_at at) serials
 entries_seen at serials (Err e) is = tt

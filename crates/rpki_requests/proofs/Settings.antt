@@ -5,17 +5,22 @@ use Rattle.std.proofs.Common.{◌≡◌, ◌<◌, ℕ, Bool, true, false, List, 
 use Rattle.std.proofs.lemmas.Slice.Eq.{bytes_eq-Decides}
 use Rattle.rpki_text.specs.WordParts.{IsOption}
 use Rattle.rpki_requests.specs.declared.words.Setting.{Setting}
-use Rattle.rpki_requests.specs.declared.words.Setting.TheVariants.{Issuer, Key, Serial, From, Until, Ipv4, Ipv6, AsNumbers, Repository, Manifest, Notify, Object, IssuerUri, CrlUri, Crl, Previous, Number, Revoke, NextUpdate, At, Out}
+use Rattle.rpki_requests.specs.declared.words.Setting.TheVariants.{Issuer, Key, Serial, From, Until, Ipv4, Ipv6}
+use Rattle.rpki_requests.specs.declared.words.Setting.TheVariants.{AsNumbers, Repository, Manifest, Notify, Object}
+use Rattle.rpki_requests.specs.declared.words.Setting.TheVariants.{IssuerUri, CrlUri, Crl, Previous, Number, Revoke}
+use Rattle.rpki_requests.specs.declared.words.Setting.TheVariants.{NextUpdate, At, Out}
 use Rattle.rpki_requests.specs.RequestWords.{setting_name}
 
 -- all of them
 abbrev pub settings : List Setting
 settings =
-    Issuer ∷ Key ∷ Serial ∷ From ∷ Until ∷ Ipv4 ∷ Ipv6 ∷ AsNumbers ∷ Repository ∷ Manifest ∷ Notify ∷ Object ∷ IssuerUri ∷ CrlUri
+    Issuer ∷ Key ∷ Serial ∷ From ∷ Until ∷ Ipv4 ∷ Ipv6 ∷ AsNumbers ∷ Repository ∷ Manifest ∷ Notify ∷ Object ∷
+    IssuerUri ∷ CrlUri
     ∷ Crl ∷ Previous ∷ Number ∷ Revoke ∷ NextUpdate ∷ At ∷ Out ∷ []
 
 -- what holds of each that is listed holds of each
-pub of_each : (P : Setting → Type 0) → ((k : ℕ) → k < 21 → P (get_or settings k Issuer)) → (setting : Setting) → P setting
+pub of_each : (P : Setting → Type 0) → ((k : ℕ) → k < 21 → P (get_or settings k Issuer)) → (setting : Setting) →
+    P setting
 of_each P each Issuer = each 0 (lit< tt)
 of_each P each Key = each 1 (lit< tt)
 of_each P each Serial = each 2 (lit< tt)
@@ -72,16 +77,19 @@ found NextUpdate = refl
 found At = refl
 found Out = refl
 
-either : (b : Bool) (here : Option Setting) (later : Option Setting) → (b ≡ true → ⊥) → later ≡ None → cond b here later ≡ None
+either : (b : Bool) (here : Option Setting) (later : Option Setting) → (b ≡ true → ⊥) → later ≡ None →
+    cond b here later ≡ None
 either true here later never is = absurd (never refl)
 either false here later never is = is
 
 -- a word that is no option's name
-pub none_found : (some : List Setting) (word : List ℕ) → ((setting : Setting) → word ≡ setting_name setting → ⊥) → first_named some word ≡ None
+pub none_found : (some : List Setting) (word : List ℕ) → ((setting : Setting) → word ≡ setting_name setting → ⊥) →
+    first_named some word ≡ None
 unfolding first_named
 none_found [] word none = refl
 none_found (s ∷ rest) word none =
-    either (bytes_eq word (setting_name s)) (Some s) (first_named rest word) (λ same. none s ((bytes_eq-Decides word (setting_name s)).0 same)) (none_found rest word none)
+    either (bytes_eq word (setting_name s)) (Some s) (first_named rest word)
+    (λ same. none s ((bytes_eq-Decides word (setting_name s)).0 same)) (none_found rest word none)
 
 -- a name begins with two hyphens
 pub dashed : (setting : Setting) (rest : List ℕ) → IsOption (setting_name setting ++ rest)

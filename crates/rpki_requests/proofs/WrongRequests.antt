@@ -2,7 +2,9 @@
 use Rattle.rpki_requests.specs.RequestMisuses.{HasWrongCount, IsReason}
 use Rattle.rpki_requests.specs.RequestWords.{AskedFields}
 use Rattle.rpki_requests.specs.declared.words.Misuse.{Misuse}
-use Rattle.rpki_requests.specs.declared.words.Misuse.TheVariants.{NoErrand, UnknownErrand, Unknown, NoValue, Unsuited, UnsuitedSwitch, Missing, Repeated, Files, Memory}
+use Rattle.rpki_requests.specs.declared.words.Misuse.TheVariants.{NoErrand, UnknownErrand, Unknown, NoValue}
+use Rattle.rpki_requests.specs.declared.words.Misuse.TheVariants.{Unsuited, UnsuitedSwitch, Missing, Repeated}
+use Rattle.rpki_requests.specs.declared.words.Misuse.TheVariants.{Files, Memory}
 
 -- what is told of an option that stands so often is a reason
 pub reason_of : (misuse : Misuse) (asked : AskedFields) → HasWrongCount misuse asked → IsReason misuse asked

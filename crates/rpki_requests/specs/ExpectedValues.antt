@@ -1,7 +1,10 @@
 -- What a value of an option is called, and which values the option takes (own).
 use Rattle.std.specs.Prelude.{ℕ, List, codes}
 use Rattle.rpki_requests.specs.declared.words.Setting.{Setting}
-use Rattle.rpki_requests.specs.declared.words.Setting.TheVariants.{Issuer, Key, Serial, From, Until, Ipv4, Ipv6, AsNumbers, Repository, Manifest, Notify, Object, IssuerUri, CrlUri, Crl, Previous, Number, Revoke, NextUpdate, At, Out}
+use Rattle.rpki_requests.specs.declared.words.Setting.TheVariants.{Issuer, Key, Serial, From, Until, Ipv4, Ipv6}
+use Rattle.rpki_requests.specs.declared.words.Setting.TheVariants.{AsNumbers, Repository, Manifest, Notify, Object}
+use Rattle.rpki_requests.specs.declared.words.Setting.TheVariants.{IssuerUri, CrlUri, Crl, Previous, Number, Revoke}
+use Rattle.rpki_requests.specs.declared.words.Setting.TheVariants.{NextUpdate, At, Out}
 
 -- what a value is called
 abbrev pub value_kind : Setting → List ℕ

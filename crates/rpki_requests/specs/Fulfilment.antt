@@ -23,13 +23,15 @@ use Rattle.rpki_path.specs.declared.judging.Judged.{Judged}
 use Rattle.rpki_verdicts.specs.PathAnswers.{IsVerdictBy}
 use Rattle.rpki_verdicts.specs.declared.path.Verdict.TheVariants.{Accepted}
 use Rattle.rpki_requests.specs.OptionValues.{GivesList, GivesWanted}
-use Rattle.rpki_requests.specs.RequestFiles.{InputFields, IsCompletedAs, IsIssuerOf, IsKeyFile, IsPreviousOf, IsSoAsked, chained}
+use Rattle.rpki_requests.specs.RequestFiles.{InputFields, IsCompletedAs, IsIssuerOf, IsKeyFile, IsPreviousOf}
+use Rattle.rpki_requests.specs.RequestFiles.{IsSoAsked, chained}
 use Rattle.rpki_requests.specs.RequestWords.{AskedFields}
 use Rattle.rpki_requests.specs.declared.fulfilling.Made.{Made}
 use Rattle.rpki_requests.specs.declared.fulfilling.Made.TheVariants.{ToSign, Certificate}
 use Rattle.rpki_requests.specs.declared.fulfilling.Made.TheVariants as made
 use Rattle.rpki_requests.specs.declared.words.Errand.{Errand}
-use Rattle.rpki_requests.specs.declared.words.Errand.TheVariants.{Authority, EndEntity, Detached, Router, Anchor, RevocationList, Completion}
+use Rattle.rpki_requests.specs.declared.words.Errand.TheVariants.{Authority, EndEntity, Detached, Router, Anchor}
+use Rattle.rpki_requests.specs.declared.words.Errand.TheVariants.{RevocationList, Completion}
 
 -- under what a request is judged: with real signatures, at the moment, strictly or not
 abbrev pub context_of : AskedFields → Moment → Context

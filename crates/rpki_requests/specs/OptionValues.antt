@@ -15,7 +15,9 @@ use Rattle.rpki_issuing.specs.declared.wanted.wanted.Wanted.{Wanted}
 use Rattle.rpki_issuing.specs.WantedLists.{WantedListFields}
 use Rattle.rpki_requests.specs.RequestFiles.{IsRevokedFile}
 use Rattle.rpki_requests.specs.RequestWords.{GivenFields, values_of}
-use Rattle.rpki_requests.specs.declared.words.Setting.TheVariants.{Serial, From, Until, Ipv4, Ipv6, AsNumbers, Repository, Manifest, Notify, Object, IssuerUri, CrlUri, Number, NextUpdate}
+use Rattle.rpki_requests.specs.declared.words.Setting.TheVariants.{Serial, From, Until, Ipv4, Ipv6, AsNumbers}
+use Rattle.rpki_requests.specs.declared.words.Setting.TheVariants.{Repository, Manifest, Notify, Object, IssuerUri}
+use Rattle.rpki_requests.specs.declared.words.Setting.TheVariants.{CrlUri, Number, NextUpdate}
 
 -- ---- one option
 

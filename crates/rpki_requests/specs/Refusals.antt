@@ -12,7 +12,8 @@ use Rattle.rpki_crl.specs.Revocation.{revocation_error_name}
 use Rattle.rpki_path.specs.declared.judging.Judged.{Judged}
 use Rattle.rpki_cert.specs.declared.validation_error.ValidationError.TheVariants.{Inspection, Verification}
 use Rattle.rpki_cert.specs.Verification.{Context, verification_error_name}
-use Rattle.rpki_files.specs.FaultRules.{RuleFields, inspection_rule, key_rule, name_rule, revocation_rule, rule_of, verification_rule}
+use Rattle.rpki_files.specs.FaultRules.{RuleFields, inspection_rule, key_rule, name_rule, revocation_rule, rule_of}
+use Rattle.rpki_files.specs.FaultRules.{verification_rule}
 use Rattle.rpki_issuing.specs.OnlyValues.{IsOnly}
 use Rattle.rpki_verdicts.specs.PathAnswers.{IsVerdictBy}
 use Rattle.rpki_verdicts.specs.declared.path.Fault.{Fault}
@@ -25,7 +26,10 @@ use Rattle.rpki_requests.specs.RequestFiles.{IsNoAuthority, IsNoListAt, chained}
 use Rattle.rpki_requests.specs.ExpectedValues.{expected_value, value_kind}
 use Rattle.rpki_requests.specs.RequestWords.{AskedFields, setting_name, values_of}
 use Rattle.rpki_requests.specs.declared.refusals.Refusal.{Refusal}
-use Rattle.rpki_requests.specs.declared.refusals.Refusal.TheVariants.{Value, NoKey, UnusedKey, Rejected, NoAuthority, OtherCrl, NoIssuer, OtherList, OtherCertificate, NoName, Files, NotToSign, OtherName, Unfit, Memory}
+use Rattle.rpki_requests.specs.declared.refusals.Refusal.TheVariants.{Value, NoKey, UnusedKey, Rejected}
+use Rattle.rpki_requests.specs.declared.refusals.Refusal.TheVariants.{NoAuthority, OtherCrl, NoIssuer, OtherList}
+use Rattle.rpki_requests.specs.declared.refusals.Refusal.TheVariants.{OtherCertificate, NoName, Files, NotToSign}
+use Rattle.rpki_requests.specs.declared.refusals.Refusal.TheVariants.{OtherName, Unfit, Memory}
 use Rattle.rpki_requests.specs.declared.words.Setting.{Setting}
 use Rattle.rpki_requests.specs.declared.words.Setting.TheVariants.{Issuer, Key, Crl, Previous, Revoke}
 use Rattle.rpki_text.specs.Pages.{characters_text}

@@ -12,7 +12,8 @@ use Rattle.rpki_cert.specs.Verification.{ResourceFields}
 use Rattle.rpki_issuing.specs.AskedFields.{subject_asked}
 use Rattle.rpki_issuing.specs.Issuers.{IsNamed}
 use Rattle.rpki_issuing.specs.PreparedOctets.{IsToSign, IsUncompleted, IsUnprepared}
-use Rattle.rpki_issuing.specs.WantedLists.{IsListCompleted, IsListPrepared, IsListUncompleted, IsListUnprepared, IsListWanted, IsNoList, WantedListFields}
+use Rattle.rpki_issuing.specs.WantedLists.{IsListCompleted, IsListPrepared, IsListUncompleted, IsListUnprepared}
+use Rattle.rpki_issuing.specs.WantedLists.{IsListWanted, IsNoList, WantedListFields}
 use Rattle.rpki_issuing.specs.declared.wanted.preparing.WantedError.{WantedError}
 use Rattle.rpki_issuing.specs.declared.wanted.wanted.Wanted.{Wanted}
 use Rattle.rpki_path.specs.Asking.{RevocationChecks}
@@ -20,11 +21,13 @@ use Rattle.rpki_requests.specs.Fulfilment.{AsksFields, AsksList, IsBelow, contex
 use Rattle.rpki_requests.specs.OptionValues.{GivesList, GivesWanted}
 use Rattle.rpki_requests.specs.RequestFiles.{InputFields, IsCompletedAs, IsKeyFile, IsPreviousOf, IsSoAsked}
 use Rattle.rpki_requests.specs.RequestWords.{AskedFields, GivenFields}
-use Rattle.rpki_requests.specs.ToldRefusals.{IsDataFault, IsKeyFault, IsOfPath, IsOption, IsOtherList, IsUnfit, IsWantedFault}
+use Rattle.rpki_requests.specs.ToldRefusals.{IsDataFault, IsKeyFault, IsOfPath, IsOption, IsOtherList, IsUnfit}
+use Rattle.rpki_requests.specs.ToldRefusals.{IsWantedFault}
 use Rattle.rpki_requests.specs.declared.refusals.Refusal.{Refusal}
 use Rattle.rpki_requests.specs.declared.refusals.Refusal.TheVariants.{NoIssuer, NoName, Files, OtherName, Memory}
 use Rattle.rpki_requests.specs.declared.words.Errand.{Errand}
-use Rattle.rpki_requests.specs.declared.words.Errand.TheVariants.{Authority, EndEntity, Detached, Router, Anchor, RevocationList, Completion}
+use Rattle.rpki_requests.specs.declared.words.Errand.TheVariants.{Authority, EndEntity, Detached, Router, Anchor}
+use Rattle.rpki_requests.specs.declared.words.Errand.TheVariants.{RevocationList, Completion}
 
 -- ---- a certificate is prepared
 

@@ -4,12 +4,16 @@ use Rattle.std.specs.Prelude.{◌≡◌, ◌≢◌, ◌≤◌, ◌⊎◌, ℕ, L
 use Rattle.rpki_text.specs.Pages.{characters_text}
 use Rattle.rpki_text.specs.WordParts.{AreInOrder, IsFirstWrong, IsOption, Joins, words_before, words_behind}
 use Rattle.rpki_requests.specs.ExpectedValues.{expected_value}
-use Rattle.rpki_requests.specs.RequestWords.{AskedFields, IsRequestPart, RequestPart, demand, errand_words, file, files_wanted, only_errand, setting_name, switch_name, takes, values_of, with_part}
+use Rattle.rpki_requests.specs.RequestWords.{AskedFields, IsRequestPart, RequestPart, demand, errand_words, file}
+use Rattle.rpki_requests.specs.RequestWords.{files_wanted, only_errand, setting_name, switch_name, takes, values_of}
+use Rattle.rpki_requests.specs.RequestWords.{with_part}
 use Rattle.rpki_requests.specs.declared.words.Demand.{Demand}
 use Rattle.rpki_requests.specs.declared.words.Demand.TheVariants.{Never, AtMostOnce, Once, AtLeastOnce}
 use Rattle.rpki_requests.specs.declared.words.Errand.{Errand}
 use Rattle.rpki_requests.specs.declared.words.Misuse.{Misuse}
-use Rattle.rpki_requests.specs.declared.words.Misuse.TheVariants.{NoErrand, UnknownErrand, Unknown, NoValue, Unsuited, UnsuitedSwitch, Missing, Repeated, Files, Memory}
+use Rattle.rpki_requests.specs.declared.words.Misuse.TheVariants.{NoErrand, UnknownErrand, Unknown, NoValue}
+use Rattle.rpki_requests.specs.declared.words.Misuse.TheVariants.{Unsuited, UnsuitedSwitch, Missing, Repeated}
+use Rattle.rpki_requests.specs.declared.words.Misuse.TheVariants.{Files, Memory}
 use Rattle.rpki_requests.specs.declared.words.Setting.{Setting}
 use Rattle.rpki_requests.specs.declared.words.Switch.{Switch}
 use Rattle.rpki_requests.specs.declared.words.Switch.TheVariants.{Trim, Pem}

@@ -1,14 +1,19 @@
 -- Which words behind the program's name ask for a certificate or a revocation list to be prepared
 -- or completed, and what they ask (own). A word is the octets that the system has.
-use Rattle.std.specs.Prelude.{◌≡◌, ◌≤◌, ◌⊎◌, ℕ, List, [], ◌∷◌, ◌++◌, length, map, filter, Contains, Bool, true, false, fold, codes}
+use Rattle.std.specs.Prelude.{◌≡◌, ◌≤◌, ◌⊎◌, ℕ, List, [], ◌∷◌, ◌++◌, length, map, filter, Contains, Bool, true}
+use Rattle.std.specs.Prelude.{false, fold, codes}
 use Rattle.std.specs.Str.{bytes_eq}
 use Rattle.rpki_text.specs.WordParts.{IsOption, GivesValue, AreInOrder, words_before, words_behind}
 use Rattle.rpki_requests.specs.declared.words.Demand.{Demand}
 use Rattle.rpki_requests.specs.declared.words.Demand.TheVariants.{Never, AtMostOnce, Once, AnyNumber, AtLeastOnce}
 use Rattle.rpki_requests.specs.declared.words.Errand.{Errand}
-use Rattle.rpki_requests.specs.declared.words.Errand.TheVariants.{Authority, EndEntity, Detached, Router, Anchor, RevocationList, Completion}
+use Rattle.rpki_requests.specs.declared.words.Errand.TheVariants.{Authority, EndEntity, Detached, Router, Anchor}
+use Rattle.rpki_requests.specs.declared.words.Errand.TheVariants.{RevocationList, Completion}
 use Rattle.rpki_requests.specs.declared.words.Setting.{Setting}
-use Rattle.rpki_requests.specs.declared.words.Setting.TheVariants.{Issuer, Key, Serial, From, Until, Ipv4, Ipv6, AsNumbers, Repository, Manifest, Notify, Object, IssuerUri, CrlUri, Crl, Previous, Number, Revoke, NextUpdate, At, Out}
+use Rattle.rpki_requests.specs.declared.words.Setting.TheVariants.{Issuer, Key, Serial, From, Until, Ipv4, Ipv6}
+use Rattle.rpki_requests.specs.declared.words.Setting.TheVariants.{AsNumbers, Repository, Manifest, Notify, Object}
+use Rattle.rpki_requests.specs.declared.words.Setting.TheVariants.{IssuerUri, CrlUri, Crl, Previous, Number, Revoke}
+use Rattle.rpki_requests.specs.declared.words.Setting.TheVariants.{NextUpdate, At, Out}
 use Rattle.rpki_requests.specs.declared.words.Switch.{Switch}
 use Rattle.rpki_requests.specs.declared.words.Switch.TheVariants.{Trim, Lenient, Pem, Force}
 pub mod Views

@@ -16,9 +16,13 @@ use Rattle.rpki_requests.specs.OptionValues.{IsMomentSaid, SaysAtMostOnce, SaysO
 use Rattle.rpki_requests.specs.RequestFiles.{IsPreviousOf, IsRevokedFile}
 use Rattle.rpki_requests.specs.RequestWords.{GivenFields, values_of}
 use Rattle.rpki_requests.specs.declared.refusals.Refusal.{Refusal}
-use Rattle.rpki_requests.specs.declared.refusals.Refusal.TheVariants.{Value, NoKey, UnusedKey, Rejected, NoAuthority, OtherCrl, OtherList, OtherCertificate, NotToSign, Unfit, Memory}
+use Rattle.rpki_requests.specs.declared.refusals.Refusal.TheVariants.{Value, NoKey, UnusedKey, Rejected}
+use Rattle.rpki_requests.specs.declared.refusals.Refusal.TheVariants.{NoAuthority, OtherCrl, OtherList}
+use Rattle.rpki_requests.specs.declared.refusals.Refusal.TheVariants.{OtherCertificate, NotToSign, Unfit, Memory}
 use Rattle.rpki_requests.specs.declared.words.Setting.{Setting}
-use Rattle.rpki_requests.specs.declared.words.Setting.TheVariants.{Serial, From, Until, Ipv4, Ipv6, AsNumbers, Repository, Manifest, Notify, Object, IssuerUri, CrlUri, Number, NextUpdate}
+use Rattle.rpki_requests.specs.declared.words.Setting.TheVariants.{Serial, From, Until, Ipv4, Ipv6, AsNumbers}
+use Rattle.rpki_requests.specs.declared.words.Setting.TheVariants.{Repository, Manifest, Notify, Object, IssuerUri}
+use Rattle.rpki_requests.specs.declared.words.Setting.TheVariants.{CrlUri, Number, NextUpdate}
 
 -- ---- an option
 

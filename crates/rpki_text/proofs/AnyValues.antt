@@ -11,7 +11,8 @@ module _ (p : List ℕ → Bool) (tag : ℕ) where
   any_passes octets = list_any p (values_in (value_at tag) octets)
 
   -- with one more
-  pub one_tested : (octets content rest : List ℕ) → value_at tag octets ≡ Some (content, rest) → any_passes octets ≡ (p content || any_passes rest)
+  pub one_tested : (octets content rest : List ℕ) → value_at tag octets ≡ Some (content, rest) →
+      any_passes octets ≡ (p content || any_passes rest)
   one_tested octets content rest read = ap (list_any p) (one_value (value_at tag) (value_shrinks tag) octets content rest read)
 
   -- at the end

@@ -2,7 +2,8 @@
 use Rattle.std.specs.List.{position_or_len}
 use Rattle.std.specs.Prelude.{codes, IsTrue}
 use Rattle.std.specs.declared.vec.Vec.{Vec}
-use Rattle.std.proofs.Common.{◌≡◌, ◌↔◌, ◌+◌, ◌-◌, ◌<◌, ◌≤◌, ℕ, Bool, true, false, List, [], length, take, drop, get_or, refl, sym, ap, ◌∙◌, arith}
+use Rattle.std.proofs.Common.{◌≡◌, ◌↔◌, ◌+◌, ◌-◌, ◌<◌, ◌≤◌, ℕ, Bool, true, false, List, [], length, take, drop}
+use Rattle.std.proofs.Common.{get_or, refl, sym, ap, ◌∙◌, arith}
 use Rattle.std.proofs.lemmas.List.{length-drop, take-map, drop-map, take_all, drop_all}
 use Rattle.std.proofs.lemmas.List.Sums.{position_or_len_is}
 use Rattle.std.proofs.lemmas.Slice.Eq.{bytes_eq-Decides}
@@ -37,7 +38,8 @@ module _ {Z : Type 0} (words : List (Vec ℕ Z)) where
       before_place = sym (take-map (λ word. word.items) i words) ∙ ap (λ (n : ℕ). take n (word_octets words)) (sym place_is)
 
       pub behind_place : word_octets (take (length words - (i + 1)) (drop (i + 1) words)) ≡ words_behind (word_octets words)
-      behind_place = ap word_octets (all_behind (i + 1)) ∙ sym (drop-map (λ word. word.items) (i + 1) words) ∙ ap (λ (n : ℕ). drop (n + 1) (word_octets words)) (sym place_is)
+      behind_place = ap word_octets (all_behind (i + 1)) ∙ sym (drop-map (λ word. word.items) (i + 1) words) ∙
+          ap (λ (n : ℕ). drop (n + 1) (word_octets words)) (sym place_is)
 
     module _ (high : length words ≤ i) where
       none_is : position_or_len is_dashes (word_octets words) ≡ length (word_octets words)
@@ -48,7 +50,9 @@ module _ {Z : Type 0} (words : List (Vec ℕ Z)) where
 
       -- it stands nowhere
       pub before_none : word_octets words ≡ words_before (word_octets words)
-      before_none = sym (take_all (length (word_octets words)) (word_octets words) (omega arith)) ∙ ap (λ (n : ℕ). take n (word_octets words)) (sym none_is)
+      before_none = sym (take_all (length (word_octets words)) (word_octets words) (omega arith)) ∙
+          ap (λ (n : ℕ). take n (word_octets words)) (sym none_is)
 
       pub behind_none : [] ≡ words_behind (word_octets words)
-      behind_none = sym (drop_all (length (word_octets words) + 1) (word_octets words) (omega arith)) ∙ ap (λ (n : ℕ). drop (n + 1) (word_octets words)) (sym none_is)
+      behind_none = sym (drop_all (length (word_octets words) + 1) (word_octets words) (omega arith)) ∙
+          ap (λ (n : ℕ). drop (n + 1) (word_octets words)) (sym none_is)

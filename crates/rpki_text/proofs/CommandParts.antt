@@ -2,14 +2,18 @@
 use Rattle.std.specs.Prelude.{codes, Option, Some, None}
 use Rattle.std.specs.List.{before_first}
 use Rattle.std.specs.Str.{bytes_eq}
-use Rattle.std.proofs.Common.{◌≡◌, ◌⊎◌, ◌==◌, ◌<◌, ℕ, Bool, true, false, cond, inl, inr, List, [], ◌∷◌, ◌++◌, length, refl, sym, ap, ◌∙◌, subst, lit<, arith}
+use Rattle.std.proofs.Common.{◌≡◌, ◌⊎◌, ◌==◌, ◌<◌, ℕ, Bool, true, false, cond, inl, inr, List, [], ◌∷◌, ◌++◌, length}
+use Rattle.std.proofs.Common.{refl, sym, ap, ◌∙◌, subst, lit<, arith}
 use Rattle.std.proofs.lemmas.Bool.{eqb-true}
 use Rattle.std.proofs.lemmas.Slice.Eq.{bytes_eq-Decides}
 use Rattle.rpki_text.specs.declared.command_line.arguments.Format.{Format}
 use Rattle.rpki_text.specs.declared.command_line.arguments.Format.TheVariants.{Text, Json, JsonLines}
 use Rattle.rpki_text.specs.declared.command_line.arguments.Setting.{Setting}
-use Rattle.rpki_text.specs.declared.command_line.arguments.Setting.TheVariants.{Crl, Tal, In, Depth, StepCount, At, MaxSize, Output, ShortOutput, Only}
-use Rattle.rpki_text.specs.CommandLines.{IsFormatName, LinePart, file, list, locator, folder, depth, steps, at_moment, max_size, output, lenient, json, quiet, all, no_names, trust_first, no_crl, strict_exit, only_rejected, help, setting_name, IsPart}
+use Rattle.rpki_text.specs.declared.command_line.arguments.Setting.TheVariants.{Crl, Tal, In, Depth, StepCount, At}
+use Rattle.rpki_text.specs.declared.command_line.arguments.Setting.TheVariants.{MaxSize, Output, ShortOutput, Only}
+use Rattle.rpki_text.specs.CommandLines.{IsFormatName, LinePart, file, list, locator, folder, depth, steps, at_moment}
+use Rattle.rpki_text.specs.CommandLines.{max_size, output, lenient, json, quiet, all, no_names, trust_first, no_crl}
+use Rattle.rpki_text.specs.CommandLines.{strict_exit, only_rejected, help, setting_name, IsPart}
 use Rattle.rpki_text.specs.WordParts.{BeginsNoPart, IsOption, GivesValue, Joins}
 use Rattle.rpki_text.proofs.JoinedNames.{is_equals}
 use Rattle.rpki_text.proofs.PartsOfWords.{Sort, single, before, joining, Grammar, Shape, IsClear, alone_is, given_is}
@@ -98,7 +102,8 @@ joined ShortOutput value = refl
 joined Only value = refl
 
 -- what stands before its first `=` is its name
-pub front_is : (setting : Setting) (value : List ℕ) → before_first is_equals (setting_name setting ++ codes "=" ++ value) ≡ setting_name setting
+pub front_is : (setting : Setting) (value : List ℕ) →
+    before_first is_equals (setting_name setting ++ codes "=" ++ value) ≡ setting_name setting
 front_is Crl value = refl
 front_is Tal value = refl
 front_is In value = refl
@@ -141,7 +146,40 @@ not_stripped c cs (w ∷ v ∷ ws) not_option =
 file_sort : (word : List ℕ) → (IsOption word → ⊥) → sort_of word ≡ single (file word)
 unfolding sort_of joining_or
 file_sort word not_option =
-    rw (unlike word (codes "--crl") not_option (refl, lit< tt), unlike word (codes "--tal") not_option (refl, lit< tt), unlike word (codes "--in") not_option (refl, lit< tt), unlike word (codes "--depth") not_option (refl, lit< tt), unlike word (codes "--steps") not_option (refl, lit< tt), unlike word (codes "--at") not_option (refl, lit< tt), unlike word (codes "--max-size") not_option (refl, lit< tt), unlike word (codes "--output") not_option (refl, lit< tt), unlike word (codes "-o") not_option (refl, lit< tt), unlike word (codes "--only") not_option (refl, lit< tt), unlike word (codes "--lenient") not_option (refl, lit< tt), unlike word (codes "--json") not_option (refl, lit< tt), unlike word (codes "-j") not_option (refl, lit< tt), unlike word (codes "--quiet") not_option (refl, lit< tt), unlike word (codes "-q") not_option (refl, lit< tt), unlike word (codes "--all") not_option (refl, lit< tt), unlike word (codes "--no-names") not_option (refl, lit< tt), unlike word (codes "--trust-first") not_option (refl, lit< tt), unlike word (codes "--no-crl") not_option (refl, lit< tt), unlike word (codes "--strict-exit") not_option (refl, lit< tt), unlike word (codes "--help") not_option (refl, lit< tt), unlike word (codes "-h") not_option (refl, lit< tt), not_stripped 45 (codes "crl=") word not_option, not_stripped 45 (codes "tal=") word not_option, not_stripped 45 (codes "in=") word not_option, not_stripped 45 (codes "depth=") word not_option, not_stripped 45 (codes "steps=") word not_option, not_stripped 45 (codes "at=") word not_option, not_stripped 45 (codes "max-size=") word not_option, not_stripped 45 (codes "output=") word not_option, not_stripped 111 (codes "=") word not_option, not_stripped 45 (codes "only=") word not_option) refl
+    rw (
+      unlike word (codes "--crl") not_option (refl, lit< tt),
+      unlike word (codes "--tal") not_option (refl, lit< tt),
+      unlike word (codes "--in") not_option (refl, lit< tt),
+      unlike word (codes "--depth") not_option (refl, lit< tt),
+      unlike word (codes "--steps") not_option (refl, lit< tt),
+      unlike word (codes "--at") not_option (refl, lit< tt),
+      unlike word (codes "--max-size") not_option (refl, lit< tt),
+      unlike word (codes "--output") not_option (refl, lit< tt),
+      unlike word (codes "-o") not_option (refl, lit< tt),
+      unlike word (codes "--only") not_option (refl, lit< tt),
+      unlike word (codes "--lenient") not_option (refl, lit< tt),
+      unlike word (codes "--json") not_option (refl, lit< tt),
+      unlike word (codes "-j") not_option (refl, lit< tt),
+      unlike word (codes "--quiet") not_option (refl, lit< tt),
+      unlike word (codes "-q") not_option (refl, lit< tt),
+      unlike word (codes "--all") not_option (refl, lit< tt),
+      unlike word (codes "--no-names") not_option (refl, lit< tt),
+      unlike word (codes "--trust-first") not_option (refl, lit< tt),
+      unlike word (codes "--no-crl") not_option (refl, lit< tt),
+      unlike word (codes "--strict-exit") not_option (refl, lit< tt),
+      unlike word (codes "--help") not_option (refl, lit< tt),
+      unlike word (codes "-h") not_option (refl, lit< tt),
+      not_stripped 45 (codes "crl=") word not_option,
+      not_stripped 45 (codes "tal=") word not_option,
+      not_stripped 45 (codes "in=") word not_option,
+      not_stripped 45 (codes "depth=") word not_option,
+      not_stripped 45 (codes "steps=") word not_option,
+      not_stripped 45 (codes "at=") word not_option,
+      not_stripped 45 (codes "max-size=") word not_option,
+      not_stripped 45 (codes "output=") word not_option,
+      not_stripped 111 (codes "=") word not_option,
+      not_stripped 45 (codes "only=") word not_option,
+    ) refl
 
 -- ---- a part
 
@@ -182,11 +220,14 @@ abbrev pub line_grammar : Grammar LinePart Setting
 line_grammar = record { IsPart = IsPart; name = setting_name; IsSet = IsSetPart; sort_of = sort_of }
 
 -- an option with its value
-line_given : (setting : Setting) (value : List ℕ) (part : LinePart) (words : List (List ℕ)) → IsSetPart setting value part → GivesValue (setting_name setting) value words → Shape line_grammar part words
+line_given : (setting : Setting) (value : List ℕ) (part : LinePart) (words : List (List ℕ)) →
+    IsSetPart setting value part → GivesValue (setting_name setting) value words → Shape line_grammar part words
 line_given = given_is line_grammar named joined
 
 -- an option that names a format, by either of its names
-given_format : (f : Format) (text : List ℕ) (words : List (List ℕ)) → IsFormatName f text → GivesValue (codes "--output") text words ⊎ GivesValue (codes "-o") text words → Shape line_grammar (output f) words
+given_format : (f : Format) (text : List ℕ) (words : List (List ℕ)) → IsFormatName f text →
+    GivesValue (codes "--output") text words ⊎ GivesValue (codes "-o") text words →
+    Shape line_grammar (output f) words
 given_format f text words is (inl h) = line_given Output text (output f) words (f, refl, is) h
 given_format f text words is (inr h) = line_given ShortOutput text (output f) words (f, refl, is) h
 
@@ -217,7 +258,8 @@ shape help words (inl h) = alone_is line_grammar help words (codes "--help") h r
 shape help words (inr h) = alone_is line_grammar help words (codes "-h") h refl
 
 -- an option with its value is a part
-set_is_part : (setting : Setting) (value : List ℕ) (part : LinePart) (words : List (List ℕ)) → IsSetPart setting value part → GivesValue (setting_name setting) value words → IsPart part words
+set_is_part : (setting : Setting) (value : List ℕ) (part : LinePart) (words : List (List ℕ)) →
+    IsSetPart setting value part → GivesValue (setting_name setting) value words → IsPart part words
 set_is_part Crl value part words set gives = subst (λ (p : LinePart). IsPart p words) (sym set) gives
 set_is_part Tal value part words set gives = subst (λ (p : LinePart). IsPart p words) (sym set) gives
 set_is_part In value part words set gives = subst (λ (p : LinePart). IsPart p words) (sym set) gives
@@ -237,8 +279,11 @@ line_clear = record { named = named; joined = joined; one_set = one_set; is_part
 -- ---- words that begin no part
 
 -- a word that is an option and none of those that there are
-module _ (word : List ℕ) (is_option : IsOption word) (unnamed : (setting : Setting) → IsOptionName setting word → ⊥) (unjoined : (setting : Setting) (value : List ℕ) → Joins (setting_name setting) value word → ⊥) (no_switch : (part : LinePart) → IsSwitch part word → ⊥) where
-  not_given : (setting : Setting) (value : List ℕ) (its behind rest : List (List ℕ)) → GivesValue (setting_name setting) value its → (word ∷ []) ++ behind ≡ its ++ rest → ⊥
+module _ (word : List ℕ) (is_option : IsOption word) (unnamed : (setting : Setting) → IsOptionName setting word → ⊥)
+    (unjoined : (setting : Setting) (value : List ℕ) → Joins (setting_name setting) value word → ⊥)
+    (no_switch : (part : LinePart) → IsSwitch part word → ⊥) where
+  not_given : (setting : Setting) (value : List ℕ) (its behind rest : List (List ℕ)) →
+      GivesValue (setting_name setting) value its → (word ∷ []) ++ behind ≡ its ++ rest → ⊥
   not_given setting value its behind rest (inl is) e = unnamed setting cc
   not_given setting value its behind rest (inr is) e = unjoined setting value cc
 

@@ -12,7 +12,8 @@ module _ (p : List ℕ → Bool) (tag : ℕ) where
   passing octets = count_by p (values_in (value_at tag) octets)
 
   -- with one more
-  pub one_counted : (octets content rest : List ℕ) → value_at tag octets ≡ Some (content, rest) → passing octets ≡ cond (p content) 1 0 + passing rest
+  pub one_counted : (octets content rest : List ℕ) → value_at tag octets ≡ Some (content, rest) →
+      passing octets ≡ cond (p content) 1 0 + passing rest
   one_counted octets content rest read =
       ap (count_by p) (one_value (value_at tag) (value_shrinks tag) octets content rest read)
       ∙ sum_by-cons (λ x. cond (p x) 1 0) content (values_in (value_at tag) rest)

@@ -24,12 +24,14 @@ picks xs k (suc n) = get_or xs k 0 ∷ picks xs (suc k) n
 -- a list is its elements
 all_picks : (xs : List ℕ) (n k : ℕ) → length xs ≡ k + n → drop k xs ≡ picks xs k n
 all_picks xs zero k e = ap (λ (n : ℕ). drop n xs) (omega (arith, e)) ∙ drop-length xs
-all_picks xs (suc n) k e = drop-cons xs k 0 (omega (arith, e)) ∙ ap (λ (l : List ℕ). get_or xs k 0 ∷ l) (all_picks xs n (suc k) (omega (arith, e)))
+all_picks xs (suc n) k e = drop-cons xs k 0 (omega (arith, e)) ∙ ap (λ (l : List ℕ). get_or xs k 0 ∷ l)
+    (all_picks xs n (suc k) (omega (arith, e)))
 
 -- digits with the marks between them
 abbrev marked : List ℕ → List ℕ
 marked ds =
-    take 4 ds ++ 45 ∷ take 2 (drop 4 ds) ++ 45 ∷ take 2 (drop 6 ds) ++ 84 ∷ take 2 (drop 8 ds) ++ 58 ∷ take 2 (drop 10 ds) ++ 58 ∷ take 2 (drop 12 ds) ++ 90 ∷ []
+    take 4 ds ++ 45 ∷ take 2 (drop 4 ds) ++ 45 ∷ take 2 (drop 6 ds) ++ 84 ∷ take 2 (drop 8 ds) ++ 58 ∷
+    take 2 (drop 10 ds) ++ 58 ∷ take 2 (drop 12 ds) ++ 90 ∷ []
 
 -- a text with the marks is its digits with the marks
 all_to : (t : Moment) (text : List ℕ) → HasMarks text → all_digits text ≡ fourteen_digits t → text ≡ time_text t

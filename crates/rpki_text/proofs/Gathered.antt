@@ -23,14 +23,17 @@ module _ (f : ExtensionFields) where
 
   module _ (all octets : List ℕ) (facts : List FactFields) (so_far : IsGathered all octets facts) where
     -- with what one more says
-    pub one_gathered : (x : Extension) (rest : List ℕ) → extension_format.read octets ≡ Some (x, rest) → (more : List FactFields) → more ≡ facts ++ facts_in f x → IsGathered all rest more
+    pub one_gathered : (x : Extension) (rest : List ℕ) → extension_format.read octets ≡ Some (x, rest) →
+        (more : List FactFields) → more ≡ facts ++ facts_in f x → IsGathered all rest more
     one_gathered x rest read more is xs are =
         let l = so_far xs are in
         let h = first_is octets x rest read l.0 l.1 in
         let said = facts_in f x in (
           h.0,
           h.2,
-          l.2 ∙ ap (λ (ys : List Extension). facts ++ facts_of f ys) h.1 ∙ sym (append_assoc facts said (facts_of f h.0)) ∙ ap (λ (l : List FactFields). l ++ facts_of f h.0) (sym is),
+          l.2 ∙ ap (λ (ys : List Extension). facts ++ facts_of f ys) h.1 ∙
+              sym (append_assoc facts said (facts_of f h.0)) ∙ ap (λ (l : List FactFields). l ++ facts_of f h.0)
+              (sym is),
         )
 
     -- where no extension is read
@@ -61,7 +64,9 @@ module _ (say : List ℕ → List FactFields) (tag : ℕ) where
   said_in octets = flat_map say (values_in (value_at tag) octets)
 
   -- with what one more says
-  pub one_said : (octets content rest : List ℕ) → value_at tag octets ≡ Some (content, rest) → (old so_far more : List FactFields) (all : List ℕ) → so_far ++ said_in octets ≡ old ++ said_in all → more ≡ so_far ++ say content → more ++ said_in rest ≡ old ++ said_in all
+  pub one_said : (octets content rest : List ℕ) → value_at tag octets ≡ Some (content, rest) →
+      (old so_far more : List FactFields) (all : List ℕ) → so_far ++ said_in octets ≡ old ++ said_in all →
+      more ≡ so_far ++ say content → more ++ said_in rest ≡ old ++ said_in all
   one_said octets content rest read old so_far more all before is =
       ap (λ (l : List FactFields). l ++ said_in rest) is
       ∙ append_assoc so_far (say content) (said_in rest)
@@ -69,7 +74,8 @@ module _ (say : List ℕ → List FactFields) (tag : ℕ) where
       ∙ before
 
   -- at the end
-  pub all_said : (octets : List ℕ) → value_at tag octets ≡ None → (old so_far : List FactFields) (all : List ℕ) → so_far ++ said_in octets ≡ old ++ said_in all → so_far ≡ old ++ said_in all
+  pub all_said : (octets : List ℕ) → value_at tag octets ≡ None → (old so_far : List FactFields) (all : List ℕ) →
+      so_far ++ said_in octets ≡ old ++ said_in all → so_far ≡ old ++ said_in all
   all_said octets none old so_far all before =
       sym (append-nil so_far)
       ∙ ap (λ (l : List (List ℕ)). so_far ++ flat_map say l) (sym (no_values (value_at tag) (value_shrinks tag) octets none))

@@ -12,7 +12,8 @@ by_first d n p whole worth is few =
     ((λ high. omega (arith, at, under, high)), (λ long. omega (arith, at, under, long)))
 
 -- of 20 octets that is told by the first
-pub long_by_first : (octets : List ℕ) → length octets ≡ 20 → AreOctets octets → (128 ≤ get_or octets 0 0) ↔ (2 ^ 159 ≤ number_from_digits 256 octets)
+pub long_by_first : (octets : List ℕ) → length octets ≡ 20 → AreOctets octets →
+    (128 ≤ get_or octets 0 0) ↔ (2 ^ 159 ≤ number_from_digits 256 octets)
 long_by_first [] size fits = absurd (omega (arith, size))
 long_by_first (d ∷ ds) size fits =
     let rest : length ds ≡ 19 = omega (arith, size) in

@@ -4,7 +4,8 @@ use Rattle.std.specs.Str.{bytes_eq}
 use Rattle.std.proofs.Common.{◌≡◌, ℕ, inl, inr, List, ◌∷◌, sym, ap, ◌∙◌, subst}
 use Rattle.rpki_text.specs.declared.command_line.arguments.Task.{Task}
 use Rattle.rpki_text.specs.declared.command_line.arguments.Task.TheVariants.{Show, Validate, Tree, Help, Version}
-use Rattle.rpki_text.specs.CommandLines.{IsPart, IsTaskName, LinePart, AreParts, RequestFields, only_task, with_files, with_part, with_parts, Suits, IsCommandLine}
+use Rattle.rpki_text.specs.CommandLines.{IsPart, IsTaskName, LinePart, AreParts, RequestFields, only_task, with_files}
+use Rattle.rpki_text.specs.CommandLines.{with_part, with_parts, Suits, IsCommandLine}
 use Rattle.rpki_text.specs.declared.command_line.arguments.Misuse.{Misuse}
 use Rattle.rpki_text.specs.Misuses.{IsMisuse, IsReason, IsUnknownTask, IsUnsuited, IsWrongFirst}
 use Rattle.rpki_text.specs.WordParts.{AddsParts, words_before, words_behind, IsFirstWrong}
@@ -50,7 +51,8 @@ module _ (words : List (List ℕ)) (first : List ℕ) (rest : List (List ℕ)) (
   task_told misuse unknown = subst (λ (l : List (List ℕ)). IsMisuse misuse l) (sym words_are) (inl unknown)
 
   -- the first wrong word of those behind it is told
-  pub word_told : (misuse : Misuse) (task : Task) → IsTaskName task first → IsFirstWrong IsPart IsWrongFirst misuse (words_before rest) → IsMisuse misuse words
+  pub word_told : (misuse : Misuse) (task : Task) → IsTaskName task first →
+      IsFirstWrong IsPart IsWrongFirst misuse (words_before rest) → IsMisuse misuse words
   word_told misuse task task_is wrong =
       subst (λ (l : List (List ℕ)). IsMisuse misuse l) (sym words_are) (inr (task, task_is, inl wrong))
 
@@ -58,8 +60,10 @@ module _ (words : List (List ℕ)) (first : List ℕ) (rest : List (List ℕ)) (
   pub no_parts : ((parts : List LinePart) → AreParts parts (words_before rest) → ⊥) → (r : RequestFields) → IsCommandLine r words → ⊥
   no_parts none r h = none h.parts (subst (λ (l : List (List ℕ)). AreParts h.parts (words_before l)) (sym (same_words r h).1) h.parts_are)
 
-  module _ (task : Task) (task_is : IsTaskName task first) (before behind : List (List ℕ)) (before_is : before ≡ words_before rest) (behind_is : behind ≡ words_behind rest)
-      (start mid r : RequestFields) (start_is : start ≡ only_task task) (added : AddsParts IsPart with_part before start mid) (files : r ≡ with_files mid behind) where
+  module _ (task : Task) (task_is : IsTaskName task first) (before behind : List (List ℕ))
+      (before_is : before ≡ words_before rest) (behind_is : behind ≡ words_behind rest)
+      (start mid r : RequestFields) (start_is : start ≡ only_task task)
+      (added : AddsParts IsPart with_part before start mid) (files : r ≡ with_files mid behind) where
     adds : AddsParts IsPart with_part (words_before rest) (only_task task) mid
     adds = rw (start_is, before_is) at added
 
@@ -71,7 +75,8 @@ module _ (words : List (List ℕ)) (first : List ℕ) (rest : List (List ℕ)) (
     only other h =
         let same = same_words other h in
         let tasks = one_task task h.task first h.first same.0 task_is h.task_is in
-        let parts = one_list line_grammar line_clear adds.0 h.parts (words_before rest) adds.1 (subst (λ (l : List (List ℕ)). AreParts h.parts (words_before l)) (sym same.1) h.parts_are) in
+        let parts = one_list line_grammar line_clear adds.0 h.parts (words_before rest) adds.1
+        (subst (λ (l : List (List ℕ)). AreParts h.parts (words_before l)) (sym same.1) h.parts_are) in
         h.asks
         ∙ ap (λ (t : Task). with_files (with_parts (only_task t) h.parts) (words_behind h.rest)) tasks
         ∙ ap (λ (l : List LinePart). with_files (with_parts (only_task task) l) (words_behind h.rest)) parts

@@ -2,7 +2,8 @@
 use Rattle.std.proofs.Common.{◌≡◌, ◌↔◌, Bool, ℕ, List, [], ◌∷◌, ◌++◌, true, false, if◌then◌else◌, refl, sym, ap, subst, inl, inr}
 use Rattle.std.proofs.lemmas.Bool.{false≢true}
 use Rattle.std.proofs.lemmas.List.{append-nil}
-use Rattle.rpki_cert.specs.Certificates.{CertFields, IsCertificate, certificate_content_format, certificate_format, tbs_content_format, version_format}
+use Rattle.rpki_cert.specs.Certificates.{CertFields, IsCertificate, certificate_content_format, certificate_format}
+use Rattle.rpki_cert.specs.Certificates.{tbs_content_format, version_format}
 use Rattle.rpki_der.specs.Encoding.{Begins, Means}
 use Rattle.rpki_der.specs.Extensions.{Extension}
 use Rattle.rpki_der.specs.Tags.{SEQUENCE}
@@ -26,7 +27,8 @@ module _ {X : Type 0} (P : X → Type 0) where
   -- with one more that has it
   pub one_more : (xs ys : List X) (x : X) → P x → AreThose P xs ys → AreThose P (xs ++ x ∷ []) (ys ++ x ∷ [])
   one_more [] ys x has e = inl (has, ([], ap (λ (zs : List X). zs ++ x ∷ []) e, refl))
-  one_more (y ∷ xs) ys x has (inl (first, (rest, e, more))) = inl (first, (rest ++ x ∷ [], ap (λ (zs : List X). zs ++ x ∷ []) e, one_more xs rest x has more))
+  one_more (y ∷ xs) ys x has (inl (first, (rest, e, more))) =
+      inl (first, (rest ++ x ∷ [], ap (λ (zs : List X). zs ++ x ∷ []) e, one_more xs rest x has more))
   one_more (y ∷ xs) ys x has (inr (not, more)) = inr (not, one_more xs ys x has more)
 
   -- with one more that hasn't
@@ -36,9 +38,11 @@ module _ {X : Type 0} (P : X → Type 0) where
   no_more (y ∷ xs) ys x not (inr (other, more)) = inr (other, no_more xs ys x not more)
 
   -- with one more, that is tested
-  pub tested_more : (xs ys zs : List X) (x : X) (is : Bool) → ((is ≡ true) ↔ P x) → AreThose P xs ys → zs ≡ (if is then ys ++ x ∷ [] else ys) → AreThose P (xs ++ x ∷ []) zs
+  pub tested_more : (xs ys zs : List X) (x : X) (is : Bool) → ((is ≡ true) ↔ P x) → AreThose P xs ys →
+      zs ≡ (if is then ys ++ x ∷ [] else ys) → AreThose P (xs ++ x ∷ []) zs
   tested_more xs ys zs x true has are e = subst (λ (l : List X). AreThose P (xs ++ x ∷ []) l) (sym e) (one_more xs ys x (has.0 refl) are)
-  tested_more xs ys zs x false has are e = subst (λ (l : List X). AreThose P (xs ++ x ∷ []) l) (sym e) (no_more xs ys x (λ p. false≢true (has.1 p)) are)
+  tested_more xs ys zs x false has are e = subst (λ (l : List X). AreThose P (xs ++ x ∷ []) l) (sym e)
+      (no_more xs ys x (λ p. false≢true (has.1 p)) are)
 
   -- where none has it
   pub none_of : (xs : List X) → ((x : X) → P x → ⊥) → AreThose P xs []
@@ -48,7 +52,8 @@ module _ {X : Type 0} (P : X → Type 0) where
 -- ---- a certificate and its extensions
 
 -- a value stands before what follows it
-before : (tag : ℕ) (content text more octets : List ℕ) → IsEnc tag content text → octets ≡ text ++ more → Begins (IsEnc tag) octets content more
+before : (tag : ℕ) (content text more octets : List ℕ) → IsEnc tag content text → octets ≡ text ++ more →
+    Begins (IsEnc tag) octets content more
 before tag content text more octets is e = record { text = text; encoded = is; parts = e }
 
 module _ (octets : List ℕ) (c : CertFields) (m : Means IsCertificate c octets) where
@@ -57,7 +62,25 @@ module _ (octets : List ℕ) (c : CertFields) (m : Means IsCertificate c octets)
   unfolding certificate_content_format tbs_content_format version_format algorithm_format validity_format public_key_format
   extensions_stand =
       let (whole, (signed, (inside, fields, data_enc)), enc_is) = m.1.encoded in
-      let (version, _, v, (serial, _, n, (algorithm, _, a, (issuer, _, i, (validity, _, p, (subject, _, s, (key, last, k, tagged, e6), e5), e4), e3), e2), e1), e0) = fields in
+      let (
+        version,
+        _,
+        v,
+        (
+          serial,
+          _,
+          n,
+          (
+            algorithm,
+            _,
+            a,
+            (issuer, _, i, (validity, _, p, (subject, _, s, (key, last, k, tagged, e6), e5), e4), e3),
+            e2,
+          ),
+          e1,
+        ),
+        e0,
+      ) = fields in
       let (within, (elements, (xs, are, gives), sequence), outer) = tagged in
       let parts = signed_parts c.signed_data whole signed in (
         xs,
@@ -68,7 +91,10 @@ module _ (octets : List ℕ) (c : CertFields) (m : Means IsCertificate c octets)
             data_is = inside;
             rest = last;
             begins = (m.0, record { text = m.1.text; encoded = enc_is; parts = m.1.parts });
-            data_begins = (parts.algorithm ++ parts.signature, record { text = c.signed_data.message; encoded = data_enc; parts = parts.is });
+            data_begins = (
+              parts.algorithm ++ parts.signature,
+              record { text = c.signed_data.message; encoded = data_enc; parts = parts.is },
+            );
             fields_before = (
               _,
               _,
@@ -106,11 +132,15 @@ module _ (octets : List ℕ) (c : CertFields) (m : Means IsCertificate c octets)
   only_one d n = one_meant IsCertificate (one_meaning (certificate_format levels) refl certificate_lawful) d c octets n m
 
   -- so a note is told by its fields and its extensions
-  pub told : (n : Note) (is : Bool) → ((xs : List Extension) → HaveExtensions xs octets → ((is ≡ true) ↔ Breaks n octets c.fields xs)) → ((is ≡ true) ↔ IsNoteOf octets n)
+  pub told : (n : Note) (is : Bool) →
+      ((xs : List Extension) → HaveExtensions xs octets → ((is ≡ true) ↔ Breaks n octets c.fields xs)) →
+      ((is ≡ true) ↔ IsNoteOf octets n)
   told n is h =
       let x = extensions_stand in (
         (λ so. record { certificate = c; extensions = x.0; begins = m; extensions_are = x.1; breaks = (h x.0 x.1).0 so }),
-        (λ note. (h note.extensions note.extensions_are).1 (subst (λ (d : CertFields). Breaks n octets d.fields note.extensions) (only_one note.certificate note.begins) note.breaks)),
+        (λ note. (h note.extensions note.extensions_are).1
+            (subst (λ (d : CertFields). Breaks n octets d.fields note.extensions)
+            (only_one note.certificate note.begins) note.breaks)),
       )
 
 -- without a certificate there is no note

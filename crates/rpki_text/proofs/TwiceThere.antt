@@ -26,7 +26,9 @@ AreBefore before set = (id : Bor (List ℕ)) → contains (λ x y. slice_cmp nat
 
 -- without keys
 pub none_before : (set : BTreeSet (Bor (List ℕ))) → set.keys ≡ [] → AreBefore [] set
-none_before set none id = ap (λ (keys : List (Bor (List ℕ))). list_any (is_at (λ (y : Bor (List ℕ)). slice_cmp nat_cmp id.now y.now)) keys) none
+none_before set none id =
+    ap (λ (keys : List (Bor (List ℕ))). list_any (is_at (λ (y : Bor (List ℕ)). slice_cmp nat_cmp id.now y.now))
+    keys) none
 
 -- what a key is told of that is new, or isn't
 pub not_there : (there new : Bool) → new ≡ not there → new ≡ true → there ≡ false
@@ -47,10 +49,13 @@ either : (a b x y : Bool) → a ≡ b → x ≡ y → cond a true x ≡ (b || y)
 either a b x y e f = ap (λ (c : Bool). cond c true x) e ∙ ap (λ (z : Bool). cond b true z) f ∙ either_is b y
 
 pub one_before : (before : List (List ℕ)) (set new : BTreeSet (Bor (List ℕ))) (key : Bor (List ℕ)) → AreBefore before set
-    → ((id : Bor (List ℕ)) → contains (λ x y. slice_cmp nat_cmp x.now y.now) new id ≡ cond (is_eq (slice_cmp nat_cmp key.now id.now)) true (contains (λ x y. slice_cmp nat_cmp x.now y.now) set id))
+    → ((id : Bor (List ℕ)) → contains (λ x y. slice_cmp nat_cmp x.now y.now) new id ≡
+    cond (is_eq (slice_cmp nat_cmp key.now id.now)) true
+    (contains (λ x y. slice_cmp nat_cmp x.now y.now) set id))
     → AreBefore (key.now ∷ before) new
 one_before before set new key are has id =
-    has id ∙ either (is_eq (slice_cmp nat_cmp key.now id.now)) (bytes_eq key.now id.now) _ (is_before before id.now) (is_eq-slice_cmp key.now id.now) (are id)
+    has id ∙ either (is_eq (slice_cmp nat_cmp key.now id.now)) (bytes_eq key.now id.now) _ (is_before before id.now)
+    (is_eq-slice_cmp key.now id.now) (are id)
 
 -- ---- the walk
 
@@ -86,5 +91,6 @@ module _ (before : List (List ℕ)) (all octets : List ℕ) (left : IsLeftAfter 
         let to = λ (again : HaveAgain [] xs).
         let here : HaveAgain before (x ∷ f.0) = subst (λ (ys : List Extension). HaveAgain before ys) f.1 (l.2.0 again) in
         elim here as (λ _. HaveAgain (x.identifier ∷ before) f.0) [ inl there ↦ absurd (not there) | inr more ↦ more ] in
-        let back = λ (again : HaveAgain (x.identifier ∷ before) f.0). l.2.1 (subst (λ (ys : List Extension). HaveAgain before ys) (sym f.1) (inr again)) in
+        let back = λ (again : HaveAgain (x.identifier ∷ before) f.0).
+        l.2.1 (subst (λ (ys : List Extension). HaveAgain before ys) (sym f.1) (inr again)) in
         (f.0, f.2, (to, back))

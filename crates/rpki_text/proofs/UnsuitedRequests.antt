@@ -2,10 +2,14 @@
 use Rattle.std.proofs.Common.{◌≡◌, ◌≢◌, ℕ, true, false, inl, inr, List, [], ◌∷◌, refl, sym, ◌∙◌, subst}
 use Rattle.std.proofs.lemmas.Bool.{false≢true}
 use Rattle.rpki_text.specs.declared.command_line.arguments.Misuse.{Misuse}
-use Rattle.rpki_text.specs.declared.command_line.arguments.Misuse.TheVariants.{Unknown, NoFile, OneFile, ListsIn, NoLocator, NoLocatorIn, BoundsIn, InputIn, NoAnchor, BothAnchors, NoLists, BothLists}
+use Rattle.rpki_text.specs.declared.command_line.arguments.Misuse.TheVariants.{Unknown, NoFile, OneFile, ListsIn}
+use Rattle.rpki_text.specs.declared.command_line.arguments.Misuse.TheVariants.{NoLocator, NoLocatorIn, BoundsIn}
+use Rattle.rpki_text.specs.declared.command_line.arguments.Misuse.TheVariants.{InputIn, NoAnchor, BothAnchors}
+use Rattle.rpki_text.specs.declared.command_line.arguments.Misuse.TheVariants.{NoLists, BothLists}
 use Rattle.rpki_text.specs.declared.command_line.arguments.Task.{Task}
 use Rattle.rpki_text.specs.declared.command_line.arguments.Task.TheVariants.{Show, Validate, Tree, Help, Version}
-use Rattle.rpki_text.specs.CommandLines.{RequestFields, AsksNoBounds, AsksNoTree, AsksSearch, GivesLists, LeavesNothingOut, SaysAnchor, SaysLists, Suits, SuitsFolders}
+use Rattle.rpki_text.specs.CommandLines.{RequestFields, AsksNoBounds, AsksNoTree, AsksSearch, GivesLists}
+use Rattle.rpki_text.specs.CommandLines.{LeavesNothingOut, SaysAnchor, SaysLists, Suits, SuitsFolders}
 use Rattle.rpki_text.specs.Misuses.{IsExtra, IsLeftOutBy, IsOfTree, IsReason, SeeksPath}
 
 -- the task wants files

@@ -8,12 +8,15 @@ use Rattle.rpki_der.proofs.Octets.{nothing, some_is}
 use Rattle.rpki_text.specs.Notes.{HaveOne}
 
 -- where no extension is read, there is none
-pub none_there : (octets : List ℕ) → extension_format.read octets ≡ None → (xs : List Extension) → AreEncodings IsExtension xs octets → xs ≡ []
+pub none_there : (octets : List ℕ) → extension_format.read octets ≡ None → (xs : List Extension) →
+    AreEncodings IsExtension xs octets → xs ≡ []
 none_there octets none [] h = refl
-none_there octets none (x ∷ xs) (a, b, is, more, e) = nothing (x, b) (sym none ∙ ap extension_format.read e ∙ extension_reads.again x a b is)
+none_there octets none (x ∷ xs) (a, b, is, more, e) =
+    nothing (x, b) (sym none ∙ ap extension_format.read e ∙ extension_reads.again x a b is)
 
 -- what is read is the first of the extensions
-pub first_is : (octets : List ℕ) (x : Extension) (rest : List ℕ) → extension_format.read octets ≡ Some (x, rest) → (xs : List Extension) → AreEncodings IsExtension xs octets
+pub first_is : (octets : List ℕ) (x : Extension) (rest : List ℕ) → extension_format.read octets ≡ Some (x, rest) →
+    (xs : List Extension) → AreEncodings IsExtension xs octets
     → (more : List Extension) × (xs ≡ x ∷ more) × AreEncodings IsExtension more rest
 first_is octets x rest read [] h = absurd (omega (arith, extension_shrinks octets x rest read, ap length h))
 first_is octets x rest read (y ∷ ys) (a, b, is, more, e) =
@@ -47,7 +50,8 @@ module _ (ids : List (List ℕ)) (P : Extension → Type 0) where
           l.2.1 (subst (λ (ys : List Extension). HaveOne ids P ys) (sym f.1) (inl (named, has)))
 
   -- the first hasn't it
-  pub goes_on : (all octets : List ℕ) (left : IsLookedFor all octets) (x : Extension) (rest : List ℕ) (read : extension_format.read octets ≡ Some (x, rest))
+  pub goes_on : (all octets : List ℕ) (left : IsLookedFor all octets) (x : Extension) (rest : List ℕ)
+      (read : extension_format.read octets ≡ Some (x, rest))
       → ((is_of ids x ≡ true) × P x → ⊥) → IsLookedFor all rest
   goes_on all octets left x rest read not xs are =
       let l = left xs are in

@@ -2,7 +2,8 @@
 use Rattle.std.specs.List.{concat}
 use Rattle.std.specs.Prelude.{Result, Ok, Err, IfOk, IsOk, OnOk}
 use Rattle.std.specs.declared.alloc.AllocError.{AllocError}
-use Rattle.std.proofs.Common.{◌≡◌, ◌<◌, ◌^◌, ◌++◌, ℕ, List, [], length, Option, Some, None, true, refl, sym, ap, subst, ◌∙◌, inl, inr, arith}
+use Rattle.std.proofs.Common.{◌≡◌, ◌<◌, ◌^◌, ◌++◌, ℕ, List, [], length, Option, Some, None, true, refl, sym, ap}
+use Rattle.std.proofs.Common.{subst, ◌∙◌, inl, inr, arith}
 use Rattle.std.proofs.lemmas.Bool.{false≢true}
 use Rattle.std.proofs.lemmas.List.{append-nil}
 use Rattle.rpki_der.specs.Encoding.{Begins}
@@ -33,20 +34,27 @@ not_nothing x is = absurd (omega (arith, extension_shrinks [] x [] (extension_re
 module _ (octets : List ℕ) where
   -- of no octets it is none
   pub nothing_kept : (content : List ℕ) → content ≡ octets → octets ≡ [] → IsContentOf octets content
-  nothing_kept content same empty = record { none = λ e. same ∙ e; is = λ x is. absurd (not_nothing x (subst (λ (b : List ℕ). IsExtension x b) empty is)) }
+  nothing_kept content same empty =
+      record {
+        none = λ e. same ∙ e;
+        is =
+            λ x is. absurd (not_nothing x (subst (λ (b : List ℕ). IsExtension x b) empty is));
+      }
 
   -- it is the one that is read
   pub content_read : (y : Extension) (rest : List ℕ) → extension_format.read octets ≡ Some (y, rest) → IsContentOf octets y.content
   content_read y rest read =
       let not_empty : octets ≡ [] → ⊥ = λ empty. omega (arith, extension_shrinks octets y rest read, ap length empty) in
       let same = λ (x : Extension) (is : IsExtension x octets).
-      let again : extension_format.read octets ≡ Some (x, []) = ap extension_format.read (sym (append-nil octets)) ∙ extension_reads.again x octets [] is in
+      let again : extension_format.read octets ≡ Some (x, []) = ap extension_format.read (sym (append-nil octets)) ∙
+      extension_reads.again x octets [] is in
       let one : (y, rest) ≡ (x, []) = some_is {A = Extension × List ℕ} (y, rest) (x, []) (sym read ∙ again) in
       ap (λ (p : Extension × List ℕ). p.0.content) one in
       record { none = λ e. absurd (not_empty e); is = same }
 
   -- it is not refused
-  pub not_refused : (octets ≡ [] → ⊥) → IsExtensionOrNone octets → ((x : Extension) (rest : List ℕ) → Begins IsExtension octets x rest → ⊥) → ⊥
+  pub not_refused : (octets ≡ [] → ⊥) → IsExtensionOrNone octets →
+      ((x : Extension) (rest : List ℕ) → Begins IsExtension octets x rest → ⊥) → ⊥
   not_refused some are refused = elim are [
     | inl empty ↦ some empty
     | inr x ↦ refused x.0 [] (record { text = octets; encoded = x.1; parts = sym (append-nil octets) })
@@ -56,26 +64,35 @@ module _ (octets : List ℕ) where
 
 module _ (id : List ℕ) (oid : IsOid id) where
   -- it is read
-  is_written : (content : List ℕ) → length (content_of_some id true (Some content)) < 2 ^ 32 → AreOctets (extension id true content) → IsExtension (record { identifier = id; critical = true; content = content }) (extension id true content)
-  is_written content short octets = extension_encoded (record { identifier = id; critical = true; content = content }) oid (short, extension_inside_octets id true content octets)
+  is_written : (content : List ℕ) → length (content_of_some id true (Some content)) < 2 ^ 32 →
+      AreOctets (extension id true content) →
+      IsExtension (record { identifier = id; critical = true; content = content }) (extension id true content)
+  is_written content short octets = extension_encoded (record { identifier = id; critical = true; content = content })
+      oid (short, extension_inside_octets id true content octets)
 
-  module _ (c : Option (List ℕ)) (short : length (content_of_some id true c) < 2 ^ 32) (octets : AreOctets (extension_of_some id true c)) where
+  module _ (c : Option (List ℕ)) (short : length (content_of_some id true c) < 2 ^ 32)
+      (octets : AreOctets (extension_of_some id true c)) where
     -- an extension was written, or none
     pub written_or_none : IsExtensionOrNone (extension_of_some id true c)
-    written_or_none = elim c as (λ c. length (content_of_some id true c) < 2 ^ 32 → AreOctets (extension_of_some id true c) → IsExtensionOrNone (extension_of_some id true c)) [
-      | None ↦ λ s o. inl refl
-      | Some content ↦ λ s o. inr (record { identifier = id; critical = true; content = content }, is_written content s o)
-    ] short octets
+    written_or_none = elim c as (λ c. length (content_of_some id true c) < 2 ^ 32 →
+        AreOctets (extension_of_some id true c) → IsExtensionOrNone (extension_of_some id true c)) [
+          | None ↦ λ s o. inl refl
+          | Some content ↦ λ s o. inr (record { identifier = id; critical = true; content = content }, is_written content s o)
+        ] short octets
 
     -- and its content is found
     pub content_found : (found : List ℕ) → IsContentOf (extension_of_some id true c) found → found ≡ text_of c
-    content_found found = elim c as (λ c. length (content_of_some id true c) < 2 ^ 32 → AreOctets (extension_of_some id true c) → IsContentOf (extension_of_some id true c) found → found ≡ text_of c) [
-      | None ↦ λ s o h. h.none refl
-      | Some content ↦ λ s o h. h.is (record { identifier = id; critical = true; content = content }) (is_written content s o)
-    ] short octets
+    content_found found = elim c as (λ c. length (content_of_some id true c) < 2 ^ 32 →
+        AreOctets (extension_of_some id true c) → IsContentOf (extension_of_some id true c) found →
+        found ≡ text_of c) [
+          | None ↦ λ s o h. h.none refl
+          | Some content ↦ λ s o h. h.is (record { identifier = id; critical = true; content = content }) (is_written content s o)
+        ] short octets
 
 -- what is kept of what was written is that extension
-pub kept_is : (id : List ℕ) → IsOid id → (c : Option (List ℕ)) (old written : List ℕ) (answer : Result (Unit {0}) EncodeError) (kept : Result (List ℕ) AllocError) → old ≡ [] → Writes (critical id c) old answer written
+pub kept_is : (id : List ℕ) → IsOid id →
+    (c : Option (List ℕ)) (old written : List ℕ) (answer : Result (Unit {0}) EncodeError)
+    (kept : Result (List ℕ) AllocError) → old ≡ [] → Writes (critical id c) old answer written
     → OnOk kept (IsOk answer) → IfOk kept (λ octets. octets ≡ written) → IfOk kept AreOctets → IfOk kept (IsExtensionOf (text_of c))
 kept_is id oid c old written answer (Err e) empty writes well same octets = tt
 kept_is id oid c old written (Err e) (Ok kept) empty writes well same octets = absurd (false≢true well)

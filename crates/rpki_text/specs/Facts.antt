@@ -6,7 +6,8 @@ use Rattle.std.specs.Prelude.{◌≡◌, ℕ, Bool, false, List, [], ◌∷◌, 
 use Rattle.rpki_ext.specs.CertificateExtensions.{ExtensionFields}
 use Rattle.rpki_cert.specs.Certificates.{CertFields, IsCertificate}
 use Rattle.rpki_der.specs.Encoding.{Means}
-use Rattle.rpki_ext.specs.ExtensionKinds.{authority_information_access, certificate_policies, crl_distribution_points, known, subject_information_access}
+use Rattle.rpki_ext.specs.ExtensionKinds.{authority_information_access, certificate_policies, crl_distribution_points}
+use Rattle.rpki_ext.specs.ExtensionKinds.{known, subject_information_access}
 use Rattle.rpki_der.specs.Extensions.{Extension}
 use Rattle.rpki_der.specs.Identifiers.{pkix}
 use Rattle.rpki_ext.specs.Kinds.{is_of}

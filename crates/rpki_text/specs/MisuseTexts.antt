@@ -3,9 +3,14 @@ use Rattle.std.specs.Prelude.{ℕ, List, ◌++◌, codes}
 use Rattle.rpki_text.specs.Pages.{characters_text}
 use Rattle.rpki_text.specs.CommandLines.{setting_name}
 use Rattle.rpki_text.specs.declared.command_line.arguments.Misuse.{Misuse}
-use Rattle.rpki_text.specs.declared.command_line.arguments.Misuse.TheVariants.{NoTask, UnknownTask, Unknown, NoValue, WrongValue, NoFile, OneFile, ListsIn, NoLocator, NoLocatorIn, BoundsIn, InputIn, NoAnchor, BothAnchors, NoLists, BothLists, Memory}
+use Rattle.rpki_text.specs.declared.command_line.arguments.Misuse.TheVariants.{NoTask, UnknownTask, Unknown, NoValue}
+use Rattle.rpki_text.specs.declared.command_line.arguments.Misuse.TheVariants.{WrongValue, NoFile, OneFile, ListsIn}
+use Rattle.rpki_text.specs.declared.command_line.arguments.Misuse.TheVariants.{NoLocator, NoLocatorIn, BoundsIn}
+use Rattle.rpki_text.specs.declared.command_line.arguments.Misuse.TheVariants.{InputIn, NoAnchor, BothAnchors}
+use Rattle.rpki_text.specs.declared.command_line.arguments.Misuse.TheVariants.{NoLists, BothLists, Memory}
 use Rattle.rpki_text.specs.declared.command_line.arguments.Setting.{Setting}
-use Rattle.rpki_text.specs.declared.command_line.arguments.Setting.TheVariants.{Crl, Tal, In, Depth, StepCount, At, MaxSize, Output, ShortOutput, Only}
+use Rattle.rpki_text.specs.declared.command_line.arguments.Setting.TheVariants.{Crl, Tal, In, Depth, StepCount, At}
+use Rattle.rpki_text.specs.declared.command_line.arguments.Setting.TheVariants.{MaxSize, Output, ShortOutput, Only}
 
 -- what names a command
 abbrev pub commands : List ℕ

@@ -2,11 +2,16 @@
 -- word that is wrong, or of what they ask (own).
 use Rattle.std.specs.Prelude.{◌≡◌, ◌≢◌, ◌⊎◌, ℕ, List, [], ◌∷◌, ◌++◌, length, None, true, false, codes}
 use Rattle.rpki_text.specs.declared.command_line.arguments.Misuse.{Misuse}
-use Rattle.rpki_text.specs.declared.command_line.arguments.Misuse.TheVariants.{NoTask, UnknownTask, Unknown, NoValue, WrongValue, NoFile, OneFile, ListsIn, NoLocator, NoLocatorIn, BoundsIn, InputIn, NoAnchor, BothAnchors, NoLists, BothLists}
+use Rattle.rpki_text.specs.declared.command_line.arguments.Misuse.TheVariants.{NoTask, UnknownTask, Unknown, NoValue}
+use Rattle.rpki_text.specs.declared.command_line.arguments.Misuse.TheVariants.{WrongValue, NoFile, OneFile, ListsIn}
+use Rattle.rpki_text.specs.declared.command_line.arguments.Misuse.TheVariants.{NoLocator, NoLocatorIn, BoundsIn}
+use Rattle.rpki_text.specs.declared.command_line.arguments.Misuse.TheVariants.{InputIn, NoAnchor, BothAnchors}
+use Rattle.rpki_text.specs.declared.command_line.arguments.Misuse.TheVariants.{NoLists, BothLists}
 use Rattle.rpki_text.specs.declared.command_line.arguments.Setting.{Setting}
 use Rattle.rpki_text.specs.declared.command_line.arguments.Task.{Task}
 use Rattle.rpki_text.specs.declared.command_line.arguments.Task.TheVariants.{Show, Validate, Tree, Help, Version}
-use Rattle.rpki_text.specs.CommandLines.{IsPart, IsTaskName, LinePart, AreParts, RequestFields, only_task, setting_name, with_files, with_parts, AsksNoBounds, GivesLists, ReadsInput}
+use Rattle.rpki_text.specs.CommandLines.{IsPart, IsTaskName, LinePart, AreParts, RequestFields, only_task}
+use Rattle.rpki_text.specs.CommandLines.{setting_name, with_files, with_parts, AsksNoBounds, GivesLists, ReadsInput}
 use Rattle.rpki_text.specs.WordParts.{IsFirstWrong, IsOption, GivesValue, Joins, words_before, words_behind}
 pub mod Steps
 

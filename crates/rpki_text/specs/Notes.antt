@@ -1,6 +1,8 @@
 -- What is taken of a certificate although a standard forbids it.
 use Rattle.std.specs.List.{count_by, list_any}
-use Rattle.std.specs.Prelude.{◌≡◌, ◌≢◌, ◌≤◌, ◌<◌, ◌^◌, ◌⊎◌, ◌&&◌, ◌||◌, nat_eq, nat_le, ℕ, Bool, List, [], ◌∷◌, take, codes, not, true, false, Option, Some, None, IsNone, IsSome, bytes_eq, option_map, if◌then◌else◌}
+use Rattle.std.specs.Prelude.{◌≡◌, ◌≢◌, ◌≤◌, ◌<◌, ◌^◌, ◌⊎◌, ◌&&◌, ◌||◌, nat_eq, nat_le, ℕ, Bool, List, [], ◌∷◌, take}
+use Rattle.std.specs.Prelude.{codes, not, true, false, Option, Some, None, IsNone, IsSome, bytes_eq, option_map}
+use Rattle.std.specs.Prelude.{if◌then◌else◌}
 use Rattle.std.specs.Str.{str_eq_ignore_ascii_case}
 use Rattle.rpki_blocks.specs.Addresses.{ip_addr_blocks}
 use Rattle.rpki_ext.specs.CertificateExtensions.{ExtensionFields}
@@ -16,7 +18,8 @@ use Rattle.rpki_parts.specs.Validities.{ValidityFields}
 use Rattle.rpki_der.specs.Sequences.{AreEncodings}
 use Rattle.rpki_blocks.specs.Systems.{written_as}
 use Rattle.rpki_blocks.specs.Unions.{text_of}
-use Rattle.rpki_der.specs.Tags.{BOOLEAN, CONTEXT, CONTEXT_CONSTRUCTED, GENERALIZED_TIME, INTEGER, OBJECT_IDENTIFIER, PRINTABLE_STRING, SEQUENCE, SET, UTC_TIME}
+use Rattle.rpki_der.specs.Tags.{BOOLEAN, CONTEXT, CONTEXT_CONSTRUCTED, GENERALIZED_TIME, INTEGER, OBJECT_IDENTIFIER}
+use Rattle.rpki_der.specs.Tags.{PRINTABLE_STRING, SEQUENCE, SET, UTC_TIME}
 use Rattle.rpki_der.specs.Times.{Moment}
 use Rattle.rpki_der.specs.Values.{IsValue}
 use Rattle.rpki_der.specs.Values.Reading.{◌>>=◌, value_at}

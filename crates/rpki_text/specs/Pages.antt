@@ -2,7 +2,8 @@
 use Rattle.std.specs.Fmt.{decimal}
 use Rattle.std.specs.List.{AllByRecursion, flat_map}
 use Rattle.std.specs.Option.{option_map}
-use Rattle.std.specs.Prelude.{◌≡◌, ℕ, ◌-◌, ◌==◌, ◌&&◌, ◌||◌, Bool, not, IsTrue, if◌then◌else◌, List, [], ◌∷◌, ◌++◌, length, replicate, codes, Option, None, ◌⊎◌}
+use Rattle.std.specs.Prelude.{◌≡◌, ℕ, ◌-◌, ◌==◌, ◌&&◌, ◌||◌, Bool, not, IsTrue, if◌then◌else◌, List, [], ◌∷◌, ◌++◌}
+use Rattle.std.specs.Prelude.{length, replicate, codes, Option, None, ◌⊎◌}
 use Rattle.rpki_parts.specs.NameTexts.{is_visible}
 use Rattle.rpki_der.specs.Texts.{hexadecimal}
 

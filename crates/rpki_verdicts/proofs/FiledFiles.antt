@@ -12,13 +12,15 @@ use Rattle.rpki_verdicts.specs.Trees.{AreCertificatesOf, IsFolderOf}
 use Rattle.rpki_verdicts.proofs.ReadLists.{lists_same, lists_more}
 
 -- a further file that begins with no certificate
-certs_same : (files certs : List FileFields) → AreCertificatesOf files certs → (file : FileFields) → (BeginsWithCertificate file.octets → ⊥) → AreCertificatesOf (files ++ file ∷ []) certs
+certs_same : (files certs : List FileFields) → AreCertificatesOf files certs → (file : FileFields) →
+    (BeginsWithCertificate file.octets → ⊥) → AreCertificatesOf (files ++ file ∷ []) certs
 certs_same [] certs h file none = inl (none, h)
 certs_same (f ∷ fs) certs (inl h) file none = inl (h.0, certs_same fs certs h.1 file none)
 certs_same (f ∷ fs) certs (inr h) file none = inr (h.0, h.1, certs_same fs h.0 h.2 file none, h.3)
 
 -- a further file that begins with one
-certs_more : (files certs : List FileFields) → AreCertificatesOf files certs → (file : FileFields) → BeginsWithCertificate file.octets → AreCertificatesOf (files ++ file ∷ []) (certs ++ file ∷ [])
+certs_more : (files certs : List FileFields) → AreCertificatesOf files certs → (file : FileFields) →
+    BeginsWithCertificate file.octets → AreCertificatesOf (files ++ file ∷ []) (certs ++ file ∷ [])
 certs_more [] certs h file begins = inr ([], begins, refl, ap (λ (l : List FileFields). l ++ file ∷ []) h)
 certs_more (f ∷ fs) certs (inl h) file begins = inl (h.0, certs_more fs certs h.1 file begins)
 certs_more (f ∷ fs) certs (inr h) file begins =
@@ -30,10 +32,12 @@ contents_more files file = map-append (λ (f : FileFields). f.octets) files (fil
 
 module _ (files certs : List FileFields) (folder : FolderFields) (is : IsFolderOf files certs folder) (file : FileFields) where
   same_lists : (IsList file.octets → ⊥) → AreListsOf (contents (files ++ file ∷ [])) folder.lists
-  same_lists none = subst (λ (l : List (List ℕ)). AreListsOf l folder.lists) (sym (contents_more files file)) (lists_same (contents files) folder.lists is.lists_are file.octets none)
+  same_lists none = subst (λ (l : List (List ℕ)). AreListsOf l folder.lists) (sym (contents_more files file))
+      (lists_same (contents files) folder.lists is.lists_are file.octets none)
 
   -- with a file that begins with a certificate
-  pub filed_certificate : BeginsWithCertificate file.octets → (IsList file.octets → ⊥) → IsFolderOf (files ++ file ∷ []) (certs ++ file ∷ []) (with_cert folder file.octets)
+  pub filed_certificate : BeginsWithCertificate file.octets → (IsList file.octets → ⊥) →
+      IsFolderOf (files ++ file ∷ []) (certs ++ file ∷ []) (with_cert folder file.octets)
   filed_certificate begins none = record {
     certs_are = certs_more files certs is.certs_are file begins;
     octets_are = ap (λ (l : List (List ℕ)). l ++ file.octets ∷ []) is.octets_are ∙ sym (contents_more certs file);
@@ -41,11 +45,14 @@ module _ (files certs : List FileFields) (folder : FolderFields) (is : IsFolderO
   }
 
   -- with one that is a list
-  pub filed_list : (BeginsWithCertificate file.octets → ⊥) → (l : CrlState) → IsCertificateList l.list file.octets → l.is_cached ≡ true → IsFolderOf (files ++ file ∷ []) certs (with_list folder l)
+  pub filed_list : (BeginsWithCertificate file.octets → ⊥) → (l : CrlState) → IsCertificateList l.list file.octets →
+      l.is_cached ≡ true → IsFolderOf (files ++ file ∷ []) certs (with_list folder l)
   filed_list none l begins cached = record {
     certs_are = certs_same files certs is.certs_are file none;
     octets_are = is.octets_are;
-    lists_are = subst (λ (all : List (List ℕ)). AreListsOf all (folder.lists ++ l ∷ [])) (sym (contents_more files file)) (lists_more (contents files) folder.lists is.lists_are file.octets l begins cached);
+    lists_are = subst (λ (all : List (List ℕ)). AreListsOf all (folder.lists ++ l ∷ []))
+        (sym (contents_more files file))
+        (lists_more (contents files) folder.lists is.lists_are file.octets l begins cached);
   }
 
   -- with one that is neither
@@ -67,9 +74,12 @@ one_ok : {T E A C : Type 0} (r : Result T E) → OnOk r A → (A → C) → OnOk
 one_ok (Ok x) a f = f a
 one_ok (Err e) a f = tt
 
-module _ (files certs : List FileFields) (folder : FolderFields) (is : IsFolderOf files certs folder) (file : FileFields) (later : FolderFields) {T E : Type 0} (r : Result T E) where
+module _ (files certs : List FileFields) (folder : FolderFields) (is : IsFolderOf files certs folder)
+    (file : FileFields) (later : FolderFields) {T E : Type 0} (r : Result T E) where
   -- that begins with a certificate
-  pub added_certificate : (more : List FileFields) → OnOk r (more ≡ certs ++ file ∷ []) → OnOk r (later ≡ with_cert folder file.octets) → BeginsWithCertificate file.octets → (IsList file.octets → ⊥) → OnOk r (IsFolderOf (files ++ file ∷ []) more later)
+  pub added_certificate : (more : List FileFields) → OnOk r (more ≡ certs ++ file ∷ []) →
+      OnOk r (later ≡ with_cert folder file.octets) → BeginsWithCertificate file.octets → (IsList file.octets → ⊥) →
+      OnOk r (IsFolderOf (files ++ file ∷ []) more later)
   added_certificate more mores laters begins none =
       both_ok r mores laters (λ same folders.
       subst (λ (f : FolderFields). IsFolderOf (files ++ file ∷ []) more f) (sym folders)
@@ -77,13 +87,19 @@ module _ (files certs : List FileFields) (folder : FolderFields) (is : IsFolderO
       (filed_certificate files certs folder is file begins none)))
 
   -- that is a list
-  pub added_list : (BeginsWithCertificate file.octets → ⊥) → OnOk r ((kept : CrlState) × IsCertificateList kept.list file.octets × (kept.is_cached ≡ true) × (later ≡ with_list folder kept)) → OnOk r (IsFolderOf (files ++ file ∷ []) certs later)
+  pub added_list : (BeginsWithCertificate file.octets → ⊥) →
+      OnOk r ((kept : CrlState) × IsCertificateList kept.list file.octets × (kept.is_cached ≡ true) ×
+      (later ≡ with_list folder kept)) → OnOk r (IsFolderOf (files ++ file ∷ []) certs later)
   added_list none keeps =
       one_ok r keeps (λ k.
       subst (λ (f : FolderFields). IsFolderOf (files ++ file ∷ []) certs f) (sym k.3)
       (filed_list files certs folder is file none k.0 k.1 k.2))
 
 -- what is kept of the list that octets are, from what is kept of the list
-pub kept_of_octets : {T E : Type 0} (r : Result T E) (octets : List ℕ) (list : CrlFields) → IsCertificateList list octets → (folder later : FolderFields) → OnOk r ((kept : CrlState) × (kept.list ≡ list) × (kept.is_cached ≡ true) × (later ≡ with_list folder kept)) → OnOk r ((kept : CrlState) × IsCertificateList kept.list octets × (kept.is_cached ≡ true) × (later ≡ with_list folder kept))
+pub kept_of_octets : {T E : Type 0} (r : Result T E) (octets : List ℕ) (list : CrlFields) →
+    IsCertificateList list octets → (folder later : FolderFields) →
+    OnOk r ((kept : CrlState) × (kept.list ≡ list) × (kept.is_cached ≡ true) × (later ≡ with_list folder kept)) →
+    OnOk r ((kept : CrlState) × IsCertificateList kept.list octets × (kept.is_cached ≡ true) ×
+    (later ≡ with_list folder kept))
 kept_of_octets r octets list begins folder later keeps =
     one_ok r keeps (λ k. (k.0, subst (λ (l : CrlFields). IsCertificateList l octets) (sym k.1) begins, k.2, k.3))

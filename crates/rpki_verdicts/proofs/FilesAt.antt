@@ -7,12 +7,15 @@ use Rattle.rpki_folder.specs.Folders.{octets_at}
 use Rattle.rpki_files.specs.Files.{FileFields, contents}
 
 -- by the reference there
-pub mapped_at : {R : Type 0} (now : R → FileFields) (xs : List R) (k : ℕ) (x : R) → slice_get xs k ≡ Some x → slice_get (map now xs) k ≡ Some (now x)
+pub mapped_at : {R : Type 0} (now : R → FileFields) (xs : List R) (k : ℕ) (x : R) → slice_get xs k ≡ Some x →
+    slice_get (map now xs) k ≡ Some (now x)
 mapped_at now xs k x is = slice_get-map now xs k ∙ ap (option_map now) is
 
 -- its octets
-pub octets_there : (certs : List FileFields) (place : ℕ) (file : FileFields) → slice_get certs place ≡ Some file → octets_at (contents certs) place ≡ file.octets
-octets_there certs place file is = get_or_from_slice_get (contents certs) place file.octets [] (slice_get-map (λ (f : FileFields). f.octets) certs place ∙ ap (option_map (λ (f : FileFields). f.octets)) is)
+pub octets_there : (certs : List FileFields) (place : ℕ) (file : FileFields) → slice_get certs place ≡ Some file →
+    octets_at (contents certs) place ≡ file.octets
+octets_there certs place file is = get_or_from_slice_get (contents certs) place file.octets []
+    (slice_get-map (λ (f : FileFields). f.octets) certs place ∙ ap (option_map (λ (f : FileFields). f.octets)) is)
 
 -- there is one, where there is a place
 pub file_there : (certs : List FileFields) (place : ℕ) → place < length certs → (file : FileFields) × (slice_get certs place ≡ Some file)

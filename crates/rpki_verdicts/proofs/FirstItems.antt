@@ -14,7 +14,8 @@ pub imaged : {X Y : Type 0} (f : X → Y) (o : Option X) (y : Y) → option_map 
 imaged f None y e = absurd cc
 imaged f (Some x) y e = (x, refl, cc)
 
-module _ {X Y : Type 0} (P : X → Type 0) (Q : Y → Type 0) (f : X → Y) (xs : List X) (same : (k : ℕ) (x : X) → slice_get xs k ≡ Some x → P x ↔ Q (f x)) where
+module _ {X Y : Type 0} (P : X → Type 0) (Q : Y → Type 0) (f : X → Y) (xs : List X) (same : (k : ℕ) (x : X) →
+    slice_get xs k ≡ Some x → P x ↔ Q (f x)) where
   image : (k : ℕ) (y : Y) → slice_get (map f xs) k ≡ Some y → (x : X) × (slice_get xs k ≡ Some x) × (f x ≡ y)
   image k y is = imaged f (slice_get xs k) y (sym (slice_get-map f xs k) ∙ is)
 

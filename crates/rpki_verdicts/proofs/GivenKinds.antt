@@ -28,12 +28,20 @@ unless_not Memory h not_memory = absurd (not_memory refl)
 -- ---- the kind of the last
 
 -- there is a last one below the trust anchor's
-pub of_last : (first end : FileFields) (rest : List FileFields) (kind : Kind) → IsJudgedAs kind end.octets → IsKindOfLast (contents (first ∷ (rest ++ end ∷ []))) kind
+pub of_last : (first end : FileFields) (rest : List FileFields) (kind : Kind) → IsJudgedAs kind end.octets →
+    IsKindOfLast (contents (first ∷ (rest ++ end ∷ []))) kind
 of_last first end rest kind h = record {
-  alone = λ short. absurd (omega (arith, short, length-map (first ∷ (rest ++ end ∷ [])) (λ (file : FileFields). file.octets), length-append rest (end ∷ [])));
+  alone = λ short. absurd
+      (omega (
+        arith,
+        short,
+        length-map (first ∷ (rest ++ end ∷ [])) (λ (file : FileFields). file.octets),
+        length-append rest (end ∷ []),
+      ));
   judged = λ anchor cas octets is.
       let below : contents (rest ++ end ∷ []) ≡ cas ++ octets ∷ [] = cc is in
-      let parts = same_from_push (contents rest) cas end.octets octets (sym (map-append (λ (file : FileFields). file.octets) rest (end ∷ [])) ∙ below) in
+      let parts = same_from_push (contents rest) cas end.octets octets
+      (sym (map-append (λ (file : FileFields). file.octets) rest (end ∷ [])) ∙ below) in
       subst (λ (o : List ℕ). IsJudgedAs kind o) parts.1 h;
 }
 
@@ -77,7 +85,8 @@ no_files (anchor ∷ file ∷ files) kind k not =
     absurd (not (long_enough kind (length (anchor ∷ file ∷ files)) h.1 (omega arith) judged))
 
 -- the strings, split as the kind of the last one says, are the path that the files are
-pub given_by : (files : List (List ℕ)) (kind : Kind) (g : PathStrings) → IsKindOfLast files kind → IsSplitAs files kind g → IsGivenBy files g
+pub given_by : (files : List (List ℕ)) (kind : Kind) (g : PathStrings) → IsKindOfLast files kind →
+    IsSplitAs files kind g → IsGivenBy files g
 given_by files kind g k (inl h) = inl h
 given_by files kind g k (inr h) = inr (record { kind = kind; split = h; kind_is = k.judged h.anchor h.cas h.octets h.strings_are })
 
@@ -89,15 +98,18 @@ anchor_of_path anchor cas EndEntity octets = refl
 anchor_of_path anchor cas Detached octets = refl
 anchor_of_path anchor cas Router octets = refl
 
-pub begins_at : (files : List (List ℕ)) (kind : Kind) (g : PathStrings) → IsSplitAs files kind g → (more : List (List ℕ)) × (files ≡ g.anchor ∷ more)
+pub begins_at : (files : List (List ℕ)) (kind : Kind) (g : PathStrings) → IsSplitAs files kind g →
+    (more : List (List ℕ)) × (files ≡ g.anchor ∷ more)
 begins_at files kind g (inl h) = ([], h.1 ∙ ap (λ (p : PathStrings). p.anchor ∷ []) (sym h.2))
 begins_at files kind g (inr h) =
     let anchor : g.anchor ≡ h.anchor = ap (λ (p : PathStrings). p.anchor) h.path_is ∙ anchor_of_path h.anchor h.cas kind h.octets in
     (h.cas ++ h.octets ∷ [], h.strings_are ∙ ap (λ (a : List ℕ). a ∷ (h.cas ++ h.octets ∷ [])) (sym anchor))
 
 -- a verdict by the lists that were read is one by the files that were given
-pub verdict_by : {E : Type 0} (x : Context) (d : Demands) (None_given : Type 0) (files lists : List (List ℕ)) (read : List CrlState) → (length lists ≡ 0 → ⊥) → AreListsOf lists read → (r : Result (Option Verdict) E)
-    → IfOk r (λ o. MatchOption o None_given (IsPathVerdict x (by_named_lists d.names x read) d files)) → IfOk r (λ o. MatchOption o None_given (IsVerdictBy x d files lists))
+pub verdict_by : {E : Type 0} (x : Context) (d : Demands) (None_given : Type 0) (files lists : List (List ℕ))
+    (read : List CrlState) → (length lists ≡ 0 → ⊥) → AreListsOf lists read → (r : Result (Option Verdict) E)
+    → IfOk r (λ o. MatchOption o None_given (IsPathVerdict x (by_named_lists d.names x read) d files)) →
+    IfOk r (λ o. MatchOption o None_given (IsVerdictBy x d files lists))
 verdict_by x d None_given files [] read some are r h = absurd (some refl)
 verdict_by x d None_given files (list ∷ lists) read some are (Ok None) h = h
 verdict_by x d None_given files (list ∷ lists) read some are (Ok (Some v)) h = (read, are, h)

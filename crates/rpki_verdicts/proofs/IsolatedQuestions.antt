@@ -22,13 +22,16 @@ module _ (x : Context) (q : TreeFields) (l : LocatorFields) (tree : Tree) (is : 
   walk_of = record { depth = q.depth; steps = q.steps; ended = tree.ended; verdicts = is.told; tells = is.tells }
 
   -- the same, where the locator and the trust anchor are called otherwise
-  abbrev pub walk_by : (t : NamedTal) → is.locator ≡ t → Walked x q.names (IsFirstIn tree.firsts) t is.anchor.octets (folder_of x q l tree is)
+  abbrev pub walk_by : (t : NamedTal) → is.locator ≡ t →
+      Walked x q.names (IsFirstIn tree.firsts) t is.anchor.octets (folder_of x q l tree is)
   walk_by t same = record {
     depth = q.depth;
     steps = q.steps;
     ended = tree.ended;
     verdicts = is.told;
-    tells = subst (λ (u : NamedTal). TellsFrom {E = WalkError} x (by_named_lists q.names x is.lists) q.names (IsFirstIn tree.firsts) u is.anchor.octets (contents (certs_of tree)) q.depth q.steps (Ok tree.ended) is.told) same is.tells;
+    tells = subst (λ (u : NamedTal). TellsFrom {E = WalkError} x (by_named_lists q.names x is.lists) q.names
+        (IsFirstIn tree.firsts) u is.anchor.octets (contents (certs_of tree)) q.depth q.steps (Ok tree.ended)
+        is.told) same is.tells;
   }
 
   -- the octets of its trust anchor
@@ -40,8 +43,10 @@ pub one_locator : (l : LocatorFields) (t u : NamedTal) → l.read ≡ Ok t → l
 one_locator l t u here there = cc (here, there)
 
 -- the trust anchors of the two trees begin with one certificate, if what stands at their places does
-pub begin_alike : (x : Context) (q : TreeFields) (files : List FileFields) (l : LocatorFields) (one other : Tree) (w : IsTreeOf x q l one) (v : IsTreeOf x (about q files) l other)
-    → BeginAlike (octets_at (contents (certs_of one)) one.anchor) (octets_at (contents (certs_of other)) other.anchor) → BeginAlike w.anchor.octets v.anchor.octets
+pub begin_alike : (x : Context) (q : TreeFields) (files : List FileFields) (l : LocatorFields) (one other : Tree)
+    (w : IsTreeOf x q l one) (v : IsTreeOf x (about q files) l other)
+    → BeginAlike (octets_at (contents (certs_of one)) one.anchor)
+    (octets_at (contents (certs_of other)) other.anchor) → BeginAlike w.anchor.octets v.anchor.octets
 begin_alike x q files l one other w v alike =
     subst (λ (o : List ℕ). BeginAlike w.anchor.octets o) (anchor_octets x (about q files) l other v)
     (subst (λ (o : List ℕ). BeginAlike o (octets_at (contents (certs_of other)) other.anchor)) (anchor_octets x q l one w) alike)

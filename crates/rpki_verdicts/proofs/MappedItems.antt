@@ -16,6 +16,9 @@ module _ {X Y : Type 0} (f : X → Y) (xs : List X) (i : ℕ) where
   mapped_there x low there = ap f there ∙ sym (get_or-map f xs i x (f x) low)
 
 -- what two lists give alike, one item more of each
-pub mapped_both : {X Y Z : Type 0} (f : X → Z) (g : Y → Z) (xs : List X) (ys : List Y) (i : ℕ) (x : X) (d : Y) → i < length ys → map f xs ≡ map g (take i ys) → f x ≡ g (get_or ys i d) → map f (xs ++ x ∷ []) ≡ map g (take (i + 1) ys)
+pub mapped_both : {X Y Z : Type 0} (f : X → Z) (g : Y → Z) (xs : List X) (ys : List Y) (i : ℕ) (x : X) (d : Y) →
+    i < length ys → map f xs ≡ map g (take i ys) → f x ≡ g (get_or ys i d) →
+    map f (xs ++ x ∷ []) ≡ map g (take (i + 1) ys)
 mapped_both f g xs ys i x d low same is =
-    map-append f xs (x ∷ []) ∙ ap (λ (l : List _). l ++ f x ∷ []) same ∙ ap (λ (z : _). map g (take i ys) ++ z ∷ []) is ∙ sym (map_more g ys i d low)
+    map-append f xs (x ∷ []) ∙ ap (λ (l : List _). l ++ f x ∷ []) same ∙ ap (λ (z : _). map g (take i ys) ++ z ∷ [])
+    is ∙ sym (map_more g ys i d low)

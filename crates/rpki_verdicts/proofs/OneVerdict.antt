@@ -70,12 +70,16 @@ module _ (one_certificate : IsUnambiguous IsCertificate) where
 
   -- ---- one last certificate
 
-  one_holder : (x : Context) (asked : RevocationChecks) (anchor : List ℕ) (below : List Candidate) (r s : ResourceFields) → IsAccepted x asked anchor below [] r → IsAccepted x asked anchor below [] s → r.cert ≡ s.cert
+  one_holder : (x : Context) (asked : RevocationChecks) (anchor : List ℕ) (below : List Candidate)
+      (r s : ResourceFields) → IsAccepted x asked anchor below [] r → IsAccepted x asked anchor below [] s →
+      r.cert ≡ s.cert
   one_holder x asked anchor below r s h k =
       let same = paths.one_path one_certificate anchor below h.path k.path h.path_of k.path_of in
       h.held.cert_is ∙ ap (λ (p : Path). certificate_at p (last p)) same ∙ sym k.held.cert_is
 
-  same_router : (x : Context) (asked : RevocationChecks) (octets : Option (List ℕ)) (r s : ResourceFields) (c d : Option CertFields) → r.cert ≡ s.cert → IsRouterIfAny x asked r octets c → IsRouterIfAny x asked s octets d → last_certificate r c ≡ last_certificate s d
+  same_router : (x : Context) (asked : RevocationChecks) (octets : Option (List ℕ)) (r s : ResourceFields)
+      (c d : Option CertFields) → r.cert ≡ s.cert → IsRouterIfAny x asked r octets c →
+      IsRouterIfAny x asked s octets d → last_certificate r c ≡ last_certificate s d
   same_router x asked None r s None None same h k = same
   same_router x asked None r s None (Some d) same h k = absurd k
   same_router x asked None r s (Some c) d same h k = absurd h
@@ -84,12 +88,17 @@ module _ (one_certificate : IsUnambiguous IsCertificate) where
   same_router x asked (Some octets) r s (Some c) (Some d) same h k = one_meant IsCertificate one_certificate c d octets h.0 k.0
 
   -- a path that is accepted ends in one certificate
-  pub one_last_certificate : (x : Context) (asked : RevocationChecks) (g : PathStrings) (j i : Judged) → IsAcceptedWith x asked g j → IsAcceptedWith x asked g i → last_certificate j.holder j.router ≡ last_certificate i.holder i.router
+  pub one_last_certificate : (x : Context) (asked : RevocationChecks) (g : PathStrings) (j i : Judged) →
+      IsAcceptedWith x asked g j → IsAcceptedWith x asked g i →
+      last_certificate j.holder j.router ≡ last_certificate i.holder i.router
   one_last_certificate x asked g j i h k =
-      same_router x asked g.router j.holder i.holder j.router i.router (one_holder x asked g.anchor g.below j.holder i.holder h.accepted k.accepted) h.router k.router
+      same_router x asked g.router j.holder i.holder j.router i.router
+      (one_holder x asked g.anchor g.below j.holder i.holder h.accepted k.accepted) h.router k.router
 
   -- and what it holds are the same numbers
-  same_held : (x : Context) (asked : RevocationChecks) (anchor : List ℕ) (below : List Candidate) (r s : ResourceFields) → IsAccepted x asked anchor below [] r → IsAccepted x asked anchor below [] s → HoldSame r s
+  same_held : (x : Context) (asked : RevocationChecks) (anchor : List ℕ) (below : List Candidate)
+      (r s : ResourceFields) → IsAccepted x asked anchor below [] r → IsAccepted x asked anchor below [] s →
+      HoldSame r s
   same_held x asked anchor below r s h k =
       let same = paths.one_path one_certificate anchor below h.path k.path h.path_of k.path_of in
       let held : HasHeld k.path [] r = subst (λ (p : Path). HasHeld p [] r) same h.held in
@@ -100,15 +109,18 @@ module _ (one_certificate : IsUnambiguous IsCertificate) where
         as_same = λ n. ((λ a. (k.held.as_is n).1 ((held.as_is n).0 a)), (λ a. (held.as_is n).1 ((k.held.as_is n).0 a)));
       }
 
-  one_router : (x : Context) (asked : RevocationChecks) (octets : Option (List ℕ)) (r s : ResourceFields) (c d : Option CertFields) → IsRouterIfAny x asked r octets c → IsRouterIfAny x asked s octets d → c ≡ d
+  one_router : (x : Context) (asked : RevocationChecks) (octets : Option (List ℕ)) (r s : ResourceFields)
+      (c d : Option CertFields) → IsRouterIfAny x asked r octets c → IsRouterIfAny x asked s octets d → c ≡ d
   one_router x asked None r s None None h k = refl
   one_router x asked None r s None (Some d) h k = absurd k
   one_router x asked None r s (Some c) d h k = absurd h
   one_router x asked (Some octets) r s None d h k = absurd h
   one_router x asked (Some octets) r s (Some c) None h k = absurd k
-  one_router x asked (Some octets) r s (Some c) (Some d) h k = ap (λ (e : CertFields). Some e) (one_meant IsCertificate one_certificate c d octets h.0 k.0)
+  one_router x asked (Some octets) r s (Some c) (Some d) h k =
+      ap (λ (e : CertFields). Some e) (one_meant IsCertificate one_certificate c d octets h.0 k.0)
 
-  all_same : (x : Context) (asked : RevocationChecks) (d : Demands) (g : PathStrings) (j i : Judged) → IsUsablePath x asked d g j → IsUsablePath x asked d g i → AreSame j i
+  all_same : (x : Context) (asked : RevocationChecks) (d : Demands) (g : PathStrings) (j i : Judged) →
+      IsUsablePath x asked d g j → IsUsablePath x asked d g i → AreSame j i
   all_same x asked d g j i h k = (
     same_held x asked g.anchor g.below j.holder i.holder h.accepted.accepted k.accepted.accepted,
     one_router x asked g.router j.holder i.holder j.router i.router h.accepted.router k.accepted.router,
@@ -116,19 +128,33 @@ module _ (one_certificate : IsUnambiguous IsCertificate) where
 
   module _ (x : Context) (asked : RevocationChecks) (d : Demands) (files : List (List ℕ)) (g : PathStrings) where
     -- a trust anchor whose key no locator has
-    pub other_key_verdict : (fault : Fault) → BeginsWithCertificate g.anchor → (IsLocated x.strict d.locators g.anchor → ⊥) → fault.index ≡ 0 → reason_of fault ≡ locator_reason → IsVerdictOn x asked d files g (Rejected fault)
-    other_key_verdict fault begins other place reason = ((λ j u. other u.located), inl (inl (record { begins = begins; other = other; place_is = place; reason_is = reason })))
+    pub other_key_verdict : (fault : Fault) → BeginsWithCertificate g.anchor →
+        (IsLocated x.strict d.locators g.anchor → ⊥) → fault.index ≡ 0 → reason_of fault ≡ locator_reason →
+        IsVerdictOn x asked d files g (Rejected fault)
+    other_key_verdict fault begins other place reason = (
+      (λ j u. other u.located),
+      inl (inl (record { begins = begins; other = other; place_is = place; reason_is = reason })),
+    )
 
     -- a trust anchor that lists no number, where a locator is given
     no_numbers : (locators : List (List ℕ)) → (locators ≡ [] → ⊥) → BeginsWithNoNumber g.anchor → HasNumbersIf locators g.anchor → ⊥
     no_numbers [] given none has = given refl
-    no_numbers (file ∷ locators) given none has = none.lists_none (subst ListsSome (one_meant IsCertificate one_certificate has.cert none.cert g.anchor has.begins none.begins) has.lists)
+    no_numbers (file ∷ locators) given none has =
+        none.lists_none
+        (subst ListsSome
+        (one_meant IsCertificate one_certificate has.cert none.cert g.anchor has.begins none.begins) has.lists)
 
-    pub no_numbers_verdict : (fault : Fault) → (d.locators ≡ [] → ⊥) → BeginsWithNoNumber g.anchor → fault.index ≡ 0 → reason_of fault ≡ resources_reason → IsVerdictOn x asked d files g (Rejected fault)
-    no_numbers_verdict fault given none place reason = ((λ j u. no_numbers d.locators given none u.numbers), inl (inr (record { given = given; begins = none; place_is = place; reason_is = reason })))
+    pub no_numbers_verdict : (fault : Fault) → (d.locators ≡ [] → ⊥) → BeginsWithNoNumber g.anchor → fault.index ≡ 0 →
+        reason_of fault ≡ resources_reason → IsVerdictOn x asked d files g (Rejected fault)
+    no_numbers_verdict fault given none place reason = (
+      (λ j u. no_numbers d.locators given none u.numbers),
+      inl (inr (record { given = given; begins = none; place_is = place; reason_is = reason })),
+    )
 
     -- what names and the last key make of a valid path
-    module _ (judged : Judged) (place : ℕ) (located : IsLocated x.strict d.locators g.anchor) (numbers : HasNumbersIf d.locators g.anchor) (accepted : IsAcceptedWith x asked g judged) (end : place + 1 ≡ length files) where
+    module _ (judged : Judged) (place : ℕ) (located : IsLocated x.strict d.locators g.anchor)
+        (numbers : HasNumbersIf d.locators g.anchor) (accepted : IsAcceptedWith x asked g judged)
+        (end : place + 1 ≡ length files) where
       pub named_verdict : (v : Verdict) → IsNamedVerdict g d.names judged place v → IsVerdictOn x asked d files g v
       named_verdict (Accepted j) (chained, k) = record {
         located = located;
@@ -142,15 +168,25 @@ module _ (one_certificate : IsUnambiguous IsCertificate) where
         inr (inr (inl (record { judged = judged; accepted = accepted; other = other }))),
       )
       named_verdict (Rejected fault) (inr (chained, k)) = (
-        (λ j u. k.0 (subst (λ (c : CertFields). IsUsableKey c.fields.key) (one_last_certificate x asked g j judged u.accepted accepted) u.usable)),
-        inr (inr (inr (record { judged = judged; accepted = accepted; chained = chained; unusable = k.0; place_is = omega (arith, end, k.1); reason_is = k.2 }))),
+        (λ j u. k.0 (subst (λ (c : CertFields). IsUsableKey c.fields.key)
+            (one_last_certificate x asked g j judged u.accepted accepted) u.usable)),
+        inr (inr (inr (record {
+          judged = judged;
+          accepted = accepted;
+          chained = chained;
+          unusable = k.0;
+          place_is =
+              omega (arith, end, k.1);
+          reason_is = k.2;
+        }))),
       )
 
   module _ (one_list : IsUnambiguous IsCertificateList) where
     -- ---- the lists that are asked
 
     same_state : (l k : CrlState) → l.list ≡ k.list → l.is_cached ≡ k.is_cached → l ≡ k
-    same_state l k lists cached = ap (λ (list : CrlFields). record { list = list; is_cached = l.is_cached }) lists ∙ ap (λ (b : _). record { list = k.list; is_cached = b }) cached
+    same_state l k lists cached = ap (λ (list : CrlFields). record { list = list; is_cached = l.is_cached }) lists ∙
+        ap (λ (b : _). record { list = k.list; is_cached = b }) cached
 
     pub same_lists : (files : List (List ℕ)) (a b : List CrlState) → AreListsOf files a → AreListsOf files b → a ≡ b
     same_lists [] a b p q = p ∙ sym q
@@ -163,8 +199,10 @@ module _ (one_certificate : IsUnambiguous IsCertificate) where
         p.5 ∙ ap (λ (l : CrlState). l ∷ p.1) first ∙ ap (λ (ls : List CrlState). q.0 ∷ ls) more ∙ sym q.5
 
     -- files aren't both accepted and rejected
-    pub never_both : (x : Context) (d : Demands) (files lists : List (List ℕ)) (j : Judged) (fault : Fault) → IsVerdictBy x d files lists (Accepted j) → IsVerdictBy x d files lists (Rejected fault) → ⊥
-    never_both x d files [] j fault a b = b.2.0 j (subst (λ (g : PathStrings). IsUsablePath x nobody d g j) (one_path files a.0 b.0 a.1 b.1) a.2)
+    pub never_both : (x : Context) (d : Demands) (files lists : List (List ℕ)) (j : Judged) (fault : Fault) →
+        IsVerdictBy x d files lists (Accepted j) → IsVerdictBy x d files lists (Rejected fault) → ⊥
+    never_both x d files [] j fault a b =
+        b.2.0 j (subst (λ (g : PathStrings). IsUsablePath x nobody d g j) (one_path files a.0 b.0 a.1 b.1) a.2)
     never_both x d files (list ∷ lists) j fault a b =
         let read = same_lists (list ∷ lists) a.0 b.0 a.1 b.1 in
         let paths = one_path files a.2.0 b.2.0 a.2.1 b.2.1 in
@@ -172,10 +210,15 @@ module _ (one_certificate : IsUnambiguous IsCertificate) where
         b.2.2.0 j (subst (λ (ls : List CrlState). IsUsablePath x (by_named_lists d.names x ls) d b.2.0 j) read usable)
 
     -- files are accepted with one certificate, which holds the same numbers
-    pub ever_same : (x : Context) (d : Demands) (files lists : List (List ℕ)) (j i : Judged) → IsVerdictBy x d files lists (Accepted j) → IsVerdictBy x d files lists (Accepted i) → AreSame j i
-    ever_same x d files [] j i a b = all_same x nobody d b.0 j i (subst (λ (g : PathStrings). IsUsablePath x nobody d g j) (one_path files a.0 b.0 a.1 b.1) a.2) b.2
+    pub ever_same : (x : Context) (d : Demands) (files lists : List (List ℕ)) (j i : Judged) →
+        IsVerdictBy x d files lists (Accepted j) → IsVerdictBy x d files lists (Accepted i) → AreSame j i
+    ever_same x d files [] j i a b =
+        all_same x nobody d b.0 j i
+        (subst (λ (g : PathStrings). IsUsablePath x nobody d g j) (one_path files a.0 b.0 a.1 b.1) a.2) b.2
     ever_same x d files (list ∷ lists) j i a b =
         let read = same_lists (list ∷ lists) a.0 b.0 a.1 b.1 in
         let paths = one_path files a.2.0 b.2.0 a.2.1 b.2.1 in
         let usable = subst (λ (g : PathStrings). IsUsablePath x (by_named_lists d.names x a.0) d g j) paths a.2.2 in
-        all_same x (by_named_lists d.names x b.0) d b.2.0 j i (subst (λ (ls : List CrlState). IsUsablePath x (by_named_lists d.names x ls) d b.2.0 j) read usable) b.2.2
+        all_same x (by_named_lists d.names x b.0) d b.2.0 j i
+        (subst (λ (ls : List CrlState). IsUsablePath x (by_named_lists d.names x ls) d b.2.0 j) read usable)
+        b.2.2

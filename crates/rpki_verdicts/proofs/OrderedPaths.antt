@@ -8,11 +8,13 @@ use Rattle.std.specs.Prelude.{Bool, true, false, if◌then◌else◌, Contains, 
 use Rattle.std.proofs.Common.{◌≡◌, ◌∙◌, ◌+◌, Bor, ℕ, List, [], ◌∷◌, map, refl, sym, ap, subst, inl, inr, arith}
 use Rattle.std.proofs.lemmas.Bool.{false≢true}
 use Rattle.std.proofs.lemmas.List.Elements.{All-cons, All-from_recursion, recursion_from_All}
-use Rattle.std.proofs.lemmas.List.Sorted.{All-permutation, Contains-permutation, IsPermutation-map, IsPermutation-refl, IsPermutation-sym, ranks_by}
+use Rattle.std.proofs.lemmas.List.Sorted.{All-permutation, Contains-permutation, IsPermutation-map}
+use Rattle.std.proofs.lemmas.List.Sorted.{IsPermutation-refl, IsPermutation-sym, ranks_by}
 use Rattle.rpki_cert.specs.Certificates.{CertFields, IsCertificate}
 use Rattle.rpki_der.specs.Encoding.{Means}
 use Rattle.rpki_files.specs.Files.{FileFields}
-use Rattle.rpki_verdicts.specs.ShownPaths.{AreInOrder, AreNamed, AreShown, all_of, IsNamedBy, IsNamedIn, IsRank, IsShownPath, Precedes, Rank, is_of, place_of, rank_order}
+use Rattle.rpki_verdicts.specs.ShownPaths.{AreInOrder, AreNamed, AreShown, all_of, IsNamedBy, IsNamedIn, IsRank}
+use Rattle.rpki_verdicts.specs.ShownPaths.{IsShownPath, Precedes, Rank, is_of, place_of, rank_order}
 use Rattle.rpki_verdicts.specs.ShownPaths.Steps.{IsRanked, rank_of, ranked_order}
 use Rattle.rpki_verdicts.proofs.PathRanks.{Later, later_of_sorted, not_before_itself, rank_total}
 use Rattle.rpki_folder.specs.declared.find.FoundPath.{FoundPath}
@@ -108,7 +110,8 @@ module _ (one : IsOneMeant) (certs : List FileFields) (tree : Tree) where
         let here : Contains (path ∷ more) path = (0, omega arith, refl) in record {
           kept = Contains-permutation (path ∷ more) paths path back here;
           first = All-permutation (λ other. Precedes certs tree place other path → ⊥) (path ∷ more) paths back
-              (All-cons (λ other. Precedes certs tree place other path → ⊥) path more (not_itself path) (All-from_recursion (λ other. Precedes certs tree place other path → ⊥) more order.0));
+              (All-cons (λ other. Precedes certs tree place other path → ⊥) path more (not_itself path)
+              (All-from_recursion (λ other. Precedes certs tree place other path → ⊥) more order.0));
         }
 
     -- a path alone
@@ -120,7 +123,8 @@ module _ (one : IsOneMeant) (certs : List FileFields) (tree : Tree) where
         ∙ ap (λ (l : List FoundPath). paths.first ∷ l) (sym alone) in
         let moved = subst (λ (l : List FoundPath). IsPermutation (paths_in paths) l) (sym all) (IsPermutation-refl (paths_in paths)) in
         let order : AreInOrder certs tree place (all_of shown) =
-        subst (λ (l : List (Bor FoundPath)). AreInOrder certs tree place (shown.shown.now ∷ map (λ path. path.now) l)) (sym none) (tt, tt) in record {
+        subst (λ (l : List (Bor FoundPath)). AreInOrder certs tree place (shown.shown.now ∷ map (λ path. path.now) l))
+        (sym none) (tt, tt) in record {
           all = moved;
           in_order = order;
           is_shown = first_shown shown.shown.now (map (λ path. path.now) shown.others.items) (paths_in paths) moved order;
@@ -136,12 +140,16 @@ module _ (one : IsOneMeant) (certs : List FileFields) (tree : Tree) where
         let paths_of : List RankedPath → List FoundPath = λ rs. map (λ it. it.path.now) rs in
         let moved : IsPermutation (paths_in paths) (all_of shown) =
         subst (λ (l : List FoundPath). IsPermutation l (all_of shown)) are
-        (subst (λ (l : List FoundPath). IsPermutation (paths_of ranked) l) all (IsPermutation-map (λ (it : RankedPath). it.path.now) ranked ordered moves)) in
+        (subst (λ (l : List FoundPath). IsPermutation (paths_of ranked) l) all
+        (IsPermutation-map (λ (it : RankedPath). it.path.now) ranked ordered moves)) in
         let kept = recursion_from_All (IsRanked certs tree place) ordered
-        (All-permutation (IsRanked certs tree place) ranked ordered moves (All-from_recursion (IsRanked certs tree place) ranked numbers)) in
+        (All-permutation (IsRanked certs tree place) ranked ordered moves
+        (All-from_recursion (IsRanked certs tree place) ranked numbers)) in
         let order : AreInOrder certs tree place (all_of shown) =
         subst (λ (l : List FoundPath). AreInOrder certs tree place l) all
-        (in_order ordered kept (later_of_sorted (λ r s. is_lt (ranked_order certs r s)) (ranks_by rank_total (rank_of certs)) ordered up)) in record {
+        (in_order ordered kept
+        (later_of_sorted (λ r s. is_lt (ranked_order certs r s)) (ranks_by rank_total (rank_of certs)) ordered
+        up)) in record {
           all = moved;
           in_order = order;
           is_shown = first_shown shown.shown.now (map (λ path. path.now) shown.others.items) (paths_in paths) moved order;

@@ -18,7 +18,8 @@ use Rattle.rpki_verdicts.specs.ShownPaths.{Rank, rank_order}
 
 pub rank_total : IsTotalOrder rank_order
 rank_total =
-    then_total (then_total (on_total (λ (r : Rank). r.named) (back_total nat_cmp_total)) (on_total (λ (r : Rank). length r.cas) nat_cmp_total))
+    then_total (then_total (on_total (λ (r : Rank). r.named) (back_total nat_cmp_total))
+    (on_total (λ (r : Rank). length r.cas) nat_cmp_total))
     (on_total (λ (r : Rank). r.cas) (lists_total nat_list_cmp_total))
 
 both_equal : (a b : Ordering) → ordering_then a b ≡ Equal → (a ≡ Equal) × (b ≡ Equal)

@@ -43,14 +43,17 @@ IsThere certs place =
     (file : FileFields) × (slice_get certs place ≡ Some file) × (file.octets ≡ octets_at (contents certs) place)
 
 -- a place at which a certificate stands is one
-there : (certs : List FileFields) (place : ℕ) (c : CertFields) → Means IsCertificate c (octets_at (contents certs) place) → IsThere certs place
+there : (certs : List FileFields) (place : ℕ) (c : CertFields) →
+    Means IsCertificate c (octets_at (contents certs) place) → IsThere certs place
 there [] place c begins = absurd (no_certificate c [] begins refl)
 there (f ∷ fs) zero c begins = (f, refl, refl)
 there (f ∷ fs) (suc k) c begins = there fs k c begins
 
 module _ (certs : List FileFields) where
   -- so the files at places where certificates stand have their octets
-  octets_are : (places : List ℕ) (ms : List Member) (more : List Candidate) → AllZip IsMember ms (cas_at (contents certs) places ++ more) → contents (files_at certs places) ≡ map (octets_at (contents certs)) places
+  octets_are : (places : List ℕ) (ms : List Member) (more : List Candidate) →
+      AllZip IsMember ms (cas_at (contents certs) places ++ more) →
+      contents (files_at certs places) ≡ map (octets_at (contents certs)) places
   octets_are [] ms more z = refl
   octets_are (k ∷ ks) [] more z = absurd z
   octets_are (k ∷ ks) (m ∷ ms) more z =
@@ -65,17 +68,22 @@ module _ (certs : List FileFields) where
   cas_are (k ∷ ks) = ap (λ (l : List Candidate). candidate Authority (octets_at (contents certs) k) ∷ l) (cas_are ks)
 
   -- the files of a path
-  path_octets : (anchor file : FileFields) (places : List ℕ) (ms : List Member) (more : List Candidate) → AllZip IsMember ms (cas_at (contents certs) places ++ more) → contents (anchor ∷ (files_at certs places ++ file ∷ [])) ≡ anchor.octets ∷ (map (octets_at (contents certs)) places ++ file.octets ∷ [])
+  path_octets : (anchor file : FileFields) (places : List ℕ) (ms : List Member) (more : List Candidate) →
+      AllZip IsMember ms (cas_at (contents certs) places ++ more) →
+      contents (anchor ∷ (files_at certs places ++ file ∷ [])) ≡ anchor.octets ∷
+      (map (octets_at (contents certs)) places ++ file.octets ∷ [])
   path_octets anchor file places ms more z =
       ap (λ (l : List (List ℕ)). anchor.octets ∷ l)
-      (map-append (λ (f : FileFields). f.octets) (files_at certs places) (file ∷ []) ∙ ap (λ (l : List (List ℕ)). l ++ file.octets ∷ []) (octets_are places ms more z))
+      (map-append (λ (f : FileFields). f.octets) (files_at certs places) (file ∷ []) ∙
+      ap (λ (l : List (List ℕ)). l ++ file.octets ∷ []) (octets_are places ms more z))
 
 -- ---- what is held, without the locator's name
 
 unnamed : ResourceFields → ResourceFields
 unnamed r = record r { tal = [] }
 
-accepted_from : (x : Context) (asked : RevocationChecks) (t : NamedTal) (anchor : List ℕ) (below : List Candidate) (r : ResourceFields) → IsAcceptedFrom x asked t anchor below r → IsAccepted x asked anchor below [] (unnamed r)
+accepted_from : (x : Context) (asked : RevocationChecks) (t : NamedTal) (anchor : List ℕ) (below : List Candidate)
+    (r : ResourceFields) → IsAcceptedFrom x asked t anchor below r → IsAccepted x asked anchor below [] (unnamed r)
 unfolding unnamed
 accepted_from x asked t anchor below r h = record {
   path = h.path;
@@ -84,7 +92,9 @@ accepted_from x asked t anchor below r h = record {
   held = record { cert_is = h.held.cert_is; v4_is = h.held.v4_is; v6_is = h.held.v6_is; as_is = h.held.as_is; tal_is = refl };
 }
 
-router_below : (x : Context) (asked : RevocationChecks) (r : ResourceFields) (octets : List ℕ) (router : Option CertFields) → IsRouterIfAny x asked r (Some octets) router → IsRouterIfAny x asked (unnamed r) (Some octets) router
+router_below : (x : Context) (asked : RevocationChecks) (r : ResourceFields) (octets : List ℕ)
+    (router : Option CertFields) → IsRouterIfAny x asked r (Some octets) router →
+    IsRouterIfAny x asked (unnamed r) (Some octets) router
 unfolding unnamed
 router_below x asked r octets None h = absurd h
 router_below x asked r octets (Some c) h = (h.0, record { meets = h.1.meets; checks = h.1.checks; unrevoked = h.1.unrevoked })
@@ -99,42 +109,90 @@ module _ (x : Context) (asked : RevocationChecks) (t : NamedTal) (anchor file : 
   Files = anchor ∷ (files_at certs above ++ file ∷ [])
 
   -- as a path whose last is of this kind
-  split_as : (kind : Kind) → BeginsWithKind kind file.octets → (j : Judged) → IsAcceptedWith x asked (path_to anchor.octets Octets kind file.octets) j → contents Files ≡ anchor.octets ∷ (Octets ++ file.octets ∷ []) → IsValidAmong x asked (contents Files)
+  split_as : (kind : Kind) → BeginsWithKind kind file.octets → (j : Judged) →
+      IsAcceptedWith x asked (path_to anchor.octets Octets kind file.octets) j →
+      contents Files ≡ anchor.octets ∷ (Octets ++ file.octets ∷ []) → IsValidAmong x asked (contents Files)
   split_as kind begins j accepted are = record {
     strings = path_to anchor.octets Octets kind file.octets;
-    given = inr (record { kind = kind; split = record { anchor = anchor.octets; cas = Octets; octets = file.octets; strings_are = are; path_is = refl }; kind_is = inl begins });
+    given = inr (record {
+      kind = kind;
+      split =
+          record { anchor = anchor.octets; cas = Octets; octets = file.octets; strings_are = are; path_is = refl };
+      kind_is = inl begins;
+    });
     judged = j;
     accepted = accepted;
   }
 
   -- a router below the last CA
-  with_router : BeginsWithKind Router file.octets → (j : Judged) → LeadsTo x asked (at_anchor t anchor.octets) (cas_at (contents certs) above) j.holder → IsRouterIfAny x asked j.holder (Some file.octets) j.router → IsValidAmong x asked (contents Files)
+  with_router : BeginsWithKind Router file.octets → (j : Judged) →
+      LeadsTo x asked (at_anchor t anchor.octets) (cas_at (contents certs) above) j.holder →
+      IsRouterIfAny x asked j.holder (Some file.octets) j.router → IsValidAmong x asked (contents Files)
   with_router begins j leads router =
       let none = append-nil (cas_at (contents certs) above) in
       let members = subst (λ (l : List Candidate). AllZip IsMember leads.path.below l) (sym none) leads.path_of.members in
       split_as Router begins (record { holder = unnamed j.holder; router = j.router })
       (record {
-        accepted = subst (λ (l : List Candidate). IsAccepted x asked anchor.octets l [] (unnamed j.holder)) (cas_are certs above) (accepted_from x asked t anchor.octets (cas_at (contents certs) above) j.holder leads);
+        accepted = subst (λ (l : List Candidate). IsAccepted x asked anchor.octets l [] (unnamed j.holder))
+            (cas_are certs above)
+            (accepted_from x asked t anchor.octets (cas_at (contents certs) above) j.holder leads);
         router = router_below x asked j.holder file.octets j.router router;
       })
       (path_octets certs anchor file above leads.path.below [] members)
 
   -- a further member
-  with_member : (kind : Kind) → BeginsWithKind kind file.octets → (r : ResourceFields) → LeadsTo x asked (at_anchor t anchor.octets) (cas_at (contents certs) above ++ candidate kind file.octets ∷ []) r → ((below : List Candidate) → IsAccepted x asked anchor.octets below [] (unnamed r) → below ≡ map (candidate Authority) Octets ++ candidate kind file.octets ∷ [] → (j : Judged) × IsAcceptedWith x asked (path_to anchor.octets Octets kind file.octets) j) → IsValidAmong x asked (contents Files)
+  with_member : (kind : Kind) → BeginsWithKind kind file.octets → (r : ResourceFields) →
+      LeadsTo x asked (at_anchor t anchor.octets) (cas_at (contents certs) above ++ candidate kind file.octets ∷ [])
+      r → ((below : List Candidate) → IsAccepted x asked anchor.octets below [] (unnamed r) →
+      below ≡ map (candidate Authority) Octets ++ candidate kind file.octets ∷ [] →
+      (j : Judged) × IsAcceptedWith x asked (path_to anchor.octets Octets kind file.octets) j) →
+      IsValidAmong x asked (contents Files)
   with_member kind begins r leads as_path =
       let below = cas_at (contents certs) above ++ candidate kind file.octets ∷ [] in
-      let j = as_path below (accepted_from x asked t anchor.octets below r leads) (ap (λ (l : List Candidate). l ++ candidate kind file.octets ∷ []) (cas_are certs above)) in
-      split_as kind begins j.0 j.1 (path_octets certs anchor file above leads.path.below (candidate kind file.octets ∷ []) leads.path_of.members)
+      let j = as_path below (accepted_from x asked t anchor.octets below r leads)
+      (ap (λ (l : List Candidate). l ++ candidate kind file.octets ∷ []) (cas_are certs above)) in
+      split_as kind begins j.0 j.1
+      (path_octets certs anchor file above leads.path.below (candidate kind file.octets ∷ [])
+      leads.path_of.members)
 
-  of_kind : (kind : Kind) → BeginsWithKind kind file.octets → (j : Judged) → IsAcceptedAs x asked (at_anchor t anchor.octets) (cas_at (contents certs) above) kind file.octets j → IsValidAmong x asked (contents Files)
+  of_kind : (kind : Kind) → BeginsWithKind kind file.octets → (j : Judged) →
+      IsAcceptedAs x asked (at_anchor t anchor.octets) (cas_at (contents certs) above) kind file.octets j →
+      IsValidAmong x asked (contents Files)
   of_kind Router begins j h = with_router begins j h.0 h.1
-  of_kind Authority begins j h = with_member Authority begins j.holder h.0 (λ below a is. (record { holder = unnamed j.holder; router = None }, record { accepted = subst (λ (l : List Candidate). IsAccepted x asked anchor.octets l [] (unnamed j.holder)) is a; router = tt }))
-  of_kind EndEntity begins j h = with_member EndEntity begins j.holder h.0 (λ below a is. (record { holder = unnamed j.holder; router = None }, record { accepted = subst (λ (l : List Candidate). IsAccepted x asked anchor.octets l [] (unnamed j.holder)) is a; router = tt }))
-  of_kind Detached begins j h = with_member Detached begins j.holder h.0 (λ below a is. (record { holder = unnamed j.holder; router = None }, record { accepted = subst (λ (l : List Candidate). IsAccepted x asked anchor.octets l [] (unnamed j.holder)) is a; router = tt }))
+  of_kind Authority begins j h = with_member Authority begins j.holder h.0
+      (λ below a is. (
+        record { holder = unnamed j.holder; router = None },
+        record {
+          accepted = subst (λ (l : List Candidate). IsAccepted x asked anchor.octets l [] (unnamed j.holder))
+              is a;
+          router = tt;
+        },
+      ))
+  of_kind EndEntity begins j h = with_member EndEntity begins j.holder h.0
+      (λ below a is. (
+        record { holder = unnamed j.holder; router = None },
+        record {
+          accepted = subst (λ (l : List Candidate). IsAccepted x asked anchor.octets l [] (unnamed j.holder))
+              is a;
+          router = tt;
+        },
+      ))
+  of_kind Detached begins j h = with_member Detached begins j.holder h.0
+      (λ below a is. (
+        record { holder = unnamed j.holder; router = None },
+        record {
+          accepted = subst (λ (l : List Candidate). IsAccepted x asked anchor.octets l [] (unnamed j.holder))
+              is a;
+          router = tt;
+        },
+      ))
   of_kind Anchor begins j h = absurd begins.2
 
-  pub reached_files : slice_get certs 0 ≡ Some file → IsReached x asked (at_anchor t anchor.octets) (contents certs) above 0 → IsValidAmong x asked (contents Files)
+  pub reached_files : slice_get certs 0 ≡ Some file →
+      IsReached x asked (at_anchor t anchor.octets) (contents certs) above 0 → IsValidAmong x asked (contents Files)
   reached_files first h =
-      let same : octets_at (contents certs) 0 ≡ file.octets = get_or_from_slice_get (contents certs) 0 file.octets [] (slice_get-map (λ (f : FileFields). f.octets) certs 0 ∙ ap (option_map (λ (f : FileFields). f.octets)) first) in
+      let same : octets_at (contents certs) 0 ≡ file.octets = get_or_from_slice_get (contents certs) 0 file.octets []
+      (slice_get-map (λ (f : FileFields). f.octets) certs 0 ∙ ap (option_map (λ (f : FileFields). f.octets))
+      first) in
       of_kind h.0 (subst (λ (o : List ℕ). BeginsWithKind h.0 o) same h.2) h.1
       (subst (λ (o : List ℕ). IsAcceptedAs x asked (at_anchor t anchor.octets) (cas_at (contents certs) above) h.0 o h.1) same h.3)

@@ -1,7 +1,8 @@
 -- The path that is sought, file by file.
 use Rattle.std.specs.List.{AllByRecursion, cons_option}
 use Rattle.std.specs.Prelude.{All, Any, Option, Some, None, Ok, Err, IsFalse, IsTrue, Result, IsOk, slice_get, slice_index_or}
-use Rattle.std.proofs.Common.{◌≡◌, ◌+◌, ◌<◌, ℕ, Bool, true, false, not, List, [], ◌∷◌, ◌++◌, length, map, refl, sym, ap, subst, ◌∙◌, inl, inr, arith}
+use Rattle.std.proofs.Common.{◌≡◌, ◌+◌, ◌<◌, ℕ, Bool, true, false, not, List, [], ◌∷◌, ◌++◌, length, map, refl, sym}
+use Rattle.std.proofs.Common.{ap, subst, ◌∙◌, inl, inr, arith}
 use Rattle.std.proofs.lemmas.List.{append_assoc, length-map}
 use Rattle.std.proofs.lemmas.List.Elements.{All-contains, All-from_recursion}
 use Rattle.std.proofs.lemmas.Option.{slice_get_within, get_or_from_slice_get}
@@ -21,7 +22,8 @@ use Rattle.rpki_folder.specs.declared.lines.Line.TheVariants as line
 use Rattle.rpki_path.specs.declared.path_fault.PathFault.{PathFault}
 use Rattle.rpki_cert.specs.Certificates.{CertFields, IsCertificate}
 use Rattle.rpki_cert.specs.Verification.{Context}
-use Rattle.rpki_folder.specs.Walks.{Root, Covers, IsAcceptedAs, IsLookedAt, IsReached, IsRight, IsRightOf, IsTold, Tells, Told, at_anchor, members_at}
+use Rattle.rpki_folder.specs.Walks.{Root, Covers, IsAcceptedAs, IsLookedAt, IsReached, IsRight, IsRightOf, IsTold}
+use Rattle.rpki_folder.specs.Walks.{Tells, Told, at_anchor, members_at}
 use Rattle.rpki_folder.specs.declared.walk_error.WalkError.{WalkError}
 use Rattle.rpki_folder.proofs.KeptLineSteps.{told_so}
 use Rattle.rpki_folder.proofs.KeptPaths.{first_told}
@@ -30,7 +32,10 @@ use Rattle.rpki_folder.specs.FirstPlaces.{IsFirstIn, first_of}
 use Rattle.rpki_folder.specs.Folders.{octets_at}
 use Rattle.rpki_files.specs.Contents.{BeginsWithCertificate}
 use Rattle.rpki_files.specs.Files.{FileFields, contents}
-use Rattle.rpki_verdicts.specs.Searches.{DeniesFirst, DoesNotReach, HasNoValidIn, HasNoValidPath, IsAcceptedIn, IsNamedAmong, IsNamedIn, IsSoughtPath, alone, no_anchor, valid, invalid, IsTreeWith, IsUnanchored, IsValidAmong, IsValidPathTo, Leads, StandsAlone, above_by, files_at, first_wrong}
+use Rattle.rpki_verdicts.specs.Searches.{DeniesFirst, DoesNotReach, HasNoValidIn, HasNoValidPath, IsAcceptedIn}
+use Rattle.rpki_verdicts.specs.Searches.{IsNamedAmong, IsNamedIn, IsSoughtPath, alone, no_anchor, valid, invalid}
+use Rattle.rpki_verdicts.specs.Searches.{IsTreeWith, IsUnanchored, IsValidAmong, IsValidPathTo, Leads, StandsAlone}
+use Rattle.rpki_verdicts.specs.Searches.{above_by, files_at, first_wrong}
 use Rattle.rpki_verdicts.specs.GivenLocators.{LocatorFields}
 use Rattle.rpki_verdicts.specs.TreeParts.{AreTreesOf, IsPartOf, worst_end, wrong_of}
 use Rattle.rpki_verdicts.specs.Trees.{AreCertificatesOf, IsTreeAnswer, IsTreeOf, TreeFields, certs_of, line_at}
@@ -51,17 +56,21 @@ one_more (Some f) both a b same = ap (λ (l : List FileFields). f ∷ l) same
 -- at those of two lists
 pub files_both : (certs : List FileFields) (a b : List ℕ) → files_at certs (a ++ b) ≡ files_at certs a ++ files_at certs b
 files_both certs [] b = refl
-files_both certs (k ∷ a) b = one_more (slice_get certs k) (files_at certs (a ++ b)) (files_at certs a) (files_at certs b) (files_both certs a b)
+files_both certs (k ∷ a) b = one_more (slice_get certs k) (files_at certs (a ++ b)) (files_at certs a)
+    (files_at certs b) (files_both certs a b)
 
 -- the file at a place where there is one
-pub file_there : (certs : List FileFields) (place : ℕ) (file : FileFields) → slice_get certs place ≡ Some file → files_at certs (place ∷ []) ≡ file ∷ []
+pub file_there : (certs : List FileFields) (place : ℕ) (file : FileFields) → slice_get certs place ≡ Some file →
+    files_at certs (place ∷ []) ≡ file ∷ []
 file_there certs place file is = ap (λ (o : Option FileFields). cons_option o []) is
 
 pub none_there : (certs : List FileFields) (place : ℕ) → slice_get certs place ≡ None → files_at certs (place ∷ []) ≡ []
 none_there certs place is = ap (λ (o : Option FileFields). cons_option o []) is
 
 -- those of one place more
-pub files_more : (certs before old new : List FileFields) (places : List ℕ) (k : ℕ) → old ≡ before ++ files_at certs places → new ≡ old ++ files_at certs (k ∷ []) → new ≡ before ++ files_at certs (places ++ k ∷ [])
+pub files_more : (certs before old new : List FileFields) (places : List ℕ) (k : ℕ) →
+    old ≡ before ++ files_at certs places → new ≡ old ++ files_at certs (k ∷ []) →
+    new ≡ before ++ files_at certs (places ++ k ∷ [])
 files_more certs before old new places k so_far one =
     one ∙ ap (λ (l : List FileFields). l ++ files_at certs (k ∷ [])) so_far
     ∙ append_assoc before (files_at certs places) (files_at certs (k ∷ []))
@@ -70,33 +79,41 @@ files_more certs before old new places k so_far one =
 -- ---- what was told of the first certificate
 
 -- a verdict that accepts is right where a path leads
-reached_by : (x : Context) (asked : RevocationChecks) (root : Root) (members : List Candidate) (octets : List ℕ) (v : Result Judged PathFault) → IsOk v → IsRightOf x asked root members octets v → (kind : Kind) × (j : Judged) × BeginsWithKind kind octets × IsAcceptedAs x asked root members kind octets j
+reached_by : (x : Context) (asked : RevocationChecks) (root : Root) (members : List Candidate) (octets : List ℕ)
+    (v : Result Judged PathFault) → IsOk v → IsRightOf x asked root members octets v →
+    (kind : Kind) × (j : Judged) × BeginsWithKind kind octets × IsAcceptedAs x asked root members kind octets j
 reached_by x asked root members octets (Ok j) ok h = (h.0, j, h.1, h.2)
 reached_by x asked root members octets (Err e) ok h = absurd cc
 
-pub told_reached : (x : Context) (asked : RevocationChecks) (root : Root) (certs : List (List ℕ)) (ts : List Told) → AllByRecursion (IsRight x asked root certs) ts → (above : List ℕ) (place : ℕ) → IsTold ts above place → IsReached x asked root certs above place
+pub told_reached : (x : Context) (asked : RevocationChecks) (root : Root) (certs : List (List ℕ)) (ts : List Told) →
+    AllByRecursion (IsRight x asked root certs) ts → (above : List ℕ) (place : ℕ) → IsTold ts above place →
+    IsReached x asked root certs above place
 told_reached x asked root certs ts right above place h =
     let t = h.1 in
-    let is : IsRight x asked root certs t = subst (λ (u : Told). IsRight x asked root certs u) h.3 (All-from_recursion (IsRight x asked root certs) ts right h.0 t h.2) in
+    let is : IsRight x asked root certs t = subst (λ (u : Told). IsRight x asked root certs u) h.3
+    (All-from_recursion (IsRight x asked root certs) ts right h.0 t h.2) in
     reached_by x asked root (members_at root certs above) (octets_at certs place) t.verdict h.4.2
     (subst (λ (p : ℕ). IsRightOf x asked root (members_at root certs above) (octets_at certs p) t.verdict) h.4.1
     (subst (λ (l : List ℕ). IsRightOf x asked root (members_at root certs l) (octets_at certs t.place) t.verdict) h.4.0 is))
 
 module _ (ts : List Told) (place : ℕ) where
   -- its line accepts it below these
-  pub line_tells : (o : Option Line) (above : List ℕ) → above_by o ≡ Some above → ((l : Line) → o ≡ Some l → IsLine ts place l) → IsTold ts above place
+  pub line_tells : (o : Option Line) (above : List ℕ) → above_by o ≡ Some above →
+      ((l : Line) → o ≡ Some l → IsLine ts place l) → IsTold ts above place
   line_tells None above e kept = absurd cc
   line_tells (Some line.Unseen) above e kept = absurd cc
   line_tells (Some (line.Accepted paths)) above e kept =
       let same : paths.first.above.items ≡ above = cc in
-      subst (λ (l : List ℕ). IsTold ts l place) same (told_so ts place paths.first (first_told ts place paths (kept (line.Accepted paths) refl)))
+      subst (λ (l : List ℕ). IsTold ts l place) same
+      (told_so ts place paths.first (first_told ts place paths (kept (line.Accepted paths) refl)))
   line_tells (Some (line.Rejected n f)) above e kept = absurd cc
 
   never : (P : Told → Type 0) → AllByRecursion P ts → (above : List ℕ) (h : IsTold ts above place) → P h.1
   never P all above h = subst P h.3 (All-from_recursion P ts all h.0 h.1 h.2)
 
   -- its line doesn't accept it
-  pub line_denies : (o : Option Line) (l : Line) → o ≡ Some l → above_by o ≡ None → ((l : Line) → o ≡ Some l → IsLine ts place l) → (above : List ℕ) → IsTold ts above place → ⊥
+  pub line_denies : (o : Option Line) (l : Line) → o ≡ Some l → above_by o ≡ None →
+      ((l : Line) → o ≡ Some l → IsLine ts place l) → (above : List ℕ) → IsTold ts above place → ⊥
   line_denies None l is e kept above h = absurd cc
   line_denies (Some line.Unseen) l is e kept above h =
       never (λ t. t.place ≡ place → ⊥) (kept line.Unseen refl) above h h.4.1
@@ -109,13 +126,15 @@ some_there [] low = absurd (omega (arith, low))
 some_there (x ∷ xs) low = (x, refl)
 
 -- the line at a place is that of the verdicts
-pub line_kept : (ts : List Told) (lines : List Line) (place : ℕ) → AreLines ts lines → (l : Line) → slice_get lines place ≡ Some l → IsLine ts place l
+pub line_kept : (ts : List Told) (lines : List Line) (place : ℕ) → AreLines ts lines → (l : Line) →
+    slice_get lines place ≡ Some l → IsLine ts place l
 line_kept ts lines place are l is =
     subst (λ (m : Line). IsLine ts place m) (get_or_from_slice_get lines place l l is) (are place l (slice_get_within lines place l is))
 
 -- ---- the path
 
-module _ (law : IsUnambiguous IsCertificate) (x : Context) (q : TreeFields) (l : LocatorFields) (file : FileFields) (tree : Tree) (is : IsTreeWith x q l file tree) where
+module _ (law : IsUnambiguous IsCertificate) (x : Context) (q : TreeFields) (l : LocatorFields) (file : FileFields)
+    (tree : Tree) (is : IsTreeWith x q l file tree) where
   abbrev tree_certs : List (List ℕ)
   tree_certs = contents (certs_of tree)
 
@@ -144,9 +163,12 @@ module _ (law : IsUnambiguous IsCertificate) (x : Context) (q : TreeFields) (l :
   abbrev admits : List ℕ → ℕ → Type 0
   admits = IsLookedAt q.names (IsFirstIn tree.firsts) top tree_certs
 
-  tells : Tells {E = WalkError} x asked admits (at_anchor is.grown.locator is.grown.anchor.octets) tree_certs [] q.depth q.steps (Ok tree.ended) is.grown.told
+  tells : Tells {E = WalkError} x asked admits (at_anchor is.grown.locator is.grown.anchor.octets) tree_certs []
+      q.depth q.steps (Ok tree.ended) is.grown.told
   tells =
-      let begins : Means IsCertificate top is.grown.anchor.octets = subst (λ (o : List ℕ). Means IsCertificate top o) (octets_there (certs_of tree) tree.anchor is.grown.anchor is.grown.stands) is.grown.anchor_is.valid.stands in
+      let begins : Means IsCertificate top is.grown.anchor.octets = subst (λ (o : List ℕ). Means IsCertificate top o)
+      (octets_there (certs_of tree) tree.anchor is.grown.anchor is.grown.stands)
+      is.grown.anchor_is.valid.stands in
       is.grown.tells top begins
 
   -- the line of the file accepts it: a valid path leads to it
@@ -157,7 +179,8 @@ module _ (law : IsUnambiguous IsCertificate) (x : Context) (q : TreeFields) (l :
         let_in_all q.names top tree_certs tree.firsts [] (above ++ 0 ∷ []) (told_let_in admits 0 is.grown.told above tells.let_in told),
       )
 
-  pub valid_by : (above : List ℕ) (path : List FileFields) → above_by (line_at tree 0) ≡ Some above → path ≡ files_at (certs_of tree) (tree.anchor ∷ above) ++ file ∷ [] → IsValidPathTo x q l file path
+  pub valid_by : (above : List ℕ) (path : List FileFields) → above_by (line_at tree 0) ≡ Some above →
+      path ≡ files_at (certs_of tree) (tree.anchor ∷ above) ++ file ∷ [] → IsValidPathTo x q l file path
   valid_by above path e path_is =
       let files = path_is ∙ ap (λ (o : Option FileFields). cons_option o (files_at (certs_of tree) above) ++ file ∷ []) is.grown.stands in
       record {
@@ -166,7 +189,9 @@ module _ (law : IsUnambiguous IsCertificate) (x : Context) (q : TreeFields) (l :
         above = above;
         leads = leads_by above e;
         path_is = files;
-        is_valid = subst (λ (l : List FileFields). IsValidAmong x asked (contents l)) (sym files) (reached_files x asked is.grown.locator is.grown.anchor file (certs_of tree) above is.first_is (leads_by above e).0);
+        is_valid = subst (λ (l : List FileFields). IsValidAmong x asked (contents l)) (sym files)
+            (reached_files x asked is.grown.locator is.grown.anchor file (certs_of tree) above is.first_is
+            (leads_by above e).0);
       }
 
   -- there is a line of the file
@@ -182,20 +207,27 @@ module _ (law : IsUnambiguous IsCertificate) (x : Context) (q : TreeFields) (l :
     is = is;
     none = λ above covers leads.
         let firsts = map (first_of tree.firsts) above in
-        let covers_them : Covers tree.ended q.depth (length firsts + 1) = subst (λ (n : ℕ). Covers tree.ended q.depth (n + 1)) (sym (length-map above (first_of tree.firsts))) covers in
-        let looked = looked_first law tree_certs tree.firsts is.grown.firsts_are x asked is.grown.locator is.grown.anchor.octets above 0 leads.0 q.names top first_place leads.1 in
-        let reached = reached_first law tree_certs tree.firsts is.grown.firsts_are x asked is.grown.locator is.grown.anchor.octets above 0 leads.0 in
+        let covers_them : Covers tree.ended q.depth (length firsts + 1) =
+        subst (λ (n : ℕ). Covers tree.ended q.depth (n + 1)) (sym (length-map above (first_of tree.firsts)))
+        covers in
+        let looked = looked_first law tree_certs tree.firsts is.grown.firsts_are x asked is.grown.locator
+        is.grown.anchor.octets above 0 leads.0 q.names top first_place leads.1 in
+        let reached = reached_first law tree_certs tree.firsts is.grown.firsts_are x asked is.grown.locator
+        is.grown.anchor.octets above 0 leads.0 in
         line_denies is.grown.told 0 (line_at tree 0) first_line.0 first_line.1 e kept_first firsts
         (tells.complete firsts 0 covers_them looked reached);
   }
 
 -- ---- a file alone
 
-pub alone_in : (x : Context) (q : TreeFields) (file : FileFields) (path : List FileFields) → StandsAlone q file → path ≡ file ∷ [] → IsSoughtPath x q file path Whole
+pub alone_in : (x : Context) (q : TreeFields) (file : FileFields) (path : List FileFields) → StandsAlone q file →
+    path ≡ file ∷ [] → IsSoughtPath x q file path Whole
 alone_in x q file path stands path_is = subst (λ (l : List FileFields). IsSoughtPath x q file l Whole) (sym path_is) (alone stands)
 
 -- what is sought to the first of the files is sought to whichever that is
-pub of_first : (x : Context) (q : TreeFields) (path : List FileFields) (ended : Ended) (all rest : List FileFields) (file : FileFields) → all ≡ file ∷ rest → IsSoughtPath x q file path ended → (first : FileFields) (more : List FileFields) → all ≡ first ∷ more → IsSoughtPath x q first path ended
+pub of_first : (x : Context) (q : TreeFields) (path : List FileFields) (ended : Ended) (all rest : List FileFields)
+    (file : FileFields) → all ≡ file ∷ rest → IsSoughtPath x q file path ended →
+    (first : FileFields) (more : List FileFields) → all ≡ first ∷ more → IsSoughtPath x q first path ended
 of_first x q path ended all rest file is sought first more e =
     let both : file ∷ rest ≡ first ∷ more = sym is ∙ e in
     let same : file ≡ first = cc in
@@ -208,21 +240,27 @@ no_list_here false h = refl
 
 -- ---- the file is the first certificate
 
-pub first_certificate : (file : FileFields) (more certs : List FileFields) → BeginsWithCertificate file.octets → AreCertificatesOf (file ∷ more) certs → slice_get certs 0 ≡ Some file
+pub first_certificate : (file : FileFields) (more certs : List FileFields) → BeginsWithCertificate file.octets →
+    AreCertificatesOf (file ∷ more) certs → slice_get certs 0 ≡ Some file
 first_certificate file more certs begins (inl h) = absurd (h.0 begins)
 first_certificate file more certs begins (inr h) = ap (λ (l : List FileFields). slice_get l 0) h.3
 
-pub with_first : (x : Context) (q : TreeFields) (l : LocatorFields) (file : FileFields) (more : List FileFields) (tree : Tree) → q.files ≡ file ∷ more → BeginsWithCertificate file.octets → IsTreeOf x q l tree → IsTreeWith x q l file tree
+pub with_first : (x : Context) (q : TreeFields) (l : LocatorFields) (file : FileFields) (more : List FileFields)
+    (tree : Tree) → q.files ≡ file ∷ more → BeginsWithCertificate file.octets → IsTreeOf x q l tree →
+    IsTreeWith x q l file tree
 with_first x q l file more tree files_are begins grown = record {
   grown = grown;
-  first_is = first_certificate file more (certs_of tree) begins (subst (λ (l : List FileFields). AreCertificatesOf l (certs_of tree)) files_are grown.certs_are);
+  first_is = first_certificate file more (certs_of tree) begins
+      (subst (λ (l : List FileFields). AreCertificatesOf l (certs_of tree)) files_are grown.certs_are);
 }
 
 -- ---- of all locators
 
-module _ (law : IsUnambiguous IsCertificate) (x : Context) (q : TreeFields) (file : FileFields) (more : List FileFields) (files_are : q.files ≡ file ∷ more) (begins : BeginsWithCertificate file.octets) where
+module _ (law : IsUnambiguous IsCertificate) (x : Context) (q : TreeFields) (file : FileFields)
+    (more : List FileFields) (files_are : q.files ≡ file ∷ more) (begins : BeginsWithCertificate file.octets) where
   -- of one of them
-  valid_of : (l : LocatorFields) (answer : TreeAnswer) → IsTreeAnswer x q l answer → (path : List FileFields) → IsAcceptedIn file path answer → IsValidPathTo x q l file path
+  valid_of : (l : LocatorFields) (answer : TreeAnswer) → IsTreeAnswer x q l answer → (path : List FileFields) →
+      IsAcceptedIn file path answer → IsValidPathTo x q l file path
   valid_of l (NoAnchor wrong) is path h = absurd h
   valid_of l (Walked tree) is path h =
       valid_by law x q l file tree (with_first x q l file more tree files_are begins is) h.0 path h.1 h.2
@@ -240,14 +278,17 @@ module _ (law : IsUnambiguous IsCertificate) (x : Context) (q : TreeFields) (fil
         valid path trees are (h.0, part, h.2, h.3, valid_of part.locator.now part.answer is path h.4)
 
     module _ (denies : All (λ part. DeniesFirst part.answer) trees.parts.items) where
-      pub named_sought : IsNamedAmong trees.parts.items file path → (ended : Ended) → ended ≡ worst_end trees.parts.items → IsSoughtPath x q file path ended
+      pub named_sought : IsNamedAmong trees.parts.items file path → (ended : Ended) →
+          ended ≡ worst_end trees.parts.items → IsSoughtPath x q file path ended
       named_sought named ended ended_is =
           subst (λ (e : Ended). IsSoughtPath x q file path e) (sym ended_is)
           (invalid path trees are
-          (λ k d low. none_of (slice_index_or trees.parts.items k d).locator.now (slice_index_or trees.parts.items k d).answer (are.parts_are k d low) (denies k d low))
+          (λ k d low. none_of (slice_index_or trees.parts.items k d).locator.now
+          (slice_index_or trees.parts.items k d).answer (are.parts_are k d low) (denies k d low))
           named)
 
-    pub unanchored_sought : All (λ part. IsUnanchored part.answer) trees.parts.items → path ≡ first_wrong (wrong_of trees.parts.items) ++ file ∷ [] → IsSoughtPath x q file path Whole
+    pub unanchored_sought : All (λ part. IsUnanchored part.answer) trees.parts.items →
+        path ≡ first_wrong (wrong_of trees.parts.items) ++ file ∷ [] → IsSoughtPath x q file path Whole
     unanchored_sought none path_is = subst (λ (l : List FileFields). IsSoughtPath x q file l Whole) (sym path_is) (no_anchor trees are none)
 
 -- ---- those that name one another, part by part
@@ -257,6 +298,7 @@ pub unanchored_stops : (file : FileFields) (answer : TreeAnswer) → IsUnanchore
 unanchored_stops file (NoAnchor wrong) none = tt
 unanchored_stops file (Walked tree) none = absurd none
 
-pub named_stops : (file : FileFields) (path : List FileFields) (answer : TreeAnswer) → IsNamedIn answer file false path → DoesNotReach file answer
+pub named_stops : (file : FileFields) (path : List FileFields) (answer : TreeAnswer) →
+    IsNamedIn answer file false path → DoesNotReach file answer
 named_stops file path (NoAnchor wrong) named = tt
 named_stops file path (Walked tree) named = (path, named)

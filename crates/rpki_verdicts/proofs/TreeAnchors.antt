@@ -11,9 +11,11 @@ use Rattle.rpki_der.proofs.Formats.{one_meant}
 use Rattle.rpki_files.specs.Files.{FileFields}
 use Rattle.rpki_verdicts.specs.GivenLocators.{LocatorFields, HasKeyRead, HasLocator, HasTalRead, IsAnchorOf}
 
-module _ (locators : List LocatorFields) (file : FileFields) (cert : CertFields) (begins : Means IsCertificate cert file.octets) (key : KeyFields) (key_is : key ≡ cert.fields.key) where
+module _ (locators : List LocatorFields) (file : FileFields) (cert : CertFields)
+    (begins : Means IsCertificate cert file.octets) (key : KeyFields) (key_is : key ≡ cert.fields.key) where
   -- what was read of a locator of its key
-  pub anchor_found : {X : Type 0} (now : X → NamedTal) (o : Option X) → IfSome o (λ t. HasTalRead locators key (now t)) → IfSome o (λ t. IsAnchorOf locators (now t) file)
+  pub anchor_found : {X : Type 0} (now : X → NamedTal) (o : Option X) →
+      IfSome o (λ t. HasTalRead locators key (now t)) → IfSome o (λ t. IsAnchorOf locators (now t) file)
   anchor_found now None h = tt
   anchor_found now (Some t) h = (h.0, record { cert = cert; begins = begins; key_is = sym key_is ∙ h.1 })
 
@@ -27,10 +29,12 @@ module _ (locators : List LocatorFields) (file : FileFields) (cert : CertFields)
       none (l.0, l.1, l.2, l.3, subst (λ (r : Result NamedTal TalError). IsOkAnd r (λ t. key ≡ t.tal.key)) (sym l.4) same_key)
 
   -- where none is found, there is none
-  pub none_found : IsUnambiguous IsCertificate → {X : Type 0} (o : Option X) → IfNone o (Any (HasKeyRead key) locators → ⊥) → IfNone o (HasLocator locators file → ⊥)
+  pub none_found : IsUnambiguous IsCertificate → {X : Type 0} (o : Option X) →
+      IfNone o (Any (HasKeyRead key) locators → ⊥) → IfNone o (HasLocator locators file → ⊥)
   none_found one None none = no_other one none
   none_found one (Some t) none = tt
 
 -- a file without a certificate has none
-pub none_of_no_certificate : (locators : List LocatorFields) (file : FileFields) → ((c : CertFields) → Means IsCertificate c file.octets → ⊥) → HasLocator locators file → ⊥
+pub none_of_no_certificate : (locators : List LocatorFields) (file : FileFields) →
+    ((c : CertFields) → Means IsCertificate c file.octets → ⊥) → HasLocator locators file → ⊥
 none_of_no_certificate locators file none has = none has.1.1.cert has.1.1.begins

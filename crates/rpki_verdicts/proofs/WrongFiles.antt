@@ -22,7 +22,8 @@ use Rattle.rpki_verdicts.proofs.FilesAt.{octets_there}
 
 module _ (certs : List FileFields) where
   -- what is told of a candidate at a place
-  any_told : (place : ℕ) (cs : List WrongCandidate) (ws : List WrongAnchor) → AllZip (IsToldOf certs) cs ws → (k : ℕ) (d : WrongCandidate) → k < length cs → (get_or cs k d).place ≡ place → Any (λ w. w.place ≡ place) ws
+  any_told : (place : ℕ) (cs : List WrongCandidate) (ws : List WrongAnchor) → AllZip (IsToldOf certs) cs ws →
+      (k : ℕ) (d : WrongCandidate) → k < length cs → (get_or cs k d).place ≡ place → Any (λ w. w.place ≡ place) ws
   any_told place [] ws told k d low is = absurd (omega (arith, low))
   any_told place (c ∷ cs) [] told k d low is = absurd told
   any_told place (c ∷ cs) (w ∷ ws) told zero d low is = (0, w, omega arith, refl, told.0.place_is ∙ is)
@@ -31,14 +32,17 @@ module _ (certs : List FileFields) where
       let within = a.2 in
       (suc a.0, a.1, omega (arith, within), a.3, a.4)
 
-  all_stand : (cs : List WrongCandidate) (ws : List WrongAnchor) → AllZip (IsToldOf certs) cs ws → AllByRecursion (λ w. slice_get certs w.place ≡ Some w.file.now) ws
+  all_stand : (cs : List WrongCandidate) (ws : List WrongAnchor) → AllZip (IsToldOf certs) cs ws →
+      AllByRecursion (λ w. slice_get certs w.place ≡ Some w.file.now) ws
   all_stand [] [] told = tt
   all_stand [] (w ∷ ws) told = absurd told
   all_stand (c ∷ cs) [] told = absurd told
   all_stand (c ∷ cs) (w ∷ ws) told = (ap (slice_get certs) told.0.place_is ∙ told.0.stands, all_stand cs ws told.1)
 
   module _ (x : Context) (q : TreeFields) (t : NamedTal) (asked : RevocationChecks) where
-    is_wrong : (c : WrongCandidate) (w : WrongAnchor) → IsWrongAnchor x asked q.names t (octets_at (contents certs) c.place) c.error → IsToldOf certs c w → IsWrongOf x asked q.names t w.file.now w.fault
+    is_wrong : (c : WrongCandidate) (w : WrongAnchor) →
+        IsWrongAnchor x asked q.names t (octets_at (contents certs) c.place) c.error → IsToldOf certs c w →
+        IsWrongOf x asked q.names t w.file.now w.fault
     is_wrong c w wrong told =
         let same = octets_there certs c.place w.file.now told.stands in
         record {
@@ -48,19 +52,24 @@ module _ (certs : List FileFields) where
           reason_is = told.reason_is;
         }
 
-    all_wrong : (cs : List WrongCandidate) (ws : List WrongAnchor) → AllByRecursion (λ c. IsWrongAnchor x asked q.names t (octets_at (contents certs) c.place) c.error) cs → AllZip (IsToldOf certs) cs ws → AllByRecursion (λ w. IsWrongOf x asked q.names t w.file.now w.fault) ws
+    all_wrong : (cs : List WrongCandidate) (ws : List WrongAnchor) →
+        AllByRecursion (λ c. IsWrongAnchor x asked q.names t (octets_at (contents certs) c.place) c.error) cs →
+        AllZip (IsToldOf certs) cs ws → AllByRecursion (λ w. IsWrongOf x asked q.names t w.file.now w.fault) ws
     all_wrong [] [] each told = tt
     all_wrong [] (w ∷ ws) each told = absurd told
     all_wrong (c ∷ cs) [] each told = absurd told
     all_wrong (c ∷ cs) (w ∷ ws) each told = (is_wrong c w each.0 told.0, all_wrong cs ws each.1 told.1)
 
   -- none is valid
-  pub none_found : (x : Context) (q : TreeFields) (l : LocatorFields) (t : NamedTal) (folder : FolderFields) → IsFolderOf q.files certs folder → l.read ≡ Ok t
-      → (cs : List WrongCandidate) → AreWrongAnchors x (by_named_lists q.names x folder.lists) q.names t folder.certs (length folder.certs) cs → HasNoValid x (by_named_lists q.names x folder.lists) q.names t folder.certs
+  pub none_found : (x : Context) (q : TreeFields) (l : LocatorFields) (t : NamedTal) (folder : FolderFields) →
+      IsFolderOf q.files certs folder → l.read ≡ Ok t
+      → (cs : List WrongCandidate) → AreWrongAnchors x (by_named_lists q.names x folder.lists) q.names t folder.certs
+      (length folder.certs) cs → HasNoValid x (by_named_lists q.names x folder.lists) q.names t folder.certs
       → (ws : List WrongAnchor) → AllZip (IsToldOf certs) cs ws → HasNoAnchor x q l ws
   none_found x q l t folder of read cs are none ws told =
       let asked = by_named_lists q.names x folder.lists in
-      let wrong : AreWrongAnchors x asked q.names t (contents certs) (length (contents certs)) cs = subst (λ (o : List (List ℕ)). AreWrongAnchors x asked q.names t o (length o) cs) of.octets_are are in
+      let wrong : AreWrongAnchors x asked q.names t (contents certs) (length (contents certs)) cs =
+      subst (λ (o : List (List ℕ)). AreWrongAnchors x asked q.names t o (length o) cs) of.octets_are are in
       record {
         certs = certs;
         certs_are = of.certs_are;

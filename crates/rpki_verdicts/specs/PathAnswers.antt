@@ -18,7 +18,8 @@ use Rattle.rpki_path.specs.LocatedPaths.{BeginsWithNoNumber}
 use Rattle.rpki_path.specs.NameChains.{BeginChained, IsUnchained, strings_below}
 use Rattle.rpki_files.specs.Contents.{BeginsWithCertificate}
 use Rattle.rpki_files.specs.FaultRules.{rule_of}
-use Rattle.rpki_verdicts.specs.Reasons.{ReasonFields, reason, IsReason, key_reason, locator_reason, name_reason, resources_reason, tal_reason}
+use Rattle.rpki_verdicts.specs.Reasons.{ReasonFields, reason, IsReason, key_reason, locator_reason, name_reason}
+use Rattle.rpki_verdicts.specs.Reasons.{resources_reason, tal_reason}
 use Rattle.rpki_files.specs.LocatorFiles.{AreLocator}
 use Rattle.rpki_verdicts.specs.GivenLocators.{HasNumbersIf, IsLocated}
 use Rattle.rpki_verdicts.specs.PathFiles.{Demands, IsGivenBy, AreListsOf}

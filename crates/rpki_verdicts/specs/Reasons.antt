@@ -10,7 +10,8 @@ use Rattle.rpki_crl.specs.Revocation.{revocation_error_name}
 use Rattle.rpki_keys.specs.declared.tal.tal_error.TalError.{TalError}
 use Rattle.rpki_keys.specs.TalErrors.{tal_error_name}
 use Rattle.rpki_cert.specs.Verification.{verification_error_name}
-use Rattle.rpki_files.specs.FaultRules.{RuleFields, IsProfileRule, IsReadingRule, key_rule, name_rule, no_memory, no_resources, other_key, revocation_rule, tal_rule, verification_rule}
+use Rattle.rpki_files.specs.FaultRules.{RuleFields, IsProfileRule, IsReadingRule, key_rule, name_rule, no_memory}
+use Rattle.rpki_files.specs.FaultRules.{no_resources, other_key, revocation_rule, tal_rule, verification_rule}
 
 -- the step at which a fault comes, its name, and its rule
 pub record ReasonFields : Type 0 where

@@ -9,7 +9,9 @@ use Rattle.std.specs.Option.{option_map}
 use Rattle.std.specs.Ordering.{nat_cmp, ordering_then}
 use Rattle.std.specs.declared.cmp.Ordering.{Ordering}
 use Rattle.std.specs.declared.cmp.Ordering.TheVariants.{Less}
-use Rattle.std.specs.Prelude.{◌≡◌, ◌==◌, ◌⊎◌, ◌+◌, ◌↔◌, ℕ, Bool, false, if◌then◌else◌, All, Any, Contains, List, [], ◌∷◌, ◌++◌, codes, drop, length, map, nat_eq, reverse, slice_get, unwrap_or, MatchOption, Option, None, Some}
+use Rattle.std.specs.Prelude.{◌≡◌, ◌==◌, ◌⊎◌, ◌+◌, ◌↔◌, ℕ, Bool, false, if◌then◌else◌, All, Any, Contains, List, []}
+use Rattle.std.specs.Prelude.{◌∷◌, ◌++◌, codes, drop, length, map, nat_eq, reverse, slice_get, unwrap_or, MatchOption}
+use Rattle.std.specs.Prelude.{Option, None, Some}
 use Rattle.rpki_blocks.specs.Sets.{AreIn, Block}
 use Rattle.rpki_cert.specs.Certificates.{CertFields, IsCertificate}
 use Rattle.rpki_cert.specs.Verification.{ResourceFields}

@@ -2,7 +2,8 @@
 -- certificate (RFC 8630 3; own: which of them is told).
 use Rattle.std.specs.List.{list_any}
 use Rattle.std.specs.Option.{option_or}
-use Rattle.std.specs.Prelude.{◌≡◌, ◌≢◌, ◌==◌, ◌⊎◌, ◌&&◌, ℕ, zero, suc, Bool, true, IsTrue, if◌then◌else◌, List, [], ◌∷◌, ◌++◌, length, map, nat_le, find, flat_map, fold, All, Any, Option, Some, Ok}
+use Rattle.std.specs.Prelude.{◌≡◌, ◌≢◌, ◌==◌, ◌⊎◌, ◌&&◌, ℕ, zero, suc, Bool, true, IsTrue, if◌then◌else◌, List, []}
+use Rattle.std.specs.Prelude.{◌∷◌, ◌++◌, length, map, nat_le, find, flat_map, fold, All, Any, Option, Some, Ok}
 use Rattle.rpki_cert.specs.Verification.{Context}
 use Rattle.rpki_files.specs.Files.{FileFields}
 use Rattle.rpki_folder.specs.Walks.{worse}

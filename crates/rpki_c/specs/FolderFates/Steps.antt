@@ -1,5 +1,6 @@
 -- What the steps give by which strings are judged.
-use Rattle.std.specs.Prelude.{◌≡◌, ◌==◌, ◌<◌, ℕ, Bool, List, [], ◌∷◌, length, map, slice_index_or, if◌then◌else◌, IsTrue}
+use Rattle.std.specs.Prelude.{◌≡◌, ◌==◌, ◌<◌, ℕ, Bool, List, [], ◌∷◌, length, map, slice_index_or, if◌then◌else◌}
+use Rattle.std.specs.Prelude.{IsTrue}
 use Rattle.std.specs.List.{AllByRecursion}
 use Rattle.rpki_ext.specs.Kinds.{Means}
 use Rattle.rpki_cert.specs.Certificates.{CertFields, IsCertificate}
@@ -26,7 +27,8 @@ use Rattle.rpki_folder.specs.declared.lines.Line.TheVariants.{Unseen, Accepted, 
 use Rattle.rpki_folder.specs.declared.walk_error.WalkError.{WalkError}
 use Rattle.rpki_folder.specs.declared.walk_error.WalkError.TheVariants.{Anchor, OtherName, Memory}
 use Rattle.rpki_c.specs.Verdicts.{AreNoList}
-use Rattle.rpki_c.specs.FolderFates.{Fate, anchor, list, neither, unseen, accepted, rejected, IsTakenFor, AreListsAmong, AreCertificatesAmong}
+use Rattle.rpki_c.specs.FolderFates.{Fate, anchor, list, neither, unseen, accepted, rejected, IsTakenFor}
+use Rattle.rpki_c.specs.FolderFates.{AreListsAmong, AreCertificatesAmong}
 use Rattle.rpki_c.specs.declared.folder_lines.WalkLines.{WalkLines}
 use Rattle.rpki_c.specs.declared.refusal.Refusal.{Refusal}
 use Rattle.rpki_c.specs.declared.refusal.Refusal.TheVariants as refusal

@@ -1,6 +1,7 @@
 -- The reading functions of values of the primitive types.
 use Rattle.std.specs.Int.Digits.{number_from_digits}
-use Rattle.std.specs.Prelude.{ℕ, Bool, true, false, List, [], ◌∷◌, nat_eq, if◌then◌else◌, Option, Some, None, ◌&&◌, ◌||◌, not, nat_lt, ◌^◌, ◌%◌}
+use Rattle.std.specs.Prelude.{ℕ, Bool, true, false, List, [], ◌∷◌, nat_eq, if◌then◌else◌, Option, Some, None, ◌&&◌}
+use Rattle.std.specs.Prelude.{◌||◌, not, nat_lt, ◌^◌, ◌%◌}
 use Rattle.rpki_der.specs.Reading.{content, map_value, optional}
 use Rattle.rpki_der.specs.Tags.{BOOLEAN, INTEGER, OCTET_STRING, NULL, BIT_STRING, OBJECT_IDENTIFIER}
 use Rattle.rpki_der.specs.Values.Reading.{value_at}

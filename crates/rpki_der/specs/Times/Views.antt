@@ -15,7 +15,15 @@ use Rattle.rpki_der.specs.Times.{Moment}
 
 -- the moment that they show
 abbrev pub moment_of : DateTime → Moment
-moment_of t = record { year = unsigned_abs t.date.year; month = t.date.month; day = t.date.day; hour = t.time.hour; minute = t.time.minute; second = t.time.second }
+moment_of t = record {
+  year = unsigned_abs t.date.year;
+  month = t.date.month;
+  day = t.date.day;
+  hour =
+      t.time.hour;
+  minute = t.time.minute;
+  second = t.time.second;
+}
 
 -- from the year 0 on, whole seconds
 pub record IsWhole (t : DateTime) : Type 0 where
@@ -49,7 +57,8 @@ date_of m = record {
   day = within (days_in_month (pos (min m.year 9999)) (within 12 m.month)) m.day;
   year_in = year_in m.year;
   month_in = within_is 12 m.month (omega arith);
-  day_in = within_is (days_in_month (pos (min m.year 9999)) (within 12 m.month)) m.day (month_has_days (pos (min m.year 9999)) (within 12 m.month));
+  day_in = within_is (days_in_month (pos (min m.year 9999)) (within 12 m.month)) m.day
+      (month_has_days (pos (min m.year 9999)) (within 12 m.month));
 }
 
 -- the smaller number is at most the greatest
@@ -111,7 +120,9 @@ date_is t h =
     let d = t.date in
     let year : pos (min (unsigned_abs d.year) 9999) ≡ d.year = year_is d.year h d.year_in.1 in
     let month : within 12 d.month ≡ d.month = omega (arith, d.month_in) in
-    let days : days_in_month (pos (min (unsigned_abs d.year) 9999)) (within 12 d.month) ≡ days_in_month d.year d.month = ap (λ (y : ℤ). days_in_month y (within 12 d.month)) year ∙ ap (days_in_month d.year) month in
+    let days : days_in_month (pos (min (unsigned_abs d.year) 9999)) (within 12 d.month) ≡
+    days_in_month d.year d.month = ap (λ (y : ℤ). days_in_month y (within 12 d.month)) year ∙
+    ap (days_in_month d.year) month in
     let same : within (days_in_month d.year d.month) d.day ≡ d.day = omega (arith, d.day_in) in
     same_date (date_of (moment_of t)) d year month (ap (λ (n : ℕ). within n d.day) days ∙ same)
 

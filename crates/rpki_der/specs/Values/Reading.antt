@@ -1,5 +1,6 @@
 -- Reading functions of values: of octets they give a value and the octets after it, or nothing.
-use Rattle.std.specs.Prelude.{Option, Some, None, ℕ, List, nat_lt, if◌then◌else◌, [], ◌∷◌, ◌+◌, ◌*◌, nat_eq, length, take, drop, ◌%◌, ◌&&◌, not}
+use Rattle.std.specs.Prelude.{Option, Some, None, ℕ, List, nat_lt, if◌then◌else◌, [], ◌∷◌, ◌+◌, ◌*◌, nat_eq, length}
+use Rattle.std.specs.Prelude.{take, drop, ◌%◌, ◌&&◌, not}
 
 infixl 10 ◌>>=◌
 abbrev pub ◌>>=◌ : {A B : Type 0} → Option A → (A → Option B) → Option B

@@ -31,7 +31,8 @@ kind_fold kind = once_fold (is_of (identifiers kind)) (told kind) (Tells kind)
 
 -- the mode that an identifier shows
 abbrev pub mode_by : {V : Type 0} → (Overclaim → ExtensionKind V) → List ℕ → Option Overclaim
-mode_by kinds id = if bytes_eq id (kinds Refuse).identifier then Some Refuse else if bytes_eq id (kinds Trim).identifier then Some Trim else None
+mode_by kinds id = if bytes_eq id (kinds Refuse).identifier then Some Refuse else if bytes_eq id
+    (kinds Trim).identifier then Some Trim else None
 
 -- the mode that the identifier shows, and the value that the extension tells
 abbrev pub told_with_mode : {V : Type 0} → (Overclaim → ExtensionKind V) → Extension → Option (Overclaim × V)

@@ -1,11 +1,13 @@
 -- The limits that a walk reaches below an issuer, and what the share there costs.
-use Rattle.std.specs.Prelude.{◌≡◌, ◌^◌, ◌+◌, ◌*◌, ◌<◌, ◌≤◌, ℕ, List, ◌∷◌, ◌++◌, length, slice_index_or, Contains, Option, None, Some}
+use Rattle.std.specs.Prelude.{◌≡◌, ◌^◌, ◌+◌, ◌*◌, ◌<◌, ◌≤◌, ℕ, List, ◌∷◌, ◌++◌, length, slice_index_or, Contains}
+use Rattle.std.specs.Prelude.{Option, None, Some}
 use Rattle.std.specs.List.{AllByRecursion}
 use Rattle.rpki_cert.specs.Verification.{Context, ResourceFields}
 use Rattle.rpki_path.specs.Asking.{RevocationChecks}
 use Rattle.rpki_folder.specs.Walks.{Root, members_at, LeadsTo}
 use Rattle.rpki_folder.specs.Walks.Steps.{down_to}
-use Rattle.rpki_folder.specs.ReachedLimits.{IsDeepAt, IsShortAt, IsNeed, IsNumber, LimitedCa, IsDeepTold, IsShortTold, end_of}
+use Rattle.rpki_folder.specs.ReachedLimits.{IsDeepAt, IsShortAt, IsNeed, IsNumber, LimitedCa, IsDeepTold}
+use Rattle.rpki_folder.specs.ReachedLimits.{IsShortTold, end_of}
 use Rattle.rpki_folder.specs.LimitTables.{nothing, reached_more}
 use Rattle.rpki_folder.specs.declared.bounds.Ended.{Ended}
 use Rattle.rpki_folder.specs.declared.bounds.Limit.{Limit}

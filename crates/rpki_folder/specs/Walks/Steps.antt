@@ -1,5 +1,6 @@
 -- What one step of a walk gives.
-use Rattle.std.specs.Prelude.{◌≡◌, ◌≢◌, ◌↔◌, ◌⊎◌, ◌*◌, Bool, IsTrue, ◌++◌, ◌∷◌, [], ℕ, List, length, map, Contains, Option, None, Some, Result, Ok, Err, IsErr, IfOk}
+use Rattle.std.specs.Prelude.{◌≡◌, ◌≢◌, ◌↔◌, ◌⊎◌, ◌*◌, Bool, IsTrue, ◌++◌, ◌∷◌, [], ℕ, List, length, map, Contains}
+use Rattle.std.specs.Prelude.{Option, None, Some, Result, Ok, Err, IsErr, IfOk}
 use Rattle.std.specs.List.{AllByRecursion}
 use Rattle.rpki_parts.specs.Signatures.{Verifies}
 use Rattle.rpki_cert.specs.Certificates.{CertFields}
@@ -23,7 +24,9 @@ use Rattle.rpki_folder.specs.declared.walk.Ca.{Ca}
 use Rattle.rpki_folder.specs.declared.walk.Claim.{Claim}
 use Rattle.rpki_folder.specs.declared.walk.Claim.TheVariants.{OtherName, Child, Other}
 use Rattle.rpki_folder.specs.Folders.{octets_at, IsOnce}
-use Rattle.rpki_folder.specs.Walks.{Root, members_at, LeadsTo, Told, told, demand_as, StandsAt, IsNamedUnder, IsChildOf, IsRight, IsLetIn, AreFew, IsShort, IsTooDeep, IsComplete, IsCompleteInShares, IsJudgedInShares, IsEnough}
+use Rattle.rpki_folder.specs.Walks.{Root, members_at, LeadsTo, Told, told, demand_as, StandsAt, IsNamedUnder}
+use Rattle.rpki_folder.specs.Walks.{IsChildOf, IsRight, IsLetIn, AreFew, IsShort, IsTooDeep, IsComplete}
+use Rattle.rpki_folder.specs.Walks.{IsCompleteInShares, IsJudgedInShares, IsEnough}
 
 -- what is answered of octets that are judged as this kind below the issuer
 abbrev pub IsAnswer : Context → RevocationChecks → ResourceFields → List ℕ → Kind

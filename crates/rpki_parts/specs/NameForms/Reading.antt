@@ -20,7 +20,8 @@ unseen before after = if before then None else Some after
 abbrev pub seen_with : Bool → Step Attribute ReadAttributes
 seen_with strict s a =
     if is_text_tag strict a.value_tag
-    then (if bytes_eq a.type_id common_name then unseen s.name (record s { name = true }) else (if bytes_eq a.type_id serial_number then unseen s.number (record s { number = true }) else None))
+    then (if bytes_eq a.type_id common_name then unseen s.name (record s { name = true })
+    else (if bytes_eq a.type_id serial_number then unseen s.number (record s { number = true }) else None))
     else None
 
 -- what was seen, with the attributes of one part more

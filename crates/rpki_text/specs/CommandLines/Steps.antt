@@ -4,8 +4,12 @@ use Rattle.rpki_der.specs.Times.{Moment, IsMoment}
 use Rattle.rpki_text.specs.MomentTexts.{IsMomentText}
 use Rattle.rpki_text.specs.declared.command_line.arguments.Format.{Format}
 use Rattle.rpki_text.specs.declared.command_line.arguments.Setting.{Setting}
-use Rattle.rpki_text.specs.declared.command_line.arguments.Setting.TheVariants.{Crl, Tal, In, Depth, StepCount, At, MaxSize, Output, ShortOutput, Only}
-use Rattle.rpki_text.specs.CommandLines.{IsFormatName, IsNumberText, LinePart, list, locator, folder, depth, steps, at_moment, max_size, output, lenient, json, quiet, all, no_names, trust_first, no_crl, strict_exit, only_rejected, help, RequestFields, setting_name, with_part}
+use Rattle.rpki_text.specs.declared.command_line.arguments.Setting.TheVariants.{Crl, Tal, In, Depth, StepCount, At}
+use Rattle.rpki_text.specs.declared.command_line.arguments.Setting.TheVariants.{MaxSize, Output, ShortOutput, Only}
+use Rattle.rpki_text.specs.CommandLines.{IsFormatName, IsNumberText, LinePart, list, locator, folder, depth, steps}
+use Rattle.rpki_text.specs.CommandLines.{at_moment, max_size, output, lenient, json, quiet, all, no_names}
+use Rattle.rpki_text.specs.CommandLines.{trust_first, no_crl, strict_exit, only_rejected, help, RequestFields}
+use Rattle.rpki_text.specs.CommandLines.{setting_name, with_part}
 
 -- ---- options that take a value
 

@@ -4,7 +4,9 @@ use Rattle.rpki_answers.proofs.showing.file_value.Goals as goal
 
 pub returns-clause-shows : goal.returns-clause-shows
 returns-clause-shows c =
-    rw c.can_be_shown-shows.ensures (subject_shown c.args.options.now.strict c.args.object.now.octets c.in_ok-subject.subject c.in_ok-subject.ensures)
+    rw c.can_be_shown-shows.ensures
+    (subject_shown c.args.options.now.strict c.args.object.now.octets c.in_ok-subject.subject
+    c.in_ok-subject.ensures)
 
 pub returns-clause-value : goal.returns-clause-value
 returns-clause-value c = (nodes_of c.in_ok-parts.parts.items, c.in_ok-parts.ensures, c.in_ok-value.ensures)

@@ -10,7 +10,9 @@ use Rattle.rpki_answers.proofs.WholeValues.{IsWhole, unviewed_whole}
 use Rattle.rpki_answers.proofs.showing.json_of_files.Goals as goal
 
 pub returns-clause-outcome : goal.returns-clause-outcome
-returns-clause-outcome c = outcome_shown c.args.options.now.strict (contents c.args.objects.now) c.of_answer.result c.in_ok-can_be_shown.can_be_shown c.of_answer.ensures.success c.of_answer.ensures.rejection c.in_ok-can_be_shown.ensures.shows
+returns-clause-outcome c = outcome_shown c.args.options.now.strict (contents c.args.objects.now) c.of_answer.result
+    c.in_ok-can_be_shown.can_be_shown c.of_answer.ensures.success c.of_answer.ensures.rejection
+    c.in_ok-can_be_shown.ensures.shows
 
 pub returns-clause-json : goal.returns-clause-json
 returns-clause-json c =

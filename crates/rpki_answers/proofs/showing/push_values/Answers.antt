@@ -24,17 +24,25 @@ loop-object-preserved c =
     let file = c.object-item.result in
     let here = c.in_ok-shows.ensures in
     record {
-      shows = flag_of_more (CanBeShown c.args.options.now.strict) (contents objects) i file.octets (mapped_low (λ file. file.octets) objects i low) (mapped_there (λ file. file.octets) objects i file low c.object-item.is) l.can_be_shown c.in_ok-shows.shows l.invariant.shows here.shows;
-      pushed = grown_more (IsFileItem c.args.options.now) objects i file (map view c.args.values.now.items) (map view l.values.items) (map view c.push_value.new.values.items) low c.object-item.is l.invariant.pushed here.pushed;
+      shows = flag_of_more (CanBeShown c.args.options.now.strict) (contents objects) i file.octets
+          (mapped_low (λ file. file.octets) objects i low)
+          (mapped_there (λ file. file.octets) objects i file low c.object-item.is) l.can_be_shown
+          c.in_ok-shows.shows l.invariant.shows here.shows;
+      pushed = grown_more (IsFileItem c.args.options.now) objects i file (map view c.args.values.now.items)
+          (map view l.values.items) (map view c.push_value.new.values.items) low c.object-item.is l.invariant.pushed
+          here.pushed;
     }
 
 pub returns-clause-shows : goal.returns-clause-shows
 returns-clause-shows c =
     let l = c.loop-object in
     let objects = c.args.objects.now in
-    flag_of_all (CanBeShown c.args.options.now.strict) (contents objects) l.object-index (mapped_high (λ file. file.octets) objects l.object-index c.loop-object-test.false) l.can_be_shown l.invariant.shows
+    flag_of_all (CanBeShown c.args.options.now.strict) (contents objects) l.object-index
+    (mapped_high (λ file. file.octets) objects l.object-index c.loop-object-test.false) l.can_be_shown
+    l.invariant.shows
 
 pub returns-clause-pushed : goal.returns-clause-pushed
 returns-clause-pushed c =
     let l = c.loop-object in
-    grown_all (IsFileItem c.args.options.now) c.args.objects.now l.object-index (map view c.args.values.now.items) (map view l.values.items) c.loop-object-test.false l.invariant.pushed
+    grown_all (IsFileItem c.args.options.now) c.args.objects.now l.object-index (map view c.args.values.now.items)
+    (map view l.values.items) c.loop-object-test.false l.invariant.pushed

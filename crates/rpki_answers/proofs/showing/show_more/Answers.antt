@@ -23,17 +23,25 @@ loop-object-preserved c =
     let file = c.object-item.result in
     let here = c.in_ok-shows.ensures in
     record {
-      shows = flag_of_more (CanBeShown c.args.options.now.strict) (contents objects) i file.octets (mapped_low (λ file. file.octets) objects i low) (mapped_there (λ file. file.octets) objects i file low c.object-item.is) l.can_be_shown c.in_ok-shows.shows l.invariant.shows here.shows;
-      text = grown_more (IsFurtherText c.args.options.now) objects i file (string_bytes c.args.out.now) (string_bytes l.out) (string_bytes c.show_further.new.out) low c.object-item.is l.invariant.text here.text;
+      shows = flag_of_more (CanBeShown c.args.options.now.strict) (contents objects) i file.octets
+          (mapped_low (λ file. file.octets) objects i low)
+          (mapped_there (λ file. file.octets) objects i file low c.object-item.is) l.can_be_shown
+          c.in_ok-shows.shows l.invariant.shows here.shows;
+      text = grown_more (IsFurtherText c.args.options.now) objects i file (string_bytes c.args.out.now)
+          (string_bytes l.out) (string_bytes c.show_further.new.out) low c.object-item.is l.invariant.text
+          here.text;
     }
 
 pub returns-clause-shows : goal.returns-clause-shows
 returns-clause-shows c =
     let l = c.loop-object in
     let objects = c.args.objects.now in
-    flag_of_all (CanBeShown c.args.options.now.strict) (contents objects) l.object-index (mapped_high (λ file. file.octets) objects l.object-index c.loop-object-test.false) l.can_be_shown l.invariant.shows
+    flag_of_all (CanBeShown c.args.options.now.strict) (contents objects) l.object-index
+    (mapped_high (λ file. file.octets) objects l.object-index c.loop-object-test.false) l.can_be_shown
+    l.invariant.shows
 
 pub returns-clause-text : goal.returns-clause-text
 returns-clause-text c =
     let l = c.loop-object in
-    grown_all (IsFurtherText c.args.options.now) c.args.objects.now l.object-index (string_bytes c.args.out.now) (string_bytes l.out) c.loop-object-test.false l.invariant.text
+    grown_all (IsFurtherText c.args.options.now) c.args.objects.now l.object-index (string_bytes c.args.out.now)
+    (string_bytes l.out) c.loop-object-test.false l.invariant.text

@@ -13,7 +13,8 @@ returns c =
     let held = c.in_ok-add_held.ensures in
     let several = c.in_ok-add_paths.ensures in
     ended_some last (IsAccepted c.args.name.now tree paths c.args.kind)
-    (accepted_head c.args.name.now tree above c.args.kind ∷ above_node tree above ∷ aside (document_of held.0) ∷ (several.0 ++ more_nodes paths.more))
+    (accepted_head c.args.name.now tree above c.args.kind ∷ above_node tree above ∷ aside (document_of held.0) ∷
+    (several.0 ++ more_nodes paths.more))
     c.args.parts.now.items c.add_more.new.parts.items
     (held.0, several.0, held.1, several.1, refl)
     (ended_with last _ _ _ c.add_more.ensures

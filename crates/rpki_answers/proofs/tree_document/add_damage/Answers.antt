@@ -5,4 +5,10 @@ use Rattle.rpki_answers.proofs.tree_document.add_damage.Goals as goal
 pub returns : goal.returns
 returns c =
     ended_with c.add_told-4.result _ _ _ c.add_told-4.ensures
-    (rw (c.are_anchors.ensures, c.in_ok-add_told-3.ensures, c.in_ok-add_told-2.ensures, c.in_ok-add_told.ensures, c.in_ok-unasked.ensures) (simp append_assoc))
+    (rw (
+      c.are_anchors.ensures,
+      c.in_ok-add_told-3.ensures,
+      c.in_ok-add_told-2.ensures,
+      c.in_ok-add_told.ensures,
+      c.in_ok-unasked.ensures,
+    ) (simp append_assoc))

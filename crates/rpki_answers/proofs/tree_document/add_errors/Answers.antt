@@ -11,7 +11,8 @@ use Rattle.rpki_answers.proofs.tree_document.add_errors.Goals as goal
 pub loop-name-preserved : goal.loop-name-preserved
 loop-name-preserved c =
     let l = c.loop-name in
-    node_more (λ (n : Bor (List ℕ)). error_node c.args.rows.now n.now) c.deref-name-items.result.now l.name-index _ [] l.each.items c.add_error.new.parts.items
+    node_more (λ (n : Bor (List ℕ)). error_node c.args.rows.now n.now) c.deref-name-items.result.now l.name-index _ []
+    l.each.items c.add_error.new.parts.items
     c.loop-name-test.true l.invariant c.in_ok-add_error.ensures
 
 pub returns : goal.returns
@@ -21,6 +22,8 @@ returns c =
     let old = nodes_of c.args.parts.now.items in
     let names = c.in_ok-names.names.items in
     let f = λ (n : Bor (List ℕ)). error_node rows n.now in
-    let all = l.invariant ∙ ap (λ (ns : List (Bor (List ℕ))). map f ns) (take_all l.name-index c.deref-name-items.result.now c.loop-name-test.false ∙ c.deref-name-items.ensures.value)
+    let all = l.invariant ∙ ap (λ (ns : List (Bor (List ℕ))). map f ns)
+    (take_all l.name-index c.deref-name-items.result.now c.loop-name-test.false ∙
+    c.deref-name-items.ensures.value)
     ∙ sym (mapped_twice (error_node rows) (λ (n : Bor (List ℕ)). n.now) names) ∙ ap (map (error_node rows)) c.in_ok-names.ensures in
     ended_with c.add_each.result _ _ _ c.add_each.ensures (ap (λ (ns : List Node). old ++ each (codes "errors") (document_of ns) ∷ []) all)

@@ -8,7 +8,8 @@ use Rattle.rpki_answers.specs.TreeDocuments.{AreOthers, IsOther, also_node}
 use Rattle.rpki_folder.specs.declared.find.FoundPath.{FoundPath}
 use Rattle.rpki_answers.proofs.tree_document.add_others.Goals as goal
 
-one_more : (R : FoundPath → Node → Type 0) (paths : List FoundPath) (nodes : List Node) (path : FoundPath) (node : Node) → AllZip R paths nodes → R path node → AllZip R (paths ++ path ∷ []) (nodes ++ node ∷ [])
+one_more : (R : FoundPath → Node → Type 0) (paths : List FoundPath) (nodes : List Node) (path : FoundPath)
+    (node : Node) → AllZip R paths nodes → R path node → AllZip R (paths ++ path ∷ []) (nodes ++ node ∷ [])
 one_more R [] [] path node zip one = (one, tt)
 one_more R [] (n ∷ nodes) path node zip one = absurd zip
 one_more R (p ∷ paths) [] path node zip one = absurd zip
@@ -27,7 +28,8 @@ loop-path-preserved c =
     let so_far = l.invariant in
     let now : List (Bor FoundPath) → List FoundPath = λ paths. map (λ path. path.now) paths in
     let more : now (take (i + 1) others) ≡ now (take i others) ++ path.now ∷ [] =
-    ap now (take_more others i path c.loop-path-test.true) ∙ map-append (λ (p : Bor FoundPath). p.now) (take i others) (_ ∷ []) ∙ ap (λ (p : Bor FoundPath). now (take i others) ++ p.now ∷ []) (sym c.path-item.is) in
+    ap now (take_more others i path c.loop-path-test.true) ∙ map-append (λ (p : Bor FoundPath). p.now) (take i others)
+    (_ ∷ []) ∙ ap (λ (p : Bor FoundPath). now (take i others) ++ p.now ∷ []) (sym c.path-item.is) in
     let one : Adds (node ∷ []) l.parts.items c.add_path.new.parts.items = rw c.deref.ensures.value at c.in_ok-add_path.ensures in (
       so_far.0 ++ node ∷ [],
       subst (λ (paths : List FoundPath). AreOthers tree shown paths (so_far.0 ++ node ∷ [])) (sym more)

@@ -5,4 +5,5 @@ use Rattle.rpki_answers.proofs.tree_document.add_others.Given as goal
 
 -- the paths so far
 abbrev pub invariant-loop-path : goal.invariant-loop-path
-invariant-loop-path l = AddsSome (AreOthers l.tree l.shown (map (λ path. path.now) (take l.path-index l.others))) l.fn.parts.items l.parts.items
+invariant-loop-path l = AddsSome (AreOthers l.tree l.shown (map (λ path. path.now) (take l.path-index l.others)))
+    l.fn.parts.items l.parts.items

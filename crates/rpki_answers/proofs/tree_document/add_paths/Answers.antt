@@ -7,18 +7,22 @@ use Rattle.rpki_folder.specs.declared.find.FoundPath.{FoundPath}
 use Rattle.rpki_verdicts.specs.declared.unordered.Tree.{Tree}
 use Rattle.rpki_answers.proofs.tree_document.add_paths.Goals as goal
 
-none : (tree : Tree) (shown : FoundPath) (others : List (Bor FoundPath)) → length others ≡ 0 → AreAll tree shown (map (λ path. path.now) others) []
+none : (tree : Tree) (shown : FoundPath) (others : List (Bor FoundPath)) → length others ≡ 0 →
+    AreAll tree shown (map (λ path. path.now) others) []
 none tree shown [] is = refl
 none tree shown (path ∷ others) is = absurd (omega (arith, is))
 
-several : (tree : Tree) (shown : FoundPath) (others : List (Bor FoundPath)) (nodes : List Node) → length others ≢ 0 → AreOthers tree shown (map (λ path. path.now) others) nodes
-    → AreAll tree shown (map (λ path. path.now) others) (each (codes "paths") (document_of (shown_node tree shown.above.items ∷ nodes)) ∷ [])
+several : (tree : Tree) (shown : FoundPath) (others : List (Bor FoundPath)) (nodes : List Node) → length others ≢ 0 →
+    AreOthers tree shown (map (λ path. path.now) others) nodes
+    → AreAll tree shown (map (λ path. path.now) others)
+    (each (codes "paths") (document_of (shown_node tree shown.above.items ∷ nodes)) ∷ [])
 several tree shown [] nodes some are = absurd (some refl)
 several tree shown (path ∷ others) nodes some are = (nodes, are, refl)
 
 pub returns-then-is_empty : goal.returns-then-is_empty
 returns-then-is_empty c =
-    none_added (ArePaths c.args.tree.now c.args.paths.now) c.args.parts.now.items (none c.args.tree.now c.args.paths.now.shown.now c.args.paths.now.others.items (search rules))
+    none_added (ArePaths c.args.tree.now c.args.paths.now) c.args.parts.now.items
+    (none c.args.tree.now c.args.paths.now.shown.now c.args.paths.now.others.items (search rules))
 
 pub returns : goal.returns
 returns c =
@@ -28,7 +32,8 @@ returns c =
     let added = c.in_ok-add_others.ensures in
     let are : AreOthers tree shown (map (λ path. path.now) others) added.0 = rw c.deref-2.ensures.value at added.1 in
     let some : length others ≢ 0 = search rules in
-    ended_some c.add_each.result (ArePaths tree c.args.paths.now) (each (codes "paths") (document_of (shown_node tree shown.above.items ∷ added.0)) ∷ [])
+    ended_some c.add_each.result (ArePaths tree c.args.paths.now)
+    (each (codes "paths") (document_of (shown_node tree shown.above.items ∷ added.0)) ∷ [])
     c.args.parts.now.items c.add_each.new.parts.items (several tree shown others added.0 some are)
     (ended_with c.add_each.result _ _ _ c.add_each.ensures
     (rw (added.2, c.in_ok-add_shown_path.ensures, c.deref.ensures.value, c.new-all.ensures.items)))

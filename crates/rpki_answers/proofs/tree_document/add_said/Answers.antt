@@ -9,20 +9,29 @@ returns-in-Accepted c = rw c.in-Accepted.is c.add_accepted.ensures
 
 pub returns-in-Rejected : goal.returns-in-Rejected
 returns-in-Rejected c =
-    rw c.in-Rejected.is (ended_some c.add_rejected.result (AreSaid (map (λ f. f.now) c.args.certs.now) c.args.name.now (said.Rejected c.in-Rejected.fault)) _ _ _ refl c.add_rejected.ensures)
+    rw c.in-Rejected.is (ended_some c.add_rejected.result
+    (AreSaid (map (λ f. f.now) c.args.certs.now) c.args.name.now (said.Rejected c.in-Rejected.fault)) _ _ _ refl
+    c.add_rejected.ensures)
 
 pub returns-in-Unseen : goal.returns-in-Unseen
 returns-in-Unseen c =
-    rw c.in-Unseen.is (ended_some c.add_unseen.result (AreSaid (map (λ f. f.now) c.args.certs.now) c.args.name.now (said.Unseen c.in-Unseen.why c.in-Unseen.error)) _ _ _ refl c.add_unseen.ensures)
+    rw c.in-Unseen.is (ended_some c.add_unseen.result
+    (AreSaid (map (λ f. f.now) c.args.certs.now) c.args.name.now
+    (said.Unseen c.in-Unseen.why c.in-Unseen.error)) _ _ _ refl c.add_unseen.ensures)
 
 pub returns-in-Anchor : goal.returns-in-Anchor
 returns-in-Anchor c =
-    rw c.in-Anchor.is (ended_some c.add_plain.result (AreSaid (map (λ f. f.now) c.args.certs.now) c.args.name.now said.Anchor) _ _ _ refl c.add_plain.ensures)
+    rw c.in-Anchor.is (ended_some c.add_plain.result
+    (AreSaid (map (λ f. f.now) c.args.certs.now) c.args.name.now said.Anchor) _ _ _ refl c.add_plain.ensures)
 
 pub returns-in-Crl : goal.returns-in-Crl
 returns-in-Crl c =
-    rw c.in-Crl.is (ended_some c.add_plain-in-Crl.result (AreSaid (map (λ f. f.now) c.args.certs.now) c.args.name.now said.Crl) _ _ _ refl c.add_plain-in-Crl.ensures)
+    rw c.in-Crl.is (ended_some c.add_plain-in-Crl.result
+    (AreSaid (map (λ f. f.now) c.args.certs.now) c.args.name.now said.Crl) _ _ _ refl
+    c.add_plain-in-Crl.ensures)
 
 pub returns-in-Neither : goal.returns-in-Neither
 returns-in-Neither c =
-    rw c.in-Neither.is (ended_some c.add_plain-in-Neither.result (AreSaid (map (λ f. f.now) c.args.certs.now) c.args.name.now said.Neither) _ _ _ refl c.add_plain-in-Neither.ensures)
+    rw c.in-Neither.is (ended_some c.add_plain-in-Neither.result
+    (AreSaid (map (λ f. f.now) c.args.certs.now) c.args.name.now said.Neither) _ _ _ refl
+    c.add_plain-in-Neither.ensures)

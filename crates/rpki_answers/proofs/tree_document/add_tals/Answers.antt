@@ -19,5 +19,7 @@ pub returns : goal.returns
 returns c =
     let l = c.loop-part in
     let old = nodes_of c.args.parts.now.items in
-    let all = l.invariant ∙ ap (λ (ps : List TreePart). map tal_node ps) (take_all l.part-index c.deref-part-items.result.now c.loop-part-test.false ∙ c.deref-part-items.ensures.value) in
+    let all = l.invariant ∙ ap (λ (ps : List TreePart). map tal_node ps)
+    (take_all l.part-index c.deref-part-items.result.now c.loop-part-test.false ∙
+    c.deref-part-items.ensures.value) in
     ended_with c.add_each.result _ _ _ c.add_each.ensures (ap (λ (ns : List Node). old ++ each (codes "tals") (document_of ns) ∷ []) all)

@@ -10,7 +10,8 @@ use Rattle.rpki_answers.proofs.tree_document.add_unread.Goals as goal
 pub loop-name-preserved : goal.loop-name-preserved
 loop-name-preserved c =
     let l = c.loop-name in
-    node_more (λ (n : Bor (List ℕ)). kept [] (characters n.now)) c.args.unread.now l.name-index _ [] l.names.items c.add_kept.new.parts.items
+    node_more (λ (n : Bor (List ℕ)). kept [] (characters n.now)) c.args.unread.now l.name-index _ [] l.names.items
+    c.add_kept.new.parts.items
     c.loop-name-test.true l.invariant c.in_ok-add_kept.ensures
 
 pub returns : goal.returns

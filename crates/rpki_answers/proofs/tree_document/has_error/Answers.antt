@@ -5,7 +5,9 @@ use Rattle.rpki_answers.specs.TreeDocuments.{is_error}
 use Rattle.rpki_answers.proofs.tree_document.has_error.Goals as goal
 
 pub returns-in-Some : goal.returns-in-Some
-returns-in-Some c = c.eq.ensures ∙ ap (λ (o : Option (List ℕ)). is_error c.args.name.now o) (sym (ap (option_map (λ (n : Bor (List ℕ)). n.now)) c.in-Some.is) ∙ c.error.ensures)
+returns-in-Some c = c.eq.ensures ∙ ap (λ (o : Option (List ℕ)). is_error c.args.name.now o)
+    (sym (ap (option_map (λ (n : Bor (List ℕ)). n.now)) c.in-Some.is) ∙ c.error.ensures)
 
 pub returns-in-None : goal.returns-in-None
-returns-in-None c = ap (λ (o : Option (List ℕ)). is_error c.args.name.now o) (sym (ap (option_map (λ (n : Bor (List ℕ)). n.now)) c.in-None.is) ∙ c.error.ensures)
+returns-in-None c = ap (λ (o : Option (List ℕ)). is_error c.args.name.now o)
+    (sym (ap (option_map (λ (n : Bor (List ℕ)). n.now)) c.in-None.is) ∙ c.error.ensures)

@@ -16,5 +16,6 @@ returns-in-Some c =
 pub returns-in-None : goal.returns-in-None
 returns-in-None c =
     let certs = c.args.certs.now in
-    let none = slice_get-map (λ f. f.now) certs c.args.place ∙ ap (option_map (λ f. f.now)) (slice_get_past certs c.args.place c.in-None.ensures.lookup.3) in
+    let none = slice_get-map (λ f. f.now) certs c.args.place ∙
+    ap (option_map (λ f. f.now)) (slice_get_past certs c.args.place c.in-None.ensures.lookup.3) in
     sym (ap (λ (o : Option FileFields). unwrap_or (option_map (λ file. file.name) o) []) none)

@@ -17,7 +17,8 @@ loop-place-preserved c =
     let i = l.place-index in
     let old = spans_of c.args.pieces.now.items in
     let f : ℕ → List Span = λ place. say (codes " > ") ∷ show (inner (name_of certs place)) ∷ [] in
-    let one : spans_of c.push_arrow.new.pieces.items ≡ spans_of l.pieces.items ++ f (get_or places i 0) = rw c.name_of.ensures at c.in_ok-push_arrow.ensures in
+    let one : spans_of c.push_arrow.new.pieces.items ≡ spans_of l.pieces.items ++ f (get_or places i 0) =
+    rw c.name_of.ensures at c.in_ok-push_arrow.ensures in
     one ∙ ap (λ (s : List Span). s ++ f (get_or places i 0)) l.invariant
     ∙ append_assoc old (below_spans certs (take i places)) (f (get_or places i 0))
     ∙ ap (λ (s : List Span). old ++ s) (sym (place_more f places i c.loop-place-test.true))
@@ -25,4 +26,6 @@ loop-place-preserved c =
 pub returns : goal.returns
 returns c =
     let l = c.loop-place in
-    l.invariant ∙ ap (λ (p : List ℕ). spans_of c.args.pieces.now.items ++ below_spans (map (λ f. f.now) c.args.certs.now) p) (take_all l.place-index c.args.places.now c.loop-place-test.false)
+    l.invariant ∙ ap (λ (p : List ℕ). spans_of c.args.pieces.now.items ++
+    below_spans (map (λ f. f.now) c.args.certs.now) p)
+    (take_all l.place-index c.args.places.now c.loop-place-test.false)

@@ -16,7 +16,8 @@ loop-file-preserved c =
     record {
       few = omega arith;
       rows = subst (λ (rows : List Row). AreRowsFrom trees 0 next (take (i + 1) files) rows) (sym c.in_ok-push.ensures.items)
-          (next_row trees files i l.place next c.file-item.result l.rows.items _ c.loop-file-test.true c.file-item.is l.invariant.rows c.in_ok-next.ensures.row);
+          (next_row trees files i l.place next c.file-item.result l.rows.items _ c.loop-file-test.true c.file-item.is
+          l.invariant.rows c.in_ok-next.ensures.row);
     }
 
 pub returns : goal.returns

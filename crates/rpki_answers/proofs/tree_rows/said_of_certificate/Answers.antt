@@ -11,7 +11,9 @@ returns-in-Some c =
     let trees = c.args.trees.now in
     let place = c.args.place in
     let found = sym (ap option_copied c.in-Some.is) ∙ c.shown_part.ensures in
-    IfOk-weaker c.said_by_answer.result _ _ (λ said says. subst (λ (o : Option TreePart). SaysPart trees place c.args.file.now o said) found says) c.said_by_answer.ensures
+    IfOk-weaker c.said_by_answer.result
+    _ _ (λ said says. subst (λ (o : Option TreePart). SaysPart trees place c.args.file.now o said) found says)
+    c.said_by_answer.ensures
 
 pub returns-in-None : goal.returns-in-None
 returns-in-None c =

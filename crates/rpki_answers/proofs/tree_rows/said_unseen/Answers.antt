@@ -14,4 +14,6 @@ returns-in-Some c =
 pub returns-in-None : goal.returns-in-None
 returns-in-None c =
     let found = sym (ap option_copied c.in-None.is) ∙ c.wrong_at.ensures in
-    subst (λ (o : Option WrongAnchor). SaysUnseen c.args.trees.now c.args.file.now o (Unseen c.unseen-why.result c.error_above.result)) found (c.unseen-why.result, c.error_above.result, c.unseen-why.ensures, c.error_above.ensures, refl)
+    subst (λ (o : Option WrongAnchor). SaysUnseen c.args.trees.now c.args.file.now o
+    (Unseen c.unseen-why.result c.error_above.result)) found
+    (c.unseen-why.result, c.error_above.result, c.unseen-why.ensures, c.error_above.ensures, refl)

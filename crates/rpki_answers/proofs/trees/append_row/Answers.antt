@@ -10,5 +10,6 @@ returns-then-is_printed c =
 
 pub returns : goal.returns
 returns c =
-    append_unprinted c.args.options.only_rejected (map (λ f. f.now) c.args.certs.now) c.args.options.format c.args.row.now (string_bytes c.args.out.now)
+    append_unprinted c.args.options.only_rejected (map (λ f. f.now) c.args.certs.now) c.args.options.format
+    c.args.row.now (string_bytes c.args.out.now)
     (sym c.is_printed.ensures ∙ c.if-is_printed.false)

@@ -9,8 +9,10 @@ loop-row-init c =
 pub loop-row-preserved : goal.loop-row-preserved
 loop-row-preserved c =
     let l = c.loop-row in
-    append_next c.args.options.only_rejected (map (λ f. f.now) c.args.certs.now) c.args.options.format c.args.rows.now l.row-index c.row-item.result
-    (string_bytes c.args.out.now) (string_bytes l.out) (string_bytes c.append_row.new.out) c.loop-row-test.true c.row-item.is l.invariant c.in_ok-append_row.ensures
+    append_next c.args.options.only_rejected (map (λ f. f.now) c.args.certs.now) c.args.options.format c.args.rows.now
+    l.row-index c.row-item.result
+    (string_bytes c.args.out.now) (string_bytes l.out) (string_bytes c.append_row.new.out) c.loop-row-test.true
+    c.row-item.is l.invariant c.in_ok-append_row.ensures
 
 pub returns : goal.returns
 returns c =

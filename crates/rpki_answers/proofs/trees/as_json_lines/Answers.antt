@@ -14,5 +14,12 @@ returns c =
       rows.0,
       subst (λ (l : List FileFields). PrintsRows c.args.options.only_rejected l c.args.rows.now rows.0) certs rows.1,
       as_json_lines (tals_node trees) rows.0 ends (string_bytes c.append.new.out) c.args.options.format c.requires
-          (rw (c.in_ok-append.ensures, c.in_ok-add_end.ensures, c.in_ok-add_tals.ensures, c.new-rest.ensures.items, rows.2, c.new-out.ensures.bytes)),
+          (rw (
+            c.in_ok-append.ensures,
+            c.in_ok-add_end.ensures,
+            c.in_ok-add_tals.ensures,
+            c.new-rest.ensures.items,
+            rows.2,
+            c.new-out.ensures.bytes,
+          )),
     )

@@ -14,5 +14,14 @@ returns c =
       rows.0,
       subst (λ (l : List FileFields). PrintsRows c.args.options.only_rejected l c.args.rows.now rows.0) certs rows.1,
       as_lines (tals_node trees) rows.0 ends (string_bytes c.append-2.new.out) c.args.options.format c.requires
-          (rw (c.in_ok-append-2.ensures, c.in_ok-add_end.ensures, c.new-ends.ensures.items, rows.2, c.in_ok-append.ensures, c.in_ok-add_tals.ensures, c.new-heads.ensures.items, c.new-out.ensures.bytes)),
+          (rw (
+            c.in_ok-append-2.ensures,
+            c.in_ok-add_end.ensures,
+            c.new-ends.ensures.items,
+            rows.2,
+            c.in_ok-append.ensures,
+            c.in_ok-add_tals.ensures,
+            c.new-heads.ensures.items,
+            c.new-out.ensures.bytes,
+          )),
     )

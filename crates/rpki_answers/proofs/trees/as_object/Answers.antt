@@ -15,7 +15,14 @@ returns c =
     let ends = end_nodes (asked_of c.args.question.now) trees c.args.rows.now (map (λ name. name.now) c.args.unread.now) in
     let certs = ap (λ (l : List (Bor FileFields)). map (λ f. f.now) l) c.deref.ensures.value in
     let whole : nodes_of c.add_end.new.parts.items ≡ tals_node trees ∷ files_node rows.0 ∷ ends =
-    rw (c.in_ok-add_end.ensures, c.in_ok-add_each.ensures, rows.2, c.new-files.ensures.items, c.in_ok-add_tals.ensures, c.new-whole.ensures.items) in
+    rw (
+      c.in_ok-add_end.ensures,
+      c.in_ok-add_each.ensures,
+      rows.2,
+      c.new-files.ensures.items,
+      c.in_ok-add_tals.ensures,
+      c.new-whole.ensures.items,
+    ) in
     IfOk-weaker c.formed.result _ _ (λ text written. (
       rows.0,
       subst (λ (l : List FileFields). PrintsRows c.args.options.only_rejected l c.args.rows.now rows.0) certs rows.1,

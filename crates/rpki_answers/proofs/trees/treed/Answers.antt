@@ -10,7 +10,8 @@ IsSuccess Success = Unit {0}
 IsSuccess _ = ⊥
 
 -- an outcome by a yes is success only where it is so, and rejection only where it isn't
-tells : (P : Type 0) (outcome : Outcome) (yes : Bool) → (IsTrue yes → outcome ≡ Success) → (IsFalse yes → outcome ≡ Rejection) → (IsTrue yes ↔ P) → (outcome ≡ Success → P) × (outcome ≡ Rejection → P → ⊥)
+tells : (P : Type 0) (outcome : Outcome) (yes : Bool) → (IsTrue yes → outcome ≡ Success) →
+    (IsFalse yes → outcome ≡ Rejection) → (IsTrue yes ↔ P) → (outcome ≡ Success → P) × (outcome ≡ Rejection → P → ⊥)
 tells P outcome true succeeds rejects says =
     ((λ is. says.0 refl), (λ is holds. subst IsSuccess (sym (succeeds refl) ∙ is) tt))
 tells P outcome false succeeds rejects says =
@@ -18,5 +19,6 @@ tells P outcome false succeeds rejects says =
 
 pub returns-clause-answer : goal.returns-clause-answer
 returns-clause-answer c =
-    let outcome = tells _ c.of_answer.result c.is_accepting-is_accepting.result c.of_answer.ensures.success c.of_answer.ensures.rejection c.is_accepting-is_accepting.ensures in
+    let outcome = tells _ c.of_answer.result c.is_accepting-is_accepting.result c.of_answer.ensures.success
+    c.of_answer.ensures.rejection c.is_accepting-is_accepting.ensures in
     (c.in_ok-finding.finding, c.in_ok-finding.ensures, rw (c.in_ok-text.was) at c.printed_finding-text.ensures, outcome.0, outcome.1)

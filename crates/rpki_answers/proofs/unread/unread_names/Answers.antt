@@ -9,5 +9,6 @@ loop-name-preserved c =
     let names = c.args.names.now in
     let now : List (Bor (List ℕ)) → List (List ℕ) = map (λ n. n.now) in
     l.invariant
-    ∙ ap (λ (ns : List (Bor (List ℕ))). now l.unread.items ++ unread_names (now ns) (drop l.next c.args.files.now)) (drop_more names l.name-index _ c.loop-name-test.true)
+    ∙ ap (λ (ns : List (Bor (List ℕ))). now l.unread.items ++ unread_names (now ns) (drop l.next c.args.files.now))
+    (drop_more names l.name-index _ c.loop-name-test.true)
     ∙ c.in_ok-next.ensures (now (drop (l.name-index + 1) names))

@@ -18,4 +18,5 @@ loop-list-preserved c =
 pub returns : goal.returns
 returns c =
     let l = c.loop-list in
-    added_all (IsLeft IsCertificateList behind_list) c.args.lists.now l.list-index c.args.parts.now.items l.parts.items c.loop-list-test.false l.invariant
+    added_all (IsLeft IsCertificateList behind_list) c.args.lists.now l.list-index c.args.parts.now.items
+    l.parts.items c.loop-list-test.false l.invariant

@@ -12,10 +12,12 @@ loop-member-init c = none_added (SaysOfEach (IsLeft IsCertificate behind_certifi
 pub loop-member-preserved : goal.loop-member-preserved
 loop-member-preserved c =
     let l = c.loop-member in
-    added_more (IsLeft IsCertificate behind_certificate) c.args.members.now l.member-index c.member-item.result c.args.parts.now.items l.parts.items
+    added_more (IsLeft IsCertificate behind_certificate) c.args.members.now l.member-index c.member-item.result
+    c.args.parts.now.items l.parts.items
     c.add_left_of_member.new.parts.items c.loop-member-test.true c.member-item.is l.invariant c.in_ok-add_left_of_member.ensures
 
 pub returns : goal.returns
 returns c =
     let l = c.loop-member in
-    added_all (IsLeft IsCertificate behind_certificate) c.args.members.now l.member-index c.args.parts.now.items l.parts.items c.loop-member-test.false l.invariant
+    added_all (IsLeft IsCertificate behind_certificate) c.args.members.now l.member-index c.args.parts.now.items
+    l.parts.items c.loop-member-test.false l.invariant

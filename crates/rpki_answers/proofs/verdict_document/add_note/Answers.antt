@@ -3,4 +3,12 @@ use Rattle.rpki_answers.proofs.verdict_document.add_note.Goals as goal
 
 pub returns : goal.returns
 returns c =
-    ended_with c.add_inside.result _ _ _ c.add_inside.ensures (rw (c.in_ok-add_line.ensures, c.new-own.ensures.items, c.in_ok-pieces.ensures.items, c.name.ensures, c.says.ensures, c.section.ensures))
+    ended_with c.add_inside.result _ _ _ c.add_inside.ensures
+    (rw (
+      c.in_ok-add_line.ensures,
+      c.new-own.ensures.items,
+      c.in_ok-pieces.ensures.items,
+      c.name.ensures,
+      c.says.ensures,
+      c.section.ensures,
+    ))

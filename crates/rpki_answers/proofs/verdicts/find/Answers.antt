@@ -8,10 +8,12 @@ use Rattle.rpki_answers.proofs.verdicts.find.Goals as goal
 
 pub returns-then-are_lists : goal.returns-then-are_lists
 returns-then-are_lists c =
-    let says = subst (λ (f : QuestionFields). IsTrue c.are_lists-are_lists.result ↔ All IsList (contents f.lists)) c.question.view_is c.are_lists-are_lists.ensures in
+    let says = subst (λ (f : QuestionFields). IsTrue c.are_lists-are_lists.result ↔ All IsList (contents f.lists))
+    c.question.view_is c.are_lists-are_lists.ensures in
     ((c.in_default.ensures, says.0 c.if-are_lists.true), c.in_ok-verdict.ensures)
 
 pub returns : goal.returns
 returns c =
-    let says = subst (λ (f : QuestionFields). IsTrue c.are_lists-are_lists.result ↔ All IsList (contents f.lists)) c.question.view_is c.are_lists-are_lists.ensures in
+    let says = subst (λ (f : QuestionFields). IsTrue c.are_lists-are_lists.result ↔ All IsList (contents f.lists))
+    c.question.view_is c.are_lists-are_lists.ensures in
     (c.in_default.ensures, λ all. false≢true (sym c.if-are_lists.false ∙ says.1 all))

@@ -12,4 +12,6 @@ pub returns : goal.returns
 returns c =
     let made = c.in_ok-value.ensures in
     IfOk-weaker c.value_text-text.result _ _ (λ _ written. written ∙ ap (λ (d : Data). value_text c.args.format d) made)
-    (c.value_text-text.ensures (subst (λ (d : Data). has_float d ≡ false) (sym made) (json_whole (document_of (nodes_of c.args.parts.now.items)))))
+    (c.value_text-text.ensures
+    (subst (λ (d : Data). has_float d ≡ false) (sym made)
+    (json_whole (document_of (nodes_of c.args.parts.now.items)))))

@@ -20,31 +20,41 @@ use Rattle.rpki_verdicts.specs.PathFiles.{QuestionFields, demands_of}
 use Rattle.rpki_answers.proofs.verdicts.validated.Goals as goal
 
 module _ (x : Context) (q : QuestionFields) where
-  success : (finding : Finding) → IsAcceptedFinding finding → IsFinding x q finding → IsOutcomeOfValidate x (demands_of q) (contents q.members) (contents q.lists) Success
+  success : (finding : Finding) → IsAcceptedFinding finding → IsFinding x q finding →
+      IsOutcomeOfValidate x (demands_of q) (contents q.members) (contents q.lists) Success
   success (NotALocator fault) accepted is = absurd accepted
   success NotAList accepted is = absurd accepted
   success (Decided None) accepted is = absurd accepted
   success (Decided (Some (Accepted r))) accepted is = ((r, is.1), is.0)
   success (Decided (Some (Rejected fault))) accepted is = absurd accepted
 
-  rejection : (finding : Finding) → (IsAcceptedFinding finding → ⊥) → IsFinding x q finding → IsOutcomeOfValidate x (demands_of q) (contents q.members) (contents q.lists) Rejection
+  rejection : (finding : Finding) → (IsAcceptedFinding finding → ⊥) → IsFinding x q finding →
+      IsOutcomeOfValidate x (demands_of q) (contents q.members) (contents q.lists) Rejection
   rejection (NotALocator fault) not_accepted is =
       let files = locator_octets q.locators in
-      inr (inr (λ given. is.no_locator (subst (AreLocator x.strict) (get_or_from_slice_get files fault.index is.octets is.octets is.octets_are) (All-get_or (AreLocator x.strict) files fault.index is.octets (slice_get_within files fault.index is.octets is.octets_are) given.0))))
+      inr (inr (λ given. is.no_locator
+      (subst (AreLocator x.strict) (get_or_from_slice_get files fault.index is.octets is.octets is.octets_are)
+      (All-get_or (AreLocator x.strict) files fault.index is.octets
+      (slice_get_within files fault.index is.octets is.octets_are) given.0))))
   rejection NotAList not_accepted is = inr (inr (λ given. is.1 given.1))
   rejection (Decided None) not_accepted is = inl is.1
   rejection (Decided (Some (Accepted r))) not_accepted is = absurd (not_accepted tt)
   rejection (Decided (Some (Rejected fault))) not_accepted is = inr (inl (fault, is.1))
 
-  outcome_is : (outcome : Outcome) (yes : Bool) (finding : Finding) → (IsTrue yes → outcome ≡ Success) → (IsFalse yes → outcome ≡ Rejection) → (IsTrue yes ↔ IsAcceptedFinding finding) → IsFinding x q finding → IsOutcomeOfValidate x (demands_of q) (contents q.members) (contents q.lists) outcome
+  outcome_is : (outcome : Outcome) (yes : Bool) (finding : Finding) → (IsTrue yes → outcome ≡ Success) →
+      (IsFalse yes → outcome ≡ Rejection) → (IsTrue yes ↔ IsAcceptedFinding finding) → IsFinding x q finding →
+      IsOutcomeOfValidate x (demands_of q) (contents q.members) (contents q.lists) outcome
   outcome_is outcome true finding succeeds rejects says is = rw (succeeds refl) (success finding (says.0 refl) is)
-  outcome_is outcome false finding succeeds rejects says is = rw (rejects refl) (rejection finding (λ accepted. false≢true (says.1 accepted)) is)
+  outcome_is outcome false finding succeeds rejects says is =
+      rw (rejects refl) (rejection finding (λ accepted. false≢true (says.1 accepted)) is)
 
 pub returns-clause-outcome : goal.returns-clause-outcome
 returns-clause-outcome c =
     let q = c.args.question.now in
     let x = context IsSignedByRsa q.at q.strict in
-    outcome_is x q c.of_answer.result c.is_accepted-is_accepted.result c.in_ok-finding.finding c.of_answer.ensures.success c.of_answer.ensures.rejection c.is_accepted-is_accepted.ensures c.in_ok-finding.ensures
+    outcome_is x q c.of_answer.result c.is_accepted-is_accepted.result c.in_ok-finding.finding
+    c.of_answer.ensures.success c.of_answer.ensures.rejection c.is_accepted-is_accepted.ensures
+    c.in_ok-finding.ensures
 
 pub returns-clause-text : goal.returns-clause-text
 returns-clause-text c = λ is_text. record {

@@ -14,17 +14,27 @@ loop-block-preserved g c =
     let steps = c.in-Some.ensures.steps in
     let added = c.in_ok-put_block.ensures.ok in
     record {
-      written = one_more g.B.Encode.written c.in-Some.block.now low high (iter_rest c.loop-block.block-iterator) (iter_rest c.next.new.self) c.loop-block.out.items c.put_block.new.out.items (c.args.out.now.items ++ flat_map g.B.Encode.written c.args.chain.now) c.min.ensures c.max.ensures steps added c.loop-block.invariant.written;
-      rest = (parts_shorter g.B.Encode.written c.in-Some.block.now low high _ (iter_rest c.loop-block.block-iterator) (iter_rest c.next.new.self) c.min.ensures c.max.ensures steps c.loop-block.invariant.rest).1;
-      front = appended_kept c.args.out.now.items c.loop-block.out.items (g.B.Encode.written (between low high)) c.put_block.new.out.items added c.loop-block.invariant.front;
+      written = one_more g.B.Encode.written c.in-Some.block.now low high (iter_rest c.loop-block.block-iterator)
+          (iter_rest c.next.new.self) c.loop-block.out.items c.put_block.new.out.items
+          (c.args.out.now.items ++ flat_map g.B.Encode.written c.args.chain.now) c.min.ensures c.max.ensures steps
+          added c.loop-block.invariant.written;
+      rest = (parts_shorter g.B.Encode.written c.in-Some.block.now low high _ (iter_rest c.loop-block.block-iterator)
+          (iter_rest c.next.new.self) c.min.ensures c.max.ensures steps c.loop-block.invariant.rest).1;
+      front = appended_kept c.args.out.now.items c.loop-block.out.items (g.B.Encode.written (between low high))
+          c.put_block.new.out.items added c.loop-block.invariant.front;
     }
 
 pub returns-in_err-put_block-clause-err : goal.returns-in_err-put_block-clause-err
-returns-in_err-put_block-clause-err g c = on_err c.from_residual-in_err-put_block.result (front_kept c.args.out.now.items c.loop-block.out.items c.put_block.new.out.items c.in_err-put_block.ensures.err c.loop-block.invariant.front)
+returns-in_err-put_block-clause-err g c = on_err c.from_residual-in_err-put_block.result
+    (front_kept c.args.out.now.items c.loop-block.out.items c.put_block.new.out.items c.in_err-put_block.ensures.err
+    c.loop-block.invariant.front)
 
 pub returns-in_err-put_block-clause-too_long : goal.returns-in_err-put_block-clause-too_long
 returns-in_err-put_block-clause-too_long g c =
     let low = g.B.Bound.number c.min.result in
     let high = g.B.Bound.number c.max.result in
-    let shorter = (parts_shorter g.B.Encode.written c.in-Some.block.now low high _ (iter_rest c.loop-block.block-iterator) (iter_rest c.next.new.self) c.min.ensures c.max.ensures c.in-Some.ensures.steps c.loop-block.invariant.rest).0 in
-    passed_long c.from_residual-in_err-put_block.result _ _ _ c.from_residual-in_err-put_block.ensures.1 c.in_err-put_block.ensures.too_long shorter
+    let shorter = (parts_shorter g.B.Encode.written c.in-Some.block.now low high
+    _ (iter_rest c.loop-block.block-iterator) (iter_rest c.next.new.self) c.min.ensures c.max.ensures
+    c.in-Some.ensures.steps c.loop-block.invariant.rest).0 in
+    passed_long c.from_residual-in_err-put_block.result _ _ _ c.from_residual-in_err-put_block.ensures.1
+    c.in_err-put_block.ensures.too_long shorter

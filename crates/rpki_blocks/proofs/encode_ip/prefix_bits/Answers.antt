@@ -14,4 +14,9 @@ pub returns-else-max-min : goal.returns-else-max-min
 returns-else-max-min c =
     let b : Block = record { min = c.args.min; max = c.args.max } in
     let last : c.min-last.result ≡ foot b = c.min-last.ensures ∙ (λ i. min (c.zero_bits.ensures.is i) (c.one_bits.ensures.is i)) in
-    record { prefix = prefix_no b c.requires (λ size. c.if-max-min.false (size ∙ ap (λ (k : ℕ). 2 ^ k - 1) (sym last) ∙ sym c.low_ones.ensures)); most = tt }
+    record {
+      prefix = prefix_no b c.requires
+          (λ size. c.if-max-min.false (size ∙ ap (λ (k : ℕ). 2 ^ k - 1) (sym last) ∙ sym c.low_ones.ensures));
+      most =
+          tt;
+    }

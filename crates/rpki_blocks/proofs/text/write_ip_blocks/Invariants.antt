@@ -8,4 +8,6 @@ use Rattle.rpki_blocks.proofs.text.write_ip_blocks.Given as goal
 abbrev pub invariant-loop-block : goal.invariant-loop-block
 invariant-loop-block g l =
     let text = ip_block_text (address_text l.fn.family) in
-    IsPlainFormatter l.fn.f → IsUnderWay g.W.Write.write_str_gives l.fn.f text (iter_rest l.block-iterator) (blocks_text text l.fn.blocks) l.f
+    IsPlainFormatter l.fn.f →
+    IsUnderWay g.W.Write.write_str_gives l.fn.f text (iter_rest l.block-iterator) (blocks_text text l.fn.blocks)
+    l.f

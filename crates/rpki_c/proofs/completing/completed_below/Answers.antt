@@ -8,16 +8,25 @@ use Rattle.rpki_c.proofs.completing.completed_below.Goals as goal
 pub returns-in_err-tbs : goal.returns-in_err-tbs
 returns-in_err-tbs g c =
     let issuer = option_map (λ (r : Bor ResourceFields). r.now) c.args.issuer in
-    let checks = g.R.RevocationSource.asks c.args.source.now (context IsSignedByRsa c.args.terms.asked.now c.args.terms.asked.strict) in
+    let checks = g.R.RevocationSource.asks c.args.source.now
+    (context IsSignedByRsa c.args.terms.asked.now c.args.terms.asked.strict) in
     let e = c.in_err-tbs.field-0.0 in
     let same : c.from_residual.result ≡ Err e = search rules in
     rw same (named_below c.args.completion.now c.args.terms issuer c.args.path.now checks e c.in_err-tbs.ensures)
 
 pub returns-in-Ok : goal.returns-in-Ok
-returns-in-Ok g c = (c.in_ok-tbs.tbs, c.in_ok-tbs.ensures.0, c.in_ok-tbs.ensures.1, c.in-Ok.ensures.completed, c.in-Ok.ensures.accepted)
+returns-in-Ok g c = (
+  c.in_ok-tbs.tbs,
+  c.in_ok-tbs.ensures.0,
+  c.in_ok-tbs.ensures.1,
+  c.in-Ok.ensures.completed,
+  c.in-Ok.ensures.accepted,
+)
 
 pub returns-in-Err : goal.returns-in-Err
 returns-in-Err g c =
     let issuer = option_map (λ (r : Bor ResourceFields). r.now) c.args.issuer in
-    let checks = g.R.RevocationSource.asks c.args.source.now (context IsSignedByRsa c.args.terms.asked.now c.args.terms.asked.strict) in
-    rw c.unfit.ensures (unfit_completed c.args.completion.now c.args.terms issuer c.args.path.now checks c.in_ok-tbs.tbs c.in_ok-tbs.ensures.0 c.in_ok-tbs.ensures.1 c.in-Err.error c.in-Err.ensures.told)
+    let checks = g.R.RevocationSource.asks c.args.source.now
+    (context IsSignedByRsa c.args.terms.asked.now c.args.terms.asked.strict) in
+    rw c.unfit.ensures (unfit_completed c.args.completion.now c.args.terms issuer c.args.path.now checks
+    c.in_ok-tbs.tbs c.in_ok-tbs.ensures.0 c.in_ok-tbs.ensures.1 c.in-Err.error c.in-Err.ensures.told)

@@ -6,10 +6,14 @@ use Rattle.rpki_c.proofs.issuer.lists_naming.Goals as goal
 
 pub returns-clause-lists : goal.returns-clause-lists
 returns-clause-lists c =
-    IfOk-weaker c.lists_of-lists.result _ _ (λ lists naming. naming_so (Contains c.in_ok-keys.keys.items) (IsKeyOf c.args.path.now) c.in_ok-keys.ensures c.args.octets.now lists.items naming)
+    IfOk-weaker c.lists_of-lists.result
+    _ _ (λ lists naming. naming_so (Contains c.in_ok-keys.keys.items) (IsKeyOf c.args.path.now)
+    c.in_ok-keys.ensures c.args.octets.now lists.items naming)
     (rw c.deref.ensures.value at c.lists_of-lists.ensures.lists)
 
 pub returns-clause-none : goal.returns-clause-none
 returns-clause-none c =
-    IfErr-weaker c.lists_of-lists.result _ _ (λ refusal unread. unread_so (Contains c.in_ok-keys.keys.items) (IsKeyOf c.args.path.now) c.in_ok-keys.ensures c.args.octets.now refusal unread)
+    IfErr-weaker c.lists_of-lists.result
+    _ _ (λ refusal unread. unread_so (Contains c.in_ok-keys.keys.items) (IsKeyOf c.args.path.now)
+    c.in_ok-keys.ensures c.args.octets.now refusal unread)
     (rw c.deref.ensures.value at c.lists_of-lists.ensures.unread)

@@ -12,4 +12,5 @@ named-requires c =
 pub returns-in-Ok : goal.returns-in-Ok
 returns-in-Ok c =
     let x = context IsSignedByRsa c.args.terms.now c.args.terms.strict in
-    named_answer x c.args.question.now c.args.terms c.args.path.now c.in-Ok.judged c.named.result c.in-Ok.ensures c.named.ensures.chained c.named.ensures.other
+    named_answer x c.args.question.now c.args.terms c.args.path.now c.in-Ok.judged c.named.result c.in-Ok.ensures
+    c.named.ensures.chained c.named.ensures.other

@@ -11,8 +11,10 @@ returns c =
     let anchor = p.anchor.now in
     let empty : c.new-keys.result.items ≡ [] = search rules in
     let none = subst (λ (ks : List (List ℕ)). AreKeysOf [] ks) (sym empty) no_keys in
-    let first = subst (λ (o : List ℕ). AreKeysOf (o ∷ []) c.add_keys.new.keys.items) c.octets.ensures (c.in_ok-add_keys.ensures [] none) in
+    let first = subst (λ (o : List ℕ). AreKeysOf (o ∷ []) c.add_keys.new.keys.items) c.octets.ensures
+    (c.in_ok-add_keys.ensures [] none) in
     let cas = c.in_ok-add_all.ensures (anchor ∷ []) first in
     let all = c.in_ok-add_last.ensures ((anchor ∷ []) ++ p.cas.now) cas in
     subst (λ (g : PathStrings). AreKeysOf (all_strings g) c.add_last.new.keys.items) c.path.view_is
-    (subst (λ (ss : List (List ℕ)). AreKeysOf ss c.add_last.new.keys.items) (sym (strings_are anchor p.cas.now p.last)) all)
+    (subst (λ (ss : List (List ℕ)). AreKeysOf ss c.add_last.new.keys.items)
+    (sym (strings_are anchor p.cas.now p.last)) all)

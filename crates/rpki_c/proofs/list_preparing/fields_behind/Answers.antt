@@ -11,17 +11,22 @@ returns-in_err-wanted c =
     let before = option_map (λ (l : Bor CrlState). l.now) c.args.previous in
     let e = c.in_err-wanted.field-0.0 in
     let same : c.from_residual.result ≡ Err e = search rules in
-    rw same (ungiven_fields c.args.list.now c.args.terms c.args.issuer.now.cert.fields before e c.in_err-wanted.ensures.none)
+    rw same (ungiven_fields c.args.list.now c.args.terms c.args.issuer.now.cert.fields before e
+    c.in_err-wanted.ensures.none)
 
 pub returns-in-Ok : goal.returns-in-Ok
 returns-in-Ok c = record {
   wanted = c.in_ok-wanted.wanted;
   given = c.in_ok-wanted.ensures.given;
-  fields_are = subst (λ (o : Option (ListFields Revoked)). IsListWanted c.in_ok-wanted.wanted o c.args.issuer.now.cert.fields c.in-Ok.fields) (before_lent c.args.previous) c.in-Ok.ensures.wanted;
+  fields_are = subst (λ (o : Option (ListFields Revoked)). IsListWanted c.in_ok-wanted.wanted o
+      c.args.issuer.now.cert.fields c.in-Ok.fields) (before_lent c.args.previous) c.in-Ok.ensures.wanted;
 }
 
 pub returns-in-Err : goal.returns-in-Err
 returns-in-Err c =
     let before = option_map (λ (l : Bor CrlState). l.now) c.args.previous in
-    rw c.unfit.ensures (unwanted_fields c.args.list.now c.args.terms c.args.issuer.now.cert.fields before c.in_ok-wanted.wanted c.in_ok-wanted.ensures.given c.in-Err.error
-    (λ apart f is. c.in-Err.ensures.refused apart f (subst (λ (o : Option (ListFields Revoked)). IsListWanted c.in_ok-wanted.wanted o c.args.issuer.now.cert.fields f) (sym (before_lent c.args.previous)) is)))
+    rw c.unfit.ensures (unwanted_fields c.args.list.now c.args.terms c.args.issuer.now.cert.fields before
+    c.in_ok-wanted.wanted c.in_ok-wanted.ensures.given c.in-Err.error
+    (λ apart f is. c.in-Err.ensures.refused apart f
+    (subst (λ (o : Option (ListFields Revoked)). IsListWanted c.in_ok-wanted.wanted o
+    c.args.issuer.now.cert.fields f) (sym (before_lent c.args.previous)) is)))

@@ -9,7 +9,8 @@ returns-in_err-fields c =
     let before = option_map (λ (l : Bor CrlState). l.now) c.args.previous in
     let e = c.in_err-fields.field-0.0 in
     let same : c.from_residual.result ≡ Err e = search rules in
-    rw same (unlisted_behind c.args.list.now c.args.terms c.args.issuer.now.cert.fields before e c.in_err-fields.ensures)
+    rw same (unlisted_behind c.args.list.now c.args.terms c.args.issuer.now.cert.fields before e
+    c.in_err-fields.ensures)
 
 pub returns-in-Ok : goal.returns-in-Ok
 returns-in-Ok c = (c.in_ok-fields.fields, c.in_ok-fields.ensures, c.in-Ok.ensures.prepared)
@@ -17,4 +18,5 @@ returns-in-Ok c = (c.in_ok-fields.fields, c.in_ok-fields.ensures, c.in-Ok.ensure
 pub returns-in-Err : goal.returns-in-Err
 returns-in-Err c =
     let before = option_map (λ (l : Bor CrlState). l.now) c.args.previous in
-    rw c.unfit.ensures (unready_behind c.args.list.now c.args.terms c.args.issuer.now.cert.fields before c.in_ok-fields.fields c.in_ok-fields.ensures c.in-Err.error c.in-Err.ensures.refused)
+    rw c.unfit.ensures (unready_behind c.args.list.now c.args.terms c.args.issuer.now.cert.fields before
+    c.in_ok-fields.fields c.in_ok-fields.ensures c.in-Err.error c.in-Err.ensures.refused)

@@ -15,5 +15,6 @@ returns c =
     inr (
       c.in_ok-previous.previous,
       c.in_ok-previous.ensures.previous,
-      subst (λ (o : Option CrlState). AnswersBehind c.args.list.now c.args.terms c.args.issuer.now.cert.fields o c.prepared_behind-octets.result) c.as_ref.ensures.value c.prepared_behind-octets.ensures,
+      subst (λ (o : Option CrlState). AnswersBehind c.args.list.now c.args.terms c.args.issuer.now.cert.fields o
+          c.prepared_behind-octets.result) c.as_ref.ensures.value c.prepared_behind-octets.ensures,
     )

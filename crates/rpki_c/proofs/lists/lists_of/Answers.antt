@@ -11,18 +11,27 @@ returns-in-Err-clause-unread c =
     let l = c.loop-octets in
     let strings = c.args.strings.now in
     let IsKey = Contains c.args.keys.now in
-    let item : c.octets-item.result ≡ get_or strings l.octets-index [] = c.octets-item.is ∙ get_or_default strings l.octets-index c.octets-item.result [] c.loop-octets-test.true in
-    let there = subst (λ (octets : List ℕ). Rejects c.in-Err.error (AreNoList octets × (IsForeign IsKey octets → ⊥))) item c.in-Err.ensures.unread in
-    (subst (λ (i : ℕ). i < length strings) (sym l.invariant.at) c.loop-octets-test.true, subst (λ (i : ℕ). Rejects c.in-Err.error (AreNoList (get_or strings i []) × (IsForeign IsKey (get_or strings i []) → ⊥))) (sym l.invariant.at) there)
+    let item : c.octets-item.result ≡ get_or strings l.octets-index [] = c.octets-item.is ∙
+    get_or_default strings l.octets-index c.octets-item.result [] c.loop-octets-test.true in
+    let there = subst (λ (octets : List ℕ). Rejects c.in-Err.error
+    (AreNoList octets × (IsForeign IsKey octets → ⊥))) item c.in-Err.ensures.unread in (
+      subst (λ (i : ℕ). i < length strings) (sym l.invariant.at) c.loop-octets-test.true,
+      subst (λ (i : ℕ). Rejects c.in-Err.error
+          (AreNoList (get_or strings i []) × (IsForeign IsKey (get_or strings i []) → ⊥))) (sym l.invariant.at)
+          there,
+    )
 
 pub loop-octets-preserved : goal.loop-octets-preserved
 loop-octets-preserved c =
     let l = c.loop-octets in
     let strings = c.args.strings.now in
     let IsKey = Contains c.args.keys.now in
-    let item : c.octets-item.result ≡ get_or strings l.octets-index [] = c.octets-item.is ∙ get_or_default strings l.octets-index c.octets-item.result [] c.loop-octets-test.true in
-    let own = subst (λ (octets : List ℕ). MatchOption c.in-Ok.list (IsForeign IsKey octets) (IsGiven octets)) item c.in-Ok.ensures.list in
+    let item : c.octets-item.result ≡ get_or strings l.octets-index [] = c.octets-item.is ∙
+    get_or_default strings l.octets-index c.octets-item.result [] c.loop-octets-test.true in
+    let own = subst (λ (octets : List ℕ). MatchOption c.in-Ok.list (IsForeign IsKey octets) (IsGiven octets)) item
+    c.in-Ok.ensures.list in
     record {
-      naming = one_more (IsForeign IsKey) strings l.octets-index c.loop-octets-test.true l.lists.items l.invariant.naming c.in-Ok.list c.keep.new.lists.items own c.in_ok-keep-in-Ok.ensures;
+      naming = one_more (IsForeign IsKey) strings l.octets-index c.loop-octets-test.true l.lists.items
+          l.invariant.naming c.in-Ok.list c.keep.new.lists.items own c.in_ok-keep-in-Ok.ensures;
       at = omega (arith, l.invariant.at);
     }

@@ -3,4 +3,5 @@ use Rattle.rpki_c.proofs.TwentyOctets.{twenty_below}
 use Rattle.rpki_c.proofs.lists.number_of.Goals as goal
 
 pub unreachable-requires : goal.unreachable-requires
-unreachable-requires c = false≢true (c.in-None.ensures.some.1 (twenty_below c.args.octets.now c.told-octets (λ i. c.fits-octets i)))
+unreachable-requires c =
+    false≢true (c.in-None.ensures.some.1 (twenty_below c.args.octets.now c.told-octets (λ i. c.fits-octets i)))

@@ -9,7 +9,8 @@ invariant-loop-it l = record {
   rest : drop l.at l.list.list.fields.revoked.entries ≡ l.it-iterator;
   count : l.at + length l.it-iterator ≡ length l.list.list.fields.revoked.entries;
   fits : l.at ≤ length l.out;
-  told : (i : ℕ) (e : Entry) (it : RpkiEntry) → i < l.at → TellsEntry (get_or l.list.list.fields.revoked.entries i e) (get_or l.out i it);
+  told : (i : ℕ) (e : Entry) (it : RpkiEntry) → i < l.at →
+      TellsEntry (get_or l.list.list.fields.revoked.entries i e) (get_or l.out i it);
   kept : drop l.at l.out ≡ drop l.at l.fn.out;
   room : length l.out ≡ length l.fn.out;
 }

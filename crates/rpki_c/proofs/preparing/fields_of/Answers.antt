@@ -20,8 +20,11 @@ returns-in-Some c =
     let values : Wanted × KeyFields = (c.in-Ok.wanted, c.in-Ok.key) in
     let given = when_ok w (GivesValues w t) c.values_of.result values c.in-Ok.is c.values_of.ensures in
     let made = rw c.in-Some.is at c.in_ok-tbs-in-Ok.ensures in
-    let fields : c.in-Some.tbs ≡ fields_asked t.kind t.trims c.in-Ok.wanted (fields_above issuer) c.in-Ok.key = made ∙ ap (λ (above : Option TbsFields). fields_asked t.kind t.trims c.in-Ok.wanted above c.in-Ok.key) c.above.ensures in
-    let subject : c.subject.result.now ≡ subject_of t values = c.subject.ensures ∙ ap (λ (f : TbsFields). f.subject) fields in
+    let fields : c.in-Some.tbs ≡ fields_asked t.kind t.trims c.in-Ok.wanted (fields_above issuer) c.in-Ok.key =
+    made ∙ ap (λ (above : Option TbsFields). fields_asked t.kind t.trims c.in-Ok.wanted above c.in-Ok.key)
+    c.above.ensures in
+    let subject : c.subject.result.now ≡ subject_of t values = c.subject.ensures ∙ ap (λ (f : TbsFields). f.subject)
+    fields in
     record {
       values = values;
       given = given;
@@ -42,4 +45,5 @@ returns-in-Err c =
     let w = c.args.w.now in
     let t = c.args.terms in
     value_fields w t (option_map (λ (r : Bor ResourceFields). r.now) c.args.issuer) c.in-Err.why
-    (when_err w (GivesValues w t) (GivesValues w t) (λ values h. (values, h)) c.values_of.result c.in-Err.why c.in-Err.is c.values_of.ensures)
+    (when_err w (GivesValues w t) (GivesValues w t) (λ values h. (values, h)) c.values_of.result c.in-Err.why
+    c.in-Err.is c.values_of.ensures)

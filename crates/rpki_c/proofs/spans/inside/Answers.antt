@@ -6,7 +6,8 @@ use Rattle.rpki_c.proofs.spans.inside.Goals as goal
 pub returns-clause-inside : goal.returns-clause-inside
 returns-clause-inside c =
     let r = c.take_sequence in
-    inside_read c.args.octets.now c.new.result r.new.self r.result (ap (λ (p : Place). p.source) c.new.ensures.whole) c.new.ensures.all r.ensures.answers r.ensures.inside
+    inside_read c.args.octets.now c.new.result r.new.self r.result
+    (ap (λ (p : Place). p.source) c.new.ensures.whole) c.new.ensures.all r.ensures.answers r.ensures.inside
 
 pub returns-clause-none : goal.returns-clause-none
 returns-clause-none c =

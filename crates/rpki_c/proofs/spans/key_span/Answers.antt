@@ -13,4 +13,5 @@ pub returns-clause-none : goal.returns-clause-none
 returns-clause-none c =
     let s = c.sequence_span in
     let at = c.in_ok-rest.rest in
-    err_then (StandsNone (HasTag SEQUENCE) at) (BeginsNoCertificate c.args.octets.now) s.result (no_key c.args.octets.now at c.in_ok-rest.ensures.key) s.ensures.none
+    err_then (StandsNone (HasTag SEQUENCE) at) (BeginsNoCertificate c.args.octets.now) s.result
+    (no_key c.args.octets.now at c.in_ok-rest.ensures.key) s.ensures.none

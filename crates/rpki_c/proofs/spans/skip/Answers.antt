@@ -11,7 +11,8 @@ loop-tag-preserved c =
     let l = c.loop-tag in
     let read = c.in_ok-take_value.ensures.answers in
     record {
-      left = one_less c.args.tags.now l.tag-index _ c.args.cursor.now l.cursor c.loop-tag-test.true l.invariant.left c.take_value.new.self _ read.encoded;
+      left = one_less c.args.tags.now l.tag-index _ c.args.cursor.now l.cursor c.loop-tag-test.true l.invariant.left
+          c.take_value.new.self _ read.encoded;
       moves = twice c.args.cursor.now l.cursor c.take_value.new.self l.invariant.moves read.keeps;
     }
 
@@ -20,7 +21,8 @@ returns-in_err-take_value-clause-none c =
     let l = c.loop-tag in
     let same : c.from_residual.result ≡ Err c.in_err-take_value.field-0.0 = search rules in
     err_so (StandsNone (AreTagged c.args.tags.now) c.args.cursor.now) _ _ same
-    (none_next c.args.tags.now l.tag-index _ c.args.cursor.now l.cursor c.loop-tag-test.true l.invariant.left c.in_err-take_value.ensures.answers.encoded.1)
+    (none_next c.args.tags.now l.tag-index _ c.args.cursor.now l.cursor c.loop-tag-test.true l.invariant.left
+    c.in_err-take_value.ensures.answers.encoded.1)
 
 pub returns-clause-behind : goal.returns-clause-behind
 returns-clause-behind c =

@@ -12,7 +12,8 @@ pub loop-length-preserved : goal.loop-length-preserved
 loop-length-preserved c =
     let more = cut_more _ _ _ _ _ _ _ c.loop-length.invariant c.loop-length-test.true c.in-Some.ensures.cases in
     let items = c.in_ok-push.ensures.items ∙ ap (λ s. c.loop-length.strings.items ++ s ∷ []) c.in_ok-string.ensures in
-    subst (λ (s : List (List ℕ)). AreCutSoFar c.args.octets.now c.args.lengths.now (c.loop-length.length-index + 1) s c.in-Some.after.now) (sym items) more
+    subst (λ (s : List (List ℕ)). AreCutSoFar c.args.octets.now c.args.lengths.now (c.loop-length.length-index + 1)
+    s c.in-Some.after.now) (sym items) more
 
 -- the octets go on behind the strings
 pub returns-then-not-is_empty-clause-some : goal.returns-then-not-is_empty-clause-some

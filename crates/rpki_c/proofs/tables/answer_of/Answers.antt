@@ -6,4 +6,5 @@ pub returns-then-has : goal.returns-then-has
 returns-then-has c = λ entries is. inl ((c.has.ensures entries is).0 c.if-has.true, refl)
 
 pub returns-else-has : goal.returns-else-has
-returns-else-has c = λ entries is. inr ((λ some. false≢true (sym c.if-has.false ∙ (c.has.ensures entries is).1 some)), refl)
+returns-else-has c = λ entries is.
+    inr ((λ some. false≢true (sym c.if-has.false ∙ (c.has.ensures entries is).1 some)), refl)

@@ -15,12 +15,16 @@ loop-at-preserved c =
       long = length-set l.answers l.at one ∙ l.invariant.long;
       told = λ (entries : List Entry) (is : IsTableOf entries c.args.table.now) (i : ℕ) (low : i < l.at + 1).
           let here : IsFlag (IsRevoked (serial_in serials l.at) entries) (get_or (set l.answers l.at one) l.at 0) =
-          subst (λ (n : ℕ). IsFlag (IsRevoked (serial_in serials l.at) entries) n) (sym (get_or-set_same l.answers l.at one 0 room))
+          subst (λ (n : ℕ). IsFlag (IsRevoked (serial_in serials l.at) entries) n)
+          (sym (get_or-set_same l.answers l.at one 0 room))
           (subst (λ (n : ℕ). IsFlag (IsRevoked n entries) one) c.serial_at.ensures (c.answer_of.ensures entries is)) in
-          let earlier : (k : ℕ) → k < l.at → IsFlag (IsRevoked (serial_in serials k) entries) (get_or (set l.answers l.at one) k 0) = λ k less.
+          let earlier : (k : ℕ) → k < l.at →
+          IsFlag (IsRevoked (serial_in serials k) entries) (get_or (set l.answers l.at one) k 0) = λ k less.
           let other : k ≢ l.at = omega arith in
-          subst (λ (n : ℕ). IsFlag (IsRevoked (serial_in serials k) entries) n) (sym (get_or-set_other l.answers l.at k one 0 other)) (l.invariant.told entries is k less) in
-          below_more (λ (k : ℕ). IsFlag (IsRevoked (serial_in serials k) entries) (get_or (set l.answers l.at one) k 0)) l.at earlier here i low;
+          subst (λ (n : ℕ). IsFlag (IsRevoked (serial_in serials k) entries) n)
+          (sym (get_or-set_other l.answers l.at k one 0 other)) (l.invariant.told entries is k less) in
+          below_more (λ (k : ℕ). IsFlag (IsRevoked (serial_in serials k) entries)
+          (get_or (set l.answers l.at one) k 0)) l.at earlier here i low;
     }
 
 pub returns : goal.returns

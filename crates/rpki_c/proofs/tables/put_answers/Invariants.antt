@@ -7,5 +7,6 @@ use Rattle.rpki_c.proofs.tables.put_answers.Given as goal
 abbrev pub invariant-loop-at : goal.invariant-loop-at
 invariant-loop-at l = record {
   long : length l.answers ≡ length l.fn.answers;
-  told : (entries : List Entry) → IsTableOf entries l.table → (i : ℕ) → i < l.at → IsFlag (IsRevoked (serial_in l.serials i) entries) (get_or l.answers i 0);
+  told : (entries : List Entry) → IsTableOf entries l.table → (i : ℕ) → i < l.at →
+      IsFlag (IsRevoked (serial_in l.serials i) entries) (get_or l.answers i 0);
 }

@@ -13,6 +13,7 @@ returns c =
       three_pieces before part behind c.args.out.now c.put_octets.new.out c.put_behind.new.out c.put_behind-2.new.out
           (c.put_octets.ensures.written ∙ ap (λ (x : List ℕ). written_over x c.args.out.now) c.as_bytes.ensures.value)
           (c.put_behind.ensures ∙ ap (at (length before) c.put_octets.new.out) c.as_bytes-2.ensures.value)
-          (c.put_behind-2.ensures ∙ ap (at (length before + length part) c.put_behind.new.out) c.as_bytes-3.ensures.value),
+          (c.put_behind-2.ensures ∙ ap (at (length before + length part) c.put_behind.new.out)
+          c.as_bytes-3.ensures.value),
       omega (arith, length-append before (part ++ behind), length-append part behind),
     )

@@ -5,4 +5,5 @@ use Rattle.rpki_c.proofs.telling.rpki_fault_sentence.Goals as goal
 
 pub put_sentence-requires : goal.put_sentence-requires
 put_sentence-requires c =
-    subst (λ (o : Option ToldFields). IfSome o (λ it. length it.sentence < 2 ^ 32)) (sym c.in-Some.ensures) (sentence_is_short c.args.number)
+    subst (λ (o : Option ToldFields). IfSome o (λ it. length it.sentence < 2 ^ 32)) (sym c.in-Some.ensures)
+    (sentence_is_short c.args.number)

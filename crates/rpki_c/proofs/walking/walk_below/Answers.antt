@@ -16,9 +16,17 @@ pub returns-clause-limits : goal.returns-clause-limits
 returns-clause-limits c =
     let issuer = c.args.issuer.now in
     let is = c.walk_of.ensures in
-    let Limits : Moment → Bool → Bool → FolderFields → Firsts → ℕ → ℕ → Type 0 = λ at strict names folder firsts depth steps.
-    IfOk c.below.result (λ walked. (limited : List LimitedCa) × HasReached c.args.start (length folder.certs) limited walked × ((root : Root) → LeadsTo (context IsSignedByRsa at strict) (by_named_lists names (context IsSignedByRsa at strict) folder.lists) root (members_at root folder.certs []) issuer
-    → AreLimited (context IsSignedByRsa at strict) (by_named_lists names (context IsSignedByRsa at strict) folder.lists) (IsLookedAt names (IsFirstIn firsts) issuer.cert folder.certs) root folder.certs depth steps limited)) in
+    let Limits : Moment → Bool → Bool → FolderFields → Firsts → ℕ → ℕ →
+    Type 0 = λ at strict names folder firsts depth steps.
+    IfOk c.below.result (λ walked. (limited : List LimitedCa) × HasReached c.args.start (length folder.certs)
+    limited walked ×
+    ((root : Root) →
+    LeadsTo (context IsSignedByRsa at strict)
+    (by_named_lists names (context IsSignedByRsa at strict) folder.lists) root
+    (members_at root folder.certs []) issuer
+    → AreLimited (context IsSignedByRsa at strict)
+    (by_named_lists names (context IsSignedByRsa at strict) folder.lists)
+    (IsLookedAt names (IsFirstIn firsts) issuer.cert folder.certs) root folder.certs depth steps limited)) in
     let w = c.walk_of.result in
     let f = c.args.terms.now in
     let folder = c.args.sorted.now.folder in
@@ -26,7 +34,9 @@ returns-clause-limits c =
     subst (λ (n : ℕ). Limits f.at f.strict f.asks_names folder firsts f.depth n) is.steps
     (subst (λ (n : ℕ). Limits f.at f.strict f.asks_names folder firsts n w.bounds.steps) is.depth
     (subst (λ (it : Firsts). Limits f.at f.strict f.asks_names folder it w.bounds.depth w.bounds.steps) is.admission
-    (subst (λ (it : FolderFields). Limits f.at f.strict f.asks_names it w.admission.now w.bounds.depth w.bounds.steps) is.folder
+    (subst (λ (it : FolderFields). Limits f.at f.strict f.asks_names it w.admission.now w.bounds.depth
+    w.bounds.steps) is.folder
     (subst (λ (b : Bool). Limits f.at f.strict b w.folder.now w.admission.now w.bounds.depth w.bounds.steps) is.names
     (subst (λ (b : Bool). Limits f.at b w.names w.folder.now w.admission.now w.bounds.depth w.bounds.steps) is.strict
-    (subst (λ (at : Moment). Limits at w.strict w.names w.folder.now w.admission.now w.bounds.depth w.bounds.steps) is.at c.below.ensures.limits))))))
+    (subst (λ (at : Moment). Limits at w.strict w.names w.folder.now w.admission.now w.bounds.depth w.bounds.steps)
+    is.at c.below.ensures.limits))))))

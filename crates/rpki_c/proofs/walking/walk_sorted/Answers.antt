@@ -19,4 +19,5 @@ returns-in-Wrong c =
     let s = c.args.sorted.now in
     let found = rw c.in-Wrong.is at c.in_ok-anchor.ensures in
     subst (λ (r : Refusal). AnswersBelow x f c.args.tal.now s.strings.now (Err r)) (sym c.wrong_of.ensures)
-    (wrong_answered x c.args.tal.now f c.unambiguous.ensures.certificate s c.requires c.in-Wrong.candidates.items found.0 found.1)
+    (wrong_answered x c.args.tal.now f c.unambiguous.ensures.certificate s c.requires c.in-Wrong.candidates.items
+    found.0 found.1)

@@ -7,4 +7,5 @@ use Rattle.rpki_c.proofs.walking.walk_strings.Goals as goal
 pub returns : goal.returns
 returns c =
     let x = context IsSignedByRsa c.args.terms.at c.args.terms.strict in
-    subst (λ (l : List (List ℕ)). AnswersBelow x c.args.terms c.args.tal.now l c.walk_sorted-answer.result) c.in_ok-sorted.ensures.strings c.walk_sorted-answer.ensures
+    subst (λ (l : List (List ℕ)). AnswersBelow x c.args.terms c.args.tal.now l c.walk_sorted-answer.result)
+    c.in_ok-sorted.ensures.strings c.walk_sorted-answer.ensures

@@ -10,10 +10,14 @@ use Rattle.rpki_c.proofs.wanted_list.add_given.Goals as goal
 
 -- what stands at no place
 abbrev nothing : RpkiEntry
-nothing = record { date = record { year = 0; month = 0; day = 0; hour = 0; minute = 0; second = 0; unused = 0 }; serial = [] }
+nothing = record {
+  date = record { year = 0; month = 0; day = 0; hour = 0; minute = 0; second = 0; unused = 0 };
+  serial = [];
+}
 
 pub returns-in_default-clause-none : goal.returns-in_default-clause-none
-returns-in_default-clause-none c = λ _. not_at HasDate c.args.revoked.now c.loop-it.it-index nothing c.loop-it-test.true c.in_default.ensures
+returns-in_default-clause-none c = λ _. not_at HasDate c.args.revoked.now c.loop-it.it-index nothing
+    c.loop-it-test.true c.in_default.ensures
 
 pub loop-it-preserved : goal.loop-it-preserved
 loop-it-preserved c =
@@ -27,5 +31,6 @@ loop-it-preserved c =
           ∙ ap (λ (e : Entry). map entry_of all ++ e ∷ []) c.in-Some.ensures.0
           ∙ ap (λ (es : List Entry). es ++ given_entry (get_or rs i nothing) ∷ []) c.loop-it.invariant.entries_are
           ∙ sym (map_more given_entry rs i nothing c.loop-it-test.true);
-      dates_exist = all_more HasDate rs i nothing c.loop-it-test.true c.loop-it.invariant.dates_exist c.in-Some.ensures.1;
+      dates_exist = all_more HasDate rs i nothing c.loop-it-test.true c.loop-it.invariant.dates_exist
+          c.in-Some.ensures.1;
     }

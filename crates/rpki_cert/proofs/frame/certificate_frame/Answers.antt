@@ -11,4 +11,5 @@ pub returns-clause-ok : goal.returns-clause-ok
 returns-clause-ok c = parts_ok c.args.octets.now _ c.in_ok-cert.cert c.in_ok-cert.ensures (search rules) c.read.result c.read.ensures
 
 pub returns-clause-rejected : goal.returns-clause-rejected
-returns-clause-rejected c = parts_rejected c.args.octets.now _ c.in_ok-cert.cert c.in_ok-cert.ensures (search rules) c.read.result c.read.ensures
+returns-clause-rejected c = parts_rejected c.args.octets.now _ c.in_ok-cert.cert c.in_ok-cert.ensures (search rules)
+    c.read.result c.read.ensures

@@ -9,10 +9,15 @@ use Rattle.rpki_cert.proofs.frame.values_in.Goals as goal
 pub returns-in_err-value : goal.returns-in_err-value
 returns-in_err-value c =
     let same : c.from_residual.result ≡ Err c.in_err-value.field-0.0 = search rules in
-    passed_on (λ v. v.items) _ _ _ same (rejects _ (λ none. sym (gathered captured_at _) ∙ sym c.loop-elements.invariant ∙ ends captured_at gather captured_shrinks _ _ (some_left _ c.loop-elements-test.ensures.1) none) c.in_err-value.ensures.reads)
+    passed_on (λ v. v.items) _ _ _ same
+    (rejects _ (λ none. sym (gathered captured_at _) ∙ sym c.loop-elements.invariant ∙
+    ends captured_at gather captured_shrinks _ _ (some_left _ c.loop-elements-test.ensures.1) none)
+    c.in_err-value.ensures.reads)
 
 pub loop-elements-preserved : goal.loop-elements-preserved
-loop-elements-preserved c = sym (goes_on captured_at gather captured_shrinks _ _ _ _ c.in_ok-value.ensures.reads _ (ap Some (sym c.in_ok-push.ensures))) ∙ c.loop-elements.invariant
+loop-elements-preserved c =
+    sym (goes_on captured_at gather captured_shrinks _ _ _ _ c.in_ok-value.ensures.reads
+    _ (ap Some (sym c.in_ok-push.ensures))) ∙ c.loop-elements.invariant
 
 pub loop-elements-smaller : goal.loop-elements-smaller
 loop-elements-smaller c = captured_shrinks _ _ _ c.in_ok-value.ensures.reads

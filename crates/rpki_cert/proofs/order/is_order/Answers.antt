@@ -10,8 +10,11 @@ pub returns-then-place-count : goal.returns-then-place-count
 returns-then-place-count c = (
   (λ t. search rules),
   λ o. elim c.then-place-count.branch [
-    | then-place-count-via-then-place-count w ↦ absurd (place_too_high _ _ c.loop-place.place-index (omega arith) (omega (arith, w.if-place-count.true)) o)
-    | then-place-count-via-else-place-count+then-index w ↦ absurd (place_twice _ c.loop-place.seen.items _ c.loop-place.place-index (omega arith) (omega (arith, w.if-place-count.false)) (search rules) c.loop-place.invariant o)
+    | then-place-count-via-then-place-count w ↦ absurd
+        (place_too_high _ _ c.loop-place.place-index (omega arith) (omega (arith, w.if-place-count.true)) o)
+    | then-place-count-via-else-place-count+then-index w ↦ absurd
+        (place_twice _ c.loop-place.seen.items _ c.loop-place.place-index (omega arith)
+        (omega (arith, w.if-place-count.false)) (search rules) c.loop-place.invariant o)
   ],
 )
 

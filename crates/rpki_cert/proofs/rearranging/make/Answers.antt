@@ -10,4 +10,5 @@ returns-in_err-elements-clause-too_long c =
     let same : c.deref.result.now ≡ c.args.frame.now.old = search rules in
     let old = concat (new_extensions c.args.order.now c.args.extras.now c.deref.result.now) in
     let elements = concat (new_extensions c.args.order.now c.args.extras.now c.args.frame.now.old) in
-    passed_long c.from_residual.result _ old (content_with elements c.args.frame.now) c.from_residual.ensures.1 c.in_err-elements.ensures.too_long (rw same (elements_longer elements c.args.frame.now))
+    passed_long c.from_residual.result _ old (content_with elements c.args.frame.now) c.from_residual.ensures.1
+    c.in_err-elements.ensures.too_long (rw same (elements_longer elements c.args.frame.now))

@@ -13,7 +13,9 @@ use Rattle.rpki_answers.specs.declared.trees.TreeOptions.{TreeOptions}
 use Rattle.rpki_command.proofs.answering.tree.Goals as goal
 
 -- the same is said where another file couldn't be read
-said_too : (o : TreeOptions) (q : TreeFields) (u : List (List ℕ)) (are_all_read : Bool) (old new : Outcome) (before after : List ℕ) → MatchBool are_all_read (new ≡ old) (new ≡ Unread) → after ≡ before → IsTreeBy o q u old before → IsTreeBy o q u new after
+said_too : (o : TreeOptions) (q : TreeFields) (u : List (List ℕ)) (are_all_read : Bool) (old new : Outcome)
+    (before after : List ℕ) → MatchBool are_all_read (new ≡ old) (new ≡ Unread) → after ≡ before →
+    IsTreeBy o q u old before → IsTreeBy o q u new after
 said_too o q u true old new before after is same by = (
   by.0,
   by.1,
@@ -42,4 +44,5 @@ returns-clause-answer c =
     let given = rw (c.deref-2.ensures.value, unread) at c.in_ok-answer.ensures.answer in
     let by : IsTreeBy o q u before.outcome (string_bytes before.text) =
     subst (λ (p : TreeFields). IsTreeBy o p u before.outcome (string_bytes before.text)) c.tree_question-question.ensures given in
-    said_too o q u c.args.are_all_read before.outcome c.if_read.result.outcome (string_bytes before.text) (string_bytes c.if_read.result.text) c.if_read.ensures.outcome (ap string_bytes c.if_read.ensures.text) by
+    said_too o q u c.args.are_all_read before.outcome c.if_read.result.outcome (string_bytes before.text)
+    (string_bytes c.if_read.result.text) c.if_read.ensures.outcome (ap string_bytes c.if_read.ensures.text) by

@@ -19,15 +19,29 @@ loop-name-preserved g c =
     let (its, of_it, line, stands, are, counted, told) = c.in_ok-further.ensures in
     let as_told : c.may_be_folder-opens.result ≡ opens name = c.may_be_folder-opens.ensures ∙ ap opens c.as_slice.ensures.value in
     let one = subst (λ (b : Bool). MatchBool b (StandFor lists name its of_it line) (StandsForItself name its of_it line)) as_told stands in
-    let more = opened_more lists opens (word_octets c.loop-name.yielded) (word_octets c.loop-name.opened.items) passed said name its of_it line so_far one in
-    (passed + of_it, said ++ line, rw (are, map-append) more, omega (arith, count, counted), appends_both (contents c.args.err.now) (contents c.loop-name.err) (contents c.push_name.new.err) said line appended told)
+    let more = opened_more lists opens (word_octets c.loop-name.yielded) (word_octets c.loop-name.opened.items) passed
+    said name its of_it line so_far one in (
+      passed + of_it,
+      said ++ line,
+      rw (are, map-append) more,
+      omega (arith, count, counted),
+      appends_both (contents c.args.err.now) (contents c.loop-name.err) (contents c.push_name.new.err) said line
+          appended told,
+    )
 
 pub returns : goal.returns
 returns g c =
     let lists = g.F.FileSource.lists c.args.files.now in
     let opens : List ℕ → Bool = λ name. c.args.is_first || is_folder_name name in
     let given = YieldsList-from_vec {s = c.into_iter-name-iterator.result} c.args.names.all.items (search rules) (search rules) in
-    let end = YieldsList-end given c.loop-name.yielded c.loop-name.name-iterator c.loop-name.yielded_by c.next.result c.next.new.self c.in-None.is c.next.ensures.steps in
+    let end = YieldsList-end given c.loop-name.yielded c.loop-name.name-iterator c.loop-name.yielded_by c.next.result
+    c.next.new.self c.in-None.is c.next.ensures.steps in
     let all : c.loop-name.yielded ≡ c.args.names.all.items = sym (map-id c.loop-name.yielded) ∙ end.0 in
-    let (passed, said, so_far, count, appended) = c.loop-name.invariant in
-    (passed, said, subst (λ ys. AreOpened lists opens (word_octets ys) (word_octets c.loop-name.opened.items) passed said) all so_far, count, appended)
+    let (passed, said, so_far, count, appended) = c.loop-name.invariant in (
+      passed,
+      said,
+      subst (λ ys. AreOpened lists opens (word_octets ys) (word_octets c.loop-name.opened.items) passed
+          said) all so_far,
+      count,
+      appended,
+    )

@@ -7,6 +7,7 @@ use Rattle.rpki_command.proofs.folders.level.Given as goal
 abbrev pub invariant-loop-name : goal.invariant-loop-name
 invariant-loop-name g l =
     (passed : ℕ) × (said : List ℕ)
-    × AreOpened (g.F.FileSource.lists l.files) (λ name. l.is_first || is_folder_name name) (word_octets l.yielded) (word_octets l.opened.items) passed said
+    × AreOpened (g.F.FileSource.lists l.files) (λ name. l.is_first || is_folder_name name) (word_octets l.yielded)
+    (word_octets l.opened.items) passed said
     × (l.count ≡ told_count (l.passed + passed))
     × Appends (g.E.Write.contents l.initial.err) (g.E.Write.contents l.err) said

@@ -14,9 +14,21 @@ returns g c =
     let (in_further, of_further, down, counted_further, told_further) = c.in_ok-all.ensures in
     let passed = c.in_ok-all.field-0.passed in
     let count : passed ≡ told_count (in_first + in_further) = omega (arith, counted, counted_further) in
-    let from_names = subst (λ (given : List (List ℕ)). AreOpened lists (λ _. true) given first in_first of_first) c.in_ok-copied.ensures opened in
-    let so_far = appends_both (contents c.args.err.now) (contents c.level.new.err) (contents c.opened_down.new.err) of_first of_further told told_further in (
+    let from_names = subst (λ (given : List (List ℕ)). AreOpened lists (λ _. true) given first in_first of_first)
+    c.in_ok-copied.ensures opened in
+    let so_far = appends_both (contents c.args.err.now) (contents c.level.new.err) (contents c.opened_down.new.err)
+    of_first of_further told told_further in (
       of_first ++ of_further ++ passed_message passed,
-      (first, in_first, in_further, of_first, of_further, from_names, down, ap (λ (n : ℕ). of_first ++ of_further ++ passed_message n) count),
-      appends_both (contents c.args.err.now) (contents c.opened_down.new.err) (contents c.tell_passed.new.err) (of_first ++ of_further) (passed_message passed) so_far c.in_ok-tell_passed.ensures.said,
+      (
+        first,
+        in_first,
+        in_further,
+        of_first,
+        of_further,
+        from_names,
+        down,
+        ap (λ (n : ℕ). of_first ++ of_further ++ passed_message n) count,
+      ),
+      appends_both (contents c.args.err.now) (contents c.opened_down.new.err) (contents c.tell_passed.new.err)
+          (of_first ++ of_further) (passed_message passed) so_far c.in_ok-tell_passed.ensures.said,
     )

@@ -6,8 +6,13 @@ use Rattle.rpki_command.proofs.WrittenTexts.{appends_both, appends_none}
 use Rattle.rpki_command.proofs.folders.opened_down.Goals as goal
 
 pub loop-level-init : goal.loop-level-init
-loop-level-init g c =
-    (0, [], down_none (g.F.FileSource.lists c.args.files.now) (word_octets c.args.names.all.items), omega arith, appends_none (g.E.Write.contents c.args.err.now))
+loop-level-init g c = (
+  0,
+  [],
+  down_none (g.F.FileSource.lists c.args.files.now) (word_octets c.args.names.all.items),
+  omega arith,
+  appends_none (g.E.Write.contents c.args.err.now),
+)
 
 pub loop-level-preserved : goal.loop-level-preserved
 loop-level-preserved g c =
@@ -26,5 +31,11 @@ pub returns : goal.returns
 returns g c =
     let all : c.loop-level._level ≡ 32 = search rules in
     let lists = g.F.FileSource.lists c.args.files.now in
-    let (passed, said, down, count, appended) = c.loop-level.invariant in
-    (passed, said, subst (λ (n : ℕ). AreDown lists n (word_octets c.args.names.all.items) (word_octets c.loop-level.opened.all.items) passed said) all down, count, appended)
+    let (passed, said, down, count, appended) = c.loop-level.invariant in (
+      passed,
+      said,
+      subst (λ (n : ℕ). AreDown lists n (word_octets c.args.names.all.items)
+          (word_octets c.loop-level.opened.all.items) passed said) all down,
+      count,
+      appended,
+    )

@@ -16,11 +16,21 @@ returns-in_ok-passed-in-Ok-Some g c =
     let lists = g.F.FileSource.lists c.args.files.now in
     let given = word_octets c.in-Ok-Some.given.items in
     let sorted = word_octets c.sorted.result.items in
-    let lists_are : lists c.args.name.items (holds given) = rw (c.in-Ok-Some.field-0-is, c.as_slice.ensures.value) at c.in-Ok-Some.ensures.listed in (
+    let lists_are : lists c.args.name.items (holds given) = rw (c.in-Ok-Some.field-0-is, c.as_slice.ensures.value)
+    at c.in-Ok-Some.ensures.listed in (
       filter is_taken sorted,
       count_by is_passed sorted,
       [],
-      inr (inr (given, sorted, lists_are, rw c.in-Ok-Some.field-0-is at c.sorted.ensures.permutation, c.sorted.ensures.sorted, refl, refl, refl)),
+      inr (inr (
+        given,
+        sorted,
+        lists_are,
+        rw c.in-Ok-Some.field-0-is at c.sorted.ensures.permutation,
+        c.sorted.ensures.sorted,
+        refl,
+        refl,
+        refl,
+      )),
       c.in_ok-passed-in-Ok-Some.ensures.taken,
       c.in_ok-passed-in-Ok-Some.ensures.passed,
       appends_none (g.E.Write.contents c.args.err.now),
@@ -29,7 +39,8 @@ returns-in_ok-passed-in-Ok-Some g c =
 pub returns-in_ok-push-in-Ok-None : goal.returns-in_ok-push-in-Ok-None
 returns-in_ok-push-in-Ok-None g c =
     let lists = g.F.FileSource.lists c.args.files.now in
-    let none : IsNoFolder lists c.args.name.items = rw (c.in-Ok-None.field-0-is, c.as_slice.ensures.value) at c.in-Ok-None.ensures.listed in (
+    let none : IsNoFolder lists c.args.name.items = rw (c.in-Ok-None.field-0-is, c.as_slice.ensures.value)
+    at c.in-Ok-None.ensures.listed in (
       c.args.name.items ∷ [],
       0,
       [],

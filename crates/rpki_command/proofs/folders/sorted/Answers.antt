@@ -6,7 +6,8 @@ use Rattle.rpki_command.proofs.ListedNames.{IsSortedBy-map}
 use Rattle.rpki_command.proofs.folders.sorted.Goals as goal
 
 pub returns-clause-permutation : goal.returns-clause-permutation
-returns-clause-permutation c = IsPermutation-map (λ v. v.items) c.args.names.items c.sort_unstable.new.self.items c.sort_unstable.ensures.permutation
+returns-clause-permutation c = IsPermutation-map (λ v. v.items) c.args.names.items c.sort_unstable.new.self.items
+    c.sort_unstable.ensures.permutation
 
 pub returns-clause-sorted : goal.returns-clause-sorted
 returns-clause-sorted c =

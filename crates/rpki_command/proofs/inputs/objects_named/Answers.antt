@@ -16,4 +16,5 @@ returns-in_err-push_named-clause-unread g c =
     let reads = g.F.FileSource.reads c.args.files.now in
     rw is (λ known.
     let unread = c.in_err-push_named.ensures.unread known in
-    one_unread reads (λ (name : Bor (List ℕ)). name.now) c.args.names.now c.loop-name.name-index _ c.loop-name-test.true c.in_err-push_named.field-0.0 unread.0 unread.1)
+    one_unread reads (λ (name : Bor (List ℕ)). name.now) c.args.names.now c.loop-name.name-index
+    _ c.loop-name-test.true c.in_err-push_named.field-0.0 unread.0 unread.1)

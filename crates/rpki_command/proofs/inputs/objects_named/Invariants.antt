@@ -5,4 +5,5 @@ use Rattle.rpki_command.proofs.inputs.objects_named.Given as goal
 
 -- the files so far are read
 abbrev pub invariant-loop-name : goal.invariant-loop-name
-invariant-loop-name g l = AreObjectsNamed (g.F.FileSource.reads l.files) (map (λ name. name.now) (take l.name-index l.names)) (contents l.all.items)
+invariant-loop-name g l = AreObjectsNamed (g.F.FileSource.reads l.files)
+    (map (λ name. name.now) (take l.name-index l.names)) (contents l.all.items)

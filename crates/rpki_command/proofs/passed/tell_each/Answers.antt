@@ -16,7 +16,8 @@ loop-file-preserved g c =
     let (said, so_far, appended) = c.loop-file.invariant in
     let (its, one, further) = c.in_ok-tell_if_passed.ensures in (
       said ++ its,
-      subst (λ (l : List FileFields). SaysOfEach SaysIfPassed l (said ++ its)) (sym (gone_over files i file c.loop-file-test.true c.file-item.is))
+      subst (λ (l : List FileFields). SaysOfEach SaysIfPassed l (said ++ its))
+          (sym (gone_over files i file c.loop-file-test.true c.file-item.is))
           (more_said SaysIfPassed file its one (take i files) said so_far),
       appends_both (contents c.args.err.now) (contents c.loop-file.err) (contents c.tell_if_passed.new.err) said its appended further,
     )

@@ -5,7 +5,8 @@ use Rattle.rpki_files.specs.Contents.{BeginsWithCertificate, IsList}
 use Rattle.rpki_command.specs.PassedFiles.{SaysIfPassed}
 use Rattle.rpki_command.proofs.WrittenTexts.{appends_none}
 use Rattle.rpki_command.proofs.passed.tell_if_passed.Goals as goal
-use Rattle.rpki_command.proofs.passed.tell_if_passed.Goals.{then-is_certificate-via-then-is_certificate, then-is_certificate-via-else-is_certificate+then-is_list}
+use Rattle.rpki_command.proofs.passed.tell_if_passed.Goals.{then-is_certificate-via-then-is_certificate}
+use Rattle.rpki_command.proofs.passed.tell_if_passed.Goals.{then-is_certificate-via-else-is_certificate+then-is_list}
 
 -- a certificate or a list
 pub returns-then-is_certificate : goal.returns-then-is_certificate
@@ -20,7 +21,8 @@ returns-then-is_certificate g c =
 pub returns : goal.returns
 returns g c =
     let file = c.args.file.now in
-    let no_certificate : BeginsWithCertificate file.octets → ⊥ = λ is. true≢false (sym (c.is_certificate.ensures.1 is) ∙ c.if-is_certificate.false) in
+    let no_certificate : BeginsWithCertificate file.octets →
+    ⊥ = λ is. true≢false (sym (c.is_certificate.ensures.1 is) ∙ c.if-is_certificate.false) in
     let no_list : IsList file.octets → ⊥ = λ is. true≢false (sym (c.is_list.ensures.1 is) ∙ c.if-is_list.false) in
     let name : c.as_bytes.result.now ≡ file.name = c.as_bytes.ensures.value ∙ c.name.ensures in
     on_ok_weaker c.tell.result

@@ -22,7 +22,8 @@ loop-name-preserved g c =
     let (said, so_far, appended, counted) = c.loop-name.invariant in (
       said ++ its.1,
       subst (λ (l : List FileFields). AreObjectsRead reads most (map (λ name. name.now) (take (i + 1) names)) l (said ++ its.1)) (sym files)
-          (more_read (IsObjectRead reads most) (SaysUnread reads most) (λ (name : Bor (List ℕ)). name.now) names i _ c.loop-name-test.true (map fields before) (map fields its.0) said its.1 so_far its.2),
+          (more_read (IsObjectRead reads most) (SaysUnread reads most) (λ (name : Bor (List ℕ)). name.now) names i
+          _ c.loop-name-test.true (map fields before) (map fields its.0) said its.1 so_far its.2),
       appends_both (contents c.args.err.now) (contents c.loop-name.err) (contents c.push_file.new.err) said its.1 appended its.4,
       cc counted,
     )

@@ -6,5 +6,6 @@ use Rattle.rpki_command.proofs.reading.read_files.Given as goal
 abbrev pub invariant-loop-name : goal.invariant-loop-name
 invariant-loop-name g l =
     (said : List ℕ)
-    × AreObjectsRead (g.F.FileSource.reads l.files) l.most (map (λ name. name.now) (take l.name-index l.names)) (map g.K.Kept.fields l.all.items) said
+    × AreObjectsRead (g.F.FileSource.reads l.files) l.most (map (λ name. name.now) (take l.name-index l.names))
+    (map g.K.Kept.fields l.all.items) said
     × Appends (g.E.Write.contents l.initial.err) (g.E.Write.contents l.err) said × (l.read ≡ l.name-index)

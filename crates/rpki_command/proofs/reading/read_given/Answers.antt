@@ -8,7 +8,8 @@ returns g c =
     let files = c.in_ok-members.ensures in
     let lists = c.in_ok-lists.ensures in
     let locators = c.in_ok-locators.ensures.files in
-    let so_far = appends_both (contents c.args.err.now) (contents c.read_files.new.err) (contents c.read_files-2.new.err) files.0 lists.0 files.2 lists.2 in (
+    let so_far = appends_both (contents c.args.err.now) (contents c.read_files.new.err)
+    (contents c.read_files-2.new.err) files.0 lists.0 files.2 lists.2 in (
       files.0 ++ lists.0 ++ locators.0,
       record {
         of_files = files.0;
@@ -20,5 +21,6 @@ returns g c =
         locators_read = c.in_ok-locators.ensures.read;
         said_is = refl;
       },
-      appends_both (contents c.args.err.now) (contents c.read_files-2.new.err) (contents c.read_locators.new.err) (files.0 ++ lists.0) locators.0 so_far locators.2,
+      appends_both (contents c.args.err.now) (contents c.read_files-2.new.err) (contents c.read_locators.new.err)
+          (files.0 ++ lists.0) locators.0 so_far locators.2,
     )

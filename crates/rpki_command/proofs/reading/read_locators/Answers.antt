@@ -24,7 +24,9 @@ loop-name-preserved g c =
     let (said, so_far, appended, are) = c.loop-name.invariant in (
       said ++ its.1,
       subst (λ (l : List FileFields). AreFilesRead reads most (map (λ name. name.now) (take (i + 1) names)) l (said ++ its.1)) (sym files)
-          (more_read (IsFileRead reads most) (SaysUnread reads most) (λ (name : Bor (List ℕ)). name.now) names i _ c.loop-name-test.true (locator_files before) (locator_files its.0) said its.1 so_far its.2),
+          (more_read (IsFileRead reads most) (SaysUnread reads most) (λ (name : Bor (List ℕ)). name.now) names i
+          _ c.loop-name-test.true (locator_files before) (locator_files its.0) said its.1 so_far its.2),
       appends_both (contents c.args.err.now) (contents c.loop-name.err) (contents c.push_locator.new.err) said its.1 appended its.5,
-      subst (λ (l : List LocatorFields). All (IsRead c.args.strict) l) (sym its.4) (All-append (IsRead c.args.strict) before its.0 are its.3),
+      subst (λ (l : List LocatorFields). All (IsRead c.args.strict) l) (sym its.4)
+          (All-append (IsRead c.args.strict) before its.0 are its.3),
     )

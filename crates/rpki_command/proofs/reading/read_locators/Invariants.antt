@@ -8,5 +8,6 @@ use Rattle.rpki_command.proofs.reading.read_locators.Given as goal
 abbrev pub invariant-loop-name : goal.invariant-loop-name
 invariant-loop-name g l =
     (said : List ℕ)
-    × AreFilesRead (g.F.FileSource.reads l.files) l.most (map (λ name. name.now) (take l.name-index l.names)) (locator_files l.all.items) said
+    × AreFilesRead (g.F.FileSource.reads l.files) l.most (map (λ name. name.now) (take l.name-index l.names))
+    (locator_files l.all.items) said
     × Appends (g.E.Write.contents l.initial.err) (g.E.Write.contents l.err) said × All (IsRead l.strict) l.all.items

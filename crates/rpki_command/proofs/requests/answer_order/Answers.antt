@@ -18,7 +18,12 @@ returns-in-Err-clause-ended g c =
     let asked = asked_fields c.args.order.now in
     let why = c.in-Err.refusal in (
       only_said (refusal_message asked why),
-      inl (c.in-Err.ensures.1 told.memory, ended.outcome, ap (λ (w : Refusal). only_said (refusal_message asked w)) (value_is At why told.memory c.in-Err.ensures.0)),
+      inl (
+        c.in-Err.ensures.1 told.memory,
+        ended.outcome,
+        ap (λ (w : Refusal). only_said (refusal_message asked w))
+            (value_is At why told.memory c.in-Err.ensures.0),
+      ),
       rw ended.written (appends_none (g.O.Write.contents c.args.out.now)),
       told.said,
       makes_none (g.M.FileMaker.made c.args.files.now),

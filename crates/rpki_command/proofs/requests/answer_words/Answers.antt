@@ -16,7 +16,11 @@ returns-in_ok-say-in-Err-clause-ended g c =
     let misuse = c.in-Err.misuse in
     let message = misuse_message (topic_of (word_octets c.args.words.now)) (misuse_text misuse) in (
       only_said message,
-      rw ended.outcome (inl (c.in-Err.ensures.rejected told.memory, refl, (message, (misuse, c.in-Err.ensures.told told.memory, refl), refl))),
+      rw ended.outcome (inl (
+        c.in-Err.ensures.rejected told.memory,
+        refl,
+        (message, (misuse, c.in-Err.ensures.told told.memory, refl), refl),
+      )),
       rw ended.written (appends_none (g.O.Write.contents c.args.out.now)),
       rw c.topic_of.ensures at told.said,
       makes_none (g.M.FileMaker.made c.args.files.now),

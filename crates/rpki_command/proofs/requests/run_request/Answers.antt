@@ -9,8 +9,13 @@ use Rattle.rpki_command.proofs.requests.run_request.Goals as goal
 
 pub returns-then-asks_help-clause-ended : goal.returns-then-asks_help-clause-ended
 returns-then-asks_help-clause-ended g c =
-    let wrote = rw (c.as_bytes.ensures.value, c.help.ensures, c.topic_of.ensures) at c.write_all-written.ensures.bytes in
-    (only_text (help_text (topic_of (word_octets c.args.words.now))), inl (c.asks_help.ensures.0 c.if-asks_help.true, refl, refl), wrote, appends_none (g.E.Write.contents c.args.err.now), makes_none (g.M.FileMaker.made c.args.files.now))
+    let wrote = rw (c.as_bytes.ensures.value, c.help.ensures, c.topic_of.ensures) at c.write_all-written.ensures.bytes in (
+      only_text (help_text (topic_of (word_octets c.args.words.now))),
+      inl (c.asks_help.ensures.0 c.if-asks_help.true, refl, refl),
+      wrote,
+      appends_none (g.E.Write.contents c.args.err.now),
+      makes_none (g.M.FileMaker.made c.args.files.now),
+    )
 
 pub returns-clause-ended : goal.returns-clause-ended
 returns-clause-ended g c =

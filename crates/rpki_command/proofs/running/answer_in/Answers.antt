@@ -24,10 +24,13 @@ returns-clause-answer g c =
     let (of_search, search, second) = c.in_ok-sought.ensures in
     let among : AreFilesOf lists Tree r.folders names of_folders = rw c.deref.ensures.value at opened in
     let same : whole ≡ with_files r names = rw c.deref-2.ensures.value at c.in_ok-request.ensures in
-    let both = appends_both (contents c.args.err.now) (contents c.opened.new.err) (contents c.names_sought.new.err) of_folders of_search first second in
-    so_said (λ e text said. IsAnswerBy reads whole c.args.now sought e.outcome text said) (λ e text said. IsAnswerIn reads lists r c.args.now e.outcome text said)
+    let both = appends_both (contents c.args.err.now) (contents c.opened.new.err) (contents c.names_sought.new.err)
+    of_folders of_search first second in
+    so_said (λ e text said. IsAnswerBy reads whole c.args.now sought e.outcome text said)
+    (λ e text said. IsAnswerIn reads lists r c.args.now e.outcome text said)
     (λ e text. OnOk e.written (Appends (g.O.Write.contents c.args.out.now) (g.O.Write.contents c.answer_by.new.out) text))
-    (contents c.args.err.now) (contents c.names_sought.new.err) (contents c.answer_by.new.err) (of_folders ++ of_search) c.answer_by.result both
+    (contents c.args.err.now) (contents c.names_sought.new.err) (contents c.answer_by.new.err)
+    (of_folders ++ of_search) c.answer_by.result both
     (λ e text said h. record {
       names = names;
       of_folders = of_folders;

@@ -11,8 +11,11 @@ returns-clause-answer g c =
     let lists = g.F.FileSource.lists c.args.files.now in
     let r = fields_of c.args.request in
     let folders = c.args.request.folders in
-    so_answered (λ e text said. IsAnswerIn reads lists r c.args.now e.outcome text said) (λ e text said. IsAnswerOf reads lists r c.args.now e.outcome text said)
+    so_answered (λ e text said. IsAnswerIn reads lists r c.args.now e.outcome text said)
+    (λ e text said. IsAnswerOf reads lists r c.args.now e.outcome text said)
     (λ e text. OnOk e.written (Appends (g.O.Write.contents c.args.out.now) (g.O.Write.contents c.answer_in.new.out) text))
     (λ said. Appends (g.E.Write.contents c.args.err.now) (g.E.Write.contents c.answer_in.new.err) said) c.answer_in.result
-    (λ e text said h. of_sought reads lists r c.args.now e.outcome text said r.folders (some_names (λ name. name.now) folders c.is_empty.result c.is_empty.ensures folders.ok.0 c.if-is_empty.false) h)
+    (λ e text said h. of_sought reads lists r c.args.now e.outcome text said r.folders
+    (some_names (λ name. name.now) folders c.is_empty.result c.is_empty.ensures folders.ok.0
+    c.if-is_empty.false) h)
     c.answer_in.ensures.answer

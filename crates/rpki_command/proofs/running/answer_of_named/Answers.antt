@@ -18,8 +18,10 @@ returns-clause-answer g c =
     let whole = fields_of c.in_ok-request.request in
     let of_folders = c.in_ok-names.ensures in
     let roots : word_octets c.in_ok-roots.roots.items ≡ roots_of r.files = rw c.deref.ensures.value at c.in_ok-roots.ensures in
-    let same : whole ≡ record r { files = names; folders = roots_of r.files } = rw (c.deref-2.ensures.value, c.deref-3.ensures.value, roots) at c.in_ok-request.ensures in
-    so_said (λ e text said. IsAnswer reads whole c.args.now e.outcome text said) (λ e text said. IsAnswerOfNamed reads lists r c.args.now e.outcome text said)
+    let same : whole ≡ record r { files = names; folders = roots_of r.files } =
+    rw (c.deref-2.ensures.value, c.deref-3.ensures.value, roots) at c.in_ok-request.ensures in
+    so_said (λ e text said. IsAnswer reads whole c.args.now e.outcome text said)
+    (λ e text said. IsAnswerOfNamed reads lists r c.args.now e.outcome text said)
     (λ e text. OnOk e.written (Appends (g.O.Write.contents c.args.out.now) (g.O.Write.contents c.answer.new.out) text))
     (contents c.args.err.now) (contents c.file_names.new.err) (contents c.answer.new.err) of_folders.0 c.answer.result of_folders.2
     (λ e text said h. record {

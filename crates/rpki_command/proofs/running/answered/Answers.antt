@@ -13,7 +13,8 @@ returns g c =
       said,
       record {
         told = string_bytes whole.text;
-        whole = subst (λ (o : Outcome). IsWholeAnswer reads (fields_of c.args.request.now) c.args.now o (string_bytes whole.text) said) (sym its.outcome) answer;
+        whole = subst (λ (o : Outcome). IsWholeAnswer reads (fields_of c.args.request.now) c.args.now o
+            (string_bytes whole.text) said) (sym its.outcome) answer;
         quiet_is = its.quiet;
         told_is = λ loud. ap string_bytes (its.told loud);
       },

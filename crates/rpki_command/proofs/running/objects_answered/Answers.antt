@@ -8,5 +8,9 @@ answer_objects-requires-clause-given g c =
 pub returns : goal.returns
 returns g c =
     let read = c.in_ok-given.ensures in
-    let its = c.in_ok-answer.ensures in
-    (read.0, whole_answer _ _ _ _ _ _ _ _ _ c.deref.ensures.value c.deref-2.ensures.value c.deref-3.ensures.value read.1 _ _ _ its.ends its.text its.json, read.2)
+    let its = c.in_ok-answer.ensures in (
+      read.0,
+      whole_answer _ _ _ _ _ _ _ _ _ c.deref.ensures.value c.deref-2.ensures.value c.deref-3.ensures.value
+          read.1 _ _ _ its.ends its.text its.json,
+      read.2,
+    )

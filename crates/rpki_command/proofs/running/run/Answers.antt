@@ -7,7 +7,9 @@ use Rattle.rpki_command.proofs.running.run.Goals as goal
 -- a run is that of a request
 pub returns-then-is_request-clause-ended : goal.returns-then-is_request-clause-ended
 returns-then-is_request-clause-ended g c =
-    IfOk-weaker c.run_request.result _ _ (λ e its. (its.0, inl (c.is_request.ensures.0 c.if-is_request.true, its.1), its.2, its.3, its.4)) c.run_request.ensures.ended
+    IfOk-weaker c.run_request.result
+    _ _ (λ e its. (its.0, inl (c.is_request.ensures.0 c.if-is_request.true, its.1), its.2, its.3, its.4))
+    c.run_request.ensures.ended
 
 -- or that of a command line, which makes no file
 pub returns-clause-ended : goal.returns-clause-ended

@@ -22,10 +22,16 @@ returns-in-Err-clause-ended g c =
 pub returns-in-Some-clause-ended : goal.returns-in-Some-clause-ended
 returns-in-Some-clause-ended g c =
     let about = c.in-Some.ensures in
-    let ends = run_about (g.S.FileSource.reads c.args.system.now) (g.S.FileSource.lists c.args.system.now) (g.S.MomentSource.tells c.args.system.now)
+    let ends = run_about (g.S.FileSource.reads c.args.system.now) (g.S.FileSource.lists c.args.system.now)
+    (g.S.MomentSource.tells c.args.system.now)
     (word_octets c.args.words.now) (fields_of c.in-Ok.request) c.in-Ok.ensures.command_line about.files in
-    let wrote = rw (c.as_bytes.ensures.value, about.text) at c.write_all-written.ensures.bytes in
-    (about_text c.in-Ok.request.task (topic_of (word_octets c.args.words.now)), [], ends, rw c.topic_of-2.ensures at wrote, appends_none (g.E.Write.contents c.args.err.now))
+    let wrote = rw (c.as_bytes.ensures.value, about.text) at c.write_all-written.ensures.bytes in (
+      about_text c.in-Ok.request.task (topic_of (word_octets c.args.words.now)),
+      [],
+      ends,
+      rw c.topic_of-2.ensures at wrote,
+      appends_none (g.E.Write.contents c.args.err.now),
+    )
 
 pub returns-clause-ended : goal.returns-clause-ended
 returns-clause-ended g c =
@@ -33,7 +39,8 @@ returns-clause-ended g c =
     (λ e its. (
       its.0,
       its.1,
-      run_answer (g.S.FileSource.reads c.args.system.now) (g.S.FileSource.lists c.args.system.now) (g.S.MomentSource.tells c.args.system.now)
+      run_answer (g.S.FileSource.reads c.args.system.now) (g.S.FileSource.lists c.args.system.now)
+          (g.S.MomentSource.tells c.args.system.now)
           (word_octets c.args.words.now) (fields_of c.in-Ok.request) c.in-Ok.ensures.command_line
           c.in_default.ensures.files c.in_ok-now.now c.in_ok-now.ensures e.outcome its.0 its.1 its.2,
       its.3,

@@ -12,10 +12,13 @@ loop-file-preserved c =
     let i = c.loop-file.file-index in
     let file = c.file-item.result in
     let its = c.in_ok-push_list_name.ensures in
-    subst (λ (l : List FileFields). AreListNames l (word_octets c.push_list_name.new.names.items)) (sym (gone_over files i file c.loop-file-test.true c.file-item.is))
-    (subst (λ (l : List (List ℕ)). AreListNames (take i files ++ file ∷ []) l) (sym its.2) (lists_more (take i files) (word_octets c.loop-file.names.items) c.loop-file.invariant file its.0 its.1))
+    subst (λ (l : List FileFields). AreListNames l (word_octets c.push_list_name.new.names.items))
+    (sym (gone_over files i file c.loop-file-test.true c.file-item.is))
+    (subst (λ (l : List (List ℕ)). AreListNames (take i files ++ file ∷ []) l) (sym its.2)
+    (lists_more (take i files) (word_octets c.loop-file.names.items) c.loop-file.invariant file its.0 its.1))
 
 pub returns : goal.returns
 returns c =
     let files = c.args.files.now in
-    subst (λ (l : List FileFields). AreListNames l (word_octets c.loop-file.names.items)) (take_all c.loop-file.file-index files c.loop-file-test.false) c.loop-file.invariant
+    subst (λ (l : List FileFields). AreListNames l (word_octets c.loop-file.names.items))
+    (take_all c.loop-file.file-index files c.loop-file-test.false) c.loop-file.invariant

@@ -12,5 +12,6 @@ returns-clause-said g c =
     let second = rw c.deref.ensures.value at c.in_default.ensures.said in (
       of_others ++ message,
       (of_others, says, refl),
-      appends_both (contents c.args.err.now) (contents c.tell_others.new.err) (contents c.tell_no_list.new.err) of_others message first second,
+      appends_both (contents c.args.err.now) (contents c.tell_others.new.err) (contents c.tell_no_list.new.err)
+          of_others message first second,
     )

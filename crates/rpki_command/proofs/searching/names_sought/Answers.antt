@@ -11,7 +11,8 @@ sought_if_read-requires g c =
     let its = c.in_ok-given.ensures in
     let are = rw (map-id given.files.items, map-id given.lists.items) at its.1 in
     rw (c.deref.ensures.value, c.deref-2.ensures.value, c.deref-3.ensures.value)
-    (are_given (g.F.FileSource.reads c.args.files.now) (fields_of c.args.request.now) given.files.items given.lists.items given.locators.items its.0 are)
+    (are_given (g.F.FileSource.reads c.args.files.now) (fields_of c.args.request.now) given.files.items
+    given.lists.items given.locators.items its.0 are)
 
 pub returns : goal.returns
 returns g c =
@@ -32,5 +33,6 @@ returns g c =
         says = says;
         said_is = refl;
       },
-      appends_both (contents c.args.err.now) (contents c.read_given.new.err) (contents c.sought_if_read.new.err) its.0 of_search its.2 second,
+      appends_both (contents c.args.err.now) (contents c.read_given.new.err) (contents c.sought_if_read.new.err) its.0
+          of_search its.2 second,
     )

@@ -16,7 +16,8 @@ returns-in-Ok-clause-sought g c =
     let q = tree_question_of (fields_of c.args.request.now) c.args.now c.args.files.now c.args.locators.now in
     let names = word_octets c.in-Ok.files.items in
     let found = subst (λ (p : TreeFields). (path : List FileFields)
-    × ((file : FileFields) (more : List FileFields) → p.files ≡ file ∷ more → IsSoughtPath (context IsSignedByRsa p.at p.strict) p file path c.in-Ok.ended)
+    × ((file : FileFields) (more : List FileFields) → p.files ≡ file ∷ more →
+    IsSoughtPath (context IsSignedByRsa p.at p.strict) p file path c.in-Ok.ended)
     × (names ≡ file_names path)) c.tree_question-question.ensures c.in-Ok.ensures.path in
     record { path = found.0; path_is = found.1; files_are = found.2; lists_are = c.in_ok-lists.ensures.lists }
 
@@ -26,7 +27,8 @@ returns-in-Ok-clause-said g c =
     let q = tree_question_of (fields_of c.args.request.now) c.args.now c.args.files.now c.args.locators.now in
     let (of_files, says, first) = c.in_ok-lists.ensures.said in
     let bound = bound_message q c.in-Ok.ended in
-    let second = subst (λ (p : TreeFields). Appends (contents c.lists_told.new.err) (contents c.path_told.new.err) (bound_message p c.in-Ok.ended)) c.tree_question-question.ensures c.in-Ok.ensures.said in (
+    let second = subst (λ (p : TreeFields). Appends (contents c.lists_told.new.err) (contents c.path_told.new.err)
+    (bound_message p c.in-Ok.ended)) c.tree_question-question.ensures c.in-Ok.ensures.said in (
       of_files ++ bound,
       (of_files, says, refl),
       appends_both (contents c.args.err.now) (contents c.lists_told.new.err) (contents c.path_told.new.err) of_files bound first second,

@@ -6,4 +6,6 @@ use Rattle.rpki_crl.proofs.EntryReads.{entry_reads, entry_shrinks}
 use Rattle.rpki_crl.proofs.laws.one_row.Goals as goal
 
 pub returns : goal.returns
-returns c ds es b one other = some_is ds es (sym (sequence_again entry_format.read IsEntry entry_reads entry_shrinks ds b one) ∙ sequence_again entry_format.read IsEntry entry_reads entry_shrinks es b other)
+returns c ds es b one other =
+    some_is ds es (sym (sequence_again entry_format.read IsEntry entry_reads entry_shrinks ds b one) ∙
+    sequence_again entry_format.read IsEntry entry_reads entry_shrinks es b other)

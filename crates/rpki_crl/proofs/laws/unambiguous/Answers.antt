@@ -14,4 +14,5 @@ pub returns-clause-data : goal.returns-clause-data
 returns-clause-data c = alone_means (list_format levels) (list_alone levels)
 
 pub returns-clause-revoked : goal.returns-clause-revoked
-returns-clause-revoked c r s b rest tail one other = both_are (r, rest) (s, tail) (sym (revoked_reads.again b r rest one) ∙ revoked_reads.again b s tail other)
+returns-clause-revoked c r s b rest tail one other =
+    both_are (r, rest) (s, tail) (sym (revoked_reads.again b r rest one) ∙ revoked_reads.again b s tail other)

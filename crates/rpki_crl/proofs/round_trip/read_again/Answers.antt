@@ -9,15 +9,37 @@ use Rattle.rpki_crl.proofs.round_trip.read_again.Goals as goal
 pub unreachable-requires : goal.unreachable-requires
 unreachable-requires c =
     let made = c.args.made.now.list in
-    let octets : AreOctets made.signed_data.signature.value = rw (c.signature.ensures, c.signed_data.ensures) at c.value-value.ensures.octets in
-    let is : IsMadeList made = record { message_is = c.requires.message; fields_are = c.requires.written; same_algorithm = c.requires.algorithm; signature_is = octets; short = c.requires.fits } in
-    let own = whole_means IsCertificateList made c.in_ok-octets.octets (subst (λ (b : List ℕ). IsCertificateList made b) (sym c.in_ok-octets.ensures.ok) (c.written_is_read.ensures.list made is)) in
+    let octets : AreOctets made.signed_data.signature.value = rw (c.signature.ensures, c.signed_data.ensures)
+    at c.value-value.ensures.octets in
+    let is : IsMadeList made =
+    record {
+      message_is = c.requires.message;
+      fields_are = c.requires.written;
+      same_algorithm =
+          c.requires.algorithm;
+      signature_is = octets;
+      short = c.requires.fits;
+    } in
+    let own = whole_means IsCertificateList made c.in_ok-octets.octets
+    (subst (λ (b : List ℕ). IsCertificateList made b) (sym c.in_ok-octets.ensures.ok)
+    (c.written_is_read.ensures.list made is)) in
     false≢true (c.if-not-is_memory.ensures.1 (memory_alone c.in-Err.error c.in-Err.ensures.means (λ none. none made own)))
 
 pub returns-in-Ok-clause-same : goal.returns-in-Ok-clause-same
 returns-in-Ok-clause-same c =
     let made = c.args.made.now.list in
-    let octets : AreOctets made.signed_data.signature.value = rw (c.signature.ensures, c.signed_data.ensures) at c.value-value.ensures.octets in
-    let is : IsMadeList made = record { message_is = c.requires.message; fields_are = c.requires.written; same_algorithm = c.requires.algorithm; signature_is = octets; short = c.requires.fits } in
-    let own = whole_means IsCertificateList made c.in_ok-octets.octets (subst (λ (b : List ℕ). IsCertificateList made b) (sym c.in_ok-octets.ensures.ok) (c.written_is_read.ensures.list made is)) in
+    let octets : AreOctets made.signed_data.signature.value = rw (c.signature.ensures, c.signed_data.ensures)
+    at c.value-value.ensures.octets in
+    let is : IsMadeList made =
+    record {
+      message_is = c.requires.message;
+      fields_are = c.requires.written;
+      same_algorithm =
+          c.requires.algorithm;
+      signature_is = octets;
+      short = c.requires.fits;
+    } in
+    let own = whole_means IsCertificateList made c.in_ok-octets.octets
+    (subst (λ (b : List ℕ). IsCertificateList made b) (sym c.in_ok-octets.ensures.ok)
+    (c.written_is_read.ensures.list made is)) in
     one_meant IsCertificateList c.unambiguous.ensures.list c.in-Ok.read.list made c.in_ok-octets.octets c.in-Ok.ensures.means own

@@ -11,7 +11,8 @@ returns-then-front-eq0-clause-below c =
 pub returns-else-front-eq0-clause-below : goal.returns-else-front-eq0-clause-below
 returns-else-front-eq0-clause-below c =
     let top = leading_length 128 c.args.front (omega (arith, c.ranges.front)) in
-    below_power 160 _ (top.0 + 32) (c.args.front * 2 ^ 32 + c.args.back) (omega (arith, top.1)) (omega (arith, top.2, pow-add 2 top.0 32, c.ranges.back))
+    below_power 160 _ (top.0 + 32) (c.args.front * 2 ^ 32 + c.args.back) (omega (arith, top.1))
+    (omega (arith, top.2, pow-add 2 top.0 32, c.ranges.back))
 
 pub returns-then-front-eq0-clause-no_more : goal.returns-then-front-eq0-clause-no_more
 returns-then-front-eq0-clause-no_more c =
@@ -21,4 +22,5 @@ returns-then-front-eq0-clause-no_more c =
 pub returns-else-front-eq0-clause-no_more : goal.returns-else-front-eq0-clause-no_more
 returns-else-front-eq0-clause-no_more c =
     let top = leading_top 128 c.args.front (omega (arith, c.if-front-eq0.false)) (omega (arith, c.ranges.front)) in
-    power_below 160 _ (top.0 + 33) (2 * (c.args.front * 2 ^ 32 + c.args.back) + 1) (omega (arith, top.1)) (omega (arith, top.2, pow-add 2 top.0 33))
+    power_below 160 _ (top.0 + 33) (2 * (c.args.front * 2 ^ 32 + c.args.back) + 1) (omega (arith, top.1))
+    (omega (arith, top.2, pow-add 2 top.0 33))

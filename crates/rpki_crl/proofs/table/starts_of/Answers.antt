@@ -9,8 +9,10 @@ unreachable-requires c =
     let xs = c.args.serials.now in
     let i = c.loop-i.i in
     let inside : i < length xs = c.loop-i-test.true in
-    let stands : c.index-serials-i.result ≡ get_or xs i 0 = c.index-serials-i.is ∙ get_or_default_zero xs i c.index-serials-i.result inside in
-    let outside = subst (λ (x : ℕ). (x < c.args.base * 2 ^ 32) ⊎ (2 ^ 96 ≤ bucket_of c.args.base c.args.shift x)) stands c.in_default.ensures.none in
+    let stands : c.index-serials-i.result ≡ get_or xs i 0 = c.index-serials-i.is ∙
+    get_or_default_zero xs i c.index-serials-i.result inside in
+    let outside = subst (λ (x : ℕ). (x < c.args.base * 2 ^ 32) ⊎ (2 ^ 96 ≤ bucket_of c.args.base c.args.shift x))
+    stands c.in_default.ensures.none in
     in_scale c.args.base c.args.shift xs c.requires.ascending i inside c.requires.scale (omega arith) outside
 
 pub loop-bucket-preserved : goal.loop-bucket-preserved
@@ -19,9 +21,12 @@ loop-bucket-preserved c =
     let i = c.loop-i.i in
     let starts = c.loop-bucket.starts.items in
     let inside : i < length xs = c.loop-i-test.true in
-    let stands : c.index-serials-i.result ≡ get_or xs i 0 = c.index-serials-i.is ∙ get_or_default_zero xs i c.index-serials-i.result inside in
-    let bucket : c.in-Some.bucket ≡ bucket_of c.args.base c.args.shift (get_or xs i 0) = c.in-Some.ensures.some ∙ ap (bucket_of c.args.base c.args.shift) stands in
-    let next : length starts ≤ bucket_of c.args.base c.args.shift (get_or xs i 0) = omega (arith, bucket, c.len.ensures, c.loop-bucket.starts.ok, c.loop-bucket-test.true) in
+    let stands : c.index-serials-i.result ≡ get_or xs i 0 = c.index-serials-i.is ∙
+    get_or_default_zero xs i c.index-serials-i.result inside in
+    let bucket : c.in-Some.bucket ≡ bucket_of c.args.base c.args.shift (get_or xs i 0) = c.in-Some.ensures.some ∙
+    ap (bucket_of c.args.base c.args.shift) stands in
+    let next : length starts ≤ bucket_of c.args.base c.args.shift (get_or xs i 0) =
+    omega (arith, bucket, c.len.ensures, c.loop-bucket.starts.ok, c.loop-bucket-test.true) in
     let last = last_is_last c.args.base c.args.shift xs c.requires.ascending i inside in
     let more = one_begun c.args.base c.args.shift xs c.requires.ascending i inside starts c.loop-bucket.invariant.begun next in
     record {
@@ -35,9 +40,12 @@ loop-i-preserved c =
     let i = c.loop-i.i in
     let starts = c.loop-bucket.starts.items in
     let inside : i < length xs = c.loop-i-test.true in
-    let stands : c.index-serials-i.result ≡ get_or xs i 0 = c.index-serials-i.is ∙ get_or_default_zero xs i c.index-serials-i.result inside in
-    let bucket : c.in-Some.bucket ≡ bucket_of c.args.base c.args.shift (get_or xs i 0) = c.in-Some.ensures.some ∙ ap (bucket_of c.args.base c.args.shift) stands in
-    let last : bucket_of c.args.base c.args.shift (get_or xs i 0) < length starts = omega (arith, bucket, c.len.ensures, c.loop-bucket.starts.ok, c.loop-bucket-test.false) in
+    let stands : c.index-serials-i.result ≡ get_or xs i 0 = c.index-serials-i.is ∙
+    get_or_default_zero xs i c.index-serials-i.result inside in
+    let bucket : c.in-Some.bucket ≡ bucket_of c.args.base c.args.shift (get_or xs i 0) = c.in-Some.ensures.some ∙
+    ap (bucket_of c.args.base c.args.shift) stands in
+    let last : bucket_of c.args.base c.args.shift (get_or xs i 0) < length starts =
+    omega (arith, bucket, c.len.ensures, c.loop-bucket.starts.ok, c.loop-bucket-test.false) in
     record {
       begun = one_inside c.args.base c.args.shift xs c.requires.ascending i inside starts c.loop-bucket.invariant.begun last;
       few = c.loop-bucket.invariant.few;

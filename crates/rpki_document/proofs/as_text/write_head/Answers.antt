@@ -9,4 +9,7 @@ use Rattle.rpki_document.proofs.as_text.write_head.Goals as goal
 pub returns : goal.returns
 returns c =
     let labelled : string_bytes c.append.new.out ≡ string_bytes c.args.out.now ++ head_text c.args.label.now = c.in_ok-append.ensures in
-    line_ended c.push_str.result (string_bytes c.write_pieces.new.out) (string_bytes c.push_str.new.self) line_feed (string_bytes c.args.out.now ++ (head_text c.args.label.now ++ (spans_text (map piece_view c.args.pieces.now) ++ line_feed))) c.push_str.ensures.bytes (rw (c.in_ok-write_pieces.ensures, labelled, text_of_pieces) (simp append_assoc))
+    line_ended c.push_str.result (string_bytes c.write_pieces.new.out) (string_bytes c.push_str.new.self) line_feed
+    (string_bytes c.args.out.now ++
+    (head_text c.args.label.now ++ (spans_text (map piece_view c.args.pieces.now) ++ line_feed)))
+    c.push_str.ensures.bytes (rw (c.in_ok-write_pieces.ensures, labelled, text_of_pieces) (simp append_assoc))

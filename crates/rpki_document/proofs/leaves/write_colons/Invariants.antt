@@ -7,4 +7,6 @@ use Rattle.rpki_document.proofs.leaves.write_colons.Given as goal
 
 abbrev pub invariant-loop-octet : goal.invariant-loop-octet
 invariant-loop-octet g l =
-    IsPlainFormatter l.initial.f → HasWritten g.W.Write.write_str_gives l.initial.f (flat_map (λ more. 58 ∷ two_digits more) (take l.octet-index l.more)) l.f
+    IsPlainFormatter l.initial.f →
+    HasWritten g.W.Write.write_str_gives l.initial.f
+    (flat_map (λ more. 58 ∷ two_digits more) (take l.octet-index l.more)) l.f

@@ -10,11 +10,14 @@ pub returns-in_err-append_description-clause-too_long : goal.returns-in_err-appe
 unfolding authority_information_access_format
 returns-in_err-append_description-clause-too_long c =
     let same = ap (λ (uri : List ℕ). length (description ca_issuers uri)) c.as_bytes.ensures.octets in
-    passed_long c.from_residual.result _ _ _ c.from_residual.ensures.1 c.in_err-append_description.ensures.too_long (omega (arith, enc_longer SEQUENCE (description ca_issuers c.args.uri.now), same))
+    passed_long c.from_residual.result _ _ _ c.from_residual.ensures.1 c.in_err-append_description.ensures.too_long
+    (omega (arith, enc_longer SEQUENCE (description ca_issuers c.args.uri.now), same))
 
 pub returns-clause-too_long : goal.returns-clause-too_long
 unfolding authority_information_access_format
 returns-clause-too_long c =
     let same = ap (λ (uri : List ℕ). length (description ca_issuers uri)) c.as_bytes.ensures.octets in
     let start : c.len-start.result ≡ length c.args.out.now.items = search rules in
-    enclosed_long c.enclose.result _ c.args.out.now.items _ _ _ c.enclose.ensures.too_long.0 start c.in_ok-append_description.ensures.ok (omega (arith, enc_longer SEQUENCE (description ca_issuers c.args.uri.now), same))
+    enclosed_long c.enclose.result _ c.args.out.now.items _ _ _ c.enclose.ensures.too_long.0 start
+    c.in_ok-append_description.ensures.ok
+    (omega (arith, enc_longer SEQUENCE (description ca_issuers c.args.uri.now), same))

@@ -18,4 +18,5 @@ returns c =
     let start : c.len-start.result ≡ length old = search rules in
     let content = c.append_content-content.ensures in
     let long = still_long c.append_content-content.result _ _ content.too_long (content_longer (pkix 0x01 0x01) false inside) in
-    ended (extension_part (pkix 0x01 0x01) false) _ old inside _ _ c.append_content-content.result c.end_extension.result start content.ok content.err long c.end_extension.ensures
+    ended (extension_part (pkix 0x01 0x01) false) _ old inside _ _ c.append_content-content.result
+    c.end_extension.result start content.ok content.err long c.end_extension.ensures

@@ -4,4 +4,5 @@ use Rattle.rpki_ext.proofs.CertificateExtensions.{authority_information_access_a
 use Rattle.rpki_ext.proofs.authority_access.take_authority_information_access.Goals as goal
 
 pub returns : goal.returns
-returns c = answers_or_memory_alone (λ x. x) authority_information_access_format _ _ _ authority_information_access_alone c.read.ensures.octets c.read.ensures.reads c.read.ensures.keeps
+returns c = answers_or_memory_alone (λ x. x) authority_information_access_format
+    _ _ _ authority_information_access_alone c.read.ensures.octets c.read.ensures.reads c.read.ensures.keeps

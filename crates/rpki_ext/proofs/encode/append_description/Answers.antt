@@ -13,11 +13,19 @@ pub put_oid-requires : goal.put_oid-requires
 put_oid-requires c = oid_takes _ c.requires
 
 pub returns-in_err-put_oid-clause-too_long : goal.returns-in_err-put_oid-clause-too_long
-returns-in_err-put_oid-clause-too_long c = passed_long c.from_residual.result _ _ _ c.from_residual.ensures.1 c.in_err-put_oid.ensures.too_long.0 (omega (arith, enc_longer OBJECT_IDENTIFIER c.args.method.now, description_longer c.args.method.now c.args.uri.now))
+returns-in_err-put_oid-clause-too_long c = passed_long c.from_residual.result _ _ _ c.from_residual.ensures.1
+    c.in_err-put_oid.ensures.too_long.0
+    (omega (
+      arith,
+      enc_longer OBJECT_IDENTIFIER c.args.method.now,
+      description_longer c.args.method.now c.args.uri.now,
+    ))
 
 pub returns-in_err-put_value-clause-too_long : goal.returns-in_err-put_value-clause-too_long
 unfolding uri_format
-returns-in_err-put_value-clause-too_long c = passed_long c.from_residual-in_err-put_value.result _ _ _ c.from_residual-in_err-put_value.ensures.1 c.in_err-put_value.ensures.too_long.0 (omega (arith, enc_longer (CONTEXT 6) c.args.uri.now, description_longer c.args.method.now c.args.uri.now))
+returns-in_err-put_value-clause-too_long c = passed_long c.from_residual-in_err-put_value.result
+    _ _ _ c.from_residual-in_err-put_value.ensures.1 c.in_err-put_value.ensures.too_long.0
+    (omega (arith, enc_longer (CONTEXT 6) c.args.uri.now, description_longer c.args.method.now c.args.uri.now))
 
 pub returns-clause-too_long : goal.returns-clause-too_long
 unfolding uri_format

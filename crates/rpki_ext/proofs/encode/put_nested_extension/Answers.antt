@@ -17,4 +17,5 @@ returns c =
     let start : c.len-start.result ≡ length old = search rules in
     let content = c.append_nested-content.ensures in
     let long = still_long c.append_nested-content.result _ _ content.too_long (content_longer c.args.id.now c.args.critical inside) in
-    ended (extension_part c.args.id.now c.args.critical) _ old inside _ _ c.append_nested-content.result c.end_extension.result start content.ok content.err long c.end_extension.ensures
+    ended (extension_part c.args.id.now c.args.critical) _ old inside _ _ c.append_nested-content.result
+    c.end_extension.result start content.ok content.err long c.end_extension.ensures

@@ -7,7 +7,9 @@ use Rattle.rpki_der.proofs.RoundTrips.{enc_small}
 use Rattle.rpki_blocks.specs.declared.overclaim.Overclaim.{Overclaim}
 use Rattle.rpki_blocks.specs.declared.overclaim.Overclaim.TheVariants.{Refuse, Trim}
 use Rattle.rpki_blocks.specs.Overclaims.{policy_identifier}
-use Rattle.rpki_ext.specs.ExtensionKinds.{basic_constraints, basic_constraints_format, certificate_policies, certificate_policies_format, authority_key_identifier_format, key_usage, key_usage_format, usage_bits}
+use Rattle.rpki_ext.specs.ExtensionKinds.{basic_constraints, basic_constraints_format, certificate_policies}
+use Rattle.rpki_ext.specs.ExtensionKinds.{certificate_policies_format, authority_key_identifier_format, key_usage}
+use Rattle.rpki_ext.specs.ExtensionKinds.{key_usage_format, usage_bits}
 use Rattle.rpki_parts.specs.Keys.{key_identifier_format}
 use Rattle.rpki_ext.specs.declared.key_usage.KeyUsage.{KeyUsage}
 use Rattle.rpki_ext.specs.declared.key_usage.KeyUsage.TheVariants.{Ca, Ee}
@@ -35,7 +37,13 @@ unfolding certificate_policies_format
 policies_small overclaim =
     let oid = enc OBJECT_IDENTIFIER (policy_identifier overclaim) in
     let id : List ℕ = oid ++ [] in
-    let one : length id ≡ 10 = omega (arith, length-append oid [], policy_small overclaim, enc_small OBJECT_IDENTIFIER (policy_identifier overclaim) (omega (arith, policy_small overclaim))) in
+    let one : length id ≡ 10 =
+    omega (
+      arith,
+      length-append oid [],
+      policy_small overclaim,
+      enc_small OBJECT_IDENTIFIER (policy_identifier overclaim) (omega (arith, policy_small overclaim)),
+    ) in
     let two : length (enc SEQUENCE id) ≡ 12 = omega (arith, enc_small SEQUENCE id (omega arith)) in
     omega (arith, enc_small SEQUENCE (enc SEQUENCE id) (omega arith))
 
@@ -48,7 +56,12 @@ returns-clause-subject_key_identifier c = λ id l. omega (arith, identifier_smal
 
 pub returns-clause-authority_key_identifier : goal.returns-clause-authority_key_identifier
 unfolding authority_key_identifier_format
-returns-clause-authority_key_identifier c = λ id l. omega (arith, enc_small SEQUENCE (enc (CONTEXT 0) id) (omega (arith, identifier_small (CONTEXT 0) id l)), identifier_small (CONTEXT 0) id l)
+returns-clause-authority_key_identifier c =
+    λ id l. omega (
+      arith,
+      enc_small SEQUENCE (enc (CONTEXT 0) id) (omega (arith, identifier_small (CONTEXT 0) id l)),
+      identifier_small (CONTEXT 0) id l,
+    )
 
 pub returns-clause-key_usage : goal.returns-clause-key_usage
 returns-clause-key_usage c = usage_small

@@ -8,4 +8,6 @@ use Rattle.rpki_ext.proofs.GeneralNames.{text_is_not}
 use Rattle.rpki_ext.proofs.names.https_of.Goals as goal
 
 pub returns-in-Err-clause-ok : goal.returns-in-Err-clause-ok
-returns-in-Err-clause-ok c = sym (text_is_not is_https IsHttps https_decides (remaining c.args.text) (λ u. false≢true (c.in-Err.ensures.accepted.1 (subst IsHttps (sym c.in_ok-capture_rest.ensures.ok.0) u))))
+returns-in-Err-clause-ok c =
+    sym (text_is_not is_https IsHttps https_decides (remaining c.args.text)
+    (λ u. false≢true (c.in-Err.ensures.accepted.1 (subst IsHttps (sym c.in_ok-capture_rest.ensures.ok.0) u))))

@@ -16,4 +16,5 @@ pub returns : goal.returns
 returns c = only c.args.uri.now (remaining c.args.text) c.in-Some.read (sym c.in_ok-read.ensures.ok ∙ c.in-Some.is) (search rules)
 
 pub returns-then-is_some : goal.returns-then-is_some
-returns-then-is_some c = second c.args.uri.now (remaining c.args.text) c.in-Some.read (sym c.in_ok-read.ensures.ok ∙ c.in-Some.is) (search rules)
+returns-then-is_some c = second c.args.uri.now (remaining c.args.text) c.in-Some.read
+    (sym c.in_ok-read.ensures.ok ∙ c.in-Some.is) (search rules)

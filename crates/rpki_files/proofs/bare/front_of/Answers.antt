@@ -13,5 +13,6 @@ returns-then-is_some c = λ octets is.
 pub returns-in-List : goal.returns-in-List
 returns-in-List c = λ octets is.
     let whole = some_or_none c.whole_list.result (c.whole_list.ensures octets is) (λ l own. (l.now.list, own)) in
-    let none = ⊎_elim (λ list begins. (subst (λ (it : Content). IsContent octets it) list.2 is).1 begins) (λ other begins. (subst (λ (it : Content). IsContent octets it) other.1 is).1 (inl begins)) c.in-List.is in
+    let none = ⊎_elim (λ list begins. (subst (λ (it : Content). IsContent octets it) list.2 is).1 begins)
+    (λ other begins. (subst (λ (it : Content). IsContent octets it) other.1 is).1 (inl begins)) c.in-List.is in
     (none, λ list. false≢true (sym c.if-is_some.false ∙ c.is_some.ensures ∙ whole.1 list))

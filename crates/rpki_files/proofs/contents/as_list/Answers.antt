@@ -5,4 +5,6 @@ use Rattle.rpki_files.proofs.contents.as_list.Goals as goal
 pub returns-in-Err : goal.returns-in-Err
 returns-in-Err c =
     let fault = c.in-Err.fault in
-    neither_read c.args.octets.now fault c.neither.result c.neither.ensures (λ not_memory shown. ⊎_elim (λ other. c.requires other) (λ its. rejected fault c.in-Err.ensures.means not_memory its.0 its.1) shown)
+    neither_read c.args.octets.now fault c.neither.result c.neither.ensures
+    (λ not_memory shown. ⊎_elim (λ other. c.requires other)
+    (λ its. rejected fault c.in-Err.ensures.means not_memory its.0 its.1) shown)

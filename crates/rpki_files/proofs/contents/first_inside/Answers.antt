@@ -37,4 +37,5 @@ returns-clause-means c =
     let some_data : c.inside-2.result ≡ Some c.in_ok-data.data = search rules in
     let begins : Means (IsEnc SEQUENCE) outer octets = rw c.new.ensures.all at (rw some at c.inside.ensures.means) in
     let within : Means (IsEnc SEQUENCE) inner outer = rw some_data at c.inside-2.ensures.means in
-    rw (c.copied.ensures ∙ c.first.ensures.value ∙ ap (λ (l : List ℕ). slice_get l 0) c.rest.ensures.remaining) (first_found octets outer inner begins within)
+    rw (c.copied.ensures ∙ c.first.ensures.value ∙ ap (λ (l : List ℕ). slice_get l 0) c.rest.ensures.remaining)
+    (first_found octets outer inner begins within)

@@ -11,7 +11,8 @@ returns-then-eq-clause-list c = λ begins.
 
 pub returns-then-eq-2-clause-certificate : goal.returns-then-eq-2-clause-certificate
 returns-then-eq-2-clause-certificate c = λ begins same.
-    let first : c.first_inside-first.result ≡ Some 160 = c.first_inside-first.ensures.found 160 (certificate_first c.args.octets.now begins) in
+    let first : c.first_inside-first.result ≡ Some 160 =
+    c.first_inside-first.ensures.found 160 (certificate_first c.args.octets.now begins) in
     let other : c.first_inside-first.result ≡ Some 2 = search rules in
     cc
 

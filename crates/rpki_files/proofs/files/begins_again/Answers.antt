@@ -9,5 +9,9 @@ pub returns : goal.returns
 returns c =
     let text = c.args.text.now in
     let is : c.any.result ≡ list_any is_begin_line (lines_behind_begin text) =
-    any_from_yields_List is_begin_line _ _ c.any.result c.any.ensures.ran (yields_behind_begin text refl c.skip.ensures.source c.skip.ensures.count c.skip_while.ensures.source c.skip_while.ensures.closure c.skip_while.ensures.done_skipping c.split.ensures.rest c.split.ensures.done c.split.ensures.closure (λ x b q k. search (rules, tests)) (λ x b q k. search (rules, tests))) (λ x b q k. search (rules, tests)) in
+    any_from_yields_List is_begin_line _ _ c.any.result c.any.ensures.ran
+    (yields_behind_begin text refl c.skip.ensures.source c.skip.ensures.count c.skip_while.ensures.source
+    c.skip_while.ensures.closure c.skip_while.ensures.done_skipping c.split.ensures.rest c.split.ensures.done
+    c.split.ensures.closure (λ x b q k. search (rules, tests)) (λ x b q k. search (rules, tests)))
+    (λ x b q k. search (rules, tests)) in
     ((λ yes. sym is ∙ yes), (λ yes. is ∙ yes))

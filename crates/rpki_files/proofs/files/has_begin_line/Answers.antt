@@ -9,5 +9,7 @@ pub returns : goal.returns
 returns c =
     let text = c.args.text.now in
     let is : c.any.result ≡ list_any is_begin_line (text_lines text) =
-    any_from_yields_List is_begin_line _ _ c.any.result c.any.ensures.ran (YieldsList-from_slice_split _ (λ x. nat_eq x 10) text c.split.ensures.rest c.split.ensures.done c.split.ensures.closure (λ x b q k. search (rules, tests))) (λ x b q k. search (rules, tests)) in
+    any_from_yields_List is_begin_line _ _ c.any.result c.any.ensures.ran
+    (YieldsList-from_slice_split _ (λ x. nat_eq x 10) text c.split.ensures.rest c.split.ensures.done
+    c.split.ensures.closure (λ x b q k. search (rules, tests))) (λ x b q k. search (rules, tests)) in
     ((λ yes. sym is ∙ yes), (λ yes. is ∙ yes))

@@ -4,7 +4,8 @@ use Rattle.rpki_files.specs.Files.{FileFields}
 use Rattle.rpki_files.proofs.DerTexts.{taken_as_is}
 use Rattle.rpki_files.proofs.files.read_object.Goals as goal
 
-same_octets : {E : Type 0} (r : Result FileFields E) (octets file : List ℕ) → IfOk r (λ o. o.octets ≡ octets) → octets ≡ file → IfOk r (λ o. o.octets ≡ file)
+same_octets : {E : Type 0} (r : Result FileFields E) (octets file : List ℕ) → IfOk r (λ o. o.octets ≡ octets) →
+    octets ≡ file → IfOk r (λ o. o.octets ≡ file)
 same_octets (Ok o) octets file is same = is ∙ same
 same_octets (Err e) octets file is same = tt
 

@@ -7,4 +7,5 @@ use Rattle.rpki_files.proofs.found.begun_flaw.Goals as goal
 pub returns-else-may_open : goal.returns-else-may_open
 returns-else-may_open c =
     let a = c.args in
-    first_other a.is_list a.part a.identifier (remaining a.at.now) c.requires (λ opens. absurd (false≢true (sym c.if-may_open.false ∙ c.may_open.ensures.1 opens)))
+    first_other a.is_list a.part a.identifier (remaining a.at.now) c.requires
+    (λ opens. absurd (false≢true (sym c.if-may_open.false ∙ c.may_open.ensures.1 opens)))

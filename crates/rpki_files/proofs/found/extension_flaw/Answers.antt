@@ -10,9 +10,13 @@ use Rattle.rpki_files.proofs.found.extension_flaw.Goals as goal
 pub returns-in-Ok-Some : goal.returns-in-Ok-Some
 returns-in-Ok-Some c = λ part.
     let octets = remaining c.args.at.now in
-    first_image (λ f. (x : Extension) × Means IsExtension x octets × IsExtensionFlaw c.args.is_list x f) (IsFlaw c.args.is_list part octets) flaw.Extension extension_flaws (Some c.in-Ok-Some.flaw) (λ f p. p) (λ f p. p) (rw c.in-Ok-Some.field-0-is at c.in-Ok-Some.ensures)
+    first_image (λ f. (x : Extension) × Means IsExtension x octets × IsExtensionFlaw c.args.is_list x f)
+    (IsFlaw c.args.is_list part octets) flaw.Extension extension_flaws (Some c.in-Ok-Some.flaw) (λ f p. p)
+    (λ f p. p) (rw c.in-Ok-Some.field-0-is at c.in-Ok-Some.ensures)
 
 pub returns-in-Ok-None : goal.returns-in-Ok-None
 returns-in-Ok-None c = λ part.
     let octets = remaining c.args.at.now in
-    first_image (λ f. (x : Extension) × Means IsExtension x octets × IsExtensionFlaw c.args.is_list x f) (IsFlaw c.args.is_list part octets) flaw.Extension extension_flaws None (λ f p. p) (λ f p. p) (rw c.in-Ok-None.field-0-is at c.in-Ok-None.ensures)
+    first_image (λ f. (x : Extension) × Means IsExtension x octets × IsExtensionFlaw c.args.is_list x f)
+    (IsFlaw c.args.is_list part octets) flaw.Extension extension_flaws None (λ f p. p) (λ f p. p)
+    (rw c.in-Ok-None.field-0-is at c.in-Ok-None.ensures)

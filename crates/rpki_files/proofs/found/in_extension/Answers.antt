@@ -13,10 +13,15 @@ returns-in-Ok c =
     let here = c.in-Ok in
     let x = extension_of here.identifier.now here.critical (remaining here.content) in
     let rest = remaining c.take_extension.new.cursor in
-    let begins : Begins IsExtension (remaining c.args.at.now) x rest = subst (λ (p : Place). Begins IsExtension (remaining p) x rest) c.fork-rest.ensures.same here.ensures.answers.encoded in
-    IfOk-weaker c.of_extension.result _ _ (λ o is. first_extension c.args.is_list x (remaining c.args.at.now) rest begins extension_flaws o is) c.of_extension.ensures
+    let begins : Begins IsExtension (remaining c.args.at.now) x rest =
+    subst (λ (p : Place). Begins IsExtension (remaining p) x rest) c.fork-rest.ensures.same
+    here.ensures.answers.encoded in
+    IfOk-weaker c.of_extension.result
+    _ _ (λ o is. first_extension c.args.is_list x (remaining c.args.at.now) rest begins extension_flaws o is)
+    c.of_extension.ensures
 
 pub returns-in-Err : goal.returns-in-Err
 returns-in-Err c =
     none_true (λ f. (x : Extension) × Means IsExtension x (remaining c.args.at.now) × IsExtensionFlaw c.args.is_list x f) extension_flaws
-    (λ f p. c.in-Err.ensures.answers.encoded.1 p.0 p.1.0 (subst (λ (a : Place). Begins IsExtension (remaining a) p.0 p.1.0) (sym c.fork-rest.ensures.same) p.1.1))
+    (λ f p. c.in-Err.ensures.answers.encoded.1 p.0 p.1.0
+    (subst (λ (a : Place). Begins IsExtension (remaining a) p.0 p.1.0) (sym c.fork-rest.ensures.same) p.1.1))

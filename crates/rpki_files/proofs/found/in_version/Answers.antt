@@ -4,7 +4,11 @@ use Rattle.rpki_files.proofs.FlawReads.{first_inside, none_inside}
 use Rattle.rpki_files.proofs.found.in_version.Goals as goal
 
 pub returns-in-Ok : goal.returns-in-Ok
-returns-in-Ok c = first_inside (CONTEXT_CONSTRUCTED 0) (λ f. Encloses INTEGER (λ n. IsVersionFlaw 2 n f)) version_flaws c.fork-ahead.result c.args.at.now c.take_value.new.self c.fork-ahead.ensures.same c.in-Ok.inside _ c.in-Ok.ensures.answers.encoded c.in_number.ensures
+returns-in-Ok c = first_inside (CONTEXT_CONSTRUCTED 0) (λ f. Encloses INTEGER (λ n. IsVersionFlaw 2 n f))
+    version_flaws c.fork-ahead.result c.args.at.now c.take_value.new.self c.fork-ahead.ensures.same c.in-Ok.inside
+    _ c.in-Ok.ensures.answers.encoded c.in_number.ensures
 
 pub returns-in-Err : goal.returns-in-Err
-returns-in-Err c = none_inside (CONTEXT_CONSTRUCTED 0) (λ f. Encloses INTEGER (λ n. IsVersionFlaw 2 n f)) version_flaws c.fork-ahead.result c.args.at.now c.take_value.new.self c.fork-ahead.ensures.same c.in-Err.fault c.in-Err.ensures.answers.encoded
+returns-in-Err c = none_inside (CONTEXT_CONSTRUCTED 0) (λ f. Encloses INTEGER (λ n. IsVersionFlaw 2 n f))
+    version_flaws c.fork-ahead.result c.args.at.now c.take_value.new.self c.fork-ahead.ensures.same c.in-Err.fault
+    c.in-Err.ensures.answers.encoded

@@ -11,5 +11,6 @@ pub returns-in_default : goal.returns-in_default
 returns-in_default c =
     let a = c.args in
     IfOk-weaker c.extension_flaw.result _ _
-    (λ o is. subst (λ (flaws : List Flaw). IsFirstTrue (IsFlaw a.is_list (part.Kind a.kind) (remaining a.at.now)) flaws o) (sym (flaws_of_kind a.kind c.in_default.not-NoList)) is)
+    (λ o is. subst (λ (flaws : List Flaw). IsFirstTrue (IsFlaw a.is_list (part.Kind a.kind) (remaining a.at.now))
+    flaws o) (sym (flaws_of_kind a.kind c.in_default.not-NoList)) is)
     (c.extension_flaw.ensures (part.Kind a.kind))

@@ -8,7 +8,9 @@ use Rattle.rpki_files.proofs.found.opened_flaw.Goals as goal
 pub returns-then-stands_whole : goal.returns-then-stands_whole
 returns-then-stands_whole c =
     let a = c.args in
-    IfOk-weaker c.own_flaw.result _ _ (λ o is. first_own a.is_list a.part a.identifier (remaining a.at.now) o c.requires.first c.requires.opens (c.stands_whole.ensures.0 c.if-stands_whole.true) is) c.own_flaw.ensures
+    IfOk-weaker c.own_flaw.result
+    _ _ (λ o is. first_own a.is_list a.part a.identifier (remaining a.at.now) o c.requires.first
+    c.requires.opens (c.stands_whole.ensures.0 c.if-stands_whole.true) is) c.own_flaw.ensures
 
 pub returns-else-stands_whole : goal.returns-else-stands_whole
 returns-else-stands_whole c =

@@ -9,9 +9,11 @@ use Rattle.rpki_files.proofs.found.serial.Goals as goal
 pub returns-in-Some : goal.returns-in-Some
 returns-in-Some c = λ is_list part.
     let octets = remaining c.args.at.now in
-    first_image (λ f. Encloses INTEGER (λ n. IsSerialFlaw n f) octets) (IsFlaw is_list part octets) flaw.Serial serial_flaws (Some c.in-Some.flaw) (λ f p. p) (λ f p. p) c.in-Some.ensures
+    first_image (λ f. Encloses INTEGER (λ n. IsSerialFlaw n f) octets) (IsFlaw is_list part octets) flaw.Serial
+    serial_flaws (Some c.in-Some.flaw) (λ f p. p) (λ f p. p) c.in-Some.ensures
 
 pub returns-in-None : goal.returns-in-None
 returns-in-None c = λ is_list part.
     let octets = remaining c.args.at.now in
-    first_image (λ f. Encloses INTEGER (λ n. IsSerialFlaw n f) octets) (IsFlaw is_list part octets) flaw.Serial serial_flaws None (λ f p. p) (λ f p. p) c.in-None.ensures
+    first_image (λ f. Encloses INTEGER (λ n. IsSerialFlaw n f) octets) (IsFlaw is_list part octets) flaw.Serial
+    serial_flaws None (λ f p. p) (λ f p. p) c.in-None.ensures

@@ -9,9 +9,12 @@ use Rattle.rpki_files.proofs.found.version.Goals as goal
 pub returns-in-Some : goal.returns-in-Some
 returns-in-Some c = λ is_list part.
     let octets = remaining c.args.at.now in
-    first_image (λ f. Encloses (CONTEXT_CONSTRUCTED 0) (Encloses INTEGER (λ n. IsVersionFlaw 2 n f)) octets) (IsFlaw is_list part octets) flaw.Version version_flaws (Some c.in-Some.flaw) (λ f p. p) (λ f p. p) c.in-Some.ensures
+    first_image (λ f. Encloses (CONTEXT_CONSTRUCTED 0) (Encloses INTEGER (λ n. IsVersionFlaw 2 n f)) octets)
+    (IsFlaw is_list part octets) flaw.Version version_flaws (Some c.in-Some.flaw) (λ f p. p) (λ f p. p)
+    c.in-Some.ensures
 
 pub returns-in-None : goal.returns-in-None
 returns-in-None c = λ is_list part.
     let octets = remaining c.args.at.now in
-    first_image (λ f. Encloses (CONTEXT_CONSTRUCTED 0) (Encloses INTEGER (λ n. IsVersionFlaw 2 n f)) octets) (IsFlaw is_list part octets) flaw.Version version_flaws None (λ f p. p) (λ f p. p) c.in-None.ensures
+    first_image (λ f. Encloses (CONTEXT_CONSTRUCTED 0) (Encloses INTEGER (λ n. IsVersionFlaw 2 n f)) octets)
+    (IsFlaw is_list part octets) flaw.Version version_flaws None (λ f p. p) (λ f p. p) c.in-None.ensures

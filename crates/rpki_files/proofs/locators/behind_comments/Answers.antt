@@ -7,4 +7,5 @@ use Rattle.rpki_files.proofs.locators.behind_comments.Goals as goal
 pub returns : goal.returns
 returns c =
     find_from_yields_List (λ line. not (stands_before_uris line)) _ _ c.find.result c.find.ensures.ran
-    (YieldsList-from_slice_split _ (λ x. nat_eq x 10) c.args.octets.now c.split.ensures.rest c.split.ensures.done c.split.ensures.closure (λ x b q k. search (rules, tests))) (λ x b q k. search (rules, tests))
+    (YieldsList-from_slice_split _ (λ x. nat_eq x 10) c.args.octets.now c.split.ensures.rest c.split.ensures.done
+    c.split.ensures.closure (λ x b q k. search (rules, tests))) (λ x b q k. search (rules, tests))

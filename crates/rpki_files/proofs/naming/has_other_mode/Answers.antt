@@ -19,5 +19,6 @@ module _ (f : Field) (elements : List ℕ) (first second : Bool)
 pub returns : goal.returns
 returns c = (
   (λ yes. let both = c.is_of_other_mode-2.ensures.0 yes in (Trim, both.0, both.1)),
-  one_of_both c.args.field (remaining c.args.elements.now) c.is_of_other_mode.result c.is_of_other_mode-2.result c.is_of_other_mode.ensures c.is_of_other_mode-2.ensures c.if-is_of_other_mode.false,
+  one_of_both c.args.field (remaining c.args.elements.now) c.is_of_other_mode.result c.is_of_other_mode-2.result
+      c.is_of_other_mode.ensures c.is_of_other_mode-2.ensures c.if-is_of_other_mode.false,
 )

@@ -6,7 +6,8 @@ use Rattle.rpki_files.proofs.naming.have_other_mode.Goals as goal
 pub returns-in-Some : goal.returns-in-Some
 returns-in-Some c =
     let a = c.args in
-    elements_are a.is_list (HasOtherMode a.field) (remaining a.at.now) (remaining c.in-Some.elements) c.has_other_mode.result c.in-Some.ensures c.has_other_mode.ensures
+    elements_are a.is_list (HasOtherMode a.field) (remaining a.at.now) (remaining c.in-Some.elements)
+    c.has_other_mode.result c.in-Some.ensures c.has_other_mode.ensures
 
 pub returns-in-None : goal.returns-in-None
 returns-in-None c =

@@ -7,7 +7,8 @@ use Rattle.rpki_files.proofs.naming.lacks.Goals as goal
 pub returns-in-Some : goal.returns-in-Some
 returns-in-Some c =
     let a = c.args in
-    elements_are a.is_list (Lack (Named a.field a.is_list)) (remaining a.at.now) (remaining c.in-Some.elements) c.lack.result c.in-Some.ensures c.lack.ensures
+    elements_are a.is_list (Lack (Named a.field a.is_list)) (remaining a.at.now) (remaining c.in-Some.elements)
+    c.lack.result c.in-Some.ensures c.lack.ensures
 
 pub returns-in-None : goal.returns-in-None
 returns-in-None c =

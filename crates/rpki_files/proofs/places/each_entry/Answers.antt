@@ -8,14 +8,21 @@ use Rattle.rpki_files.proofs.places.each_entry.Goals as goal
 
 pub loop-rest-init : goal.loop-rest-init
 loop-rest-init c =
-    let at = c.fork-rest.result in
-    ([], subst (λ (p : Place). Passes (AreEntries []) p at) c.fork-rest.ensures.same (stays (AreEntries []) at c.at-first.ensures.order c.at-first.ensures.within refl))
+    let at = c.fork-rest.result in (
+      [],
+      subst (λ (p : Place). Passes (AreEntries []) p at) c.fork-rest.ensures.same
+          (stays (AreEntries []) at c.at-first.ensures.order c.at-first.ensures.within refl),
+    )
 
 pub loop-rest-preserved : goal.loop-rest-preserved
 loop-rest-preserved c =
     let so_far = c.loop-rest.invariant in
-    let next = c.in_ok-next_entry.ensures.read in
-    (so_far.0 ++ next.0 ∷ [], goes_on (AreEntries so_far.0) (IsEntry next.0) (AreEntries (so_far.0 ++ next.0 ∷ [])) c.args.inside.now c.loop-rest.rest c.next_entry.new.rest (λ a b are is. encodings_more IsEntry so_far.0 next.0 a b are is) so_far.1 next.1)
+    let next = c.in_ok-next_entry.ensures.read in (
+      so_far.0 ++ next.0 ∷ [],
+      goes_on (AreEntries so_far.0) (IsEntry next.0) (AreEntries (so_far.0 ++ next.0 ∷ []))
+          c.args.inside.now c.loop-rest.rest c.next_entry.new.rest
+          (λ a b are is. encodings_more IsEntry so_far.0 next.0 a b are is) so_far.1 next.1,
+    )
 
 pub returns-in_err-next_entry-clause-stop : goal.returns-in_err-next_entry-clause-stop
 returns-in_err-next_entry-clause-stop c =

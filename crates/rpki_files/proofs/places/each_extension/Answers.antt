@@ -11,8 +11,12 @@ use Rattle.rpki_files.proofs.places.each_extension.Goals as goal
 pub loop-rest-init : goal.loop-rest-init
 loop-rest-init c =
     let at = c.fork-rest.result in
-    let Is = AreWellPlaced c.args.is_list [] in
-    ([], subst (λ (p : Place). Passes Is p at) c.fork-rest.ensures.same (stays Is at c.at-first.ensures.order c.at-first.ensures.within (refl, tt)), c.requires)
+    let Is = AreWellPlaced c.args.is_list [] in (
+      [],
+      subst (λ (p : Place). Passes Is p at) c.fork-rest.ensures.same
+          (stays Is at c.at-first.ensures.order c.at-first.ensures.within (refl, tt)),
+      c.requires,
+    )
 
 pub loop-rest-preserved : goal.loop-rest-preserved
 loop-rest-preserved c =
@@ -23,7 +27,9 @@ loop-rest-preserved c =
     let x = next.0 in
     let may = subst (λ (k : List Kind). MayStand is_list k x) so_far.2 next.1 in (
       xs ++ x ∷ [],
-      goes_on (AreWellPlaced is_list xs) (IsExtension x) (AreWellPlaced is_list (xs ++ x ∷ [])) c.args.inside.now c.loop-rest.rest c.keep_next.new.rest (λ a b are is. placed_more is_list xs x a b may are is) so_far.1 next.2,
+      goes_on (AreWellPlaced is_list xs) (IsExtension x) (AreWellPlaced is_list (xs ++ x ∷ [])) c.args.inside.now
+          c.loop-rest.rest c.keep_next.new.rest (λ a b are is. placed_more is_list xs x a b may are is) so_far.1
+          next.2,
       next.3 ∙ ap (λ (k : List Kind). k ++ kind_of is_list x ∷ []) so_far.2 ∙ kinds_more is_list xs x,
     )
 
@@ -32,7 +38,9 @@ returns-in_err-keep_next-clause-stop c =
     let is_list = c.args.is_list in
     let so_far = c.loop-rest.invariant in
     let same : c.from_residual.result ≡ Err c.in_err-keep_next.field-0.0 = search rules in
-    passed (StopsAtExtension is_list c.loop-rest.kinds.items c.loop-rest.rest) (StopsInExtensions is_list c.args.inside.now) _ _ same c.in_err-keep_next.ensures.stop (λ stop octet s. record {
+    passed (StopsAtExtension is_list c.loop-rest.kinds.items c.loop-rest.rest)
+    (StopsInExtensions is_list c.args.inside.now) _ _ same c.in_err-keep_next.ensures.stop
+    (λ stop octet s. record {
       extensions = so_far.0;
       next = c.loop-rest.rest;
       read = so_far.1;

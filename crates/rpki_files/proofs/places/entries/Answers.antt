@@ -14,23 +14,30 @@ returns-in-Ok-Some-clause-stop c =
     let old = c.args.cursor.now in
     let new = c.take_opt_sequence.new.self in
     let inner = c.in-Ok-Some.inside in
-    let begins : Begins (IsEnc SEQUENCE) (remaining old) (remaining inner) (remaining new) = rw c.in-Ok-Some.field-0-is at c.in-Ok-Some.ensures.answers in
+    let begins : Begins (IsEnc SEQUENCE) (remaining old) (remaining inner) (remaining new) =
+    rw c.in-Ok-Some.field-0-is at c.in-Ok-Some.ensures.answers in
     let within : IsWithin inner old = rw c.in-Ok-Some.field-0-is at c.in-Ok-Some.ensures.inside in
     let ends : EndsAt inner new = rw c.in-Ok-Some.field-0-is at c.in-Ok-Some.ensures.placed in
-    let opens = opens_at SEQUENCE old inner new c.at-octet.ensures.order c.at-octet.ensures.within c.at-behind.ensures.order c.at-first.ensures.order c.in-Ok-Some.ensures.keeps within ends begins in
-    errs_so (StopsInEntries inner) (StopsAtEntries old) c.each_entry.result c.each_entry.ensures.stop (λ stop octet s. inr (inner, new, opens, s))
+    let opens = opens_at SEQUENCE old inner new c.at-octet.ensures.order c.at-octet.ensures.within
+    c.at-behind.ensures.order c.at-first.ensures.order c.in-Ok-Some.ensures.keeps within ends begins in
+    errs_so (StopsInEntries inner) (StopsAtEntries old) c.each_entry.result c.each_entry.ensures.stop
+    (λ stop octet s. inr (inner, new, opens, s))
 
 pub returns-in-Ok-Some-clause-read : goal.returns-in-Ok-Some-clause-read
 returns-in-Ok-Some-clause-read c =
     let old = c.args.cursor.now in
     let new = c.take_opt_sequence.new.self in
     let inner = c.in-Ok-Some.inside in
-    let begins : Begins (IsEnc SEQUENCE) (remaining old) (remaining inner) (remaining new) = rw c.in-Ok-Some.field-0-is at c.in-Ok-Some.ensures.answers in
+    let begins : Begins (IsEnc SEQUENCE) (remaining old) (remaining inner) (remaining new) =
+    rw c.in-Ok-Some.field-0-is at c.in-Ok-Some.ensures.answers in
     let within : IsWithin inner old = rw c.in-Ok-Some.field-0-is at c.in-Ok-Some.ensures.inside in
     let ends : EndsAt inner new = rw c.in-Ok-Some.field-0-is at c.in-Ok-Some.ensures.placed in
-    let opens = opens_at SEQUENCE old inner new c.at-octet.ensures.order c.at-octet.ensures.within c.at-behind.ensures.order c.at-first.ensures.order c.in-Ok-Some.ensures.keeps within ends begins in
-    oks_so ((es : List Entry) × AreEntries es (remaining inner)) (ReadsEntries old new) c.each_entry.result c.each_entry.ensures.read (λ es. record {
-      passes = passes_so (IsEnc SEQUENCE (remaining inner)) (EncodesSome revoked_format) old new (λ text enc. entries_are es.0 (remaining inner) text es.1 enc) opens.value;
+    let opens = opens_at SEQUENCE old inner new c.at-octet.ensures.order c.at-octet.ensures.within
+    c.at-behind.ensures.order c.at-first.ensures.order c.in-Ok-Some.ensures.keeps within ends begins in
+    oks_so ((es : List Entry) × AreEntries es (remaining inner)) (ReadsEntries old new) c.each_entry.result
+    c.each_entry.ensures.read (λ es. record {
+      passes = passes_so (IsEnc SEQUENCE (remaining inner)) (EncodesSome revoked_format) old new
+          (λ text enc. entries_are es.0 (remaining inner) text es.1 enc) opens.value;
       absent = λ same. absurd (opens_some SEQUENCE old inner new opens same);
     })
 
@@ -39,7 +46,9 @@ returns-in-Ok-None-clause-read c =
     let old = c.args.cursor.now in
     let none = rw c.in-Ok-None.field-0-is at c.in-Ok-None.ensures.answers in
     record {
-      passes = subst (λ (p : Place). Passes (EncodesSome revoked_format) old p) (sym none.1) (stays (EncodesSome revoked_format) old c.at-octet.ensures.order c.at-octet.ensures.within no_entries_are);
+      passes = subst (λ (p : Place). Passes (EncodesSome revoked_format) old p) (sym none.1)
+          (stays (EncodesSome revoked_format) old c.at-octet.ensures.order c.at-octet.ensures.within
+          no_entries_are);
       absent = λ same. none.0;
     }
 

@@ -9,7 +9,8 @@ pub returns-in_err-first-clause-stop : goal.returns-in_err-first-clause-stop
 returns-in_err-first-clause-stop c =
     let old = c.args.outer.now in
     let same : c.from_residual.result ≡ Err c.in_err-first.field-0.0 = search rules in
-    passed (StopsBefore (HasTag SEQUENCE) part.Signed old) (StopsInside c.args.is_list old) _ _ same c.in_err-first.ensures.stop (λ stop octet s. inl s)
+    passed (StopsBefore (HasTag SEQUENCE) part.Signed old) (StopsInside c.args.is_list old) _ _ same
+    c.in_err-first.ensures.stop (λ stop octet s. inl s)
 
 pub returns-in_err-signed-clause-stop : goal.returns-in_err-signed-clause-stop
 returns-in_err-signed-clause-stop c =
@@ -17,7 +18,8 @@ returns-in_err-signed-clause-stop c =
     let next = c.opened.new.cursor in
     let first = c.in_ok-first.first in
     let same : c.from_residual-in_err-signed.result ≡ Err c.in_err-signed.field-0.0 = search rules in
-    passed (StopsInSigned c.args.is_list first) (StopsInside c.args.is_list old) _ _ same c.in_err-signed.ensures.stop (λ stop octet s. inr (first, next, c.in_ok-first.ensures.read, inl s))
+    passed (StopsInSigned c.args.is_list first) (StopsInside c.args.is_list old) _ _ same c.in_err-signed.ensures.stop
+    (λ stop octet s. inr (first, next, c.in_ok-first.ensures.read, inl s))
 
 pub returns-in_err-signature_algorithm-clause-stop : goal.returns-in_err-signature_algorithm-clause-stop
 returns-in_err-signature_algorithm-clause-stop c =
@@ -34,4 +36,9 @@ returns-clause-read c =
     let next = c.opened.new.cursor in
     let first = c.in_ok-first.first in
     let reads = rw c.fork-begin.ensures.same at c.in_ok-signature_algorithm.ensures.read in
-    inr (first, next, c.in_ok-first.ensures.read, inr (c.in_ok-signed.ensures.read, inr (c.signature_algorithm.new.cursor, reads, refl, c.at.ensures.octet)))
+    inr (
+      first,
+      next,
+      c.in_ok-first.ensures.read,
+      inr (c.in_ok-signed.ensures.read, inr (c.signature_algorithm.new.cursor, reads, refl, c.at.ensures.octet)),
+    )

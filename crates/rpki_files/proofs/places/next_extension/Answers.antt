@@ -15,7 +15,8 @@ returns-in-Ok-clause-stop c =
     let kinds = c.args.kinds.now in
     let x = extension_view (c.in-Ok.identifier, c.in-Ok.critical, c.in-Ok.content) in
     let new = c.take_extension.new.cursor in
-    errs_so (λ stop from. (from ≡ c.at-octet.result) × IsMisplaced is_list kinds (kind_of is_list x) x.critical x.content stop) (StopsAtExtension is_list kinds c.args.rest.now) c.placed.result c.placed.ensures.stop
+    errs_so (λ stop from. (from ≡ c.at-octet.result) × IsMisplaced is_list kinds (kind_of is_list x) x.critical
+    x.content stop) (StopsAtExtension is_list kinds c.args.rest.now) c.placed.result c.placed.ensures.stop
     (λ stop from s. inr (x, remaining new, c.in-Ok.ensures.answers.encoded, s.0 ∙ c.at-octet.ensures.octet, s.1))
 
 pub returns-in-Ok-clause-read : goal.returns-in-Ok-clause-read
@@ -26,8 +27,11 @@ returns-in-Ok-clause-read c =
     let old = c.args.rest.now in
     let new = c.take_extension.new.cursor in
     let begins = c.in-Ok.ensures.answers.encoded in
-    let passes = took (IsExtension x) old new begins.text c.at-octet.ensures.order c.at-octet.ensures.within c.at-behind.ensures.order c.in-Ok.ensures.answers.keeps begins.encoded begins.parts in
-    values_so (λ kind. (kind ≡ kind_of is_list x) × MayStandAs is_list kinds kind x.critical x.content) (λ kind. (y : Extension) × IsNext is_list kinds y kind × Passes (IsExtension y) old new) c.placed.result c.placed.ensures.read
+    let passes = took (IsExtension x) old new begins.text c.at-octet.ensures.order c.at-octet.ensures.within
+    c.at-behind.ensures.order c.in-Ok.ensures.answers.keeps begins.encoded begins.parts in
+    values_so (λ kind. (kind ≡ kind_of is_list x) × MayStandAs is_list kinds kind x.critical x.content)
+    (λ kind. (y : Extension) × IsNext is_list kinds y kind × Passes (IsExtension y) old new) c.placed.result
+    c.placed.ensures.read
     (λ kind s. (x, (subst (λ (k : Kind). MayStandAs is_list kinds k x.critical x.content) s.0 s.1, s.0), passes))
 
 pub returns-in-Ok-clause-shrinks : goal.returns-in-Ok-clause-shrinks
@@ -35,11 +39,13 @@ returns-in-Ok-clause-shrinks c =
     let old = c.args.rest.now in
     let new = c.take_extension.new.cursor in
     let x = extension_view (c.in-Ok.identifier, c.in-Ok.critical, c.in-Ok.content) in
-    holds_anyway (length (remaining new) < length (remaining old)) c.placed.result (extension_shrinks (remaining old) x (remaining new) c.in-Ok.ensures.answers.reads)
+    holds_anyway (length (remaining new) < length (remaining old)) c.placed.result
+    (extension_shrinks (remaining old) x (remaining new) c.in-Ok.ensures.answers.reads)
 
 pub returns-in-Err-clause-stop : goal.returns-in-Err-clause-stop
 returns-in-Err-clause-stop c =
-    stops_for (StopsAtExtension c.args.is_list c.args.kinds.now c.args.rest.now) part.Extension c.at-octet.result c.in-Err.fault c.stopped.result c.stopped.ensures
+    stops_for (StopsAtExtension c.args.is_list c.args.kinds.now c.args.rest.now) part.Extension c.at-octet.result
+    c.in-Err.fault c.stopped.result c.stopped.ensures
     (λ other. inl (record {
       stop_is = refl;
       octet_is = c.at-octet.ensures.octet;

@@ -12,8 +12,13 @@ use Rattle.rpki_files.proofs.places.placed.Goals as goal
 pub returns-then-is_second-clause-stop : goal.returns-then-is_second-clause-stop
 returns-then-is_second-clause-stop c =
     let a = c.args in
-    let is = c.of-kind.ensures in
-    (refl, inl (ap (λ (k : Kind). part.Second k) is, subst (λ (k : Kind). IsSecond a.kinds.now k) is (c.is_second.ensures.0 c.if-is_second.true)))
+    let is = c.of-kind.ensures in (
+      refl,
+      inl (
+        ap (λ (k : Kind). part.Second k) is,
+        subst (λ (k : Kind). IsSecond a.kinds.now k) is (c.is_second.ensures.0 c.if-is_second.true),
+      ),
+    )
 
 pub returns-in-Ok-clause-read : goal.returns-in-Ok-clause-read
 returns-in-Ok-clause-read c = (
@@ -31,13 +36,18 @@ returns-in-Err-clause-stop c =
     let is = c.of-kind.ensures in
     let kind = known_kind a.is_list a.identifier.now in
     let content = remaining a.content.now in
-    let first = λ (second : IsSecond a.kinds.now kind). false≢true (sym c.if-is_second.false ∙ c.is_second.ensures.1 (subst (λ (k : Kind). IsSecond a.kinds.now k) (sym is) second)) in
-    stops_for (λ stop from. (from ≡ a.octet) × IsMisplaced a.is_list a.kinds.now kind a.critical content stop) (part.Kind c.of-kind.result) a.octet c.in-Err.fault c.stopped.result c.stopped.ensures
+    let first = λ (second : IsSecond a.kinds.now kind).
+    false≢true (sym c.if-is_second.false ∙
+    c.is_second.ensures.1 (subst (λ (k : Kind). IsSecond a.kinds.now k) (sym is) second)) in
+    stops_for (λ stop from. (from ≡ a.octet) × IsMisplaced a.is_list a.kinds.now kind a.critical content stop)
+    (part.Kind c.of-kind.result) a.octet c.in-Err.fault c.stopped.result c.stopped.ensures
     (λ other. (
       refl,
       inr (
         ap (λ (k : Kind). part.Kind k) is,
         first,
-        λ may. other (memory_alone c.in-Err.fault c.in-Err.ensures (λ none. none (subst (λ (k : Kind). MayHaveFlag a.is_list k a.critical × HasContent k content) (sym is) may))),
+        λ may. other (memory_alone c.in-Err.fault c.in-Err.ensures
+            (λ none. none
+            (subst (λ (k : Kind). MayHaveFlag a.is_list k a.critical × HasContent k content) (sym is) may))),
       ),
     ))

@@ -7,14 +7,16 @@ pub returns-in_err-before_extensions-clause-stop : goal.returns-in_err-before_ex
 returns-in_err-before_extensions-clause-stop c =
     let old = c.args.cursor.now in
     let same : c.from_residual.result ≡ Err c.in_err-before_extensions.field-0.0 = search rules in
-    passed (StopsBeforeExtensions c.args.is_list old) (StopsInSigned c.args.is_list old) _ _ same c.in_err-before_extensions.ensures.stop (λ stop octet s. inl s)
+    passed (StopsBeforeExtensions c.args.is_list old) (StopsInSigned c.args.is_list old) _ _ same
+    c.in_err-before_extensions.ensures.stop (λ stop octet s. inl s)
 
 pub returns-in_err-extensions-clause-stop : goal.returns-in_err-extensions-clause-stop
 returns-in_err-extensions-clause-stop c =
     let old = c.args.cursor.now in
     let mid = c.before_extensions.new.cursor in
     let same : c.from_residual-in_err-extensions.result ≡ Err c.in_err-extensions.field-0.0 = search rules in
-    passed (StopsAtExtensions c.args.is_list mid) (StopsInSigned c.args.is_list old) _ _ same c.in_err-extensions.ensures.stop (λ stop octet s. inr (mid, c.in_ok-before_extensions.ensures.read, inl s))
+    passed (StopsAtExtensions c.args.is_list mid) (StopsInSigned c.args.is_list old) _ _ same
+    c.in_err-extensions.ensures.stop (λ stop octet s. inr (mid, c.in_ok-before_extensions.ensures.read, inl s))
 
 pub returns-clause-stop : goal.returns-clause-stop
 returns-clause-stop c =

@@ -9,4 +9,5 @@ pub returns-in-Err-At-clause-stops : goal.returns-in-Err-At-clause-stops
 returns-in-Err-At-clause-stops c = let here = c.in-Err-At in rw here.field-0-is at here.ensures.stop
 
 pub returns-in-Err-At-clause-within : goal.returns-in-Err-At-clause-within
-returns-in-Err-At-clause-within c = let here = c.in-Err-At in stops_within c.args.octets.now c.args.is_list here.part here.octet (rw here.field-0-is at here.ensures.stop)
+returns-in-Err-At-clause-within c = let here = c.in-Err-At in
+    stops_within c.args.octets.now c.args.is_list here.part here.octet (rw here.field-0-is at here.ensures.stop)

@@ -8,7 +8,8 @@ use Rattle.rpki_files.proofs.policies.begins_with_one.Goals as goal
 
 pub returns-then-is_met : goal.returns-then-is_met
 returns-then-is_met c =
-    let found = first_has c.args.wanted (remaining c.loop.rest) _ (remaining c.take_extension.new.cursor) c.in-Ok.ensures.answers.encoded (c.is_met.ensures.0 c.if-is_met.true) in
+    let found = first_has c.args.wanted (remaining c.loop.rest) _ (remaining c.take_extension.new.cursor)
+    c.in-Ok.ensures.answers.encoded (c.is_met.ensures.0 c.if-is_met.true) in
     ((λ yes. c.loop.invariant.same.0 found), (λ h. refl))
 
 pub returns-in-Err : goal.returns-in-Err
@@ -21,7 +22,8 @@ loop-preserved c =
     let old = remaining c.loop.rest in
     let new = remaining c.take_extension.new.cursor in
     let x = extension_view (c.in-Ok.identifier, c.in-Ok.field-0-1, c.in-Ok.content) in
-    let others = others_have c.args.wanted old x new c.in-Ok.ensures.answers.encoded c.in-Ok.ensures.answers.reads (λ is. false≢true (sym c.if-is_met.false ∙ c.is_met.ensures.1 is)) in
+    let others = others_have c.args.wanted old x new c.in-Ok.ensures.answers.encoded c.in-Ok.ensures.answers.reads
+    (λ is. false≢true (sym c.if-is_met.false ∙ c.is_met.ensures.1 is)) in
     record {
       same = ((λ h. c.loop.invariant.same.0 (others.1 h)), (λ h. others.0 (c.loop.invariant.same.1 h)));
       fits = omega (arith, c.loop.invariant.fits, extension_shrinks old x new c.in-Ok.ensures.answers.reads);

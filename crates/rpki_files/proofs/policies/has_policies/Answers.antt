@@ -17,7 +17,8 @@ returns-in-Some c =
     let found : extensions_at octets ≡ Some elements = sym c.in-Some.ensures in
     let fits : AreOctets octets = subst AreOctets (c.rest-octets.ensures.remaining ∙ c.new.ensures.all) c.rest-octets.ensures.octets in (
       (λ yes. (elements, extensions_take octets elements fits found, c.begins_with_one.ensures.0 yes)),
-      (λ h. let same : h.0 ≡ elements = some_is h.0 elements (sym (extensions_again octets h.0 h.1) ∙ found) in c.begins_with_one.ensures.1 (subst (λ (x : List ℕ). BeginsWithOne Policies x) same h.2)),
+      (λ h. let same : h.0 ≡ elements = some_is h.0 elements (sym (extensions_again octets h.0 h.1) ∙ found) in
+          c.begins_with_one.ensures.1 (subst (λ (x : List ℕ). BeginsWithOne Policies x) same h.2)),
     )
 
 pub returns-in-None : goal.returns-in-None

@@ -17,7 +17,9 @@ returns-in-Ok c =
     let other = c.in-Ok.other in
     let here : Means encodes other octets = (remaining c.take_certificate_policies.new.cursor, c.in-Ok.ensures.encoded) in (
       (λ yes. subst (λ (m : Overclaim). Means encodes m octets) (c.is_mode.ensures.0 yes) here),
-      (λ means. c.is_mode.ensures.1 (one_meant encodes (alone_means certificate_policies.format certificate_policies_alone) other a.mode octets here means)),
+      (λ means. c.is_mode.ensures.1
+          (one_meant encodes (alone_means certificate_policies.format certificate_policies_alone) other a.mode
+          octets here means)),
     )
 
 pub returns-in-Err : goal.returns-in-Err

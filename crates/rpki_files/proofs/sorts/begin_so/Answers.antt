@@ -15,12 +15,14 @@ loop-turn-init c = ap (all_turned c.args.turns.now) c.new-at.ensures.all
 pub loop-turn-preserved : goal.loop-turn-preserved
 loop-turn-preserved c =
     let l = c.loop-turn in
-    turn_more c.args.turns.now c.args.octets.now (remaining l.at) l.turn-index _ c.loop-turn-test.true l.invariant (remaining c.in-Some.next) c.in-Some.ensures
+    turn_more c.args.turns.now c.args.octets.now (remaining l.at) l.turn-index _ c.loop-turn-test.true l.invariant
+    (remaining c.in-Some.next) c.in-Some.ensures
 
 pub returns-in-None : goal.returns-in-None
 returns-in-None c =
     let l = c.loop-turn in
-    let stops = turn_stops c.args.turns.now c.args.octets.now (remaining l.at) l.turn-index _ c.loop-turn-test.true l.invariant c.in-None.ensures in
+    let stops = turn_stops c.args.turns.now c.args.octets.now (remaining l.at) l.turn-index _ c.loop-turn-test.true
+    l.invariant c.in-None.ensures in
     ((λ yes. absurd (false≢true yes)), (λ stand. absurd (stops stand)))
 
 pub returns : goal.returns
@@ -30,5 +32,6 @@ returns c =
     let octets = c.args.octets.now in
     let rest = remaining l.at in
     let fits : AreOctets octets = subst AreOctets (c.rest-octets.ensures.remaining ∙ c.new.ensures.all) c.rest-octets.ensures.octets in
-    let done : all_turned (drop l.turn-index turns) rest ≡ Some rest = at_drop_all (λ (ts : List Turn). all_turned ts rest) turns l.turn-index c.loop-turn-test.false in
+    let done : all_turned (drop l.turn-index turns) rest ≡ Some rest =
+    at_drop_all (λ (ts : List Turn). all_turned ts rest) turns l.turn-index c.loop-turn-test.false in
     turns_taken turns octets rest fits (sym done ∙ l.invariant)

@@ -12,7 +12,8 @@ pub returns-then-is_one : goal.returns-then-is_one
 unfolding IsSortOf
 returns-then-is_one c =
     let octets = c.args.octets.now in
-    found_at (λ s. IsOfSort s octets) every_sort c.loop-sort.sort-index Empty c.loop-sort-test.true c.loop-sort.invariant (c.in_ok-is_one.ensures.0 c.if-is_one.true)
+    found_at (λ s. IsOfSort s octets) every_sort c.loop-sort.sort-index Empty c.loop-sort-test.true
+    c.loop-sort.invariant (c.in_ok-is_one.ensures.0 c.if-is_one.true)
 
 pub loop-sort-preserved : goal.loop-sort-preserved
 loop-sort-preserved c =
@@ -21,10 +22,12 @@ loop-sort-preserved c =
     let here = get_or every_sort index Empty in
     let not = λ (is : IsOfSort here octets). false≢true (sym c.if-is_one.false ∙ c.in_ok-is_one.ensures.1 is) in
     let none = still_none (λ s. IsOfSort s octets) (take index every_sort) here c.loop-sort.invariant not in
-    subst (λ (sorts : List Sort). IsFirstOf (λ s. IsOfSort s octets) sorts None) (sym (take_more every_sort index Empty c.loop-sort-test.true)) none
+    subst (λ (sorts : List Sort). IsFirstOf (λ s. IsOfSort s octets) sorts None)
+    (sym (take_more every_sort index Empty c.loop-sort-test.true)) none
 
 pub returns : goal.returns
 unfolding IsSortOf
 returns c =
     let octets = c.args.octets.now in
-    subst (λ (sorts : List Sort). IsFirstOf (λ s. IsOfSort s octets) sorts None) (take_all c.loop-sort.sort-index every_sort c.loop-sort-test.false) c.loop-sort.invariant
+    subst (λ (sorts : List Sort). IsFirstOf (λ s. IsOfSort s octets) sorts None)
+    (take_all c.loop-sort.sort-index every_sort c.loop-sort-test.false) c.loop-sort.invariant

@@ -17,7 +17,8 @@ loop-list-preserved-then-not-is_current g c =
     let next : i + 1 ≡ suc i = omega arith in
     let more = taken_more (λ r. r.now) lists i (i + 1) list next c.loop-list-test.true c.list-item.is in
     subst (λ (ls : List CrlState). ArePicked current ls kept) (sym more)
-    (picked_same current (map (λ r. r.now) (take i lists)) kept list.now c.loop-list.invariant (λ is. both_ways c.is_current.result c.if-not-is_current.true (c.is_current.ensures.1 is)))
+    (picked_same current (map (λ r. r.now) (take i lists)) kept list.now c.loop-list.invariant
+    (λ is. both_ways c.is_current.result c.if-not-is_current.true (c.is_current.ensures.1 is)))
 
 pub loop-list-preserved : goal.loop-list-preserved
 loop-list-preserved g c =
@@ -31,11 +32,15 @@ loop-list-preserved g c =
     let more = taken_more (λ r. r.now) lists i (i + 1) list next c.loop-list-test.true c.list-item.is in
     let longer = ap (λ rs. map (λ r. r.now) rs) c.in_ok-push.ensures.items ∙ map-append (λ r. r.now) old (list ∷ []) in
     subst (λ (ls : List CrlState). ArePicked current ls (map (λ r. r.now) c.push.new.self.items)) (sym more)
-    (subst (λ (ks : List CrlState). ArePicked current (map (λ r. r.now) (take i lists) ++ list.now ∷ []) ks) (sym longer)
-    (picked_more current (map (λ r. r.now) (take i lists)) kept list.now c.loop-list.invariant (c.if-not-is_current.ensures.0 refl)))
+    (subst (λ (ks : List CrlState). ArePicked current (map (λ r. r.now) (take i lists) ++ list.now ∷ []) ks)
+    (sym longer)
+    (picked_more current (map (λ r. r.now) (take i lists)) kept list.now c.loop-list.invariant
+    (c.if-not-is_current.ensures.0 refl)))
 
 pub returns : goal.returns
 returns g c =
     let current = IsCurrent (g.V.Verifier.verifies c.args.verifier.now) c.args.now c.args.issuer.now.cert.fields in
-    let all = ap (λ rs. map (λ r. r.now) rs) (take_all c.loop-list.list-index c.args.named.now c.loop-list-test.false) in
-    subst (λ (ls : List CrlState). ArePicked current ls (map (λ r. r.now) c.loop-list.kept.items)) all c.loop-list.invariant
+    let all = ap (λ rs. map (λ r. r.now) rs)
+    (take_all c.loop-list.list-index c.args.named.now c.loop-list-test.false) in
+    subst (λ (ls : List CrlState). ArePicked current ls (map (λ r. r.now) c.loop-list.kept.items)) all
+    c.loop-list.invariant

@@ -17,7 +17,8 @@ loop-list-preserved-then-not-goes_first c =
     let next : i + 1 ≡ suc i = omega arith in
     let gone = taken_more (λ r. r.now) lists i (i + 1) list next c.loop-list-test.true c.list-item.is in
     subst (λ (seen : List CrlState). IsLatestIfAny (λ _. Unit {0}) c.args.cert.now seen kept) (sym gone)
-    (kept_same (λ _. Unit {0}) c.args.cert.now (map (λ r. r.now) (take i lists)) kept list.now c.loop-list.invariant (λ is. both_ways c.goes_first.result c.if-not-goes_first.true (c.goes_first.ensures.1 is.1)))
+    (kept_same (λ _. Unit {0}) c.args.cert.now (map (λ r. r.now) (take i lists)) kept list.now c.loop-list.invariant
+    (λ is. both_ways c.goes_first.result c.if-not-goes_first.true (c.goes_first.ensures.1 is.1)))
 
 pub loop-list-preserved : goal.loop-list-preserved
 loop-list-preserved c =
@@ -27,9 +28,12 @@ loop-list-preserved c =
     let next : i + 1 ≡ suc i = omega arith in
     let gone = taken_more (λ r. r.now) lists i (i + 1) list next c.loop-list-test.true c.list-item.is in
     subst (λ (seen : List CrlState). IsLatestIfAny (λ _. Unit {0}) c.args.cert.now seen (Some list.now)) (sym gone)
-    (kept_next (λ _. Unit {0}) c.args.cert.now (map (λ r. r.now) (take i lists)) (option_copied c.loop-list.kept) list.now c.loop-list.invariant tt (c.if-not-goes_first.ensures.0 refl))
+    (kept_next (λ _. Unit {0}) c.args.cert.now (map (λ r. r.now) (take i lists)) (option_copied c.loop-list.kept)
+    list.now c.loop-list.invariant tt (c.if-not-goes_first.ensures.0 refl))
 
 pub returns : goal.returns
 returns c =
-    let all = ap (λ rs. map (λ r. r.now) rs) (take_all c.loop-list.list-index c.args.lists.now c.loop-list-test.false) in
-    subst (λ (seen : List CrlState). IsLatestIfAny (λ _. Unit {0}) c.args.cert.now seen (option_copied c.loop-list.kept)) all c.loop-list.invariant
+    let all = ap (λ rs. map (λ r. r.now) rs)
+    (take_all c.loop-list.list-index c.args.lists.now c.loop-list-test.false) in
+    subst (λ (seen : List CrlState). IsLatestIfAny (λ _. Unit {0}) c.args.cert.now seen
+    (option_copied c.loop-list.kept)) all c.loop-list.invariant

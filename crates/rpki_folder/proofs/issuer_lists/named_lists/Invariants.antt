@@ -4,4 +4,5 @@ use Rattle.rpki_folder.proofs.ListPlaces.{lists_at}
 use Rattle.rpki_folder.proofs.issuer_lists.named_lists.Given as goal
 
 abbrev pub invariant-loop-place : goal.invariant-loop-place
-invariant-loop-place l = ArePicked (HasName l.names l.issuer.cert.fields) (lists_at l.lists (take l.place-index l.places)) (map (λ r. r.now) l.named.items)
+invariant-loop-place l = ArePicked (HasName l.names l.issuer.cert.fields)
+    (lists_at l.lists (take l.place-index l.places)) (map (λ r. r.now) l.named.items)

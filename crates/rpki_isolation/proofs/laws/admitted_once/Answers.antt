@@ -14,6 +14,10 @@ returns-clause-all_once g c = λ verifier keys certs once. (
 pub returns-clause-firsts : goal.returns-clause-firsts
 returns-clause-firsts g c = λ verifier keys certs table are.
     let law = c.unambiguous.ensures.certificate in (
-      (λ cert others place stands above. (first_of table place, stands_first law certs table are cert place stands, first_itself law certs table are cert place stands)),
+      (λ cert others place stands above. (
+        first_of table place,
+        stands_first law certs table are cert place stands,
+        first_itself law certs table are cert place stands,
+      )),
       (λ cert others above place other here there is other_is. first_once law certs table are cert place other here there is other_is),
     )

@@ -9,4 +9,5 @@ returns-clause-valid g c = λ verifier now strict names keys old new adds t own 
 
 pub returns-clause-chosen : goal.returns-clause-chosen
 returns-clause-chosen g c = λ verifier now strict names keys old new adds t own place other here there.
-    chosen_same (context (g.V.Verifier.verifies verifier) now strict) names t c.unambiguous.ensures.certificate c.unambiguous.ensures.data keys own old new adds place other here there
+    chosen_same (context (g.V.Verifier.verifies verifier) now strict) names t c.unambiguous.ensures.certificate
+    c.unambiguous.ensures.data keys own old new adds place other here there

@@ -9,8 +9,10 @@ returns-clause-children g c = λ verifier now strict names keys old new t anchor
     let law = c.unambiguous.ensures.certificate in
     let i = g.A.Admission.admits a in
     let i_then = g.B.Admission.admits b in (
-      child_there x names t law keys anchor old i other new i_then (carries_on x names law keys old new adds anchor other alike i_then lets_then) p free cert,
-      child_there x names t law keys other new i_then anchor old i (carries_back x names law keys old new adds anchor other alike i lets) p free cert,
+      child_there x names t law keys anchor old i other new i_then
+          (carries_on x names law keys old new adds anchor other alike i_then lets_then) p free cert,
+      child_there x names t law keys other new i_then anchor old i
+          (carries_back x names law keys old new adds anchor other alike i lets) p free cert,
     )
 
 pub returns-clause-shares : goal.returns-clause-shares
@@ -27,7 +29,8 @@ returns-clause-shares g c = λ verifier now strict names keys old new t anchor o
 
 pub returns-clause-one_share : goal.returns-clause-one_share
 returns-clause-one_share g c = λ verifier now strict names keys folder t anchor a lets p free steps share other.
-    one_share_on (context (g.V.Verifier.verifies verifier) now strict) names t c.unambiguous.ensures.certificate (g.A.Admission.admits a) anchor folder p keys lets.0 lets.1 free steps share other
+    one_share_on (context (g.V.Verifier.verifies verifier) now strict) names t c.unambiguous.ensures.certificate
+    (g.A.Admission.admits a) anchor folder p keys lets.0 lets.1 free steps share other
 
 pub returns-clause-enough : goal.returns-clause-enough
 returns-clause-enough g c = λ verifier now strict names keys old new t anchor other a b adds alike lets lets_then p free depth steps.
@@ -42,7 +45,8 @@ returns-clause-enough g c = λ verifier now strict names keys old new t anchor o
     )
 
 pub returns-clause-limits : goal.returns-clause-limits
-returns-clause-limits g c = λ verifier now strict names keys old new t anchor other a b adds alike lets lets_then p free depth steps children share.
+returns-clause-limits g c =
+    λ verifier now strict names keys old new t anchor other a b adds alike lets lets_then p free depth steps children share.
     let x = context (g.V.Verifier.verifies verifier) now strict in
     let law = c.unambiguous.ensures.certificate in
     let i = g.A.Admission.admits a in

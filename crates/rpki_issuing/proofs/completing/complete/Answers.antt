@@ -36,4 +36,6 @@ returns-in-Err-clause-ready g c = λ ready.
     let value = c.args.signature.now in
     let e = c.in-Err.error in
     let same : c.in_ok-cert.cert ≡ signed_with f value = rw (sym c.as_tbs.ensures) c.in_ok-cert.ensures.same in
-    signature_fault (g.V.Verifier.verifies c.args.verifier.now) c.args.now c.args.strict f value role e ready.valid (incomplete x role f value e (subst (λ (d : CertFields). IsInvalidAs x role d e) same c.in-Err.ensures.fault))
+    signature_fault (g.V.Verifier.verifies c.args.verifier.now) c.args.now c.args.strict f value role e ready.valid
+    (incomplete x role f value e
+    (subst (λ (d : CertFields). IsInvalidAs x role d e) same c.in-Err.ensures.fault))

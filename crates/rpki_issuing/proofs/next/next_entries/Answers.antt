@@ -10,7 +10,8 @@ use Rattle.rpki_issuing.proofs.next.next_entries.Goals as goal
 use Rattle.rpki_issuing.proofs.next.next_entries.Goals.{then-not-is_revoked+in_ok-push, else-not-is_revoked}
 
 pub loop-entry-init : goal.loop-entry-init
-loop-entry-init c = kept_alone c.args.previous.now.list.fields c.args.gone.now (map entry_of c.in_ok-entries.entries.items) c.in_ok-entries.ensures
+loop-entry-init c = kept_alone c.args.previous.now.list.fields c.args.gone.now
+    (map entry_of c.in_ok-entries.entries.items) c.in_ok-entries.ensures
 
 pub loop-entry-preserved : goal.loop-entry-preserved
 loop-entry-preserved c =
@@ -22,15 +23,20 @@ loop-entry-preserved c =
     let added : List Entry = map entry_of (take i revoked) in
     let items : List CrlEntry = c.loop-entry.entries.items in
     let es : List Entry = map entry_of items in
-    let more : map entry_of (take (i + 1) revoked) ≡ added ++ entry_of item ∷ [] = taken_more entry_of revoked i (i + 1) item (omega arith) c.loop-entry-test.true c.entry-item.is in
-    subst (λ (now : List Entry). HasNextEntries old now gone (map entry_of c.if-not-is_revoked.entries.items)) (sym more)
+    let more : map entry_of (take (i + 1) revoked) ≡ added ++ entry_of item ∷ [] =
+    taken_more entry_of revoked i (i + 1) item (omega arith) c.loop-entry-test.true c.entry-item.is in
+    subst (λ (now : List Entry). HasNextEntries old now gone (map entry_of c.if-not-is_revoked.entries.items))
+    (sym more)
     (elim c.if-not-is_revoked.branch [
       | then-not-is_revoked+in_ok-push w ↦
           let pushed : c.if-not-is_revoked.entries.items ≡ items ++ item ∷ [] = search rules in
-          let all : map entry_of c.if-not-is_revoked.entries.items ≡ es ++ entry_of item ∷ [] = ap (map entry_of) pushed ∙ map-append entry_of items (item ∷ []) in
-          subst (λ (fs : List Entry). HasNextEntries old (added ++ entry_of item ∷ []) gone fs) (sym all) (one_more old gone added es (entry_of item) c.loop-entry.invariant)
+          let all : map entry_of c.if-not-is_revoked.entries.items ≡ es ++ entry_of item ∷ [] =
+          ap (map entry_of) pushed ∙ map-append entry_of items (item ∷ []) in
+          subst (λ (fs : List Entry). HasNextEntries old (added ++ entry_of item ∷ []) gone fs) (sym all)
+          (one_more old gone added es (entry_of item) c.loop-entry.invariant)
       | else-not-is_revoked w ↦
           let same : c.if-not-is_revoked.entries.items ≡ items = search rules in
           let on : IsRevoked item.user_certificate es = search rules in
-          subst (λ (xs : List CrlEntry). HasNextEntries old (added ++ entry_of item ∷ []) gone (map entry_of xs)) (sym same) (one_passed old gone added es (entry_of item) c.loop-entry.invariant on)
+          subst (λ (xs : List CrlEntry). HasNextEntries old (added ++ entry_of item ∷ []) gone (map entry_of xs))
+          (sym same) (one_passed old gone added es (entry_of item) c.loop-entry.invariant on)
     ])

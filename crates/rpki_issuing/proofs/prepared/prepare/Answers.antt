@@ -21,4 +21,5 @@ returns-in-Err-clause-fault c =
     let x = but_signature c.args.now c.args.strict in
     let e = c.in-Err.error in
     let same : c.in_ok-unsigned.unsigned ≡ unsigned c.args.tbs.now = search rules in
-    unready c.args.now c.args.strict c.args.role.now c.args.tbs.now e (subst (λ (d : CertFields). IsInvalidAs x c.args.role.now d e) same c.in-Err.ensures.fault)
+    unready c.args.now c.args.strict c.args.role.now c.args.tbs.now e
+    (subst (λ (d : CertFields). IsInvalidAs x c.args.role.now d e) same c.in-Err.ensures.fault)

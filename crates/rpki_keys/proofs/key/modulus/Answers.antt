@@ -25,7 +25,8 @@ returns-then-octets-ne256 c =
     let rest = c.in-Some.rest in
     let octets = c.in-Some-strip_suffix.octets in
     let before : bits ≡ head ++ rest.now = strip_prefix_is Decides-eqb bits head (Some rest) c.in-Some.ensures.cases in
-    let behind : rest.now ≡ octets.now ++ tail = strip_suffix_is Decides-eqb rest.now tail (Some octets) c.in-Some-strip_suffix.ensures.cases in
+    let behind : rest.now ≡ octets.now ++ tail = strip_suffix_is Decides-eqb rest.now tail (Some octets)
+    c.in-Some-strip_suffix.ensures.cases in
     let whole : bits ≡ head ++ (octets.now ++ tail) = before ∙ ap (λ z. head ++ z) behind in
     λ n e k. c.if-octets-ne256.true (key-long bits octets.now n e whole k)
 
@@ -35,7 +36,8 @@ returns-then-octets-lt128 c =
     let rest = c.in-Some.rest in
     let octets = c.in-Some-strip_suffix.octets in
     let before : bits ≡ head ++ rest.now = strip_prefix_is Decides-eqb bits head (Some rest) c.in-Some.ensures.cases in
-    let behind : rest.now ≡ octets.now ++ tail = strip_suffix_is Decides-eqb rest.now tail (Some octets) c.in-Some-strip_suffix.ensures.cases in
+    let behind : rest.now ≡ octets.now ++ tail = strip_suffix_is Decides-eqb rest.now tail (Some octets)
+    c.in-Some-strip_suffix.ensures.cases in
     let whole : bits ≡ head ++ (octets.now ++ tail) = before ∙ ap (λ z. head ++ z) behind in
     let fits = within bits octets.now whole (octets-of-fits bits c.type_inv.bits) in
     λ n e k. key-high bits octets.now n e whole fits c.if-octets-ne256.false c.if-octets-lt128.true k
@@ -46,7 +48,8 @@ returns-then-octets-eq0 c =
     let rest = c.in-Some.rest in
     let octets = c.in-Some-strip_suffix.octets in
     let before : bits ≡ head ++ rest.now = strip_prefix_is Decides-eqb bits head (Some rest) c.in-Some.ensures.cases in
-    let behind : rest.now ≡ octets.now ++ tail = strip_suffix_is Decides-eqb rest.now tail (Some octets) c.in-Some-strip_suffix.ensures.cases in
+    let behind : rest.now ≡ octets.now ++ tail = strip_suffix_is Decides-eqb rest.now tail (Some octets)
+    c.in-Some-strip_suffix.ensures.cases in
     let whole : bits ≡ head ++ (octets.now ++ tail) = before ∙ ap (λ z. head ++ z) behind in
     λ n e k. key-odd bits octets.now n e whole c.if-octets-ne256.false c.if-octets-eq0.true k
 
@@ -56,7 +59,8 @@ returns c =
     let rest = c.in-Some.rest in
     let octets = c.in-Some-strip_suffix.octets in
     let before : bits ≡ head ++ rest.now = strip_prefix_is Decides-eqb bits head (Some rest) c.in-Some.ensures.cases in
-    let behind : rest.now ≡ octets.now ++ tail = strip_suffix_is Decides-eqb rest.now tail (Some octets) c.in-Some-strip_suffix.ensures.cases in
+    let behind : rest.now ≡ octets.now ++ tail = strip_suffix_is Decides-eqb rest.now tail (Some octets)
+    c.in-Some-strip_suffix.ensures.cases in
     let whole : bits ≡ head ++ (octets.now ++ tail) = before ∙ ap (λ z. head ++ z) behind in
     let fits = within bits octets.now whole (octets-of-fits bits c.type_inv.bits) in
     takes bits octets.now whole fits c.if-octets-ne256.false c.if-octets-lt128.false (omega (arith, c.if-octets-eq0.false))

@@ -7,7 +7,8 @@ pub returns-then-content-eq0 : goal.returns-then-content-eq0
 returns-then-content-eq0 c =
     let content = c.args.content.now in
     let some : 0 < length content = some-content content c.requires.shortest in
-    zero-digits content _ (omega arith) (octets-of-fits content c.type_inv.content) c.requires.shortest c.if-content-eq0.true c.requires.positive
+    zero-digits content _ (omega arith) (octets-of-fits content c.type_inv.content) c.requires.shortest
+    c.if-content-eq0.true c.requires.positive
 
 pub returns-else-content-eq0 : goal.returns-else-content-eq0
 returns-else-content-eq0 c =

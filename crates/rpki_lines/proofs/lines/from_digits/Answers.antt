@@ -8,5 +8,9 @@ returns-in-Ok-clause-encoded c = digits_are c.args.digits.now c.in-Ok.octets.ite
 pub returns-in_default : goal.returns-in_default
 returns-in_default c = record {
   encoded = tt;
-  none = elim c.in-Err.ensures.err [ inl memory ↦ absurd (c.in_default.not-OutOfMemory memory) | inr rejected ↦ none_encoded c.args.digits.now c.in-Err.error rejected ];
+  none = elim c.in-Err.ensures.err [
+    | inl memory ↦ absurd (c.in_default.not-OutOfMemory memory)
+    | inr rejected ↦ none_encoded c.args.digits.now
+        c.in-Err.error rejected
+  ];
 }

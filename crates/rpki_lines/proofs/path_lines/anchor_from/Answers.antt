@@ -17,4 +17,6 @@ returns c = λ before is.
     let tells = rw c.in-Some-2.is at c.in_ok-anchor.ensures.encoded in
     let line = c.in-Some.line.now in
     if_ok c.members_from.result (λ input read. behind_line before line c.in-Some.rest.now c.args.text.now input c.in-Some.ensures.line read)
-    (c.members_from.ensures (before ++ line ∷ []) (zip_more IsLine (at_moment c.args.now ∷ strictness c.args.strict ∷ []) before (anchor c.in-Some-2.anchor) line is tells))
+    (c.members_from.ensures (before ++ line ∷ [])
+    (zip_more IsLine (at_moment c.args.now ∷ strictness c.args.strict ∷ []) before (anchor c.in-Some-2.anchor)
+    line is tells))

@@ -17,9 +17,11 @@ loop-line-preserved c =
       kept = so_far.kept;
       lines = so_far.lines ++ line ∷ [];
       encoded =
-          subst (λ (cas : List (List ℕ)). AllZip IsLine (map authority cas) (so_far.lines ++ line ∷ [])) (sym c.in_ok-push-in-Some-Authority.ensures.items)
+          subst (λ (cas : List (List ℕ)). AllZip IsLine (map authority cas) (so_far.lines ++ line ∷ []))
+          (sym c.in_ok-push-in-Some-Authority.ensures.items)
           (authority_encoded c.loop-line.cas.items so_far.lines so_far.encoded octets line is);
-      so_far = authority_more so_far.lines c.args.text.now c.loop-line.rest.now so_far.so_far line c.in-Some.others.now c.in-Some.ensures.line;
+      so_far = authority_more so_far.lines c.args.text.now c.loop-line.rest.now so_far.so_far line
+          c.in-Some.others.now c.in-Some.ensures.line;
     }
 
 pub returns-then-not-is_empty : goal.returns-then-not-is_empty
@@ -31,7 +33,9 @@ returns-then-not-is_empty c = λ before is.
     let tells : IsLine (end_entity leaf) line = rw found at c.in_ok-octets.ensures.some in
     let many : c.len.result ≡ length c.loop-line.cas.items = search rules in
     rw many
-    (line_after_leaf c.args.now c.args.strict c.args.anchor before is c.loop-line.cas.items so_far.lines so_far.encoded c.args.text.now c.loop-line.rest.now so_far.so_far leaf line c.in-Some.others.now c.in-Some.ensures.line tells
+    (line_after_leaf c.args.now c.args.strict c.args.anchor before is c.loop-line.cas.items so_far.lines
+    so_far.encoded c.args.text.now c.loop-line.rest.now so_far.so_far leaf line c.in-Some.others.now
+    c.in-Some.ensures.line tells
     (some_left c.in-Some.others.now c.if-not-is_empty.ensures))
 
 pub returns-in-Some-Last : goal.returns-in-Some-Last
@@ -42,7 +46,9 @@ returns-in-Some-Last c = λ before is.
     let found : c.in_ok-octets.field-0 ≡ Some (Last leaf) = search rules in
     let tells : IsLine (end_entity leaf) line = rw found at c.in_ok-octets.ensures.some in
     let heads = subst (λ (anchor : List ℕ). Heads c.args.now c.args.strict anchor before) (sym so_far.kept) is in
-    ended_by_leaf c.args.now c.args.strict c.loop-line.anchor before heads c.loop-line.cas.items so_far.lines so_far.encoded c.args.text.now c.loop-line.rest.now so_far.so_far leaf line c.in-Some.others.now c.in-Some.ensures.line tells
+    ended_by_leaf c.args.now c.args.strict c.loop-line.anchor before heads c.loop-line.cas.items so_far.lines
+    so_far.encoded c.args.text.now c.loop-line.rest.now so_far.so_far leaf line c.in-Some.others.now
+    c.in-Some.ensures.line tells
     (record { now = c.args.now; strict = c.args.strict; anchor = c.loop-line.anchor; cas = c.loop-line.cas; leaf = Some leaf }) refl
     (none_left c.in-Some.others.now c.if-not-is_empty.ensures)
 
@@ -52,11 +58,21 @@ returns-in-None c = λ before is.
     let none = rw c.in-None.is at c.in_ok-octets.ensures.none in
     let many : c.len-in-None.result ≡ length c.loop-line.cas.items = search rules in
     rw many
-    (bad_member c.args.now c.args.strict c.args.anchor before is c.loop-line.cas.items so_far.lines so_far.encoded c.args.text.now c.loop-line.rest.now so_far.so_far c.in-Some.line.now c.in-Some.others.now c.in-Some.ensures.line none)
+    (bad_member c.args.now c.args.strict c.args.anchor before is c.loop-line.cas.items so_far.lines so_far.encoded
+    c.args.text.now c.loop-line.rest.now so_far.so_far c.in-Some.line.now c.in-Some.others.now
+    c.in-Some.ensures.line none)
 
 pub returns : goal.returns
 returns c = λ before is.
     let so_far = c.loop-line.invariant in
     let heads = subst (λ (anchor : List ℕ). Heads c.args.now c.args.strict anchor before) (sym so_far.kept) is in
-    ended c.args.now c.args.strict c.loop-line.anchor before heads c.loop-line.cas.items so_far.lines so_far.encoded c.args.text.now c.loop-line.rest.now so_far.so_far
-    (record { now = c.args.now; strict = c.args.strict; anchor = c.loop-line.anchor; cas = c.loop-line.cas; leaf = None }) refl c.in_default.ensures.none
+    ended c.args.now c.args.strict c.loop-line.anchor before heads c.loop-line.cas.items so_far.lines so_far.encoded
+    c.args.text.now c.loop-line.rest.now so_far.so_far
+    (record {
+      now = c.args.now;
+      strict = c.args.strict;
+      anchor = c.loop-line.anchor;
+      cas = c.loop-line.cas;
+      leaf =
+          None;
+    }) refl c.in_default.ensures.none

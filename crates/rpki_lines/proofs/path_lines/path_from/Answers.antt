@@ -9,10 +9,13 @@ returns-in_default c = λ before is. no_second c.args.now before is c.args.text.
 
 pub returns-in_default-strictness_from : goal.returns-in_default-strictness_from
 returns-in_default-strictness_from c = λ before is.
-    bad_second c.args.now before is c.args.text.now c.in-Some.line.now c.in-Some.rest.now c.in-Some.ensures.line c.in_default-strictness_from.ensures.none
+    bad_second c.args.now before is c.args.text.now c.in-Some.line.now c.in-Some.rest.now c.in-Some.ensures.line
+    c.in_default-strictness_from.ensures.none
 
 pub returns : goal.returns
 returns c = λ before is.
     let line = c.in-Some.line.now in
     if_ok c.anchor_from.result (λ input read. behind_line before line c.in-Some.rest.now c.args.text.now input c.in-Some.ensures.line read)
-    (c.anchor_from.ensures (before ++ line ∷ []) (zip_more IsLine (at_moment c.args.now ∷ []) before (strictness c.in-Some-strictness_from.strict) line is c.in-Some-strictness_from.ensures.some))
+    (c.anchor_from.ensures (before ++ line ∷ [])
+    (zip_more IsLine (at_moment c.args.now ∷ []) before (strictness c.in-Some-strictness_from.strict) line is
+    c.in-Some-strictness_from.ensures.some))

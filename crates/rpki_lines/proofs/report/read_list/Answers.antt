@@ -13,5 +13,7 @@ returns-in_err-list c =
 pub returns-in_err-finish : goal.returns-in_err-finish
 returns-in_err-finish c =
     let begins = rw c.new-cursor.ensures.all at c.in_ok-list.ensures.encoded in
-    list_left c.args.octets.now c.from_residual-in_err-finish.result c.in_ok-list.list (remaining c.take_from.new.cursor) c.unambiguous.ensures.revoked c.from_residual-in_err-finish.ensures.0 begins
+    list_left c.args.octets.now c.from_residual-in_err-finish.result c.in_ok-list.list
+    (remaining c.take_from.new.cursor) c.unambiguous.ensures.revoked c.from_residual-in_err-finish.ensures.0
+    begins
     (λ none. false≢true (c.in_err-finish.ensures.end.1 none))

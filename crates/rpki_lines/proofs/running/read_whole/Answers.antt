@@ -8,5 +8,10 @@ pub returns-in_err-extend_from_slice-in-Ok-clause-taken : goal.returns-in_err-ex
 returns-in_err-extend_from_slice-in-Ok-clause-taken g c =
     let before = c.loop-chunk.input.items in
     let more = take c.in-Ok.n c.read.new.buf in
-    let short : length (before ++ more) ≤ 0x1000001 = grind (arith, common_steps) in
-    (before ++ more, short, consumes_more (g.R.Read.remaining (device c.args.reader.now)) (g.R.Read.remaining (device c.loop-chunk.reader)) (g.R.Read.remaining (device c.read.new.self)) before more c.loop-chunk.invariant.so_far c.in-Ok.ensures.bytes.0)
+    let short : length (before ++ more) ≤ 0x1000001 = grind (arith, common_steps) in (
+      before ++ more,
+      short,
+      consumes_more (g.R.Read.remaining (device c.args.reader.now))
+          (g.R.Read.remaining (device c.loop-chunk.reader)) (g.R.Read.remaining (device c.read.new.self)) before more
+          c.loop-chunk.invariant.so_far c.in-Ok.ensures.bytes.0,
+    )

@@ -9,7 +9,9 @@ loop-rest-preserved g c =
     let more = take c.in-Ok.n c.loop-rest.rest.now in
     record {
       front = front ++ more;
-      so_far = appends_more (g.W.Write.contents (device c.args.writer.now)) (g.W.Write.contents (device c.loop-rest.writer)) (g.W.Write.contents (device c.write.new.self)) front more c.loop-rest.invariant.so_far c.in-Ok.ensures.bytes;
+      so_far = appends_more (g.W.Write.contents (device c.args.writer.now))
+          (g.W.Write.contents (device c.loop-rest.writer)) (g.W.Write.contents (device c.write.new.self)) front more
+          c.loop-rest.invariant.so_far c.in-Ok.ensures.bytes;
       parts = rw c.split_at.ensures.back (parts_more c.args.octets.now front c.loop-rest.rest.now c.in-Ok.n c.loop-rest.invariant.parts);
       unfailed = search rules;
     }

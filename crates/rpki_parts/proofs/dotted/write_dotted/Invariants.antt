@@ -7,7 +7,9 @@ use Rattle.rpki_parts.proofs.dotted.write_dotted.Given as goal
 abbrev pub invariant-loop-octet : goal.invariant-loop-octet
 invariant-loop-octet g l =
     (are_small l.number l.rest ≡ true)
-    × (IsPlainFormatter l.initial.f → IsPartWritten g.W.Write.write_str_gives l.initial.f (dotted_text l.id) l.f (numbers_text l.is_first (subidentifiers l.number l.rest)))
+    × (IsPlainFormatter l.initial.f →
+    IsPartWritten g.W.Write.write_str_gives l.initial.f (dotted_text l.id) l.f
+    (numbers_text l.is_first (subidentifiers l.number l.rest)))
 
 abbrev pub decreases-loop-octet : goal.decreases-loop-octet
 decreases-loop-octet g l = length l.rest

@@ -14,7 +14,9 @@ use Rattle.rpki_parts.proofs.name_text.write_parts.Given as goal
 abbrev pub invariant-loop-part : goal.invariant-loop-part
 invariant-loop-part g l =
     shadow (Utf8 l.before)
-    × (IsPlainFormatter l.initial.f → IsPartWritten g.W.Write.write_str_gives l.initial.f (written_parts (remaining l.parts)) l.f (separated l.before (codes ", ") (map written_part (values_in (value_at SET) (remaining l.rest)))))
+    × (IsPlainFormatter l.initial.f →
+    IsPartWritten g.W.Write.write_str_gives l.initial.f (written_parts (remaining l.parts)) l.f
+    (separated l.before (codes ", ") (map written_part (values_in (value_at SET) (remaining l.rest)))))
 
 abbrev pub decreases-loop-part : goal.decreases-loop-part
 decreases-loop-part g l = length (remaining l.rest)

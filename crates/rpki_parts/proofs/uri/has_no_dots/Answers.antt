@@ -6,4 +6,6 @@ use Rattle.rpki_parts.proofs.uri.has_no_dots.Goals as goal
 
 pub returns : goal.returns
 returns c =
-    all_from_yields_List is_segment _ _ _ c.all.ensures.ran (YieldsList-from_slice_split _ is_slash c.args.path.now c.split.ensures.rest c.split.ensures.done c.split.ensures.closure (λ x b q k. search (rules, tests))) (λ x b q k. search (rules, tests))
+    all_from_yields_List is_segment _ _ _ c.all.ensures.ran
+    (YieldsList-from_slice_split _ is_slash c.args.path.now c.split.ensures.rest c.split.ensures.done
+    c.split.ensures.closure (λ x b q k. search (rules, tests))) (λ x b q k. search (rules, tests))

@@ -14,13 +14,15 @@ path_test uri path r e p = sym (empty_is (path_of uri)) ∙ (ap (λ (l : List �
 pub returns-then-is_empty : goal.returns-then-is_empty
 returns-then-is_empty c =
     let uri = c.args.uri.now in
-    let test = path_test uri c.module_and_path.result.1.now c.is_empty.result c.is_empty.ensures c.module_and_path.ensures.path ∙ c.if-is_empty.true in
+    let test = path_test uri c.module_and_path.result.1.now c.is_empty.result c.is_empty.ensures
+    c.module_and_path.ensures.path ∙ c.if-is_empty.true in
     record { none = (λ _. (no_path_decides uri c.requires).0 test, λ _. refl); some = tt; valid = tt }
 
 pub returns-else-is_empty : goal.returns-else-is_empty
 returns-else-is_empty c =
     let uri = c.args.uri.now in
-    let test = path_test uri c.module_and_path.result.1.now c.is_empty.result c.is_empty.ensures c.module_and_path.ensures.path ∙ c.if-is_empty.false in
+    let test = path_test uri c.module_and_path.result.1.now c.is_empty.result c.is_empty.ensures
+    c.module_and_path.ensures.path ∙ c.if-is_empty.false in
     let filled : path_of uri ≢ [] = λ e. both_ways (is_empty (path_of uri)) test ((empty_decides (path_of uri)).1 e) in
     let found = c.through_slash.ensures ∙ ap through_slash c.trimmed.ensures in
     record {

@@ -6,7 +6,9 @@ use Rattle.rpki_parts.specs.Uris.Tests.{trimmed}
 use Rattle.rpki_parts.proofs.Slashes.{trimmed_again}
 use Rattle.rpki_parts.proofs.uri.trimmed.Goals as goal
 
-stripped : (text : Bor (List ℕ)) (r : Option (Bor (List ℕ))) → MatchOption r ((front : List ℕ) → text.now ≢ front ++ slash ∷ []) (λ x. text.now ≡ x.now ++ slash ∷ []) → (unwrap_or r text).now ≡ trimmed text.now
+stripped : (text : Bor (List ℕ)) (r : Option (Bor (List ℕ))) →
+    MatchOption r ((front : List ℕ) → text.now ≢ front ++ slash ∷ []) (λ x. text.now ≡ x.now ++ slash ∷ []) →
+    (unwrap_or r text).now ≡ trimmed text.now
 stripped text None none = sym (trimmed_again text.now text.now (inr (refl, none)))
 stripped text (Some x) e = sym (trimmed_again text.now x.now (inl e))
 

@@ -7,5 +7,6 @@ returns-in-Some-clause-fault c = c.test_cert.ensures.fault c.args.anchor.now c.i
 
 pub returns-in_ok-cert-in-None-clause-fault : goal.returns-in_ok-cert-in-None-clause-fault
 returns-in_ok-cert-in-None-clause-fault c =
-    let means : Means IsCertificate c.in_ok-cert-in-None.cert c.args.anchor.now = rw c.in_ok-cert-in-None.ensures.ok at c.decoded.ensures.ok in
+    let means : Means IsCertificate c.in_ok-cert-in-None.cert c.args.anchor.now =
+    rw c.in_ok-cert-in-None.ensures.ok at c.decoded.ensures.ok in
     c.test_cert-answer.ensures.fault c.args.anchor.now means

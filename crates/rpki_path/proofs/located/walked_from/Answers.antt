@@ -13,7 +13,8 @@ returns-in_err-test_anchor-clause-named g c =
     let asked = g.R.RevocationSource.asks v.asked.now x in
     let e = c.in_err-test_anchor.field-0.0 in
     let same : c.from_residual.result ≡ Err e = search rules in
-    rw same (anchor_fault x asked (candidates c.args.cas.now c.args.leaf.now) c.args.tal.now.tal c.args.anchor.now e c.in_err-test_anchor.ensures.fault)
+    rw same (anchor_fault x asked (candidates c.args.cas.now c.args.leaf.now) c.args.tal.now.tal c.args.anchor.now e
+    c.in_err-test_anchor.ensures.fault)
 
 pub returns-in_err-walked-clause-named : goal.returns-in_err-walked-clause-named
 returns-in_err-walked-clause-named g c =
@@ -23,4 +24,5 @@ returns-in_err-walked-clause-named g c =
     let e = c.in_err-walked.field-0.0 in
     let same : c.from_residual-in_err-walked.result ≡ Err (path e) = search rules in
     let anchor : BeginsWithAnchor c.args.tal.now.tal c.args.anchor.now = search rules in
-    rw same (below_anchor x asked (candidates c.args.cas.now c.args.leaf.now) c.unambiguous.ensures.certificate c.args.tal.now.tal c.args.anchor.now anchor e c.in_err-walked.ensures.named)
+    rw same (below_anchor x asked (candidates c.args.cas.now c.args.leaf.now) c.unambiguous.ensures.certificate
+    c.args.tal.now.tal c.args.anchor.now anchor e c.in_err-walked.ensures.named)

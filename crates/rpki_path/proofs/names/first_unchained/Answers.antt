@@ -26,7 +26,8 @@ returns-in-Err-Unread-clause-names c =
     let s = c.in-Err-Unread.field-0 in
     let fault = c.in-Err-Unread.fault in
     let why : s.why ≡ Unread fault = cc in
-    subst (λ (g : PathStrings). IsUnreadBelow g.anchor (strings_below g) (record { index = s.place; fault = fault })) c.path.view_is
+    subst (λ (g : PathStrings). IsUnreadBelow g.anchor (strings_below g)
+    (record { index = s.place; fault = fault })) c.path.view_is
     (told_unread (path_strings p.anchor.now p.cas.now p.last) s c.in-Err-Unread.ensures.stopped fault why)
 
 pub returns-in-Err-Unread-clause-index : goal.returns-in-Err-Unread-clause-index

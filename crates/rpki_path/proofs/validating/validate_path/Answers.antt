@@ -10,7 +10,8 @@ returns-clause-validates g c =
     let x = context (g.V.Verifier.verifies c.args.verifier.now) c.args.now c.args.strict in
     let below = candidates c.args.cas.now c.args.leaf in
     subst (λ (anchor : List ℕ). Validates x nobody anchor below (rc_value c.args.tal) c.walked.result) c.of.ensures
-    (headline x nobody c.unambiguous.ensures.certificate c.of.result below (rc_value c.args.tal) c.walked.result c.walked.ensures.ok c.walked.ensures.named)
+    (headline x nobody c.unambiguous.ensures.certificate c.of.result below (rc_value c.args.tal) c.walked.result
+    c.walked.ensures.ok c.walked.ensures.named)
 
 pub returns-clause-unasked : goal.returns-clause-unasked
 returns-clause-unasked g c =

@@ -11,4 +11,5 @@ returns-clause-validates g c =
     let asked = by_uri x c.args.store.now.pairs in
     let below = candidates c.args.cas.now c.args.leaf in
     subst (λ (anchor : List ℕ). Validates x asked anchor below (rc_value c.args.tal) c.walked.result) c.of.ensures
-    (headline x asked c.unambiguous.ensures.certificate c.of.result below (rc_value c.args.tal) c.walked.result c.walked.ensures.ok c.walked.ensures.named)
+    (headline x asked c.unambiguous.ensures.certificate c.of.result below (rc_value c.args.tal) c.walked.result
+    c.walked.ensures.ok c.walked.ensures.named)

@@ -36,10 +36,19 @@ returns-clause-completed c =
       signature = signature;
       files_are = sym files ∙ c.in-Some.ensures;
       completes =
-          subst (λ (l : List (List ℕ)). IsSoAsked x l (λ checks. CompletesAs asked c.args.inputs.now.issuers checks c.args.at c.in_ok-issuer.issuer prepared signature given)) lists
-          (subst (λ (o : Option ResourceFields). IsSoAsked x (contents c.inputs.inside.lists.now) (λ checks. CompletesAs asked c.args.inputs.now.issuers checks c.args.at o prepared signature given)) c.as_ref.ensures.value
-          (subst (λ (l : List ℕ). IsSoAsked x (contents c.inputs.inside.lists.now) (λ checks. CompletesAs asked c.args.inputs.now.issuers checks c.args.at above prepared l given)) c.deref.ensures
-          (subst (λ (l : List (List ℕ)). IsSoAsked x (contents c.inputs.inside.lists.now) (λ checks. CompletesAs asked l checks c.args.at above prepared c.deref.result.now given)) c.requires below)));
+          subst (λ (l : List (List ℕ)).
+          IsSoAsked x l
+          (λ checks. CompletesAs asked c.args.inputs.now.issuers checks c.args.at c.in_ok-issuer.issuer
+          prepared signature given)) lists
+          (subst (λ (o : Option ResourceFields). IsSoAsked x (contents c.inputs.inside.lists.now)
+          (λ checks. CompletesAs asked c.args.inputs.now.issuers checks c.args.at o prepared signature given))
+          c.as_ref.ensures.value
+          (subst (λ (l : List ℕ). IsSoAsked x (contents c.inputs.inside.lists.now)
+          (λ checks. CompletesAs asked c.args.inputs.now.issuers checks c.args.at above prepared l given))
+          c.deref.ensures
+          (subst (λ (l : List (List ℕ)). IsSoAsked x (contents c.inputs.inside.lists.now)
+          (λ checks. CompletesAs asked l checks c.args.at above prepared c.deref.result.now given)) c.requires
+          below)));
     })
 
 pub returns-clause-accepted : goal.returns-clause-accepted
@@ -49,9 +58,11 @@ returns-clause-accepted c =
     let lists : contents c.inputs.inside.lists.now ≡ c.args.inputs.now.lists = search rules in
     on_ok _ _ (Unit {0}) c.made_asking-made.result c.made_asking-made.ensures.accepted (λ _. tt)
     (λ given below _.
-    accepted_of c.unambiguous.ensures.certificate c.unambiguous-2.ensures.list asked c.args.inputs.now c.args.at c.in_ok-issuer.issuer c.in_ok-issuer.ensures.issuer given
+    accepted_of c.unambiguous.ensures.certificate c.unambiguous-2.ensures.list asked c.args.inputs.now c.args.at
+    c.in_ok-issuer.issuer c.in_ok-issuer.ensures.issuer given
     (subst (λ (l : List (List ℕ)). IsSoAsked x l (λ checks. IsAcceptedMade x checks c.in_ok-issuer.issuer given)) lists
-    (subst (λ (o : Option ResourceFields). IsSoAsked x (contents c.inputs.inside.lists.now) (λ checks. IsAcceptedMade x checks o given)) c.as_ref.ensures.value below)))
+    (subst (λ (o : Option ResourceFields). IsSoAsked x (contents c.inputs.inside.lists.now)
+    (λ checks. IsAcceptedMade x checks o given)) c.as_ref.ensures.value below)))
 
 pub returns-clause-refused : goal.returns-clause-refused
 returns-clause-refused c =
@@ -61,18 +72,30 @@ returns-clause-refused c =
     let lists : contents c.inputs.inside.lists.now ≡ c.args.inputs.now.lists = search rules in
     on_err _ _ c.made_asking-made.result c.made_asking-made.ensures.refused
     (λ why below not given p.
-    let both : p.prepared ∷ p.signature ∷ [] ≡ c.in-Some.prepared.now ∷ c.in-Some.signature.now ∷ [] = sym p.files_are ∙ sym files ∙ c.in-Some.ensures in
+    let both : p.prepared ∷ p.signature ∷ [] ≡ c.in-Some.prepared.now ∷ c.in-Some.signature.now ∷ [] =
+    sym p.files_are ∙ sym files ∙ c.in-Some.ensures in
     let first : p.prepared ≡ c.in-Some.prepared.now = cc in
     let second : p.signature ≡ c.in-Some.signature.now = cc in
-    let one = subst (λ (o : Option ResourceFields). AreOneIssuer p.issuer o) (sym c.as_ref.ensures.value) (c.in_ok-issuer.ensures.only p.issuer p.issuer_is) in
-    let asking = subst (λ (l : List (List ℕ)). IsSoAsked x l (λ checks. CompletesAs asked c.args.inputs.now.issuers checks c.args.at p.issuer p.prepared p.signature given)) (sym lists) p.completes in
+    let one = subst (λ (o : Option ResourceFields). AreOneIssuer p.issuer o) (sym c.as_ref.ensures.value)
+    (c.in_ok-issuer.ensures.only p.issuer p.issuer_is) in
+    let asking = subst (λ (l : List (List ℕ)).
+    IsSoAsked x l
+    (λ checks. CompletesAs asked c.args.inputs.now.issuers checks c.args.at p.issuer p.prepared p.signature
+    given)) (sym lists) p.completes in
     below not given (so_moved x (contents c.inputs.inside.lists.now)
-    (λ (checks : RevocationChecks). CompletesAs asked c.args.inputs.now.issuers checks c.args.at p.issuer p.prepared p.signature given)
-    (λ (checks : RevocationChecks). CompletesAs asked c.args.path.now checks c.args.at (option_map (λ (r : Bor ResourceFields). r.now) c.as_ref.result) c.in-Some.prepared.now c.deref.result.now given)
-    (λ checks q. completes_as_moved asked c.args.at c.args.path.now c.in-Some.prepared.now c.deref.result.now checks p.issuer c.as_ref.result given one
-    (subst (λ (l : List (List ℕ)). CompletesAs asked l checks c.args.at p.issuer c.in-Some.prepared.now c.deref.result.now given) (sym c.requires)
-    (subst (λ (l : List ℕ). CompletesAs asked c.args.inputs.now.issuers checks c.args.at p.issuer l c.deref.result.now given) first
-    (subst (λ (l : List ℕ). CompletesAs asked c.args.inputs.now.issuers checks c.args.at p.issuer p.prepared l given) (second ∙ sym c.deref.ensures) q)))) asking))
+    (λ (checks : RevocationChecks). CompletesAs asked c.args.inputs.now.issuers checks c.args.at p.issuer p.prepared
+    p.signature given)
+    (λ (checks : RevocationChecks). CompletesAs asked c.args.path.now checks c.args.at
+    (option_map (λ (r : Bor ResourceFields). r.now) c.as_ref.result) c.in-Some.prepared.now c.deref.result.now
+    given)
+    (λ checks q. completes_as_moved asked c.args.at c.args.path.now c.in-Some.prepared.now c.deref.result.now checks
+    p.issuer c.as_ref.result given one
+    (subst (λ (l : List (List ℕ)). CompletesAs asked l checks c.args.at p.issuer c.in-Some.prepared.now
+    c.deref.result.now given) (sym c.requires)
+    (subst (λ (l : List ℕ). CompletesAs asked c.args.inputs.now.issuers checks c.args.at p.issuer l
+    c.deref.result.now given) first
+    (subst (λ (l : List ℕ). CompletesAs asked c.args.inputs.now.issuers checks c.args.at p.issuer p.prepared l
+    given) (second ∙ sym c.deref.ensures) q)))) asking))
 
 pub returns-in_default-clause-so : goal.returns-in_default-clause-so
 returns-in_default-clause-so c =
@@ -95,7 +118,8 @@ returns-clause-so c =
     let lists : contents c.inputs.inside.lists.now ≡ c.args.inputs.now.lists = search rules in
     on_err _ _ c.made_asking-made.result c.made_asking-made.ensures.so
     (λ why below. elim below [
-      | inl memory ↦ subst (λ (w : Refusal). IsSoOfCompletion asked c.args.inputs.now c.args.at w) (sym memory) (inr (inl tt))
+      | inl memory ↦ subst (λ (w : Refusal). IsSoOfCompletion asked c.args.inputs.now c.args.at w) (sym memory)
+          (inr (inl tt))
       | inr so ↦ inr (inr (record {
         issuer = c.in_ok-issuer.issuer;
         issuer_is = c.in_ok-issuer.ensures.issuer;
@@ -104,10 +128,19 @@ returns-clause-so c =
           signature = signature;
           files_are = sym files ∙ c.in-Some.ensures;
           either =
-              subst (λ (l : List (List ℕ)). IsSoAsked x l (λ checks. IsSoOfEither asked c.args.inputs.now.issuers checks c.args.at c.in_ok-issuer.issuer prepared signature why)) lists
-              (subst (λ (o : Option ResourceFields). IsSoAsked x (contents c.inputs.inside.lists.now) (λ checks. IsSoOfEither asked c.args.inputs.now.issuers checks c.args.at o prepared signature why)) c.as_ref.ensures.value
-              (subst (λ (l : List ℕ). IsSoAsked x (contents c.inputs.inside.lists.now) (λ checks. IsSoOfEither asked c.args.inputs.now.issuers checks c.args.at above prepared l why)) c.deref.ensures
-              (subst (λ (l : List (List ℕ)). IsSoAsked x (contents c.inputs.inside.lists.now) (λ checks. IsSoOfEither asked l checks c.args.at above prepared c.deref.result.now why)) c.requires so)));
+              subst (λ (l : List (List ℕ)).
+              IsSoAsked x l
+              (λ checks. IsSoOfEither asked c.args.inputs.now.issuers checks c.args.at c.in_ok-issuer.issuer
+              prepared signature why)) lists
+              (subst (λ (o : Option ResourceFields). IsSoAsked x (contents c.inputs.inside.lists.now)
+              (λ checks. IsSoOfEither asked c.args.inputs.now.issuers checks c.args.at o prepared signature
+              why)) c.as_ref.ensures.value
+              (subst (λ (l : List ℕ). IsSoAsked x (contents c.inputs.inside.lists.now)
+              (λ checks. IsSoOfEither asked c.args.inputs.now.issuers checks c.args.at above prepared l why))
+              c.deref.ensures
+              (subst (λ (l : List (List ℕ)). IsSoAsked x (contents c.inputs.inside.lists.now)
+              (λ checks. IsSoOfEither asked l checks c.args.at above prepared c.deref.result.now why))
+              c.requires so)));
         };
       }))
     ])

@@ -18,9 +18,12 @@ returns-in-Err-clause-refused g c = λ not octets p.
     let issuer = option_map (λ (r : Bor ResourceFields). r.now) c.args.issuer in
     let checks = g.R.RevocationSource.asks c.args.source.now (context_of (asked_fields c.args.order.now) c.args.at) in
     let same = c.in_ok-tbs.ensures.1 p.fields p.fields_are in
-    let kinds = one_completed issuer c.in_ok-tbs.tbs p.kind c.completed_as-kind.result (subst (λ (f : TbsFields). IsCompletedAs issuer f p.kind) same p.kind_is) c.completed_as-kind.ensures in
+    let kinds = one_completed issuer c.in_ok-tbs.tbs p.kind c.completed_as-kind.result
+    (subst (λ (f : TbsFields). IsCompletedAs issuer f p.kind) same p.kind_is) c.completed_as-kind.ensures in
     c.in-Err.ensures.refused (c.unfit.ensures.memory not) octets
-    (same_completed issuer c.args.path.now checks c.args.at c.args.order.now.strict c.args.signature.now octets p.kind c.completed_as-kind.result p.fields c.in_ok-tbs.tbs c.args.prepared.now c.deref.result.now kinds same (sym c.deref.ensures) p.completed)
+    (same_completed issuer c.args.path.now checks c.args.at c.args.order.now.strict c.args.signature.now octets
+    p.kind c.completed_as-kind.result p.fields c.in_ok-tbs.tbs c.args.prepared.now c.deref.result.now kinds
+    same (sym c.deref.ensures) p.completed)
 
 pub returns-in_err-tbs-clause-pathless : goal.returns-in_err-tbs-clause-pathless
 returns-in_err-tbs-clause-pathless g c =
@@ -50,7 +53,9 @@ returns-in-Err-clause-so g c =
     let prepared = c.args.prepared.now in
     let signature = c.args.signature.now in
     let checks = g.R.RevocationSource.asks c.args.source.now (context_of asked c.args.at) in
-    let told = subst (λ (l : List ℕ). IsUncompleted c.completed_as-kind.result issuer c.args.path.now checks c.args.at asked.strict c.in_ok-tbs.tbs l signature c.in-Err.error) c.deref.ensures c.in-Err.ensures.told in
+    let told = subst (λ (l : List ℕ). IsUncompleted c.completed_as-kind.result issuer c.args.path.now checks
+    c.args.at asked.strict c.in_ok-tbs.tbs l signature c.in-Err.error) c.deref.ensures
+    c.in-Err.ensures.told in
     let unmade : IsUnmade asked c.args.path.now checks c.args.at issuer prepared signature c.in-Err.error = record {
       fields = c.in_ok-tbs.tbs;
       fields_are = c.in_ok-tbs.ensures.0;
@@ -59,7 +64,8 @@ returns-in-Err-clause-so g c =
       kind_is = c.completed_as-kind.ensures;
       uncompleted = told;
     } in
-    inr (inr (unfit_so (IsUnmade asked c.args.path.now checks c.args.at issuer prepared signature) _ _ c.unfit.ensures.told (λ not. unmade)))
+    inr (inr (unfit_so (IsUnmade asked c.args.path.now checks c.args.at issuer prepared signature)
+    _ _ c.unfit.ensures.told (λ not. unmade)))
 
 pub returns-in-Ok-clause-accepted : goal.returns-in-Ok-clause-accepted
 returns-in-Ok-clause-accepted g c = (

@@ -15,7 +15,8 @@ returns-clause-issuer c =
     let issuers : contents c.inputs.inside.issuers.now ≡ c.args.inputs.now.issuers = search rules in
     let lists : contents c.inputs.inside.lists.now ≡ c.args.inputs.now.lists = search rules in
     subst (λ (l : List (List ℕ)). IfOk c.issuer_of.result (IsIssuerOf x c.args.inputs.now.issuers l)) lists
-    (subst (λ (f : List (List ℕ)). IfOk c.issuer_of.result (IsIssuerOf x f (contents c.inputs.inside.lists.now))) issuers c.issuer_of.ensures.issuer)
+    (subst (λ (f : List (List ℕ)). IfOk c.issuer_of.result (IsIssuerOf x f (contents c.inputs.inside.lists.now)))
+    issuers c.issuer_of.ensures.issuer)
 
 pub returns-clause-only : goal.returns-clause-only
 returns-clause-only c =
@@ -23,15 +24,19 @@ returns-clause-only c =
     let issuers : contents c.inputs.inside.issuers.now ≡ c.args.inputs.now.issuers = search rules in
     let lists : contents c.inputs.inside.lists.now ≡ c.args.inputs.now.lists = search rules in
     subst (λ (l : List (List ℕ)). IfOk c.issuer_of.result (IsOnlyIssuer x c.args.inputs.now.issuers l)) lists
-    (subst (λ (f : List (List ℕ)). IfOk c.issuer_of.result (IsOnlyIssuer x f (contents c.inputs.inside.lists.now))) issuers c.issuer_of.ensures.only)
+    (subst (λ (f : List (List ℕ)). IfOk c.issuer_of.result (IsOnlyIssuer x f (contents c.inputs.inside.lists.now)))
+    issuers c.issuer_of.ensures.only)
 
 pub returns-clause-none : goal.returns-clause-none
 returns-clause-none c =
     let x = context_of (asked_fields c.args.order.now) c.args.at in
     let issuers : contents c.inputs.inside.issuers.now ≡ c.args.inputs.now.issuers = search rules in
     let lists : contents c.inputs.inside.lists.now ≡ c.args.inputs.now.lists = search rules in
-    subst (λ (l : List (List ℕ)). IfErr c.issuer_of.result (λ why. why ≢ Memory → (issuer : Option ResourceFields) → IsIssuerOf x c.args.inputs.now.issuers l issuer → ⊥)) lists
-    (subst (λ (f : List (List ℕ)). IfErr c.issuer_of.result (λ why. why ≢ Memory → (issuer : Option ResourceFields) → IsIssuerOf x f (contents c.inputs.inside.lists.now) issuer → ⊥)) issuers c.issuer_of.ensures.none)
+    subst (λ (l : List (List ℕ)). IfErr c.issuer_of.result (λ why. why ≢ Memory → (issuer : Option ResourceFields) →
+    IsIssuerOf x c.args.inputs.now.issuers l issuer → ⊥)) lists
+    (subst (λ (f : List (List ℕ)). IfErr c.issuer_of.result (λ why. why ≢ Memory →
+    (issuer : Option ResourceFields) → IsIssuerOf x f (contents c.inputs.inside.lists.now) issuer →
+    ⊥)) issuers c.issuer_of.ensures.none)
 
 pub returns-clause-told : goal.returns-clause-told
 returns-clause-told c =
@@ -39,4 +44,5 @@ returns-clause-told c =
     let issuers : contents c.inputs.inside.issuers.now ≡ c.args.inputs.now.issuers = search rules in
     let lists : contents c.inputs.inside.lists.now ≡ c.args.inputs.now.lists = search rules in
     subst (λ (l : List (List ℕ)). IfErr c.issuer_of.result (TellsPath x c.args.inputs.now.issuers l)) lists
-    (subst (λ (f : List (List ℕ)). IfErr c.issuer_of.result (TellsPath x f (contents c.inputs.inside.lists.now))) issuers c.issuer_of.ensures.told)
+    (subst (λ (f : List (List ℕ)). IfErr c.issuer_of.result (TellsPath x f (contents c.inputs.inside.lists.now)))
+    issuers c.issuer_of.ensures.told)

@@ -12,14 +12,18 @@ use Rattle.rpki_requests.proofs.fulfilling.list_completed_below.Goals as goal
 
 pub returns-then-not-is_list_named-clause-refused : goal.returns-then-not-is_list_named-clause-refused
 returns-then-not-is_list_named-clause-refused c = λ not octets p.
-    let same = whole_only IsTbsCertList c.unambiguous.ensures.data c.args.list.now p.fields c.args.prepared.now c.requires p.fields_are in
-    false≢true (sym c.if-not-is_list_named.true ∙ c.is_list_named.ensures.1 (ap (λ (f : ListFields Revoked). f.issuer) (sym same) ∙ p.named))
+    let same = whole_only IsTbsCertList c.unambiguous.ensures.data c.args.list.now p.fields c.args.prepared.now
+    c.requires p.fields_are in
+    false≢true (sym c.if-not-is_list_named.true ∙
+    c.is_list_named.ensures.1 (ap (λ (f : ListFields Revoked). f.issuer) (sym same) ∙ p.named))
 
 pub returns-in-Err-clause-refused : goal.returns-in-Err-clause-refused
 returns-in-Err-clause-refused c = λ not octets p.
-    let same = whole_only IsTbsCertList c.unambiguous.ensures.data c.args.list.now p.fields c.args.prepared.now c.requires p.fields_are in
+    let same = whole_only IsTbsCertList c.unambiguous.ensures.data c.args.list.now p.fields c.args.prepared.now
+    c.requires p.fields_are in
     c.in-Err.ensures.refused (c.unfit.ensures.memory not) octets
-    (subst (λ (f : ListFields Revoked). IsListCompleted c.args.at c.args.order.now.strict c.args.issuer.now.cert.fields f c.args.prepared.now c.args.signature.now octets) same p.completed)
+    (subst (λ (f : ListFields Revoked). IsListCompleted c.args.at c.args.order.now.strict
+    c.args.issuer.now.cert.fields f c.args.prepared.now c.args.signature.now octets) same p.completed)
 
 pub returns-then-not-is_list_named-clause-so : goal.returns-then-not-is_list_named-clause-so
 returns-then-not-is_list_named-clause-so c =
@@ -32,7 +36,9 @@ returns-then-not-is_list_named-clause-so c =
 
 pub returns-in-Err-clause-so : goal.returns-in-Err-clause-so
 returns-in-Err-clause-so c =
-    let Is : WantedError → Type 0 = IsListUnmade (asked_fields c.args.order.now) c.args.at c.args.issuer.now.cert.fields c.args.prepared.now c.args.signature.now in
+    let Is : WantedError →
+    Type 0 = IsListUnmade (asked_fields c.args.order.now) c.args.at c.args.issuer.now.cert.fields
+    c.args.prepared.now c.args.signature.now in
     inr (unfit_so Is _ _ c.unfit.ensures.told
     (λ not. record {
       fields = c.args.list.now;

@@ -18,13 +18,15 @@ pub returns-in-Err-clause-refused : goal.returns-in-Err-clause-refused
 returns-in-Err-clause-refused c = λ not octets p.
     let same = c.in_ok-list.ensures.1 p.fields p.asks in
     c.in-Err.ensures.refused (c.unfit.ensures.memory not) octets
-    (subst (λ (f : ListFields Revoked). IsListPrepared c.args.at c.args.order.now.strict c.args.issuer.now.cert.fields f octets) same p.prepared)
+    (subst (λ (f : ListFields Revoked). IsListPrepared c.args.at c.args.order.now.strict
+    c.args.issuer.now.cert.fields f octets) same p.prepared)
 
 pub returns-in_err-list-clause-pathless : goal.returns-in_err-list-clause-pathless
 returns-in_err-list-clause-pathless c =
     let why = c.in_err-list.field-0.0 in
     let same : c.from_residual.result ≡ Err why = search rules in
-    rw same (list_pathless (asked_fields c.args.order.now).given c.args.inputs.now c.args.at c.args.issuer.now.cert.fields why c.in_err-list.ensures.0)
+    rw same (list_pathless (asked_fields c.args.order.now).given c.args.inputs.now c.args.at
+    c.args.issuer.now.cert.fields why c.in_err-list.ensures.0)
 
 pub returns-in_err-list-clause-so : goal.returns-in_err-list-clause-so
 returns-in_err-list-clause-so c =
@@ -33,7 +35,8 @@ returns-in_err-list-clause-so c =
 
 pub returns-in-Err-clause-so : goal.returns-in-Err-clause-so
 returns-in-Err-clause-so c =
-    let Is : WantedError → Type 0 = IsListUnready (asked_fields c.args.order.now) c.args.inputs.now c.args.at c.args.issuer.now.cert.fields in
+    let Is : WantedError → Type 0 = IsListUnready (asked_fields c.args.order.now) c.args.inputs.now c.args.at
+    c.args.issuer.now.cert.fields in
     inr (unfit_so Is _ _ c.unfit.ensures.told
     (λ not. record {
       fields = c.in_ok-list.list;

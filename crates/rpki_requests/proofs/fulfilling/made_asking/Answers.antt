@@ -26,69 +26,120 @@ pub returns-then-is_empty-clause-completed : goal.returns-then-is_empty-clause-c
 returns-then-is_empty-clause-completed c =
     let lists = c.args.lists.now in
     let x = context_of (asked_fields c.args.order.now) c.args.at in
-    let empty : length (contents lists) ≡ 0 = length-map lists (λ file. file.octets) ∙ (Decides-eqb (length lists) 0).0 (sym c.is_empty.ensures ∙ c.if-is_empty.true) in
+    let empty : length (contents lists) ≡ 0 = length-map lists (λ file. file.octets) ∙
+    (Decides-eqb (length lists) 0).0 (sym c.is_empty.ensures ∙ c.if-is_empty.true) in
     let answer = c.made_below in
-    on_ok _ _ (Unit {0}) answer.result answer.ensures.completed (λ ok. tt) (λ given h unit. so_nobody x (contents lists) empty (λ (checks : RevocationChecks). CompletesAs (asked_fields c.args.order.now) c.args.path.now checks c.args.at (option_map (λ (r : Bor ResourceFields). r.now) c.args.issuer) c.args.prepared.now c.args.signature.now given) h)
+    on_ok _ _ (Unit {0}) answer.result answer.ensures.completed (λ ok. tt)
+    (λ given h unit. so_nobody x (contents lists) empty
+    (λ (checks : RevocationChecks). CompletesAs (asked_fields c.args.order.now) c.args.path.now checks
+    c.args.at (option_map (λ (r : Bor ResourceFields). r.now) c.args.issuer) c.args.prepared.now
+    c.args.signature.now given) h)
 
 pub returns-clause-completed : goal.returns-clause-completed
 returns-clause-completed c =
     let lists = c.args.lists.now in
     let x = context_of (asked_fields c.args.order.now) c.args.at in
     let read = c.in_ok-read.read.items in
-    let some : length (contents lists) ≡ 0 → ⊥ = λ none. false≢true (sym c.if-is_empty.false ∙ c.is_empty.ensures ∙ (Decides-eqb (length lists) 0).1 (sym (length-map lists (λ file. file.octets)) ∙ none)) in
+    let some : length (contents lists) ≡ 0 →
+    ⊥ = λ none. false≢true
+    (sym c.if-is_empty.false ∙ c.is_empty.ensures ∙ (Decides-eqb (length lists) 0).1
+    (sym (length-map lists (λ file. file.octets)) ∙ none)) in
     let given : c.with_names-given.result ≡ given_of read =
     c.with_names-given.ensures ∙ ap (λ (ls : List CrlState). given_of ls) c.deref.ensures.value in
     let answer = c.made_below-made in
-    let made = subst (λ (g : GivenFields). IfOk answer.result (λ given. CompletesAs (asked_fields c.args.order.now) c.args.path.now (by_named_lists g.names x g.lists) c.args.at (option_map (λ (r : Bor ResourceFields). r.now) c.args.issuer) c.args.prepared.now c.args.signature.now given)) given answer.ensures.completed in
-    on_ok _ _ (Unit {0}) answer.result made (λ ok. tt) (λ given h unit. so_read x (contents lists) read some c.in_ok-read.ensures (λ (checks : RevocationChecks). CompletesAs (asked_fields c.args.order.now) c.args.path.now checks c.args.at (option_map (λ (r : Bor ResourceFields). r.now) c.args.issuer) c.args.prepared.now c.args.signature.now given) h)
+    let made = subst (λ (g : GivenFields).
+    IfOk answer.result
+    (λ given. CompletesAs (asked_fields c.args.order.now) c.args.path.now (by_named_lists g.names x g.lists)
+    c.args.at (option_map (λ (r : Bor ResourceFields). r.now) c.args.issuer) c.args.prepared.now
+    c.args.signature.now given)) given answer.ensures.completed in
+    on_ok _ _ (Unit {0}) answer.result made (λ ok. tt)
+    (λ given h unit. so_read x (contents lists) read some c.in_ok-read.ensures
+    (λ (checks : RevocationChecks). CompletesAs (asked_fields c.args.order.now) c.args.path.now checks
+    c.args.at (option_map (λ (r : Bor ResourceFields). r.now) c.args.issuer) c.args.prepared.now
+    c.args.signature.now given) h)
 
 pub returns-then-is_empty-clause-accepted : goal.returns-then-is_empty-clause-accepted
 returns-then-is_empty-clause-accepted c =
     let lists = c.args.lists.now in
     let x = context_of (asked_fields c.args.order.now) c.args.at in
-    let empty : length (contents lists) ≡ 0 = length-map lists (λ file. file.octets) ∙ (Decides-eqb (length lists) 0).0 (sym c.is_empty.ensures ∙ c.if-is_empty.true) in
+    let empty : length (contents lists) ≡ 0 = length-map lists (λ file. file.octets) ∙
+    (Decides-eqb (length lists) 0).0 (sym c.is_empty.ensures ∙ c.if-is_empty.true) in
     let answer = c.made_below in
-    on_ok _ _ (Unit {0}) answer.result answer.ensures.accepted (λ ok. tt) (λ given h unit. so_nobody x (contents lists) empty (λ (checks : RevocationChecks). IsAcceptedMade x checks (option_map (λ (r : Bor ResourceFields). r.now) c.args.issuer) given) h)
+    on_ok _ _ (Unit {0}) answer.result answer.ensures.accepted (λ ok. tt)
+    (λ given h unit. so_nobody x (contents lists) empty
+    (λ (checks : RevocationChecks). IsAcceptedMade x checks
+    (option_map (λ (r : Bor ResourceFields). r.now) c.args.issuer) given) h)
 
 pub returns-clause-accepted : goal.returns-clause-accepted
 returns-clause-accepted c =
     let lists = c.args.lists.now in
     let x = context_of (asked_fields c.args.order.now) c.args.at in
     let read = c.in_ok-read.read.items in
-    let some : length (contents lists) ≡ 0 → ⊥ = λ none. false≢true (sym c.if-is_empty.false ∙ c.is_empty.ensures ∙ (Decides-eqb (length lists) 0).1 (sym (length-map lists (λ file. file.octets)) ∙ none)) in
+    let some : length (contents lists) ≡ 0 →
+    ⊥ = λ none. false≢true
+    (sym c.if-is_empty.false ∙ c.is_empty.ensures ∙ (Decides-eqb (length lists) 0).1
+    (sym (length-map lists (λ file. file.octets)) ∙ none)) in
     let given : c.with_names-given.result ≡ given_of read =
     c.with_names-given.ensures ∙ ap (λ (ls : List CrlState). given_of ls) c.deref.ensures.value in
     let answer = c.made_below-made in
-    let made = subst (λ (g : GivenFields). IfOk answer.result (λ given. IsAcceptedMade x (by_named_lists g.names x g.lists) (option_map (λ (r : Bor ResourceFields). r.now) c.args.issuer) given)) given answer.ensures.accepted in
-    on_ok _ _ (Unit {0}) answer.result made (λ ok. tt) (λ given h unit. so_read x (contents lists) read some c.in_ok-read.ensures (λ (checks : RevocationChecks). IsAcceptedMade x checks (option_map (λ (r : Bor ResourceFields). r.now) c.args.issuer) given) h)
+    let made = subst (λ (g : GivenFields).
+    IfOk answer.result
+    (λ given. IsAcceptedMade x (by_named_lists g.names x g.lists)
+    (option_map (λ (r : Bor ResourceFields). r.now) c.args.issuer) given)) given answer.ensures.accepted in
+    on_ok _ _ (Unit {0}) answer.result made (λ ok. tt)
+    (λ given h unit. so_read x (contents lists) read some c.in_ok-read.ensures
+    (λ (checks : RevocationChecks). IsAcceptedMade x checks
+    (option_map (λ (r : Bor ResourceFields). r.now) c.args.issuer) given) h)
 
 pub returns-then-is_empty-clause-refused : goal.returns-then-is_empty-clause-refused
 returns-then-is_empty-clause-refused c =
     let lists = c.args.lists.now in
     let x = context_of (asked_fields c.args.order.now) c.args.at in
-    let empty : length (contents lists) ≡ 0 = length-map lists (λ file. file.octets) ∙ (Decides-eqb (length lists) 0).0 (sym c.is_empty.ensures ∙ c.if-is_empty.true) in
+    let empty : length (contents lists) ≡ 0 = length-map lists (λ file. file.octets) ∙
+    (Decides-eqb (length lists) 0).0 (sym c.is_empty.ensures ∙ c.if-is_empty.true) in
     let answer = c.made_below in
-    on_err _ _ answer.result answer.ensures.refused (λ why none not given. none_nobody x (contents lists) empty (λ (checks : RevocationChecks). CompletesAs (asked_fields c.args.order.now) c.args.path.now checks c.args.at (option_map (λ (r : Bor ResourceFields). r.now) c.args.issuer) c.args.prepared.now c.args.signature.now given) (none not given))
+    on_err _ _ answer.result answer.ensures.refused
+    (λ why none not given. none_nobody x (contents lists) empty
+    (λ (checks : RevocationChecks). CompletesAs (asked_fields c.args.order.now) c.args.path.now checks
+    c.args.at (option_map (λ (r : Bor ResourceFields). r.now) c.args.issuer) c.args.prepared.now
+    c.args.signature.now given) (none not given))
 
 pub returns-clause-refused : goal.returns-clause-refused
 returns-clause-refused c =
     let lists = c.args.lists.now in
     let x = context_of (asked_fields c.args.order.now) c.args.at in
     let read = c.in_ok-read.read.items in
-    let some : length (contents lists) ≡ 0 → ⊥ = λ none. false≢true (sym c.if-is_empty.false ∙ c.is_empty.ensures ∙ (Decides-eqb (length lists) 0).1 (sym (length-map lists (λ file. file.octets)) ∙ none)) in
+    let some : length (contents lists) ≡ 0 →
+    ⊥ = λ none. false≢true
+    (sym c.if-is_empty.false ∙ c.is_empty.ensures ∙ (Decides-eqb (length lists) 0).1
+    (sym (length-map lists (λ file. file.octets)) ∙ none)) in
     let given : c.with_names-given.result ≡ given_of read =
     c.with_names-given.ensures ∙ ap (λ (ls : List CrlState). given_of ls) c.deref.ensures.value in
     let answer = c.made_below-made in
-    let refused = subst (λ (g : GivenFields). IfErr answer.result (λ why. why ≢ Memory → (given : Made) → CompletesAs (asked_fields c.args.order.now) c.args.path.now (by_named_lists g.names x g.lists) c.args.at (option_map (λ (r : Bor ResourceFields). r.now) c.args.issuer) c.args.prepared.now c.args.signature.now given → ⊥)) given answer.ensures.refused in
-    on_err _ _ answer.result refused (λ why none not given. none_read x c.unambiguous.ensures.certificate c.unambiguous-2.ensures.list (contents lists) read some c.in_ok-read.ensures (λ (checks : RevocationChecks). CompletesAs (asked_fields c.args.order.now) c.args.path.now checks c.args.at (option_map (λ (r : Bor ResourceFields). r.now) c.args.issuer) c.args.prepared.now c.args.signature.now given) (none not given))
+    let refused = subst (λ (g : GivenFields). IfErr answer.result (λ why. why ≢ Memory → (given : Made) →
+    CompletesAs (asked_fields c.args.order.now) c.args.path.now (by_named_lists g.names x g.lists) c.args.at
+    (option_map (λ (r : Bor ResourceFields). r.now) c.args.issuer) c.args.prepared.now c.args.signature.now
+    given → ⊥)) given answer.ensures.refused in
+    on_err _ _ answer.result refused
+    (λ why none not given. none_read x c.unambiguous.ensures.certificate c.unambiguous-2.ensures.list
+    (contents lists) read some c.in_ok-read.ensures
+    (λ (checks : RevocationChecks). CompletesAs (asked_fields c.args.order.now) c.args.path.now checks
+    c.args.at (option_map (λ (r : Bor ResourceFields). r.now) c.args.issuer) c.args.prepared.now
+    c.args.signature.now given) (none not given))
 
 pub returns-then-is_empty-clause-so : goal.returns-then-is_empty-clause-so
 returns-then-is_empty-clause-so c =
     let lists = c.args.lists.now in
     let x = context_of (asked_fields c.args.order.now) c.args.at in
-    let empty : length (contents lists) ≡ 0 = length-map lists (λ file. file.octets) ∙ (Decides-eqb (length lists) 0).0 (sym c.is_empty.ensures ∙ c.if-is_empty.true) in
+    let empty : length (contents lists) ≡ 0 = length-map lists (λ file. file.octets) ∙
+    (Decides-eqb (length lists) 0).0 (sym c.is_empty.ensures ∙ c.if-is_empty.true) in
     let answer = c.made_below in
-    on_err _ _ answer.result answer.ensures.so (λ why so. inr (so_nobody x (contents lists) empty (λ (checks : RevocationChecks). IsSoOfEither (asked_fields c.args.order.now) c.args.path.now checks c.args.at (option_map (λ (r : Bor ResourceFields). r.now) c.args.issuer) c.args.prepared.now c.args.signature.now why) so))
+    on_err _ _ answer.result answer.ensures.so
+    (λ why so. inr
+    (so_nobody x (contents lists) empty
+    (λ (checks : RevocationChecks). IsSoOfEither (asked_fields c.args.order.now) c.args.path.now checks
+    c.args.at (option_map (λ (r : Bor ResourceFields). r.now) c.args.issuer) c.args.prepared.now
+    c.args.signature.now why) so))
 
 pub returns-in_err-read-clause-so : goal.returns-in_err-read-clause-so
 returns-in_err-read-clause-so c =
@@ -100,9 +151,21 @@ returns-clause-so c =
     let lists = c.args.lists.now in
     let x = context_of (asked_fields c.args.order.now) c.args.at in
     let read = c.in_ok-read.read.items in
-    let some : length (contents lists) ≡ 0 → ⊥ = λ none. false≢true (sym c.if-is_empty.false ∙ c.is_empty.ensures ∙ (Decides-eqb (length lists) 0).1 (sym (length-map lists (λ file. file.octets)) ∙ none)) in
+    let some : length (contents lists) ≡ 0 →
+    ⊥ = λ none. false≢true
+    (sym c.if-is_empty.false ∙ c.is_empty.ensures ∙ (Decides-eqb (length lists) 0).1
+    (sym (length-map lists (λ file. file.octets)) ∙ none)) in
     let given : c.with_names-given.result ≡ given_of read =
     c.with_names-given.ensures ∙ ap (λ (ls : List CrlState). given_of ls) c.deref.ensures.value in
     let answer = c.made_below-made in
-    let so = subst (λ (g : GivenFields). IfErr answer.result (λ why. IsSoOfEither (asked_fields c.args.order.now) c.args.path.now (by_named_lists g.names x g.lists) c.args.at (option_map (λ (r : Bor ResourceFields). r.now) c.args.issuer) c.args.prepared.now c.args.signature.now why)) given answer.ensures.so in
-    on_err _ _ answer.result so (λ why so. inr (so_read x (contents lists) read some c.in_ok-read.ensures (λ (checks : RevocationChecks). IsSoOfEither (asked_fields c.args.order.now) c.args.path.now checks c.args.at (option_map (λ (r : Bor ResourceFields). r.now) c.args.issuer) c.args.prepared.now c.args.signature.now why) so))
+    let so = subst (λ (g : GivenFields).
+    IfErr answer.result
+    (λ why. IsSoOfEither (asked_fields c.args.order.now) c.args.path.now (by_named_lists g.names x g.lists)
+    c.args.at (option_map (λ (r : Bor ResourceFields). r.now) c.args.issuer) c.args.prepared.now
+    c.args.signature.now why)) given answer.ensures.so in
+    on_err _ _ answer.result so
+    (λ why so. inr
+    (so_read x (contents lists) read some c.in_ok-read.ensures
+    (λ (checks : RevocationChecks). IsSoOfEither (asked_fields c.args.order.now) c.args.path.now checks
+    c.args.at (option_map (λ (r : Bor ResourceFields). r.now) c.args.issuer) c.args.prepared.now
+    c.args.signature.now why) so))

@@ -16,9 +16,13 @@ use Rattle.rpki_requests.proofs.fulfilling.made_below.Goals as goal
 pub returns-in_err-octets-clause-refused : goal.returns-in_err-octets-clause-refused
 returns-in_err-octets-clause-refused g c =
     let issuer = option_map (λ (r : Bor ResourceFields). r.now) c.args.issuer in
-    let none : (f : ListFields Revoked) → IsTbsCertList f c.args.prepared.now → ⊥ = rw c.in_default.is at c.in_ok-list.ensures in
+    let none : (f : ListFields Revoked) → IsTbsCertList f c.args.prepared.now →
+    ⊥ = rw c.in_default.is at c.in_ok-list.ensures in
     let same : c.from_residual-in_err-octets.result ≡ Err c.in_err-octets.field-0.0 = search rules in
-    rw same (λ not. none_as_certificate (asked_fields c.args.order.now) c.args.at c.args.path.now c.args.prepared.now c.args.signature.now (g.R.RevocationSource.asks c.args.source.now (context_of (asked_fields c.args.order.now) c.args.at)) none issuer (c.in_err-octets.ensures.refused not))
+    rw same (λ not. none_as_certificate (asked_fields c.args.order.now) c.args.at c.args.path.now
+    c.args.prepared.now c.args.signature.now
+    (g.R.RevocationSource.asks c.args.source.now (context_of (asked_fields c.args.order.now) c.args.at)) none
+    issuer (c.in_err-octets.ensures.refused not))
 
 pub returns-in_default-issuer-clause-refused : goal.returns-in_default-issuer-clause-refused
 returns-in_default-issuer-clause-refused g c = λ not given p.
@@ -26,9 +30,11 @@ returns-in_default-issuer-clause-refused g c = λ not given p.
     let checks = g.R.RevocationSource.asks c.args.source.now (context_of asked c.args.at) in
     let prepared = c.args.prepared.now in
     let signature = c.args.signature.now in
-    let found : IsOnly (λ (f : ListFields Revoked). IsTbsCertList f prepared) c.in-Some.list = rw c.in-Some.is at c.in_ok-list.ensures in
+    let found : IsOnly (λ (f : ListFields Revoked). IsTbsCertList f prepared) c.in-Some.list =
+    rw c.in-Some.is at c.in_ok-list.ensures in
     none_without asked c.args.at c.args.path.now prepared signature c.in-Some.list found.0 checks given
-    (subst (λ (o : Option (Bor ResourceFields)). CompletesAs asked c.args.path.now checks c.args.at (option_map (λ (r : Bor ResourceFields). r.now) o) prepared signature given) c.in_default-issuer.is p)
+    (subst (λ (o : Option (Bor ResourceFields)). CompletesAs asked c.args.path.now checks c.args.at
+    (option_map (λ (r : Bor ResourceFields). r.now) o) prepared signature given) c.in_default-issuer.is p)
 
 pub returns-in_err-octets-2-clause-refused : goal.returns-in_err-octets-2-clause-refused
 returns-in_err-octets-2-clause-refused g c =
@@ -36,11 +42,16 @@ returns-in_err-octets-2-clause-refused g c =
     let checks = g.R.RevocationSource.asks c.args.source.now (context_of asked c.args.at) in
     let prepared = c.args.prepared.now in
     let signature = c.args.signature.now in
-    let found : IsOnly (λ (f : ListFields Revoked). IsTbsCertList f prepared) c.in-Some.list = rw c.in-Some.is at c.in_ok-list.ensures in
+    let found : IsOnly (λ (f : ListFields Revoked). IsTbsCertList f prepared) c.in-Some.list =
+    rw c.in-Some.is at c.in_ok-list.ensures in
     let same : c.from_residual-in_err-octets-2.result ≡ Err c.in_err-octets-2.field-0.0 = search rules in
-    rw same (λ not given p. none_as_list asked c.args.at c.args.path.now prepared signature c.in-Some.list found.0 checks c.in-Some-issuer.issuer.now
-    (λ octets is. c.in_err-octets-2.ensures.refused not octets (subst (λ (l : List ℕ). CompletesListBelow asked c.args.at c.in-Some-issuer.issuer.now.cert.fields l signature octets) (sym c.deref.ensures) is)) given
-    (subst (λ (o : Option (Bor ResourceFields)). CompletesAs asked c.args.path.now checks c.args.at (option_map (λ (r : Bor ResourceFields). r.now) o) prepared signature given) c.in-Some-issuer.is p))
+    rw same (λ not given p. none_as_list asked c.args.at c.args.path.now prepared signature c.in-Some.list found.0
+    checks c.in-Some-issuer.issuer.now
+    (λ octets is. c.in_err-octets-2.ensures.refused not octets
+    (subst (λ (l : List ℕ). CompletesListBelow asked c.args.at c.in-Some-issuer.issuer.now.cert.fields l
+    signature octets) (sym c.deref.ensures) is)) given
+    (subst (λ (o : Option (Bor ResourceFields)). CompletesAs asked c.args.path.now checks c.args.at
+    (option_map (λ (r : Bor ResourceFields). r.now) o) prepared signature given) c.in-Some-issuer.is p))
 
 pub returns-in_err-list-clause-so : goal.returns-in_err-list-clause-so
 returns-in_err-list-clause-so g c =
@@ -49,17 +60,21 @@ returns-in_err-list-clause-so g c =
 
 pub returns-in_err-octets-clause-so : goal.returns-in_err-octets-clause-so
 returns-in_err-octets-clause-so g c =
-    let none : (f : ListFields Revoked) → IsTbsCertList f c.args.prepared.now → ⊥ = rw c.in_default.is at c.in_ok-list.ensures in
+    let none : (f : ListFields Revoked) → IsTbsCertList f c.args.prepared.now →
+    ⊥ = rw c.in_default.is at c.in_ok-list.ensures in
     let same : c.from_residual-in_err-octets.result ≡ Err c.in_err-octets.field-0.0 = search rules in
     rw same (inr (inr (λ list. none list.0 list.1, c.in_err-octets.ensures.so)))
 
 pub returns-in_default-issuer-clause-so : goal.returns-in_default-issuer-clause-so
 returns-in_default-issuer-clause-so g c =
     let prepared = c.args.prepared.now in
-    let found : IsOnly (λ (f : ListFields Revoked). IsTbsCertList f prepared) c.in-Some.list = rw c.in-Some.is at c.in_ok-list.ensures in
+    let found : IsOnly (λ (f : ListFields Revoked). IsTbsCertList f prepared) c.in-Some.list =
+    rw c.in-Some.is at c.in_ok-list.ensures in
     let asked = asked_fields c.args.order.now in
     let signature = c.args.signature.now in
-    let so = subst (λ (o : Option (Bor ResourceFields)). IsSoOfMadeList asked c.args.at (option_map (λ (r : Bor ResourceFields). r.now) o) prepared signature NoIssuer) (sym c.in_default-issuer.is) refl in
+    let so = subst (λ (o : Option (Bor ResourceFields)). IsSoOfMadeList asked c.args.at
+    (option_map (λ (r : Bor ResourceFields). r.now) o) prepared signature NoIssuer)
+    (sym c.in_default-issuer.is) refl in
     inr (inl ((c.in-Some.list, found.0), so))
 
 pub returns-in_err-octets-2-clause-so : goal.returns-in_err-octets-2-clause-so
@@ -67,11 +82,15 @@ returns-in_err-octets-2-clause-so g c =
     let prepared = c.args.prepared.now in
     let why = c.in_err-octets-2.field-0.0 in
     let above = c.in-Some-issuer.issuer.now.cert.fields in
-    let found : IsOnly (λ (f : ListFields Revoked). IsTbsCertList f prepared) c.in-Some.list = rw c.in-Some.is at c.in_ok-list.ensures in
+    let found : IsOnly (λ (f : ListFields Revoked). IsTbsCertList f prepared) c.in-Some.list =
+    rw c.in-Some.is at c.in_ok-list.ensures in
     let asked = asked_fields c.args.order.now in
     let signature = c.args.signature.now in
-    let fault = subst (λ (l : List ℕ). IsMadeListFault asked c.args.at above l signature why) c.deref.ensures c.in_err-octets-2.ensures.so in
-    let so = subst (λ (o : Option (Bor ResourceFields)). IsSoOfMadeList asked c.args.at (option_map (λ (r : Bor ResourceFields). r.now) o) prepared signature why) (sym c.in-Some-issuer.is) fault in
+    let fault = subst (λ (l : List ℕ). IsMadeListFault asked c.args.at above l signature why) c.deref.ensures
+    c.in_err-octets-2.ensures.so in
+    let so = subst (λ (o : Option (Bor ResourceFields)). IsSoOfMadeList asked c.args.at
+    (option_map (λ (r : Bor ResourceFields). r.now) o) prepared signature why) (sym c.in-Some-issuer.is)
+    fault in
     let same : c.from_residual-in_err-octets-2.result ≡ Err why = search rules in
     rw same (inr (inl ((c.in-Some.list, found.0), so)))
 
@@ -83,5 +102,6 @@ returns-clause-accepted g c =
     let x = context_of (asked_fields c.args.order.now) c.args.at in
     let checks = g.R.RevocationSource.asks c.args.source.now x in
     let octets = c.in_ok-octets-2.field-0 in
-    subst (λ (o : Option (Bor ResourceFields)). IsAcceptedMade x checks (option_map (λ (r : Bor ResourceFields). r.now) o) (made.RevocationList octets)) (sym c.in-Some-issuer.is)
+    subst (λ (o : Option (Bor ResourceFields)). IsAcceptedMade x checks
+    (option_map (λ (r : Bor ResourceFields). r.now) o) (made.RevocationList octets)) (sym c.in-Some-issuer.is)
     (c.in-Some.list, c.in_ok-octets-2.ensures.accepted)

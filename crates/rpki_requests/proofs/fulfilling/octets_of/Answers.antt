@@ -10,6 +10,8 @@ loop-file-preserved c =
     let i = c.loop-file.file-index in
     let file = c.file-item.result in
     let low = c.loop-file-test.true in
-    let more = gone_over (contents files) i file.octets (mapped_low (λ file. file.octets) files i low) (mapped_there (λ file. file.octets) files i file low c.file-item.is) in
+    let more = gone_over (contents files) i file.octets (mapped_low (λ file. file.octets) files i low)
+    (mapped_there (λ file. file.octets) files i file low c.file-item.is) in
     let same : c.in_ok-octets.octets ≡ file.octets = search rules in
-    c.in_ok-push.ensures.items ∙ ap (λ (l : List (List ℕ)). l ++ c.in_ok-octets.octets ∷ []) c.loop-file.invariant ∙ ap (λ (o : List ℕ). take i (contents files) ++ o ∷ []) same ∙ sym more
+    c.in_ok-push.ensures.items ∙ ap (λ (l : List (List ℕ)). l ++ c.in_ok-octets.octets ∷ []) c.loop-file.invariant ∙
+    ap (λ (o : List ℕ). take i (contents files) ++ o ∷ []) same ∙ sym more

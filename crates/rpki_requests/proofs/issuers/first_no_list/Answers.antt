@@ -14,12 +14,15 @@ loop-place-preserved c =
     let file = c.index-lists-place.result in
     let low : place < length lists = omega arith in
     let begins : IsList file.octets = search rules in
-    let here = subst IsList (mapped_there (λ (f : FileFields). f.octets) lists place file low c.index-lists-place.is) begins in
-    All-more IsList (contents lists) place file.octets (mapped_low (λ (f : FileFields). f.octets) lists place low) c.loop-place.invariant here
+    let here = subst IsList
+    (mapped_there (λ (f : FileFields). f.octets) lists place file low c.index-lists-place.is) begins in
+    All-more IsList (contents lists) place file.octets (mapped_low (λ (f : FileFields). f.octets) lists place low)
+    c.loop-place.invariant here
 
 pub returns : goal.returns
 returns c =
     let lists = c.args.lists.now in
     let place = c.loop-place.place in
     let high : length lists ≤ place = omega arith in
-    subst (All IsList) (take_all place (contents lists) (mapped_high (λ (f : FileFields). f.octets) lists place high)) c.loop-place.invariant
+    subst (All IsList) (take_all place (contents lists)
+    (mapped_high (λ (f : FileFields). f.octets) lists place high)) c.loop-place.invariant

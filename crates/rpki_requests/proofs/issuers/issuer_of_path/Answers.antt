@@ -14,7 +14,8 @@ use Rattle.rpki_requests.proofs.issuers.issuer_of_path.Goals as goal
 pub returns-in-None-clause-only : goal.returns-in-None-clause-only
 returns-in-None-clause-only c =
     let empty : contents c.args.files.now ≡ [] = search rules in
-    none_only (context IsSignedByRsa c.args.at c.args.strict) (contents c.args.files.now) (contents c.args.lists.now) empty
+    none_only (context IsSignedByRsa c.args.at c.args.strict) (contents c.args.files.now)
+    (contents c.args.lists.now) empty
 
 pub returns-in_err-authority_of-in-Some-Accepted-clause-none :
     goal.returns-in_err-authority_of-in-Some-Accepted-clause-none
@@ -23,8 +24,11 @@ returns-in_err-authority_of-in-Some-Accepted-clause-none c =
     let files = contents c.args.files.now in
     let lists = contents c.args.lists.now in
     let on : IsVerdictBy x chained files lists (Accepted c.in-Some-Accepted.judged) = search rules in
-    let same : c.from_residual-in_err-authority_of-in-Some-Accepted.result ≡ Err c.in_err-authority_of-in-Some-Accepted.field-0.0 = search rules in
-    rw same (λ not issuer is. authority_none x files lists c.in-Some-Accepted.judged on (λ j i. c.one_acceptance.ensures c.args.at c.args.strict chained files lists j i) c.in_err-authority_of-in-Some-Accepted.ensures.no_authority.1 issuer is)
+    let same : c.from_residual-in_err-authority_of-in-Some-Accepted.result ≡
+    Err c.in_err-authority_of-in-Some-Accepted.field-0.0 = search rules in
+    rw same (λ not issuer is. authority_none x files lists c.in-Some-Accepted.judged on
+    (λ j i. c.one_acceptance.ensures c.args.at c.args.strict chained files lists j i)
+    c.in_err-authority_of-in-Some-Accepted.ensures.no_authority.1 issuer is)
 
 pub returns-in_ok-authority_of-in-Some-Accepted-clause-issuer :
     goal.returns-in_ok-authority_of-in-Some-Accepted-clause-issuer
@@ -34,7 +38,8 @@ returns-in_ok-authority_of-in-Some-Accepted-clause-issuer c =
     let lists = contents c.args.lists.now in
     let on : IsVerdictBy x chained files lists (Accepted c.in-Some-Accepted.judged) = search rules in
     let holds = c.in_ok-authority_of-in-Some-Accepted.ensures.holder in
-    authority_held x files lists c.in-Some-Accepted.judged on c.in_ok-authority_of-in-Some-Accepted.field-0 holds.0 holds.1
+    authority_held x files lists c.in-Some-Accepted.judged on c.in_ok-authority_of-in-Some-Accepted.field-0 holds.0
+    holds.1
 
 pub returns-in_ok-authority_of-in-Some-Accepted-clause-only :
     goal.returns-in_ok-authority_of-in-Some-Accepted-clause-only
@@ -43,7 +48,9 @@ returns-in_ok-authority_of-in-Some-Accepted-clause-only c =
     let files = contents c.args.files.now in
     let lists = contents c.args.lists.now in
     let on : IsVerdictBy x chained files lists (Accepted c.in-Some-Accepted.judged) = search rules in
-    authority_only x files lists c.in-Some-Accepted.judged on (λ j i. c.one_acceptance.ensures c.args.at c.args.strict chained files lists j i) c.in_ok-authority_of-in-Some-Accepted.field-0 c.in_ok-authority_of-in-Some-Accepted.ensures.holder.0
+    authority_only x files lists c.in-Some-Accepted.judged on
+    (λ j i. c.one_acceptance.ensures c.args.at c.args.strict chained files lists j i)
+    c.in_ok-authority_of-in-Some-Accepted.field-0 c.in_ok-authority_of-in-Some-Accepted.ensures.holder.0
 
 pub returns-in-Some-Rejected-clause-none : goal.returns-in-Some-Rejected-clause-none
 returns-in-Some-Rejected-clause-none c = λ not.
@@ -51,7 +58,9 @@ returns-in-Some-Rejected-clause-none c = λ not.
     let files = contents c.args.files.now in
     let lists = contents c.args.lists.now in
     let on : IsVerdictBy x chained files lists (Rejected c.in-Some-Rejected.fault) = search rules in
-    rejected_none x files lists c.in-Some-Rejected.fault (λ j a b. c.one_answer.ensures c.args.at c.args.strict chained files lists j c.in-Some-Rejected.fault a b) on
+    rejected_none x files lists c.in-Some-Rejected.fault
+    (λ j a b. c.one_answer.ensures c.args.at c.args.strict chained files lists j c.in-Some-Rejected.fault a b)
+    on
 
 pub returns-in_err-authority_of-in-Some-Accepted-clause-told :
     goal.returns-in_err-authority_of-in-Some-Accepted-clause-told
@@ -63,4 +72,5 @@ returns-in_err-authority_of-in-Some-Accepted-clause-told c =
     let why = c.in_err-authority_of-in-Some-Accepted.field-0.0 in
     let none = c.in_err-authority_of-in-Some-Accepted.ensures.no_authority in
     let same : c.from_residual-in_err-authority_of-in-Some-Accepted.result ≡ Err why = search rules in
-    rw same (subst (λ (w : Refusal). TellsPath x files lists w) (sym none.0) (record { judged = c.in-Some-Accepted.judged; accepted = on; no_authority = none.1 }))
+    rw same (subst (λ (w : Refusal). TellsPath x files lists w) (sym none.0)
+    (record { judged = c.in-Some-Accepted.judged; accepted = on; no_authority = none.1 }))

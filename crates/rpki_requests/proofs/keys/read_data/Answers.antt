@@ -7,18 +7,23 @@ use Rattle.rpki_requests.proofs.keys.read_data.Goals as goal
 
 pub returns-then-is_empty : goal.returns-then-is_empty
 returns-then-is_empty c =
-    let is = whole_is IsTbsCertificate c.in-Ok.tbs (remaining c.new-cursor.result) c.args.octets.now (remaining c.from_constructed.new.cursor) c.new-cursor.ensures.all (c.is_empty.ensures.0 c.if-is_empty.true) c.in-Ok.ensures.encoded in
+    let is = whole_is IsTbsCertificate c.in-Ok.tbs (remaining c.new-cursor.result) c.args.octets.now
+    (remaining c.from_constructed.new.cursor) c.new-cursor.ensures.all
+    (c.is_empty.ensures.0 c.if-is_empty.true) c.in-Ok.ensures.encoded in
     (is, λ w h. whole_only IsTbsCertificate c.unambiguous.ensures.data c.in-Ok.tbs w c.args.octets.now is h)
 
 pub returns-else-is_empty : goal.returns-else-is_empty
 returns-else-is_empty c =
     let none : (f : TbsFields) → IsTbsCertificate f c.args.octets.now → ⊥ = λ w h.
-    none_whole IsTbsCertificate c.unambiguous.ensures.data c.in-Ok.tbs w (remaining c.new-cursor.result) c.args.octets.now (remaining c.from_constructed.new.cursor) c.new-cursor.ensures.all
+    none_whole IsTbsCertificate c.unambiguous.ensures.data c.in-Ok.tbs w (remaining c.new-cursor.result)
+    c.args.octets.now (remaining c.from_constructed.new.cursor) c.new-cursor.ensures.all
     (λ nil. false≢true (sym c.if-is_empty.false ∙ c.is_empty.ensures.1 nil)) c.in-Ok.ensures.encoded h in
     (none, λ not. none)
 
 pub returns-else-is_memory : goal.returns-else-is_memory
 returns-else-is_memory c =
     let none : (f : TbsFields) → IsTbsCertificate f c.args.octets.now → ⊥ = λ w h.
-    unread_whole IsTbsCertificate c.in-Err.error (λ same. false≢true (sym c.if-is_memory.false ∙ c.is_memory-is_memory.ensures.1 same)) (remaining c.new-cursor.result) c.args.octets.now c.new-cursor.ensures.all c.in-Err.ensures.encoded w h in
+    unread_whole IsTbsCertificate c.in-Err.error
+    (λ same. false≢true (sym c.if-is_memory.false ∙ c.is_memory-is_memory.ensures.1 same))
+    (remaining c.new-cursor.result) c.args.octets.now c.new-cursor.ensures.all c.in-Err.ensures.encoded w h in
     (none, λ not. none)

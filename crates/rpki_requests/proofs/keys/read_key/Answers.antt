@@ -7,5 +7,8 @@ use Rattle.rpki_requests.proofs.keys.read_key.Goals as goal
 
 pub returns-in-Ok : goal.returns-in-Ok
 returns-in-Ok c =
-    let is : IsPublicKey c.in-Ok.key c.args.octets.now = search rules in
-    (is, λ w h. whole_only IsPublicKey (alone_means public_key_format public_key_alone) c.in-Ok.key w c.args.octets.now is h)
+    let is : IsPublicKey c.in-Ok.key c.args.octets.now = search rules in (
+      is,
+      λ w h. whole_only IsPublicKey (alone_means public_key_format public_key_alone) c.in-Ok.key w
+          c.args.octets.now is h,
+    )

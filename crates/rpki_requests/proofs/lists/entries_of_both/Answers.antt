@@ -7,4 +7,5 @@ pub returns : goal.returns
 returns c =
     let serials : c.deref.result.now ≡ c.args.by_files.now ++ c.args.by_numbers.now = search rules in
     entries_seen c.args.at (c.args.by_files.now ++ c.args.by_numbers.now) c.entries_at-all.result
-    (subst (λ (l : List ℕ). IfOk c.entries_at-all.result (λ v. v.items ≡ map (made_at c.args.at) l)) serials c.entries_at-all.ensures)
+    (subst (λ (l : List ℕ). IfOk c.entries_at-all.result (λ v. v.items ≡ map (made_at c.args.at) l)) serials
+    c.entries_at-all.ensures)

@@ -17,7 +17,9 @@ returns-in_ok-all-in-Ok c =
     let at = c.args.at in
     let by_files = c.in-Ok.by_files in
     let by_numbers = c.in-Ok.by_numbers in
-    let all = both_revoked given files issuer at (λ v. v.items) (λ v. v.items) c.serials_of-by_files.result c.serials_given-by_numbers.result c.both.result c.both.ensures.both c.both.ensures.refused c.serials_of-by_files.ensures c.serials_given-by_numbers.ensures in
+    let all = both_revoked given files issuer at (λ v. v.items) (λ v. v.items) c.serials_of-by_files.result
+    c.serials_given-by_numbers.result c.both.result c.both.ensures.both c.both.ensures.refused
+    c.serials_of-by_files.ensures c.serials_given-by_numbers.ensures in
     let only = by_ok (IsWantedFault given files issuer) _ _ c.both.result (by_files, by_numbers) c.in-Ok.is all in
     let serials = ap (λ (l : List ℕ). map (revoked_at at) (l ++ c.deref-in-Ok.result.now)) c.deref.ensures.value
     ∙ ap (λ (l : List ℕ). map (revoked_at at) (by_files.items ++ l)) c.deref-in-Ok.ensures.value in
@@ -33,6 +35,8 @@ returns-in-Err c =
     let given = map given_fields c.args.order.now.given.items in
     let files = contents c.args.files.now in
     let issuer = c.args.issuer.now in
-    let all = both_revoked given files issuer c.args.at (λ v. v.items) (λ v. v.items) c.serials_of-by_files.result c.serials_given-by_numbers.result c.both.result c.both.ensures.both c.both.ensures.refused c.serials_of-by_files.ensures c.serials_given-by_numbers.ensures in
+    let all = both_revoked given files issuer c.args.at (λ v. v.items) (λ v. v.items) c.serials_of-by_files.result
+    c.serials_given-by_numbers.result c.both.result c.both.ensures.both c.both.ensures.refused
+    c.serials_of-by_files.ensures c.serials_given-by_numbers.ensures in
     let none = by_err (IsWantedFault given files issuer) _ _ c.both.result c.in-Err.why c.in-Err.is all in
     (none.0, λ not. entries_none given files issuer c.args.at (none.1 not))

@@ -7,8 +7,10 @@ returns-in_default c = λ w h. c.in_default.ensures (w, h.is_list)
 
 pub returns-then-not-is_own : goal.returns-then-not-is_own
 returns-then-not-is_own c =
-    own_not c.args.issuer.now.cert.fields c.args.file.now.octets c.unambiguous.ensures.list c.in-Some.list.now.list c.in-Some.ensures (λ own. false≢true (c.if-not-is_own.ensures.1 own))
+    own_not c.args.issuer.now.cert.fields c.args.file.now.octets c.unambiguous.ensures.list c.in-Some.list.now.list
+    c.in-Some.ensures (λ own. false≢true (c.if-not-is_own.ensures.1 own))
 
 pub returns : goal.returns
 returns c =
-    own_is c.args.issuer.now.cert.fields c.args.file.now.octets c.unambiguous.ensures.list c.in-Some.list.now.list c.in-Some.ensures (c.is_own.ensures.0 c.if-not-is_own.false)
+    own_is c.args.issuer.now.cert.fields c.args.file.now.octets c.unambiguous.ensures.list c.in-Some.list.now.list
+    c.in-Some.ensures (c.is_own.ensures.0 c.if-not-is_own.false)

@@ -5,4 +5,5 @@ use Rattle.rpki_requests.proofs.lists.serials_of.Given as goal
 
 -- of the files so far these are the only ones
 abbrev pub invariant-loop-place : goal.invariant-loop-place
-invariant-loop-place l = AreOnlySoFar (IsRevokedFile l.issuer) (λ (f : FileFields). f.octets) l.files l.place l.serials.items
+invariant-loop-place l = AreOnlySoFar (IsRevokedFile l.issuer) (λ (f : FileFields). f.octets) l.files l.place
+    l.serials.items

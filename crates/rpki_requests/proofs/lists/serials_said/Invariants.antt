@@ -6,4 +6,6 @@ use Rattle.rpki_requests.proofs.lists.serials_said.Given as goal
 
 -- of the texts so far these are the only ones
 abbrev pub invariant-loop-text : goal.invariant-loop-text
-invariant-loop-text l = IsOnly (λ (vs : List ℕ). AllZip IsSerialText vs (map (λ t. t.now) (take l.text-index l.texts))) l.serials.items
+invariant-loop-text l =
+    IsOnly (λ (vs : List ℕ). AllZip IsSerialText vs (map (λ t. t.now) (take l.text-index l.texts)))
+    l.serials.items

@@ -15,14 +15,19 @@ use Rattle.rpki_requests.proofs.lists.wanted_list.Goals as goal
 pub returns-in-Err : goal.returns-in-Err
 returns-in-Err c =
     let given = map given_fields c.args.order.now.given.items in
-    let Is : Option ℕ → Type 0 = λ n. SaysAtMostOnce IsSerialText (values_of Number given) n in
-    (inl (value_told (HasListValue given) Number Is c.in-Err.why (λ h. h) c.in-Err.ensures.0 c.in-Err.ensures.1), λ not w h. c.in-Err.ensures.1 not w.number h.number_is)
+    let Is : Option ℕ → Type 0 = λ n. SaysAtMostOnce IsSerialText (values_of Number given) n in (
+      inl (value_told (HasListValue given) Number Is c.in-Err.why (λ h. h) c.in-Err.ensures.0 c.in-Err.ensures.1),
+      λ not w h. c.in-Err.ensures.1 not w.number h.number_is,
+    )
 
 pub returns-in-Err-moment : goal.returns-in-Err-moment
 returns-in-Err-moment c =
     let given = map given_fields c.args.order.now.given.items in
-    let Is : Moment → Type 0 = λ m. SaysOnce IsMomentSaid (values_of NextUpdate given) m in
-    (inl (value_told (HasListValue given) NextUpdate Is c.in-Err-moment.why (λ h. h) c.in-Err-moment.ensures.0 c.in-Err-moment.ensures.1), λ not w h. c.in-Err-moment.ensures.1 not w.next_update h.next_update_is)
+    let Is : Moment → Type 0 = λ m. SaysOnce IsMomentSaid (values_of NextUpdate given) m in (
+      inl (value_told (HasListValue given) NextUpdate Is c.in-Err-moment.why (λ h. h) c.in-Err-moment.ensures.0
+          c.in-Err-moment.ensures.1),
+      λ not w h. c.in-Err-moment.ensures.1 not w.next_update h.next_update_is,
+    )
 
 pub returns-in_err-revoked : goal.returns-in_err-revoked
 returns-in_err-revoked c =
@@ -32,4 +37,5 @@ returns-in_err-revoked c =
 pub returns : goal.returns
 returns c =
     let given = map given_fields c.args.order.now.given.items in
-    list_ok given (contents c.args.files.now) c.args.issuer.now c.args.at c.in-Ok.number c.in-Ok-moment.moment _ c.in-Ok.ensures c.in-Ok-moment.ensures c.in_ok-revoked.ensures
+    list_ok given (contents c.args.files.now) c.args.issuer.now c.args.at c.in-Ok.number c.in-Ok-moment.moment
+    _ c.in-Ok.ensures c.in-Ok-moment.ensures c.in_ok-revoked.ensures

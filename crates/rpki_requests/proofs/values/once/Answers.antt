@@ -12,4 +12,5 @@ returns-in_err-value g c =
 
 pub returns-in-Some : goal.returns-in-Some
 returns-in-Some g c =
-    once_ok g.T.Textual.is_text (values_of c.args.setting (map given_fields c.args.order.now.given.items)) c.in-Some.value (rw c.in-Some.is at c.in_ok-value.ensures)
+    once_ok g.T.Textual.is_text (values_of c.args.setting (map given_fields c.args.order.now.given.items))
+    c.in-Some.value (rw c.in-Some.is at c.in_ok-value.ensures)

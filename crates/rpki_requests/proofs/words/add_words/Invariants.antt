@@ -8,4 +8,5 @@ use Rattle.rpki_requests.proofs.words.add_words.Given as goal
 
 abbrev pub invariant-loop-word : goal.invariant-loop-word
 invariant-loop-word l =
-    AreAdded request_grammar with_part (word_octets (take l.word-index l.words)) (asked_fields l.fn.asked) (asked_fields l.asked) l.awaiting
+    AreAdded request_grammar with_part (word_octets (take l.word-index l.words)) (asked_fields l.fn.asked)
+    (asked_fields l.asked) l.awaiting

@@ -9,7 +9,10 @@ returns-else-has_word c =
       λ so. inr (subst (λ (l : List (List ℕ)). Contains l (codes "-h")) same (c.has_word-else-has_word.ensures.0 so)),
       λ asks. elim asks [
         | inl long ↦
-            absurd (false≢true (sym c.if-has_word.false ∙ c.has_word.ensures.1 (subst (λ (l : List (List ℕ)). Contains l (codes "--help")) (sym same) long)))
-        | inr short ↦ c.has_word-else-has_word.ensures.1 (subst (λ (l : List (List ℕ)). Contains l (codes "-h")) (sym same) short)
+            absurd (false≢true (sym c.if-has_word.false ∙
+            c.has_word.ensures.1
+            (subst (λ (l : List (List ℕ)). Contains l (codes "--help")) (sym same) long)))
+        | inr short ↦ c.has_word-else-has_word.ensures.1
+            (subst (λ (l : List (List ℕ)). Contains l (codes "-h")) (sym same) short)
       ],
     )

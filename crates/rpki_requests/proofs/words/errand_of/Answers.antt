@@ -10,8 +10,12 @@ returns-then-not-is-clause-told c =
     inl (
       behind,
       split,
-      (λ is. true≢false (sym (c.is-2.ensures.1 (c.as_slice-2.ensures.value ∙ sym c.as_slice-then-not-is.ensures.value ∙ is)) ∙ c.if-not-is.true)),
-      (λ is. true≢false (sym (c.is.ensures.1 (c.as_slice.ensures.value ∙ sym c.as_slice-then-not-is.ensures.value ∙ is)) ∙ c.if-is.false)),
+      (λ is. true≢false (sym
+          (c.is-2.ensures.1 (c.as_slice-2.ensures.value ∙ sym c.as_slice-then-not-is.ensures.value ∙ is)) ∙
+          c.if-not-is.true)),
+      (λ is. true≢false (sym
+          (c.is.ensures.1 (c.as_slice.ensures.value ∙ sym c.as_slice-then-not-is.ensures.value ∙ is)) ∙
+          c.if-is.false)),
     )
 
 pub returns-in-None-clause-told : goal.returns-in-None-clause-told
@@ -23,5 +27,7 @@ returns-in-None-clause-told c =
     inr (
       rest,
       split ∙ ap (λ (w : List ℕ). w ∷ second ∷ rest) first_is,
-      (λ errand is. c.in-None.ensures.unknown errand (is ∙ ap (λ (w : List ℕ). codes "prepare" ∷ w ∷ []) (c.as_slice-in-None.ensures.value ∙ sym c.as_slice-3.ensures.value))),
+      (λ errand is. c.in-None.ensures.unknown errand
+          (is ∙ ap (λ (w : List ℕ). codes "prepare" ∷ w ∷ [])
+          (c.as_slice-in-None.ensures.value ∙ sym c.as_slice-3.ensures.value))),
     )

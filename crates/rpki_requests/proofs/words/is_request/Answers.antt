@@ -6,15 +6,20 @@ use Rattle.rpki_requests.proofs.words.is_request.Goals as goal
 
 pub returns-then-is : goal.returns-then-is
 returns-then-is c =
-    let split : word_octets c.args.words.now ≡ c.as_slice-word.result.now ∷ word_octets c.in-Some._rest.now = search rules in
-    (λ so. (c.as_slice-word.result.now, word_octets c.in-Some._rest.now, split, inl (c.is.ensures.0 so)), λ begins. c.if-is.true)
+    let split : word_octets c.args.words.now ≡ c.as_slice-word.result.now ∷ word_octets c.in-Some._rest.now =
+    search rules in (
+      λ so. (c.as_slice-word.result.now, word_octets c.in-Some._rest.now, split, inl (c.is.ensures.0 so)),
+      λ begins. c.if-is.true,
+    )
 
 pub returns-else-is : goal.returns-else-is
 returns-else-is c =
-    let split : word_octets c.args.words.now ≡ c.as_slice-word.result.now ∷ word_octets c.in-Some._rest.now = search rules in (
+    let split : word_octets c.args.words.now ≡ c.as_slice-word.result.now ∷ word_octets c.in-Some._rest.now =
+    search rules in (
       λ so. (c.as_slice-word.result.now, word_octets c.in-Some._rest.now, split, inr (c.is-else-is.ensures.0 so)),
-      λ begins. elim (first_is (word_octets c.args.words.now) c.as_slice-word.result.now (word_octets c.in-Some._rest.now) split begins) [
-        | inl prepare ↦ absurd (true≢false (sym (c.is.ensures.1 prepare) ∙ c.if-is.false))
-        | inr complete ↦ c.is-else-is.ensures.1 complete
-      ],
+      λ begins. elim (first_is (word_octets c.args.words.now) c.as_slice-word.result.now
+          (word_octets c.in-Some._rest.now) split begins) [
+            | inl prepare ↦ absurd (true≢false (sym (c.is.ensures.1 prepare) ∙ c.if-is.false))
+            | inr complete ↦ c.is-else-is.ensures.1 complete
+          ],
     )

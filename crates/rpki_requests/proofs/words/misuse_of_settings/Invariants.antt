@@ -8,4 +8,6 @@ use Rattle.rpki_requests.proofs.words.misuse_of_settings.Given as goal
 
 -- each option so far stands as often as is demanded
 abbrev pub invariant-loop-setting : goal.invariant-loop-setting
-invariant-loop-setting l = (k : ℕ) → k < l.setting-index → Meets (demand (get_or settings k Issuer) l.asked.errand) (length (values_of (get_or settings k Issuer) (map given_fields l.asked.given.items)))
+invariant-loop-setting l = (k : ℕ) → k < l.setting-index →
+    Meets (demand (get_or settings k Issuer) l.asked.errand)
+    (length (values_of (get_or settings k Issuer) (map given_fields l.asked.given.items)))

@@ -11,8 +11,11 @@ use Rattle.rpki_requests.proofs.words.read_request.Goals as goal
 pub returns-in_err-add_words-clause-rejected : goal.returns-in_err-add_words-clause-rejected
 returns-in_err-add_words-clause-rejected c =
     let is : c.from_residual-in_err-add_words.result ≡ Err c.in_err-add_words.field-0.0 = search rules in
-    rw is (λ not_memory. no_parts (word_octets c.args.words.now) c.in_ok-errand.errand (word_octets c.in_ok-errand.rest.now) c.in_ok-errand.ensures.named
-    (λ parts are. c.in_err-add_words.ensures.unknown not_memory parts (subst (λ (l : List (List ℕ)). AreInOrder IsRequestPart parts l) (sym c.around_dashes.ensures.before) are)))
+    rw is (λ not_memory. no_parts (word_octets c.args.words.now) c.in_ok-errand.errand
+    (word_octets c.in_ok-errand.rest.now) c.in_ok-errand.ensures.named
+    (λ parts are. c.in_err-add_words.ensures.unknown not_memory parts
+    (subst (λ (l : List (List ℕ)). AreInOrder IsRequestPart parts l) (sym c.around_dashes.ensures.before)
+    are)))
 
 pub returns-in_err-add_words-clause-told : goal.returns-in_err-add_words-clause-told
 returns-in_err-add_words-clause-told c =
@@ -21,34 +24,51 @@ returns-in_err-add_words-clause-told c =
       c.in_ok-errand.errand,
       word_octets c.in_ok-errand.rest.now,
       c.in_ok-errand.ensures.named,
-      inl (subst (λ (l : List (List ℕ)). IsFirstWrong IsRequestPart IsWrongFirst c.in_err-add_words.field-0.0 l) c.around_dashes.ensures.before (c.in_err-add_words.ensures.told not_memory)),
+      inl (subst (λ (l : List (List ℕ)). IsFirstWrong IsRequestPart IsWrongFirst c.in_err-add_words.field-0.0 l)
+          c.around_dashes.ensures.before (c.in_err-add_words.ensures.told not_memory)),
     ))
 
 pub returns-in-Some-clause-told : goal.returns-in-Some-clause-told
 returns-in-Some-clause-told c = λ not_memory.
     let mid = asked_fields c.add_words.new.asked in
-    let begun = subst (λ (a : AskedFields). AddsParts IsRequestPart with_part (word_octets c.around_dashes.result.0.now) a mid) c.new_asked-asked.ensures c.in_ok-add_words.ensures.added in
-    let adds = subst (λ (l : List (List ℕ)). AddsParts IsRequestPart with_part l (only_errand c.in_ok-errand.errand) mid) c.around_dashes.ensures.before begun in
-    let files = c.in_ok-add_files.ensures.added ∙ ap (λ (l : List (List ℕ)). fold with_part mid (map file l)) c.around_dashes.ensures.behind in
+    let begun = subst (λ (a : AskedFields). AddsParts IsRequestPart with_part
+    (word_octets c.around_dashes.result.0.now) a mid) c.new_asked-asked.ensures
+    c.in_ok-add_words.ensures.added in
+    let adds = subst (λ (l : List (List ℕ)). AddsParts IsRequestPart with_part l (only_errand c.in_ok-errand.errand)
+    mid) c.around_dashes.ensures.before begun in
+    let files = c.in_ok-add_files.ensures.added ∙ ap (λ (l : List (List ℕ)). fold with_part mid (map file l))
+    c.around_dashes.ensures.behind in
     inr (
       c.in_ok-errand.errand,
       word_octets c.in_ok-errand.rest.now,
       c.in_ok-errand.ensures.named,
-      inr (reason_told (word_octets c.args.words.now) c.in_ok-errand.errand (word_octets c.in_ok-errand.rest.now) c.in_ok-errand.ensures.named mid (asked_fields c.add_files.new.asked) adds files _ c.in-Some.ensures.told),
+      inr (reason_told (word_octets c.args.words.now) c.in_ok-errand.errand (word_octets c.in_ok-errand.rest.now)
+          c.in_ok-errand.ensures.named mid (asked_fields c.add_files.new.asked) adds files
+          _ c.in-Some.ensures.told),
     )
 
 pub returns-in-Some-clause-rejected : goal.returns-in-Some-clause-rejected
 returns-in-Some-clause-rejected c = λ not_memory.
     let mid = asked_fields c.add_words.new.asked in
-    let begun = subst (λ (a : AskedFields). AddsParts IsRequestPart with_part (word_octets c.around_dashes.result.0.now) a mid) c.new_asked-asked.ensures c.in_ok-add_words.ensures.added in
-    let adds = subst (λ (l : List (List ℕ)). AddsParts IsRequestPart with_part l (only_errand c.in_ok-errand.errand) mid) c.around_dashes.ensures.before begun in
-    let files = c.in_ok-add_files.ensures.added ∙ ap (λ (l : List (List ℕ)). fold with_part mid (map file l)) c.around_dashes.ensures.behind in
-    unsuited (word_octets c.args.words.now) c.in_ok-errand.errand (word_octets c.in_ok-errand.rest.now) c.in_ok-errand.ensures.named mid (asked_fields c.add_files.new.asked) adds files c.in-Some.ensures.wrong
+    let begun = subst (λ (a : AskedFields). AddsParts IsRequestPart with_part
+    (word_octets c.around_dashes.result.0.now) a mid) c.new_asked-asked.ensures
+    c.in_ok-add_words.ensures.added in
+    let adds = subst (λ (l : List (List ℕ)). AddsParts IsRequestPart with_part l (only_errand c.in_ok-errand.errand)
+    mid) c.around_dashes.ensures.before begun in
+    let files = c.in_ok-add_files.ensures.added ∙ ap (λ (l : List (List ℕ)). fold with_part mid (map file l))
+    c.around_dashes.ensures.behind in
+    unsuited (word_octets c.args.words.now) c.in_ok-errand.errand (word_octets c.in_ok-errand.rest.now)
+    c.in_ok-errand.ensures.named mid (asked_fields c.add_files.new.asked) adds files c.in-Some.ensures.wrong
 
 pub returns-clause-nothing_else : goal.returns-clause-nothing_else
 returns-clause-nothing_else c =
     let mid = asked_fields c.add_words.new.asked in
-    let begun = subst (λ (a : AskedFields). AddsParts IsRequestPart with_part (word_octets c.around_dashes.result.0.now) a mid) c.new_asked-asked.ensures c.in_ok-add_words.ensures.added in
-    let adds = subst (λ (l : List (List ℕ)). AddsParts IsRequestPart with_part l (only_errand c.in_ok-errand.errand) mid) c.around_dashes.ensures.before begun in
-    let files = c.in_ok-add_files.ensures.added ∙ ap (λ (l : List (List ℕ)). fold with_part mid (map file l)) c.around_dashes.ensures.behind in
-    only (word_octets c.args.words.now) c.in_ok-errand.errand (word_octets c.in_ok-errand.rest.now) c.in_ok-errand.ensures.named mid (asked_fields c.add_files.new.asked) adds files
+    let begun = subst (λ (a : AskedFields). AddsParts IsRequestPart with_part
+    (word_octets c.around_dashes.result.0.now) a mid) c.new_asked-asked.ensures
+    c.in_ok-add_words.ensures.added in
+    let adds = subst (λ (l : List (List ℕ)). AddsParts IsRequestPart with_part l (only_errand c.in_ok-errand.errand)
+    mid) c.around_dashes.ensures.before begun in
+    let files = c.in_ok-add_files.ensures.added ∙ ap (λ (l : List (List ℕ)). fold with_part mid (map file l))
+    c.around_dashes.ensures.behind in
+    only (word_octets c.args.words.now) c.in_ok-errand.errand (word_octets c.in_ok-errand.rest.now)
+    c.in_ok-errand.ensures.named mid (asked_fields c.add_files.new.asked) adds files

@@ -7,4 +7,6 @@ use Rattle.rpki_text.proofs.lines.write_colons.Given as goal
 
 abbrev pub invariant-loop-octet : goal.invariant-loop-octet
 invariant-loop-octet g l =
-    IsPlainFormatter l.initial.f → HasWritten g.W.Write.write_str_gives l.initial.f (flat_map (λ more. codes ":" ++ hexadecimal (more ∷ [])) (take l.octet-index l.more)) l.f
+    IsPlainFormatter l.initial.f →
+    HasWritten g.W.Write.write_str_gives l.initial.f
+    (flat_map (λ more. codes ":" ++ hexadecimal (more ∷ [])) (take l.octet-index l.more)) l.f

@@ -17,17 +17,20 @@ loop-file-preserved c =
         counted =
             subst (λ (n : ℕ). AreCounted IsBrokenList (take (i + 1) files) n) (sym w.count-is)
             (subst (λ (l : List FileFields). AreCounted IsBrokenList l (c.loop-file.count + 1)) seen
-            (one_counted IsBrokenList (take i files) file c.loop-file.count c.is_broken_list.result c.is_broken_list.ensures c.loop-file.invariant.counted w.if-is_broken_list.true));
+            (one_counted IsBrokenList (take i files) file c.loop-file.count c.is_broken_list.result
+            c.is_broken_list.ensures c.loop-file.invariant.counted w.if-is_broken_list.true));
         few = omega (arith, w.count-is, c.loop-file.invariant.few);
       }
       | else-is_broken_list w ↦ record {
         counted =
             subst (λ (n : ℕ). AreCounted IsBrokenList (take (i + 1) files) n) (sym w.count-is)
             (subst (λ (l : List FileFields). AreCounted IsBrokenList l c.loop-file.count) seen
-            (none_counted IsBrokenList (take i files) file c.loop-file.count c.is_broken_list.result c.is_broken_list.ensures c.loop-file.invariant.counted w.if-is_broken_list.false));
+            (none_counted IsBrokenList (take i files) file c.loop-file.count c.is_broken_list.result
+            c.is_broken_list.ensures c.loop-file.invariant.counted w.if-is_broken_list.false));
         few = omega (arith, w.count-is, c.loop-file.invariant.few);
       }
     ]
 
 pub returns : goal.returns
-returns c = all_counted IsBrokenList c.args.files.now c.loop-file.file-index c.loop-file.count c.loop-file-test.false c.loop-file.invariant.counted
+returns c = all_counted IsBrokenList c.args.files.now c.loop-file.file-index c.loop-file.count c.loop-file-test.false
+    c.loop-file.invariant.counted

@@ -17,17 +17,20 @@ loop-file-preserved c =
         counted =
             subst (λ (n : ℕ). AreCounted IsOther (take (i + 1) files) n) (sym w.count-is)
             (subst (λ (l : List FileFields). AreCounted IsOther l (c.loop-file.count + 1)) seen
-            (one_counted IsOther (take i files) file c.loop-file.count c.is_other.result c.is_other.ensures c.loop-file.invariant.counted w.if-is_other.true));
+            (one_counted IsOther (take i files) file c.loop-file.count c.is_other.result c.is_other.ensures
+            c.loop-file.invariant.counted w.if-is_other.true));
         few = omega (arith, w.count-is, c.loop-file.invariant.few);
       }
       | else-is_other w ↦ record {
         counted =
             subst (λ (n : ℕ). AreCounted IsOther (take (i + 1) files) n) (sym w.count-is)
             (subst (λ (l : List FileFields). AreCounted IsOther l c.loop-file.count) seen
-            (none_counted IsOther (take i files) file c.loop-file.count c.is_other.result c.is_other.ensures c.loop-file.invariant.counted w.if-is_other.false));
+            (none_counted IsOther (take i files) file c.loop-file.count c.is_other.result c.is_other.ensures
+            c.loop-file.invariant.counted w.if-is_other.false));
         few = omega (arith, w.count-is, c.loop-file.invariant.few);
       }
     ]
 
 pub returns : goal.returns
-returns c = all_counted IsOther c.args.files.now c.loop-file.file-index c.loop-file.count c.loop-file-test.false c.loop-file.invariant.counted
+returns c = all_counted IsOther c.args.files.now c.loop-file.file-index c.loop-file.count c.loop-file-test.false
+    c.loop-file.invariant.counted

@@ -25,7 +25,9 @@ returns c = λ key among.
     let before : option_copied c.get.result ≡ get (slice_cmp nat_cmp) m own =
     c.get.ensures.value ∙ ap (λ (k : List ℕ). get (slice_cmp nat_cmp) m k) c.as_octets.ensures.same in
     not_taken trees c.args.place c.args.file.now c.requires own says m
-    (λ better. false≢true (sym c.if-is_better.false ∙ c.is_better.ensures.1 (subst (λ (o : Option ℕ). StandsBetter trees o c.args.place) (sym before) better)))
+    (λ better. false≢true
+    (sym c.if-is_better.false ∙
+    c.is_better.ensures.1 (subst (λ (o : Option ℕ). StandsBetter trees o c.args.place) (sym before) better)))
     key among
 
 pub returns-in-Ok : goal.returns-in-Ok
@@ -38,8 +40,11 @@ returns-in-Ok c = λ key among.
     (λ h. sym c.in-Some.is ∙ (c.key_of.ensures k).0 h, λ e. (c.key_of.ensures k).1 (c.in-Some.is ∙ e)) in
     let before : option_copied c.get.result ≡ get (slice_cmp nat_cmp) m own =
     c.get.ensures.value ∙ ap (λ (k : List ℕ). get (slice_cmp nat_cmp) m k) c.as_octets.ensures.same in
-    let sets : (q : List ℕ) → get (slice_cmp nat_cmp) n q ≡ cond (is_at (slice_cmp nat_cmp own) q) (Some c.args.place) (get (slice_cmp nat_cmp) m q) =
-    subst (λ (k : List ℕ). (q : List ℕ) → get (slice_cmp nat_cmp) n q ≡ cond (is_at (slice_cmp nat_cmp k) q) (Some c.args.place) (get (slice_cmp nat_cmp) m q)) c.as_octets-then-is_better.ensures.same c.in-Ok.ensures.updates.0 in
+    let sets : (q : List ℕ) → get (slice_cmp nat_cmp) n q ≡ cond (is_at (slice_cmp nat_cmp own) q) (Some c.args.place)
+    (get (slice_cmp nat_cmp) m q) =
+    subst (λ (k : List ℕ). (q : List ℕ) →
+    get (slice_cmp nat_cmp) n q ≡ cond (is_at (slice_cmp nat_cmp k) q) (Some c.args.place)
+    (get (slice_cmp nat_cmp) m q)) c.as_octets-then-is_better.ensures.same c.in-Ok.ensures.updates.0 in
     is_taken trees c.args.place c.args.file.now c.requires own says m n sets
     (subst (λ (o : Option ℕ). StandsBetter trees o c.args.place) before (c.is_better.ensures.0 c.if-is_better.true))
     key among

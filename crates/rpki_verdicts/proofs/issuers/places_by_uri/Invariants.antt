@@ -8,4 +8,6 @@ use Rattle.rpki_verdicts.proofs.issuers.places_by_uri.Given as goal
 
 -- the places so far
 abbrev pub invariant-loop-place : goal.invariant-loop-place
-invariant-loop-place l = (uri : List ℕ) → get (slice_cmp nat_cmp) l.files uri ≡ first_from 0 (map uri_of (map (λ f. placed l.root f.now) (take l.place l.certs))) uri
+invariant-loop-place l = (uri : List ℕ) →
+    get (slice_cmp nat_cmp) l.files uri ≡
+    first_from 0 (map uri_of (map (λ f. placed l.root f.now) (take l.place l.certs))) uri

@@ -16,6 +16,9 @@ returns c = λ q files l keys one other both.
     let w = both.without in
     let v = both.with_them in
     let same : v.locator ≡ w.locator = one_locator l v.locator w.locator v.locator_is w.locator_is in
-    let there = subst (λ (t : NamedTal). IsAnchorAt x (by_named_lists q.names x v.lists) q.names t (contents (certs_of other)) other.anchor) same v.anchor_is in
+    let there = subst (λ (t : NamedTal). IsAnchorAt x (by_named_lists q.names x v.lists) q.names t
+    (contents (certs_of other)) other.anchor) same v.anchor_is in
     begin_alike x q files l one other w v
-    (c.isolated_anchors.ensures.chosen (record {}) q.at q.strict q.names keys (folder_of x q l one w) (folder_of x (about q files) l other v) both.adds w.locator both.own_key one.anchor other.anchor w.anchor_is there)
+    (c.isolated_anchors.ensures.chosen (record {}) q.at q.strict q.names keys (folder_of x q l one w)
+    (folder_of x (about q files) l other v) both.adds w.locator both.own_key one.anchor other.anchor w.anchor_is
+    there)

@@ -5,4 +5,5 @@ use Rattle.rpki_verdicts.proofs.locators.tal_of_key.Given as goal
 
 -- no earlier file was read as a locator of the key
 abbrev pub invariant-loop-place : goal.invariant-loop-place
-invariant-loop-place l = (k : ℕ) → k < l.place → (earlier : LocatorFields) → slice_get l.locators k ≡ Some earlier → HasKeyRead l.key earlier → ⊥
+invariant-loop-place l = (k : ℕ) → k < l.place → (earlier : LocatorFields) → slice_get l.locators k ≡ Some earlier →
+    HasKeyRead l.key earlier → ⊥

@@ -15,13 +15,16 @@ use Rattle.rpki_verdicts.proofs.parts.parts_of.Goals as goal
 use Rattle.rpki_verdicts.proofs.parts.parts_of.Goals.{then-is_of_new_key+in_ok-part_of+in_ok-push, else-is_of_new_key}
 
 -- one part more
-with_part : (old new : List TreePart) (part : TreePart) (seen : List LocatorFields) (l : LocatorFields) → new ≡ old ++ part ∷ [] → part.locator.now ≡ l → AreFirstOfKeys [] seen (map (λ part. part.locator.now) old) → IsOfNewKey seen l → AreFirstOfKeys [] (seen ++ l ∷ []) (map (λ part. part.locator.now) new)
+with_part : (old new : List TreePart) (part : TreePart) (seen : List LocatorFields) (l : LocatorFields) →
+    new ≡ old ++ part ∷ [] → part.locator.now ≡ l → AreFirstOfKeys [] seen (map (λ part. part.locator.now) old) →
+    IsOfNewKey seen l → AreFirstOfKeys [] (seen ++ l ∷ []) (map (λ part. part.locator.now) new)
 with_part old new part seen l is locator_is are fresh =
     let same : map (λ part. part.locator.now) new ≡ map (λ part. part.locator.now) old ++ l ∷ [] =
     ap (λ (ps : List TreePart). map (λ part. part.locator.now) ps) is
     ∙ map-append (λ part. part.locator.now) old (part ∷ [])
     ∙ ap (λ (m : LocatorFields). map (λ part. part.locator.now) old ++ m ∷ []) locator_is in
-    subst (λ (ls : List LocatorFields). AreFirstOfKeys [] (seen ++ l ∷ []) ls) (sym same) (keys_more [] seen (map (λ part. part.locator.now) old) l are fresh)
+    subst (λ (ls : List LocatorFields). AreFirstOfKeys [] (seen ++ l ∷ []) ls) (sym same)
+    (keys_more [] seen (map (λ part. part.locator.now) old) l are fresh)
 
 pub loop-place-preserved : goal.loop-place-preserved
 loop-place-preserved c =
@@ -49,10 +52,12 @@ loop-place-preserved c =
           }
       | else-is_of_new_key w ↦
           let is : c.if-is_of_new_key.parts.items ≡ old = ap (λ v. v.items) w.parts-is in
-          let stale : IsOfNewKey (take i locators) l → ⊥ = λ fresh. false≢true (sym w.if-is_of_new_key.false ∙ c.is_of_new_key.ensures.1 fresh) in
+          let stale : IsOfNewKey (take i locators) l →
+          ⊥ = λ fresh. false≢true (sym w.if-is_of_new_key.false ∙ c.is_of_new_key.ensures.1 fresh) in
           record {
             locators =
-                subst (λ (ls : List LocatorFields). AreFirstOfKeys [] ls (map (λ part. part.locator.now) c.if-is_of_new_key.parts.items)) seen
+                subst (λ (ls : List LocatorFields). AreFirstOfKeys [] ls
+                (map (λ part. part.locator.now) c.if-is_of_new_key.parts.items)) seen
                 (subst (λ (ps : List TreePart). AreFirstOfKeys [] (take i locators ++ l ∷ []) (map (λ part. part.locator.now) ps)) (sym is)
                 (keys_same [] (take i locators) (map (λ part. part.locator.now) old) l c.loop-place.invariant.locators stale));
             parts = subst (λ (ps : List TreePart). All (IsPartOf x (asked_of q)) ps) (sym is) c.loop-place.invariant.parts;

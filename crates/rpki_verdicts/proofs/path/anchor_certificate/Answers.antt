@@ -7,7 +7,8 @@ use Rattle.rpki_verdicts.specs.PathFiles.{QuestionFields}
 use Rattle.rpki_verdicts.proofs.path.anchor_certificate.Goals as goal
 
 -- the octets of the first file are the first
-first_octets : (files : List FileFields) (file : FileFields) (anchor : List ℕ) (more : List (List ℕ)) → slice_get files 0 ≡ Some file → contents files ≡ anchor ∷ more → file.octets ≡ anchor
+first_octets : (files : List FileFields) (file : FileFields) (anchor : List ℕ) (more : List (List ℕ)) →
+    slice_get files 0 ≡ Some file → contents files ≡ anchor ∷ more → file.octets ≡ anchor
 first_octets [] file anchor more first are = absurd cc
 first_octets (f ∷ fs) file anchor more first are =
     let same : file ≡ f = cc in

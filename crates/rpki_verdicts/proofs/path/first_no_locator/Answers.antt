@@ -14,8 +14,10 @@ returns-in-Err c =
     let i = c.loop-place.place in
     let item = c.locator-item.result in
     let low : i < length inside = omega arith in
-    let there = subst (λ (f : QuestionFields). slice_get f.locators i ≡ Some item) c.question.view_is (slice_get_read inside (length inside) i item refl low c.locator-item.is) in
-    no_locator q.strict q.locators c.requires i item there c.in-Err.fault.now c.no_locator.result c.in-Err.ensures.err c.no_locator.ensures.place c.no_locator.ensures.reason
+    let there = subst (λ (f : QuestionFields). slice_get f.locators i ≡ Some item) c.question.view_is
+    (slice_get_read inside (length inside) i item refl low c.locator-item.is) in
+    no_locator q.strict q.locators c.requires i item there c.in-Err.fault.now c.no_locator.result c.in-Err.ensures.err
+    c.no_locator.ensures.place c.no_locator.ensures.reason
 
 pub loop-place-preserved : goal.loop-place-preserved
 loop-place-preserved c =
@@ -24,7 +26,8 @@ loop-place-preserved c =
     let i = c.loop-place.place in
     let item = c.locator-item.result in
     let low : i < length inside = omega arith in
-    let there = subst (λ (f : QuestionFields). slice_get f.locators i ≡ Some item) c.question.view_is (slice_get_read inside (length inside) i item refl low c.locator-item.is) in
+    let there = subst (λ (f : QuestionFields). slice_get f.locators i ≡ Some item) c.question.view_is
+    (slice_get_read inside (length inside) i item refl low c.locator-item.is) in
     let locator = is_locator q.strict q.locators c.requires i item there c.in_default.field-0.now c.in_default.ensures.ok in
     below_more _ _ c.loop-place.invariant (λ earlier is.
     let both : Some item ≡ Some earlier = sym there ∙ is in
@@ -37,4 +40,5 @@ returns c =
     let inside = c.question.inside.locators.now in
     let i = c.loop-place.place in
     let past : length inside ≤ i = omega arith in
-    all_locators q.strict q.locators i c.loop-place.invariant (subst (λ (f : QuestionFields). length f.locators ≤ i) c.question.view_is past)
+    all_locators q.strict q.locators i c.loop-place.invariant
+    (subst (λ (f : QuestionFields). length f.locators ≤ i) c.question.view_is past)

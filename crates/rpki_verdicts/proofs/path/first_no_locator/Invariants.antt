@@ -6,4 +6,5 @@ use Rattle.rpki_verdicts.proofs.path.first_no_locator.Given as goal
 
 -- the earlier files are locators
 abbrev pub invariant-loop-place : goal.invariant-loop-place
-invariant-loop-place l = (k : ℕ) → k < l.place → (earlier : LocatorFields) → slice_get l.question.locators k ≡ Some earlier → AreLocator l.question.strict earlier.file.octets
+invariant-loop-place l = (k : ℕ) → k < l.place → (earlier : LocatorFields) →
+    slice_get l.question.locators k ≡ Some earlier → AreLocator l.question.strict earlier.file.octets

@@ -22,11 +22,18 @@ returns c =
     let x = context IsSignedByRsa q.at q.strict in
     let lists = c.question.inside.lists.now in
     let read = c.in_ok-lists.lists.items in
-    let some : length lists ≡ 0 → ⊥ = λ none. false≢true (sym c.if-is_empty.false ∙ c.is_empty.ensures ∙ (Decides-eqb (length lists) 0).1 none) in
+    let some : length lists ≡ 0 →
+    ⊥ = λ none. false≢true
+    (sym c.if-is_empty.false ∙ c.is_empty.ensures ∙ (Decides-eqb (length lists) 0).1 none) in
     let given : length (contents lists) ≡ 0 → ⊥ = λ none. some (sym (length-map lists (λ file. file.octets)) ∙ none) in
     let are = subst (λ (f : QuestionFields). AreListsOf (contents f.lists) read) c.question.view_is c.in_ok-lists.ensures in
     let any = subst (λ (f : QuestionFields). length (contents f.lists) ≡ 0 → ⊥) c.question.view_is given in
     let are_given : c.with_names-given.result ≡ given_of read q.names =
-    c.with_names-given.ensures ∙ ap (λ (ls : List CrlState). given_of ls c.question.inside.names) c.deref.ensures.value ∙ ap (λ (f : QuestionFields). given_of read f.names) c.question.view_is in
-    let verdict = subst (λ (given : GivenFields). IfOk c.judged_by-verdict.result (λ o. MatchOption o (contents q.members ≡ []) (IsPathVerdict x (by_named_lists given.names x given.lists) (demands_of q) (contents q.members)))) are_given c.judged_by-verdict.ensures in
-    verdict_by x (demands_of q) (contents q.members ≡ []) (contents q.members) (contents q.lists) read any are c.judged_by-verdict.result verdict
+    c.with_names-given.ensures ∙ ap (λ (ls : List CrlState). given_of ls c.question.inside.names)
+    c.deref.ensures.value ∙ ap (λ (f : QuestionFields). given_of read f.names) c.question.view_is in
+    let verdict = subst (λ (given : GivenFields). IfOk c.judged_by-verdict.result
+    (λ o. MatchOption o (contents q.members ≡ [])
+    (IsPathVerdict x (by_named_lists given.names x given.lists) (demands_of q) (contents q.members)))) are_given
+    c.judged_by-verdict.ensures in
+    verdict_by x (demands_of q) (contents q.members ≡ []) (contents q.members) (contents q.lists) read any are
+    c.judged_by-verdict.result verdict

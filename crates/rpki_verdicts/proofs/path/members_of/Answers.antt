@@ -10,5 +10,7 @@ loop-file-preserved c =
     let i = c.loop-file.file-index in
     let file = c.file-item.result in
     let low = c.loop-file-test.true in
-    let more = gone_over (contents files) i file.octets (mapped_low (λ file. file.octets) files i low) (mapped_there (λ file. file.octets) files i file low c.file-item.is) in
-    c.in_ok-push.ensures.items ∙ ap (λ (l : List (List ℕ)). l ++ c.member_of.result ∷ []) c.loop-file.invariant ∙ ap (λ (o : List ℕ). take i (contents files) ++ o ∷ []) c.member_of.ensures ∙ sym more
+    let more = gone_over (contents files) i file.octets (mapped_low (λ file. file.octets) files i low)
+    (mapped_there (λ file. file.octets) files i file low c.file-item.is) in
+    c.in_ok-push.ensures.items ∙ ap (λ (l : List (List ℕ)). l ++ c.member_of.result ∷ []) c.loop-file.invariant ∙
+    ap (λ (o : List ℕ). take i (contents files) ++ o ∷ []) c.member_of.ensures ∙ sym more

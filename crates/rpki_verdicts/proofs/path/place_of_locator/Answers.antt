@@ -12,9 +12,12 @@ returns-in-Some c = λ anchor more is.
     let cert = c.in-Some.cert.now in
     let begins = c.in-Some.ensures anchor more is in
     let key_is = c.subject_public_key_info.ensures ∙ ap (λ (f : TbsFields). f.key) c.as_tbs.ensures in
-    let of_key = subst (λ (k : KeyFields). IsFirst (HasKeyRead k) c.question.inside.locators.now c.place_of_key.result) key_is c.place_of_key.ensures in
-    let found = subst (λ (f : QuestionFields). IsFirst (HasKeyRead cert.fields.key) f.locators c.place_of_key.result) c.question.view_is of_key in
-    first_locator c.unambiguous.ensures.certificate c.unambiguous-2.ensures q.strict anchor cert begins q.locators c.requires c.place_of_key.result found
+    let of_key = subst (λ (k : KeyFields). IsFirst (HasKeyRead k) c.question.inside.locators.now
+    c.place_of_key.result) key_is c.place_of_key.ensures in
+    let found = subst (λ (f : QuestionFields). IsFirst (HasKeyRead cert.fields.key) f.locators c.place_of_key.result)
+    c.question.view_is of_key in
+    first_locator c.unambiguous.ensures.certificate c.unambiguous-2.ensures q.strict anchor cert begins q.locators
+    c.requires c.place_of_key.result found
 
 pub returns-in-None : goal.returns-in-None
 returns-in-None c = λ anchor more is.

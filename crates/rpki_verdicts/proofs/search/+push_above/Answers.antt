@@ -17,7 +17,8 @@ returns-in_default t c =
     let tree = c.args.tree.now in
     let file = c.args.file.now in
     let more : c.args.most - 1 + 1 ≡ c.args.most = omega (arith, c.if-most-eq0.false) in
-    let none = subst (λ (o : Option ℕ). MatchOption o (HasNoIssuer tree file) (HasIssuerAt tree file)) c.in_default.is c.issuer_of.ensures.issuer in
+    let none = subst (λ (o : Option ℕ). MatchOption o (HasNoIssuer tree file) (HasIssuerAt tree file)) c.in_default.is
+    c.issuer_of.ensures.issuer in
     adds_no_issuer tree file (c.args.most - 1) c.args.most more (map (λ f. f.now) c.args.path.now.items) none
 
 pub returns-in-Some-above_at : goal.returns-in-Some-above_at
@@ -30,7 +31,8 @@ returns-in-Some-above_at t c =
     let more : c.args.most - 1 + 1 ≡ c.args.most = omega (arith, c.if-most-eq0.false) in
     let line = sym c.above_at.ensures ∙ ap (option_map (λ a. a.now)) c.in-Some-above_at.is in
     adds_accepted tree c.args.file.now (c.args.most - 1) c.args.most more old place c.in-Some.ensures.issuer mid new
-    (c.in_ok-push_one.ensures ∙ ap (λ l. mid ++ files_at (map (λ f. f.now) l) (place ∷ [])) c.deref.ensures.value) c.in-Some-above_at.above.now line c.in_ok-push_down.ensures
+    (c.in_ok-push_one.ensures ∙ ap (λ l. mid ++ files_at (map (λ f. f.now) l) (place ∷ [])) c.deref.ensures.value)
+    c.in-Some-above_at.above.now line c.in_ok-push_down.ensures
 
 pub returns-then-place-tree : goal.returns-then-place-tree
 returns-then-place-tree t c =
@@ -41,7 +43,8 @@ returns-then-place-tree t c =
     let more : c.args.most - 1 + 1 ≡ c.args.most = omega (arith, c.if-most-eq0.false) in
     let line = sym c.above_at.ensures ∙ ap (option_map (λ a. a.now)) c.in_default-above_at.is in
     adds_top tree c.args.file.now (c.args.most - 1) c.args.most more old place c.in-Some.ensures.issuer old new
-    (c.in_ok-push_one-2.ensures ∙ ap (λ l. old ++ files_at (map (λ f. f.now) l) (place ∷ [])) c.deref-then-place-tree.ensures.value) c.if-place-tree.true line refl
+    (c.in_ok-push_one-2.ensures ∙ ap (λ l. old ++ files_at (map (λ f. f.now) l) (place ∷ []))
+    c.deref-then-place-tree.ensures.value) c.if-place-tree.true line refl
 
 pub returns : goal.returns
 returns t c =
@@ -53,7 +56,10 @@ returns t c =
     let new = map (λ f. f.now) c.push_one-2.new.path.items in
     let more : c.args.most - 1 + 1 ≡ c.args.most = omega (arith, c.if-most-eq0.false) in
     let line = sym c.above_at.ensures ∙ ap (option_map (λ a. a.now)) c.in_default-above_at.is in
-    let there = slice_get-map (λ f. f.now) certs place ∙ ap (option_map (λ f. f.now)) (slice_get_read certs _ place c.index.result.now refl c.in-Some.ensures.place c.index.ensures) in
+    let there = slice_get-map (λ f. f.now) certs place ∙
+    ap (option_map (λ f. f.now))
+    (slice_get_read certs _ place c.index.result.now refl c.in-Some.ensures.place c.index.ensures) in
     let pushed = c.in_ok-reach.ensures in
     adds_named tree c.args.file.now (c.args.most - 1) c.args.most more old place c.in-Some.ensures.issuer mid new
-    (c.in_ok-push_one-3.ensures ∙ ap (λ l. mid ++ files_at (map (λ f. f.now) l) (place ∷ [])) c.deref-2.ensures.value) c.index.result.now.now there line c.if-place-tree.false pushed.0 c.in_ok-reach.reach pushed.1 pushed.2
+    (c.in_ok-push_one-3.ensures ∙ ap (λ l. mid ++ files_at (map (λ f. f.now) l) (place ∷ [])) c.deref-2.ensures.value)
+    c.index.result.now.now there line c.if-place-tree.false pushed.0 c.in_ok-reach.reach pushed.1 pushed.2

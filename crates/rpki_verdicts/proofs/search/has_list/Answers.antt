@@ -13,7 +13,8 @@ loop-file-preserved c = λ k d low begins.
     let file = c.file-item.result in
     elim (cases_eq k i) [
       | inl same ↦
-          let here : slice_index_or files k d ≡ file = subst (λ (n : ℕ). slice_index_or files n d ≡ file) (sym same) (get_or_default files i d file c.loop-file-test.true ∙ sym c.file-item.is) in
+          let here : slice_index_or files k d ≡ file = subst (λ (n : ℕ). slice_index_or files n d ≡ file) (sym same)
+          (get_or_default files i d file c.loop-file-test.true ∙ sym c.file-item.is) in
           let yes : IsTrue c.is_list.result = c.is_list.ensures.1 (subst (λ (f : FileFields). IsList f.octets) here begins) in
           false≢true (sym c.if-is_list.false ∙ yes)
       | inr other ↦ c.loop-file.invariant k d (omega (arith, low, other)) begins

@@ -7,8 +7,10 @@ returns-in_default-clause-issuer c =
 
 pub returns-in-Some-first_keyed-clause-issuer : goal.returns-in-Some-first_keyed-clause-issuer
 returns-in-Some-first_keyed-clause-issuer c =
-    first_accepted c.args.tree.now c.args.file.now c.signer_of.result c.signer_of.ensures c.in-Some.key c.in-Some.is c.in-Some-first_keyed.place c.in-Some-first_keyed.ensures.first
+    first_accepted c.args.tree.now c.args.file.now c.signer_of.result c.signer_of.ensures c.in-Some.key c.in-Some.is
+    c.in-Some-first_keyed.place c.in-Some-first_keyed.ensures.first
 
 pub returns-clause-issuer : goal.returns-clause-issuer
 returns-clause-issuer c =
-    first_of_all c.args.tree.now c.args.file.now c.signer_of.result c.signer_of.ensures c.in-Some.key c.in-Some.is c.in_default-first_keyed.ensures.first c.first_keyed-2.result c.first_keyed-2.ensures.first
+    first_of_all c.args.tree.now c.args.file.now c.signer_of.result c.signer_of.ensures c.in-Some.key c.in-Some.is
+    c.in_default-first_keyed.ensures.first c.first_keyed-2.result c.first_keyed-2.ensures.first

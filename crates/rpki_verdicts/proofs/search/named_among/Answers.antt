@@ -10,12 +10,18 @@ use Rattle.rpki_verdicts.proofs.search.named_among.Goals.{in-Some+else-reach, in
 
 module _ {V : Type 0} (Q : V → Type 0) (parts : List TreePart) (i : ℕ) where
   -- what is kept stays, where a part has no tree
-  kept_more : (o : Option V) (part : TreePart) → i < length parts → part ≡ get_or parts i part → MatchOption o (All (λ part. IsUnanchored part.answer) (take i parts)) Q → IsUnanchored part.answer → MatchOption o (All (λ part. IsUnanchored part.answer) (take (i + 1) parts)) Q
+  kept_more : (o : Option V) (part : TreePart) → i < length parts → part ≡ get_or parts i part →
+      MatchOption o (All (λ part. IsUnanchored part.answer) (take i parts)) Q → IsUnanchored part.answer →
+      MatchOption o (All (λ part. IsUnanchored part.answer) (take (i + 1) parts)) Q
   kept_more None part low there so_far one = all_more (λ part. IsUnanchored part.answer) parts i part low there so_far one
   kept_more (Some v) part low there so_far one = so_far
 
 -- what is kept of all
-kept_of_all : {V : Type 0} (files : V → List FileFields) (parts : List TreePart) (i : ℕ) (file : FileFields) (o : Option V) → length parts ≤ i → All (λ part. DoesNotReach file part.answer) parts → MatchOption o (All (λ part. IsUnanchored part.answer) (take i parts)) (λ v. Any (λ part. IsNamedIn part.answer file false (files v)) parts) → MatchOption o (All (λ part. IsUnanchored part.answer) parts) (λ v. IsNamedAmong parts file (files v))
+kept_of_all : {V : Type 0} (files : V → List FileFields) (parts : List TreePart) (i : ℕ) (file : FileFields)
+    (o : Option V) → length parts ≤ i → All (λ part. DoesNotReach file part.answer) parts →
+    MatchOption o (All (λ part. IsUnanchored part.answer) (take i parts))
+    (λ v. Any (λ part. IsNamedIn part.answer file false (files v)) parts) →
+    MatchOption o (All (λ part. IsUnanchored part.answer) parts) (λ v. IsNamedAmong parts file (files v))
 kept_of_all files parts i file None high stops kept = all_gone (λ part. IsUnanchored part.answer) parts i high kept
 kept_of_all files parts i file (Some v) high stops kept = inr (kept, stops)
 
@@ -26,7 +32,8 @@ returns-then-reach c =
     let path = map (λ f. f.now) c.in-Some.named.path.items in
     let its : IsNamedIn part.answer file c.in-Some.named.reach path = rw c.in-Some.is at c.in_ok-named.ensures in
     let reaches : IsNamedIn part.answer file true path = subst (λ (b : Bool). IsNamedIn part.answer file b path) c.if-reach.true its in
-    inl (any_here (λ part. IsNamedIn part.answer file true path) c.args.parts.now c.loop-part.part-index part c.loop-part-test.true c.part-item.is reaches)
+    inl (any_here (λ part. IsNamedIn part.answer file true path) c.args.parts.now c.loop-part.part-index part
+    c.loop-part-test.true c.part-item.is reaches)
 
 pub loop-part-preserved : goal.loop-part-preserved
 loop-part-preserved c =
@@ -43,18 +50,25 @@ loop-part-preserved c =
           let its : IsNamedIn part.answer file false path = subst (λ (b : Bool). IsNamedIn part.answer file b path) w.if-reach.false said in
           let is : c.match-branch-2.kept ≡ Some w.in-Some.named.path = cc (w.kept-is, w.replace.ensures.after) in
           record {
-            stops = all_more (λ part. DoesNotReach file part.answer) parts i part low there c.loop-part.invariant.stops (named_stops file path part.answer its);
+            stops = all_more (λ part. DoesNotReach file part.answer) parts i part low there
+                c.loop-part.invariant.stops (named_stops file path part.answer its);
             named =
-                subst (λ (o : Option _). MatchOption o (All (λ part. IsUnanchored part.answer) (take (i + 1) parts)) (λ path. Any (λ part. IsNamedIn part.answer file false (map (λ f. f.now) path.items)) parts)) (sym is)
+                subst (λ (o : Option _). MatchOption o (All (λ part. IsUnanchored part.answer) (take (i + 1) parts))
+                (λ path. Any (λ part. IsNamedIn part.answer file false (map (λ f. f.now) path.items)) parts))
+                (sym is)
                 (any_here (λ part. IsNamedIn part.answer file false path) parts i part low there its);
           }
       | in_default w ↦
           let one : IsUnanchored part.answer = rw w.in_default.is at c.in_ok-named.ensures in
           record {
-            stops = all_more (λ part. DoesNotReach file part.answer) parts i part low there c.loop-part.invariant.stops (unanchored_stops file part.answer one);
+            stops = all_more (λ part. DoesNotReach file part.answer) parts i part low there
+                c.loop-part.invariant.stops (unanchored_stops file part.answer one);
             named =
-                subst (λ (o : Option _). MatchOption o (All (λ part. IsUnanchored part.answer) (take (i + 1) parts)) (λ path. Any (λ part. IsNamedIn part.answer file false (map (λ f. f.now) path.items)) parts)) (sym w.kept-is)
-                (kept_more (λ path. Any (λ part. IsNamedIn part.answer file false (map (λ f. f.now) path.items)) parts) parts i c.loop-part.kept part low there c.loop-part.invariant.named one);
+                subst (λ (o : Option _). MatchOption o (All (λ part. IsUnanchored part.answer) (take (i + 1) parts))
+                (λ path. Any (λ part. IsNamedIn part.answer file false (map (λ f. f.now) path.items)) parts))
+                (sym w.kept-is)
+                (kept_more (λ path. Any (λ part. IsNamedIn part.answer file false (map (λ f. f.now) path.items))
+                parts) parts i c.loop-part.kept part low there c.loop-part.invariant.named one);
           }
     ]
 

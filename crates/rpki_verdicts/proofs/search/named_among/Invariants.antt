@@ -7,5 +7,6 @@ use Rattle.rpki_verdicts.proofs.search.named_among.Given as goal
 abbrev pub invariant-loop-part : goal.invariant-loop-part
 invariant-loop-part l = record {
   stops : All (λ part. DoesNotReach l.file part.answer) (take l.part-index l.parts);
-  named : MatchOption l.kept (All (λ part. IsUnanchored part.answer) (take l.part-index l.parts)) (λ path. Any (λ part. IsNamedIn part.answer l.file false (map (λ f. f.now) path.items)) l.parts);
+  named : MatchOption l.kept (All (λ part. IsUnanchored part.answer) (take l.part-index l.parts))
+      (λ path. Any (λ part. IsNamedIn part.answer l.file false (map (λ f. f.now) path.items)) l.parts);
 }

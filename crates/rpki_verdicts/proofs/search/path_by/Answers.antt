@@ -14,9 +14,11 @@ returns-in-Some c =
     let trees = c.args.trees.now in
     let file = c.args.file.now in
     let path = map (λ f. f.now) c.in-Some.path.items in
-    let its : Any (λ part. IsAcceptedIn file path part.answer) trees.parts.items = rw (c.in-Some.is, c.deref.ensures.value) at c.in_ok-path.ensures in
+    let its : Any (λ part. IsAcceptedIn file path part.answer) trees.parts.items =
+    rw (c.in-Some.is, c.deref.ensures.value) at c.in_ok-path.ensures in
     rw (c.whole.ensures.path, c.whole.ensures.ended)
-    (valid_among c.unambiguous.ensures.certificate (context IsSignedByRsa q.at q.strict) (asked_of q) file c.requires.first.0 c.requires.first.1 c.requires.certificate trees c.requires.trees path its)
+    (valid_among c.unambiguous.ensures.certificate (context IsSignedByRsa q.at q.strict) (asked_of q) file
+    c.requires.first.0 c.requires.first.1 c.requires.certificate trees c.requires.trees path its)
 
 pub returns-in-Some-2 : goal.returns-in-Some-2
 returns-in-Some-2 c =
@@ -24,9 +26,12 @@ returns-in-Some-2 c =
     let trees = c.args.trees.now in
     let file = c.args.file.now in
     let path = map (λ f. f.now) c.in-Some-2.path.items in
-    let denies : All (λ part. DeniesFirst part.answer) trees.parts.items = rw (c.in_default.is, c.deref.ensures.value) at c.in_ok-path.ensures in
+    let denies : All (λ part. DeniesFirst part.answer) trees.parts.items = rw (c.in_default.is, c.deref.ensures.value)
+    at c.in_ok-path.ensures in
     let named : IsNamedAmong trees.parts.items file path = rw (c.in-Some-2.is, c.deref-2.ensures.value) at c.in_ok-path-2.ensures in
-    named_sought c.unambiguous.ensures.certificate (context IsSignedByRsa q.at q.strict) (asked_of q) file c.requires.first.0 c.requires.first.1 c.requires.certificate trees c.requires.trees path denies named c.ended.result c.ended.ensures
+    named_sought c.unambiguous.ensures.certificate (context IsSignedByRsa q.at q.strict) (asked_of q) file
+    c.requires.first.0 c.requires.first.1 c.requires.certificate trees c.requires.trees path denies named
+    c.ended.result c.ended.ensures
 
 pub returns-in_ok-path_without_anchor-in-None : goal.returns-in_ok-path_without_anchor-in-None
 returns-in_ok-path_without_anchor-in-None c =
@@ -34,7 +39,10 @@ returns-in_ok-path_without_anchor-in-None c =
     let trees = c.args.trees.now in
     let file = c.args.file.now in
     let path = map (λ f. f.now) c.in_ok-path_without_anchor-in-None.field-0.items in
-    let none : All (λ part. IsUnanchored part.answer) trees.parts.items = rw (c.in-None.is, c.deref-2.ensures.value) at c.in_ok-path-2.ensures in
-    let path_is : path ≡ first_wrong (wrong_of trees.parts.items) ++ file ∷ [] = rw c.deref-in-None.ensures.value at c.in_ok-path_without_anchor-in-None.ensures in
+    let none : All (λ part. IsUnanchored part.answer) trees.parts.items = rw (c.in-None.is, c.deref-2.ensures.value)
+    at c.in_ok-path-2.ensures in
+    let path_is : path ≡ first_wrong (wrong_of trees.parts.items) ++ file ∷ [] =
+    rw c.deref-in-None.ensures.value at c.in_ok-path_without_anchor-in-None.ensures in
     rw (c.whole-in-None.ensures.path, c.whole-in-None.ensures.ended)
-    (unanchored_sought c.unambiguous.ensures.certificate (context IsSignedByRsa q.at q.strict) (asked_of q) file c.requires.first.0 c.requires.first.1 c.requires.certificate trees c.requires.trees path none path_is)
+    (unanchored_sought c.unambiguous.ensures.certificate (context IsSignedByRsa q.at q.strict) (asked_of q) file
+    c.requires.first.0 c.requires.first.1 c.requires.certificate trees c.requires.trees path none path_is)

@@ -7,6 +7,8 @@ returns c =
     let pushed = c.in_ok-reach.ensures in (
       pushed.0,
       pushed.1,
-      ap (λ (l : List _). map (λ f. f.now) l) c.in_ok-push.ensures.items ∙ map-append (λ f. f.now) c.push_above.new.path.items (c.args.file ∷ [])
-          ∙ ap (λ (l : List _). l ++ c.args.file.now ∷ []) (pushed.2 ∙ ap (λ (l : List _). map (λ f. f.now) l ++ pushed.0) c.new-path.ensures.items),
+      ap (λ (l : List _). map (λ f. f.now) l) c.in_ok-push.ensures.items ∙
+          map-append (λ f. f.now) c.push_above.new.path.items (c.args.file ∷ [])
+          ∙ ap (λ (l : List _). l ++ c.args.file.now ∷ [])
+          (pushed.2 ∙ ap (λ (l : List _). map (λ f. f.now) l ++ pushed.0) c.new-path.ensures.items),
     )

@@ -4,4 +4,5 @@ use Rattle.rpki_verdicts.proofs.search.push_at.Given as goal
 
 abbrev pub invariant-loop-place : goal.invariant-loop-place
 invariant-loop-place l =
-    map (λ f. f.now) l.path.items ≡ map (λ f. f.now) l.initial.path.items ++ files_at (map (λ f. f.now) l.certs) (take l.place-index l.places)
+    map (λ f. f.now) l.path.items ≡ map (λ f. f.now) l.initial.path.items ++ files_at (map (λ f. f.now) l.certs)
+    (take l.place-index l.places)

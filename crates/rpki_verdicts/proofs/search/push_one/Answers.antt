@@ -23,4 +23,5 @@ returns-in-None c =
     let certs = c.args.certs.now in
     let old = map (λ f. f.now) c.args.path.now.items in
     let there = slice_get_past certs c.args.place c.in-None.ensures.lookup.3 in
-    sym (ap (λ (o : Option _). old ++ cons_option o []) (slice_get-map (λ f. f.now) certs c.args.place ∙ ap (option_map (λ f. f.now)) there) ∙ append-nil old)
+    sym (ap (λ (o : Option _). old ++ cons_option o [])
+    (slice_get-map (λ f. f.now) certs c.args.place ∙ ap (option_map (λ f. f.now)) there) ∙ append-nil old)

@@ -30,7 +30,8 @@ returns-in_ok-wrong-in-Wrong c = λ l read.
     let candidates = c.in-Wrong.candidates.items in
     let found = rw c.in-Wrong.is at c.in_ok-candidates.ensures in
     let ws = c.in_ok-wrong-in-Wrong.field-0.items in
-    let of_certs = subst (λ (l : List _). AllZip (IsToldOf (map (λ f. f.now) l)) c.deref-in-Wrong.result.now ws) c.deref.ensures.value c.in_ok-wrong-in-Wrong.ensures in
+    let of_certs = subst (λ (l : List _). AllZip (IsToldOf (map (λ f. f.now) l)) c.deref-in-Wrong.result.now ws)
+    c.deref.ensures.value c.in_ok-wrong-in-Wrong.ensures in
     let told = subst (λ (cs : List WrongCandidate). AllZip (IsToldOf files) cs ws) c.deref-in-Wrong.ensures.value of_certs in
     none_found files x (asked_of q) l c.args.tal.now c.args.folder.now c.requires read candidates found.0 found.1 ws told
 
@@ -62,12 +63,29 @@ returns-in_ok-walk-in-Valid c = λ l read.
     let law = c.unambiguous.ensures.certificate in
     let from : TellsFrom {E = WalkError} x asked q.names (IsFirstIn firsts) t octets folder.certs q.depth q.steps (Ok walk.ended) told.0 =
     λ top begins.
-    subst (λ (d : CertFields). Tells {E = WalkError} x asked (IsLookedAt q.names (IsFirstIn firsts) d folder.certs) root folder.certs [] q.depth q.steps (Ok walk.ended) told.0) (anchor_is x asked t octets issuer found.0 law top begins)
-    (record { right = tells.right; let_in = tells.let_in; few = tells.few; short = tells.short; too_deep = tells.too_deep; complete = tells.complete; in_shares = tells.in_shares; judged = tells.judged; enough = tells.enough }) in
+    subst (λ (d : CertFields). Tells {E = WalkError} x asked (IsLookedAt q.names (IsFirstIn firsts) d folder.certs)
+    root folder.certs [] q.depth q.steps (Ok walk.ended) told.0)
+    (anchor_is x asked t octets issuer found.0 law top begins)
+    (record {
+      right = tells.right;
+      let_in = tells.let_in;
+      few = tells.few;
+      short = tells.short;
+      too_deep =
+          tells.too_deep;
+      complete = tells.complete;
+      in_shares = tells.in_shares;
+      judged = tells.judged;
+      enough =
+          tells.enough;
+    }) in
     let limited : AreLimitedFrom x asked q.names (IsFirstIn firsts) t octets folder.certs q.depth q.steps cas =
     λ top begins.
-    subst (λ (d : CertFields). AreLimited x asked (IsLookedAt q.names (IsFirstIn firsts) d folder.certs) root folder.certs q.depth q.steps cas) (anchor_is x asked t octets issuer found.0 law top begins) (reached.2 root found.0) in
-    let count : c.len-count.result ≡ length files = c.len-count.ensures ∙ c.args.certs.ok.0 ∙ sym (length-map c.args.certs.items (λ f. f.now)) in
+    subst (λ (d : CertFields). AreLimited x asked (IsLookedAt q.names (IsFirstIn firsts) d folder.certs) root
+    folder.certs q.depth q.steps cas) (anchor_is x asked t octets issuer found.0 law top begins)
+    (reached.2 root found.0) in
+    let count : c.len-count.result ≡ length files = c.len-count.ensures ∙ c.args.certs.ok.0 ∙
+    sym (length-map c.args.certs.items (λ f. f.now)) in
     record {
       certs_are = c.requires.certs_are;
       lists = folder.lists;
@@ -79,13 +97,17 @@ returns-in_ok-walk-in-Valid c = λ l read.
       stands = file.1;
       firsts_are = subst (λ (o : List (List ℕ)). AreFirstsIn o firsts) same_certs c.in_ok-firsts-in-Valid.ensures;
       told = told.0;
-      tells = subst (λ (o : List (List ℕ)). TellsFrom {E = WalkError} x asked q.names (IsFirstIn firsts) t file.0.octets o q.depth q.steps (Ok walk.ended) told.0) same_certs
-          (subst (λ (o : List ℕ). TellsFrom {E = WalkError} x asked q.names (IsFirstIn firsts) t o folder.certs q.depth q.steps (Ok walk.ended) told.0) same from);
+      tells = subst (λ (o : List (List ℕ)). TellsFrom {E = WalkError} x asked q.names (IsFirstIn firsts) t
+          file.0.octets o q.depth q.steps (Ok walk.ended) told.0) same_certs
+          (subst (λ (o : List ℕ). TellsFrom {E = WalkError} x asked q.names (IsFirstIn firsts) t o folder.certs
+          q.depth q.steps (Ok walk.ended) told.0) same from);
       count_is = told.1.0 ∙ c.in_ok-lines-in-Valid.ensures.count ∙ count;
       lines_are = told.1.1 c.in_ok-lines-in-Valid.ensures.nothing;
       limited = cas;
-      limited_are = subst (λ (o : List (List ℕ)). AreLimitedFrom x asked q.names (IsFirstIn firsts) t file.0.octets o q.depth q.steps cas) same_certs
+      limited_are = subst (λ (o : List (List ℕ)). AreLimitedFrom x asked q.names (IsFirstIn firsts) t file.0.octets o
+          q.depth q.steps cas) same_certs
           (subst (λ (o : List ℕ). AreLimitedFrom x asked q.names (IsFirstIn firsts) t o folder.certs q.depth q.steps cas) same limited);
       limits_are = subst (λ (n : ℕ). IsTableOf n (length files) cas walk.limits) start
-          (subst (λ (n : ℕ). IsTableOf c.first_of-start.result n cas walk.limits) (ap length same_certs ∙ length-map files (λ (f : FileFields). f.octets)) reached.1.table);
+          (subst (λ (n : ℕ). IsTableOf c.first_of-start.result n cas walk.limits)
+          (ap length same_certs ∙ length-map files (λ (f : FileFields). f.octets)) reached.1.table);
     }

@@ -19,12 +19,15 @@ loop-value-preserved c = λ whole.
     let format = c.args.format in
     let part : Value → List ℕ = λ v. value_text format (view v) in
     let none : has_float (view value) ≡ false = whole_at values l.value-index value low c.value-item.is whole in
-    subst (λ (text : List ℕ). Appends c.args.page.now text c.formed.new.self) (sym (parts_more part values l.value-index value low c.value-item.is))
+    subst (λ (text : List ℕ). Appends c.args.page.now text c.formed.new.self)
+    (sym (parts_more part values l.value-index value low c.value-item.is))
     (then_appended c.args.page.now l.page c.formed.new.self _ _ (l.invariant whole)
-    (formed_appended string_bytes l.page c.formed.new.self (part value) c.value_text-text.result (c.value_text-text.ensures none) c.formed.ensures))
+    (formed_appended string_bytes l.page c.formed.new.self (part value) c.value_text-text.result
+    (c.value_text-text.ensures none) c.formed.ensures))
 
 pub returns : goal.returns
 returns c = λ whole.
     let l = c.loop-value in
     let part : Value → List ℕ = λ v. value_text c.args.format (view v) in
-    subst (λ (text : List ℕ). Appends c.args.page.now text l.page) (parts_all part c.args.values.now l.value-index c.loop-value-test.false) (l.invariant whole)
+    subst (λ (text : List ℕ). Appends c.args.page.now text l.page)
+    (parts_all part c.args.values.now l.value-index c.loop-value-test.false) (l.invariant whole)

@@ -17,7 +17,8 @@ returns c = λ whole.
     let part : Value → List ℕ = λ v. value_text c.args.format (view v) in
     let all = subst (λ (l : List Value). AllByRecursion (λ (v : Value). has_float (view v) ≡ false) l) (sym same) whole in
     let wanted = flat_map (value_text c.args.format) (map view values) in
-    let lines : flat_map part c.deref.result.now ≡ wanted = ap (flat_map part) same ∙ sym (flat_map-map (value_text c.args.format) view values) in
+    let lines : flat_map part c.deref.result.now ≡ wanted = ap (flat_map part) same ∙
+    sym (flat_map-map (value_text c.args.format) view values) in
     let appended = subst (λ (text : List ℕ). Appends c.new-page.result text c.append_each.new.page) lines (c.append_each.ensures all) in
     let IsIt : List ℕ → Type 0 = λ text. text ≡ wanted in
     let such = such_appended IsIt c.new-page.result c.append_each.new.page wanted refl appended in

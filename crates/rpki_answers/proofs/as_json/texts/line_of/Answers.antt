@@ -8,4 +8,6 @@ pub returns : goal.returns
 unfolding json_line
 returns c = λ none.
     let is = c.in_ok-text.ensures.text none in
-    IfOk-weaker c.ended_ascii.result _ _ (λ _ made. made ∙ ap (λ (l : List ℕ). in_ascii l ++ line_feed) (c.as_str.ensures.value ∙ is)) c.ended_ascii.ensures
+    IfOk-weaker c.ended_ascii.result
+    _ _ (λ _ made. made ∙ ap (λ (l : List ℕ). in_ascii l ++ line_feed) (c.as_str.ensures.value ∙ is))
+    c.ended_ascii.ensures

@@ -11,4 +11,6 @@ unfolding json_lines
 returns c = λ none.
     let written = c.in_ok-text.ensures in
     let is = written.layout ∙ ap pretty (tokens_from_order _ _ written.order none) in
-    IfOk-weaker c.ended_ascii.result _ _ (λ _ made. made ∙ ap (λ (l : List ℕ). in_ascii l ++ line_feed) (c.as_str.ensures.value ∙ is)) c.ended_ascii.ensures
+    IfOk-weaker c.ended_ascii.result
+    _ _ (λ _ made. made ∙ ap (λ (l : List ℕ). in_ascii l ++ line_feed) (c.as_str.ensures.value ∙ is))
+    c.ended_ascii.ensures

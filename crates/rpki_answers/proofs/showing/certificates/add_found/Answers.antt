@@ -1,6 +1,7 @@
 use Rattle.std.proofs.Common.{[], ◌∷◌, ◌++◌}
 use Rattle.rpki_document.proofs.Built.{then_ended}
-use Rattle.rpki_answers.specs.ShownCertificates.{field_nodes, kind_line, own_key_nodes, own_resource_nodes, place_nodes, profile_nodes, validity_nodes}
+use Rattle.rpki_answers.specs.ShownCertificates.{field_nodes, kind_line, own_key_nodes, own_resource_nodes}
+use Rattle.rpki_answers.specs.ShownCertificates.{place_nodes, profile_nodes, validity_nodes}
 use Rattle.rpki_answers.proofs.showing.certificates.add_found.Goals as goal
 
 pub returns : goal.returns

@@ -19,6 +19,13 @@ returns c =
     let said : OnOk c.add_tal_key.result
     (Adds (tal_nodes c.args.name.now tal found) c.args.parts.now.items c.add_tal_key.new.parts.items) =
     ended_with c.add_tal_key.result _ _ _ c.add_tal_key.ensures
-    (rw (c.in_ok-add_each.ensures, c.in_ok-add_uris.ensures, lines, c.new-uris.ensures.items, c.in_ok-add_kept.ensures, c.in_ok-add_told.ensures)
+    (rw (
+      c.in_ok-add_each.ensures,
+      c.in_ok-add_uris.ensures,
+      lines,
+      c.new-uris.ensures.items,
+      c.in_ok-add_kept.ensures,
+      c.in_ok-add_told.ensures,
+    )
     (simp append_assoc)) in
     IfOk-weaker c.add_tal_key.result _ _ (λ _ added. (found, is, added)) said

@@ -18,5 +18,6 @@ returns c =
     IfOk-weaker c.add_behind.result _ _ (λ _ last. (
       its.0 ++ signature_line ∷ behind,
       (its.0, its.1, refl),
-      then_added c.args.parts.now.items shown new its.0 (signature_line ∷ behind) its.2 (then_added shown signed new (signature_line ∷ []) behind c.in_ok-add_signature.ensures last),
+      then_added c.args.parts.now.items shown new its.0 (signature_line ∷ behind) its.2
+          (then_added shown signed new (signature_line ∷ []) behind c.in_ok-add_signature.ensures last),
     )) c.add_behind.ensures

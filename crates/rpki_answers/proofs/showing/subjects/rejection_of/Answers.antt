@@ -18,7 +18,8 @@ returns c =
     let it = c.in_ok-place in
     let kept = sym c.told-fault.ensures in
     let octets = c.octets-octets.ensures in
-    let stops = subst (λ (f : DecodeError). StopsFor is_list c.octets-octets.result.now f it.place) kept (stops_for_kept is_list c.octets-octets.result.now read it.place it.is_true it.ensures.told) in
+    let stops = subst (λ (f : DecodeError). StopsFor is_list c.octets-octets.result.now f it.place) kept
+    (stops_for_kept is_list c.octets-octets.result.now read it.place it.is_true it.ensures.told) in
     record {
       sort_is = c.sort-sort.ensures;
       fault = fault;

@@ -6,4 +6,5 @@ use Rattle.rpki_blocks.proofs.text.AsBlocksDisplay.fmt.Given as goal
 
 abbrev pub invariant-loop-block : goal.invariant-loop-block
 invariant-loop-block g l =
-    IsPlainFormatter l.fn.f → IsUnderWay g.W.Write.write_str_gives l.fn.f as_block_text (iter_rest l.block-iterator) (blocks_text as_block_text l.fn.self) l.f
+    IsPlainFormatter l.fn.f → IsUnderWay g.W.Write.write_str_gives l.fn.f as_block_text (iter_rest l.block-iterator)
+    (blocks_text as_block_text l.fn.self) l.f

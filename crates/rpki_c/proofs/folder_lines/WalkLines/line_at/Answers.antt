@@ -16,8 +16,11 @@ pub cert_line-requires : goal.cert_line-requires
 cert_line-requires c =
     let s = c.args.self.now.sorted.now in
     let place = c.args.place in
-    let inside : place < length s.added.items = subst (λ (n : ℕ). place < n) (sym c.requires.sorted.count) c.requires.inside in
-    let read : get_or s.added.items place Neither ≡ Certificate c.in-Certificate.at = sym (get_or_read s.added.items place c.index.result.now inside c.index.ensures Neither) ∙ c.in-Certificate.is in
+    let inside : place < length s.added.items = subst (λ (n : ℕ). place < n) (sym c.requires.sorted.count)
+    c.requires.inside in
+    let read : get_or s.added.items place Neither ≡ Certificate c.in-Certificate.at =
+    sym (get_or_read s.added.items place c.index.result.now inside c.index.ensures Neither) ∙
+    c.in-Certificate.is in
     (filed_at s c.requires.sorted place c.in-Certificate.at c.requires.inside read).0
 
 pub returns-in_ok-line-in-Certificate-clause-line : goal.returns-in_ok-line-in-Certificate-clause-line
@@ -27,16 +30,22 @@ returns-in_ok-line-in-Certificate-clause-line c =
     let at = c.in-Certificate.at in
     let place = c.args.place in
     let top = origin_of s w.anchor in
-    let inside : place < length s.added.items = subst (λ (n : ℕ). place < n) (sym c.requires.sorted.count) c.requires.inside in
-    let read : get_or s.added.items place Neither ≡ Certificate at = sym (get_or_read s.added.items place c.index.result.now inside c.index.ensures Neither) ∙ c.in-Certificate.is in
+    let inside : place < length s.added.items = subst (λ (n : ℕ). place < n) (sym c.requires.sorted.count)
+    c.requires.inside in
+    let read : get_or s.added.items place Neither ≡ Certificate at =
+    sym (get_or_read s.added.items place c.index.result.now inside c.index.ensures Neither) ∙
+    c.in-Certificate.is in
     let filed = filed_at s c.requires.sorted place at c.requires.inside read in
     let fate : cert_fate w at ≡ fate_at w place = sym (ap (λ (a : Added). added_fate w a) read) in
-    let reached : c.reached.result ≡ reached_at w place = c.reached.ensures ∙ sym (ap (λ (a : Added). added_reached w a) read) in
+    let reached : c.reached.result ≡ reached_at w place = c.reached.ensures ∙
+    sym (ap (λ (a : Added). added_reached w a) read) in
     let ranges = c.cert_line.new.ranges in
     let line = c.in_ok-line-in-Certificate.line in
     let told = c.with_limits.result in
-    line_with c.args.asks_key top (octets_at s.strings.now place) ranges (fate_at w place) (reached_at w place) line told
+    line_with c.args.asks_key top (octets_at s.strings.now place) ranges (fate_at w place) (reached_at w place) line
+    told
     (subst (λ (f : Fate). IsLineOf c.args.asks_key top (octets_at s.strings.now place) f ranges line) fate
-    (subst (λ (o : List ℕ). IsLineOf c.args.asks_key top o (cert_fate w at) ranges line) filed.1 c.in_ok-line-in-Certificate.ensures.line))
+    (subst (λ (o : List ℕ). IsLineOf c.args.asks_key top o (cert_fate w at) ranges line) filed.1
+    c.in_ok-line-in-Certificate.ensures.line))
     c.with_limits.ensures.line
     (subst (λ (r : Reached). TellsReached r told) reached c.with_limits.ensures.limits)

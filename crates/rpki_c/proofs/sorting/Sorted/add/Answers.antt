@@ -16,10 +16,12 @@ pub returns-in_ok-push-in-List-clause-sorted : goal.returns-in_ok-push-in-List-c
 returns-in_ok-push-in-List-clause-sorted c = λ strings old.
     let s = c.args.self.now in
     let is = rw c.in-List.is at c.in_ok-place.ensures.ok in
-    sorted_list strings c.args.octets s.folder _ s.added.items _ s.origins.items old is.0.0 (record { list_is = is.0.1; no_certificate = is.1 }) is.0.2 c.in_ok-push-in-List.ensures.items
+    sorted_list strings c.args.octets s.folder _ s.added.items _ s.origins.items old is.0.0
+    (record { list_is = is.0.1; no_certificate = is.1 }) is.0.2 c.in_ok-push-in-List.ensures.items
 
 pub returns-in_ok-push-in-Neither-clause-sorted : goal.returns-in_ok-push-in-Neither-clause-sorted
 returns-in_ok-push-in-Neither-clause-sorted c = λ strings old.
     let s = c.args.self.now in
     let is = rw c.in-Neither.is at c.in_ok-place.ensures.ok in
-    sorted_neither strings c.args.octets s.folder _ s.added.items _ s.origins.items old is.1 is.2 is.0 c.in_ok-push-in-Neither.ensures.items
+    sorted_neither strings c.args.octets s.folder _ s.added.items _ s.origins.items old is.1 is.2 is.0
+    c.in_ok-push-in-Neither.ensures.items

@@ -8,7 +8,11 @@ pub returns : goal.returns
 returns c =
     let certs = c.args.self.now.folder.certs in
     let at = c.args.at in
-    let low : at < length c.certs.result.now = subst (λ (l : List (List ℕ)). at < length l) (sym c.certs.ensures) c.requires in
-    let filed : c.index-certs-at.result ≡ octets_at certs at = get_or_read c.certs.result.now at c.index-certs-at.result low c.index-certs-at.is [] ∙ ap (λ (l : List (List ℕ)). octets_at l at) c.certs.ensures in
-    let says : BeginsWithSaid c.said.result (octets_at certs at) = subst (λ (o : List ℕ). BeginsWithSaid c.said.result o) filed c.said.ensures in
+    let low : at < length c.certs.result.now = subst (λ (l : List (List ℕ)). at < length l) (sym c.certs.ensures)
+    c.requires in
+    let filed : c.index-certs-at.result ≡ octets_at certs at =
+    get_or_read c.certs.result.now at c.index-certs-at.result low c.index-certs-at.is [] ∙
+    ap (λ (l : List (List ℕ)). octets_at l at) c.certs.ensures in
+    let says : BeginsWithSaid c.said.result (octets_at certs at) =
+    subst (λ (o : List ℕ). BeginsWithSaid c.said.result o) filed c.said.ensures in
     (c.said.result.kind, c.kind_number.ensures, (says.0, says.1, says.2.kind_is))

@@ -7,4 +7,6 @@ use Rattle.rpki_cert.proofs.cert.Cert.read.Goals as goal
 
 pub returns-then-not-is_empty-clause-reads : goal.returns-then-not-is_empty-clause-reads
 returns-then-not-is_empty-clause-reads c =
-    not_used_up SEQUENCE (certificate_content_format levels).read c.fork-ahead.ensures.same c.in_ok-content.ensures.answers.reads c.in_ok-cert.ensures.reads (λ nil. false≢true (c.if-not-is_empty.ensures.1 nil))
+    not_used_up SEQUENCE (certificate_content_format levels).read c.fork-ahead.ensures.same
+    c.in_ok-content.ensures.answers.reads c.in_ok-cert.ensures.reads
+    (λ nil. false≢true (c.if-not-is_empty.ensures.1 nil))

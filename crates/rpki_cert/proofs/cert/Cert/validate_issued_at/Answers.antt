@@ -9,7 +9,8 @@ pub returns-in_err-verify_ca_at-clause-fault : goal.returns-in_err-verify_ca_at-
 returns-in_err-verify_ca_at-clause-fault g c =
     let x = context (g.V.Verifier.verifies c.args.verifier.now) c.args.now c.args.strict in
     let e = c.in_err-verify_ca_at.field-0.0 in
-    let fails = subst (λ (m : CertFields). IsFirstFalseOrMemory (CheckUnder x c.args.issuer.now m) issued_checks e) c.in_ok-cert.ensures.same c.in_err-verify_ca_at.ensures.checks in
+    let fails = subst (λ (m : CertFields). IsFirstFalseOrMemory (CheckUnder x c.args.issuer.now m) issued_checks e)
+    c.in_ok-cert.ensures.same c.in_err-verify_ca_at.ensures.checks in
     let same : c.from_residual-in_err-verify_ca_at.result ≡ Err (Verification e) = search rules in
     rw same (c.in_ok-cert.ensures.profile, fails)
 

@@ -7,5 +7,6 @@ returns-in_err-cert-clause-checks g c =
     let x = context (g.V.Verifier.verifies c.args.verifier.now) c.args.now c.args.strict in
     let e = c.in_err-cert.field-0.0 in
     let same : c.from_residual.result ≡ Err e = search rules in
-    let fails : IsFirstFalseOrMemory (CheckUnder x c.args.issuer.now c.args.self) issued_checks e = rw c.in_err-cert.ensures.rejected at c.kept_below-tested.ensures.checks in
+    let fails : IsFirstFalseOrMemory (CheckUnder x c.args.issuer.now c.args.self) issued_checks e =
+    rw c.in_err-cert.ensures.rejected at c.kept_below-tested.ensures.checks in
     rw same fails

@@ -9,4 +9,9 @@ use Rattle.rpki_cert.proofs.frame.Frame.tbs_content.Goals as goal
 pub returns-in_err-put_sequence-clause-too_long : goal.returns-in_err-put_sequence-clause-too_long
 returns-in_err-put_sequence-clause-too_long c =
     let elements = c.args.elements.now in
-    passed_long c.from_residual-in_err-put_sequence.result _ _ _ c.from_residual-in_err-put_sequence.ensures.1 c.in_err-put_sequence.ensures.too_long (omega (arith, length-append (concat c.args.self.now.before) (enc (CONTEXT_CONSTRUCTED 3) (enc SEQUENCE elements))))
+    passed_long c.from_residual-in_err-put_sequence.result _ _ _ c.from_residual-in_err-put_sequence.ensures.1
+    c.in_err-put_sequence.ensures.too_long
+    (omega (
+      arith,
+      length-append (concat c.args.self.now.before) (enc (CONTEXT_CONSTRUCTED 3) (enc SEQUENCE elements)),
+    ))

@@ -10,7 +10,9 @@ pub returns-clause-fits : goal.returns-clause-fits
 returns-clause-fits c =
     let start : c.len-start.result ≡ length c.args.out.now.items = search rules in
     let content = c.append_content-content.ensures in
-    let writes = ended (value SEQUENCE) _ c.args.out.now.items (tbs_content c.args.self.now) _ _ c.append_content-content.result c.end_value.result start content.ok content.err content.too_long c.end_value.ensures in
+    let writes = ended (value SEQUENCE) _ c.args.out.now.items (tbs_content c.args.self.now)
+    _ _ c.append_content-content.result c.end_value.result start content.ok content.err content.too_long
+    c.end_value.ensures in
     on_ok_weaker c.end_value.result (λ both. record {
       serial_is = both.0;
       issuer_is = c.known.ensures.issuer;
@@ -26,4 +28,5 @@ pub returns-clause-writes : goal.returns-clause-writes
 returns-clause-writes c =
     let start : c.len-start.result ≡ length c.args.out.now.items = search rules in
     let content = c.append_content-content.ensures in
-    ended (value SEQUENCE) _ c.args.out.now.items (tbs_content c.args.self.now) _ _ c.append_content-content.result c.end_value.result start content.ok content.err content.too_long c.end_value.ensures
+    ended (value SEQUENCE) _ c.args.out.now.items (tbs_content c.args.self.now) _ _ c.append_content-content.result
+    c.end_value.result start content.ok content.err content.too_long c.end_value.ensures

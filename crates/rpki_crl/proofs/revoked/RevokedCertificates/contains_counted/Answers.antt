@@ -18,7 +18,8 @@ unreachable-requires c =
     nothing tt (sym none ∙ c.loop-rest.invariant.elements)
 
 pub loop-rest-smaller : goal.loop-rest-smaller
-loop-rest-smaller c = shorter entry_format.read pass entry_shrinks tt (remaining c.loop-rest.rest) (entry_of c.in-Ok.entry) (remaining c.take_from.new.cursor) c.in-Ok.ensures.reads
+loop-rest-smaller c = shorter entry_format.read pass entry_shrinks tt (remaining c.loop-rest.rest)
+    (entry_of c.in-Ok.entry) (remaining c.take_from.new.cursor) c.in-Ok.ensures.reads
 
 pub loop-rest-preserved : goal.loop-rest-preserved
 unfolding entries_pass spares
@@ -26,10 +27,14 @@ loop-rest-preserved c =
     let e = entry_of c.in-Ok.entry in
     let rest = remaining c.take_from.new.cursor in
     record {
-      elements = sym (goes_on entry_format.read pass entry_shrinks tt (remaining c.loop-rest.rest) e rest c.in-Ok.ensures.reads tt refl) ∙ c.loop-rest.invariant.elements;
-      same = sym (goes_on entry_format.read (each (differs c.args.serial)) entry_shrinks tt (remaining c.loop-rest.rest) e rest c.in-Ok.ensures.reads tt (rw (← c.if-eq.ensures) refl)) ∙ c.loop-rest.invariant.same;
+      elements = sym (goes_on entry_format.read pass entry_shrinks tt (remaining c.loop-rest.rest) e rest
+          c.in-Ok.ensures.reads tt refl) ∙ c.loop-rest.invariant.elements;
+      same = sym (goes_on entry_format.read (each (differs c.args.serial)) entry_shrinks tt
+          (remaining c.loop-rest.rest) e rest c.in-Ok.ensures.reads tt (rw (← c.if-eq.ensures) refl)) ∙
+          c.loop-rest.invariant.same;
       looked =
-          let more = one_look_more c.args.serial (remaining c.loop-rest.rest) c.loop-rest.invariant.elements e rest c.in-Ok.ensures.reads (eqb-false e.serial c.args.serial (sym c.if-eq.ensures)) in
+          let more = one_look_more c.args.serial (remaining c.loop-rest.rest) c.loop-rest.invariant.elements e rest
+          c.in-Ok.ensures.reads (eqb-false e.serial c.args.serial (sym c.if-eq.ensures)) in
           omega (arith, more, c.loop-rest.invariant.looked);
       few =
           let less = shorter entry_format.read pass entry_shrinks tt (remaining c.loop-rest.rest) e rest c.in-Ok.ensures.reads in
@@ -39,25 +44,38 @@ loop-rest-preserved c =
 pub returns-then-eq-clause-revoked : goal.returns-then-eq-clause-revoked
 unfolding spares
 returns-then-eq-clause-revoked c =
-    let none = rejected entry_format.read (each (differs c.args.serial)) entry_shrinks tt (remaining c.loop-rest.rest) (entry_of c.in-Ok.entry) (remaining c.take_from.new.cursor) c.in-Ok.ensures.reads (rw (← c.if-eq.ensures) refl) in
-    (λ _. found c.args.serial c.self.inside.octets c.args.self.now c.self.view_is c.self.invariant (sym c.loop-rest.invariant.same ∙ none), λ _. refl)
+    let none = rejected entry_format.read (each (differs c.args.serial)) entry_shrinks tt (remaining c.loop-rest.rest)
+    (entry_of c.in-Ok.entry) (remaining c.take_from.new.cursor) c.in-Ok.ensures.reads
+    (rw (← c.if-eq.ensures) refl) in (
+      λ _. found c.args.serial c.self.inside.octets c.args.self.now c.self.view_is c.self.invariant
+          (sym c.loop-rest.invariant.same ∙ none),
+      λ _. refl,
+    )
 
 pub returns-clause-revoked : goal.returns-clause-revoked
 unfolding spares
 returns-clause-revoked c =
-    let all : spares c.args.serial (remaining c.loop-rest.rest) ≡ Some tt = rw (c.loop-rest-test.ensures.0 refl) (over_end entry_format.read (each (differs c.args.serial)) tt) in
-    (λ is. absurd (false≢true is), λ among. absurd (spared c.args.serial c.self.inside.octets c.args.self.now c.self.view_is c.self.invariant (sym c.loop-rest.invariant.same ∙ all) among))
+    let all : spares c.args.serial (remaining c.loop-rest.rest) ≡ Some tt =
+    rw (c.loop-rest-test.ensures.0 refl) (over_end entry_format.read (each (differs c.args.serial)) tt) in (
+      λ is. absurd (false≢true is),
+      λ among. absurd
+          (spared c.args.serial c.self.inside.octets c.args.self.now c.self.view_is c.self.invariant
+          (sym c.loop-rest.invariant.same ∙ all) among),
+    )
 
 pub returns-clause-entries : goal.returns-clause-entries
 returns-clause-entries c = kept_entries c.self.inside.octets c.args.self.now c.self.view_is c.self.invariant c.cursor-rest.ensures.octets
 
 pub returns-then-eq-clause-entries : goal.returns-then-eq-clause-entries
-returns-then-eq-clause-entries c = kept_entries c.self.inside.octets c.args.self.now c.self.view_is c.self.invariant c.cursor-rest.ensures.octets
+returns-then-eq-clause-entries c = kept_entries c.self.inside.octets c.args.self.now c.self.view_is c.self.invariant
+    c.cursor-rest.ensures.octets
 
 pub returns-then-eq-clause-looks : goal.returns-then-eq-clause-looks
 returns-then-eq-clause-looks c =
     let e = entry_of c.in-Ok.entry in
-    let last = last_look c.args.serial (remaining c.loop-rest.rest) c.loop-rest.invariant.elements e (remaining c.take_from.new.cursor) c.in-Ok.ensures.reads (eqb-true e.serial c.args.serial (sym c.if-eq.ensures)) in
+    let last = last_look c.args.serial (remaining c.loop-rest.rest) c.loop-rest.invariant.elements e
+    (remaining c.take_from.new.cursor) c.in-Ok.ensures.reads
+    (eqb-true e.serial c.args.serial (sym c.if-eq.ensures)) in
     omega (arith, last, c.loop-rest.invariant.looked)
 
 pub returns-clause-looks : goal.returns-clause-looks

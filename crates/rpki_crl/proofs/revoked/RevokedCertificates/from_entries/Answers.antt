@@ -12,7 +12,9 @@ loop-entry-preserved c =
     let i = c.loop-entry.entry-index in
     let done : List Entry = map entry_of (take i elements) in
     let e = entry_of c.entry-item.result in
-    let more : map entry_of (take (i + 1) elements) ≡ done ++ e ∷ [] = taken_more entry_of elements i (i + 1) c.entry-item.result (omega arith) c.loop-entry-test.true c.entry-item.is in
+    let more : map entry_of (take (i + 1) elements) ≡ done ++ e ∷ [] =
+    taken_more entry_of elements i (i + 1) c.entry-item.result (omega arith) c.loop-entry-test.true
+    c.entry-item.is in
     record {
       written = c.in_ok-encode.ensures.ok ∙ rw c.loop-entry.invariant.written (sym (entries_more done e)) ∙ ap entries (sym more);
       fit = subst (AllByRecursion FitsEntry) (sym more) (all_more done e c.loop-entry.invariant.fit c.in_ok-encode.ensures.fits);

@@ -12,15 +12,19 @@ returns-then-is_empty-clause-steps c =
     (sym c.self.view_is ∙ none, sym c.self.view_is ∙ none)
 
 pub unreachable-requires : goal.unreachable-requires
-unreachable-requires c = one_stands (remaining c.self.inside.rest) c.self.invariant (some_left (remaining c.self.inside.rest) c.if-is_empty.ensures.1) c.in_default.ensures.reads.1
+unreachable-requires c = one_stands (remaining c.self.inside.rest) c.self.invariant
+    (some_left (remaining c.self.inside.rest) c.if-is_empty.ensures.1) c.in_default.ensures.reads.1
 
 pub invariant_of-self : goal.invariant_of-self
-invariant_of-self c = others_pass (remaining c.self.inside.rest) c.self.invariant (entry_of c.in-Ok.entry) (remaining c.take_from.new.cursor) c.in-Ok.ensures.reads
+invariant_of-self c = others_pass (remaining c.self.inside.rest) c.self.invariant (entry_of c.in-Ok.entry)
+    (remaining c.take_from.new.cursor) c.in-Ok.ensures.reads
 
 pub returns-clause-steps : goal.returns-clause-steps
-returns-clause-steps c = sym c.self.view_is ∙ first_entry (remaining c.self.inside.rest) c.self.invariant (entry_of c.in-Ok.entry) (remaining c.take_from.new.cursor) c.in-Ok.ensures.reads
+returns-clause-steps c = sym c.self.view_is ∙ first_entry (remaining c.self.inside.rest) c.self.invariant
+    (entry_of c.in-Ok.entry) (remaining c.take_from.new.cursor) c.in-Ok.ensures.reads
 
 pub returns-clause-goes : goal.returns-clause-goes
 returns-clause-goes c =
-    let step = sym c.self.view_is ∙ first_entry (remaining c.self.inside.rest) c.self.invariant (entry_of c.in-Ok.entry) (remaining c.take_from.new.cursor) c.in-Ok.ensures.reads in
+    let step = sym c.self.view_is ∙ first_entry (remaining c.self.inside.rest) c.self.invariant
+    (entry_of c.in-Ok.entry) (remaining c.take_from.new.cursor) c.in-Ok.ensures.reads in
     record { on = λ f. (tt, tt, omega (arith, ap length step)); keeps = tt; rests = λ f. tt }

@@ -13,8 +13,13 @@ returns-in-Some g c =
     let pairs = c.args.self.now.pairs in
     let uri = c.args.crl_uri.now in
     let crl = c.in-Some.crl.now in
-    let tests = tests_of x issuer c.args.serial (IsUnderUri pairs uri) crl c.in-Some.ensures (λ d at. one_earliest pairs uri d crl at c.in-Some.ensures) c.check.result c.check.ensures in
-    record { checks = tests; unrevoked = λ cert number named. ok_unrevoked x pairs issuer cert uri named c.args.serial number c.check.result tests }
+    let tests = tests_of x issuer c.args.serial (IsUnderUri pairs uri) crl c.in-Some.ensures
+    (λ d at. one_earliest pairs uri d crl at c.in-Some.ensures) c.check.result c.check.ensures in
+    record {
+      checks = tests;
+      unrevoked = λ cert number named. ok_unrevoked x pairs issuer cert uri named c.args.serial
+          number c.check.result tests;
+    }
 
 pub returns-in-None : goal.returns-in-None
 returns-in-None g c =
@@ -23,4 +28,8 @@ returns-in-None g c =
     let pairs = c.args.self.now.pairs in
     let uri = c.args.crl_uri.now in
     let first = no_list x issuer c.args.serial (IsUnderUri pairs uri) (no_earliest pairs uri c.in-None.ensures) in
-    record { checks = first; unrevoked = λ cert number named. ok_unrevoked x pairs issuer cert uri named c.args.serial number (Err NoCrl) first }
+    record {
+      checks = first;
+      unrevoked = λ cert number named. ok_unrevoked x pairs issuer cert uri named c.args.serial
+          number (Err NoCrl) first;
+    }

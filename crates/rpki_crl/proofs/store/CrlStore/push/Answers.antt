@@ -11,4 +11,6 @@ returns-clause-stored c =
     let kept = ap (λ (k : CrlState). old ++ (c.args.uri, k) ∷ []) c.in-Ok.ensures.stored in
     let grown : c.push.new.self.items ≡ old ++ stored caches c.args.uri c.args.crl ∷ [] = c.in-Ok-push.ensures.items ∙ room ∙ kept in
     let made : List Stored → StoreFields = λ ps. record { pairs = ps; caches = caches } in
-    subst (λ (s : StoreFields). made c.push.new.self.items ≡ record { pairs = s.pairs ++ stored s.caches c.args.uri c.args.crl ∷ []; caches = s.caches }) c.self.view_is (ap made grown)
+    subst (λ (s : StoreFields). made c.push.new.self.items ≡
+    record { pairs = s.pairs ++ stored s.caches c.args.uri c.args.crl ∷ []; caches = s.caches }) c.self.view_is
+    (ap made grown)

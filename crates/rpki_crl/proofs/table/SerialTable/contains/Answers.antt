@@ -21,7 +21,8 @@ loop-low-init c =
     record {
       between = between;
       few = omega (arith, digits_grow (high - low) (length c.args.self.now) (let in_it = between.inside in omega arith));
-      rest = λ looks h. let none : looks ≡ c.new-count.result + looks = omega (arith, c.new-count.ensures) in subst (λ (n : ℕ). Halving c.args.self.now c.args.serial low high n) none h;
+      rest = λ looks h. let none : looks ≡ c.new-count.result + looks = omega (arith, c.new-count.ensures) in
+          subst (λ (n : ℕ). Halving c.args.self.now c.args.serial low high n) none h;
     }
 
 pub loop-low-preserved-in-Less : goal.loop-low-preserved-in-Less
@@ -35,11 +36,14 @@ loop-low-preserved-in-Less c =
     let step = digits_step n (omega arith) in
     let grow = digits_grow (high - (middle + 1)) (n / 2) (omega arith) in
     record {
-      between = go_up xs serial c.places_of-low.ensures.ascending low middle high c.loop-low.invariant.between (omega arith) (omega arith) c.in-Less.ensures.compared;
+      between = go_up xs serial c.places_of-low.ensures.ascending low middle high c.loop-low.invariant.between
+          (omega arith) (omega arith) c.in-Less.ensures.compared;
       few = omega (arith, c.loop-low.invariant.few, step, grow, c.compare_at.ensures.counted);
       rest = λ looks h.
           let one : c.loop-low.count + (looks + 1) ≡ c.compare_at.new.count + looks = omega (arith, c.compare_at.ensures.counted) in
-          subst (λ (n : ℕ). Halving xs serial c.places_of-low.result.0 c.places_of-low.result.1 n) one (c.loop-low.invariant.rest (looks + 1) (above low high looks (omega arith) c.in-Less.ensures.compared h));
+          subst (λ (n : ℕ). Halving xs serial c.places_of-low.result.0 c.places_of-low.result.1 n) one
+          (c.loop-low.invariant.rest (looks + 1)
+          (above low high looks (omega arith) c.in-Less.ensures.compared h));
     }
 
 pub loop-low-preserved : goal.loop-low-preserved
@@ -53,11 +57,14 @@ loop-low-preserved c =
     let step = digits_step n (omega arith) in
     let same : middle - low ≡ n / 2 = omega arith in
     record {
-      between = go_down xs serial c.places_of-low.ensures.ascending low middle high c.loop-low.invariant.between (omega arith) (omega arith) c.in-Greater.ensures.compared;
+      between = go_down xs serial c.places_of-low.ensures.ascending low middle high c.loop-low.invariant.between
+          (omega arith) (omega arith) c.in-Greater.ensures.compared;
       few = omega (arith, c.loop-low.invariant.few, step, ap digits same, c.compare_at.ensures.counted);
       rest = λ looks h.
           let one : c.loop-low.count + (looks + 1) ≡ c.compare_at.new.count + looks = omega (arith, c.compare_at.ensures.counted) in
-          subst (λ (n : ℕ). Halving xs serial c.places_of-low.result.0 c.places_of-low.result.1 n) one (c.loop-low.invariant.rest (looks + 1) (below low high looks (omega arith) c.in-Greater.ensures.compared h));
+          subst (λ (n : ℕ). Halving xs serial c.places_of-low.result.0 c.places_of-low.result.1 n) one
+          (c.loop-low.invariant.rest (looks + 1)
+          (below low high looks (omega arith) c.in-Greater.ensures.compared h));
     }
 
 pub returns-in-Equal-clause-few : goal.returns-in-Equal-clause-few
@@ -74,12 +81,18 @@ returns-in-Equal-clause-searched c =
       low = low;
       high = high;
       range = c.places_of-low.ensures.range;
-      halves = subst (λ (n : ℕ). Halving c.args.self.now c.args.serial low high n) one (c.loop-low.invariant.rest 1 (found c.loop-low.low c.loop-low.high (omega arith) c.in-Equal.ensures.compared));
+      halves = subst (λ (n : ℕ). Halving c.args.self.now c.args.serial low high n) one
+          (c.loop-low.invariant.rest 1
+          (found c.loop-low.low c.loop-low.high (omega arith) c.in-Equal.ensures.compared));
     }
 
 pub returns-clause-found : goal.returns-clause-found
-returns-clause-found c =
-    (λ is. absurd (false≢true is), λ found. absurd (not_there c.args.self.now c.args.serial c.loop-low.low c.loop-low.high c.loop-low-test.false c.loop-low.invariant.between found))
+returns-clause-found c = (
+  λ is. absurd (false≢true is),
+  λ found. absurd
+      (not_there c.args.self.now c.args.serial c.loop-low.low c.loop-low.high c.loop-low-test.false
+      c.loop-low.invariant.between found),
+)
 
 pub returns-clause-searched : goal.returns-clause-searched
 returns-clause-searched c =
@@ -90,5 +103,6 @@ returns-clause-searched c =
       low = low;
       high = high;
       range = c.places_of-low.ensures.range;
-      halves = subst (λ (n : ℕ). Halving c.args.self.now c.args.serial low high n) none (c.loop-low.invariant.rest 0 (nothing c.loop-low.low c.loop-low.high c.loop-low-test.false));
+      halves = subst (λ (n : ℕ). Halving c.args.self.now c.args.serial low high n) none
+          (c.loop-low.invariant.rest 0 (nothing c.loop-low.low c.loop-low.high c.loop-low-test.false));
     }

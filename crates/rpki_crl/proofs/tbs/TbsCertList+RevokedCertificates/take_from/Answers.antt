@@ -6,4 +6,5 @@ use Rattle.rpki_crl.proofs.tbs.TbsCertList+RevokedCertificates.take_from.Goals a
 
 pub returns : goal.returns
 unfolding list_format list_content_format
-returns c = answers_or_memory_alone (λ f. f) (list_format levels) c.args.cursor.now c.read.result c.read.new.cursor (list_alone levels) c.read.ensures.octets c.read.ensures.reads c.read.ensures.keeps
+returns c = answers_or_memory_alone (λ f. f) (list_format levels) c.args.cursor.now c.read.result c.read.new.cursor
+    (list_alone levels) c.read.ensures.octets c.read.ensures.reads c.read.ensures.keeps

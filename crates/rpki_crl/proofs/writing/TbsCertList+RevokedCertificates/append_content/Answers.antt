@@ -13,14 +13,18 @@ use Rattle.rpki_crl.proofs.writing.TbsCertList+RevokedCertificates.append_conten
 
 pub returns-in_err-encode_ref-2-clause-too_long : goal.returns-in_err-encode_ref-2-clause-too_long
 returns-in_err-encode_ref-2-clause-too_long c =
-    passed_long c.from_residual-in_err-encode_ref-2.result _ (revoked_part c.self.inside.revoked_certs).inside (list_content c.args.self.now) c.from_residual-in_err-encode_ref-2.ensures.1 c.in_err-encode_ref-2.ensures.too_long
+    passed_long c.from_residual-in_err-encode_ref-2.result _ (revoked_part c.self.inside.revoked_certs).inside
+    (list_content c.args.self.now) c.from_residual-in_err-encode_ref-2.ensures.1
+    c.in_err-encode_ref-2.ensures.too_long
     (omega (arith, ap (λ (f : ListFields Revoked). length (revoked_part f.revoked).inside) c.self.view_is, revoked_longer c.args.self.now))
 
 pub returns-clause-ok : goal.returns-clause-ok
 unfolding list_content_format
 returns-clause-ok c =
-    subst (λ (f : ListFields Revoked). OnOk c.append_tagged.result (c.append_tagged.new.out.items ≡ c.args.out.now.items ++ list_content f)) c.self.view_is
-    (on_ok_weaker c.append_tagged.result (λ (tagged : c.append_tagged.new.out.items ≡ c.encode_ref-2.new.out.items ++ tagged_list_extensions (extensions_view c.self.inside.extensions)). simp (
+    subst (λ (f : ListFields Revoked). OnOk c.append_tagged.result
+    (c.append_tagged.new.out.items ≡ c.args.out.now.items ++ list_content f)) c.self.view_is
+    (on_ok_weaker c.append_tagged.result
+    (λ (tagged : c.append_tagged.new.out.items ≡ c.encode_ref-2.new.out.items ++ tagged_list_extensions (extensions_view c.self.inside.extensions)). simp (
       tagged,
       c.in_ok-encode_ref-2.ensures.ok,
       c.in_ok-encode_varied-2.ensures.ok,
@@ -49,5 +53,10 @@ returns-clause-err c =
 
 pub returns-clause-too_long : goal.returns-clause-too_long
 returns-clause-too_long c =
-    still_long c.append_tagged.result (tagged_list_extensions (extensions_view c.self.inside.extensions)) (list_content c.args.self.now) c.append_tagged.ensures.too_long
-    (omega (arith, ap (λ (f : ListFields Revoked). length (tagged_list_extensions f.extensions)) c.self.view_is, tagged_longer c.args.self.now))
+    still_long c.append_tagged.result (tagged_list_extensions (extensions_view c.self.inside.extensions))
+    (list_content c.args.self.now) c.append_tagged.ensures.too_long
+    (omega (
+      arith,
+      ap (λ (f : ListFields Revoked). length (tagged_list_extensions f.extensions)) c.self.view_is,
+      tagged_longer c.args.self.now,
+    ))

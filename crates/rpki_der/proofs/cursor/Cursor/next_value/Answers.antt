@@ -10,6 +10,8 @@ returns-clause-reads c =
     let here : c.args.self.now ≡ p = cc in
     let content = c.in_ok-content.content.now in
     let after = c.in_ok-content.after.now in
-    let read : value_at c.args.tag (remaining c.args.self.now) ≡ Some (content, after) = rw (← c.rest-rest.ensures.remaining) (c.in_ok-content.ensures.reads) in
-    let at = placed c.args.tag p content after (omega arith) (omega arith) (subst (λ (q : Place). value_at c.args.tag (remaining q) ≡ Some (content, after)) here read) in
+    let read : value_at c.args.tag (remaining c.args.self.now) ≡ Some (content, after) =
+    rw (← c.rest-rest.ensures.remaining) (c.in_ok-content.ensures.reads) in
+    let at = placed c.args.tag p content after (omega arith) (omega arith)
+    (subst (λ (q : Place). value_at c.args.tag (remaining q) ≡ Some (content, after)) here read) in
     rw (at.content, at.after) read

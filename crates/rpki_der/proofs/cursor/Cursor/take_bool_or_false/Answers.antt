@@ -9,7 +9,8 @@ pub returns : goal.returns
 returns c =
     let read = c.next_bool_or_false in
     record {
-      encoded = answers_or_absent BOOLEAN bool_or_false_at IsBoolOrFalse bool_or_false c.args.self.now read.result read.new.self read.ensures.octets read.ensures.reads;
+      encoded = answers_or_absent BOOLEAN bool_or_false_at IsBoolOrFalse bool_or_false c.args.self.now read.result
+          read.new.self read.ensures.octets read.ensures.reads;
       reads = read.ensures.reads;
       keeps = read.ensures.keeps;
     }

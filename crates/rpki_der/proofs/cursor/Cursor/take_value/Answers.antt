@@ -9,7 +9,8 @@ pub returns-clause-answers : goal.returns-clause-answers
 returns-clause-answers c =
     let read = c.next_value in
     record {
-      encoded = answers remaining (value_at c.args.tag) (IsEnc c.args.tag) (value_reads c.args.tag) c.args.self.now read.result read.new.self read.ensures.octets read.ensures.reads;
+      encoded = answers remaining (value_at c.args.tag) (IsEnc c.args.tag) (value_reads c.args.tag) c.args.self.now
+          read.result read.new.self read.ensures.octets read.ensures.reads;
       reads = read.ensures.reads;
       keeps = read.ensures.keeps;
     }

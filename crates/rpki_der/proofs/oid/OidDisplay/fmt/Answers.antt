@@ -8,4 +8,5 @@ loop-octet-preserved g c = λ plain.
     let octets = c.as_bytes-octet-items.result.now in
     let i = c.loop-octet.octet-index in
     let small : get_or octets i 0 < 256 = search rules in
-    has_written_of_eq _ _ _ _ _ (pairs_more false octets i (search rules) small) (has_written_append _ _ _ _ _ _ (c.loop-octet.invariant plain) (search rules))
+    has_written_of_eq _ _ _ _ _ (pairs_more false octets i (search rules) small)
+    (has_written_append _ _ _ _ _ _ (c.loop-octet.invariant plain) (search rules))

@@ -1,4 +1,5 @@
-use Rattle.std.proofs.Common.{◌≡◌, ℕ, ◌+◌, ◌-◌, ◌^◌, ◌<◌, ◌≤◌, List, [], ◌++◌, length, take, drop, replicate, refl, sym, ap, ◌∙◌, append-nil, take_all, arith}
+use Rattle.std.proofs.Common.{◌≡◌, ℕ, ◌+◌, ◌-◌, ◌^◌, ◌<◌, ◌≤◌, List, [], ◌++◌, length, take, drop, replicate, refl}
+use Rattle.std.proofs.Common.{sym, ap, ◌∙◌, append-nil, take_all, arith}
 use borrow.Rule.Slice.PartMut.{put_mid}
 use Rattle.std.proofs.lemmas.List.{drop_all}
 use Rattle.std.proofs.lemmas.Slice.{put_mid-paste}
@@ -22,20 +23,27 @@ returns-clause-some c =
     (λ _. below, λ _. refl)
 
 -- octets at the end of zeros have their number
-padded : (copy digits : List ℕ) → copy ≡ digits → length digits ≤ 20 → number_from_digits 256 (put_mid (20 - length digits) (20 - (20 - length digits)) (replicate 20 0) copy) ≡ number_from_digits 256 digits
+padded : (copy digits : List ℕ) → copy ≡ digits → length digits ≤ 20 →
+    number_from_digits 256 (put_mid (20 - length digits) (20 - (20 - length digits)) (replicate 20 0) copy) ≡
+    number_from_digits 256 digits
 padded copy digits same short =
     let count = length digits in
     let front = 20 - count in
     let zeros : List ℕ = replicate 20 0 in
-    let pasted : put_mid front (20 - front) zeros copy ≡ (take front zeros ++ take count digits) ++ drop (front + count) zeros = put_mid-paste front (20 - front) zeros copy digits count same (omega arith) refl in
+    let pasted : put_mid front (20 - front) zeros copy ≡ (take front zeros ++ take count digits) ++
+    drop (front + count) zeros = put_mid-paste front (20 - front) zeros copy digits count same (omega arith)
+    refl in
     let nothing : drop (front + count) zeros ≡ [] = drop_all (front + count) zeros (omega arith) in
     let all : take count digits ≡ digits = take_all count digits (omega arith) in
-    let joined : (take front zeros ++ take count digits) ++ drop (front + count) zeros ≡ take front zeros ++ digits = rw (nothing, all) (append-nil (take front zeros ++ digits)) in
+    let joined : (take front zeros ++ take count digits) ++ drop (front + count) zeros ≡ take front zeros ++ digits =
+    rw (nothing, all) (append-nil (take front zeros ++ digits)) in
     ap (number_from_digits 256) (pasted ∙ joined) ∙ zeros_first 20 front digits
 
 pub returns-clause-value : goal.returns-clause-value
 returns-clause-value c =
     let n = number_from_digits 256 c.args.octets.now in
     let digits = c.significant-digits.result.now in
-    let whole : number_from_digits 256 digits ≡ n = ap (number_from_digits 256) c.significant-digits.ensures.digits ∙ number_digits_of 256 n (omega arith) in
-    c.of_octets.ensures ∙ padded c.copy_from_slice.new.self digits c.copy_from_slice.ensures.after (omega (arith, c.if-digits-gt20.false)) ∙ whole
+    let whole : number_from_digits 256 digits ≡ n = ap (number_from_digits 256) c.significant-digits.ensures.digits ∙
+    number_digits_of 256 n (omega arith) in
+    c.of_octets.ensures ∙ padded c.copy_from_slice.new.self digits c.copy_from_slice.ensures.after
+    (omega (arith, c.if-digits-gt20.false)) ∙ whole

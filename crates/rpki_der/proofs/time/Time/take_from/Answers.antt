@@ -7,4 +7,5 @@ use Rattle.rpki_der.proofs.time.Time.take_from.Goals as goal
 pub returns : goal.returns
 returns c =
     let read = c.take_time in
-    answers_lawful (λ x. x) time_format c.args.cursor.now read.result read.new.cursor refl time_lawful read.ensures.octets read.ensures.reads read.ensures.keeps
+    answers_lawful (λ x. x) time_format c.args.cursor.now read.result read.new.cursor refl time_lawful
+    read.ensures.octets read.ensures.reads read.ensures.keeps

@@ -8,4 +8,5 @@ pub returns-in-Err : goal.returns-in-Err
 returns-in-Err c = certainly c.in-Err.error (rejected _ _ _ _ _ c.in-Some.ensures c.in-Err.ensures.rejected)
 
 pub returns : goal.returns
-returns c = c.take.ensures (extension_view c.args.extension) c.in-Some.ensures c.in_default-check.ensures.flag c.in_default-check.ensures.first refl
+returns c = c.take.ensures (extension_view c.args.extension) c.in-Some.ensures c.in_default-check.ensures.flag
+    c.in_default-check.ensures.first refl

@@ -12,5 +12,6 @@ unreachable-requires c =
     let begins = c.self.invariant in
     let apart : c.in-Err.fault ≢ Memory = λ is. false≢true (sym c.if-not-is_memory.true ∙ c.is_memory.ensures.1 is) in
     let none = subst (λ (o : List ℕ). (d : CertFields) → Means IsCertificate d o → ⊥) c.in_ok-clone.ensures.cases
-    (rejected ((d : CertFields) → Means IsCertificate d c.in_ok-clone.field-0 → ⊥) c.in-Err.fault c.in-Err.ensures apart) in
+    (rejected ((d : CertFields) → Means IsCertificate d c.in_ok-clone.field-0 → ⊥) c.in-Err.fault c.in-Err.ensures
+    apart) in
     none begins.0 begins.1

@@ -14,9 +14,12 @@ loop-file-preserved c =
     let same = c.certs-file-items.ensures in
     let low : i < length certs = subst (λ (l : List (List ℕ)). i < length l) same c.loop-file-test.true in
     let is : file ≡ get_or certs i file = c.file-item.is ∙ ap (λ (l : List (List ℕ)). get_or l i file) same in
-    let next : take (i + 1) certs ≡ take i certs ++ file ∷ [] = take_more certs i file low ∙ ap (λ (o : List ℕ). take i certs ++ o ∷ []) (sym is) in
+    let next : take (i + 1) certs ≡ take i certs ++ file ∷ [] = take_more certs i file low ∙
+    ap (λ (o : List ℕ). take i certs ++ o ∷ []) (sym is) in
     let before = c.loop-file.invariant in (
       before.0 ++ own ∷ [],
-      subst (λ (l : List (List ℕ)). AllZip IsCertificateOctets l (before.0 ++ own ∷ [])) (sym next) (AllZip-push IsCertificateOctets (take i certs) before.0 file own before.1 c.in_ok-certificate_octets.ensures),
+      subst (λ (l : List (List ℕ)). AllZip IsCertificateOctets l (before.0 ++ own ∷ [])) (sym next)
+          (AllZip-push IsCertificateOctets (take i certs) before.0 file own before.1
+          c.in_ok-certificate_octets.ensures),
       c.in_ok-add.ensures before.0 before.2,
     )

@@ -17,8 +17,11 @@ invariant_of-self-2 c = (
       elim c.match-said.branch [
         | in-Some+in_ok-add w ↦
             rw (c.in-Ok.ensures.items, w.self-inside-is, c.in_ok-try_reserve.ensures.items, c.new.ensures)
-            (with_key certs octets law said.0 said.1 table c.self.invariant.0 w.in-Some.key (named ∙ w.in-Some.is) (places_in w.add.new.self.places)
-            (subst (λ (n : ℕ). (k : List ℕ) → places_in w.add.new.self.places k ≡ with_place w.in-Some.key n k (table k)) len w.in_ok-add.ensures.ok) key)
+            (with_key certs octets law said.0 said.1 table c.self.invariant.0 w.in-Some.key (named ∙ w.in-Some.is)
+            (places_in w.add.new.self.places)
+            (subst (λ (n : ℕ). (k : List ℕ) →
+            places_in w.add.new.self.places k ≡ with_place w.in-Some.key n k (table k)) len
+            w.in_ok-add.ensures.ok) key)
         | in_default w ↦
             rw (c.in-Ok.ensures.items, w.self-inside-is, c.in_ok-try_reserve.ensures.items, c.new.ensures)
             (without_key certs octets law said.0 said.1 table c.self.invariant.0 (named ∙ w.in_default.is) key)

@@ -14,9 +14,14 @@ invariant_of-self-2 c = (
       let new = places_in c.add.new.self.places in
       let list = c.args.list in
       let place = c.len-place.result in
-      let signer : c.authority_key_identifier.result.now ≡ signer_of list = c.authority_key_identifier.ensures ∙ ap (λ (f : ListFields Revoked). f.extensions.authority_key_identifier) c.as_cert_list.ensures in
+      let signer : c.authority_key_identifier.result.now ≡ signer_of list = c.authority_key_identifier.ensures ∙
+      ap (λ (f : ListFields Revoked). f.extensions.authority_key_identifier) c.as_cert_list.ensures in
       let last : place ≡ length lists = c.len-place.ensures ∙ c.self.inside.lists.ok.0 in
-      let added : new key ≡ with_place (signer_of list) place key (table key) = subst (λ (s : List ℕ). new key ≡ with_place s place key (table key)) signer (c.in_default-add.ensures.ok key) in
-      let items : c.push.new.self.items ≡ lists ++ list ∷ [] = c.in-Ok.ensures.items ∙ ap (λ (l : List CrlState). l ++ list ∷ []) c.in_default.ensures.items in
-      added ∙ ap (λ (ps : List ℕ). with_place (signer_of list) place key ps) (c.self.invariant.1 key) ∙ sym (list_added key lists list place last) ∙ sym (ap (λ (l : List CrlState). list_places key l) items)),
+      let added : new key ≡ with_place (signer_of list) place key (table key) =
+      subst (λ (s : List ℕ). new key ≡ with_place s place key (table key)) signer
+      (c.in_default-add.ensures.ok key) in
+      let items : c.push.new.self.items ≡ lists ++ list ∷ [] = c.in-Ok.ensures.items ∙
+      ap (λ (l : List CrlState). l ++ list ∷ []) c.in_default.ensures.items in
+      added ∙ ap (λ (ps : List ℕ). with_place (signer_of list) place key ps) (c.self.invariant.1 key) ∙
+      sym (list_added key lists list place last) ∙ sym (ap (λ (l : List CrlState). list_places key l) items)),
 )

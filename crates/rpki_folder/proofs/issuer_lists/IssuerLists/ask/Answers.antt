@@ -13,4 +13,7 @@ pub returns-in_default : goal.returns-in_default
 returns-in_default c =
     let given = ap (λ rs. map (λ r. r.now) rs) c.deref.ensures.value in
     let none = none_left (map (λ r. r.now) c.deref.result.now) c.in_default.ensures in
-    inl (sym (ap (λ (k : IssuerFields). k.eligible) c.self.view_is) ∙ sym given ∙ none, ap (λ (k : IssuerFields). Err k.otherwise) c.self.view_is)
+    inl (
+      sym (ap (λ (k : IssuerFields). k.eligible) c.self.view_is) ∙ sym given ∙ none,
+      ap (λ (k : IssuerFields). Err k.otherwise) c.self.view_is,
+    )

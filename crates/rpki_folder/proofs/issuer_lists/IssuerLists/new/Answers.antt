@@ -15,7 +15,8 @@ returns g c = λ strict.
     let first = ap (λ rs. map (λ r. r.now) rs) c.deref.ensures.value in
     let second = ap (λ rs. map (λ r. r.now) rs) c.deref-2.ensures.value in
     record {
-      eligible = eligible_there names x lists issuer (map (λ r. r.now) c.deref.result.now) (map (λ r. r.now) c.in_ok-eligible.eligible.items)
+      eligible = eligible_there names x lists issuer (map (λ r. r.now) c.deref.result.now)
+          (map (λ r. r.now) c.in_ok-eligible.eligible.items)
           (subst of_issuer (sym first) c.in_ok-named.ensures) c.in_ok-eligible.ensures;
       otherwise = c.why_none-otherwise.ensures names strict (subst of_issuer (sym second) c.in_ok-named.ensures);
     }

@@ -11,7 +11,11 @@ returns-then-is_question g c =
     let is = c.if-is_question.true in
     let e = c.is_question.ensures in
     rw (← c.self.view_is)
-    (subst (λ (s : List ℕ). IsTrue k.answer ↔ verifies c.args.key.now c.args.algorithm c.args.message.now s) (e.signature is)
-    (subst (λ (m : List ℕ). IsTrue k.answer ↔ verifies c.args.key.now c.args.algorithm m k.signed.now.signature.value) (e.message is)
-    (subst (λ (a : Algorithm). IsTrue k.answer ↔ verifies c.args.key.now a k.signed.now.message k.signed.now.signature.value) (e.algorithm is)
-    (subst (λ (q : KeyFields). IsTrue k.answer ↔ verifies q k.signed.now.signature.algorithm k.signed.now.message k.signed.now.signature.value) (e.key is) c.self.invariant))))
+    (subst (λ (s : List ℕ). IsTrue k.answer ↔ verifies c.args.key.now c.args.algorithm c.args.message.now s)
+    (e.signature is)
+    (subst (λ (m : List ℕ). IsTrue k.answer ↔ verifies c.args.key.now c.args.algorithm m
+    k.signed.now.signature.value) (e.message is)
+    (subst (λ (a : Algorithm). IsTrue k.answer ↔ verifies c.args.key.now a k.signed.now.message
+    k.signed.now.signature.value) (e.algorithm is)
+    (subst (λ (q : KeyFields). IsTrue k.answer ↔ verifies q k.signed.now.signature.algorithm k.signed.now.message
+    k.signed.now.signature.value) (e.key is) c.self.invariant))))

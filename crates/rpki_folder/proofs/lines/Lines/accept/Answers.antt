@@ -14,9 +14,11 @@ returns c =
     let place = c.args.place in
     let new = c.accept.new.self in
     let low : place < length lines = subst (λ (l : List Line). place < length l) (sym c.self.view_is) c.requires in
-    let kept = λ (ts : List Told) (old : AreLines ts c.args.self.now). subst (λ (l : List Line). AreLines ts l) (sym c.self.view_is) old in
+    let kept = λ (ts : List Told) (old : AreLines ts c.args.self.now). subst (λ (l : List Line). AreLines ts l)
+    (sym c.self.view_is) old in
     let here = λ (ts : List Told) (old : AreLines ts c.args.self.now).
-    subst (λ (l : Line). IsLine ts place l) (sym c.index_mut.ensures.value) (kept ts old place c.index_mut.result.now low) in
+    subst (λ (l : Line). IsLine ts place l) (sym c.index_mut.ensures.value)
+    (kept ts old place c.index_mut.result.now low) in
     record {
       ok = λ ts old.
           let t = told c.args.above.now place (Ok c.args.accepted.now) in

@@ -16,7 +16,8 @@ loop-preserved c =
     let lines = c.loop.lines.items in
     let items = c.in_ok-push.ensures.items in
     let count : length lines ≡ c.loop.counter = c.loop.invariant.0 in
-    let more : length c.push.new.self.items ≡ c.loop.counter + 1 = omega (arith, ap length items, length-append lines (Unseen ∷ []), count) in
+    let more : length c.push.new.self.items ≡ c.loop.counter + 1 =
+    omega (arith, ap length items, length-append lines (Unseen ∷ []), count) in
     (more, subst (λ (l : List Line). AreLines [] l) (sym items) (unseen_more lines c.loop.invariant.1))
 
 pub returns-clause-count : goal.returns-clause-count

@@ -16,7 +16,8 @@ returns-in-Some c =
     let key = c.args.name in
     let found : Some c.in-Some.places.now ≡ get (slice_cmp nat_cmp) m key = c.in-Some.ensures.value in
     let some : IsSome (get (slice_cmp nat_cmp) m key) = subst (λ (o : Option (Vec ℕ)). IsSome o) found refl in
-    let items : w.items ≡ places_in m key ++ c.args.place ∷ [] = c.in_ok-added.ensures.items ∙ ap (λ (o : Option (Vec ℕ)). listed o ++ c.args.place ∷ []) found in
+    let items : w.items ≡ places_in m key ++ c.args.place ∷ [] = c.in_ok-added.ensures.items ∙
+    ap (λ (o : Option (Vec ℕ)). listed o ++ c.args.place ∷ []) found in
     place_added m n key w c.args.place ((c.get_mut.follows.holds w).3 some).0 items
 
 pub returns-in-Ok : goal.returns-in-Ok
@@ -29,7 +30,10 @@ returns-in-Ok c =
     let empty : [] ≡ places_in m key = ap listed none in
     let step = c.in_ok-name.ensures.ok in
     let pushed : w.items ≡ c.new-places.result.items ++ c.args.place ∷ [] = rw step.1 at c.push-added-2.ensures.items in
-    let items : w.items ≡ places_in m key ++ c.args.place ∷ [] = pushed ∙ ap (λ (l : List ℕ). l ++ c.args.place ∷ []) (c.new-places.ensures.items ∙ empty) in
+    let items : w.items ≡ places_in m key ++ c.args.place ∷ [] =
+    pushed ∙ ap (λ (l : List ℕ). l ++ c.args.place ∷ []) (c.new-places.ensures.items ∙ empty) in
     let there : Sets c.get_mut.follows.lender-at-none n c.in_ok-name.name w = c.in-Ok.ensures.updates.0 in
-    let sets : Sets m n key w = subst (λ (k : List ℕ). Sets m n k w) step.0 (subst (λ (b : BTreeMap (List ℕ) (Vec ℕ)). Sets b n c.in_ok-name.name w) c.get_mut.follows.holds-at-none there) in
+    let sets : Sets m n key w = subst (λ (k : List ℕ). Sets m n k w) step.0
+    (subst (λ (b : BTreeMap (List ℕ) (Vec ℕ)). Sets b n c.in_ok-name.name w) c.get_mut.follows.holds-at-none
+    there) in
     place_added m n key w c.args.place sets items

@@ -21,11 +21,14 @@ loop-place-preserved c = λ k.
     let place = get_or places i 0 in
     let old = places_in c.loop-place.table.places in
     let new = places_in c.add.new.self.places in
-    subst (λ (l : List ℕ). ArePicked (λ (p : ℕ). HasIssuer k certs p) l (new k)) (sym (take_more places i 0 c.loop-place-test.true))
-    (by_issuer_more c.unambiguous.ensures.certificate certs (take i places) place c.in_ok-issuer_at.field-0 c.in_ok-issuer_at.ensures old new c.loop-place.invariant c.in_ok-add.ensures k)
+    subst (λ (l : List ℕ). ArePicked (λ (p : ℕ). HasIssuer k certs p) l (new k))
+    (sym (take_more places i 0 c.loop-place-test.true))
+    (by_issuer_more c.unambiguous.ensures.certificate certs (take i places) place c.in_ok-issuer_at.field-0
+    c.in_ok-issuer_at.ensures old new c.loop-place.invariant c.in_ok-add.ensures k)
 
 pub returns : goal.returns
 returns c = λ k.
     let certs = c.args.folder.now.certs in
     let places = c.args.places.now in
-    subst (λ (l : List ℕ). ArePicked (λ (p : ℕ). HasIssuer k certs p) l (places_in c.loop-place.table.places k)) (take_all c.loop-place.place-index places c.loop-place-test.false) (c.loop-place.invariant k)
+    subst (λ (l : List ℕ). ArePicked (λ (p : ℕ). HasIssuer k certs p) l (places_in c.loop-place.table.places k))
+    (take_all c.loop-place.place-index places c.loop-place-test.false) (c.loop-place.invariant k)

@@ -2,7 +2,8 @@ use Rattle.std.specs.Prelude.{Result, Ok, Bool, true, false, ◌==◌, Contains}
 use Rattle.std.specs.List.{AllByRecursion}
 use Rattle.std.specs.Global.{Vec}
 use Rattle.std.specs.declared.alloc.AllocError.{AllocError}
-use Rattle.std.proofs.Common.{rules, ◌≡◌, ◌+◌, ◌-◌, ◌*◌, ◌/◌, ◌<◌, ◌≤◌, ℕ, List, [], ◌∷◌, ◌++◌, length, take, refl, sym, ap, subst, ◌∙◌, append_assoc, arith}
+use Rattle.std.proofs.Common.{rules, ◌≡◌, ◌+◌, ◌-◌, ◌*◌, ◌/◌, ◌<◌, ◌≤◌, ℕ, List, [], ◌∷◌, ◌++◌, length, take, refl}
+use Rattle.std.proofs.Common.{sym, ap, subst, ◌∙◌, append_assoc, arith}
 use Rattle.std.proofs.lemmas.Bool.{eqb-true}
 use Rattle.std.proofs.lemmas.List.{append-nil, take_more, take_all}
 use Rattle.std.proofs.lemmas.List.Elements.{Contains-get_or}
@@ -20,10 +21,12 @@ use Rattle.rpki_folder.specs.ReachedLimits.Steps.{CostIs, KeepsBelow, KeepsBelow
 use Rattle.rpki_folder.specs.Walks.Steps.{AreJudged, IsToldOf, WalksBelowEach}
 use Rattle.rpki_folder.proofs.KeptIssuers.{kept_at, kids_here}
 use Rattle.rpki_folder.proofs.Descent.{there as low_of, child_names, no_sound, ca_stands, if_ok, ok_if}
-use Rattle.rpki_folder.proofs.Shares.{take_within, take_shorter, each_none, each_stops, each_fails, each_walked, ended_err, ended_none}
+use Rattle.rpki_folder.proofs.Shares.{take_within, take_shorter, each_none, each_stops, each_fails, each_walked}
+use Rattle.rpki_folder.proofs.Shares.{ended_err, ended_none}
 use Rattle.rpki_folder.proofs.PickedLists.{in_none as none_in}
 use Rattle.rpki_folder.proofs.LookedAt.{last_pushed, inside_pushed}
-use Rattle.rpki_folder.proofs.KeptLimits.{keeps_none, keeps_each_none, keeps_each_more, keeps_childless, keeps_deep, keeps_short, keeps_each, keeps_last}
+use Rattle.rpki_folder.proofs.KeptLimits.{keeps_none, keeps_each_none, keeps_each_more, keeps_childless, keeps_deep}
+use Rattle.rpki_folder.proofs.KeptLimits.{keeps_short, keeps_each, keeps_last}
 use Rattle.rpki_folder.proofs.BelowIssuer.{Others, at_err, at_none, at_depth, at_short, judged_err, at_last, at_each}
 use Rattle.rpki_folder.proofs.StepAnswers.{popped}
 use Rattle.rpki_folder.proofs.walk.Walk.+descend.Goals as goal
@@ -42,9 +45,11 @@ each_below-loop-ca-init g t c =
       (λ v ts heard. (
         [],
         subst (λ (l : List Told). g.W.Visitor.became v l c.args.visitor.now) (sym (append-nil ts)) heard,
-        (λ root leads. each_none x asked admits root certs c.args.trail.now.above.items c.args.depth c.args.share.steps {E = AllocError}),
+        (λ root leads. each_none x asked admits root certs c.args.trail.now.above.items c.args.depth
+            c.args.share.steps {E = AllocError}),
       )),
-      keeps_each_none x asked admits certs c.args.trail.now.above.items c.args.depth c.args.share c.args.trail.now.limits,
+      keeps_each_none x asked admits certs c.args.trail.now.above.items c.args.depth c.args.share
+          c.args.trail.now.limits,
     )
 
 pub each_below-descend-below-requires : goal.each_below-descend-below-requires
@@ -55,12 +60,15 @@ each_below-descend-below-requires g t c =
     let cas = c.args.cas.now in
     let index = c.loop-ca.ca-index in
     let ca = c.ca-item.result in
-    let at : Contains cas ca = subst (λ (k : Ca). Contains cas k) (sym c.ca-item.is) (Contains-get_or cas index ca c.loop-ca-test.true) in
+    let at : Contains cas ca = subst (λ (k : Ca). Contains cas k) (sym c.ca-item.is)
+    (Contains-get_or cas index ca c.loop-ca-test.true) in
     let stands : StandsAt certs ca.place ca.holder.cert = c.requires.stand ca at in
     let deeper = c.in_ok-push.ensures.items ∙ ap (λ (l : List ℕ). l ++ ca.place ∷ []) c.loop-ca.invariant.0 in
     let low : ca.place < length certs = low_of certs ca.holder.cert ca.place stands in
-    let inside = subst (λ (l : List ℕ). (p : ℕ) → Contains l p → p < length certs) (sym deeper) (inside_pushed top certs above ca.place c.requires.inside low) in
-    let last = subst (λ (l : List ℕ). IsLastOf top certs l ca.holder.cert) (sym deeper) (last_pushed top certs above ca.place ca.holder.cert stands) in
+    let inside = subst (λ (l : List ℕ). (p : ℕ) → Contains l p → p < length certs) (sym deeper)
+    (inside_pushed top certs above ca.place c.requires.inside low) in
+    let last = subst (λ (l : List ℕ). IsLastOf top certs l ca.holder.cert) (sym deeper)
+    (last_pushed top certs above ca.place ca.holder.cert stands) in
     let kept = c.loop-ca.invariant.1 in
     search (rules, inside, last, kept)
 
@@ -76,7 +84,9 @@ each_below-returns-in_err-push-clause-tells g t c = λ v ts heard.
     let i = c.loop-ca.invariant.2 v ts heard in (
       i.0,
       i.1,
-      (λ root leads. each_stops x asked admits root certs c.args.trail.now.above.items c.args.depth c.args.share.steps (take index cas) cas i.0 (Ok c.loop-ca.ended) c.from_residual.result (take_within cas index) (let low = take_shorter cas index c.loop-ca-test.true in omega (arith, low))
+      (λ root leads. each_stops x asked admits root certs c.args.trail.now.above.items c.args.depth
+          c.args.share.steps (take index cas) cas i.0 (Ok c.loop-ca.ended) c.from_residual.result
+          (take_within cas index) (let low = take_shorter cas index c.loop-ca-test.true in omega (arith, low))
           (i.2 root (λ k at. leads k (take_within cas index k at))) c.from_residual.ensures.0),
     )
 
@@ -94,12 +104,19 @@ each_below-returns-in_err-below-clause-tells g t c = λ v ts heard.
     let i = c.loop-ca.invariant.2 v ts heard in
     let b = c.descend-below.ensures.tells v (ts ++ i.0) i.1 in
     let deeper = c.in_ok-push.ensures.items ∙ ap (λ (l : List ℕ). l ++ ca.place ∷ []) c.loop-ca.invariant.0 in
-    let below : TellsBelow x asked admits ca.holder certs (above ++ ca.place ∷ []) c.args.depth c.args.share.steps c.descend-below.result b.0 = subst (λ (l : List ℕ). TellsBelow x asked admits ca.holder certs l c.args.depth c.args.share.steps c.descend-below.result b.0) deeper b.2 in
-    let at : Contains cas ca = subst (λ (k : Ca). Contains cas k) (sym c.ca-item.is) (Contains-get_or cas index ca c.loop-ca-test.true) in (
+    let below : TellsBelow x asked admits ca.holder certs (above ++ ca.place ∷ []) c.args.depth c.args.share.steps
+    c.descend-below.result b.0 =
+    subst (λ (l : List ℕ). TellsBelow x asked admits ca.holder certs l c.args.depth c.args.share.steps
+    c.descend-below.result b.0) deeper b.2 in
+    let at : Contains cas ca = subst (λ (k : Ca). Contains cas k) (sym c.ca-item.is)
+    (Contains-get_or cas index ca c.loop-ca-test.true) in (
       i.0 ++ b.0,
       subst (λ (l : List Told). g.W.Visitor.became v l c.descend-below.new.visitor) (append_assoc ts i.0 b.0) b.1,
-      (λ root leads. each_fails x asked admits root certs above c.args.depth c.args.share.steps cas index ca (take_within cas index) (take_shorter cas index c.loop-ca-test.true) at i.0 b.0 (Ok c.loop-ca.ended) c.descend-below.result c.from_residual-in_err-below.result
-          (i.2 root (λ k among. leads k (take_within cas index k among))) (below root (leads ca at)) c.from_residual-in_err-below.ensures.0),
+      (λ root leads. each_fails x asked admits root certs above c.args.depth c.args.share.steps cas index ca
+          (take_within cas index) (take_shorter cas index c.loop-ca-test.true) at i.0 b.0 (Ok c.loop-ca.ended)
+          c.descend-below.result c.from_residual-in_err-below.result
+          (i.2 root (λ k among. leads k (take_within cas index k among))) (below root (leads ca at))
+          c.from_residual-in_err-below.ensures.0),
     )
 
 pub each_below-loop-ca-preserved : goal.each_below-loop-ca-preserved
@@ -120,14 +137,24 @@ each_below-loop-ca-preserved g t c =
           let end = c.in_ok-below.field-0 in
           let i = c.loop-ca.invariant.2 v ts heard in
           let b = c.descend-below.ensures.tells v (ts ++ i.0) i.1 in
-          let below : TellsBelow x asked admits ca.holder certs (above ++ ca.place ∷ []) c.args.depth c.args.share.steps c.descend-below.result b.0 = subst (λ (l : List ℕ). TellsBelow x asked admits ca.holder certs l c.args.depth c.args.share.steps c.descend-below.result b.0) deeper b.2 in
-          let ended : TellsBelow x asked admits ca.holder certs (above ++ ca.place ∷ []) c.args.depth c.args.share.steps (Ok end) b.0 = subst (λ (r : Result Ended AllocError). TellsBelow x asked admits ca.holder certs (above ++ ca.place ∷ []) c.args.depth c.args.share.steps r b.0) c.in_ok-below.was below in
-          let next : take (index + 1) cas ≡ take index cas ++ ca ∷ [] = take_more cas index ca c.loop-ca-test.true ∙ ap (λ (k : Ca). take index cas ++ k ∷ []) (sym c.ca-item.is) in (
+          let below : TellsBelow x asked admits ca.holder certs (above ++ ca.place ∷ []) c.args.depth
+          c.args.share.steps c.descend-below.result b.0 =
+          subst (λ (l : List ℕ). TellsBelow x asked admits ca.holder certs l c.args.depth c.args.share.steps
+          c.descend-below.result b.0) deeper b.2 in
+          let ended : TellsBelow x asked admits ca.holder certs (above ++ ca.place ∷ []) c.args.depth
+          c.args.share.steps (Ok end) b.0 =
+          subst (λ (r : Result Ended AllocError). TellsBelow x asked admits ca.holder certs
+          (above ++ ca.place ∷ []) c.args.depth c.args.share.steps r b.0) c.in_ok-below.was below in
+          let next : take (index + 1) cas ≡ take index cas ++ ca ∷ [] = take_more cas index ca c.loop-ca-test.true ∙
+          ap (λ (k : Ca). take index cas ++ k ∷ []) (sym c.ca-item.is) in (
             i.0 ++ b.0,
             subst (λ (l : List Told). g.W.Visitor.became v l c.descend-below.new.visitor) (append_assoc ts i.0 b.0) b.1,
-            subst (λ (l : List Ca). WalksBelowEach {E = AllocError} x asked admits certs above c.args.depth c.args.share.steps l (Ok c.and-ended.result) (i.0 ++ b.0)) (sym next)
-                (subst (λ (e : Ended). WalksBelowEach {E = AllocError} x asked admits certs above c.args.depth c.args.share.steps (take index cas ++ ca ∷ []) (Ok e) (i.0 ++ b.0)) (sym c.and-ended.ensures)
-                (each_walked x asked admits certs above c.args.depth c.args.share.steps {E = AllocError} (take index cas) ca i.0 b.0 c.loop-ca.ended end i.2 ended)),
+            subst (λ (l : List Ca). WalksBelowEach {E = AllocError} x asked admits certs above c.args.depth
+                c.args.share.steps l (Ok c.and-ended.result) (i.0 ++ b.0)) (sym next)
+                (subst (λ (e : Ended). WalksBelowEach {E = AllocError} x asked admits certs above c.args.depth
+                c.args.share.steps (take index cas ++ ca ∷ []) (Ok e) (i.0 ++ b.0)) (sym c.and-ended.ensures)
+                (each_walked x asked admits certs above c.args.depth c.args.share.steps {E = AllocError}
+                (take index cas) ca i.0 b.0 c.loop-ca.ended end i.2 ended)),
           )),
       (
           let w = c.args.self.now in
@@ -139,11 +166,16 @@ each_below-loop-ca-preserved g t c =
           let old = c.args.trail.now.limits in
           let mid = c.loop-ca.trail.limits in
           let new = c.descend-below.new.trail.limits in
-          let next : take (index + 1) cas ≡ take index cas ++ ca ∷ [] = take_more cas index ca c.loop-ca-test.true ∙ ap (λ (k : Ca). take index cas ++ k ∷ []) (sym c.ca-item.is) in
-          let below = subst (λ (l : List ℕ). KeepsBelow x asked admits ca.holder certs l c.args.depth c.args.share mid new end) deeper c.in_ok-below.ensures.limits in
-          subst (λ (l : List Ca). KeepsBelowEach x asked admits certs above c.args.depth c.args.share l old new c.and-ended.result) (sym next)
-          (subst (λ (e : Ended). KeepsBelowEach x asked admits certs above c.args.depth c.args.share (take index cas ++ ca ∷ []) old new e) (sym c.and-ended.ensures)
-          (keeps_each_more x asked admits certs above c.args.depth c.args.share (take index cas) ca old mid new c.loop-ca.ended end c.loop-ca.invariant.3 below))
+          let next : take (index + 1) cas ≡ take index cas ++ ca ∷ [] = take_more cas index ca c.loop-ca-test.true ∙
+          ap (λ (k : Ca). take index cas ++ k ∷ []) (sym c.ca-item.is) in
+          let below = subst (λ (l : List ℕ). KeepsBelow x asked admits ca.holder certs l c.args.depth c.args.share
+          mid new end) deeper c.in_ok-below.ensures.limits in
+          subst (λ (l : List Ca). KeepsBelowEach x asked admits certs above c.args.depth c.args.share l old new
+          c.and-ended.result) (sym next)
+          (subst (λ (e : Ended). KeepsBelowEach x asked admits certs above c.args.depth c.args.share
+          (take index cas ++ ca ∷ []) old new e) (sym c.and-ended.ensures)
+          (keeps_each_more x asked admits certs above c.args.depth c.args.share (take index cas) ca old mid new
+          c.loop-ca.ended end c.loop-ca.invariant.3 below))
           ),
     )
 
@@ -157,7 +189,9 @@ each_below-returns-clause-tells g t c = λ v ts heard.
     let i = c.loop-ca.invariant.2 v ts heard in (
       i.0,
       i.1,
-      subst (λ (l : List Ca). WalksBelowEach {E = AllocError} x asked admits certs c.args.trail.now.above.items c.args.depth c.args.share.steps l (Ok c.loop-ca.ended) i.0) (take_all c.loop-ca.ca-index c.args.cas.now c.loop-ca-test.false) i.2,
+      subst (λ (l : List Ca). WalksBelowEach {E = AllocError} x asked admits certs c.args.trail.now.above.items
+          c.args.depth c.args.share.steps l (Ok c.loop-ca.ended) i.0)
+          (take_all c.loop-ca.ca-index c.args.cas.now c.loop-ca-test.false) i.2,
     )
 
 pub each_below-returns-clause-limits : goal.each_below-returns-clause-limits
@@ -167,22 +201,27 @@ each_below-returns-clause-limits g t c =
     let asked = by_named_lists w.names x w.folder.now.lists in
     let certs = w.folder.now.certs in
     let admits = IsLookedAt w.names (g.A.Admission.admits w.admission.now) c.args.top.now.cert certs in
-    subst (λ (l : List Ca). KeepsBelowEach x asked admits certs c.args.trail.now.above.items c.args.depth c.args.share l c.args.trail.now.limits c.loop-ca.trail.limits c.loop-ca.ended) (take_all c.loop-ca.ca-index c.args.cas.now c.loop-ca-test.false) c.loop-ca.invariant.3
+    subst (λ (l : List Ca). KeepsBelowEach x asked admits certs c.args.trail.now.above.items c.args.depth
+    c.args.share l c.args.trail.now.limits c.loop-ca.trail.limits c.loop-ca.ended)
+    (take_all c.loop-ca.ca-index c.args.cas.now c.loop-ca-test.false) c.loop-ca.invariant.3
 
 -- ---- below an issuer
 
 -- the places of the issuer's key
-there : (certs : List (List ℕ)) (key own : List ℕ) (places : List ℕ) → key ≡ own → ArePlacesOf certs key places → ArePlacesOf certs own places
+there : (certs : List (List ℕ)) (key own : List ℕ) (places : List ℕ) → key ≡ own → ArePlacesOf certs key places →
+    ArePlacesOf certs own places
 there certs key own places is are = subst (λ (k : List ℕ). ArePlacesOf certs k places) is are
 
 none_there : {X : Type 0} (places : List X) (b : Bool) → b ≡ (length places == 0) → b ≡ true → places ≡ []
 none_there [] b is test = refl
-none_there (p ∷ places) b is test = let zero : length (p ∷ places) ≡ 0 = eqb-true (length (p ∷ places)) 0 (sym is ∙ test) in absurd (omega (arith, zero))
+none_there (p ∷ places) b is test = let zero : length (p ∷ places) ≡ 0 =
+    eqb-true (length (p ∷ places)) 0 (sym is ∙ test) in absurd (omega (arith, zero))
 
 -- of so many, there are none, or some
 none_of : {X : Type 0} (xs : List X) (n : ℕ) (b : Bool) → n ≡ length xs → b ≡ (n == 0) → b ≡ true → xs ≡ []
 none_of [] n b count is test = refl
-none_of (y ∷ xs) n b count is test = let zero : n ≡ 0 = eqb-true n 0 (sym is ∙ test) in absurd (omega (arith, zero, count))
+none_of (y ∷ xs) n b count is test = let zero : n ≡ 0 = eqb-true n 0 (sym is ∙ test) in
+    absurd (omega (arith, zero, count))
 
 some_of : {X : Type 0} (xs : List X) (n : ℕ) (b : Bool) → n ≡ length xs → b ≡ (n == 0) → b ≡ false → 0 < length xs
 some_of [] n b count is test = let none : n ≡ 0 = count in absurd (cc (sym test ∙ is ∙ ap (λ (m : ℕ). m == 0) none))
@@ -199,13 +238,18 @@ descend-returns-then-is_empty-clause-tells g t c = λ v ts heard.
     let above = c.args.trail.now.above.items in
     let places = c.signed_by-places.result.now in
     let own = issuer.cert.fields.extensions.subject_key_identifier in
-    let key = c.subject_key_identifier-key.ensures ∙ ap (λ (f : TbsFields). f.extensions.subject_key_identifier) c.as_tbs.ensures ∙ ap (λ (d : CertFields). d.fields.extensions.subject_key_identifier) c.as_cert.ensures in
+    let key = c.subject_key_identifier-key.ensures ∙ ap (λ (f : TbsFields). f.extensions.subject_key_identifier)
+    c.as_tbs.ensures ∙ ap (λ (d : CertFields). d.fields.extensions.subject_key_identifier)
+    c.as_cert.ensures in
     let are = there certs c.subject_key_identifier-key.result own places key c.signed_by-places.ensures in
     let none : places ≡ [] = none_there places c.is_empty.result c.is_empty.ensures c.if-is_empty.true in (
       [],
       subst (λ (l : List Told). g.W.Visitor.became v l c.args.visitor.now) (sym (append-nil ts)) heard,
-      (λ root leads. ended_none x asked admits root certs above c.args.depth c.args.share.steps c.unambiguous.ensures.certificate issuer leads {E = AllocError} []
-          (λ place admitted child. let at = are.all place (low_of certs child.cert place child.stands) (child_names x.verifies issuer.cert certs place child) in none_in place (subst (λ (l : List ℕ). Contains l place) none at))
+      (λ root leads. ended_none x asked admits root certs above c.args.depth c.args.share.steps
+          c.unambiguous.ensures.certificate issuer leads {E = AllocError} []
+          (λ place admitted child. let at = are.all place (low_of certs child.cert place child.stands)
+          (child_names x.verifies issuer.cert certs place child) in
+          none_in place (subst (λ (l : List ℕ). Contains l place) none at))
           (no_sound x asked admits root certs above c.args.share.steps)),
     )
 
@@ -219,11 +263,16 @@ descend-returns-then-is_empty-clause-limits g t c =
     let issuer = c.args.issuer.now in
     let places = c.signed_by-places.result.now in
     let own = issuer.cert.fields.extensions.subject_key_identifier in
-    let key = c.subject_key_identifier-key.ensures ∙ ap (λ (f : TbsFields). f.extensions.subject_key_identifier) c.as_tbs.ensures ∙ ap (λ (d : CertFields). d.fields.extensions.subject_key_identifier) c.as_cert.ensures in
+    let key = c.subject_key_identifier-key.ensures ∙ ap (λ (f : TbsFields). f.extensions.subject_key_identifier)
+    c.as_tbs.ensures ∙ ap (λ (d : CertFields). d.fields.extensions.subject_key_identifier)
+    c.as_cert.ensures in
     let are = there certs c.subject_key_identifier-key.result own places key c.signed_by-places.ensures in
     let none : places ≡ [] = none_there places c.is_empty.result c.is_empty.ensures c.if-is_empty.true in
-    keeps_none x asked admits issuer certs c.args.trail.now.above.items c.args.depth c.args.share c.unambiguous.ensures.certificate
-    (λ place admitted child. let at = are.all place (low_of certs child.cert place child.stands) (child_names x.verifies issuer.cert certs place child) in none_in place (subst (λ (l : List ℕ). Contains l place) none at)) c.args.trail.now.limits
+    keeps_none x asked admits issuer certs c.args.trail.now.above.items c.args.depth c.args.share
+    c.unambiguous.ensures.certificate
+    (λ place admitted child. let at = are.all place (low_of certs child.cert place child.stands)
+    (child_names x.verifies issuer.cert certs place child) in
+    none_in place (subst (λ (l : List ℕ). Contains l place) none at)) c.args.trail.now.limits
 
 pub descend-returns-then-is_in_circle-clause-limits : goal.descend-returns-then-is_in_circle-clause-limits
 descend-returns-then-is_in_circle-clause-limits g t c =
@@ -233,16 +282,21 @@ descend-returns-then-is_in_circle-clause-limits g t c =
     let certs = w.folder.now.certs in
     let admits = IsLookedAt w.names (g.A.Admission.admits w.admission.now) c.args.top.now.cert certs in
     let above = c.args.trail.now.above.items in
-    let circle : EndsNoCircle w.names c.args.top.now.cert certs above → ⊥ = subst (λ (l : List ℕ). EndsNoCircle w.names c.args.top.now.cert certs l → ⊥) c.deref.ensures.value (c.in_ok-is_in_circle.ensures.circle c.if-is_in_circle.true) in
-    keeps_none x asked admits c.args.issuer.now certs above c.args.depth c.args.share c.unambiguous.ensures.certificate (λ place looked child. circle looked.no_circle) c.args.trail.now.limits
+    let circle : EndsNoCircle w.names c.args.top.now.cert certs above →
+    ⊥ = subst (λ (l : List ℕ). EndsNoCircle w.names c.args.top.now.cert certs l → ⊥) c.deref.ensures.value
+    (c.in_ok-is_in_circle.ensures.circle c.if-is_in_circle.true) in
+    keeps_none x asked admits c.args.issuer.now certs above c.args.depth c.args.share
+    c.unambiguous.ensures.certificate (λ place looked child. circle looked.no_circle) c.args.trail.now.limits
 
 pub descend-is_in_circle-requires : goal.descend-is_in_circle-requires
 descend-is_in_circle-requires g t c =
     let w = c.args.self.now in
     let certs = w.folder.now.certs in
     record {
-      inside = subst (λ (l : List ℕ). (p : ℕ) → Contains l p → p < length certs) (sym c.deref.ensures.value) c.requires.inside;
-      last = subst (λ (l : List ℕ). IsLastOf c.args.top.now.cert certs l c.args.issuer.now.cert) (sym c.deref.ensures.value) c.requires.last;
+      inside = subst (λ (l : List ℕ). (p : ℕ) → Contains l p → p < length certs) (sym c.deref.ensures.value)
+          c.requires.inside;
+      last = subst (λ (l : List ℕ). IsLastOf c.args.top.now.cert certs l c.args.issuer.now.cert)
+          (sym c.deref.ensures.value) c.requires.last;
     }
 
 pub descend-returns-in_err-is_in_circle-clause-tells : goal.descend-returns-in_err-is_in_circle-clause-tells
@@ -255,7 +309,9 @@ descend-returns-in_err-is_in_circle-clause-tells g t c = λ v ts heard.
     let above = c.args.trail.now.above.items in (
       [],
       subst (λ (l : List Told). g.W.Visitor.became v l c.args.visitor.now) (sym (append-nil ts)) heard,
-      (λ root leads. ended_err x asked admits root certs above c.args.depth c.args.share.steps c.unambiguous.ensures.certificate c.args.issuer.now leads [] c.from_residual.result c.from_residual.ensures.0
+      (λ root leads. ended_err x asked admits root certs above c.args.depth c.args.share.steps
+          c.unambiguous.ensures.certificate c.args.issuer.now leads [] c.from_residual.result
+          c.from_residual.ensures.0
           (no_sound x asked admits root certs above c.args.share.steps)),
     )
 
@@ -267,10 +323,14 @@ descend-returns-then-is_in_circle-clause-tells g t c = λ v ts heard.
     let certs = w.folder.now.certs in
     let admits = IsLookedAt w.names (g.A.Admission.admits w.admission.now) c.args.top.now.cert certs in
     let above = c.args.trail.now.above.items in
-    let circle : EndsNoCircle w.names c.args.top.now.cert certs above → ⊥ = subst (λ (l : List ℕ). EndsNoCircle w.names c.args.top.now.cert certs l → ⊥) c.deref.ensures.value (c.in_ok-is_in_circle.ensures.circle c.if-is_in_circle.true) in (
+    let circle : EndsNoCircle w.names c.args.top.now.cert certs above →
+    ⊥ = subst (λ (l : List ℕ). EndsNoCircle w.names c.args.top.now.cert certs l → ⊥) c.deref.ensures.value
+    (c.in_ok-is_in_circle.ensures.circle c.if-is_in_circle.true) in (
       [],
       subst (λ (l : List Told). g.W.Visitor.became v l c.args.visitor.now) (sym (append-nil ts)) heard,
-      (λ root leads. ended_none x asked admits root certs above c.args.depth c.args.share.steps c.unambiguous.ensures.certificate c.args.issuer.now leads {E = AllocError} [] (λ place looked child. circle looked.no_circle)
+      (λ root leads. ended_none x asked admits root certs above c.args.depth c.args.share.steps
+          c.unambiguous.ensures.certificate c.args.issuer.now leads {E = AllocError} []
+          (λ place looked child. circle looked.no_circle)
           (no_sound x asked admits root certs above c.args.share.steps)),
     )
 
@@ -278,8 +338,14 @@ pub descend-enter-requires : goal.descend-enter-requires
 descend-enter-requires g t c =
     let certs = c.args.self.now.folder.now.certs in
     let own = c.args.issuer.now.cert.fields.extensions.subject_key_identifier in
-    let key = c.subject_key_identifier-key.ensures ∙ ap (λ (f : TbsFields). f.extensions.subject_key_identifier) c.as_tbs.ensures ∙ ap (λ (d : CertFields). d.fields.extensions.subject_key_identifier) c.as_cert.ensures in
-    record { kept = c.requires.kept; places = there certs c.subject_key_identifier-key.result own c.signed_by-places.result.now key c.signed_by-places.ensures }
+    let key = c.subject_key_identifier-key.ensures ∙ ap (λ (f : TbsFields). f.extensions.subject_key_identifier)
+    c.as_tbs.ensures ∙ ap (λ (d : CertFields). d.fields.extensions.subject_key_identifier)
+    c.as_cert.ensures in
+    record {
+      kept = c.requires.kept;
+      places = there certs c.subject_key_identifier-key.result own
+          c.signed_by-places.result.now key c.signed_by-places.ensures;
+    }
 
 pub descend-returns-in_err-at-clause-tells : goal.descend-returns-in_err-at-clause-tells
 descend-returns-in_err-at-clause-tells g t c = λ v ts heard.
@@ -292,11 +358,20 @@ descend-returns-in_err-at-clause-tells g t c = λ v ts heard.
     let issuer = c.args.issuer.now in
     let above = c.args.trail.now.above.items in
     let law = c.unambiguous.ensures.certificate in
-    let none : EndsNoCircle w.names top certs above = subst (λ (l : List ℕ). EndsNoCircle w.names top certs l) c.deref.ensures.value (c.in_ok-is_in_circle.ensures.none c.if-is_in_circle.false) in
+    let none : EndsNoCircle w.names top certs above = subst (λ (l : List ℕ). EndsNoCircle w.names top certs l)
+    c.deref.ensures.value (c.in_ok-is_in_circle.ensures.none c.if-is_in_circle.false) in
     let o = c.enter.ensures.told v ts heard in
-    let others : AllByRecursion (IsToldOf x asked issuer certs above (Others x.verifies w.names admits issuer.cert certs above)) o.0 =
-    subst (λ (l : List ℕ). AllByRecursion (IsToldOf x asked issuer certs l (Others x.verifies w.names admits issuer.cert certs l)) o.0) c.deref-2.ensures.value o.2 in
-    (o.0, o.1, at_err x asked w.names admits top certs above c.args.depth c.args.share.steps law issuer c.requires.last none o.0 others {E = AllocError} c.from_residual-in_err-at.result c.from_residual-in_err-at.ensures.0)
+    let others : AllByRecursion
+    (IsToldOf x asked issuer certs above (Others x.verifies w.names admits issuer.cert certs above)) o.0 =
+    subst (λ (l : List ℕ).
+    AllByRecursion (IsToldOf x asked issuer certs l (Others x.verifies w.names admits issuer.cert certs l))
+    o.0) c.deref-2.ensures.value o.2 in (
+      o.0,
+      o.1,
+      at_err x asked w.names admits top certs above c.args.depth c.args.share.steps law issuer
+          c.requires.last none o.0 others {E = AllocError} c.from_residual-in_err-at.result
+          c.from_residual-in_err-at.ensures.0,
+    )
 
 pub descend-returns-in_err-children-clause-tells : goal.descend-returns-in_err-children-clause-tells
 descend-returns-in_err-children-clause-tells g t c = λ v ts heard.
@@ -309,11 +384,20 @@ descend-returns-in_err-children-clause-tells g t c = λ v ts heard.
     let issuer = c.args.issuer.now in
     let above = c.args.trail.now.above.items in
     let law = c.unambiguous.ensures.certificate in
-    let none : EndsNoCircle w.names top certs above = subst (λ (l : List ℕ). EndsNoCircle w.names top certs l) c.deref.ensures.value (c.in_ok-is_in_circle.ensures.none c.if-is_in_circle.false) in
+    let none : EndsNoCircle w.names top certs above = subst (λ (l : List ℕ). EndsNoCircle w.names top certs l)
+    c.deref.ensures.value (c.in_ok-is_in_circle.ensures.none c.if-is_in_circle.false) in
     let o = c.enter.ensures.told v ts heard in
-    let others : AllByRecursion (IsToldOf x asked issuer certs above (Others x.verifies w.names admits issuer.cert certs above)) o.0 =
-    subst (λ (l : List ℕ). AllByRecursion (IsToldOf x asked issuer certs l (Others x.verifies w.names admits issuer.cert certs l)) o.0) c.deref-2.ensures.value o.2 in
-    (o.0, o.1, at_err x asked w.names admits top certs above c.args.depth c.args.share.steps law issuer c.requires.last none o.0 others {E = AllocError} c.from_residual-in_err-children.result c.from_residual-in_err-children.ensures.0)
+    let others : AllByRecursion
+    (IsToldOf x asked issuer certs above (Others x.verifies w.names admits issuer.cert certs above)) o.0 =
+    subst (λ (l : List ℕ).
+    AllByRecursion (IsToldOf x asked issuer certs l (Others x.verifies w.names admits issuer.cert certs l))
+    o.0) c.deref-2.ensures.value o.2 in (
+      o.0,
+      o.1,
+      at_err x asked w.names admits top certs above c.args.depth c.args.share.steps law issuer
+          c.requires.last none o.0 others {E = AllocError} c.from_residual-in_err-children.result
+          c.from_residual-in_err-children.ensures.0,
+    )
 
 pub descend-returns-then-is_empty-2-clause-tells : goal.descend-returns-then-is_empty-2-clause-tells
 descend-returns-then-is_empty-2-clause-tells g t c = λ v ts heard.
@@ -326,17 +410,33 @@ descend-returns-then-is_empty-2-clause-tells g t c = λ v ts heard.
     let issuer = c.args.issuer.now in
     let above = c.args.trail.now.above.items in
     let law = c.unambiguous.ensures.certificate in
-    let none : EndsNoCircle w.names top certs above = subst (λ (l : List ℕ). EndsNoCircle w.names top certs l) c.deref.ensures.value (c.in_ok-is_in_circle.ensures.none c.if-is_in_circle.false) in
+    let none : EndsNoCircle w.names top certs above = subst (λ (l : List ℕ). EndsNoCircle w.names top certs l)
+    c.deref.ensures.value (c.in_ok-is_in_circle.ensures.none c.if-is_in_circle.false) in
     let o = c.enter.ensures.told v ts heard in
-    let others : AllByRecursion (IsToldOf x asked issuer certs above (Others x.verifies w.names admits issuer.cert certs above)) o.0 =
-    subst (λ (l : List ℕ). AllByRecursion (IsToldOf x asked issuer certs l (Others x.verifies w.names admits issuer.cert certs l)) o.0) c.deref-2.ensures.value o.2 in
+    let others : AllByRecursion
+    (IsToldOf x asked issuer certs above (Others x.verifies w.names admits issuer.cert certs above)) o.0 =
+    subst (λ (l : List ℕ).
+    AllByRecursion (IsToldOf x asked issuer certs l (Others x.verifies w.names admits issuer.cert certs l))
+    o.0) c.deref-2.ensures.value o.2 in
     let places = c.signed_by-places.result.now in
     let own = issuer.cert.fields.extensions.subject_key_identifier in
-    let key = c.subject_key_identifier-key.ensures ∙ ap (λ (f : TbsFields). f.extensions.subject_key_identifier) c.as_tbs.ensures ∙ ap (λ (d : CertFields). d.fields.extensions.subject_key_identifier) c.as_cert.ensures in
+    let key = c.subject_key_identifier-key.ensures ∙ ap (λ (f : TbsFields). f.extensions.subject_key_identifier)
+    c.as_tbs.ensures ∙ ap (λ (d : CertFields). d.fields.extensions.subject_key_identifier)
+    c.as_cert.ensures in
     let are = there certs c.subject_key_identifier-key.result own places key c.signed_by-places.ensures in
     let children = c.in_ok-children.children.items in
-    let kids = kids_here x w.names admits issuer.cert w.folder.now above c.index-kept.result.now c.deref-3.result.now c.deref-4.result.now children c.deref-3.ensures.value c.deref-4.ensures.value (kept_at (λ (k : Issuer). IsKeptOf w.names x w.folder.now issuer.cert k) c.enter.new.issuers.kept.items c.in_ok-at.at c.index-kept.result.now c.index-kept.ensures c.in_ok-at.ensures.found.1) c.in_ok-children.ensures places are in
-    (o.0, o.1, at_none x asked w.names admits top certs above c.args.depth c.args.share.steps law issuer c.requires.last none o.0 others places are children kids {E = AllocError} (none_of children c.in_ok-children.children.len c.is_empty-2.result (omega (arith, c.in_ok-children.children.ok.0)) c.is_empty-2.ensures c.if-is_empty-2.true))
+    let kids = kids_here x w.names admits issuer.cert w.folder.now above c.index-kept.result.now
+    c.deref-3.result.now c.deref-4.result.now children c.deref-3.ensures.value c.deref-4.ensures.value
+    (kept_at (λ (k : Issuer). IsKeptOf w.names x w.folder.now issuer.cert k) c.enter.new.issuers.kept.items
+    c.in_ok-at.at c.index-kept.result.now c.index-kept.ensures c.in_ok-at.ensures.found.1)
+    c.in_ok-children.ensures places are in (
+      o.0,
+      o.1,
+      at_none x asked w.names admits top certs above c.args.depth c.args.share.steps law issuer
+          c.requires.last none o.0 others places are children kids {E = AllocError}
+          (none_of children c.in_ok-children.children.len c.is_empty-2.result
+          (omega (arith, c.in_ok-children.children.ok.0)) c.is_empty-2.ensures c.if-is_empty-2.true),
+    )
 
 pub descend-returns-then-depth-eq0-clause-tells : goal.descend-returns-then-depth-eq0-clause-tells
 descend-returns-then-depth-eq0-clause-tells g t c = λ v ts heard.
@@ -349,17 +449,33 @@ descend-returns-then-depth-eq0-clause-tells g t c = λ v ts heard.
     let issuer = c.args.issuer.now in
     let above = c.args.trail.now.above.items in
     let law = c.unambiguous.ensures.certificate in
-    let none : EndsNoCircle w.names top certs above = subst (λ (l : List ℕ). EndsNoCircle w.names top certs l) c.deref.ensures.value (c.in_ok-is_in_circle.ensures.none c.if-is_in_circle.false) in
+    let none : EndsNoCircle w.names top certs above = subst (λ (l : List ℕ). EndsNoCircle w.names top certs l)
+    c.deref.ensures.value (c.in_ok-is_in_circle.ensures.none c.if-is_in_circle.false) in
     let o = c.enter.ensures.told v ts heard in
-    let others : AllByRecursion (IsToldOf x asked issuer certs above (Others x.verifies w.names admits issuer.cert certs above)) o.0 =
-    subst (λ (l : List ℕ). AllByRecursion (IsToldOf x asked issuer certs l (Others x.verifies w.names admits issuer.cert certs l)) o.0) c.deref-2.ensures.value o.2 in
+    let others : AllByRecursion
+    (IsToldOf x asked issuer certs above (Others x.verifies w.names admits issuer.cert certs above)) o.0 =
+    subst (λ (l : List ℕ).
+    AllByRecursion (IsToldOf x asked issuer certs l (Others x.verifies w.names admits issuer.cert certs l))
+    o.0) c.deref-2.ensures.value o.2 in
     let places = c.signed_by-places.result.now in
     let own = issuer.cert.fields.extensions.subject_key_identifier in
-    let key = c.subject_key_identifier-key.ensures ∙ ap (λ (f : TbsFields). f.extensions.subject_key_identifier) c.as_tbs.ensures ∙ ap (λ (d : CertFields). d.fields.extensions.subject_key_identifier) c.as_cert.ensures in
+    let key = c.subject_key_identifier-key.ensures ∙ ap (λ (f : TbsFields). f.extensions.subject_key_identifier)
+    c.as_tbs.ensures ∙ ap (λ (d : CertFields). d.fields.extensions.subject_key_identifier)
+    c.as_cert.ensures in
     let are = there certs c.subject_key_identifier-key.result own places key c.signed_by-places.ensures in
     let children = c.in_ok-children.children.items in
-    let kids = kids_here x w.names admits issuer.cert w.folder.now above c.index-kept.result.now c.deref-3.result.now c.deref-4.result.now children c.deref-3.ensures.value c.deref-4.ensures.value (kept_at (λ (k : Issuer). IsKeptOf w.names x w.folder.now issuer.cert k) c.enter.new.issuers.kept.items c.in_ok-at.at c.index-kept.result.now c.index-kept.ensures c.in_ok-at.ensures.found.1) c.in_ok-children.ensures places are in
-    (o.0, o.1, at_depth x asked w.names admits top certs above c.args.depth c.args.share.steps law issuer c.requires.last none o.0 others places are children kids {E = AllocError} c.if-depth-eq0.true (some_of children c.in_ok-children.children.len c.is_empty-2.result (omega (arith, c.in_ok-children.children.ok.0)) c.is_empty-2.ensures c.if-is_empty-2.false))
+    let kids = kids_here x w.names admits issuer.cert w.folder.now above c.index-kept.result.now
+    c.deref-3.result.now c.deref-4.result.now children c.deref-3.ensures.value c.deref-4.ensures.value
+    (kept_at (λ (k : Issuer). IsKeptOf w.names x w.folder.now issuer.cert k) c.enter.new.issuers.kept.items
+    c.in_ok-at.at c.index-kept.result.now c.index-kept.ensures c.in_ok-at.ensures.found.1)
+    c.in_ok-children.ensures places are in (
+      o.0,
+      o.1,
+      at_depth x asked w.names admits top certs above c.args.depth c.args.share.steps law issuer
+          c.requires.last none o.0 others places are children kids {E = AllocError} c.if-depth-eq0.true
+          (some_of children c.in_ok-children.children.len c.is_empty-2.result
+          (omega (arith, c.in_ok-children.children.ok.0)) c.is_empty-2.ensures c.if-is_empty-2.false),
+    )
 
 pub descend-returns-then-len-share-clause-tells : goal.descend-returns-then-len-share-clause-tells
 descend-returns-then-len-share-clause-tells g t c = λ v ts heard.
@@ -372,18 +488,33 @@ descend-returns-then-len-share-clause-tells g t c = λ v ts heard.
     let issuer = c.args.issuer.now in
     let above = c.args.trail.now.above.items in
     let law = c.unambiguous.ensures.certificate in
-    let none : EndsNoCircle w.names top certs above = subst (λ (l : List ℕ). EndsNoCircle w.names top certs l) c.deref.ensures.value (c.in_ok-is_in_circle.ensures.none c.if-is_in_circle.false) in
+    let none : EndsNoCircle w.names top certs above = subst (λ (l : List ℕ). EndsNoCircle w.names top certs l)
+    c.deref.ensures.value (c.in_ok-is_in_circle.ensures.none c.if-is_in_circle.false) in
     let o = c.enter.ensures.told v ts heard in
-    let others : AllByRecursion (IsToldOf x asked issuer certs above (Others x.verifies w.names admits issuer.cert certs above)) o.0 =
-    subst (λ (l : List ℕ). AllByRecursion (IsToldOf x asked issuer certs l (Others x.verifies w.names admits issuer.cert certs l)) o.0) c.deref-2.ensures.value o.2 in
+    let others : AllByRecursion
+    (IsToldOf x asked issuer certs above (Others x.verifies w.names admits issuer.cert certs above)) o.0 =
+    subst (λ (l : List ℕ).
+    AllByRecursion (IsToldOf x asked issuer certs l (Others x.verifies w.names admits issuer.cert certs l))
+    o.0) c.deref-2.ensures.value o.2 in
     let places = c.signed_by-places.result.now in
     let own = issuer.cert.fields.extensions.subject_key_identifier in
-    let key = c.subject_key_identifier-key.ensures ∙ ap (λ (f : TbsFields). f.extensions.subject_key_identifier) c.as_tbs.ensures ∙ ap (λ (d : CertFields). d.fields.extensions.subject_key_identifier) c.as_cert.ensures in
+    let key = c.subject_key_identifier-key.ensures ∙ ap (λ (f : TbsFields). f.extensions.subject_key_identifier)
+    c.as_tbs.ensures ∙ ap (λ (d : CertFields). d.fields.extensions.subject_key_identifier)
+    c.as_cert.ensures in
     let are = there certs c.subject_key_identifier-key.result own places key c.signed_by-places.ensures in
     let children = c.in_ok-children.children.items in
-    let kids = kids_here x w.names admits issuer.cert w.folder.now above c.index-kept.result.now c.deref-3.result.now c.deref-4.result.now children c.deref-3.ensures.value c.deref-4.ensures.value (kept_at (λ (k : Issuer). IsKeptOf w.names x w.folder.now issuer.cert k) c.enter.new.issuers.kept.items c.in_ok-at.at c.index-kept.result.now c.index-kept.ensures c.in_ok-at.ensures.found.1) c.in_ok-children.ensures places are in
-    let short : c.args.share.steps < length children = omega (arith, c.if-len-share.true, c.len.ensures, c.in_ok-children.children.ok.0) in
-    (o.0, o.1, at_short x asked w.names admits top certs above c.args.depth c.args.share.steps law issuer c.requires.last none o.0 others places are children kids {E = AllocError} short)
+    let kids = kids_here x w.names admits issuer.cert w.folder.now above c.index-kept.result.now
+    c.deref-3.result.now c.deref-4.result.now children c.deref-3.ensures.value c.deref-4.ensures.value
+    (kept_at (λ (k : Issuer). IsKeptOf w.names x w.folder.now issuer.cert k) c.enter.new.issuers.kept.items
+    c.in_ok-at.at c.index-kept.result.now c.index-kept.ensures c.in_ok-at.ensures.found.1)
+    c.in_ok-children.ensures places are in
+    let short : c.args.share.steps < length children =
+    omega (arith, c.if-len-share.true, c.len.ensures, c.in_ok-children.children.ok.0) in (
+      o.0,
+      o.1,
+      at_short x asked w.names admits top certs above c.args.depth c.args.share.steps law issuer
+          c.requires.last none o.0 others places are children kids {E = AllocError} short,
+    )
 
 pub descend-judge_children-requires : goal.descend-judge_children-requires
 descend-judge_children-requires g t c =
@@ -394,17 +525,24 @@ descend-judge_children-requires g t c =
     let issuer = c.args.issuer.now in
     let above = c.args.trail.now.above.items in
     let own = issuer.cert.fields.extensions.subject_key_identifier in
-    let key = c.subject_key_identifier-key.ensures ∙ ap (λ (f : TbsFields). f.extensions.subject_key_identifier) c.as_tbs.ensures ∙ ap (λ (d : CertFields). d.fields.extensions.subject_key_identifier) c.as_cert.ensures in
+    let key = c.subject_key_identifier-key.ensures ∙ ap (λ (f : TbsFields). f.extensions.subject_key_identifier)
+    c.as_tbs.ensures ∙ ap (λ (d : CertFields). d.fields.extensions.subject_key_identifier)
+    c.as_cert.ensures in
     let places = c.signed_by-places.result.now in
     let are = there certs c.subject_key_identifier-key.result own places key c.signed_by-places.ensures in
     let children = c.in_ok-children.children.items in
-    let kept = kept_at (λ (k : Issuer). IsKeptOf w.names x w.folder.now issuer.cert k) c.enter.new.issuers.kept.items c.in_ok-at.at c.index-kept.result.now c.index-kept.ensures c.in_ok-at.ensures.found.1 in
-    let kids = kids_here x w.names admits issuer.cert w.folder.now above c.index-kept.result.now c.deref-3.result.now c.deref-4.result.now children c.deref-3.ensures.value c.deref-4.ensures.value kept c.in_ok-children.ensures places are in
+    let kept = kept_at (λ (k : Issuer). IsKeptOf w.names x w.folder.now issuer.cert k)
+    c.enter.new.issuers.kept.items c.in_ok-at.at c.index-kept.result.now c.index-kept.ensures
+    c.in_ok-at.ensures.found.1 in
+    let kids = kids_here x w.names admits issuer.cert w.folder.now above c.index-kept.result.now
+    c.deref-3.result.now c.deref-4.result.now children c.deref-3.ensures.value c.deref-4.ensures.value kept
+    c.in_ok-children.ensures places are in
     record {
       inside = subst (λ (l : List ℕ). (p : ℕ) → Contains l p → p < length certs) (sym c.deref-6.ensures.value)
           (λ p at. let child = (kids.only p at).1 in low_of certs child.cert p child.stands);
       once = subst (λ (l : List ℕ). IsOnce l) (sym c.deref-6.ensures.value) kids.once;
-      children = subst (λ (l : List ℕ). (p : ℕ) → Contains l p → IsChildOf x.verifies issuer.cert certs p) (sym c.deref-6.ensures.value) (λ p at. (kids.only p at).1);
+      children = subst (λ (l : List ℕ). (p : ℕ) → Contains l p → IsChildOf x.verifies issuer.cert certs p)
+          (sym c.deref-6.ensures.value) (λ p at. (kids.only p at).1);
       kept = kept.lists;
     }
 
@@ -419,25 +557,41 @@ descend-returns-in_err-cas-clause-tells g t c = λ v ts heard.
     let issuer = c.args.issuer.now in
     let above = c.args.trail.now.above.items in
     let law = c.unambiguous.ensures.certificate in
-    let none : EndsNoCircle w.names top certs above = subst (λ (l : List ℕ). EndsNoCircle w.names top certs l) c.deref.ensures.value (c.in_ok-is_in_circle.ensures.none c.if-is_in_circle.false) in
+    let none : EndsNoCircle w.names top certs above = subst (λ (l : List ℕ). EndsNoCircle w.names top certs l)
+    c.deref.ensures.value (c.in_ok-is_in_circle.ensures.none c.if-is_in_circle.false) in
     let o = c.enter.ensures.told v ts heard in
-    let others : AllByRecursion (IsToldOf x asked issuer certs above (Others x.verifies w.names admits issuer.cert certs above)) o.0 =
-    subst (λ (l : List ℕ). AllByRecursion (IsToldOf x asked issuer certs l (Others x.verifies w.names admits issuer.cert certs l)) o.0) c.deref-2.ensures.value o.2 in
+    let others : AllByRecursion
+    (IsToldOf x asked issuer certs above (Others x.verifies w.names admits issuer.cert certs above)) o.0 =
+    subst (λ (l : List ℕ).
+    AllByRecursion (IsToldOf x asked issuer certs l (Others x.verifies w.names admits issuer.cert certs l))
+    o.0) c.deref-2.ensures.value o.2 in
     let places = c.signed_by-places.result.now in
     let own = issuer.cert.fields.extensions.subject_key_identifier in
-    let key = c.subject_key_identifier-key.ensures ∙ ap (λ (f : TbsFields). f.extensions.subject_key_identifier) c.as_tbs.ensures ∙ ap (λ (d : CertFields). d.fields.extensions.subject_key_identifier) c.as_cert.ensures in
+    let key = c.subject_key_identifier-key.ensures ∙ ap (λ (f : TbsFields). f.extensions.subject_key_identifier)
+    c.as_tbs.ensures ∙ ap (λ (d : CertFields). d.fields.extensions.subject_key_identifier)
+    c.as_cert.ensures in
     let are = there certs c.subject_key_identifier-key.result own places key c.signed_by-places.ensures in
     let children = c.in_ok-children.children.items in
-    let kids = kids_here x w.names admits issuer.cert w.folder.now above c.index-kept.result.now c.deref-3.result.now c.deref-4.result.now children c.deref-3.ensures.value c.deref-4.ensures.value (kept_at (λ (k : Issuer). IsKeptOf w.names x w.folder.now issuer.cert k) c.enter.new.issuers.kept.items c.in_ok-at.at c.index-kept.result.now c.index-kept.ensures c.in_ok-at.ensures.found.1) c.in_ok-children.ensures places are in
+    let kids = kids_here x w.names admits issuer.cert w.folder.now above c.index-kept.result.now
+    c.deref-3.result.now c.deref-4.result.now children c.deref-3.ensures.value c.deref-4.ensures.value
+    (kept_at (λ (k : Issuer). IsKeptOf w.names x w.folder.now issuer.cert k) c.enter.new.issuers.kept.items
+    c.in_ok-at.at c.index-kept.result.now c.index-kept.ensures c.in_ok-at.ensures.found.1)
+    c.in_ok-children.ensures places are in
     let us = c.judge_children.ensures v (ts ++ o.0) o.1 in
     let told : AllByRecursion (IsToldOf x asked issuer certs above (λ p. Contains children p)) us.0 =
-    subst (λ (k : List ℕ). AllByRecursion (IsToldOf x asked issuer certs above (λ p. Contains k p)) us.0) c.deref-6.ensures.value
-    (subst (λ (l : List ℕ). AllByRecursion (IsToldOf x asked issuer certs l (λ p. Contains c.deref-6.result.now p)) us.0) c.deref-5.ensures.value us.3) in
-    let few : length us.0 ≤ length children = subst (λ (k : List ℕ). length us.0 ≤ length k) c.deref-6.ensures.value us.2 in
-    let enough : length children ≤ c.args.share.steps = omega (arith, c.if-len-share.false, c.len.ensures, c.in_ok-children.children.ok.0) in (
+    subst (λ (k : List ℕ). AllByRecursion (IsToldOf x asked issuer certs above (λ p. Contains k p)) us.0)
+    c.deref-6.ensures.value
+    (subst (λ (l : List ℕ). AllByRecursion (IsToldOf x asked issuer certs l (λ p. Contains c.deref-6.result.now p))
+    us.0) c.deref-5.ensures.value us.3) in
+    let few : length us.0 ≤ length children = subst (λ (k : List ℕ). length us.0 ≤ length k) c.deref-6.ensures.value
+    us.2 in
+    let enough : length children ≤ c.args.share.steps =
+    omega (arith, c.if-len-share.false, c.len.ensures, c.in_ok-children.children.ok.0) in (
       o.0 ++ us.0,
       subst (λ (l : List Told). g.W.Visitor.became v l c.judge_children.new.visitor) (append_assoc ts o.0 us.0) us.1,
-      judged_err x asked w.names admits top certs above c.args.depth c.args.share.steps law issuer c.requires.last none o.0 others places are children kids enough us.0 few told {E = AllocError} c.from_residual-in_err-cas.result c.from_residual-in_err-cas.ensures.0,
+      judged_err x asked w.names admits top certs above c.args.depth c.args.share.steps law issuer c.requires.last
+          none o.0 others places are children kids enough us.0 few told {E = AllocError}
+          c.from_residual-in_err-cas.result c.from_residual-in_err-cas.ensures.0,
     )
 
 pub descend-returns-then-is_empty-3-clause-tells : goal.descend-returns-then-is_empty-3-clause-tells
@@ -451,30 +605,49 @@ descend-returns-then-is_empty-3-clause-tells g t c = λ v ts heard.
     let issuer = c.args.issuer.now in
     let above = c.args.trail.now.above.items in
     let law = c.unambiguous.ensures.certificate in
-    let none : EndsNoCircle w.names top certs above = subst (λ (l : List ℕ). EndsNoCircle w.names top certs l) c.deref.ensures.value (c.in_ok-is_in_circle.ensures.none c.if-is_in_circle.false) in
+    let none : EndsNoCircle w.names top certs above = subst (λ (l : List ℕ). EndsNoCircle w.names top certs l)
+    c.deref.ensures.value (c.in_ok-is_in_circle.ensures.none c.if-is_in_circle.false) in
     let o = c.enter.ensures.told v ts heard in
-    let others : AllByRecursion (IsToldOf x asked issuer certs above (Others x.verifies w.names admits issuer.cert certs above)) o.0 =
-    subst (λ (l : List ℕ). AllByRecursion (IsToldOf x asked issuer certs l (Others x.verifies w.names admits issuer.cert certs l)) o.0) c.deref-2.ensures.value o.2 in
+    let others : AllByRecursion
+    (IsToldOf x asked issuer certs above (Others x.verifies w.names admits issuer.cert certs above)) o.0 =
+    subst (λ (l : List ℕ).
+    AllByRecursion (IsToldOf x asked issuer certs l (Others x.verifies w.names admits issuer.cert certs l))
+    o.0) c.deref-2.ensures.value o.2 in
     let places = c.signed_by-places.result.now in
     let own = issuer.cert.fields.extensions.subject_key_identifier in
-    let key = c.subject_key_identifier-key.ensures ∙ ap (λ (f : TbsFields). f.extensions.subject_key_identifier) c.as_tbs.ensures ∙ ap (λ (d : CertFields). d.fields.extensions.subject_key_identifier) c.as_cert.ensures in
+    let key = c.subject_key_identifier-key.ensures ∙ ap (λ (f : TbsFields). f.extensions.subject_key_identifier)
+    c.as_tbs.ensures ∙ ap (λ (d : CertFields). d.fields.extensions.subject_key_identifier)
+    c.as_cert.ensures in
     let are = there certs c.subject_key_identifier-key.result own places key c.signed_by-places.ensures in
     let children = c.in_ok-children.children.items in
-    let kids = kids_here x w.names admits issuer.cert w.folder.now above c.index-kept.result.now c.deref-3.result.now c.deref-4.result.now children c.deref-3.ensures.value c.deref-4.ensures.value (kept_at (λ (k : Issuer). IsKeptOf w.names x w.folder.now issuer.cert k) c.enter.new.issuers.kept.items c.in_ok-at.at c.index-kept.result.now c.index-kept.ensures c.in_ok-at.ensures.found.1) c.in_ok-children.ensures places are in
+    let kids = kids_here x w.names admits issuer.cert w.folder.now above c.index-kept.result.now
+    c.deref-3.result.now c.deref-4.result.now children c.deref-3.ensures.value c.deref-4.ensures.value
+    (kept_at (λ (k : Issuer). IsKeptOf w.names x w.folder.now issuer.cert k) c.enter.new.issuers.kept.items
+    c.in_ok-at.at c.index-kept.result.now c.index-kept.ensures c.in_ok-at.ensures.found.1)
+    c.in_ok-children.ensures places are in
     let us = c.judge_children.ensures v (ts ++ o.0) o.1 in
     let told : AllByRecursion (IsToldOf x asked issuer certs above (λ p. Contains children p)) us.0 =
-    subst (λ (k : List ℕ). AllByRecursion (IsToldOf x asked issuer certs above (λ p. Contains k p)) us.0) c.deref-6.ensures.value
-    (subst (λ (l : List ℕ). AllByRecursion (IsToldOf x asked issuer certs l (λ p. Contains c.deref-6.result.now p)) us.0) c.deref-5.ensures.value us.3) in
-    let few : length us.0 ≤ length children = subst (λ (k : List ℕ). length us.0 ≤ length k) c.deref-6.ensures.value us.2 in
-    let enough : length children ≤ c.args.share.steps = omega (arith, c.if-len-share.false, c.len.ensures, c.in_ok-children.children.ok.0) in
+    subst (λ (k : List ℕ). AllByRecursion (IsToldOf x asked issuer certs above (λ p. Contains k p)) us.0)
+    c.deref-6.ensures.value
+    (subst (λ (l : List ℕ). AllByRecursion (IsToldOf x asked issuer certs l (λ p. Contains c.deref-6.result.now p))
+    us.0) c.deref-5.ensures.value us.3) in
+    let few : length us.0 ≤ length children = subst (λ (k : List ℕ). length us.0 ≤ length k) c.deref-6.ensures.value
+    us.2 in
+    let enough : length children ≤ c.args.share.steps =
+    omega (arith, c.if-len-share.false, c.len.ensures, c.in_ok-children.children.ok.0) in
     let cas = c.in_ok-cas.cas.items in
     let low : 0 < c.args.depth = omega (arith, c.if-depth-eq0.false) in
     let j : AreJudged x asked issuer certs above children cas us.0 =
     subst (λ (k : List ℕ). AreJudged x asked issuer certs above k cas us.0) c.deref-6.ensures.value
-    (subst (λ (l : List ℕ). AreJudged x asked issuer certs l c.deref-6.result.now cas us.0) c.deref-5.ensures.value (if_ok (λ (k : Vec Ca). AreJudged x asked issuer certs c.deref-5.result.now c.deref-6.result.now k.items us.0) c.judge_children.result c.in_ok-cas.cas c.in_ok-cas.was us.4)) in (
+    (subst (λ (l : List ℕ). AreJudged x asked issuer certs l c.deref-6.result.now cas us.0) c.deref-5.ensures.value
+    (if_ok (λ (k : Vec Ca). AreJudged x asked issuer certs c.deref-5.result.now c.deref-6.result.now k.items
+    us.0) c.judge_children.result c.in_ok-cas.cas c.in_ok-cas.was us.4)) in (
       o.0 ++ us.0,
       subst (λ (l : List Told). g.W.Visitor.became v l c.judge_children.new.visitor) (append_assoc ts o.0 us.0) us.1,
-      at_last x asked w.names admits top certs above c.args.depth c.args.share.steps law issuer c.requires.last none o.0 others places are children kids enough us.0 few told cas j low {E = AllocError} (none_of cas c.in_ok-cas.cas.len c.is_empty-3.result (omega (arith, c.in_ok-cas.cas.ok.0)) c.is_empty-3.ensures c.if-is_empty-3.true),
+      at_last x asked w.names admits top certs above c.args.depth c.args.share.steps law issuer c.requires.last none
+          o.0 others places are children kids enough us.0 few told cas j low {E = AllocError}
+          (none_of cas c.in_ok-cas.cas.len c.is_empty-3.result (omega (arith, c.in_ok-cas.cas.ok.0))
+          c.is_empty-3.ensures c.if-is_empty-3.true),
     )
 
 pub descend-each_below-requires : goal.descend-each_below-requires
@@ -487,10 +660,13 @@ descend-each_below-requires g t c =
     let issuer = c.args.issuer.now in
     let us = c.judge_children.ensures v [] (g.met.W.Visitor.begins v) in
     let cas = c.in_ok-cas.cas.items in
-    let j = if_ok (λ (k : Vec Ca). AreJudged x asked issuer certs c.deref-5.result.now c.deref-6.result.now k.items us.0) c.judge_children.result c.in_ok-cas.cas c.in_ok-cas.was us.4 in
-    let stand : (ca : Ca) → Contains cas ca → StandsAt certs ca.place ca.holder.cert = λ ca at. let o = (j.only ca at).1 in ca_stands x asked issuer certs ca.place o.0 ca.holder o.1 in
+    let j = if_ok (λ (k : Vec Ca). AreJudged x asked issuer certs c.deref-5.result.now c.deref-6.result.now k.items
+    us.0) c.judge_children.result c.in_ok-cas.cas c.in_ok-cas.was us.4 in
+    let stand : (ca : Ca) → Contains cas ca → StandsAt certs ca.place ca.holder.cert = λ ca at. let o =
+    (j.only ca at).1 in ca_stands x asked issuer certs ca.place o.0 ca.holder o.1 in
     let inside = c.requires.inside in
-    let stands = subst (λ (l : List Ca). (ca : Ca) → Contains l ca → StandsAt certs ca.place ca.holder.cert) (sym c.deref-7.ensures.value) stand in
+    let stands = subst (λ (l : List Ca). (ca : Ca) → Contains l ca → StandsAt certs ca.place ca.holder.cert)
+    (sym c.deref-7.ensures.value) stand in
     let kept = c.in_ok-at.ensures.kept in
     search (rules, inside, stands, kept)
 
@@ -505,35 +681,58 @@ descend-returns-clause-tells g t c = λ v ts heard.
     let issuer = c.args.issuer.now in
     let above = c.args.trail.now.above.items in
     let law = c.unambiguous.ensures.certificate in
-    let none : EndsNoCircle w.names top certs above = subst (λ (l : List ℕ). EndsNoCircle w.names top certs l) c.deref.ensures.value (c.in_ok-is_in_circle.ensures.none c.if-is_in_circle.false) in
+    let none : EndsNoCircle w.names top certs above = subst (λ (l : List ℕ). EndsNoCircle w.names top certs l)
+    c.deref.ensures.value (c.in_ok-is_in_circle.ensures.none c.if-is_in_circle.false) in
     let o = c.enter.ensures.told v ts heard in
-    let others : AllByRecursion (IsToldOf x asked issuer certs above (Others x.verifies w.names admits issuer.cert certs above)) o.0 =
-    subst (λ (l : List ℕ). AllByRecursion (IsToldOf x asked issuer certs l (Others x.verifies w.names admits issuer.cert certs l)) o.0) c.deref-2.ensures.value o.2 in
+    let others : AllByRecursion
+    (IsToldOf x asked issuer certs above (Others x.verifies w.names admits issuer.cert certs above)) o.0 =
+    subst (λ (l : List ℕ).
+    AllByRecursion (IsToldOf x asked issuer certs l (Others x.verifies w.names admits issuer.cert certs l))
+    o.0) c.deref-2.ensures.value o.2 in
     let places = c.signed_by-places.result.now in
     let own = issuer.cert.fields.extensions.subject_key_identifier in
-    let key = c.subject_key_identifier-key.ensures ∙ ap (λ (f : TbsFields). f.extensions.subject_key_identifier) c.as_tbs.ensures ∙ ap (λ (d : CertFields). d.fields.extensions.subject_key_identifier) c.as_cert.ensures in
+    let key = c.subject_key_identifier-key.ensures ∙ ap (λ (f : TbsFields). f.extensions.subject_key_identifier)
+    c.as_tbs.ensures ∙ ap (λ (d : CertFields). d.fields.extensions.subject_key_identifier)
+    c.as_cert.ensures in
     let are = there certs c.subject_key_identifier-key.result own places key c.signed_by-places.ensures in
     let children = c.in_ok-children.children.items in
-    let kids = kids_here x w.names admits issuer.cert w.folder.now above c.index-kept.result.now c.deref-3.result.now c.deref-4.result.now children c.deref-3.ensures.value c.deref-4.ensures.value (kept_at (λ (k : Issuer). IsKeptOf w.names x w.folder.now issuer.cert k) c.enter.new.issuers.kept.items c.in_ok-at.at c.index-kept.result.now c.index-kept.ensures c.in_ok-at.ensures.found.1) c.in_ok-children.ensures places are in
+    let kids = kids_here x w.names admits issuer.cert w.folder.now above c.index-kept.result.now
+    c.deref-3.result.now c.deref-4.result.now children c.deref-3.ensures.value c.deref-4.ensures.value
+    (kept_at (λ (k : Issuer). IsKeptOf w.names x w.folder.now issuer.cert k) c.enter.new.issuers.kept.items
+    c.in_ok-at.at c.index-kept.result.now c.index-kept.ensures c.in_ok-at.ensures.found.1)
+    c.in_ok-children.ensures places are in
     let us = c.judge_children.ensures v (ts ++ o.0) o.1 in
     let told : AllByRecursion (IsToldOf x asked issuer certs above (λ p. Contains children p)) us.0 =
-    subst (λ (k : List ℕ). AllByRecursion (IsToldOf x asked issuer certs above (λ p. Contains k p)) us.0) c.deref-6.ensures.value
-    (subst (λ (l : List ℕ). AllByRecursion (IsToldOf x asked issuer certs l (λ p. Contains c.deref-6.result.now p)) us.0) c.deref-5.ensures.value us.3) in
-    let few : length us.0 ≤ length children = subst (λ (k : List ℕ). length us.0 ≤ length k) c.deref-6.ensures.value us.2 in
-    let enough : length children ≤ c.args.share.steps = omega (arith, c.if-len-share.false, c.len.ensures, c.in_ok-children.children.ok.0) in
+    subst (λ (k : List ℕ). AllByRecursion (IsToldOf x asked issuer certs above (λ p. Contains k p)) us.0)
+    c.deref-6.ensures.value
+    (subst (λ (l : List ℕ). AllByRecursion (IsToldOf x asked issuer certs l (λ p. Contains c.deref-6.result.now p))
+    us.0) c.deref-5.ensures.value us.3) in
+    let few : length us.0 ≤ length children = subst (λ (k : List ℕ). length us.0 ≤ length k) c.deref-6.ensures.value
+    us.2 in
+    let enough : length children ≤ c.args.share.steps =
+    omega (arith, c.if-len-share.false, c.len.ensures, c.in_ok-children.children.ok.0) in
     let cas = c.in_ok-cas.cas.items in
     let low : 0 < c.args.depth = omega (arith, c.if-depth-eq0.false) in
     let j : AreJudged x asked issuer certs above children cas us.0 =
     subst (λ (k : List ℕ). AreJudged x asked issuer certs above k cas us.0) c.deref-6.ensures.value
-    (subst (λ (l : List ℕ). AreJudged x asked issuer certs l c.deref-6.result.now cas us.0) c.deref-5.ensures.value (if_ok (λ (k : Vec Ca). AreJudged x asked issuer certs c.deref-5.result.now c.deref-6.result.now k.items us.0) c.judge_children.result c.in_ok-cas.cas c.in_ok-cas.was us.4)) in
+    (subst (λ (l : List ℕ). AreJudged x asked issuer certs l c.deref-6.result.now cas us.0) c.deref-5.ensures.value
+    (if_ok (λ (k : Vec Ca). AreJudged x asked issuer certs c.deref-5.result.now c.deref-6.result.now k.items
+    us.0) c.judge_children.result c.in_ok-cas.cas c.in_ok-cas.was us.4)) in
     let next = c.below-next.result.steps in
     let one : c.len-2.result ≡ length children = omega (arith, c.len-2.ensures, c.in_ok-children.children.ok.0) in
     let other : c.len-3.result ≡ length cas = omega (arith, c.len-3.ensures, c.in_ok-cas.cas.ok.0) in
     let b = c.each_below.ensures.tells v ((ts ++ o.0) ++ us.0) us.1 in
-    let walks = subst (λ (l : List Ca). WalksBelowEach {E = AllocError} x asked (IsLookedAt w.names admits top certs) certs above (c.args.depth - 1) next l c.each_below.result b.0) c.deref-7.ensures.value b.2 in (
+    let walks = subst (λ (l : List Ca). WalksBelowEach {E = AllocError} x asked
+    (IsLookedAt w.names admits top certs) certs above (c.args.depth - 1) next l c.each_below.result b.0)
+    c.deref-7.ensures.value b.2 in (
       o.0 ++ (us.0 ++ b.0),
-      subst (λ (l : List Told). g.W.Visitor.became v l c.each_below.new.visitor) (ap (λ (l : List Told). l ++ b.0) (append_assoc ts o.0 us.0) ∙ append_assoc ts (o.0 ++ us.0) b.0 ∙ ap (λ (l : List Told). ts ++ l) (append_assoc o.0 us.0 b.0)) b.1,
-      at_each x asked w.names admits top certs above c.args.depth c.args.share.steps law issuer c.requires.last none o.0 others places are children kids enough us.0 few told cas j low {E = AllocError} next (λ some. c.below-next.ensures.steps ∙ ap (λ (n : ℕ). (c.args.share.steps - n) / c.len-3.result) one ∙ ap (λ (n : ℕ). (c.args.share.steps - length children) / n) other) c.each_below.result b.0 walks,
+      subst (λ (l : List Told). g.W.Visitor.became v l c.each_below.new.visitor)
+          (ap (λ (l : List Told). l ++ b.0) (append_assoc ts o.0 us.0) ∙ append_assoc ts (o.0 ++ us.0) b.0 ∙
+          ap (λ (l : List Told). ts ++ l) (append_assoc o.0 us.0 b.0)) b.1,
+      at_each x asked w.names admits top certs above c.args.depth c.args.share.steps law issuer c.requires.last none
+          o.0 others places are children kids enough us.0 few told cas j low {E = AllocError} next
+          (λ some. c.below-next.ensures.steps ∙ ap (λ (n : ℕ). (c.args.share.steps - n) / c.len-3.result) one ∙
+          ap (λ (n : ℕ). (c.args.share.steps - length children) / n) other) c.each_below.result b.0 walks,
     )
 
 pub descend-returns-then-is_empty-2-clause-limits : goal.descend-returns-then-is_empty-2-clause-limits
@@ -547,15 +746,25 @@ descend-returns-then-is_empty-2-clause-limits g t c =
     let issuer = c.args.issuer.now in
     let above = c.args.trail.now.above.items in
     let law = c.unambiguous.ensures.certificate in
-    let none : EndsNoCircle w.names top certs above = subst (λ (l : List ℕ). EndsNoCircle w.names top certs l) c.deref.ensures.value (c.in_ok-is_in_circle.ensures.none c.if-is_in_circle.false) in
+    let none : EndsNoCircle w.names top certs above = subst (λ (l : List ℕ). EndsNoCircle w.names top certs l)
+    c.deref.ensures.value (c.in_ok-is_in_circle.ensures.none c.if-is_in_circle.false) in
     let places = c.signed_by-places.result.now in
     let own = issuer.cert.fields.extensions.subject_key_identifier in
-    let key = c.subject_key_identifier-key.ensures ∙ ap (λ (f : TbsFields). f.extensions.subject_key_identifier) c.as_tbs.ensures ∙ ap (λ (d : CertFields). d.fields.extensions.subject_key_identifier) c.as_cert.ensures in
+    let key = c.subject_key_identifier-key.ensures ∙ ap (λ (f : TbsFields). f.extensions.subject_key_identifier)
+    c.as_tbs.ensures ∙ ap (λ (d : CertFields). d.fields.extensions.subject_key_identifier)
+    c.as_cert.ensures in
     let are = there certs c.subject_key_identifier-key.result own places key c.signed_by-places.ensures in
     let children = c.in_ok-children.children.items in
-    let kids = kids_here x w.names admits issuer.cert w.folder.now above c.index-kept.result.now c.deref-3.result.now c.deref-4.result.now children c.deref-3.ensures.value c.deref-4.ensures.value (kept_at (λ (k : Issuer). IsKeptOf w.names x w.folder.now issuer.cert k) c.enter.new.issuers.kept.items c.in_ok-at.at c.index-kept.result.now c.index-kept.ensures c.in_ok-at.ensures.found.1) c.in_ok-children.ensures places are in
+    let kids = kids_here x w.names admits issuer.cert w.folder.now above c.index-kept.result.now
+    c.deref-3.result.now c.deref-4.result.now children c.deref-3.ensures.value c.deref-4.ensures.value
+    (kept_at (λ (k : Issuer). IsKeptOf w.names x w.folder.now issuer.cert k) c.enter.new.issuers.kept.items
+    c.in_ok-at.at c.index-kept.result.now c.index-kept.ensures c.in_ok-at.ensures.found.1)
+    c.in_ok-children.ensures places are in
     let old = c.args.trail.now.limits in
-    keeps_childless x asked w.names admits top certs above c.args.depth c.args.share law issuer c.requires.last none places are children kids old old (none_of children c.in_ok-children.children.len c.is_empty-2.result (omega (arith, c.in_ok-children.children.ok.0)) c.is_empty-2.ensures c.if-is_empty-2.true)
+    keeps_childless x asked w.names admits top certs above c.args.depth c.args.share law issuer c.requires.last none
+    places are children kids old old
+    (none_of children c.in_ok-children.children.len c.is_empty-2.result
+    (omega (arith, c.in_ok-children.children.ok.0)) c.is_empty-2.ensures c.if-is_empty-2.true)
 
 pub descend-returns-then-depth-eq0-clause-limits : goal.descend-returns-then-depth-eq0-clause-limits
 descend-returns-then-depth-eq0-clause-limits g t c =
@@ -568,15 +777,26 @@ descend-returns-then-depth-eq0-clause-limits g t c =
     let issuer = c.args.issuer.now in
     let above = c.args.trail.now.above.items in
     let law = c.unambiguous.ensures.certificate in
-    let none : EndsNoCircle w.names top certs above = subst (λ (l : List ℕ). EndsNoCircle w.names top certs l) c.deref.ensures.value (c.in_ok-is_in_circle.ensures.none c.if-is_in_circle.false) in
+    let none : EndsNoCircle w.names top certs above = subst (λ (l : List ℕ). EndsNoCircle w.names top certs l)
+    c.deref.ensures.value (c.in_ok-is_in_circle.ensures.none c.if-is_in_circle.false) in
     let places = c.signed_by-places.result.now in
     let own = issuer.cert.fields.extensions.subject_key_identifier in
-    let key = c.subject_key_identifier-key.ensures ∙ ap (λ (f : TbsFields). f.extensions.subject_key_identifier) c.as_tbs.ensures ∙ ap (λ (d : CertFields). d.fields.extensions.subject_key_identifier) c.as_cert.ensures in
+    let key = c.subject_key_identifier-key.ensures ∙ ap (λ (f : TbsFields). f.extensions.subject_key_identifier)
+    c.as_tbs.ensures ∙ ap (λ (d : CertFields). d.fields.extensions.subject_key_identifier)
+    c.as_cert.ensures in
     let are = there certs c.subject_key_identifier-key.result own places key c.signed_by-places.ensures in
     let children = c.in_ok-children.children.items in
-    let kids = kids_here x w.names admits issuer.cert w.folder.now above c.index-kept.result.now c.deref-3.result.now c.deref-4.result.now children c.deref-3.ensures.value c.deref-4.ensures.value (kept_at (λ (k : Issuer). IsKeptOf w.names x w.folder.now issuer.cert k) c.enter.new.issuers.kept.items c.in_ok-at.at c.index-kept.result.now c.index-kept.ensures c.in_ok-at.ensures.found.1) c.in_ok-children.ensures places are in
+    let kids = kids_here x w.names admits issuer.cert w.folder.now above c.index-kept.result.now
+    c.deref-3.result.now c.deref-4.result.now children c.deref-3.ensures.value c.deref-4.ensures.value
+    (kept_at (λ (k : Issuer). IsKeptOf w.names x w.folder.now issuer.cert k) c.enter.new.issuers.kept.items
+    c.in_ok-at.at c.index-kept.result.now c.index-kept.ensures c.in_ok-at.ensures.found.1)
+    c.in_ok-children.ensures places are in
     let old = c.args.trail.now.limits in
-    keeps_deep x asked w.names admits top certs above c.args.depth c.args.share law issuer c.requires.last none places are children kids old c.reach.new.self.limits c.if-depth-eq0.true (some_of children c.in_ok-children.children.len c.is_empty-2.result (omega (arith, c.in_ok-children.children.ok.0)) c.is_empty-2.ensures c.if-is_empty-2.false) c.reach.ensures.counted
+    keeps_deep x asked w.names admits top certs above c.args.depth c.args.share law issuer c.requires.last none
+    places are children kids old c.reach.new.self.limits c.if-depth-eq0.true
+    (some_of children c.in_ok-children.children.len c.is_empty-2.result
+    (omega (arith, c.in_ok-children.children.ok.0)) c.is_empty-2.ensures c.if-is_empty-2.false)
+    c.reach.ensures.counted
 
 pub descend-returns-then-len-share-clause-limits : goal.descend-returns-then-len-share-clause-limits
 descend-returns-then-len-share-clause-limits g t c =
@@ -589,19 +809,30 @@ descend-returns-then-len-share-clause-limits g t c =
     let issuer = c.args.issuer.now in
     let above = c.args.trail.now.above.items in
     let law = c.unambiguous.ensures.certificate in
-    let none : EndsNoCircle w.names top certs above = subst (λ (l : List ℕ). EndsNoCircle w.names top certs l) c.deref.ensures.value (c.in_ok-is_in_circle.ensures.none c.if-is_in_circle.false) in
+    let none : EndsNoCircle w.names top certs above = subst (λ (l : List ℕ). EndsNoCircle w.names top certs l)
+    c.deref.ensures.value (c.in_ok-is_in_circle.ensures.none c.if-is_in_circle.false) in
     let places = c.signed_by-places.result.now in
     let own = issuer.cert.fields.extensions.subject_key_identifier in
-    let key = c.subject_key_identifier-key.ensures ∙ ap (λ (f : TbsFields). f.extensions.subject_key_identifier) c.as_tbs.ensures ∙ ap (λ (d : CertFields). d.fields.extensions.subject_key_identifier) c.as_cert.ensures in
+    let key = c.subject_key_identifier-key.ensures ∙ ap (λ (f : TbsFields). f.extensions.subject_key_identifier)
+    c.as_tbs.ensures ∙ ap (λ (d : CertFields). d.fields.extensions.subject_key_identifier)
+    c.as_cert.ensures in
     let are = there certs c.subject_key_identifier-key.result own places key c.signed_by-places.ensures in
     let children = c.in_ok-children.children.items in
-    let kids = kids_here x w.names admits issuer.cert w.folder.now above c.index-kept.result.now c.deref-3.result.now c.deref-4.result.now children c.deref-3.ensures.value c.deref-4.ensures.value (kept_at (λ (k : Issuer). IsKeptOf w.names x w.folder.now issuer.cert k) c.enter.new.issuers.kept.items c.in_ok-at.at c.index-kept.result.now c.index-kept.ensures c.in_ok-at.ensures.found.1) c.in_ok-children.ensures places are in
+    let kids = kids_here x w.names admits issuer.cert w.folder.now above c.index-kept.result.now
+    c.deref-3.result.now c.deref-4.result.now children c.deref-3.ensures.value c.deref-4.ensures.value
+    (kept_at (λ (k : Issuer). IsKeptOf w.names x w.folder.now issuer.cert k) c.enter.new.issuers.kept.items
+    c.in_ok-at.at c.index-kept.result.now c.index-kept.ensures c.in_ok-at.ensures.found.1)
+    c.in_ok-children.ensures places are in
     let old = c.args.trail.now.limits in
     let low : 0 < c.args.depth = omega (arith, c.if-depth-eq0.false) in
-    let short : c.args.share.steps < length children = omega (arith, c.if-len-share.true, c.len.ensures, c.in_ok-children.children.ok.0) in
-    let one : c.len-then-len-share.result ≡ length children = omega (arith, c.len-then-len-share.ensures, c.in_ok-children.children.ok.0) in
-    keeps_short x asked w.names admits top certs above c.args.depth c.args.share law issuer c.requires.last none places are children kids old c.reach-then-len-share.new.self.limits low short c.needed.result
-    (λ base factor cost. subst (λ (n : ℕ). IsNumber c.needed.result (base + factor * n)) one (c.needed.ensures base factor cost)) c.reach-then-len-share.ensures.counted
+    let short : c.args.share.steps < length children =
+    omega (arith, c.if-len-share.true, c.len.ensures, c.in_ok-children.children.ok.0) in
+    let one : c.len-then-len-share.result ≡ length children =
+    omega (arith, c.len-then-len-share.ensures, c.in_ok-children.children.ok.0) in
+    keeps_short x asked w.names admits top certs above c.args.depth c.args.share law issuer c.requires.last none
+    places are children kids old c.reach-then-len-share.new.self.limits low short c.needed.result
+    (λ base factor cost. subst (λ (n : ℕ). IsNumber c.needed.result (base + factor * n)) one
+    (c.needed.ensures base factor cost)) c.reach-then-len-share.ensures.counted
 
 pub descend-returns-then-is_empty-3-clause-limits : goal.descend-returns-then-is_empty-3-clause-limits
 descend-returns-then-is_empty-3-clause-limits g t c =
@@ -614,24 +845,37 @@ descend-returns-then-is_empty-3-clause-limits g t c =
     let issuer = c.args.issuer.now in
     let above = c.args.trail.now.above.items in
     let law = c.unambiguous.ensures.certificate in
-    let none : EndsNoCircle w.names top certs above = subst (λ (l : List ℕ). EndsNoCircle w.names top certs l) c.deref.ensures.value (c.in_ok-is_in_circle.ensures.none c.if-is_in_circle.false) in
+    let none : EndsNoCircle w.names top certs above = subst (λ (l : List ℕ). EndsNoCircle w.names top certs l)
+    c.deref.ensures.value (c.in_ok-is_in_circle.ensures.none c.if-is_in_circle.false) in
     let places = c.signed_by-places.result.now in
     let own = issuer.cert.fields.extensions.subject_key_identifier in
-    let key = c.subject_key_identifier-key.ensures ∙ ap (λ (f : TbsFields). f.extensions.subject_key_identifier) c.as_tbs.ensures ∙ ap (λ (d : CertFields). d.fields.extensions.subject_key_identifier) c.as_cert.ensures in
+    let key = c.subject_key_identifier-key.ensures ∙ ap (λ (f : TbsFields). f.extensions.subject_key_identifier)
+    c.as_tbs.ensures ∙ ap (λ (d : CertFields). d.fields.extensions.subject_key_identifier)
+    c.as_cert.ensures in
     let are = there certs c.subject_key_identifier-key.result own places key c.signed_by-places.ensures in
     let children = c.in_ok-children.children.items in
-    let kids = kids_here x w.names admits issuer.cert w.folder.now above c.index-kept.result.now c.deref-3.result.now c.deref-4.result.now children c.deref-3.ensures.value c.deref-4.ensures.value (kept_at (λ (k : Issuer). IsKeptOf w.names x w.folder.now issuer.cert k) c.enter.new.issuers.kept.items c.in_ok-at.at c.index-kept.result.now c.index-kept.ensures c.in_ok-at.ensures.found.1) c.in_ok-children.ensures places are in
+    let kids = kids_here x w.names admits issuer.cert w.folder.now above c.index-kept.result.now
+    c.deref-3.result.now c.deref-4.result.now children c.deref-3.ensures.value c.deref-4.ensures.value
+    (kept_at (λ (k : Issuer). IsKeptOf w.names x w.folder.now issuer.cert k) c.enter.new.issuers.kept.items
+    c.in_ok-at.at c.index-kept.result.now c.index-kept.ensures c.in_ok-at.ensures.found.1)
+    c.in_ok-children.ensures places are in
     let old = c.args.trail.now.limits in
     let new = c.args.trail.now.limits in
     let o = c.enter.ensures.told c.args.visitor.now [] (g.met.W.Visitor.begins c.args.visitor.now) in
     let us = c.judge_children.ensures c.args.visitor.now ([] ++ o.0) o.1 in
-    let enough : length children ≤ c.args.share.steps = omega (arith, c.if-len-share.false, c.len.ensures, c.in_ok-children.children.ok.0) in
+    let enough : length children ≤ c.args.share.steps =
+    omega (arith, c.if-len-share.false, c.len.ensures, c.in_ok-children.children.ok.0) in
     let cas = c.in_ok-cas.cas.items in
     let low : 0 < c.args.depth = omega (arith, c.if-depth-eq0.false) in
     let j : AreJudged x asked issuer certs above children cas us.0 =
     subst (λ (k : List ℕ). AreJudged x asked issuer certs above k cas us.0) c.deref-6.ensures.value
-    (subst (λ (l : List ℕ). AreJudged x asked issuer certs l c.deref-6.result.now cas us.0) c.deref-5.ensures.value (if_ok (λ (k : Vec Ca). AreJudged x asked issuer certs c.deref-5.result.now c.deref-6.result.now k.items us.0) c.judge_children.result c.in_ok-cas.cas c.in_ok-cas.was us.4)) in
-    keeps_last x asked w.names admits top certs above c.args.depth c.args.share law issuer c.requires.last none places are children kids old new low enough cas us.0 j (none_of cas c.in_ok-cas.cas.len c.is_empty-3.result (omega (arith, c.in_ok-cas.cas.ok.0)) c.is_empty-3.ensures c.if-is_empty-3.true)
+    (subst (λ (l : List ℕ). AreJudged x asked issuer certs l c.deref-6.result.now cas us.0) c.deref-5.ensures.value
+    (if_ok (λ (k : Vec Ca). AreJudged x asked issuer certs c.deref-5.result.now c.deref-6.result.now k.items
+    us.0) c.judge_children.result c.in_ok-cas.cas c.in_ok-cas.was us.4)) in
+    keeps_last x asked w.names admits top certs above c.args.depth c.args.share law issuer c.requires.last none
+    places are children kids old new low enough cas us.0 j
+    (none_of cas c.in_ok-cas.cas.len c.is_empty-3.result (omega (arith, c.in_ok-cas.cas.ok.0))
+    c.is_empty-3.ensures c.if-is_empty-3.true)
 
 pub descend-returns-clause-limits : goal.descend-returns-clause-limits
 descend-returns-clause-limits g t c =
@@ -644,28 +888,47 @@ descend-returns-clause-limits g t c =
     let issuer = c.args.issuer.now in
     let above = c.args.trail.now.above.items in
     let law = c.unambiguous.ensures.certificate in
-    let none : EndsNoCircle w.names top certs above = subst (λ (l : List ℕ). EndsNoCircle w.names top certs l) c.deref.ensures.value (c.in_ok-is_in_circle.ensures.none c.if-is_in_circle.false) in
+    let none : EndsNoCircle w.names top certs above = subst (λ (l : List ℕ). EndsNoCircle w.names top certs l)
+    c.deref.ensures.value (c.in_ok-is_in_circle.ensures.none c.if-is_in_circle.false) in
     let places = c.signed_by-places.result.now in
     let own = issuer.cert.fields.extensions.subject_key_identifier in
-    let key = c.subject_key_identifier-key.ensures ∙ ap (λ (f : TbsFields). f.extensions.subject_key_identifier) c.as_tbs.ensures ∙ ap (λ (d : CertFields). d.fields.extensions.subject_key_identifier) c.as_cert.ensures in
+    let key = c.subject_key_identifier-key.ensures ∙ ap (λ (f : TbsFields). f.extensions.subject_key_identifier)
+    c.as_tbs.ensures ∙ ap (λ (d : CertFields). d.fields.extensions.subject_key_identifier)
+    c.as_cert.ensures in
     let are = there certs c.subject_key_identifier-key.result own places key c.signed_by-places.ensures in
     let children = c.in_ok-children.children.items in
-    let kids = kids_here x w.names admits issuer.cert w.folder.now above c.index-kept.result.now c.deref-3.result.now c.deref-4.result.now children c.deref-3.ensures.value c.deref-4.ensures.value (kept_at (λ (k : Issuer). IsKeptOf w.names x w.folder.now issuer.cert k) c.enter.new.issuers.kept.items c.in_ok-at.at c.index-kept.result.now c.index-kept.ensures c.in_ok-at.ensures.found.1) c.in_ok-children.ensures places are in
+    let kids = kids_here x w.names admits issuer.cert w.folder.now above c.index-kept.result.now
+    c.deref-3.result.now c.deref-4.result.now children c.deref-3.ensures.value c.deref-4.ensures.value
+    (kept_at (λ (k : Issuer). IsKeptOf w.names x w.folder.now issuer.cert k) c.enter.new.issuers.kept.items
+    c.in_ok-at.at c.index-kept.result.now c.index-kept.ensures c.in_ok-at.ensures.found.1)
+    c.in_ok-children.ensures places are in
     let old = c.args.trail.now.limits in
     let new = c.each_below.new.trail.limits in
     let o = c.enter.ensures.told c.args.visitor.now [] (g.met.W.Visitor.begins c.args.visitor.now) in
     let us = c.judge_children.ensures c.args.visitor.now ([] ++ o.0) o.1 in
-    let enough : length children ≤ c.args.share.steps = omega (arith, c.if-len-share.false, c.len.ensures, c.in_ok-children.children.ok.0) in
+    let enough : length children ≤ c.args.share.steps =
+    omega (arith, c.if-len-share.false, c.len.ensures, c.in_ok-children.children.ok.0) in
     let cas = c.in_ok-cas.cas.items in
     let low : 0 < c.args.depth = omega (arith, c.if-depth-eq0.false) in
     let j : AreJudged x asked issuer certs above children cas us.0 =
     subst (λ (k : List ℕ). AreJudged x asked issuer certs above k cas us.0) c.deref-6.ensures.value
-    (subst (λ (l : List ℕ). AreJudged x asked issuer certs l c.deref-6.result.now cas us.0) c.deref-5.ensures.value (if_ok (λ (k : Vec Ca). AreJudged x asked issuer certs c.deref-5.result.now c.deref-6.result.now k.items us.0) c.judge_children.result c.in_ok-cas.cas c.in_ok-cas.was us.4)) in
+    (subst (λ (l : List ℕ). AreJudged x asked issuer certs l c.deref-6.result.now cas us.0) c.deref-5.ensures.value
+    (if_ok (λ (k : Vec Ca). AreJudged x asked issuer certs c.deref-5.result.now c.deref-6.result.now k.items
+    us.0) c.judge_children.result c.in_ok-cas.cas c.in_ok-cas.was us.4)) in
     let one : c.len-2.result ≡ length children = omega (arith, c.len-2.ensures, c.in_ok-children.children.ok.0) in
     let other : c.len-3.result ≡ length cas = omega (arith, c.len-3.ensures, c.in_ok-cas.cas.ok.0) in
-    ok_if (KeepsBelow x asked (IsLookedAt w.names admits top certs) issuer certs above c.args.depth c.args.share old new) c.each_below.result (λ ended is.
-    let walks = if_ok (KeepsBelowEach x asked (IsLookedAt w.names admits top certs) certs above (c.args.depth - 1) c.below-next.result c.deref-7.result.now old new) c.each_below.result ended is c.each_below.ensures.limits in
-    keeps_each x asked w.names admits top certs above c.args.depth c.args.share law issuer c.requires.last none places are children kids old new low enough cas us.0 j c.below-next.result
-    (λ some. c.below-next.ensures.steps ∙ ap (λ (n : ℕ). (c.args.share.steps - n) / c.len-3.result) one ∙ ap (λ (n : ℕ). (c.args.share.steps - length children) / n) other)
-    (λ base factor cost. subst (λ (n : ℕ). CostIs c.below-next.result.cost (base + factor * n) (factor * length cas)) one (subst (λ (n : ℕ). CostIs c.below-next.result.cost (base + factor * c.len-2.result) (factor * n)) other (c.below-next.ensures.cost base factor cost)))
-    ended (subst (λ (l : List Ca). KeepsBelowEach x asked (IsLookedAt w.names admits top certs) certs above (c.args.depth - 1) c.below-next.result l old new ended) c.deref-7.ensures.value walks))
+    ok_if (KeepsBelow x asked (IsLookedAt w.names admits top certs) issuer certs above c.args.depth c.args.share old
+    new) c.each_below.result (λ ended is.
+    let walks = if_ok (KeepsBelowEach x asked (IsLookedAt w.names admits top certs) certs above (c.args.depth - 1)
+    c.below-next.result c.deref-7.result.now old new) c.each_below.result ended is
+    c.each_below.ensures.limits in
+    keeps_each x asked w.names admits top certs above c.args.depth c.args.share law issuer c.requires.last none
+    places are children kids old new low enough cas us.0 j c.below-next.result
+    (λ some. c.below-next.ensures.steps ∙ ap (λ (n : ℕ). (c.args.share.steps - n) / c.len-3.result) one ∙
+    ap (λ (n : ℕ). (c.args.share.steps - length children) / n) other)
+    (λ base factor cost. subst (λ (n : ℕ). CostIs c.below-next.result.cost (base + factor * n)
+    (factor * length cas)) one
+    (subst (λ (n : ℕ). CostIs c.below-next.result.cost (base + factor * c.len-2.result) (factor * n)) other
+    (c.below-next.ensures.cost base factor cost)))
+    ended (subst (λ (l : List Ca). KeepsBelowEach x asked (IsLookedAt w.names admits top certs) certs above
+    (c.args.depth - 1) c.below-next.result l old new ended) c.deref-7.ensures.value walks))

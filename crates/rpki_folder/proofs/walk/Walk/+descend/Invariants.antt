@@ -22,6 +22,11 @@ invariant-each_below-loop-ca g l =
     let above = l.fn.trail.above.items in
     (l.trail.above.items ≡ above)
     × AreKept w.names x w.folder.now l.issuers
-    × ((v : _) (ts : List Told) → g.W.Visitor.became v ts l.fn.visitor → (more : List Told) × g.W.Visitor.became v (ts ++ more) l.visitor
-    × WalksBelowEach {E = AllocError} x (by_named_lists w.names x w.folder.now.lists) (IsLookedAt w.names (g.A.Admission.admits w.admission.now) l.top.cert w.folder.now.certs) w.folder.now.certs above l.depth l.share.steps (take l.ca-index l.cas) (Ok l.ended) more)
-    × KeepsBelowEach x (by_named_lists w.names x w.folder.now.lists) (IsLookedAt w.names (g.A.Admission.admits w.admission.now) l.top.cert w.folder.now.certs) w.folder.now.certs above l.depth l.share (take l.ca-index l.cas) l.fn.trail.limits l.trail.limits l.ended
+    × ((v : _) (ts : List Told) → g.W.Visitor.became v ts l.fn.visitor →
+    (more : List Told) × g.W.Visitor.became v (ts ++ more) l.visitor
+    × WalksBelowEach {E = AllocError} x (by_named_lists w.names x w.folder.now.lists)
+    (IsLookedAt w.names (g.A.Admission.admits w.admission.now) l.top.cert w.folder.now.certs)
+    w.folder.now.certs above l.depth l.share.steps (take l.ca-index l.cas) (Ok l.ended) more)
+    × KeepsBelowEach x (by_named_lists w.names x w.folder.now.lists)
+    (IsLookedAt w.names (g.A.Admission.admits w.admission.now) l.top.cert w.folder.now.certs)
+    w.folder.now.certs above l.depth l.share (take l.ca-index l.cas) l.fn.trail.limits l.trail.limits l.ended

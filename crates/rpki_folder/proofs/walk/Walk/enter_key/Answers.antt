@@ -8,4 +8,5 @@ returns g c =
     let w = c.args.self.now in
     let x = context (g.V.Verifier.verifies w.verifier.now) w.at w.strict in
     on_both c.add_key.result c.add_key.ensures.keys c.add_key.ensures.kept
-    (λ items same. key_more w.names x w.folder.now c.args.issuers.now c.add_key.new.self c.in_ok-named_key.field-0 items same c.requires.kept c.in_ok-named_key.ensures)
+    (λ items same. key_more w.names x w.folder.now c.args.issuers.now c.add_key.new.self c.in_ok-named_key.field-0
+    items same c.requires.kept c.in_ok-named_key.ensures)

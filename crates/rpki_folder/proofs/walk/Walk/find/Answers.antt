@@ -21,15 +21,20 @@ returns-in-Some-clause-found g c =
     let b = c.in_ok-walked.ensures.tells in
     let v = c.in_ok-walked.ensures.anchor in
     let first = b.2 (top x asked t anchor v.0 v.1) (top_begins x asked t anchor v.0 v.1) in
-    let sought : IsSought c.args.place b.0 (Some path) = subst (λ (f : Option FoundPath). IsSought c.args.place b.0 f) (sym c.into_found.ensures ∙ c.in-Some.is) (b.1.1 refl) in (
+    let sought : IsSought c.args.place b.0 (Some path) =
+    subst (λ (f : Option FoundPath). IsSought c.args.place b.0 f) (sym c.into_found.ensures ∙ c.in-Some.is)
+    (b.1.1 refl) in (
       found_right x asked (at_anchor t anchor) w.folder.now.certs c.args.place b.0 path first.right sought,
-      (λ d begins. told_let_in (IsLookedAt w.names (g.A.Admission.admits w.admission.now) d w.folder.now.certs) c.args.place b.0 path.above.items (b.2 d begins).let_in (told_so b.0 c.args.place path sought)),
+      (λ d begins. told_let_in (IsLookedAt w.names (g.A.Admission.admits w.admission.now) d w.folder.now.certs)
+          c.args.place b.0 path.above.items (b.2 d begins).let_in (told_so b.0 c.args.place path sought)),
     )
 
 pub returns-in-None-clause-found : goal.returns-in-None-clause-found
 returns-in-None-clause-found g c =
     let b = c.in_ok-walked.ensures.tells in
-    let none : IsSought c.args.place b.0 None = subst (λ (f : Option FoundPath). IsSought c.args.place b.0 f) (sym c.into_found.ensures ∙ c.in-None.is) (b.1.1 refl) in (
-      (λ d above begins covers admitted reached. none_told c.args.place b.0 above none ((b.2 d begins).complete above c.args.place covers admitted reached)),
+    let none : IsSought c.args.place b.0 None = subst (λ (f : Option FoundPath). IsSought c.args.place b.0 f)
+    (sym c.into_found.ensures ∙ c.in-None.is) (b.1.1 refl) in (
+      (λ d above begins covers admitted reached. none_told c.args.place b.0 above none
+          ((b.2 d begins).complete above c.args.place covers admitted reached)),
       (b.0, b.2),
     )

@@ -9,7 +9,8 @@ pub loop-place-init : goal.loop-place-init
 loop-place-init g c =
     let w = c.args.self.now in
     let x = context (g.V.Verifier.verifies w.verifier.now) w.at w.strict in
-    none_tried x (by_named_lists w.names x w.folder.now.lists) w.names c.args.tal.now w.folder.now.certs c.new.result c.new.ensures.items
+    none_tried x (by_named_lists w.names x w.folder.now.lists) w.names c.args.tal.now w.folder.now.certs
+    c.new.result c.new.ensures.items
 
 pub loop-place-preserved : goal.loop-place-preserved
 loop-place-preserved g c =
@@ -19,8 +20,10 @@ loop-place-preserved g c =
     let count : length c.certs-count.result.now ≡ length certs = ap length c.certs-count.ensures in
     let less = c.loop-place-test.true in
     let low : c.loop-place.place < length certs = omega (arith, less, count) in
-    one_tried x (by_named_lists w.names x w.folder.now.lists) w.names c.args.tal.now certs c.unambiguous.ensures.certificate c.loop-place.place low
-    c.loop-place.found c.in_ok-found.found c.in_ok-tried.tried c.loop-place.invariant c.in_ok-tried.ensures c.in_ok-found.ensures
+    one_tried x (by_named_lists w.names x w.folder.now.lists) w.names c.args.tal.now certs
+    c.unambiguous.ensures.certificate c.loop-place.place low
+    c.loop-place.found c.in_ok-found.found c.in_ok-tried.tried c.loop-place.invariant c.in_ok-tried.ensures
+    c.in_ok-found.ensures
 
 pub returns : goal.returns
 returns g c =
@@ -31,4 +34,6 @@ returns g c =
     let count : length c.certs-count.result.now ≡ length certs = ap length c.certs-count.ensures in
     let high = c.loop-place-test.false in
     let end : c.loop-place.place ≡ length certs = omega (arith, high, c.loop-place.auto.place-end, count) in
-    all_tried x asked w.names c.args.tal.now certs c.loop-place.found (subst (λ (n : ℕ). IsFoundAmong x asked w.names c.args.tal.now certs n c.loop-place.found) end c.loop-place.invariant)
+    all_tried x asked w.names c.args.tal.now certs c.loop-place.found
+    (subst (λ (n : ℕ). IsFoundAmong x asked w.names c.args.tal.now certs n c.loop-place.found) end
+    c.loop-place.invariant)

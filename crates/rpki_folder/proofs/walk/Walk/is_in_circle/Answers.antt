@@ -27,7 +27,9 @@ returns-in-Some-clause-circle g c =
     let issuer = c.args.issuer.now.cert in
     let is = c.in-Some.ensures.cases.0 in
     IfOk-weaker c.is_one_of.result _ _ (λ b same yes none.
-    in_circle top certs c.unambiguous.ensures.certificate w.names above issuer c.requires.last before last is (subst (λ (d : CertFields). IsRepeated w.names top certs before d) c.as_cert.ensures (same.0 yes)) none) c.is_one_of.ensures
+    in_circle top certs c.unambiguous.ensures.certificate w.names above issuer c.requires.last before last is
+    (subst (λ (d : CertFields). IsRepeated w.names top certs before d) c.as_cert.ensures (same.0 yes)) none)
+    c.is_one_of.ensures
 
 pub returns-in-Some-clause-none : goal.returns-in-Some-clause-none
 returns-in-Some-clause-none g c =
@@ -41,7 +43,10 @@ returns-in-Some-clause-none g c =
     let is = c.in-Some.ensures.cases.0 in
     IfOk-weaker c.is_one_of.result _ _ (λ b same no.
     in_none top certs c.unambiguous.ensures.certificate w.names above issuer c.requires.last before last is
-    (λ repeated. false≢true (sym no ∙ same.1 (subst (λ (d : CertFields). IsRepeated w.names top certs before d) (sym c.as_cert.ensures) repeated)))) c.is_one_of.ensures
+    (λ repeated. false≢true
+    (sym no ∙ same.1
+    (subst (λ (d : CertFields). IsRepeated w.names top certs before d) (sym c.as_cert.ensures) repeated))))
+    c.is_one_of.ensures
 
 no_length : (xs : List ℕ) → length xs ≡ 0 → xs ≡ []
 no_length [] e = refl
@@ -50,4 +55,5 @@ no_length (x ∷ xs) e = absurd (omega arith)
 pub returns-in-None-clause-none : goal.returns-in-None-clause-none
 returns-in-None-clause-none g c =
     let w = c.args.self.now in
-    λ no. none_at_top c.args.top.now.cert w.folder.now.certs c.unambiguous.ensures.certificate w.names c.args.above.now (no_length c.args.above.now c.in-None.ensures.cases)
+    λ no. none_at_top c.args.top.now.cert w.folder.now.certs c.unambiguous.ensures.certificate w.names
+    c.args.above.now (no_length c.args.above.now c.in-None.ensures.cases)

@@ -13,9 +13,12 @@ returns g c =
     let w = c.args.self.now in
     let certs = w.folder.now.certs in
     let place = c.args.place in
-    let here : c.index-certs-place.result ≡ octets_at certs place = octets_here certs c.certs.result.now place c.index-certs-place.result c.certs.ensures c.index-certs-place.is c.requires in
-    let stands : StandsAt certs place c.in_ok-other.other = subst (λ (o : List ℕ). Means IsCertificate c.in_ok-other.other o) here c.in_ok-other.ensures in (
+    let here : c.index-certs-place.result ≡ octets_at certs place = octets_here certs c.certs.result.now place
+    c.index-certs-place.result c.certs.ensures c.index-certs-place.is c.requires in
+    let stands : StandsAt certs place c.in_ok-other.other =
+    subst (λ (o : List ℕ). Means IsCertificate c.in_ok-other.other o) here c.in_ok-other.ensures in (
       (λ yes. (c.in_ok-other.other, stands, c.are_one_entity-is_one.ensures.0 yes)),
       (λ there. c.are_one_entity-is_one.ensures.1 (subst (λ (d : CertFields). AreOneEntity w.names d c.args.cert.now)
-          (one_meant IsCertificate c.unambiguous.ensures.certificate there.0 c.in_ok-other.other (octets_at certs place) there.1 stands) there.2)),
+          (one_meant IsCertificate c.unambiguous.ensures.certificate there.0 c.in_ok-other.other
+          (octets_at certs place) there.1 stands) there.2)),
     )

@@ -10,7 +10,12 @@ use Rattle.rpki_folder.proofs.walk.Walk.is_one_of.Goals as goal
 
 pub returns-then-are_one_entity : goal.returns-then-are_one_entity
 returns-then-are_one_entity g c = (
-  (λ yes. (c.args.top.now.cert, inl refl, subst (λ (d : CertFields). AreOneEntity c.args.self.now.names d c.args.cert.now) c.as_cert.ensures (c.are_one_entity.ensures.0 c.if-are_one_entity.true))),
+  (λ yes. (
+    c.args.top.now.cert,
+    inl refl,
+    subst (λ (d : CertFields). AreOneEntity c.args.self.now.names d c.args.cert.now) c.as_cert.ensures
+        (c.are_one_entity.ensures.0 c.if-are_one_entity.true),
+  )),
   (λ repeated. refl),
 )
 
@@ -37,9 +42,11 @@ loop-place-preserved g c = λ p among d stands one.
     let places = c.args.places.now in
     let i = c.loop-place.place-index in
     let certs = c.args.self.now.folder.now.certs in
-    elim (Contains-push_cases (take i places) (get_or places i 0) p (subst (λ (l : List ℕ). Contains l p) (take_more places i 0 c.loop-place-test.true) among)) [
+    elim (Contains-push_cases (take i places) (get_or places i 0) p
+    (subst (λ (l : List ℕ). Contains l p) (take_more places i 0 c.loop-place-test.true) among)) [
       | inl before ↦ c.loop-place.invariant p before d stands one
-      | inr is ↦ both_ways c.in_ok-is_one.is_one c.if-is_one.false (c.in_ok-is_one.ensures.1 (d, subst (λ (q : ℕ). StandsAt certs q d) (sym is) stands, one))
+      | inr is ↦ both_ways c.in_ok-is_one.is_one c.if-is_one.false
+          (c.in_ok-is_one.ensures.1 (d, subst (λ (q : ℕ). StandsAt certs q d) (sym is) stands, one))
     ]
 
 pub returns : goal.returns
@@ -49,7 +56,11 @@ returns g c =
     let names = c.args.self.now.names in (
       (λ yes. absurd cc),
       (λ repeated. elim repeated.1 [
-        | inl is ↦ absurd (both_ways c.are_one_entity.result c.if-are_one_entity.false (c.are_one_entity.ensures.1 (subst (λ (d : CertFields). AreOneEntity names d c.args.cert.now) (is ∙ sym c.as_cert.ensures) repeated.2)))
-        | inr at ↦ absurd (c.loop-place.invariant at.0 (subst (λ (l : List ℕ). Contains l at.0) (sym all) at.1) repeated.0 at.2 repeated.2)
+        | inl is ↦ absurd (both_ways c.are_one_entity.result c.if-are_one_entity.false
+            (c.are_one_entity.ensures.1
+            (subst (λ (d : CertFields). AreOneEntity names d c.args.cert.now) (is ∙ sym c.as_cert.ensures)
+            repeated.2)))
+        | inr at ↦ absurd (c.loop-place.invariant at.0 (subst (λ (l : List ℕ). Contains l at.0) (sym all) at.1)
+            repeated.0 at.2 repeated.2)
       ]),
     )

@@ -1,6 +1,7 @@
 use Rattle.std.specs.Global.{Vec}
 use Rattle.std.specs.Prelude.{Contains, Option, None, Some}
-use Rattle.std.proofs.Common.{◌≡◌, ◌+◌, ℕ, List, [], ◌∷◌, ◌++◌, length, take, get_or, refl, sym, subst, append_assoc, arith}
+use Rattle.std.proofs.Common.{◌≡◌, ◌+◌, ℕ, List, [], ◌∷◌, ◌++◌, length, take, get_or, refl, sym, subst}
+use Rattle.std.proofs.Common.{append_assoc, arith}
 use Rattle.std.proofs.lemmas.List.{append-nil, take_more, take_all, length-append}
 use Rattle.std.proofs.lemmas.List.Elements.{Contains-get_or}
 use Rattle.rpki_der.proofs.Formats.{one_meant}
@@ -28,7 +29,8 @@ loop-place-init g c = λ v ts heard.
       subst (λ (l : List Told). g.W.Visitor.became v l c.args.visitor.now) (sym (append-nil ts)) heard,
       refl,
       tt,
-      subst (λ (k : List Ca). AreJudged x asked issuer certs above [] k []) (sym c.new-cas.ensures.items) (none_judged x asked issuer certs above),
+      subst (λ (k : List Ca). AreJudged x asked issuer certs above [] k []) (sym c.new-cas.ensures.items)
+          (none_judged x asked issuer certs above),
     )
 
 pub judge-requires : goal.judge-requires
@@ -46,8 +48,12 @@ judge-requires g c =
       place = c.requires.inside place at;
       kept = c.requires.kept;
       signed = λ d stands.
-          let same = one_meant IsCertificate c.unambiguous.ensures.certificate child.cert d (octets_at certs place) child.stands stands in
-          ((λ yes. subst (λ (e : CertFields). IsSignedBy verifies issuer.fields.key e.signed_data) same child.signed), (λ signed. refl));
+          let same = one_meant IsCertificate c.unambiguous.ensures.certificate child.cert d (octets_at certs place)
+          child.stands stands in (
+            (λ yes. subst (λ (e : CertFields). IsSignedBy verifies issuer.fields.key e.signed_data) same
+                child.signed),
+            (λ signed. refl),
+          );
     }
 
 pub loop-place-preserved-in_default : goal.loop-place-preserved-in_default
@@ -65,13 +71,17 @@ loop-place-preserved-in_default g c = λ v ts heard.
     let i = c.loop-place.invariant v ts heard in
     let o = c.in_ok-next.ensures.ok v (ts ++ i.0) i.1 in
     let item = told above place o.0 in
-    let outcome : IsOutcome x asked issuer (octets_at certs place) o.0 None = subst (λ (n : Option ResourceFields). IsOutcome x asked issuer (octets_at certs place) o.0 n) c.in_default.is o.2 in
+    let outcome : IsOutcome x asked issuer (octets_at certs place) o.0 None =
+    subst (λ (n : Option ResourceFields). IsOutcome x asked issuer (octets_at certs place) o.0 n)
+    c.in_default.is o.2 in
     let count : length (i.0 ++ item ∷ []) ≡ length i.0 + 1 = length-append i.0 (item ∷ []) in (
       i.0 ++ item ∷ [],
       subst (λ (l : List Told). g.W.Visitor.became v l c.judge.new.visitor) (append_assoc ts i.0 (item ∷ [])) o.1,
       omega (arith, count, i.2),
-      all_append (IsToldOf x asked issuer certs above (λ p. Contains children p)) i.0 (item ∷ []) i.3 ((refl, Contains-get_or children index 0 c.loop-place-test.true, (None, outcome)), tt),
-      subst (λ (l : List ℕ). AreJudged x asked issuer certs above l cas (i.0 ++ item ∷ [])) (sym (take_more children index 0 c.loop-place-test.true))
+      all_append (IsToldOf x asked issuer certs above (λ p. Contains children p)) i.0 (item ∷ []) i.3
+          ((refl, Contains-get_or children index 0 c.loop-place-test.true, (None, outcome)), tt),
+      subst (λ (l : List ℕ). AreJudged x asked issuer certs above l cas (i.0 ++ item ∷ []))
+          (sym (take_more children index 0 c.loop-place-test.true))
           (judged_other x asked issuer certs above (take index children) cas i.0 i.4 place o.0 outcome),
     )
 
@@ -92,15 +102,21 @@ loop-place-preserved g c = λ v ts heard.
     let i = c.loop-place.invariant v ts heard in
     let o = c.in_ok-next.ensures.ok v (ts ++ i.0) i.1 in
     let item = told above place o.0 in
-    let outcome : IsOutcome x asked issuer (octets_at certs place) o.0 (Some holder) = subst (λ (n : Option ResourceFields). IsOutcome x asked issuer (octets_at certs place) o.0 n) c.in-Some.is o.2 in
+    let outcome : IsOutcome x asked issuer (octets_at certs place) o.0 (Some holder) =
+    subst (λ (n : Option ResourceFields). IsOutcome x asked issuer (octets_at certs place) o.0 n) c.in-Some.is
+    o.2 in
     let count : length (i.0 ++ item ∷ []) ≡ length i.0 + 1 = length-append i.0 (item ∷ []) in (
       i.0 ++ item ∷ [],
       subst (λ (l : List Told). g.W.Visitor.became v l c.judge.new.visitor) (append_assoc ts i.0 (item ∷ [])) o.1,
       omega (arith, count, i.2),
-      all_append (IsToldOf x asked issuer certs above (λ p. Contains children p)) i.0 (item ∷ []) i.3 ((refl, Contains-get_or children index 0 c.loop-place-test.true, (Some holder, outcome)), tt),
-      subst (λ (k : List Ca). AreJudged x asked issuer certs above (take (index + 1) children) k (i.0 ++ item ∷ [])) (sym c.in_ok-push.ensures.items)
-          (subst (λ (l : List ℕ). AreJudged x asked issuer certs above l (cas ++ one ∷ []) (i.0 ++ item ∷ [])) (sym (take_more children index 0 c.loop-place-test.true))
-          (judged_ca x asked issuer certs above (take index children) cas i.0 i.4 place o.0 (once_apart children index 0 c.requires.once c.loop-place-test.true) holder outcome)),
+      all_append (IsToldOf x asked issuer certs above (λ p. Contains children p)) i.0 (item ∷ []) i.3
+          ((refl, Contains-get_or children index 0 c.loop-place-test.true, (Some holder, outcome)), tt),
+      subst (λ (k : List Ca). AreJudged x asked issuer certs above (take (index + 1) children) k (i.0 ++ item ∷ []))
+          (sym c.in_ok-push.ensures.items)
+          (subst (λ (l : List ℕ). AreJudged x asked issuer certs above l (cas ++ one ∷ []) (i.0 ++ item ∷ []))
+          (sym (take_more children index 0 c.loop-place-test.true))
+          (judged_ca x asked issuer certs above (take index children) cas i.0 i.4 place o.0
+          (once_apart children index 0 c.requires.once c.loop-place-test.true) holder outcome)),
     )
 
 pub returns-in_err-push : goal.returns-in_err-push
@@ -121,8 +137,10 @@ returns-in_err-push g c = λ v ts heard.
       i.0 ++ item ∷ [],
       subst (λ (l : List Told). g.W.Visitor.became v l c.judge.new.visitor) (append_assoc ts i.0 (item ∷ [])) o.1,
       omega (arith, count, i.2, c.loop-place-test.true),
-      all_append (IsToldOf x asked issuer certs above (λ p. Contains children p)) i.0 (item ∷ []) i.3 ((refl, Contains-get_or children index 0 c.loop-place-test.true, (c.in_ok-next.next, o.2)), tt),
-      if_err (λ (k : Vec Ca). AreJudged x asked issuer certs above children k.items (i.0 ++ item ∷ [])) c.from_residual-in_err-push.result c.from_residual-in_err-push.ensures.0,
+      all_append (IsToldOf x asked issuer certs above (λ p. Contains children p)) i.0 (item ∷ []) i.3
+          ((refl, Contains-get_or children index 0 c.loop-place-test.true, (c.in_ok-next.next, o.2)), tt),
+      if_err (λ (k : Vec Ca). AreJudged x asked issuer certs above children k.items (i.0 ++ item ∷ []))
+          c.from_residual-in_err-push.result c.from_residual-in_err-push.ensures.0,
     )
 
 pub returns : goal.returns
@@ -137,5 +155,6 @@ returns g c = λ v ts heard.
       i.1,
       omega (arith, i.2),
       i.3,
-      subst (λ (l : List ℕ). AreJudged x asked c.args.issuer.now w.folder.now.certs c.args.above.now l c.loop-place.cas.items i.0) (take_all c.loop-place.place-index children c.loop-place-test.false) i.4,
+      subst (λ (l : List ℕ). AreJudged x asked c.args.issuer.now w.folder.now.certs c.args.above.now l
+          c.loop-place.cas.items i.0) (take_all c.loop-place.place-index children c.loop-place-test.false) i.4,
     )

@@ -13,7 +13,8 @@ invariant-loop-place g l =
     let x = context (g.V.Verifier.verifies w.verifier.now) w.at w.strict in
     let asked = by_named_lists w.names x w.folder.now.lists in
     let certs = w.folder.now.certs in
-    (v : _) (ts : List Told) → g.W.Visitor.became v ts l.fn.visitor → (more : List Told) × g.W.Visitor.became v (ts ++ more) l.visitor
+    (v : _) (ts : List Told) → g.W.Visitor.became v ts l.fn.visitor →
+    (more : List Told) × g.W.Visitor.became v (ts ++ more) l.visitor
     × (length more ≡ l.place-index)
     × AllByRecursion (IsToldOf x asked l.issuer certs l.above (λ p. Contains l.children p)) more
     × AreJudged x asked l.issuer certs l.above (take l.place-index l.children) l.cas.items more

@@ -11,7 +11,12 @@ new-requires g c =
     let verifies = g.V.Verifier.verifies w.verifier.now in
     let folder = w.folder.now in
     let issuer = c.args.issuer.now.cert in
-    let signed = if_some c.args.key (λ k. IsOfKey verifies folder issuer k.now) (λ k. IsTrue k.now.has_signed ↔ HasSigned verifies folder.lists issuer.fields) (λ k h. h.signed) c.requires in
-    let mapped = if_some_map c.args.key (λ k. k.now.has_signed) (λ is. IsTrue is ↔ HasSigned verifies folder.lists issuer.fields) signed in
-    let known = subst (λ (o : Option Bool). IfSome o (λ is. IsTrue is ↔ HasSigned verifies folder.lists issuer.fields)) (sym c.known_of-known.ensures) mapped in
+    let signed = if_some c.args.key (λ k. IsOfKey verifies folder issuer k.now)
+    (λ k. IsTrue k.now.has_signed ↔ HasSigned verifies folder.lists issuer.fields) (λ k h. h.signed)
+    c.requires in
+    let mapped = if_some_map c.args.key (λ k. k.now.has_signed)
+    (λ is. IsTrue is ↔ HasSigned verifies folder.lists issuer.fields) signed in
+    let known = subst (λ (o : Option Bool).
+    IfSome o (λ is. IsTrue is ↔ HasSigned verifies folder.lists issuer.fields)) (sym c.known_of-known.ensures)
+    mapped in
     search (rules, known)

@@ -24,9 +24,12 @@ returns-in_err-member-2-clause-fault g c =
     let e = c.in_err-member-2.field-0.0 in
     let same : c.from_residual-in_err-member-2.result ≡ Err (Revocation e) = search rules in
     let below = names_issuer x (by_named_lists w.names x lists) issuer octets kind member c.in_ok-member.ensures.ok in
-    let answered = subst (λ (d : CertFields). IsAnswered c.args.lists.now w.at d c.ask-test.result) c.as_cert.ensures c.ask-test.ensures in
-    let tests = as_all w.names x lists issuer.cert.fields member.cert below c.args.lists.now c.requires.kept c.ask-test.result answered in
-    let first : IsFirstFalse (by_named_lists w.names x lists issuer.cert.fields member.cert) revocation_checks e = rw c.in_err-member-2.ensures.rejected at tests in
+    let answered = subst (λ (d : CertFields). IsAnswered c.args.lists.now w.at d c.ask-test.result)
+    c.as_cert.ensures c.ask-test.ensures in
+    let tests = as_all w.names x lists issuer.cert.fields member.cert below c.args.lists.now c.requires.kept
+    c.ask-test.result answered in
+    let first : IsFirstFalse (by_named_lists w.names x lists issuer.cert.fields member.cert) revocation_checks e =
+    rw c.in_err-member-2.ensures.rejected at tests in
     rw same (is_revoked x (by_named_lists w.names x lists) issuer octets kind member c.in_ok-member.ensures.ok e first)
 
 pub returns-clause-ok : goal.returns-clause-ok
@@ -39,7 +42,11 @@ returns-clause-ok g c =
     let kind = kind_of c.args.role in
     let member = c.in_ok-member.member in
     let below = names_issuer x (by_named_lists w.names x lists) issuer octets kind member c.in_ok-member.ensures.ok in
-    let answered = subst (λ (d : CertFields). IsAnswered c.args.lists.now w.at d c.ask-test.result) c.as_cert.ensures c.ask-test.ensures in
-    let tests = as_all w.names x lists issuer.cert.fields member.cert below c.args.lists.now c.requires.kept c.ask-test.result answered in
-    let free : IsVerified (by_named_lists w.names x lists issuer.cert.fields member.cert) revocation_checks = rw c.in_ok-member-2.ensures.ok.1 at tests in
-    rw c.in_ok-member-2.ensures.ok.0 (not_revoked x (by_named_lists w.names x lists) issuer octets kind member c.in_ok-member.ensures.ok free)
+    let answered = subst (λ (d : CertFields). IsAnswered c.args.lists.now w.at d c.ask-test.result)
+    c.as_cert.ensures c.ask-test.ensures in
+    let tests = as_all w.names x lists issuer.cert.fields member.cert below c.args.lists.now c.requires.kept
+    c.ask-test.result answered in
+    let free : IsVerified (by_named_lists w.names x lists issuer.cert.fields member.cert) revocation_checks =
+    rw c.in_ok-member-2.ensures.ok.1 at tests in
+    rw c.in_ok-member-2.ensures.ok.0
+    (not_revoked x (by_named_lists w.names x lists) issuer octets kind member c.in_ok-member.ensures.ok free)

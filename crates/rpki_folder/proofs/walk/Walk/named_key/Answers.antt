@@ -16,7 +16,12 @@ returns g c =
     let issuer = c.args.issuer.now.cert in
     let places = c.args.places.now in
     let step = c.in_ok-certs-2.ensures.ok in
-    let one : NamedKey = record { cert = c.in_ok-certs-2.cert; certs = c.in_ok-certs-2.certs; has_signed = c.has_signed-has_signed.result } in
+    let one : NamedKey = record {
+      cert = c.in_ok-certs-2.cert;
+      certs = c.in_ok-certs-2.certs;
+      has_signed =
+          c.has_signed-has_signed.result;
+    } in
     let copy : one.cert ≡ c.as_cert.result.now = rw step.1 at c.try_clone.ensures in
     let same : one.cert ≡ issuer = copy ∙ c.as_cert.ensures in
     let kept : IsOfKey verifies folder issuer one = record {

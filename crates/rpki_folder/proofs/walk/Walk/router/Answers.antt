@@ -20,9 +20,12 @@ returns-in_err-cert-2-clause-fault g c =
     let e = c.in_err-cert-2.field-0.0 in
     let same : c.from_residual-in_err-cert-2.result ≡ Err (Revocation e) = search rules in
     let below = router_names_issuer x (by_named_lists w.names x lists) issuer octets cert c.in_ok-cert.ensures.ok in
-    let tests = as_all w.names x lists issuer.cert.fields cert below c.args.lists.now c.requires.kept c.ask-test.result c.ask-test.ensures in
-    let first : IsFirstFalse (by_named_lists w.names x lists issuer.cert.fields cert) revocation_checks e = rw c.in_err-cert-2.ensures.rejected at tests in
-    rw same (router_is_revoked x (by_named_lists w.names x lists) issuer octets cert c.in_ok-cert.ensures.ok c.in_ok-cert.ensures.begins e first)
+    let tests = as_all w.names x lists issuer.cert.fields cert below c.args.lists.now c.requires.kept
+    c.ask-test.result c.ask-test.ensures in
+    let first : IsFirstFalse (by_named_lists w.names x lists issuer.cert.fields cert) revocation_checks e =
+    rw c.in_err-cert-2.ensures.rejected at tests in
+    rw same (router_is_revoked x (by_named_lists w.names x lists) issuer octets cert c.in_ok-cert.ensures.ok
+    c.in_ok-cert.ensures.begins e first)
 
 pub returns-clause-ok : goal.returns-clause-ok
 returns-clause-ok g c =
@@ -33,6 +36,9 @@ returns-clause-ok g c =
     let issuer = c.args.issuer.now in
     let cert = c.in_ok-cert.cert in
     let below = router_names_issuer x (by_named_lists w.names x lists) issuer octets cert c.in_ok-cert.ensures.ok in
-    let tests = as_all w.names x lists issuer.cert.fields cert below c.args.lists.now c.requires.kept c.ask-test.result c.ask-test.ensures in
-    let free : IsVerified (by_named_lists w.names x lists issuer.cert.fields cert) revocation_checks = rw c.in_ok-cert-2.ensures.ok.1 at tests in
-    rw c.in_ok-cert-2.ensures.ok.0 (router_not_revoked x (by_named_lists w.names x lists) issuer octets cert c.in_ok-cert.ensures.ok free)
+    let tests = as_all w.names x lists issuer.cert.fields cert below c.args.lists.now c.requires.kept
+    c.ask-test.result c.ask-test.ensures in
+    let free : IsVerified (by_named_lists w.names x lists issuer.cert.fields cert) revocation_checks =
+    rw c.in_ok-cert-2.ensures.ok.1 at tests in
+    rw c.in_ok-cert-2.ensures.ok.0
+    (router_not_revoked x (by_named_lists w.names x lists) issuer octets cert c.in_ok-cert.ensures.ok free)

@@ -11,6 +11,8 @@ returns-in_ok-reject-in-Err-clause-ok g c = λ v ts heard.
     let x = context (g.V.Verifier.verifies w.verifier.now) w.at w.strict in (
       Err c.in-Err.fault,
       c.in_ok-reject-in-Err.ensures.ok v ts heard,
-      member_rejected x (by_named_lists w.names x w.folder.now.lists) c.args.issuer.now (octets_at w.folder.now.certs c.args.place) c.args.role c.in-Err.fault c.in_ok-reject-in-Err.ensures.no_memory c.in-Err.ensures.fault,
+      member_rejected x (by_named_lists w.names x w.folder.now.lists) c.args.issuer.now
+          (octets_at w.folder.now.certs c.args.place) c.args.role c.in-Err.fault
+          c.in_ok-reject-in-Err.ensures.no_memory c.in-Err.ensures.fault,
       refl,
     )

@@ -14,5 +14,8 @@ returns-clause-fault g c =
     let k = kind_of c.args.role in
     let issuer = c.args.issuer.now in
     let item = c.index-certs-place.result in
-    let octets : c.member.result ≡ octets_at w.folder.now.certs c.args.place = c.member.ensures ∙ octets_here w.folder.now.certs c.certs.result.now c.args.place item c.certs.ensures c.index-certs-place.is c.requires in
-    subst (λ (o : List ℕ). IfErr c.member-2.result (Finds x (demand_under x nobody issuer k) o)) octets c.member-2.ensures.fault
+    let octets : c.member.result ≡ octets_at w.folder.now.certs c.args.place = c.member.ensures ∙
+    octets_here w.folder.now.certs c.certs.result.now c.args.place item c.certs.ensures c.index-certs-place.is
+    c.requires in
+    subst (λ (o : List ℕ). IfErr c.member-2.result (Finds x (demand_under x nobody issuer k) o)) octets
+    c.member-2.ensures.fault

@@ -12,7 +12,8 @@ returns-in_err-test_anchor-clause-fault g c =
     let x = context (g.V.Verifier.verifies w.verifier.now) w.at w.strict in
     let e = c.in_err-test_anchor.field-0.0 in
     let same : c.from_residual.result ≡ Err e = search rules in
-    rw same (anchor_fault x (by_named_lists w.names x w.folder.now.lists) [] c.args.tal.now.tal c.args.anchor.now e c.in_err-test_anchor.ensures.fault)
+    rw same (anchor_fault x (by_named_lists w.names x w.folder.now.lists) [] c.args.tal.now.tal c.args.anchor.now e
+    c.in_err-test_anchor.ensures.fault)
 
 pub returns-clause-ok : goal.returns-clause-ok
 returns-clause-ok g c =
@@ -22,7 +23,9 @@ returns-clause-ok g c =
     let anchor = c.args.anchor.now in
     let begins : BeginsWithAnchor t.tal anchor = search rules in
     let name : rc_value c.in_ok-name.name ≡ t.name = rw c.in_ok-name.ensures.ok at c.name_of.ensures.ok in
-    anchor_leads x (by_named_lists w.names x w.folder.now.lists) t anchor c.unambiguous.ensures.certificate begins (rc_value c.in_ok-name.name) name c.at_top-2.result c.trust_anchor.result c.at_top-2.ensures.ok c.trust_anchor.ensures.ok
+    anchor_leads x (by_named_lists w.names x w.folder.now.lists) t anchor c.unambiguous.ensures.certificate begins
+    (rc_value c.in_ok-name.name) name c.at_top-2.result c.trust_anchor.result c.at_top-2.ensures.ok
+    c.trust_anchor.ensures.ok
 
 pub returns-clause-fault : goal.returns-clause-fault
 returns-clause-fault g c =
@@ -31,4 +34,5 @@ returns-clause-fault g c =
     let t = c.args.tal.now in
     let anchor = c.args.anchor.now in
     let begins : BeginsWithAnchor t.tal anchor = search rules in
-    anchor_wrong x (by_named_lists w.names x w.folder.now.lists) t anchor c.unambiguous.ensures.certificate begins c.at_top-2.result c.trust_anchor.result c.at_top-2.ensures.err c.trust_anchor.ensures.fault
+    anchor_wrong x (by_named_lists w.names x w.folder.now.lists) t anchor c.unambiguous.ensures.certificate begins
+    c.at_top-2.result c.trust_anchor.result c.at_top-2.ensures.err c.trust_anchor.ensures.fault

@@ -15,7 +15,8 @@ returns-in-Some c =
     (λ b is. elim is [
       | inl p ↦
           let same = one_parting slash text p.before p.behind before behind p.parted parted in
-          subst (λ (y : List ℕ). IsPrefix family before y b) same.1 (subst (λ (x : List ℕ). IsPrefix family x p.behind b) same.0 p.prefix)
+          subst (λ (y : List ℕ). IsPrefix family before y b) same.1
+          (subst (λ (x : List ℕ). IsPrefix family x p.behind b) same.0 p.prefix)
       | inr r ↦ absurd (parted_has slash text before behind parted r.unprefixed)
     ])
     c.prefix.result c.prefix.ensures
@@ -28,11 +29,19 @@ returns-in-Some-parted c =
     let behind = c.in-Some-parted.parts.1.now in
     let parted = c.in-Some-parted.ensures.some in
     carried (λ b. IsRange family before behind b) (λ b. IsAddressesText family b text)
-    (λ b r. inr (record { unprefixed = c.in_default.ensures.none; before = before; behind = behind; parted = parted; range = r }))
+    (λ b r. inr (record {
+      unprefixed = c.in_default.ensures.none;
+      before = before;
+      behind = behind;
+      parted =
+          parted;
+      range = r;
+    }))
     (λ b is. elim is [
       | inl p ↦ absurd (parted_has slash text p.before p.behind p.parted c.in_default.ensures.none)
       | inr r ↦
           let same = one_parting hyphen text r.before r.behind before behind r.parted parted in
-          subst (λ (y : List ℕ). IsRange family before y b) same.1 (subst (λ (x : List ℕ). IsRange family x r.behind b) same.0 r.range)
+          subst (λ (y : List ℕ). IsRange family before y b) same.1
+          (subst (λ (x : List ℕ). IsRange family x r.behind b) same.0 r.range)
     ])
     c.range.result c.range.ensures

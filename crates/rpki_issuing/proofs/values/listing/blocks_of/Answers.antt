@@ -9,7 +9,8 @@ pub loop-text-init : goal.loop-text-init
 loop-text-init g c = rw c.new-blocks.ensures (only_none g.T.BlockText.is_text)
 
 pub returns-in_default : goal.returns-in_default
-returns-in_default g c = none_at g.T.BlockText.is_text c.args.texts.now c.loop-text.text-index _ c.loop-text-test.true c.in_default.ensures
+returns-in_default g c = none_at g.T.BlockText.is_text c.args.texts.now c.loop-text.text-index
+    _ c.loop-text-test.true c.in_default.ensures
 
 pub loop-text-preserved : goal.loop-text-preserved
 loop-text-preserved g c =
@@ -22,7 +23,10 @@ loop-text-preserved g c =
     let d : Bor (List ℕ) = record { ref_ptr = (0, 0); now = [] } in
     let text = (get_or texts i d).now in
     let front = map (λ (t : Bor (List ℕ)). t.now) (take i texts) in
-    let whole : IsOnly (λ bs. AllZip R bs (front ++ text ∷ [])) (blocks ++ block ∷ []) = only_more R blocks front block text c.loop-text.invariant c.in-Some.ensures in
-    let longer = subst (λ (l : List (List ℕ)). IsOnly (λ bs. AllZip R bs l) (blocks ++ block ∷ [])) (sym (take_more texts i d c.loop-text-test.true)) whole in
+    let whole : IsOnly (λ bs. AllZip R bs (front ++ text ∷ [])) (blocks ++ block ∷ []) =
+    only_more R blocks front block text c.loop-text.invariant c.in-Some.ensures in
+    let longer = subst (λ (l : List (List ℕ)). IsOnly (λ bs. AllZip R bs l) (blocks ++ block ∷ []))
+    (sym (take_more texts i d c.loop-text-test.true)) whole in
     let pushed : c.push.new.self ≡ blocks ++ block ∷ [] = more ∙ ap (λ (z : Block). blocks ++ z ∷ []) same in
-    subst (λ (l : List Block). IsOnly (λ bs. AllZip R bs (map (λ (t : Bor (List ℕ)). t.now) (take (i + 1) texts))) l) (sym pushed) longer
+    subst (λ (l : List Block). IsOnly (λ bs. AllZip R bs (map (λ (t : Bor (List ℕ)). t.now) (take (i + 1) texts)))
+    l) (sym pushed) longer

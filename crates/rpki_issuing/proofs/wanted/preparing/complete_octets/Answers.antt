@@ -19,7 +19,8 @@ use Rattle.rpki_issuing.proofs.wanted.preparing.complete_octets.Goals as goal
 pub returns-in-Some-2-clause-refused : goal.returns-in-Some-2-clause-refused
 returns-in-Some-2-clause-refused g c = λ apart made p.
     let first = rw c.in-Some-2.is at c.in_ok-rule.ensures in
-    first_not_all (RuleCheck c.args.kind (option_map (λ (r : Bor ResourceFields). r.now) c.args.issuer) c.args.path.now c.args.tbs.now) issuing_rules c.in-Some-2.rule first p.rules
+    first_not_all (RuleCheck c.args.kind (option_map (λ (r : Bor ResourceFields). r.now) c.args.issuer)
+    c.args.path.now c.args.tbs.now) issuing_rules c.in-Some-2.rule first p.rules
 
 pub returns-in-Some-2-clause-told : goal.returns-in-Some-2-clause-told
 returns-in-Some-2-clause-told g c = rw c.in-Some-2.is at c.in_ok-rule.ensures
@@ -28,17 +29,21 @@ pub returns-in_err-prepared-clause-refused : goal.returns-in_err-prepared-clause
 returns-in_err-prepared-clause-refused g c =
     let e = c.in_err-prepared.field-0.0 in
     let same : c.from_residual-in_err-prepared.result ≡ Err e = search rules in
-    rw same (λ apart made p. c.in_err-prepared.ensures.unready apart (role_ready c.args.at c.args.strict c.args.tbs.now c.args.kind _ p.role c.in-Some.role p.role_is c.in-Some.ensures p.ready))
+    rw same (λ apart made p. c.in_err-prepared.ensures.unready apart
+    (role_ready c.args.at c.args.strict c.args.tbs.now c.args.kind _ p.role c.in-Some.role p.role_is
+    c.in-Some.ensures p.ready))
 
 pub returns-in_err-prepared-clause-told : goal.returns-in_err-prepared-clause-told
 returns-in_err-prepared-clause-told g c =
     let e = c.in_err-prepared.field-0.0 in
     let same : c.from_residual-in_err-prepared.result ≡ Err e = search rules in
-    rw same (uncompleted c.args.kind _ _ _ c.args.at c.args.strict c.args.tbs.now c.in-Some.role c.in-Some.ensures c.args.octets.now c.args.signature.now e c.in_err-prepared.ensures.told)
+    rw same (uncompleted c.args.kind _ _ _ c.args.at c.args.strict c.args.tbs.now c.in-Some.role c.in-Some.ensures
+    c.args.octets.now c.args.signature.now e c.in_err-prepared.ensures.told)
 
 pub completed-completed-requires : goal.completed-completed-requires
 completed-completed-requires g c =
-    subst (λ (f : TbsFields). IsReady c.args.at c.args.strict c.in-Some.role f) (sym c.in_ok-prepared.ensures.fields) c.in_ok-prepared.ensures.ready
+    subst (λ (f : TbsFields). IsReady c.args.at c.args.strict c.in-Some.role f)
+    (sym c.in_ok-prepared.ensures.fields) c.in_ok-prepared.ensures.ready
 
 pub returns-in_err-cert-clause-refused : goal.returns-in_err-cert-clause-refused
 returns-in_err-cert-clause-refused g c =
@@ -47,7 +52,10 @@ returns-in_err-cert-clause-refused g c =
     let role = c.in-Some.role in
     let e = c.in_err-cert.field-0.0 in
     let same : c.from_residual-in_err-cert.result ≡ Err e = search rules in
-    let unsigned = subst (λ (g : TbsFields). e ≢ Memory → length (signed_content (signed_with g value).signed_data) < 2 ^ 32 → IsSignatureOf IsSignedByRsa role g value → ⊥) c.in_ok-prepared.ensures.fields c.in_err-cert.ensures.unsigned in
+    let unsigned = subst (λ (g : TbsFields). e ≢ Memory →
+    length (signed_content (signed_with g value).signed_data) < 2 ^ 32 →
+    IsSignatureOf IsSignedByRsa role g value →
+    ⊥) c.in_ok-prepared.ensures.fields c.in_err-cert.ensures.unsigned in
     rw same (λ apart made p.
     let key = role_key c.args.at c.args.strict f c.args.kind _ p.role role p.role_is c.in-Some.ensures in
     unsigned apart p.short (subst (λ (k : KeyFields). IsSignedByRsa k f.algorithm (encoding f) value) key p.signed))
@@ -58,7 +66,8 @@ returns-in_err-cert-clause-told g c =
     let role = c.in-Some.role in
     let e = c.in_err-cert.field-0.0 in
     let same : c.from_residual-in_err-cert.result ≡ Err e = search rules in
-    rw same (unsigned c.args.kind _ _ _ c.args.at c.args.strict c.args.tbs.now role c.in-Some.ensures c.args.octets.now value e
+    rw same (unsigned c.args.kind _ _ _ c.args.at c.args.strict c.args.tbs.now role c.in-Some.ensures
+    c.args.octets.now value e
     (subst (λ (g : TbsFields). IsUnsignedAs role g value e) c.in_ok-prepared.ensures.fields c.in_err-cert.ensures.told))
 
 pub returns-clause-completed : goal.returns-clause-completed
@@ -71,11 +80,14 @@ returns-clause-completed g c =
     let role = c.in-Some.role in
     let fields = c.in_ok-prepared.ensures.fields in
     let cert = c.in_ok-cert.cert in
-    let content : cert ≡ signed_with f value = c.in_ok-cert.ensures.same ∙ ap (λ (g : TbsFields). signed_with g value) fields in
+    let content : cert ≡ signed_with f value = c.in_ok-cert.ensures.same ∙
+    ap (λ (g : TbsFields). signed_with g value) fields in
     let is : IsTrue c.is_prepared.result = search rules in
-    let octets : c.args.octets.now ≡ encoding f = c.is_prepared.ensures.0 is ∙ ap (λ (g : TbsFields). encoding g) fields in
+    let octets : c.args.octets.now ≡ encoding f = c.is_prepared.ensures.0 is ∙ ap (λ (g : TbsFields). encoding g)
+    fields in
     let made = c.octets_unrevoked-made in
-    on_ok _ _ ((length (signed_content cert.signed_data) < 2 ^ 32) × IsUnrevokedIn asked above cert) made.result made.ensures.ok (λ ok. (made.ensures.fits ok, made.ensures.unrevoked ok))
+    on_ok _ _ ((length (signed_content cert.signed_data) < 2 ^ 32) × IsUnrevokedIn asked above cert) made.result
+    made.ensures.ok (λ ok. (made.ensures.fits ok, made.ensures.unrevoked ok))
     (λ all same both. record {
       role = role;
       role_is = c.in-Some.ensures;
@@ -93,7 +105,8 @@ returns-clause-read g c =
     let f = c.args.tbs.now in
     let value = c.args.signature.now in
     let cert = c.in_ok-cert.cert in
-    let content : cert ≡ signed_with f value = c.in_ok-cert.ensures.same ∙ ap (λ (g : TbsFields). signed_with g value) c.in_ok-prepared.ensures.fields in
+    let content : cert ≡ signed_with f value = c.in_ok-cert.ensures.same ∙
+    ap (λ (g : TbsFields). signed_with g value) c.in_ok-prepared.ensures.fields in
     let made = c.octets_unrevoked-made in
     on_ok _ _ (Unit {0}) made.result made.ensures.ok (λ ok. tt)
     (λ all same unit.
@@ -110,7 +123,8 @@ returns-clause-accepted g c =
     on_ok _ _ (IsUnrevokedIn asked above cert) made.result made.ensures.ok made.ensures.unrevoked
     (λ all same free.
     let is = subst (λ (b : _). IsCertificate cert b) (sym same) c.in_ok-cert.ensures.read in
-    accepted_below x asked cert all is c.args.kind above c.in-Some.role c.in-Some.ensures c.in_ok-cert.ensures.valid c.in_ok-cert.ensures.numbers free)
+    accepted_below x asked cert all is c.args.kind above c.in-Some.role c.in-Some.ensures c.in_ok-cert.ensures.valid
+    c.in_ok-cert.ensures.numbers free)
 
 pub returns-clause-refused : goal.returns-clause-refused
 returns-clause-refused g c =
@@ -119,7 +133,8 @@ returns-clause-refused g c =
     let above = option_map (λ (r : Bor ResourceFields). r.now) c.args.issuer in
     let value = c.args.signature.now in
     let cert = c.in_ok-cert.cert in
-    let content : cert ≡ signed_with c.args.tbs.now value = c.in_ok-cert.ensures.same ∙ ap (λ (g : TbsFields). signed_with g value) c.in_ok-prepared.ensures.fields in
+    let content : cert ≡ signed_with c.args.tbs.now value = c.in_ok-cert.ensures.same ∙
+    ap (λ (g : TbsFields). signed_with g value) c.in_ok-prepared.ensures.fields in
     let made = c.octets_unrevoked-made in
     on_err _ _ made.result made.ensures.told
     (λ e told apart all p.
@@ -135,7 +150,9 @@ returns-clause-told g c =
     let f = c.args.tbs.now in
     let value = c.args.signature.now in
     let cert = c.in_ok-cert.cert in
-    let content : cert ≡ signed_with f value = c.in_ok-cert.ensures.same ∙ ap (λ (g : TbsFields). signed_with g value) c.in_ok-prepared.ensures.fields in
+    let content : cert ≡ signed_with f value = c.in_ok-cert.ensures.same ∙
+    ap (λ (g : TbsFields). signed_with g value) c.in_ok-prepared.ensures.fields in
     let made = c.octets_unrevoked-made in
     on_err _ _ made.result made.ensures.told
-    (λ e told. made_told c.args.kind above c.args.path.now asked c.args.at c.args.strict f c.in-Some.role c.in-Some.ensures c.args.octets.now value e cert content told)
+    (λ e told. made_told c.args.kind above c.args.path.now asked c.args.at c.args.strict f c.in-Some.role
+    c.in-Some.ensures c.args.octets.now value e cert content told)

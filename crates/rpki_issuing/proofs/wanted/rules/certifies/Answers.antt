@@ -15,5 +15,7 @@ returns-in-Ok c =
 pub returns-else-is_memory : goal.returns-else-is_memory
 returns-else-is_memory c =
     let same : c.in_ok-clone.field-0 ≡ c.args.octets.now = search rules in
-    uncertified c.args.key.now c.in-Err.error (λ is. false≢true (sym c.if-is_memory.false ∙ c.is_memory-is_memory.ensures.1 is)) c.args.octets.now
-    (subst (λ (o : List ℕ). Rejects c.in-Err.error ((d : CertFields) → Means IsCertificate d o → ⊥)) same c.in-Err.ensures)
+    uncertified c.args.key.now c.in-Err.error
+    (λ is. false≢true (sym c.if-is_memory.false ∙ c.is_memory-is_memory.ensures.1 is)) c.args.octets.now
+    (subst (λ (o : List ℕ). Rejects c.in-Err.error ((d : CertFields) → Means IsCertificate d o → ⊥)) same
+    c.in-Err.ensures)

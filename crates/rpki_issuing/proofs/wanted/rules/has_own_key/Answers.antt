@@ -10,5 +10,7 @@ pub returns-in-Authority : goal.returns-in-Authority
 returns-in-Authority c =
     let above = option_map (λ (r : Bor ResourceFields). r.now) c.args.issuer in
     let key : c.subject_public_key_info.result.now ≡ c.args.tbs.now.key = c.subject_public_key_info.ensures in
-    subst (λ (k : Kind). IfOk c.is_own_key.result (λ has. IsTrue has ↔ HasOwnKey k above c.args.path.now c.args.tbs.now)) (sym c.in-Authority.is)
-    (subst (λ (k : KeyFields). IfOk c.is_own_key.result (λ has. IsTrue has ↔ IsNotIssuersKey above k × IsNoKeyOf c.args.path.now k)) key c.is_own_key.ensures)
+    subst (λ (k : Kind). IfOk c.is_own_key.result
+    (λ has. IsTrue has ↔ HasOwnKey k above c.args.path.now c.args.tbs.now)) (sym c.in-Authority.is)
+    (subst (λ (k : KeyFields). IfOk c.is_own_key.result
+    (λ has. IsTrue has ↔ IsNotIssuersKey above k × IsNoKeyOf c.args.path.now k)) key c.is_own_key.ensures)

@@ -14,5 +14,10 @@ returns c =
     let only = rw c.in-Some.is at c.in_ok-octets.ensures.only in
     record {
       ok = tt;
-      rejected = inr (refl, λ k. not_a_key c.in_ok-map_err.field-0 c.deref.result.now (lines c.args.text.now) k digits (said c.in-Err.other _ c.in-Err.ensures other) (λ others bytes same. only others bytes same ∙ sym octets));
+      rejected = inr (
+        refl,
+        λ k. not_a_key c.in_ok-map_err.field-0 c.deref.result.now (lines c.args.text.now) k digits
+            (said c.in-Err.other _ c.in-Err.ensures other)
+            (λ others bytes same. only others bytes same ∙ sym octets),
+      );
     }

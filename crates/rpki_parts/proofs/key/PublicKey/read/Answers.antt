@@ -19,7 +19,8 @@ read_is octets = refl
 pub returns-in_err-content-clause-reads : goal.returns-in_err-content-clause-reads
 returns-in_err-content-clause-reads c =
     let now = remaining c.args.cursor.now in
-    let none : public_key_format.read now ≡ None = read_is now ∙ not_begun SEQUENCE fields c.fork-ahead.ensures.same c.in_err-content.ensures.answers.reads.1 in
+    let none : public_key_format.read now ≡ None = read_is now ∙ not_begun SEQUENCE fields c.fork-ahead.ensures.same
+    c.in_err-content.ensures.answers.reads.1 in
     search rules
 
 pub returns-in_err-format-clause-reads : goal.returns-in_err-format-clause-reads
@@ -27,7 +28,8 @@ returns-in_err-format-clause-reads c =
     let now = remaining c.args.cursor.now in
     let content = remaining c.in_ok-content.content in
     let one : fields content ≡ None = rw c.in_err-format.ensures.reads.1 refl in
-    let none : public_key_format.read now ≡ None = read_is now ∙ not_read SEQUENCE fields c.fork-ahead.ensures.same c.in_ok-content.ensures.answers.reads one in
+    let none : public_key_format.read now ≡ None = read_is now ∙ not_read SEQUENCE fields c.fork-ahead.ensures.same
+    c.in_ok-content.ensures.answers.reads one in
     search rules
 
 pub returns-in_err-bits-clause-reads : goal.returns-in_err-bits-clause-reads
@@ -35,7 +37,8 @@ returns-in_err-bits-clause-reads c =
     let now = remaining c.args.cursor.now in
     let content = remaining c.in_ok-content.content in
     let two : fields content ≡ None = rw (c.in_ok-format.ensures.reads, c.in_err-bits.ensures.reads.1) refl in
-    let none : public_key_format.read now ≡ None = read_is now ∙ not_read SEQUENCE fields c.fork-ahead.ensures.same c.in_ok-content.ensures.answers.reads two in
+    let none : public_key_format.read now ≡ None = read_is now ∙ not_read SEQUENCE fields c.fork-ahead.ensures.same
+    c.in_ok-content.ensures.answers.reads two in
     search rules
 
 pub returns-in_err-finish-clause-reads : goal.returns-in_err-finish-clause-reads
@@ -43,8 +46,10 @@ returns-in_err-finish-clause-reads c =
     let now = remaining c.args.cursor.now in
     let content = remaining c.in_ok-content.content in
     let k : KeyFields = record { format = c.in_ok-format.format; bits = remaining c.in_ok-bits.bits } in
-    let both : fields content ≡ Some (k, remaining c.take_whole_bits.new.cursor) = rw (c.in_ok-format.ensures.reads, c.in_ok-bits.ensures.reads) refl in
-    let none : public_key_format.read now ≡ None = read_is now ∙ not_used_up SEQUENCE fields c.fork-ahead.ensures.same c.in_ok-content.ensures.answers.reads both (λ nil. false≢true (c.in_err-finish.ensures.end.1 nil)) in
+    let both : fields content ≡ Some (k, remaining c.take_whole_bits.new.cursor) =
+    rw (c.in_ok-format.ensures.reads, c.in_ok-bits.ensures.reads) refl in
+    let none : public_key_format.read now ≡ None = read_is now ∙ not_used_up SEQUENCE fields c.fork-ahead.ensures.same
+    c.in_ok-content.ensures.answers.reads both (λ nil. false≢true (c.in_err-finish.ensures.end.1 nil)) in
     search rules
 
 pub returns-clause-reads : goal.returns-clause-reads
@@ -52,5 +57,7 @@ returns-clause-reads c =
     let now = remaining c.args.cursor.now in
     let content = remaining c.in_ok-content.content in
     let k : KeyFields = record { format = c.in_ok-format.format; bits = c.in_ok-bits-2.bits } in
-    let both : fields content ≡ Some (k, remaining c.take_whole_bits.new.cursor) = rw (c.in_ok-bits-2.ensures.ok.0, c.in_ok-format.ensures.reads, c.in_ok-bits.ensures.reads) refl in
-    read_is now ∙ used_up SEQUENCE fields c.fork-ahead.ensures.same c.in_ok-content.ensures.answers.reads both (c.in_ok-finish.ensures.end.0 refl)
+    let both : fields content ≡ Some (k, remaining c.take_whole_bits.new.cursor) =
+    rw (c.in_ok-bits-2.ensures.ok.0, c.in_ok-format.ensures.reads, c.in_ok-bits.ensures.reads) refl in
+    read_is now ∙ used_up SEQUENCE fields c.fork-ahead.ensures.same c.in_ok-content.ensures.answers.reads both
+    (c.in_ok-finish.ensures.end.0 refl)

@@ -7,7 +7,8 @@ use Rattle.rpki_parts.specs.NameForms.Reading.{seen_in}
 use Rattle.rpki_parts.proofs.name_forms.ReadAttributes.in_parts.Given as goal
 
 abbrev pub invariant-loop-rest : goal.invariant-loop-rest
-invariant-loop-rest l = over (value_at SET) (seen_in l.strict) l.seen (remaining l.rest) ≡ over (value_at SET) (seen_in l.fn.strict) (record { name = false; number = false }) (remaining l.parts)
+invariant-loop-rest l = over (value_at SET) (seen_in l.strict) l.seen (remaining l.rest) ≡
+    over (value_at SET) (seen_in l.fn.strict) (record { name = false; number = false }) (remaining l.parts)
 
 abbrev pub decreases-loop-rest : goal.decreases-loop-rest
 decreases-loop-rest l = length (remaining l.rest)

@@ -7,7 +7,11 @@ use Rattle.rpki_parts.proofs.NameReads.{attribute_shrinks}
 use Rattle.rpki_parts.proofs.name_forms.ReadAttributes.with_part.Goals as goal
 
 pub loop-rest-preserved : goal.loop-rest-preserved
-loop-rest-preserved c = sym (goes_on (attribute_format levels).read (seen_with c.args.strict) attribute_shrinks c.loop-rest.seen _ _ _ c.in-Ok.ensures.reads c.in_ok-seen.seen (sym c.with.ensures ∙ c.in_ok-seen.was)) ∙ c.loop-rest.invariant
+loop-rest-preserved c =
+    sym (goes_on (attribute_format levels).read (seen_with c.args.strict) attribute_shrinks c.loop-rest.seen
+    _ _ _ c.in-Ok.ensures.reads c.in_ok-seen.seen (sym c.with.ensures ∙ c.in_ok-seen.was)) ∙ c.loop-rest.invariant
 
 pub returns-in-Err : goal.returns-in-Err
-returns-in-Err c = sym (sym c.loop-rest.invariant ∙ ends (attribute_format levels).read (seen_with c.args.strict) attribute_shrinks c.loop-rest.seen _ (some_left _ c.loop-rest-test.ensures.1) c.in-Err.ensures.reads.1)
+returns-in-Err c = sym
+    (sym c.loop-rest.invariant ∙ ends (attribute_format levels).read (seen_with c.args.strict) attribute_shrinks
+    c.loop-rest.seen _ (some_left _ c.loop-rest-test.ensures.1) c.in-Err.ensures.reads.1)

@@ -7,5 +7,9 @@ returns-in-Some c =
     rw (← c.bits.ensures.same, c.eq.ensures, f.1) (joined c.args.signature.now c.bits.result.now c.args.message.now f.0)
 
 pub returns-in-None : goal.returns-in-None
-returns-in-None c =
-    ((λ e. absurd cc), rw (← c.bits.ensures.same) (λ j. absurd (not_joined c.args.signature.now c.bits.result.now c.args.message.now c.in-None.ensures.cases j)))
+returns-in-None c = (
+  (λ e. absurd cc),
+  rw (← c.bits.ensures.same)
+      (λ j. absurd (not_joined c.args.signature.now c.bits.result.now c.args.message.now c.in-None.ensures.cases
+      j)),
+)

@@ -13,5 +13,7 @@ returns-clause-memory c =
     let times = time v.not_before ++ time v.not_after in
     let start : c.len-start.result ≡ length c.args.out.now.items = search rules in
     let e = c.append_times-times.ensures in
-    let writes = ended (value SEQUENCE) c.len-start.result c.args.out.now.items times c.append_times-times.new.out.items c.end_value.new.out.items c.append_times-times.result c.end_value.result start e.ok e.err (memory_says c.append_times-times.result times e.memory) c.end_value.ensures in
+    let writes = ended (value SEQUENCE) c.len-start.result c.args.out.now.items times
+    c.append_times-times.new.out.items c.end_value.new.out.items c.append_times-times.result c.end_value.result
+    start e.ok e.err (memory_says c.append_times-times.result times e.memory) c.end_value.ensures in
     only_memory c.end_value.result times writes.too_long (omega (arith, two_times_short v.not_before v.not_after))

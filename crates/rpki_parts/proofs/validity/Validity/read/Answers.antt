@@ -20,21 +20,26 @@ read_is octets = refl
 pub returns-in_err-content-clause-reads : goal.returns-in_err-content-clause-reads
 returns-in_err-content-clause-reads c =
     let now = remaining c.args.cursor.now in
-    let none : validity_format.read now ≡ None = read_is now ∙ not_begun SEQUENCE times c.fork-ahead.ensures.same c.in_err-content.ensures.answers.reads.1 in
+    let none : validity_format.read now ≡ None = read_is now ∙ not_begun SEQUENCE times c.fork-ahead.ensures.same
+    c.in_err-content.ensures.answers.reads.1 in
     search rules
 
 pub returns-in_err-validity-clause-reads : goal.returns-in_err-validity-clause-reads
 returns-in_err-validity-clause-reads c =
     let now = remaining c.args.cursor.now in
-    let none : validity_format.read now ≡ None = read_is now ∙ not_read SEQUENCE times c.fork-ahead.ensures.same c.in_ok-content.ensures.answers.reads c.in_err-validity.ensures.1 in
+    let none : validity_format.read now ≡ None = read_is now ∙ not_read SEQUENCE times c.fork-ahead.ensures.same
+    c.in_ok-content.ensures.answers.reads c.in_err-validity.ensures.1 in
     search rules
 
 pub returns-in_err-finish-clause-reads : goal.returns-in_err-finish-clause-reads
 returns-in_err-finish-clause-reads c =
     let now = remaining c.args.cursor.now in
-    let none : validity_format.read now ≡ None = read_is now ∙ not_used_up SEQUENCE times c.fork-ahead.ensures.same c.in_ok-content.ensures.answers.reads c.in_ok-validity.ensures (λ nil. false≢true (c.in_err-finish.ensures.end.1 nil)) in
+    let none : validity_format.read now ≡ None = read_is now ∙ not_used_up SEQUENCE times c.fork-ahead.ensures.same
+    c.in_ok-content.ensures.answers.reads c.in_ok-validity.ensures
+    (λ nil. false≢true (c.in_err-finish.ensures.end.1 nil)) in
     search rules
 
 pub returns-clause-reads : goal.returns-clause-reads
 returns-clause-reads c =
-    read_is (remaining c.args.cursor.now) ∙ used_up SEQUENCE times c.fork-ahead.ensures.same c.in_ok-content.ensures.answers.reads c.in_ok-validity.ensures (c.in_ok-finish.ensures.end.0 refl)
+    read_is (remaining c.args.cursor.now) ∙ used_up SEQUENCE times c.fork-ahead.ensures.same
+    c.in_ok-content.ensures.answers.reads c.in_ok-validity.ensures (c.in_ok-finish.ensures.end.0 refl)

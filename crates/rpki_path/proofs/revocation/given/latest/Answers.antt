@@ -9,20 +9,26 @@ use Rattle.rpki_path.proofs.revocation.given.latest.Goals as goal
 
 pub loop-list-preserved-then-not-is_next : goal.loop-list-preserved-then-not-is_next
 loop-list-preserved-then-not-is_next g c =
-    let fits = IsEligibleNamed c.args.names (g.V.Verifier.verifies c.args.verifier.now) c.args.now c.args.issuer.now.cert.fields c.args.cert.now in
+    let fits = IsEligibleNamed c.args.names (g.V.Verifier.verifies c.args.verifier.now) c.args.now
+    c.args.issuer.now.cert.fields c.args.cert.now in
     let lists = c.args.lists.now in
     let i = c.loop-list.list-index in
     let list = c.list-item.result in
     let kept = option_copied c.loop-list.kept in
-    subst (λ (seen : List CrlState). IsLatestIfAny fits c.args.cert.now seen kept) (sym (gone_over lists i list c.loop-list-test.true c.list-item.is))
-    (kept_same fits c.args.cert.now (take i lists) kept list c.loop-list.invariant (λ is. both_ways c.is_next.result c.if-not-is_next.true (c.is_next.ensures.1 is)))
+    subst (λ (seen : List CrlState). IsLatestIfAny fits c.args.cert.now seen kept)
+    (sym (gone_over lists i list c.loop-list-test.true c.list-item.is))
+    (kept_same fits c.args.cert.now (take i lists) kept list c.loop-list.invariant
+    (λ is. both_ways c.is_next.result c.if-not-is_next.true (c.is_next.ensures.1 is)))
 
 pub loop-list-preserved : goal.loop-list-preserved
 loop-list-preserved g c =
-    let fits = IsEligibleNamed c.args.names (g.V.Verifier.verifies c.args.verifier.now) c.args.now c.args.issuer.now.cert.fields c.args.cert.now in
+    let fits = IsEligibleNamed c.args.names (g.V.Verifier.verifies c.args.verifier.now) c.args.now
+    c.args.issuer.now.cert.fields c.args.cert.now in
     let lists = c.args.lists.now in
     let i = c.loop-list.list-index in
     let list = c.list-item.result in
     let is = c.if-not-is_next.ensures.0 refl in
-    subst (λ (seen : List CrlState). IsLatestIfAny fits c.args.cert.now seen (Some list)) (sym (gone_over lists i list c.loop-list-test.true c.list-item.is))
-    (kept_next fits c.args.cert.now (take i lists) (option_copied c.loop-list.kept) list c.loop-list.invariant is.0 is.1)
+    subst (λ (seen : List CrlState). IsLatestIfAny fits c.args.cert.now seen (Some list))
+    (sym (gone_over lists i list c.loop-list-test.true c.list-item.is))
+    (kept_next fits c.args.cert.now (take i lists) (option_copied c.loop-list.kept) list c.loop-list.invariant is.0
+    is.1)

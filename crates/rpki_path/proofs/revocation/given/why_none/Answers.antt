@@ -8,7 +8,8 @@ pub returns-then-is_err : goal.returns-then-is_err
 returns-then-is_err g c =
     let x = context (g.V.Verifier.verifies c.args.verifier.now) c.args.now c.args.strict in
     let list = c.in-Some.list.now in
-    wrong_key c.args.names x c.args.lists.now c.args.issuer.now.cert.fields c.args.cert.now list (inr (c.requires, c.in-Some.ensures.0, c.in-Some.ensures.1))
+    wrong_key c.args.names x c.args.lists.now c.args.issuer.now.cert.fields c.args.cert.now list
+    (inr (c.requires, c.in-Some.ensures.0, c.in-Some.ensures.1))
     (λ names. true≢false (sym (c.verify_issuer_claim.ensures.ok.1 names) ∙ c.if-is_err.ensures.negation))
 
 pub returns-then-not-are_signed : goal.returns-then-not-are_signed
@@ -16,11 +17,13 @@ returns-then-not-are_signed g c =
     let x = context (g.V.Verifier.verifies c.args.verifier.now) c.args.now c.args.strict in
     let list = c.in-Some.list.now in
     let names = c.verify_issuer_claim.ensures.ok.0 c.if-is_err.ensures.negation in
-    unsigned c.args.names x c.args.lists.now c.args.issuer.now.cert.fields c.args.cert.now c.requires list c.in-Some.ensures names (λ each. false≢true (c.if-not-are_signed.ensures.1 each))
+    unsigned c.args.names x c.args.lists.now c.args.issuer.now.cert.fields c.args.cert.now c.requires list
+    c.in-Some.ensures names (λ each. false≢true (c.if-not-are_signed.ensures.1 each))
 
 pub returns : goal.returns
 returns g c =
     let x = context (g.V.Verifier.verifies c.args.verifier.now) c.args.now c.args.strict in
     let list = c.in-Some.list.now in
     let names = c.verify_issuer_claim.ensures.ok.0 c.if-is_err.ensures.negation in
-    not_begun c.args.names x c.args.lists.now c.args.issuer.now.cert.fields c.args.cert.now c.requires list c.in-Some.ensures names (c.if-not-are_signed.ensures.0 refl)
+    not_begun c.args.names x c.args.lists.now c.args.issuer.now.cert.fields c.args.cert.now c.requires list
+    c.in-Some.ensures names (c.if-not-are_signed.ensures.0 refl)

@@ -8,4 +8,5 @@ abbrev pub invariant-loop-i : goal.invariant-loop-i
 invariant-loop-i g l =
     let v = l.self in
     let x = context (g.V.Verifier.verifies v.verifier.now) v.at v.strict in
-    IsAccepted x (g.R.RevocationSource.asks v.asked.now x) l.anchor (map (candidate Authority) (take l.i l.cas)) (rc_value l.fn.tal) l.issuer
+    IsAccepted x (g.R.RevocationSource.asks v.asked.now x) l.anchor (map (candidate Authority) (take l.i l.cas))
+    (rc_value l.fn.tal) l.issuer

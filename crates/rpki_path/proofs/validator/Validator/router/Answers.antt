@@ -24,4 +24,6 @@ returns-in_err-cert-2-clause-fault g c =
     let e = c.in_err-cert-2.field-0.0 in
     let same : c.from_residual-in_err-cert-2.result ≡ Err e = search rules in
     let found = c.test_router-test.ensures.fault c.args.given.now c.in_ok-cert.ensures.ok in
-    rw same (subst (λ (t : Result (Unit {0}) PathFault). IfErr t (Finds x (router_demand x asked c.args.issuer.now) c.args.given.now)) c.in_err-cert-2.ensures.rejected found)
+    rw same (subst (λ (t : Result (Unit {0}) PathFault).
+    IfErr t (Finds x (router_demand x asked c.args.issuer.now) c.args.given.now))
+    c.in_err-cert-2.ensures.rejected found)

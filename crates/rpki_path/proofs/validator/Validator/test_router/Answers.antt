@@ -12,7 +12,8 @@ returns-in_err-validate_router_at-clause-fault g c = λ octets begins.
     let asked = g.R.RevocationSource.asks v.asked.now x in
     let e = c.in_err-validate_router_at.field-0.0 in
     let same : c.from_residual.result ≡ Err (of_validation e) = search rules in
-    rw same (router_invalid x asked c.args.issuer.now c.args.cert.now octets begins e c.in_err-validate_router_at.ensures.fault)
+    rw same (router_invalid x asked c.args.issuer.now c.args.cert.now octets begins e
+    c.in_err-validate_router_at.ensures.fault)
 
 pub returns-in_err-ask-clause-fault : goal.returns-in_err-ask-clause-fault
 returns-in_err-ask-clause-fault g c = λ octets begins.
@@ -21,4 +22,6 @@ returns-in_err-ask-clause-fault g c = λ octets begins.
     let asked = g.R.RevocationSource.asks v.asked.now x in
     let e = c.in_err-ask.field-0.0 in
     let same : c.from_residual-in_err-ask.result ≡ Err (Revocation e) = search rules in
-    rw same (router_revoked x asked c.args.issuer.now c.args.cert.now octets begins c.in_ok-validate_router_at.ensures.profile c.in_ok-validate_router_at.ensures.checks e c.in_err-ask.ensures)
+    rw same (router_revoked x asked c.args.issuer.now c.args.cert.now octets begins
+    c.in_ok-validate_router_at.ensures.profile c.in_ok-validate_router_at.ensures.checks e
+    c.in_err-ask.ensures)

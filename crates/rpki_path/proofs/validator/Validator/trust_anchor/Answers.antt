@@ -20,7 +20,8 @@ returns-in_err-validate_ta_at-in-Ok-clause-fault g c =
     let x = context (g.V.Verifier.verifies v.verifier.now) v.at v.strict in
     let e = c.in_err-validate_ta_at-in-Ok.field-0.0 in
     let same : c.from_residual.result ≡ Err (of_validation e) = search rules in
-    rw same (not_valid x (trust_anchor_demand x) c.args.anchor.now c.in-Ok.cert c.in-Ok.ensures.ok e c.in_err-validate_ta_at-in-Ok.ensures.fault)
+    rw same (not_valid x (trust_anchor_demand x) c.args.anchor.now c.in-Ok.cert c.in-Ok.ensures.ok e
+    c.in_err-validate_ta_at-in-Ok.ensures.fault)
 
 pub returns-in_ok-validate_ta_at-in-Ok-clause-ok : goal.returns-in_ok-validate_ta_at-in-Ok-clause-ok
 returns-in_ok-validate_ta_at-in-Ok-clause-ok g c =

@@ -3,4 +3,5 @@ use Rattle.rpki_requests.proofs.words.Order.values_of.Goals as goal
 
 pub returns : goal.returns
 returns c =
-    values_kept c.values_among.result c.args.setting c.args.self.now.given.items c.deref.result.now c.deref.ensures.value c.values_among.ensures
+    values_kept c.values_among.result c.args.setting c.args.self.now.given.items c.deref.result.now
+    c.deref.ensures.value c.values_among.ensures

@@ -9,4 +9,6 @@ pub returns-then-is-clause-added : goal.returns-then-is-clause-added
 returns-then-is-clause-added c = (only_rejected, (refl, c.is.ensures.0 c.if-is.true), refl)
 
 pub returns-clause-told : goal.returns-clause-told
-returns-clause-told c = value_told Only c.args.text (not_only c.args.text.now (λ same. false≢true (sym c.if-is.false ∙ c.is.ensures.1 same)))
+returns-clause-told c =
+    value_told Only c.args.text
+    (not_only c.args.text.now (λ same. false≢true (sym c.if-is.false ∙ c.is.ensures.1 same)))

@@ -11,19 +11,25 @@ pub returns-in-Crl-clause-added : goal.returns-in-Crl-clause-added
 returns-in-Crl-clause-added c =
     let old = fields_of c.args.request.now in
     let value = c.args.value.now in
-    rw c.in-Crl.is (value_pushed c.push_name.result old Crl value (list value) refl (λ (l : List (List ℕ)). record old { lists = l }) _ (old.lists ++ value ∷ []) refl c.push_name.ensures.added)
+    rw c.in-Crl.is (value_pushed c.push_name.result old Crl value (list value) refl
+    (λ (l : List (List ℕ)). record old { lists = l }) _ (old.lists ++ value ∷ []) refl
+    c.push_name.ensures.added)
 
 pub returns-in-Tal-clause-added : goal.returns-in-Tal-clause-added
 returns-in-Tal-clause-added c =
     let old = fields_of c.args.request.now in
     let value = c.args.value.now in
-    rw c.in-Tal.is (value_pushed c.push_name-in-Tal.result old Tal value (locator value) refl (λ (l : List (List ℕ)). record old { locators = l }) _ (old.locators ++ value ∷ []) refl c.push_name-in-Tal.ensures.added)
+    rw c.in-Tal.is (value_pushed c.push_name-in-Tal.result old Tal value (locator value) refl
+    (λ (l : List (List ℕ)). record old { locators = l }) _ (old.locators ++ value ∷ []) refl
+    c.push_name-in-Tal.ensures.added)
 
 pub returns-in-In-clause-added : goal.returns-in-In-clause-added
 returns-in-In-clause-added c =
     let old = fields_of c.args.request.now in
     let value = c.args.value.now in
-    rw c.in-In.is (value_pushed c.push_name-in-In.result old In value (folder value) refl (λ (l : List (List ℕ)). record old { folders = l }) _ (old.folders ++ value ∷ []) refl c.push_name-in-In.ensures.added)
+    rw c.in-In.is (value_pushed c.push_name-in-In.result old In value (folder value) refl
+    (λ (l : List (List ℕ)). record old { folders = l }) _ (old.folders ++ value ∷ []) refl
+    c.push_name-in-In.ensures.added)
 
 pub returns-in-Some-clause-added : goal.returns-in-Some-clause-added
 returns-in-Some-clause-added c =

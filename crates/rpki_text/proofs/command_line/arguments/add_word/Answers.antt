@@ -17,15 +17,20 @@ returns-then-not-is_option-clause-added c =
 pub returns-in-Some-clause-added : goal.returns-in-Some-clause-added
 returns-in-Some-clause-added c =
     let joins : Joins (setting_name c.in-Some.setting) c.in-Some.value.now c.args.word.now = search rules in
-    joined_added line_grammar with_part line_clear c.add_set.result (fields_of c.args.request.now) (fields_of c.add_set.new.request) c.in-Some.setting c.in-Some.value.now c.args.word.now joins c.add_set.ensures.added
+    joined_added line_grammar with_part line_clear c.add_set.result (fields_of c.args.request.now)
+    (fields_of c.add_set.new.request) c.in-Some.setting c.in-Some.value.now c.args.word.now joins
+    c.add_set.ensures.added
 
 pub returns-in-Some-clause-told : goal.returns-in-Some-clause-told
 returns-in-Some-clause-told c =
     let joins : Joins (setting_name c.in-Some.setting) c.in-Some.value.now c.args.word.now = search rules in
-    IfErr-weaker c.add_set.result _ _ (λ e tells not_memory. word_joined e c.in-Some.setting c.in-Some.value.now c.args.word.now joins (tells not_memory)) c.add_set.ensures.told
+    IfErr-weaker c.add_set.result
+    _ _ (λ e tells not_memory. word_joined e c.in-Some.setting c.in-Some.value.now c.args.word.now joins
+    (tells not_memory)) c.add_set.ensures.told
 
 pub returns-else-switch-clause-told : goal.returns-else-switch-clause-told
 returns-else-switch-clause-told c = λ not_memory rest.
     let is_option : IsOption c.args.word.now = search rules in
-    let unjoined : (setting : Setting) (value : List ℕ) → Joins (setting_name setting) value c.args.word.now → ⊥ = c.in_default.ensures.unknown in
+    let unjoined : (setting : Setting) (value : List ℕ) → Joins (setting_name setting) value c.args.word.now →
+    ⊥ = c.in_default.ensures.unknown in
     (rest, refl, unknown_option c.args.word.now is_option c.requires unjoined c.if-switch.ensures.unknown)

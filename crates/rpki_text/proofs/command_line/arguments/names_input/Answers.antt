@@ -11,7 +11,9 @@ loop-name-preserved c = λ k low same.
     let input = codes "-" in
     elim (cases_eq k i) [
       | inl here ↦
-          let there : get_or (map (λ name. name.now) names) i input ≡ input = subst (λ (n : ℕ). get_or (map (λ name. name.now) names) n input ≡ input) here same in
-          false≢true (sym c.if-is.false ∙ c.is.ensures.1 (sym (get_or-map (λ name. name.now) names i _ input c.loop-name-test.true) ∙ there))
+          let there : get_or (map (λ name. name.now) names) i input ≡ input =
+          subst (λ (n : ℕ). get_or (map (λ name. name.now) names) n input ≡ input) here same in
+          false≢true (sym c.if-is.false ∙
+          c.is.ensures.1 (sym (get_or-map (λ name. name.now) names i _ input c.loop-name-test.true) ∙ there))
       | inr other ↦ c.loop-name.invariant k (omega (arith, low, other)) same
     ]

@@ -4,7 +4,9 @@ use Rattle.rpki_text.specs.CommandLines.{NamesInput}
 use Rattle.rpki_text.proofs.command_line.arguments.reads_input.Goals as goal
 
 -- of names that are the same
-same : (names others : List (Bor (List ℕ))) → names ≡ others → NamesInput (map (λ (name : Bor (List ℕ)). name.now) names) → NamesInput (map (λ (name : Bor (List ℕ)). name.now) others)
+same : (names others : List (Bor (List ℕ))) → names ≡ others →
+    NamesInput (map (λ (name : Bor (List ℕ)). name.now) names) →
+    NamesInput (map (λ (name : Bor (List ℕ)). name.now) others)
 same names others is h = subst (λ (l : List (Bor (List ℕ))). NamesInput (map (λ (name : Bor (List ℕ)). name.now) l)) is h
 
 pub returns : goal.returns

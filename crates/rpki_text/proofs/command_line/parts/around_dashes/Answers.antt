@@ -10,7 +10,9 @@ returns-then-is-clause-before c =
     let words = c.args.words.now in
     let i = c.loop-place.place in
     let low : i < length words = omega arith in
-    let here : is_dashes (get_or (word_octets words) i []) ≡ true = ap is_dashes (octets_at words i c.index-words-place.result [] low c.index-words-place.is ∙ sym c.as_slice.ensures.value) ∙ dashes_by c.as_slice.result.now c.is.result c.is.ensures ∙ c.if-is.true in
+    let here : is_dashes (get_or (word_octets words) i []) ≡ true =
+    ap is_dashes (octets_at words i c.index-words-place.result [] low c.index-words-place.is ∙
+    sym c.as_slice.ensures.value) ∙ dashes_by c.as_slice.result.now c.is.result c.is.ensures ∙ c.if-is.true in
     before_place words i c.loop-place.invariant low here
 
 pub returns-then-is-clause-behind : goal.returns-then-is-clause-behind
@@ -18,7 +20,9 @@ returns-then-is-clause-behind c =
     let words = c.args.words.now in
     let i = c.loop-place.place in
     let low : i < length words = omega arith in
-    let here : is_dashes (get_or (word_octets words) i []) ≡ true = ap is_dashes (octets_at words i c.index-words-place.result [] low c.index-words-place.is ∙ sym c.as_slice.ensures.value) ∙ dashes_by c.as_slice.result.now c.is.result c.is.ensures ∙ c.if-is.true in
+    let here : is_dashes (get_or (word_octets words) i []) ≡ true =
+    ap is_dashes (octets_at words i c.index-words-place.result [] low c.index-words-place.is ∙
+    sym c.as_slice.ensures.value) ∙ dashes_by c.as_slice.result.now c.is.result c.is.ensures ∙ c.if-is.true in
     behind_place words i c.loop-place.invariant low here
 
 pub loop-place-preserved : goal.loop-place-preserved
@@ -26,7 +30,9 @@ loop-place-preserved c =
     let words = c.args.words.now in
     let i = c.loop-place.place in
     let low : i < length words = omega arith in
-    let here : is_dashes (get_or (word_octets words) i []) ≡ false = ap is_dashes (octets_at words i c.index-words-place.result [] low c.index-words-place.is ∙ sym c.as_slice.ensures.value) ∙ dashes_by c.as_slice.result.now c.is.result c.is.ensures ∙ c.if-is.false in
+    let here : is_dashes (get_or (word_octets words) i []) ≡ false =
+    ap is_dashes (octets_at words i c.index-words-place.result [] low c.index-words-place.is ∙
+    sym c.as_slice.ensures.value) ∙ dashes_by c.as_slice.result.now c.is.result c.is.ensures ∙ c.if-is.false in
     below_more _ _ c.loop-place.invariant here
 
 pub returns-clause-before : goal.returns-clause-before

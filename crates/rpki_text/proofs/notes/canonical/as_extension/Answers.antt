@@ -13,5 +13,7 @@ returns c =
     let mode = c.overclaim.result in
     let r = c.as_resources.result.now in
     let empty : c.new-written.result.items ≡ [] = search rules in
-    let is = kept_is (as_identifier mode) (as_oid mode) (written_as r) c.new-written.result.items c.encode_extension-answer.new.out.items c.encode_extension-answer.result c.kept.result empty c.encode_extension-answer.ensures c.kept.ensures.well c.kept.ensures.same c.kept.ensures.octets in
+    let is = kept_is (as_identifier mode) (as_oid mode) (written_as r) c.new-written.result.items
+    c.encode_extension-answer.new.out.items c.encode_extension-answer.result c.kept.result empty
+    c.encode_extension-answer.ensures c.kept.ensures.well c.kept.ensures.same c.kept.ensures.octets in
     subst (λ (r : Resources). IfOk c.kept.result (IsExtensionOf (text_of (written_as r)))) c.as_resources.ensures is

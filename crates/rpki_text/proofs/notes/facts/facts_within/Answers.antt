@@ -14,7 +14,8 @@ pub returns-in-Some : goal.returns-in-Some
 returns-in-Some c =
     let x = extensions_stand c.args.octets.now c.args.cert.now c.requires in
     let h = x.1 in
-    let found : h.0 ≡ remaining c.in-Some.elements = some_is h.0 (remaining c.in-Some.elements) (sym (extensions_again c.args.octets.now h.0 h.1) ∙ sym c.in-Some.ensures) in
+    let found : h.0 ≡ remaining c.in-Some.elements = some_is h.0 (remaining c.in-Some.elements)
+    (sym (extensions_again c.args.octets.now h.0 h.1) ∙ sym c.in-Some.ensures) in
     IfOk-weaker c.facts_among.result _ _
     (λ _ is. record {
       certificate = c.args.cert.now;

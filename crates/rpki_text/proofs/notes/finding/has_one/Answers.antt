@@ -8,7 +8,8 @@ use Rattle.rpki_text.proofs.notes.finding.has_one.Goals as goal
 
 pub returns-in-Some : goal.returns-in-Some
 returns-in-Some c xs h =
-    let found : h.0 ≡ remaining c.in-Some.elements = some_is h.0 (remaining c.in-Some.elements) (sym (extensions_again c.args.octets.now h.0 h.1) ∙ sym c.in-Some.ensures) in
+    let found : h.0 ≡ remaining c.in-Some.elements = some_is h.0 (remaining c.in-Some.elements)
+    (sym (extensions_again c.args.octets.now h.0 h.1) ∙ sym c.in-Some.ensures) in
     c.is_among.ensures xs (subst (λ (b : List ℕ). AreEncodings IsExtension xs b) found h.2)
 
 pub returns-in-None : goal.returns-in-None

@@ -15,13 +15,17 @@ loop-note-preserved c =
     let here = get_or every_note index SerialZero in
     let is_one = c.in_ok-is_one.is_one in
     let found = c.put.new.notes.items in
-    let breaks = subst (λ (f : TbsFields). (xs : List Extension) → HaveExtensions xs octets → ((is_one ≡ true) ↔ Breaks here octets f xs)) c.as_tbs.ensures c.in_ok-is_one.ensures in
+    let breaks = subst (λ (f : TbsFields). (xs : List Extension) → HaveExtensions xs octets →
+    ((is_one ≡ true) ↔ Breaks here octets f xs)) c.as_tbs.ensures c.in_ok-is_one.ensures in
     let is = told octets c.args.cert.now c.requires here is_one breaks in
-    let more = tested_more (IsNoteOf octets) (take index every_note) c.loop-note.notes.items found here is_one is c.loop-note.invariant c.in_ok-put.ensures in
-    subst (λ (notes : List Note). AreThose (IsNoteOf octets) notes found) (sym (take_more every_note index SerialZero c.loop-note-test.true)) more
+    let more = tested_more (IsNoteOf octets) (take index every_note) c.loop-note.notes.items found here is_one is
+    c.loop-note.invariant c.in_ok-put.ensures in
+    subst (λ (notes : List Note). AreThose (IsNoteOf octets) notes found)
+    (sym (take_more every_note index SerialZero c.loop-note-test.true)) more
 
 pub returns : goal.returns
 unfolding AreNotes
 returns c =
     let octets = c.args.octets.now in
-    subst (λ (notes : List Note). AreThose (IsNoteOf octets) notes c.loop-note.notes.items) (take_all c.loop-note.note-index every_note c.loop-note-test.false) c.loop-note.invariant
+    subst (λ (notes : List Note). AreThose (IsNoteOf octets) notes c.loop-note.notes.items)
+    (take_all c.loop-note.note-index every_note c.loop-note-test.false) c.loop-note.invariant

@@ -7,18 +7,21 @@ use Rattle.std.proofs.lemmas.Bool.{false≢true}
 use Rattle.rpki_der.specs.Extensions.Views.{extension_view}
 use Rattle.rpki_der.specs.Place.{Place, remaining}
 use Rattle.rpki_der.proofs.ExtensionReads.{extension_shrinks}
-use Rattle.rpki_text.proofs.TwiceThere.{IsLeftAfter, all_left, first_again, goes_on_after, is_there, none_again, none_before, not_there, one_before}
+use Rattle.rpki_text.proofs.TwiceThere.{IsLeftAfter, all_left, first_again, goes_on_after, is_there, none_again}
+use Rattle.rpki_text.proofs.TwiceThere.{none_before, not_there, one_before}
 use Rattle.rpki_text.proofs.notes.repeated.has_again.Goals as goal
 
 pub loop-extension-init : goal.loop-extension-init
 loop-extension-init c = (
   [],
   none_before c.new-before.result c.new-before.ensures.empty,
-  subst (λ (p : Place). IsLeftAfter [] (remaining c.args.elements.now) (remaining p)) (sym c.fork-rest.ensures.same) (all_left (remaining c.args.elements.now)),
+  subst (λ (p : Place). IsLeftAfter [] (remaining c.args.elements.now) (remaining p)) (sym c.fork-rest.ensures.same)
+      (all_left (remaining c.args.elements.now)),
 )
 
 pub loop-extension-smaller : goal.loop-extension-smaller
-loop-extension-smaller c = extension_shrinks (remaining c.loop-extension.rest) (extension_view c.in-Some.extension) (remaining c.next_extension.new.cursor) (sym c.in-Some.ensures)
+loop-extension-smaller c = extension_shrinks (remaining c.loop-extension.rest) (extension_view c.in-Some.extension)
+    (remaining c.next_extension.new.cursor) (sym c.in-Some.ensures)
 
 pub loop-extension-preserved : goal.loop-extension-preserved
 loop-extension-preserved c =
@@ -29,7 +32,9 @@ loop-extension-preserved c =
     let fresh : there ≡ false = not_there there c.in-Ok.is_new c.in-Ok.ensures.added c.if-not-is_new.false in (
       x.identifier ∷ before,
       one_before before c.loop-extension.before c.insert.new.self key has c.in-Ok.ensures.updates.0,
-      goes_on_after before (remaining c.args.elements.now) (remaining c.loop-extension.rest) left x (remaining c.next_extension.new.cursor) (sym c.in-Some.ensures) (λ again. false≢true (sym fresh ∙ has key ∙ again)),
+      goes_on_after before (remaining c.args.elements.now) (remaining c.loop-extension.rest) left x
+          (remaining c.next_extension.new.cursor) (sym c.in-Some.ensures)
+          (λ again. false≢true (sym fresh ∙ has key ∙ again)),
     )
 
 pub returns-then-not-is_new : goal.returns-then-not-is_new
@@ -39,7 +44,8 @@ returns-then-not-is_new c xs are =
     let key : Bor (List ℕ) = c.in-Some.extension.0 in
     let there : Bool = contains (λ x y. slice_cmp nat_cmp x.now y.now) c.loop-extension.before key in
     let old : there ≡ true = is_there there c.in-Ok.is_new c.in-Ok.ensures.added c.if-not-is_new.true in
-    let again = first_again before (remaining c.args.elements.now) (remaining c.loop-extension.rest) left x (remaining c.next_extension.new.cursor) (sym c.in-Some.ensures) (sym (has key) ∙ old) xs are in
+    let again = first_again before (remaining c.args.elements.now) (remaining c.loop-extension.rest) left x
+    (remaining c.next_extension.new.cursor) (sym c.in-Some.ensures) (sym (has key) ∙ old) xs are in
     ((λ yes. again), (λ one. refl))
 
 pub returns : goal.returns

@@ -11,7 +11,8 @@ pub returns-in-Some : goal.returns-in-Some
 returns-in-Some c =
     IfOk-weaker c.has_again.result _ _
     (λ is its xs h.
-    let found : h.0 ≡ remaining c.in-Some.elements = some_is h.0 (remaining c.in-Some.elements) (sym (extensions_again c.args.octets.now h.0 h.1) ∙ sym c.in-Some.ensures) in
+    let found : h.0 ≡ remaining c.in-Some.elements = some_is h.0 (remaining c.in-Some.elements)
+    (sym (extensions_again c.args.octets.now h.0 h.1) ∙ sym c.in-Some.ensures) in
     its xs (subst (λ (b : List ℕ). AreEncodings IsExtension xs b) found h.2))
     c.has_again.ensures
 

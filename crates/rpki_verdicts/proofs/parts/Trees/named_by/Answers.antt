@@ -17,9 +17,13 @@ returns c =
     let file = c.in-Some.file.now in
     let cert = c.in-Some-2.cert in
     let found = c.in-Some.ensures.lookup in
-    let here = mapped_at (λ f. placed root f.now) items c.args.place file (slice_get_read items (length items) c.args.place file refl found.3.0 found.1) in
+    let here = mapped_at (λ f. placed root f.now) items c.args.place file
+    (slice_get_read items (length items) c.args.place file refl found.3.0 found.1) in
     let there : slice_get certs c.args.place ≡ Some (placed root file.now) = rw c.deref.ensures.value at here in
     let means : Means IsCertificate cert file.now.octets = rw c.in-Some-2.is at c.in_ok-cert.ensures in
     let uri = c.ca_issuer.ensures ∙ ap (λ (f : TbsFields). f.extensions.ca_issuer) c.as_tbs.ensures in
-    IfOk-weaker c.place_of-named.result _ _ (λ named is. subst (λ (o : Option FileFields). MatchOption o (named ≡ None) (λ f. IsNamedIn certs f.octets named)) (sym there)
+    IfOk-weaker c.place_of-named.result
+    _ _ (λ named is.
+    subst (λ (o : Option FileFields). MatchOption o (named ≡ None) (λ f. IsNamedIn certs f.octets named))
+    (sym there)
     (inl (cert, means, is ∙ ap (place_of certs) uri))) (c.place_of-named.ensures certs c.requires.by_uri)

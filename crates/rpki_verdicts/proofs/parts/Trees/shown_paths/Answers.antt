@@ -21,7 +21,8 @@ pub returns-then-is_empty : goal.returns-then-is_empty
 returns-then-is_empty c =
     let paths = c.args.paths.now in
     let none : length paths.others.items ≡ 0 = search rules in
-    only_shown (one c.unambiguous.ensures.certificate) (placed_of c.args.self.now) c.args.tree.now c.args.place paths _ (no_paths paths.others.items none) refl c.new-others.ensures.items refl
+    only_shown (one c.unambiguous.ensures.certificate) (placed_of c.args.self.now) c.args.tree.now c.args.place paths
+    _ (no_paths paths.others.items none) refl c.new-others.ensures.items refl
 
 pub unreachable-requires : goal.unreachable-requires
 unreachable-requires c =
@@ -42,5 +43,6 @@ returns c =
     let front = sym c.deref.ensures.value ∙ c.in-Some.ensures.cases.0 in
     let all : paths_of c.in_ok-ranked.ranked.items ≡ first.path.now ∷ map (λ path. path.now) others =
     ap paths_of front ∙ ap (λ (l : List FoundPath). first.path.now ∷ l) (sym c.in_ok-others.ensures) in
-    several_shown (one c.unambiguous.ensures.certificate) (placed_of c.args.self.now) c.args.tree.now c.args.place c.args.paths.now _ c.in_ok-all_ranked.field-0.items c.in_ok-ranked.ranked.items
+    several_shown (one c.unambiguous.ensures.certificate) (placed_of c.args.self.now) c.args.tree.now c.args.place
+    c.args.paths.now _ c.in_ok-all_ranked.field-0.items c.in_ok-ranked.ranked.items
     c.in_ok-all_ranked.ensures.paths c.in_ok-ranked.ensures.all c.in_ok-all_ranked.ensures.ranked c.in_ok-ranked.ensures.sorted all refl

@@ -9,7 +9,9 @@ use Rattle.rpki_path.proofs.revocation.given.GivenListsRevocationSource.ask.Goal
 pub returns-in_default : goal.returns-in_default
 returns-in_default g c =
     let x = context (g.V.Verifier.verifies c.args.verifier.now) c.args.now c.args.strict in
-    subst (λ (given : GivenFields). IsFirstFalse (by_named_lists given.names x given.lists c.args.issuer.now.cert.fields c.args.cert.now) revocation_checks c.why_none.result) c.self.view_is c.why_none.ensures
+    subst (λ (given : GivenFields).
+    IsFirstFalse (by_named_lists given.names x given.lists c.args.issuer.now.cert.fields c.args.cert.now)
+    revocation_checks c.why_none.result) c.self.view_is c.why_none.ensures
 
 pub returns : goal.returns
 returns g c =
@@ -17,6 +19,8 @@ returns g c =
     let issuer = c.args.issuer.now.cert.fields in
     let cert = c.args.cert.now in
     let list = c.in-Some.list.now in
-    let latest = subst (λ (given : GivenFields). IsLatest (IsEligibleNamed given.names x.verifies x.now issuer cert) cert given.lists list) c.self.view_is c.in-Some.ensures in
+    let latest = subst (λ (given : GivenFields). IsLatest (IsEligibleNamed given.names x.verifies x.now issuer cert)
+    cert given.lists list) c.self.view_is c.in-Some.ensures in
     let names = c.verify_issuer_claim.ensures.ok.0 c.if-is_err.ensures.negation in
-    answered c.args.self.now.names x c.args.self.now.lists issuer cert list latest names c.said_by.result c.said_by.ensures
+    answered c.args.self.now.names x c.args.self.now.lists issuer cert list latest names c.said_by.result
+    c.said_by.ensures

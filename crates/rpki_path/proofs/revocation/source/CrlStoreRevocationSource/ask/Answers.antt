@@ -11,6 +11,8 @@ returns-in-Some g c =
     let issuer = c.args.issuer.now.cert.fields in
     let cert = c.args.cert.now in
     let uri = c.in-Some.uri.now in
-    let named : cert.fields.extensions.crl_uri ≡ Some uri = ap (λ (f : TbsFields). f.extensions.crl_uri) (sym c.as_tbs-tbs.ensures) ∙ sym c.in-Some.ensures in
-    let serial : c.serial_number.result ≡ cert.fields.serial = c.serial_number.ensures ∙ ap (λ (f : TbsFields). f.serial) c.as_tbs-tbs.ensures in
+    let named : cert.fields.extensions.crl_uri ≡ Some uri = ap (λ (f : TbsFields). f.extensions.crl_uri)
+    (sym c.as_tbs-tbs.ensures) ∙ sym c.in-Some.ensures in
+    let serial : c.serial_number.result ≡ cert.fields.serial = c.serial_number.ensures ∙
+    ap (λ (f : TbsFields). f.serial) c.as_tbs-tbs.ensures in
     tests_named x pairs issuer cert uri named c.serial_number.result (sym serial) c.check.result c.check.ensures.checks
