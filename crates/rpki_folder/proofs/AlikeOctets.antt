@@ -1,7 +1,7 @@
 -- What is said of octets is said of others that begin with the same certificate, whatever is behind it.
 use Rattle.std.specs.List.{AllZip}
-use Rattle.std.specs.Prelude.{Option, Some, None, Result, Ok, Err}
-use Rattle.std.proofs.Common.{◌≡◌, ℕ, List, [], ◌∷◌, ◌++◌, subst}
+use Rattle.std.specs.Prelude.{Option, Some, None, Err}
+use Rattle.std.proofs.Common.{ℕ, List, [], ◌∷◌, ◌++◌, subst}
 use Rattle.rpki_der.specs.Values.{IsUnambiguous}
 use Rattle.rpki_der.proofs.Formats.{one_meant}
 use Rattle.rpki_ext.specs.Kinds.{Means}

@@ -14,7 +14,7 @@ use Rattle.rpki_folder.specs.IssuerTables.{AreAllChildren}
 use Rattle.rpki_folder.specs.NameTables.{ArePlacesUnder}
 use Rattle.rpki_folder.specs.Walks.{Told, StandsAt, IsChildOf, IsNamedUnder}
 use Rattle.rpki_folder.specs.Walks.Steps.{IsClaim, IsOther, IsToldOf, AreChildrenAmong}
-use Rattle.rpki_folder.specs.declared.walk.Claim.TheVariants.{OtherName, Child, Other}
+use Rattle.rpki_folder.specs.declared.children.Claim.TheVariants.{OtherName, Child, Other}
 use Rattle.rpki_folder.proofs.Descent.{there as low_of, child_names}
 
 module _ (law : IsUnambiguous IsCertificate) (names : Bool) (verifies : Verifies) (issuer : CertFields)

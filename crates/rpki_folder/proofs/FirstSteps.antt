@@ -15,8 +15,8 @@ use Rattle.rpki_der.proofs.Formats.{one_meant}
 use Rattle.rpki_ext.specs.Kinds.{Means}
 use Rattle.rpki_parts.specs.SignedDatas.{signed_data}
 use Rattle.rpki_cert.specs.Certificates.{CertFields, IsCertificate}
-use Rattle.rpki_folder.specs.FirstPlaces.{first_from, IsCertificateOctets, AreFirsts, AreFirstsIn, first_of}
-use Rattle.rpki_folder.specs.Folders.{octets_at, AreOneAt, IsFirst, IsFirstOf}
+use Rattle.rpki_folder.specs.FirstPlaces.{first_from, IsCertificateOctets, AreFirstsIn, first_of}
+use Rattle.rpki_folder.specs.Folders.{octets_at, AreOneAt, IsFirstOf}
 use Rattle.rpki_folder.specs.declared.firsts.Firsts.{Firsts}
 use Rattle.rpki_folder.proofs.PickedLists.{in_none, in_front, further, first_or_further}
 

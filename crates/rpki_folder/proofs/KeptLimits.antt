@@ -1,40 +1,37 @@
 -- What a walk keeps of the limits that it reaches below an issuer, wherever it ends there.
-use Rattle.std.specs.Prelude.{◌==◌, Bool, Contains, Option, Result, Ok, Err, IsErr, if◌then◌else◌, slice_index_or}
+use Rattle.std.specs.Prelude.{◌==◌, Contains, Option, Result, Ok, Err, IsErr, if◌then◌else◌, slice_index_or}
 use Rattle.std.proofs.Common.{◌≡◌, ◌+◌, ◌-◌, ◌*◌, ◌/◌, ◌<◌, ◌≤◌, ℕ, List, [], ◌∷◌, ◌++◌, length, refl, sym, subst}
 use Rattle.std.proofs.Common.{ap, ◌∙◌, arith}
 use Rattle.std.proofs.lemmas.List.{get_or_past}
 use Rattle.std.proofs.lemmas.List.Elements.{Contains-append_left, Contains-append_right}
 use Rattle.std.proofs.lemmas.List.Sums.{fold-append}
 use Rattle.rpki_der.specs.Values.{IsUnambiguous}
-use Rattle.rpki_cert.specs.Certificates.{CertFields, IsCertificate}
+use Rattle.rpki_cert.specs.Certificates.{IsCertificate}
 use Rattle.rpki_cert.specs.Verification.{Context, ResourceFields}
 use Rattle.rpki_path.specs.Asking.{RevocationChecks}
 use Rattle.rpki_folder.specs.declared.bounds.Ended.{Ended}
 use Rattle.rpki_folder.specs.declared.bounds.Ended.TheVariants.{Whole, TooDeep, OutOfSteps}
-use Rattle.rpki_folder.specs.declared.bounds.Limit.{Limit}
 use Rattle.rpki_folder.specs.declared.bounds.Limit.TheVariants.{Depth, Steps as steps}
 use Rattle.rpki_folder.specs.declared.bounds.Walked.{Walked}
 use Rattle.rpki_folder.specs.declared.limits.LimitTable.{LimitTable}
 use Rattle.rpki_folder.specs.declared.limits.Reached.{Reached}
 use Rattle.rpki_folder.specs.declared.share.Share.{Share}
 use Rattle.rpki_folder.specs.declared.walk.Ca.{Ca}
-use Rattle.rpki_folder.specs.Folders.{ArePlacesOf, cas_at}
+use Rattle.rpki_folder.specs.Folders.{cas_at}
 use Rattle.rpki_folder.specs.LimitTables.{nothing, both, of_limit, ca_at, reached_more, IsTableOf, HasReached}
-use Rattle.rpki_folder.specs.ReachedLimits.{IsNumber, LimitedCa, limited_ca, AreLimited, end_at, end_of, ended_of}
+use Rattle.rpki_folder.specs.ReachedLimits.{IsNumber, LimitedCa, limited_ca, AreLimited, end_of, ended_of}
 use Rattle.rpki_folder.specs.ReachedLimits.Steps.{CostIs, IsEmpty, AreCounted, AreLimitedBelow, AreLimitedBelowEach}
 use Rattle.rpki_folder.specs.ReachedLimits.Steps.{KeepsBelow, KeepsBelowEach}
-use Rattle.rpki_folder.specs.Walks.{Root, members_at, LeadsTo, Told, worse, IsLastOf, EndsNoCircle, IsLookedAt}
+use Rattle.rpki_folder.specs.Walks.{Root, members_at, LeadsTo, Told, worse}
 use Rattle.rpki_folder.specs.Walks.{IsChildOf, AreChildren, Tells, TakesStep, IsShort, IsTooDeep, IsComplete}
 use Rattle.rpki_folder.specs.Walks.{IsCompleteInShares, IsJudgedInShares, IsEnough}
-use Rattle.rpki_folder.specs.Walks.Steps.{AreChildrenAmong, AreJudged}
-use Rattle.rpki_folder.proofs.BelowIssuer.{LetsIn}
+use Rattle.rpki_folder.specs.Walks.Steps.{AreJudged, AreLookedAt}
 use Rattle.rpki_folder.proofs.ChildPaths.{passing, child_on}
 use Rattle.rpki_folder.proofs.Descent.{if_err, most_all}
 use Rattle.rpki_folder.proofs.LimitSteps.{end_append, limits_below_none, limits_below_more, limits_none}
 use Rattle.rpki_folder.proofs.LimitSteps.{limits_deep, limits_short, limits_each, limits_whole}
-use Rattle.rpki_folder.proofs.LookedAt.{looked_at, let_in}
 use Rattle.rpki_folder.proofs.PickedLists.{in_none, in_front}
-use Rattle.rpki_folder.proofs.Shares.{goes_through, child_in, are_children, are_cas, ca_admitted, each_leads}
+use Rattle.rpki_folder.proofs.Shares.{goes_through, are_children, are_cas, ca_admitted, each_leads}
 
 -- ---- what was counted
 
@@ -112,53 +109,35 @@ module _ (x : Context) (asked : RevocationChecks) (admits : List ℕ → ℕ →
 
 -- ---- below an issuer
 
-module _ (x : Context) (asked : RevocationChecks) (names : Bool) (admits : List ℕ → ℕ → Type 0) (top : CertFields)
-    (certs : List (List ℕ)) (above : List ℕ) (depth : ℕ) (share : Share) (law : IsUnambiguous IsCertificate)
-    (issuer : ResourceFields) (last : IsLastOf top certs above issuer.cert) (none : EndsNoCircle names top certs above)
-    (places : List ℕ) (are : ArePlacesOf certs issuer.cert.fields.extensions.subject_key_identifier places)
-    (children : List ℕ)
-    (c : AreChildrenAmong x.verifies (LetsIn names admits issuer.cert certs above) issuer.cert certs places
-    children) (old new : LimitTable) where
-  abbrev Looks : List ℕ → ℕ → Type 0
-  Looks = IsLookedAt names admits top certs
-
-  abbrev Here : ℕ → Type 0
-  Here = LetsIn names admits issuer.cert certs above
-
-  there_in : (place : ℕ) → Here place → Looks above place
-  there_in place h = looked_at top certs law names above issuer.cert last admits place none h
-
-  in_there : (place : ℕ) → Looks above place → Here place
-  in_there place h = let_in top certs law names above issuer.cert last admits place h
-
+module _ (x : Context) (asked : RevocationChecks) (looks : List ℕ → ℕ → Type 0) (certs : List (List ℕ))
+    (above : List ℕ) (depth : ℕ) (share : Share) (law : IsUnambiguous IsCertificate) (issuer : ResourceFields)
+    (children : List ℕ) (c : AreLookedAt x.verifies (looks above) issuer.cert certs children)
+    (old new : LimitTable) where
   kids : (root : Root) → LeadsTo x asked root (members_at root certs above) issuer →
-      AreChildren x asked Looks root certs above children
-  kids root a = are_children x asked Looks root certs above depth share.steps law issuer a Here there_in in_there
-      places are children c
+      AreChildren x asked looks root certs above children
+  kids root a = are_children x asked looks root certs above depth share.steps law issuer a children c
 
   -- where there are no children
-  pub keeps_childless : children ≡ [] → KeepsBelow x asked Looks issuer certs above depth share old old Whole
+  pub keeps_childless : children ≡ [] → KeepsBelow x asked looks issuer certs above depth share old old Whole
   keeps_childless is = record {
     more = [];
     counted = counts_none old;
     ended_is = refl;
     are = λ root a base factor cost.
-        limits_none x asked Looks root certs above depth share.steps base factor law issuer a
+        limits_none x asked looks root certs above depth share.steps base factor law issuer a
         (λ place admitted child.
         in_none place
-        (subst (λ (l : List ℕ). Contains l place) is
-        (child_in x asked Looks root certs above depth share.steps law issuer a Here there_in in_there places
-        are children c place admitted child)));
+        (subst (λ (l : List ℕ). Contains l place) is (c.all place admitted child)));
   }
 
   -- where the depth is used up
   pub keeps_deep : depth ≡ 0 → 0 < length children → AreCounted old (limited_ca above Depth ∷ []) new →
-      KeepsBelow x asked Looks issuer certs above depth share old new TooDeep
+      KeepsBelow x asked looks issuer certs above depth share old new TooDeep
   keeps_deep deep some counted = record {
     more = limited_ca above Depth ∷ [];
     counted = counted;
     ended_is = refl;
-    are = λ root a base factor cost. limits_deep x asked Looks root certs above depth share.steps base factor law
+    are = λ root a base factor cost. limits_deep x asked looks root certs above depth share.steps base factor law
         children (kids root a) deep some;
   }
 
@@ -167,12 +146,12 @@ module _ (x : Context) (asked : RevocationChecks) (names : Bool) (admits : List 
     pub keeps_short : share.steps < length children → (told : Option ℕ) →
         ((base factor : ℕ) → CostIs share.cost base factor → IsNumber told (base + factor * length children)) →
         AreCounted old (limited_ca above (steps told) ∷ []) new
-        → KeepsBelow x asked Looks issuer certs above depth share old new OutOfSteps
+        → KeepsBelow x asked looks issuer certs above depth share old new OutOfSteps
     keeps_short short told number counted = record {
       more = limited_ca above (steps told) ∷ [];
       counted = counted;
       ended_is = refl;
-      are = λ root a base factor cost. limits_short x asked Looks root certs above depth share.steps base factor law
+      are = λ root a base factor cost. limits_short x asked looks root certs above depth share.steps base factor law
           children (kids root a) low short told (number base factor cost);
     }
 
@@ -181,22 +160,18 @@ module _ (x : Context) (asked : RevocationChecks) (names : Bool) (admits : List 
       limits_at : (root : Root) (a : LeadsTo x asked root (members_at root certs above) issuer)
           (base factor next : ℕ) → (0 < length cas → next ≡ (share.steps - length children) / length cas) →
           (ls : List LimitedCa)
-          → AreLimitedBelowEach x asked Looks root certs above (depth - 1) next (base + factor * length children)
+          → AreLimitedBelowEach x asked looks root certs above (depth - 1) next (base + factor * length children)
           (factor * length cas) cas ls →
-          AreLimitedBelow x asked Looks root certs above depth share.steps base factor ls
+          AreLimitedBelow x asked looks root certs above depth share.steps base factor ls
       limits_at root a base factor next next_is ls e =
-          limits_each x asked Looks root certs above depth share.steps base factor law children (kids root a) low
+          limits_each x asked looks root certs above depth share.steps base factor law children (kids root a) low
           enough cas
-          (are_cas x asked Looks root certs above depth share.steps law issuer a Here there_in in_there places are
-          children c enough cas us j)
-          (ca_admitted x asked Looks root certs above depth share.steps law issuer a Here there_in in_there places
-          are children c enough cas us j)
+          (are_cas x asked looks root certs above depth share.steps law issuer a children c enough cas us j)
+          (ca_admitted x asked looks root certs above depth share.steps law issuer a children c enough cas us j)
           next next_is
           (λ p admitted rest r leads.
-          goes_through x asked Looks root certs above depth share.steps law issuer a Here there_in in_there places
-          are children c enough cas us j p
-          (child_in x asked Looks root certs above depth share.steps law issuer a Here there_in in_there places are
-          children c p admitted (child_on x asked root law certs above issuer a p rest r leads))
+          goes_through x asked looks root certs above depth share.steps law issuer a children c enough cas us j p
+          (c.all p admitted (child_on x asked root law certs above issuer a p rest r leads))
           (cas_at certs rest) r (passing x asked root law certs above p rest r leads))
           ls e
 
@@ -204,31 +179,31 @@ module _ (x : Context) (asked : RevocationChecks) (names : Bool) (admits : List 
       pub keeps_each : (next : Share) → (0 < length cas → next.steps ≡ (share.steps - length children) / length cas)
           → ((base factor : ℕ) → CostIs share.cost base factor →
           CostIs next.cost (base + factor * length children) (factor * length cas))
-          → (ended : Ended) → KeepsBelowEach x asked Looks certs above (depth - 1) next cas old new ended →
-          KeepsBelow x asked Looks issuer certs above depth share old new ended
+          → (ended : Ended) → KeepsBelowEach x asked looks certs above (depth - 1) next cas old new ended →
+          KeepsBelow x asked looks issuer certs above depth share old new ended
       keeps_each next next_is cost_is ended k = record {
         more = k.more;
         counted = k.counted;
         ended_is = k.ended_is;
         are = λ root a base factor cost.
             limits_at root a base factor next.steps next_is k.more
-            (k.are root (each_leads x asked Looks root certs above depth share.steps law issuer a Here there_in
-            in_there places are children c enough cas us j) (base + factor * length children)
+            (k.are root (each_leads x asked looks root certs above depth share.steps law issuer a children c enough
+            cas us j) (base + factor * length children)
             (factor * length cas) (cost_is base factor cost));
       }
 
       -- where there is none
-      pub keeps_last : cas ≡ [] → KeepsBelow x asked Looks issuer certs above depth share old old Whole
+      pub keeps_last : cas ≡ [] → KeepsBelow x asked looks issuer certs above depth share old old Whole
       keeps_last is = record {
         more = [];
         counted = counts_none old;
         ended_is = refl;
         are = λ root a base factor cost.
-            let each : AreLimitedBelowEach x asked Looks root certs above (depth - 1) 0
+            let each : AreLimitedBelowEach x asked looks root certs above (depth - 1) 0
             (base + factor * length children) (factor * length cas) cas [] =
-            subst (λ (l : List Ca). AreLimitedBelowEach x asked Looks root certs above (depth - 1) 0
+            subst (λ (l : List Ca). AreLimitedBelowEach x asked looks root certs above (depth - 1) 0
             (base + factor * length children) (factor * length cas) l []) (sym is)
-            (limits_below_none x asked Looks root certs above (depth - 1) 0 (base + factor * length children)
+            (limits_below_none x asked looks root certs above (depth - 1) 0 (base + factor * length children)
             (factor * length cas)) in
             limits_at root a base factor 0 (λ some. absurd (omega (arith, some, ap length is))) [] each;
       }

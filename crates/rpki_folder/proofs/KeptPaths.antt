@@ -1,6 +1,6 @@
 -- One verdict more, in the paths that a line keeps.
 use Rattle.std.specs.List.{AllByRecursion}
-use Rattle.std.specs.Prelude.{Any, Bool, Ok, IsOk, false, min, ◌||◌}
+use Rattle.std.specs.Prelude.{Bool, IsOk, false, min, ◌||◌}
 use Rattle.std.proofs.Common.{◌≡◌, ◌+◌, ◌-◌, ◌^◌, ◌<◌, ◌≤◌, ℕ, suc, List, [], ◌∷◌, ◌++◌, length, refl, sym, ap}
 use Rattle.std.proofs.Common.{subst, ◌∙◌, inl, inr, arith, append_assoc}
 use Rattle.std.proofs.lemmas.List.{append-nil}

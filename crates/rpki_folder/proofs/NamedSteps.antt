@@ -1,7 +1,7 @@
 -- The certificates that name a key, by their issuers' names.
-use Rattle.std.specs.Prelude.{Bool, true, false, IsTrue, Contains, bytes_eq, if◌then◌else◌, Option, None, Some}
+use Rattle.std.specs.Prelude.{Bool, true, false, bytes_eq, if◌then◌else◌, Option, None, Some}
 use Rattle.std.specs.Prelude.{IfSome, option_map, Result, Ok, Err, OnOk}
-use Rattle.std.proofs.Common.{◌≡◌, ◌↔◌, ◌<◌, ℕ, List, [], ◌∷◌, ◌++◌, refl, sym, ap, subst, ◌∙◌}
+use Rattle.std.proofs.Common.{◌≡◌, ℕ, List, [], ◌∷◌, ◌++◌, refl, sym, ap, subst, ◌∙◌}
 use Rattle.std.proofs.lemmas.Slice.Eq.{bytes_eq-Decides}
 use Rattle.rpki_der.specs.Values.{IsUnambiguous}
 use Rattle.rpki_der.proofs.Formats.{one_meant}
@@ -14,10 +14,8 @@ use Rattle.rpki_path.specs.Repeats.{AreAlike}
 use Rattle.rpki_folder.specs.Folders.{FolderFields, octets_at, ArePlacesOf}
 use Rattle.rpki_folder.specs.IssuerLists.{ArePicked, HasSigned}
 use Rattle.rpki_folder.specs.KeyTables.{places_in, with_place}
-use Rattle.rpki_folder.specs.NameTables.{HasIssuer, AreByIssuer, ArePlacesUnder, IsOfKey}
-use Rattle.rpki_folder.specs.Walks.{IsNamedUnder}
+use Rattle.rpki_folder.specs.NameTables.{HasIssuer, ArePlacesUnder, IsOfKey}
 use Rattle.rpki_folder.specs.declared.issuers.NamedKey.{NamedKey}
-use Rattle.rpki_folder.specs.declared.names.NameTable.{NameTable}
 use Rattle.rpki_folder.proofs.PickedLists.{picked_more, picked_same, one_of_all, one_of_picked}
 use Rattle.rpki_folder.proofs.KeptIssuers.{once_picked}
 

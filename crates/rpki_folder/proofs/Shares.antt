@@ -16,18 +16,18 @@ use Rattle.rpki_cert.specs.declared.inspect.Kind.TheVariants.{Authority}
 use Rattle.rpki_folder.specs.declared.bounds.Ended.{Ended}
 use Rattle.rpki_folder.specs.declared.bounds.Ended.TheVariants.{Whole, TooDeep, OutOfSteps}
 use Rattle.rpki_folder.specs.declared.walk.Ca.{Ca}
-use Rattle.rpki_folder.specs.Folders.{octets_at, cas_at, ArePlacesOf}
+use Rattle.rpki_folder.specs.Folders.{octets_at, cas_at}
 use Rattle.rpki_folder.specs.Walks.{Root, members_at, LeadsTo, IsReached, Told, IsRight, IsTold, worse, Covers}
 use Rattle.rpki_folder.specs.Walks.{AreAdmitted, IsLetIn, IsChildOf, AreChildren, IsAcceptedCa, AreAcceptedCas}
 use Rattle.rpki_folder.specs.Walks.{IsHandedDown, HasShare, HasEnough, IsShort, TakesStep, AreFew, HasBelow}
 use Rattle.rpki_folder.specs.Walks.{IsTooDeep, IsChildAt, IsComplete, IsCompleteInShares, IsJudgedInShares}
 use Rattle.rpki_folder.specs.Walks.{IsVerdictTold, IsEnough, Tells, TellsBelow}
-use Rattle.rpki_folder.specs.Walks.Steps.{AreChildrenAmong, places_of, AreJudged, down_to, TellsBelowEach}
+use Rattle.rpki_folder.specs.Walks.Steps.{AreLookedAt, places_of, AreJudged, down_to, TellsBelowEach}
 use Rattle.rpki_folder.specs.Walks.Steps.{WalksBelowEach}
 use Rattle.rpki_folder.proofs.ChildPaths.{passing, child_here, child_on}
 use Rattle.rpki_folder.proofs.Descent.{has_more, has_behind, has_here, told_more, told_behind, told_here}
 use Rattle.rpki_folder.proofs.Descent.{all_append, all_weaker, if_err, if_ok, ok_if, covers_first, covers_second}
-use Rattle.rpki_folder.proofs.Descent.{covers_below, worse_out, worse_deep, there, child_names, most_append}
+use Rattle.rpki_folder.proofs.Descent.{covers_below, worse_out, worse_deep, most_append}
 use Rattle.rpki_folder.proofs.Descent.{most_more, most_all, IsSound, sound_append, sound_more, let_in_above}
 use Rattle.rpki_folder.proofs.Descent.{ca_leads}
 use Rattle.rpki_folder.proofs.OnceLists.{once_length, once_shorter}
@@ -349,26 +349,13 @@ module _ (x : Context) (asked : RevocationChecks) (admits : List ℕ → ℕ →
     enough = λ between place covers admitted reached. absurd (reached_none none between place admitted reached);
   }
 
-  module _ (lets_in : ℕ → Type 0) (there_in : (place : ℕ) → lets_in place → admits above place)
-      (in_there : (place : ℕ) → admits above place → lets_in place)
-      (places : List ℕ) (are : ArePlacesOf certs issuer.cert.fields.extensions.subject_key_identifier places)
-      (children : List ℕ) (c : AreChildrenAmong x.verifies lets_in issuer.cert certs places children) where
-    pub child_in : (place : ℕ) → admits above place → IsChildOf x.verifies issuer.cert certs place →
-        Contains children place
-    child_in place admitted child =
-        let names = child_names x.verifies issuer.cert certs place child in
-        c.all place (are.all place (there certs child.cert place child.stands) names) (in_there place admitted) child
-
-    child_only : (place : ℕ) → Contains children place →
-        admits above place × IsChildOf x.verifies issuer.cert certs place
-    child_only place at = let h = c.only place at in (there_in place h.0, h.1)
-
+  module _ (children : List ℕ) (c : AreLookedAt x.verifies (admits above) issuer.cert certs children) where
     pub are_children : AreChildren x asked admits root certs above children
     are_children = record {
       issuer = issuer;
       leads = a;
-      only = child_only;
-      all = child_in;
+      only = c.only;
+      all = c.all;
       once = c.once;
     }
 
@@ -377,7 +364,7 @@ module _ (x : Context) (asked : RevocationChecks) (admits : List ℕ → ℕ →
     ended_childless ts is h =
         ended_none ts
         (λ place admitted child.
-        in_none place (subst (λ (l : List ℕ). Contains l place) is (child_in place admitted child))) h
+        in_none place (subst (λ (l : List ℕ). Contains l place) is (c.all place admitted child))) h
 
     first_of : (l : List ℕ) → 0 < length l → (place : ℕ) × Contains l place
     first_of [] some = absurd (omega (arith, some))
@@ -403,7 +390,7 @@ module _ (x : Context) (asked : RevocationChecks) (admits : List ℕ → ℕ →
                   (sym (append-nil above)) a;
               place = first.0;
               child = one.1;
-              admitted = (there_in first.0 one.0, tt);
+              admitted = (one.0, tt);
             },
           );
           complete = λ between place covers admitted reached. absurd (omega (arith, covers, deep));
@@ -420,7 +407,7 @@ module _ (x : Context) (asked : RevocationChecks) (admits : List ℕ → ℕ →
     within_all others all =
         let one : issuer.cert ≡ all.issuer.cert = one_holder x asked root law (members_at root certs above) issuer
         all.issuer a all.leads in
-        once_shorter children others c.once (λ place at. let h = child_only place at in
+        once_shorter children others c.once (λ place at. let h = c.only place at in
         all.all place h.0 (subst (λ (d : CertFields). IsChildOf x.verifies d certs place) one h.1))
 
     few_enough : (between : List ℕ) → HasEnough x asked admits root certs above share depth between →
@@ -469,7 +456,7 @@ module _ (x : Context) (asked : RevocationChecks) (admits : List ℕ → ℕ →
     module _ (enough : length children ≤ share) (cas : List Ca) (us : List Told)
         (j : AreJudged x asked issuer certs above children cas us) where
       pub ca_admitted : (ca : Ca) → Contains cas ca → admits above ca.place
-      ca_admitted ca at = there_in ca.place (c.only ca.place (j.only ca at).0).0
+      ca_admitted ca at = (c.only ca.place (j.only ca at).0).0
 
       -- a valid path leads to each of the CAs
       pub each_leads : (ca : Ca) → Contains cas ca →
@@ -504,7 +491,7 @@ module _ (x : Context) (asked : RevocationChecks) (admits : List ℕ → ℕ →
         all = λ place admitted accepted.
             let leads = subst (λ (l : List Candidate). LeadsTo x asked root l accepted.0)
             (members_next root certs above place) accepted.1 in
-            goes_through place (child_in place admitted (ca_child place accepted)) [] accepted.0 leads;
+            goes_through place (c.all place admitted (ca_child place accepted)) [] accepted.0 leads;
         once = j.once;
       }
 
@@ -565,7 +552,7 @@ module _ (x : Context) (asked : RevocationChecks) (admits : List ℕ → ℕ →
           child_told place admitted reached =
               let here : IsReached x asked root certs above place =
               subst (λ (l : List ℕ). IsReached x asked root certs l place) (append-nil above) reached in
-              let v = j.all place (child_in place admitted
+              let v = j.all place (c.all place admitted
               (reached_child x asked root law certs above place issuer a [] place refl reached)) in
               let ok = outcome_ok x asked root law (members_at root certs above) issuer a (octets_at certs place)
               v.0 v.1 v.2 here.0 here.2 here.1 here.3 in
@@ -578,7 +565,7 @@ module _ (x : Context) (asked : RevocationChecks) (admits : List ℕ → ℕ →
               IsReached x asked root certs (above ++ p ∷ rest) place → Contains (places_of cas) p
           ca_of p rest place admitted reached =
               let passes = reached_passes x asked root law certs above p rest place reached in
-              goes_through p (child_in p admitted
+              goes_through p (c.all p admitted
               (reached_child x asked root law certs above p issuer a (p ∷ rest) place refl reached))
               passes.after passes.holder passes.leads
 
@@ -645,7 +632,7 @@ module _ (x : Context) (asked : RevocationChecks) (admits : List ℕ → ℕ →
           has_child : (place : ℕ) → admits above place → IsChildAt x asked root certs (above ++ []) place →
               IsVerdictTold all (above ++ []) place
           has_child place admitted child =
-              let v = j.all place (child_in place admitted
+              let v = j.all place (c.all place admitted
               (child_here x asked root law certs above issuer a child.0 place child.1 child.2)) in
               subst (λ (l : List ℕ). IsVerdictTold all l place) (sym (append-nil above))
               (has_behind ts (us ++ vs) above place (has_more us vs above place (has_here us above place v.0 v.3)))
@@ -666,7 +653,7 @@ module _ (x : Context) (asked : RevocationChecks) (admits : List ℕ → ℕ →
           judged_at h [] place given admitted child = has_child place admitted.0 child
           judged_at h (p ∷ rest) place given admitted child =
               let at = goes_through p
-              (child_in p admitted.0 (child_on x asked root law certs above issuer a p rest child.0 child.1))
+              (c.all p admitted.0 (child_on x asked root law certs above issuer a p rest child.0 child.1))
               (cas_at certs rest) child.0 (passing x asked root law certs above p rest child.0 child.1) in
               let ca = ca_at cas p at in
               let here : IsJudgedInShares x asked admits root certs (above ++ p ∷ []) (depth - 1) next vs =

@@ -13,6 +13,7 @@ mod firsts;
 mod folder;
 mod issuer_lists;
 mod issuers;
+mod judging;
 mod keys;
 mod known;
 pub mod laws;

@@ -1,5 +1,5 @@
 -- What one step of a walk gives.
-use Rattle.std.specs.Prelude.{◌≡◌, ◌≢◌, ◌↔◌, ◌⊎◌, ◌*◌, Bool, IsTrue, ◌++◌, ◌∷◌, [], ℕ, List, length, map, Contains}
+use Rattle.std.specs.Prelude.{◌≡◌, ◌≢◌, ◌↔◌, ◌⊎◌, ◌*◌, ◌<◌, Bool, IsTrue, ◌++◌, ◌∷◌, [], ℕ, List, length, map, Contains}
 use Rattle.std.specs.Prelude.{Option, None, Some, Result, Ok, Err, IsErr, IfOk}
 use Rattle.std.specs.List.{AllByRecursion}
 use Rattle.rpki_parts.specs.Signatures.{Verifies}
@@ -20,9 +20,10 @@ use Rattle.rpki_path.specs.NameChains.{IsNamedBelow}
 use Rattle.rpki_cert.specs.SaidKinds.{BeginsWithKind}
 use Rattle.rpki_folder.specs.declared.bounds.Ended.{Ended}
 use Rattle.rpki_folder.specs.declared.bounds.Ended.TheVariants.{TooDeep, OutOfSteps}
+use Rattle.rpki_folder.specs.declared.walk.Below.{Below}
 use Rattle.rpki_folder.specs.declared.walk.Ca.{Ca}
-use Rattle.rpki_folder.specs.declared.walk.Claim.{Claim}
-use Rattle.rpki_folder.specs.declared.walk.Claim.TheVariants.{OtherName, Child, Other}
+use Rattle.rpki_folder.specs.declared.children.Claim.{Claim}
+use Rattle.rpki_folder.specs.declared.children.Claim.TheVariants.{OtherName, Child, Other}
 use Rattle.rpki_folder.specs.Folders.{octets_at, IsOnce}
 use Rattle.rpki_folder.specs.Walks.{Root, members_at, LeadsTo, Told, told, demand_as, StandsAt, IsNamedUnder}
 use Rattle.rpki_folder.specs.Walks.{IsChildOf, IsRight, IsLetIn, AreFew, IsShort, IsTooDeep, IsComplete}
@@ -108,6 +109,26 @@ pub record AreChildrenAmong (verifies : Verifies) (lets_in : ℕ → Type 0) (is
   pub all : (place : ℕ) → Contains places place → lets_in place
       → IsChildOf verifies issuer certs place → Contains children place
   pub once : IsOnce children
+
+-- these are the places at which a walk looks below the issuer and finds a child of it, each once
+pub record AreLookedAt (verifies : Verifies) (looks : ℕ → Type 0) (issuer : CertFields)
+    (certs : List (List ℕ)) (children : List ℕ) : Type 0 where
+  pub only : (place : ℕ) → Contains children place
+      → looks place × IsChildOf verifies issuer certs place
+  pub all : (place : ℕ) → looks place → IsChildOf verifies issuer certs place
+      → Contains children place
+  pub once : IsOnce children
+
+-- the children below an issuer: none, or these and at least one
+abbrev pub AreBelow : Verifies → (ℕ → Type 0) → CertFields → List (List ℕ) → Option Below → Type 0
+AreBelow verifies looks issuer certs None = AreLookedAt verifies looks issuer certs []
+AreBelow verifies looks issuer certs (Some below) =
+    (0 < length below.children.items) × AreLookedAt verifies looks issuer certs below.children.items
+
+-- a walk looks at the place, and finds no child of the issuer
+abbrev pub IsNoChild : Verifies → (ℕ → Type 0) → CertFields → List (List ℕ) → ℕ → Type 0
+IsNoChild verifies looks issuer certs place =
+    looks place × (IsChildOf verifies issuer certs place → ⊥)
 
 -- the verdict is on the certificate at a place that has P, below the CAs at the places above, and is
 -- the answer below the issuer

@@ -1,10 +1,10 @@
-use Rattle.std.specs.Prelude.{Option, None, Some}
+use Rattle.std.specs.Prelude.{None, Some}
 use Rattle.std.specs.BTreeMap.{get}
 use Rattle.std.specs.Cmp.Lexicographic.{slice_cmp}
 use Rattle.std.specs.Ordering.{nat_cmp}
 use Rattle.std.proofs.Common.{rules, ◌≡◌, ℕ, List, [], ◌∷◌, ◌++◌, length, map, sym, ap, subst, ◌∙◌, arith}
 use Rattle.std.proofs.lemmas.List.{length-map}
-use Rattle.rpki_folder.specs.FirstPlaces.{first_from, AreFirsts}
+use Rattle.rpki_folder.specs.FirstPlaces.{first_from}
 use Rattle.rpki_folder.proofs.FirstSteps.{each_pushed, found_still, first_still, found_more, first_now}
 use Rattle.rpki_folder.proofs.firsts.Firsts.add.Goals as goal
 

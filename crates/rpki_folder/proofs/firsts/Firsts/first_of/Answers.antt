@@ -1,6 +1,6 @@
-use Rattle.std.proofs.Common.{rules, ◌≡◌, ◌<◌, ℕ, List, length, sym, subst}
+use Rattle.std.proofs.Common.{rules, ◌≡◌, ℕ, sym, subst}
 use Rattle.rpki_folder.specs.Folders.{IsFirstOf}
-use Rattle.rpki_folder.specs.FirstPlaces.{AreFirstsIn, first_of}
+use Rattle.rpki_folder.specs.FirstPlaces.{first_of}
 use Rattle.rpki_folder.proofs.FirstSteps.{is_first_of}
 use Rattle.rpki_folder.proofs.firsts.Firsts.first_of.Goals as goal
 

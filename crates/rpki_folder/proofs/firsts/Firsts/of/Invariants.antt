@@ -1,5 +1,4 @@
-use Rattle.std.specs.List.{AllZip}
-use Rattle.std.proofs.Common.{List, ℕ, take}
+use Rattle.std.proofs.Common.{take}
 use Rattle.rpki_folder.specs.FirstPlaces.{AreFirstsIn}
 use Rattle.rpki_folder.proofs.firsts.Firsts.of.Given as goal
 

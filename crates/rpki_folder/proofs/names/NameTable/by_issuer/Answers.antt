@@ -1,4 +1,4 @@
-use Rattle.std.proofs.Common.{ℕ, List, [], take, get_or, sym, subst}
+use Rattle.std.proofs.Common.{ℕ, List, take, get_or, sym, subst}
 use Rattle.std.proofs.lemmas.List.{take_more, take_all}
 use Rattle.std.proofs.lemmas.List.Elements.{Contains-get_or}
 use Rattle.rpki_folder.specs.IssuerLists.{ArePicked}

@@ -1,5 +1,5 @@
-use Rattle.std.specs.Prelude.{Result, Ok, Bool, true, false, ◌==◌, Contains}
-use Rattle.std.specs.List.{AllByRecursion}
+-- Below each CA: what is told is put together. Below an issuer: its children, and then each accepted CA among them.
+use Rattle.std.specs.Prelude.{Result, Ok, Bool, true, ◌==◌, Contains, Option, IfSome, slice_index_or}
 use Rattle.std.specs.Global.{Vec}
 use Rattle.std.specs.declared.alloc.AllocError.{AllocError}
 use Rattle.std.proofs.Common.{rules, ◌≡◌, ◌+◌, ◌-◌, ◌*◌, ◌/◌, ◌<◌, ◌≤◌, ℕ, List, [], ◌∷◌, ◌++◌, length, take, refl}
@@ -7,27 +7,26 @@ use Rattle.std.proofs.Common.{sym, ap, subst, ◌∙◌, append_assoc, arith}
 use Rattle.std.proofs.lemmas.Bool.{eqb-true}
 use Rattle.std.proofs.lemmas.List.{append-nil, take_more, take_all}
 use Rattle.std.proofs.lemmas.List.Elements.{Contains-get_or}
-use Rattle.rpki_cert.specs.Certificates.{TbsFields, CertFields}
 use Rattle.rpki_cert.specs.Verification.{context}
 use Rattle.rpki_path.specs.AskedLists.{by_named_lists}
 use Rattle.rpki_folder.specs.declared.bounds.Ended.{Ended}
+use Rattle.rpki_folder.specs.declared.walk.Below.{Below}
 use Rattle.rpki_folder.specs.declared.walk.Ca.{Ca}
-use Rattle.rpki_folder.specs.Folders.{ArePlacesOf, IsOnce}
+use Rattle.rpki_folder.specs.Folders.{IsOnce}
 use Rattle.rpki_folder.specs.IssuerTables.{IsKeptOf}
-use Rattle.rpki_folder.specs.Walks.{Told, TellsBelow, StandsAt, IsLastOf, EndsNoCircle, IsLookedAt, IsChildOf}
+use Rattle.rpki_folder.specs.Walks.{Told, TellsBelow, StandsAt, IsLastOf, IsLookedAt, IsChildOf}
 use Rattle.rpki_folder.specs.declared.issuers.Issuer.{Issuer}
 use Rattle.rpki_folder.specs.ReachedLimits.{IsNumber}
 use Rattle.rpki_folder.specs.ReachedLimits.Steps.{CostIs, KeepsBelow, KeepsBelowEach}
-use Rattle.rpki_folder.specs.Walks.Steps.{AreJudged, IsToldOf, WalksBelowEach}
-use Rattle.rpki_folder.proofs.KeptIssuers.{kept_at, kids_here}
-use Rattle.rpki_folder.proofs.Descent.{there as low_of, child_names, no_sound, ca_stands, if_ok, ok_if}
+use Rattle.rpki_folder.specs.Walks.Steps.{AreJudged, WalksBelowEach}
+use Rattle.rpki_folder.proofs.KeptIssuers.{kept_at}
+use Rattle.rpki_folder.proofs.Descent.{there as low_of, ca_stands, if_ok, ok_if}
 use Rattle.rpki_folder.proofs.Shares.{take_within, take_shorter, each_none, each_stops, each_fails, each_walked}
-use Rattle.rpki_folder.proofs.Shares.{ended_err, ended_none}
-use Rattle.rpki_folder.proofs.PickedLists.{in_none as none_in}
 use Rattle.rpki_folder.proofs.LookedAt.{last_pushed, inside_pushed}
-use Rattle.rpki_folder.proofs.KeptLimits.{keeps_none, keeps_each_none, keeps_each_more, keeps_childless, keeps_deep}
+use Rattle.rpki_folder.proofs.KeptLimits.{keeps_each_none, keeps_each_more, keeps_childless, keeps_deep}
 use Rattle.rpki_folder.proofs.KeptLimits.{keeps_short, keeps_each, keeps_last}
-use Rattle.rpki_folder.proofs.BelowIssuer.{Others, at_err, at_none, at_depth, at_short, judged_err, at_last, at_each}
+use Rattle.rpki_folder.proofs.BelowIssuer.{told_here, none_here, some_here, children_here, judged_here}
+use Rattle.rpki_folder.proofs.BelowIssuer.{at_err, at_none, at_depth, at_short, judged_err, at_last, at_each}
 use Rattle.rpki_folder.proofs.StepAnswers.{popped}
 use Rattle.rpki_folder.proofs.walk.Walk.+descend.Goals as goal
 
@@ -207,236 +206,75 @@ each_below-returns-clause-limits g t c =
 
 -- ---- below an issuer
 
--- the places of the issuer's key
-there : (certs : List (List ℕ)) (key own : List ℕ) (places : List ℕ) → key ≡ own → ArePlacesOf certs key places →
-    ArePlacesOf certs own places
-there certs key own places is are = subst (λ (k : List ℕ). ArePlacesOf certs k places) is are
-
-none_there : {X : Type 0} (places : List X) (b : Bool) → b ≡ (length places == 0) → b ≡ true → places ≡ []
-none_there [] b is test = refl
-none_there (p ∷ places) b is test = let zero : length (p ∷ places) ≡ 0 =
-    eqb-true (length (p ∷ places)) 0 (sym is ∙ test) in absurd (omega (arith, zero))
-
--- of so many, there are none, or some
+-- of so many, there are none
 none_of : {X : Type 0} (xs : List X) (n : ℕ) (b : Bool) → n ≡ length xs → b ≡ (n == 0) → b ≡ true → xs ≡ []
 none_of [] n b count is test = refl
 none_of (y ∷ xs) n b count is test = let zero : n ≡ 0 = eqb-true n 0 (sym is ∙ test) in
     absurd (omega (arith, zero, count))
 
-some_of : {X : Type 0} (xs : List X) (n : ℕ) (b : Bool) → n ≡ length xs → b ≡ (n == 0) → b ≡ false → 0 < length xs
-some_of [] n b count is test = let none : n ≡ 0 = count in absurd (cc (sym test ∙ is ∙ ap (λ (m : ℕ). m == 0) none))
-some_of (y ∷ xs) n b count is test = omega arith
-
-pub descend-returns-then-is_empty-clause-tells : goal.descend-returns-then-is_empty-clause-tells
-descend-returns-then-is_empty-clause-tells g t c = λ v ts heard.
-    let w = c.args.self.now in
-    let x = context (g.V.Verifier.verifies w.verifier.now) w.at w.strict in
-    let asked = by_named_lists w.names x w.folder.now.lists in
-    let certs = w.folder.now.certs in
-    let admits = IsLookedAt w.names (g.A.Admission.admits w.admission.now) c.args.top.now.cert certs in
-    let issuer = c.args.issuer.now in
-    let above = c.args.trail.now.above.items in
-    let places = c.signed_by-places.result.now in
-    let own = issuer.cert.fields.extensions.subject_key_identifier in
-    let key = c.subject_key_identifier-key.ensures ∙ ap (λ (f : TbsFields). f.extensions.subject_key_identifier)
-    c.as_tbs.ensures ∙ ap (λ (d : CertFields). d.fields.extensions.subject_key_identifier)
-    c.as_cert.ensures in
-    let are = there certs c.subject_key_identifier-key.result own places key c.signed_by-places.ensures in
-    let none : places ≡ [] = none_there places c.is_empty.result c.is_empty.ensures c.if-is_empty.true in (
-      [],
-      subst (λ (l : List Told). g.W.Visitor.became v l c.args.visitor.now) (sym (append-nil ts)) heard,
-      (λ root leads. ended_none x asked admits root certs above c.args.depth c.args.share.steps
-          c.unambiguous.ensures.certificate issuer leads {E = AllocError} []
-          (λ place admitted child. let at = are.all place (low_of certs child.cert place child.stands)
-          (child_names x.verifies issuer.cert certs place child) in
-          none_in place (subst (λ (l : List ℕ). Contains l place) none at))
-          (no_sound x asked admits root certs above c.args.share.steps)),
-    )
-
-pub descend-returns-then-is_empty-clause-limits : goal.descend-returns-then-is_empty-clause-limits
-descend-returns-then-is_empty-clause-limits g t c =
-    let w = c.args.self.now in
-    let x = context (g.V.Verifier.verifies w.verifier.now) w.at w.strict in
-    let asked = by_named_lists w.names x w.folder.now.lists in
-    let certs = w.folder.now.certs in
-    let admits = IsLookedAt w.names (g.A.Admission.admits w.admission.now) c.args.top.now.cert certs in
-    let issuer = c.args.issuer.now in
-    let places = c.signed_by-places.result.now in
-    let own = issuer.cert.fields.extensions.subject_key_identifier in
-    let key = c.subject_key_identifier-key.ensures ∙ ap (λ (f : TbsFields). f.extensions.subject_key_identifier)
-    c.as_tbs.ensures ∙ ap (λ (d : CertFields). d.fields.extensions.subject_key_identifier)
-    c.as_cert.ensures in
-    let are = there certs c.subject_key_identifier-key.result own places key c.signed_by-places.ensures in
-    let none : places ≡ [] = none_there places c.is_empty.result c.is_empty.ensures c.if-is_empty.true in
-    keeps_none x asked admits issuer certs c.args.trail.now.above.items c.args.depth c.args.share
-    c.unambiguous.ensures.certificate
-    (λ place admitted child. let at = are.all place (low_of certs child.cert place child.stands)
-    (child_names x.verifies issuer.cert certs place child) in
-    none_in place (subst (λ (l : List ℕ). Contains l place) none at)) c.args.trail.now.limits
-
-pub descend-returns-then-is_in_circle-clause-limits : goal.descend-returns-then-is_in_circle-clause-limits
-descend-returns-then-is_in_circle-clause-limits g t c =
-    let w = c.args.self.now in
-    let x = context (g.V.Verifier.verifies w.verifier.now) w.at w.strict in
-    let asked = by_named_lists w.names x w.folder.now.lists in
-    let certs = w.folder.now.certs in
-    let admits = IsLookedAt w.names (g.A.Admission.admits w.admission.now) c.args.top.now.cert certs in
-    let above = c.args.trail.now.above.items in
-    let circle : EndsNoCircle w.names c.args.top.now.cert certs above →
-    ⊥ = subst (λ (l : List ℕ). EndsNoCircle w.names c.args.top.now.cert certs l → ⊥) c.deref.ensures.value
-    (c.in_ok-is_in_circle.ensures.circle c.if-is_in_circle.true) in
-    keeps_none x asked admits c.args.issuer.now certs above c.args.depth c.args.share
-    c.unambiguous.ensures.certificate (λ place looked child. circle looked.no_circle) c.args.trail.now.limits
-
-pub descend-is_in_circle-requires : goal.descend-is_in_circle-requires
-descend-is_in_circle-requires g t c =
-    let w = c.args.self.now in
-    let certs = w.folder.now.certs in
+pub descend-look_below-requires : goal.descend-look_below-requires
+descend-look_below-requires g t c =
+    let certs = c.args.self.now.folder.now.certs in
     record {
       inside = subst (λ (l : List ℕ). (p : ℕ) → Contains l p → p < length certs) (sym c.deref.ensures.value)
           c.requires.inside;
+      kept = c.requires.kept;
       last = subst (λ (l : List ℕ). IsLastOf c.args.top.now.cert certs l c.args.issuer.now.cert)
           (sym c.deref.ensures.value) c.requires.last;
     }
 
-pub descend-returns-in_err-is_in_circle-clause-tells : goal.descend-returns-in_err-is_in_circle-clause-tells
-descend-returns-in_err-is_in_circle-clause-tells g t c = λ v ts heard.
+pub descend-returns-in_err-found-clause-tells : goal.descend-returns-in_err-found-clause-tells
+descend-returns-in_err-found-clause-tells g t c = λ v ts heard.
     let w = c.args.self.now in
     let x = context (g.V.Verifier.verifies w.verifier.now) w.at w.strict in
     let asked = by_named_lists w.names x w.folder.now.lists in
     let certs = w.folder.now.certs in
-    let admits = IsLookedAt w.names (g.A.Admission.admits w.admission.now) c.args.top.now.cert certs in
-    let above = c.args.trail.now.above.items in (
-      [],
-      subst (λ (l : List Told). g.W.Visitor.became v l c.args.visitor.now) (sym (append-nil ts)) heard,
-      (λ root leads. ended_err x asked admits root certs above c.args.depth c.args.share.steps
-          c.unambiguous.ensures.certificate c.args.issuer.now leads [] c.from_residual.result
-          c.from_residual.ensures.0
-          (no_sound x asked admits root certs above c.args.share.steps)),
-    )
-
-pub descend-returns-then-is_in_circle-clause-tells : goal.descend-returns-then-is_in_circle-clause-tells
-descend-returns-then-is_in_circle-clause-tells g t c = λ v ts heard.
-    let w = c.args.self.now in
-    let x = context (g.V.Verifier.verifies w.verifier.now) w.at w.strict in
-    let asked = by_named_lists w.names x w.folder.now.lists in
-    let certs = w.folder.now.certs in
-    let admits = IsLookedAt w.names (g.A.Admission.admits w.admission.now) c.args.top.now.cert certs in
-    let above = c.args.trail.now.above.items in
-    let circle : EndsNoCircle w.names c.args.top.now.cert certs above →
-    ⊥ = subst (λ (l : List ℕ). EndsNoCircle w.names c.args.top.now.cert certs l → ⊥) c.deref.ensures.value
-    (c.in_ok-is_in_circle.ensures.circle c.if-is_in_circle.true) in (
-      [],
-      subst (λ (l : List Told). g.W.Visitor.became v l c.args.visitor.now) (sym (append-nil ts)) heard,
-      (λ root leads. ended_none x asked admits root certs above c.args.depth c.args.share.steps
-          c.unambiguous.ensures.certificate c.args.issuer.now leads {E = AllocError} []
-          (λ place looked child. circle looked.no_circle)
-          (no_sound x asked admits root certs above c.args.share.steps)),
-    )
-
-pub descend-enter-requires : goal.descend-enter-requires
-descend-enter-requires g t c =
-    let certs = c.args.self.now.folder.now.certs in
-    let own = c.args.issuer.now.cert.fields.extensions.subject_key_identifier in
-    let key = c.subject_key_identifier-key.ensures ∙ ap (λ (f : TbsFields). f.extensions.subject_key_identifier)
-    c.as_tbs.ensures ∙ ap (λ (d : CertFields). d.fields.extensions.subject_key_identifier)
-    c.as_cert.ensures in
-    record {
-      kept = c.requires.kept;
-      places = there certs c.subject_key_identifier-key.result own
-          c.signed_by-places.result.now key c.signed_by-places.ensures;
-    }
-
-pub descend-returns-in_err-at-clause-tells : goal.descend-returns-in_err-at-clause-tells
-descend-returns-in_err-at-clause-tells g t c = λ v ts heard.
-    let w = c.args.self.now in
-    let x = context (g.V.Verifier.verifies w.verifier.now) w.at w.strict in
-    let asked = by_named_lists w.names x w.folder.now.lists in
-    let certs = w.folder.now.certs in
-    let admits = g.A.Admission.admits w.admission.now in
-    let top = c.args.top.now.cert in
+    let looks = IsLookedAt w.names (g.A.Admission.admits w.admission.now) c.args.top.now.cert certs in
     let issuer = c.args.issuer.now in
     let above = c.args.trail.now.above.items in
     let law = c.unambiguous.ensures.certificate in
-    let none : EndsNoCircle w.names top certs above = subst (λ (l : List ℕ). EndsNoCircle w.names top certs l)
-    c.deref.ensures.value (c.in_ok-is_in_circle.ensures.none c.if-is_in_circle.false) in
-    let o = c.enter.ensures.told v ts heard in
-    let others : AllByRecursion
-    (IsToldOf x asked issuer certs above (Others x.verifies w.names admits issuer.cert certs above)) o.0 =
-    subst (λ (l : List ℕ).
-    AllByRecursion (IsToldOf x asked issuer certs l (Others x.verifies w.names admits issuer.cert certs l))
-    o.0) c.deref-2.ensures.value o.2 in (
+    let o = c.look_below.ensures.told v ts heard in
+    let others = told_here x asked certs issuer c.deref.result.now above c.deref.ensures.value looks o.0 o.2 in (
       o.0,
       o.1,
-      at_err x asked w.names admits top certs above c.args.depth c.args.share.steps law issuer
-          c.requires.last none o.0 others {E = AllocError} c.from_residual-in_err-at.result
-          c.from_residual-in_err-at.ensures.0,
+      at_err x asked looks certs above c.args.depth c.args.share.steps law issuer o.0 others {E = AllocError}
+          c.from_residual.result c.from_residual.ensures.0,
     )
 
-pub descend-returns-in_err-children-clause-tells : goal.descend-returns-in_err-children-clause-tells
-descend-returns-in_err-children-clause-tells g t c = λ v ts heard.
+pub descend-returns-in_default-clause-tells : goal.descend-returns-in_default-clause-tells
+descend-returns-in_default-clause-tells g t c = λ v ts heard.
     let w = c.args.self.now in
     let x = context (g.V.Verifier.verifies w.verifier.now) w.at w.strict in
     let asked = by_named_lists w.names x w.folder.now.lists in
     let certs = w.folder.now.certs in
-    let admits = g.A.Admission.admits w.admission.now in
-    let top = c.args.top.now.cert in
+    let looks = IsLookedAt w.names (g.A.Admission.admits w.admission.now) c.args.top.now.cert certs in
     let issuer = c.args.issuer.now in
     let above = c.args.trail.now.above.items in
     let law = c.unambiguous.ensures.certificate in
-    let none : EndsNoCircle w.names top certs above = subst (λ (l : List ℕ). EndsNoCircle w.names top certs l)
-    c.deref.ensures.value (c.in_ok-is_in_circle.ensures.none c.if-is_in_circle.false) in
-    let o = c.enter.ensures.told v ts heard in
-    let others : AllByRecursion
-    (IsToldOf x asked issuer certs above (Others x.verifies w.names admits issuer.cert certs above)) o.0 =
-    subst (λ (l : List ℕ).
-    AllByRecursion (IsToldOf x asked issuer certs l (Others x.verifies w.names admits issuer.cert certs l))
-    o.0) c.deref-2.ensures.value o.2 in (
+    let o = c.look_below.ensures.told v ts heard in
+    let others = told_here x asked certs issuer c.deref.result.now above c.deref.ensures.value looks o.0 o.2 in
+    let kids = none_here x asked certs issuer c.deref.result.now above c.deref.ensures.value looks
+    c.in_ok-found.found c.in_ok-found.ensures.found c.in_default.is in (
       o.0,
       o.1,
-      at_err x asked w.names admits top certs above c.args.depth c.args.share.steps law issuer
-          c.requires.last none o.0 others {E = AllocError} c.from_residual-in_err-children.result
-          c.from_residual-in_err-children.ensures.0,
+      at_none x asked looks certs above c.args.depth c.args.share.steps law issuer o.0 others [] kids
+          {E = AllocError} refl,
     )
 
-pub descend-returns-then-is_empty-2-clause-tells : goal.descend-returns-then-is_empty-2-clause-tells
-descend-returns-then-is_empty-2-clause-tells g t c = λ v ts heard.
+pub descend-returns-in_default-clause-limits : goal.descend-returns-in_default-clause-limits
+descend-returns-in_default-clause-limits g t c =
     let w = c.args.self.now in
     let x = context (g.V.Verifier.verifies w.verifier.now) w.at w.strict in
     let asked = by_named_lists w.names x w.folder.now.lists in
     let certs = w.folder.now.certs in
-    let admits = g.A.Admission.admits w.admission.now in
-    let top = c.args.top.now.cert in
+    let looks = IsLookedAt w.names (g.A.Admission.admits w.admission.now) c.args.top.now.cert certs in
     let issuer = c.args.issuer.now in
     let above = c.args.trail.now.above.items in
     let law = c.unambiguous.ensures.certificate in
-    let none : EndsNoCircle w.names top certs above = subst (λ (l : List ℕ). EndsNoCircle w.names top certs l)
-    c.deref.ensures.value (c.in_ok-is_in_circle.ensures.none c.if-is_in_circle.false) in
-    let o = c.enter.ensures.told v ts heard in
-    let others : AllByRecursion
-    (IsToldOf x asked issuer certs above (Others x.verifies w.names admits issuer.cert certs above)) o.0 =
-    subst (λ (l : List ℕ).
-    AllByRecursion (IsToldOf x asked issuer certs l (Others x.verifies w.names admits issuer.cert certs l))
-    o.0) c.deref-2.ensures.value o.2 in
-    let places = c.signed_by-places.result.now in
-    let own = issuer.cert.fields.extensions.subject_key_identifier in
-    let key = c.subject_key_identifier-key.ensures ∙ ap (λ (f : TbsFields). f.extensions.subject_key_identifier)
-    c.as_tbs.ensures ∙ ap (λ (d : CertFields). d.fields.extensions.subject_key_identifier)
-    c.as_cert.ensures in
-    let are = there certs c.subject_key_identifier-key.result own places key c.signed_by-places.ensures in
-    let children = c.in_ok-children.children.items in
-    let kids = kids_here x w.names admits issuer.cert w.folder.now above c.index-kept.result.now
-    c.deref-3.result.now c.deref-4.result.now children c.deref-3.ensures.value c.deref-4.ensures.value
-    (kept_at (λ (k : Issuer). IsKeptOf w.names x w.folder.now issuer.cert k) c.enter.new.issuers.kept.items
-    c.in_ok-at.at c.index-kept.result.now c.index-kept.ensures c.in_ok-at.ensures.found.1)
-    c.in_ok-children.ensures places are in (
-      o.0,
-      o.1,
-      at_none x asked w.names admits top certs above c.args.depth c.args.share.steps law issuer
-          c.requires.last none o.0 others places are children kids {E = AllocError}
-          (none_of children c.in_ok-children.children.len c.is_empty-2.result
-          (omega (arith, c.in_ok-children.children.ok.0)) c.is_empty-2.ensures c.if-is_empty-2.true),
-    )
+    let kids = none_here x asked certs issuer c.deref.result.now above c.deref.ensures.value looks
+    c.in_ok-found.found c.in_ok-found.ensures.found c.in_default.is in
+    keeps_childless x asked looks certs above c.args.depth c.args.share law issuer [] kids c.args.trail.now.limits
+    c.args.trail.now.limits refl
 
 pub descend-returns-then-depth-eq0-clause-tells : goal.descend-returns-then-depth-eq0-clause-tells
 descend-returns-then-depth-eq0-clause-tells g t c = λ v ts heard.
@@ -444,38 +282,37 @@ descend-returns-then-depth-eq0-clause-tells g t c = λ v ts heard.
     let x = context (g.V.Verifier.verifies w.verifier.now) w.at w.strict in
     let asked = by_named_lists w.names x w.folder.now.lists in
     let certs = w.folder.now.certs in
-    let admits = g.A.Admission.admits w.admission.now in
-    let top = c.args.top.now.cert in
+    let looks = IsLookedAt w.names (g.A.Admission.admits w.admission.now) c.args.top.now.cert certs in
     let issuer = c.args.issuer.now in
     let above = c.args.trail.now.above.items in
     let law = c.unambiguous.ensures.certificate in
-    let none : EndsNoCircle w.names top certs above = subst (λ (l : List ℕ). EndsNoCircle w.names top certs l)
-    c.deref.ensures.value (c.in_ok-is_in_circle.ensures.none c.if-is_in_circle.false) in
-    let o = c.enter.ensures.told v ts heard in
-    let others : AllByRecursion
-    (IsToldOf x asked issuer certs above (Others x.verifies w.names admits issuer.cert certs above)) o.0 =
-    subst (λ (l : List ℕ).
-    AllByRecursion (IsToldOf x asked issuer certs l (Others x.verifies w.names admits issuer.cert certs l))
-    o.0) c.deref-2.ensures.value o.2 in
-    let places = c.signed_by-places.result.now in
-    let own = issuer.cert.fields.extensions.subject_key_identifier in
-    let key = c.subject_key_identifier-key.ensures ∙ ap (λ (f : TbsFields). f.extensions.subject_key_identifier)
-    c.as_tbs.ensures ∙ ap (λ (d : CertFields). d.fields.extensions.subject_key_identifier)
-    c.as_cert.ensures in
-    let are = there certs c.subject_key_identifier-key.result own places key c.signed_by-places.ensures in
-    let children = c.in_ok-children.children.items in
-    let kids = kids_here x w.names admits issuer.cert w.folder.now above c.index-kept.result.now
-    c.deref-3.result.now c.deref-4.result.now children c.deref-3.ensures.value c.deref-4.ensures.value
-    (kept_at (λ (k : Issuer). IsKeptOf w.names x w.folder.now issuer.cert k) c.enter.new.issuers.kept.items
-    c.in_ok-at.at c.index-kept.result.now c.index-kept.ensures c.in_ok-at.ensures.found.1)
-    c.in_ok-children.ensures places are in (
+    let o = c.look_below.ensures.told v ts heard in
+    let others = told_here x asked certs issuer c.deref.result.now above c.deref.ensures.value looks o.0 o.2 in
+    let children = c.in-Some.below.children.items in
+    let kids = some_here x asked certs issuer c.deref.result.now above c.deref.ensures.value looks
+    c.in_ok-found.found c.in_ok-found.ensures.found c.in-Some.below c.in-Some.is in (
       o.0,
       o.1,
-      at_depth x asked w.names admits top certs above c.args.depth c.args.share.steps law issuer
-          c.requires.last none o.0 others places are children kids {E = AllocError} c.if-depth-eq0.true
-          (some_of children c.in_ok-children.children.len c.is_empty-2.result
-          (omega (arith, c.in_ok-children.children.ok.0)) c.is_empty-2.ensures c.if-is_empty-2.false),
+      at_depth x asked looks certs above c.args.depth c.args.share.steps law issuer o.0 others children kids.1
+          {E = AllocError} c.if-depth-eq0.true kids.0,
     )
+
+pub descend-returns-then-depth-eq0-clause-limits : goal.descend-returns-then-depth-eq0-clause-limits
+descend-returns-then-depth-eq0-clause-limits g t c =
+    let w = c.args.self.now in
+    let x = context (g.V.Verifier.verifies w.verifier.now) w.at w.strict in
+    let asked = by_named_lists w.names x w.folder.now.lists in
+    let certs = w.folder.now.certs in
+    let looks = IsLookedAt w.names (g.A.Admission.admits w.admission.now) c.args.top.now.cert certs in
+    let issuer = c.args.issuer.now in
+    let above = c.args.trail.now.above.items in
+    let law = c.unambiguous.ensures.certificate in
+    let children = c.in-Some.below.children.items in
+    let kids = some_here x asked certs issuer c.deref.result.now above c.deref.ensures.value looks
+    c.in_ok-found.found c.in_ok-found.ensures.found c.in-Some.below c.in-Some.is in
+    keeps_deep x asked looks certs above c.args.depth c.args.share law issuer children kids.1
+    c.args.trail.now.limits c.reach.new.self.limits c.if-depth-eq0.true kids.0
+    c.reach.ensures.counted
 
 pub descend-returns-then-len-share-clause-tells : goal.descend-returns-then-len-share-clause-tells
 descend-returns-then-len-share-clause-tells g t c = λ v ts heard.
@@ -483,66 +320,71 @@ descend-returns-then-len-share-clause-tells g t c = λ v ts heard.
     let x = context (g.V.Verifier.verifies w.verifier.now) w.at w.strict in
     let asked = by_named_lists w.names x w.folder.now.lists in
     let certs = w.folder.now.certs in
-    let admits = g.A.Admission.admits w.admission.now in
-    let top = c.args.top.now.cert in
+    let looks = IsLookedAt w.names (g.A.Admission.admits w.admission.now) c.args.top.now.cert certs in
     let issuer = c.args.issuer.now in
     let above = c.args.trail.now.above.items in
     let law = c.unambiguous.ensures.certificate in
-    let none : EndsNoCircle w.names top certs above = subst (λ (l : List ℕ). EndsNoCircle w.names top certs l)
-    c.deref.ensures.value (c.in_ok-is_in_circle.ensures.none c.if-is_in_circle.false) in
-    let o = c.enter.ensures.told v ts heard in
-    let others : AllByRecursion
-    (IsToldOf x asked issuer certs above (Others x.verifies w.names admits issuer.cert certs above)) o.0 =
-    subst (λ (l : List ℕ).
-    AllByRecursion (IsToldOf x asked issuer certs l (Others x.verifies w.names admits issuer.cert certs l))
-    o.0) c.deref-2.ensures.value o.2 in
-    let places = c.signed_by-places.result.now in
-    let own = issuer.cert.fields.extensions.subject_key_identifier in
-    let key = c.subject_key_identifier-key.ensures ∙ ap (λ (f : TbsFields). f.extensions.subject_key_identifier)
-    c.as_tbs.ensures ∙ ap (λ (d : CertFields). d.fields.extensions.subject_key_identifier)
-    c.as_cert.ensures in
-    let are = there certs c.subject_key_identifier-key.result own places key c.signed_by-places.ensures in
-    let children = c.in_ok-children.children.items in
-    let kids = kids_here x w.names admits issuer.cert w.folder.now above c.index-kept.result.now
-    c.deref-3.result.now c.deref-4.result.now children c.deref-3.ensures.value c.deref-4.ensures.value
-    (kept_at (λ (k : Issuer). IsKeptOf w.names x w.folder.now issuer.cert k) c.enter.new.issuers.kept.items
-    c.in_ok-at.at c.index-kept.result.now c.index-kept.ensures c.in_ok-at.ensures.found.1)
-    c.in_ok-children.ensures places are in
+    let o = c.look_below.ensures.told v ts heard in
+    let others = told_here x asked certs issuer c.deref.result.now above c.deref.ensures.value looks o.0 o.2 in
+    let children = c.in-Some.below.children.items in
+    let kids = some_here x asked certs issuer c.deref.result.now above c.deref.ensures.value looks
+    c.in_ok-found.found c.in_ok-found.ensures.found c.in-Some.below c.in-Some.is in
     let short : c.args.share.steps < length children =
-    omega (arith, c.if-len-share.true, c.len.ensures, c.in_ok-children.children.ok.0) in (
+    omega (arith, c.if-len-share.true, c.len.ensures, c.in-Some.below.children.ok.0) in (
       o.0,
       o.1,
-      at_short x asked w.names admits top certs above c.args.depth c.args.share.steps law issuer
-          c.requires.last none o.0 others places are children kids {E = AllocError} short,
+      at_short x asked looks certs above c.args.depth c.args.share.steps law issuer o.0 others children kids.1
+          {E = AllocError} short,
     )
+
+pub descend-returns-then-len-share-clause-limits : goal.descend-returns-then-len-share-clause-limits
+descend-returns-then-len-share-clause-limits g t c =
+    let w = c.args.self.now in
+    let x = context (g.V.Verifier.verifies w.verifier.now) w.at w.strict in
+    let asked = by_named_lists w.names x w.folder.now.lists in
+    let certs = w.folder.now.certs in
+    let looks = IsLookedAt w.names (g.A.Admission.admits w.admission.now) c.args.top.now.cert certs in
+    let issuer = c.args.issuer.now in
+    let above = c.args.trail.now.above.items in
+    let law = c.unambiguous.ensures.certificate in
+    let children = c.in-Some.below.children.items in
+    let kids = some_here x asked certs issuer c.deref.result.now above c.deref.ensures.value looks
+    c.in_ok-found.found c.in_ok-found.ensures.found c.in-Some.below c.in-Some.is in
+    let short : c.args.share.steps < length children =
+    omega (arith, c.if-len-share.true, c.len.ensures, c.in-Some.below.children.ok.0) in
+    let low : 0 < c.args.depth = omega (arith, c.if-depth-eq0.false) in
+    let one : c.len-then-len-share.result ≡ length children =
+    omega (arith, c.len-then-len-share.ensures, c.in-Some.below.children.ok.0) in
+    keeps_short x asked looks certs above c.args.depth c.args.share law issuer children kids.1
+    c.args.trail.now.limits c.reach-then-len-share.new.self.limits low short
+    c.needed.result
+    (λ base factor cost. subst (λ (n : ℕ). IsNumber c.needed.result (base + factor * n)) one
+    (c.needed.ensures base factor cost)) c.reach-then-len-share.ensures.counted
 
 pub descend-judge_children-requires : goal.descend-judge_children-requires
 descend-judge_children-requires g t c =
     let w = c.args.self.now in
-    let certs = w.folder.now.certs in
     let x = context (g.V.Verifier.verifies w.verifier.now) w.at w.strict in
-    let admits = g.A.Admission.admits w.admission.now in
+    let asked = by_named_lists w.names x w.folder.now.lists in
+    let certs = w.folder.now.certs in
+    let looks = IsLookedAt w.names (g.A.Admission.admits w.admission.now) c.args.top.now.cert certs in
     let issuer = c.args.issuer.now in
     let above = c.args.trail.now.above.items in
-    let own = issuer.cert.fields.extensions.subject_key_identifier in
-    let key = c.subject_key_identifier-key.ensures ∙ ap (λ (f : TbsFields). f.extensions.subject_key_identifier)
-    c.as_tbs.ensures ∙ ap (λ (d : CertFields). d.fields.extensions.subject_key_identifier)
-    c.as_cert.ensures in
-    let places = c.signed_by-places.result.now in
-    let are = there certs c.subject_key_identifier-key.result own places key c.signed_by-places.ensures in
-    let children = c.in_ok-children.children.items in
+    let law = c.unambiguous.ensures.certificate in
+    let children = c.in-Some.below.children.items in
+    let kids = some_here x asked certs issuer c.deref.result.now above c.deref.ensures.value looks
+    c.in_ok-found.found c.in_ok-found.ensures.found c.in-Some.below c.in-Some.is in
+    let at = subst (λ (b : Option Below). IfSome b (λ below. (below.at < length c.look_below.new.issuers.kept.items) ×
+    ((d : Issuer) → IsKeptOf w.names x w.folder.now issuer.cert
+    (slice_index_or c.look_below.new.issuers.kept.items below.at d)))) c.in-Some.is c.in_ok-found.ensures.at in
     let kept = kept_at (λ (k : Issuer). IsKeptOf w.names x w.folder.now issuer.cert k)
-    c.enter.new.issuers.kept.items c.in_ok-at.at c.index-kept.result.now c.index-kept.ensures
-    c.in_ok-at.ensures.found.1 in
-    let kids = kids_here x w.names admits issuer.cert w.folder.now above c.index-kept.result.now
-    c.deref-3.result.now c.deref-4.result.now children c.deref-3.ensures.value c.deref-4.ensures.value kept
-    c.in_ok-children.ensures places are in
+    c.look_below.new.issuers.kept.items c.in-Some.below.at c.index.result.now c.index.ensures at.1 in
     record {
-      inside = subst (λ (l : List ℕ). (p : ℕ) → Contains l p → p < length certs) (sym c.deref-6.ensures.value)
-          (λ p at. let child = (kids.only p at).1 in low_of certs child.cert p child.stands);
-      once = subst (λ (l : List ℕ). IsOnce l) (sym c.deref-6.ensures.value) kids.once;
+      inside = subst (λ (l : List ℕ). (p : ℕ) → Contains l p → p < length certs) (sym c.deref-3.ensures.value)
+          (λ p at. let child = (kids.1.only p at).1 in low_of certs child.cert p child.stands);
+      once = subst (λ (l : List ℕ). IsOnce l) (sym c.deref-3.ensures.value) kids.1.once;
       children = subst (λ (l : List ℕ). (p : ℕ) → Contains l p → IsChildOf x.verifies issuer.cert certs p)
-          (sym c.deref-6.ensures.value) (λ p at. (kids.only p at).1);
+          (sym c.deref-3.ensures.value) (λ p at. (kids.1.only p at).1);
       kept = kept.lists;
     }
 
@@ -552,107 +394,90 @@ descend-returns-in_err-cas-clause-tells g t c = λ v ts heard.
     let x = context (g.V.Verifier.verifies w.verifier.now) w.at w.strict in
     let asked = by_named_lists w.names x w.folder.now.lists in
     let certs = w.folder.now.certs in
-    let admits = g.A.Admission.admits w.admission.now in
-    let top = c.args.top.now.cert in
+    let looks = IsLookedAt w.names (g.A.Admission.admits w.admission.now) c.args.top.now.cert certs in
     let issuer = c.args.issuer.now in
     let above = c.args.trail.now.above.items in
     let law = c.unambiguous.ensures.certificate in
-    let none : EndsNoCircle w.names top certs above = subst (λ (l : List ℕ). EndsNoCircle w.names top certs l)
-    c.deref.ensures.value (c.in_ok-is_in_circle.ensures.none c.if-is_in_circle.false) in
-    let o = c.enter.ensures.told v ts heard in
-    let others : AllByRecursion
-    (IsToldOf x asked issuer certs above (Others x.verifies w.names admits issuer.cert certs above)) o.0 =
-    subst (λ (l : List ℕ).
-    AllByRecursion (IsToldOf x asked issuer certs l (Others x.verifies w.names admits issuer.cert certs l))
-    o.0) c.deref-2.ensures.value o.2 in
-    let places = c.signed_by-places.result.now in
-    let own = issuer.cert.fields.extensions.subject_key_identifier in
-    let key = c.subject_key_identifier-key.ensures ∙ ap (λ (f : TbsFields). f.extensions.subject_key_identifier)
-    c.as_tbs.ensures ∙ ap (λ (d : CertFields). d.fields.extensions.subject_key_identifier)
-    c.as_cert.ensures in
-    let are = there certs c.subject_key_identifier-key.result own places key c.signed_by-places.ensures in
-    let children = c.in_ok-children.children.items in
-    let kids = kids_here x w.names admits issuer.cert w.folder.now above c.index-kept.result.now
-    c.deref-3.result.now c.deref-4.result.now children c.deref-3.ensures.value c.deref-4.ensures.value
-    (kept_at (λ (k : Issuer). IsKeptOf w.names x w.folder.now issuer.cert k) c.enter.new.issuers.kept.items
-    c.in_ok-at.at c.index-kept.result.now c.index-kept.ensures c.in_ok-at.ensures.found.1)
-    c.in_ok-children.ensures places are in
+    let o = c.look_below.ensures.told v ts heard in
+    let others = told_here x asked certs issuer c.deref.result.now above c.deref.ensures.value looks o.0 o.2 in
+    let children = c.in-Some.below.children.items in
+    let kids = some_here x asked certs issuer c.deref.result.now above c.deref.ensures.value looks
+    c.in_ok-found.found c.in_ok-found.ensures.found c.in-Some.below c.in-Some.is in
     let us = c.judge_children.ensures v (ts ++ o.0) o.1 in
-    let told : AllByRecursion (IsToldOf x asked issuer certs above (λ p. Contains children p)) us.0 =
-    subst (λ (k : List ℕ). AllByRecursion (IsToldOf x asked issuer certs above (λ p. Contains k p)) us.0)
-    c.deref-6.ensures.value
-    (subst (λ (l : List ℕ). AllByRecursion (IsToldOf x asked issuer certs l (λ p. Contains c.deref-6.result.now p))
-    us.0) c.deref-5.ensures.value us.3) in
-    let few : length us.0 ≤ length children = subst (λ (k : List ℕ). length us.0 ≤ length k) c.deref-6.ensures.value
-    us.2 in
+    let told = children_here x asked certs issuer c.deref-2.result.now above c.deref-2.ensures.value
+    c.deref-3.result.now children c.deref-3.ensures.value us.0 us.2 us.3 in
     let enough : length children ≤ c.args.share.steps =
-    omega (arith, c.if-len-share.false, c.len.ensures, c.in_ok-children.children.ok.0) in (
+    omega (arith, c.if-len-share.false, c.len.ensures, c.in-Some.below.children.ok.0) in (
       o.0 ++ us.0,
       subst (λ (l : List Told). g.W.Visitor.became v l c.judge_children.new.visitor) (append_assoc ts o.0 us.0) us.1,
-      judged_err x asked w.names admits top certs above c.args.depth c.args.share.steps law issuer c.requires.last
-          none o.0 others places are children kids enough us.0 few told {E = AllocError}
+      judged_err x asked looks certs above c.args.depth c.args.share.steps law issuer o.0 others children kids.1
+          enough us.0 told.0 told.1 {E = AllocError}
           c.from_residual-in_err-cas.result c.from_residual-in_err-cas.ensures.0,
     )
 
-pub descend-returns-then-is_empty-3-clause-tells : goal.descend-returns-then-is_empty-3-clause-tells
-descend-returns-then-is_empty-3-clause-tells g t c = λ v ts heard.
+pub descend-returns-then-is_empty-clause-tells : goal.descend-returns-then-is_empty-clause-tells
+descend-returns-then-is_empty-clause-tells g t c = λ v ts heard.
     let w = c.args.self.now in
     let x = context (g.V.Verifier.verifies w.verifier.now) w.at w.strict in
     let asked = by_named_lists w.names x w.folder.now.lists in
     let certs = w.folder.now.certs in
-    let admits = g.A.Admission.admits w.admission.now in
-    let top = c.args.top.now.cert in
+    let looks = IsLookedAt w.names (g.A.Admission.admits w.admission.now) c.args.top.now.cert certs in
     let issuer = c.args.issuer.now in
     let above = c.args.trail.now.above.items in
     let law = c.unambiguous.ensures.certificate in
-    let none : EndsNoCircle w.names top certs above = subst (λ (l : List ℕ). EndsNoCircle w.names top certs l)
-    c.deref.ensures.value (c.in_ok-is_in_circle.ensures.none c.if-is_in_circle.false) in
-    let o = c.enter.ensures.told v ts heard in
-    let others : AllByRecursion
-    (IsToldOf x asked issuer certs above (Others x.verifies w.names admits issuer.cert certs above)) o.0 =
-    subst (λ (l : List ℕ).
-    AllByRecursion (IsToldOf x asked issuer certs l (Others x.verifies w.names admits issuer.cert certs l))
-    o.0) c.deref-2.ensures.value o.2 in
-    let places = c.signed_by-places.result.now in
-    let own = issuer.cert.fields.extensions.subject_key_identifier in
-    let key = c.subject_key_identifier-key.ensures ∙ ap (λ (f : TbsFields). f.extensions.subject_key_identifier)
-    c.as_tbs.ensures ∙ ap (λ (d : CertFields). d.fields.extensions.subject_key_identifier)
-    c.as_cert.ensures in
-    let are = there certs c.subject_key_identifier-key.result own places key c.signed_by-places.ensures in
-    let children = c.in_ok-children.children.items in
-    let kids = kids_here x w.names admits issuer.cert w.folder.now above c.index-kept.result.now
-    c.deref-3.result.now c.deref-4.result.now children c.deref-3.ensures.value c.deref-4.ensures.value
-    (kept_at (λ (k : Issuer). IsKeptOf w.names x w.folder.now issuer.cert k) c.enter.new.issuers.kept.items
-    c.in_ok-at.at c.index-kept.result.now c.index-kept.ensures c.in_ok-at.ensures.found.1)
-    c.in_ok-children.ensures places are in
+    let o = c.look_below.ensures.told v ts heard in
+    let others = told_here x asked certs issuer c.deref.result.now above c.deref.ensures.value looks o.0 o.2 in
+    let children = c.in-Some.below.children.items in
+    let kids = some_here x asked certs issuer c.deref.result.now above c.deref.ensures.value looks
+    c.in_ok-found.found c.in_ok-found.ensures.found c.in-Some.below c.in-Some.is in
     let us = c.judge_children.ensures v (ts ++ o.0) o.1 in
-    let told : AllByRecursion (IsToldOf x asked issuer certs above (λ p. Contains children p)) us.0 =
-    subst (λ (k : List ℕ). AllByRecursion (IsToldOf x asked issuer certs above (λ p. Contains k p)) us.0)
-    c.deref-6.ensures.value
-    (subst (λ (l : List ℕ). AllByRecursion (IsToldOf x asked issuer certs l (λ p. Contains c.deref-6.result.now p))
-    us.0) c.deref-5.ensures.value us.3) in
-    let few : length us.0 ≤ length children = subst (λ (k : List ℕ). length us.0 ≤ length k) c.deref-6.ensures.value
-    us.2 in
+    let told = children_here x asked certs issuer c.deref-2.result.now above c.deref-2.ensures.value
+    c.deref-3.result.now children c.deref-3.ensures.value us.0 us.2 us.3 in
     let enough : length children ≤ c.args.share.steps =
-    omega (arith, c.if-len-share.false, c.len.ensures, c.in_ok-children.children.ok.0) in
+    omega (arith, c.if-len-share.false, c.len.ensures, c.in-Some.below.children.ok.0) in
     let cas = c.in_ok-cas.cas.items in
     let low : 0 < c.args.depth = omega (arith, c.if-depth-eq0.false) in
-    let j : AreJudged x asked issuer certs above children cas us.0 =
-    subst (λ (k : List ℕ). AreJudged x asked issuer certs above k cas us.0) c.deref-6.ensures.value
-    (subst (λ (l : List ℕ). AreJudged x asked issuer certs l c.deref-6.result.now cas us.0) c.deref-5.ensures.value
-    (if_ok (λ (k : Vec Ca). AreJudged x asked issuer certs c.deref-5.result.now c.deref-6.result.now k.items
-    us.0) c.judge_children.result c.in_ok-cas.cas c.in_ok-cas.was us.4)) in (
+    let j = judged_here x asked certs issuer c.deref-2.result.now above c.deref-2.ensures.value
+    c.deref-3.result.now children c.deref-3.ensures.value us.0 c.judge_children.result c.in_ok-cas.cas
+    c.in_ok-cas.was us.4 in (
       o.0 ++ us.0,
       subst (λ (l : List Told). g.W.Visitor.became v l c.judge_children.new.visitor) (append_assoc ts o.0 us.0) us.1,
-      at_last x asked w.names admits top certs above c.args.depth c.args.share.steps law issuer c.requires.last none
-          o.0 others places are children kids enough us.0 few told cas j low {E = AllocError}
-          (none_of cas c.in_ok-cas.cas.len c.is_empty-3.result (omega (arith, c.in_ok-cas.cas.ok.0))
-          c.is_empty-3.ensures c.if-is_empty-3.true),
+      at_last x asked looks certs above c.args.depth c.args.share.steps law issuer o.0 others children kids.1 enough
+          us.0 told.0 told.1 cas j low {E = AllocError}
+          (none_of cas c.in_ok-cas.cas.len c.is_empty.result (omega (arith, c.in_ok-cas.cas.ok.0)) c.is_empty.ensures
+          c.if-is_empty.true),
     )
+
+pub descend-returns-then-is_empty-clause-limits : goal.descend-returns-then-is_empty-clause-limits
+descend-returns-then-is_empty-clause-limits g t c =
+    let w = c.args.self.now in
+    let x = context (g.V.Verifier.verifies w.verifier.now) w.at w.strict in
+    let asked = by_named_lists w.names x w.folder.now.lists in
+    let certs = w.folder.now.certs in
+    let looks = IsLookedAt w.names (g.A.Admission.admits w.admission.now) c.args.top.now.cert certs in
+    let issuer = c.args.issuer.now in
+    let above = c.args.trail.now.above.items in
+    let law = c.unambiguous.ensures.certificate in
+    let children = c.in-Some.below.children.items in
+    let kids = some_here x asked certs issuer c.deref.result.now above c.deref.ensures.value looks
+    c.in_ok-found.found c.in_ok-found.ensures.found c.in-Some.below c.in-Some.is in
+    let o = c.look_below.ensures.told c.args.visitor.now [] (g.met.W.Visitor.begins c.args.visitor.now) in
+    let us = c.judge_children.ensures c.args.visitor.now ([] ++ o.0) o.1 in
+    let enough : length children ≤ c.args.share.steps =
+    omega (arith, c.if-len-share.false, c.len.ensures, c.in-Some.below.children.ok.0) in
+    let cas = c.in_ok-cas.cas.items in
+    let low : 0 < c.args.depth = omega (arith, c.if-depth-eq0.false) in
+    let j = judged_here x asked certs issuer c.deref-2.result.now above c.deref-2.ensures.value
+    c.deref-3.result.now children c.deref-3.ensures.value us.0 c.judge_children.result c.in_ok-cas.cas
+    c.in_ok-cas.was us.4 in
+    keeps_last x asked looks certs above c.args.depth c.args.share law issuer children kids.1
+    c.args.trail.now.limits c.args.trail.now.limits low enough cas us.0 j
+    (none_of cas c.in_ok-cas.cas.len c.is_empty.result (omega (arith, c.in_ok-cas.cas.ok.0)) c.is_empty.ensures
+    c.if-is_empty.true)
 
 pub descend-each_below-requires : goal.descend-each_below-requires
 descend-each_below-requires g t c =
-    let v = c.enter.new.visitor in
+    let v = c.look_below.new.visitor in
     let w = c.args.self.now in
     let x = context (g.V.Verifier.verifies w.verifier.now) w.at w.strict in
     let asked = by_named_lists w.names x w.folder.now.lists in
@@ -660,14 +485,14 @@ descend-each_below-requires g t c =
     let issuer = c.args.issuer.now in
     let us = c.judge_children.ensures v [] (g.met.W.Visitor.begins v) in
     let cas = c.in_ok-cas.cas.items in
-    let j = if_ok (λ (k : Vec Ca). AreJudged x asked issuer certs c.deref-5.result.now c.deref-6.result.now k.items
+    let j = if_ok (λ (k : Vec Ca). AreJudged x asked issuer certs c.deref-2.result.now c.deref-3.result.now k.items
     us.0) c.judge_children.result c.in_ok-cas.cas c.in_ok-cas.was us.4 in
     let stand : (ca : Ca) → Contains cas ca → StandsAt certs ca.place ca.holder.cert = λ ca at. let o =
     (j.only ca at).1 in ca_stands x asked issuer certs ca.place o.0 ca.holder o.1 in
     let inside = c.requires.inside in
     let stands = subst (λ (l : List Ca). (ca : Ca) → Contains l ca → StandsAt certs ca.place ca.holder.cert)
-    (sym c.deref-7.ensures.value) stand in
-    let kept = c.in_ok-at.ensures.kept in
+    (sym c.deref-4.ensures.value) stand in
+    let kept = c.in_ok-found.ensures.kept in
     search (rules, inside, stands, kept)
 
 pub descend-returns-clause-tells : goal.descend-returns-clause-tells
@@ -676,206 +501,40 @@ descend-returns-clause-tells g t c = λ v ts heard.
     let x = context (g.V.Verifier.verifies w.verifier.now) w.at w.strict in
     let asked = by_named_lists w.names x w.folder.now.lists in
     let certs = w.folder.now.certs in
-    let admits = g.A.Admission.admits w.admission.now in
-    let top = c.args.top.now.cert in
+    let looks = IsLookedAt w.names (g.A.Admission.admits w.admission.now) c.args.top.now.cert certs in
     let issuer = c.args.issuer.now in
     let above = c.args.trail.now.above.items in
     let law = c.unambiguous.ensures.certificate in
-    let none : EndsNoCircle w.names top certs above = subst (λ (l : List ℕ). EndsNoCircle w.names top certs l)
-    c.deref.ensures.value (c.in_ok-is_in_circle.ensures.none c.if-is_in_circle.false) in
-    let o = c.enter.ensures.told v ts heard in
-    let others : AllByRecursion
-    (IsToldOf x asked issuer certs above (Others x.verifies w.names admits issuer.cert certs above)) o.0 =
-    subst (λ (l : List ℕ).
-    AllByRecursion (IsToldOf x asked issuer certs l (Others x.verifies w.names admits issuer.cert certs l))
-    o.0) c.deref-2.ensures.value o.2 in
-    let places = c.signed_by-places.result.now in
-    let own = issuer.cert.fields.extensions.subject_key_identifier in
-    let key = c.subject_key_identifier-key.ensures ∙ ap (λ (f : TbsFields). f.extensions.subject_key_identifier)
-    c.as_tbs.ensures ∙ ap (λ (d : CertFields). d.fields.extensions.subject_key_identifier)
-    c.as_cert.ensures in
-    let are = there certs c.subject_key_identifier-key.result own places key c.signed_by-places.ensures in
-    let children = c.in_ok-children.children.items in
-    let kids = kids_here x w.names admits issuer.cert w.folder.now above c.index-kept.result.now
-    c.deref-3.result.now c.deref-4.result.now children c.deref-3.ensures.value c.deref-4.ensures.value
-    (kept_at (λ (k : Issuer). IsKeptOf w.names x w.folder.now issuer.cert k) c.enter.new.issuers.kept.items
-    c.in_ok-at.at c.index-kept.result.now c.index-kept.ensures c.in_ok-at.ensures.found.1)
-    c.in_ok-children.ensures places are in
+    let o = c.look_below.ensures.told v ts heard in
+    let others = told_here x asked certs issuer c.deref.result.now above c.deref.ensures.value looks o.0 o.2 in
+    let children = c.in-Some.below.children.items in
+    let kids = some_here x asked certs issuer c.deref.result.now above c.deref.ensures.value looks
+    c.in_ok-found.found c.in_ok-found.ensures.found c.in-Some.below c.in-Some.is in
     let us = c.judge_children.ensures v (ts ++ o.0) o.1 in
-    let told : AllByRecursion (IsToldOf x asked issuer certs above (λ p. Contains children p)) us.0 =
-    subst (λ (k : List ℕ). AllByRecursion (IsToldOf x asked issuer certs above (λ p. Contains k p)) us.0)
-    c.deref-6.ensures.value
-    (subst (λ (l : List ℕ). AllByRecursion (IsToldOf x asked issuer certs l (λ p. Contains c.deref-6.result.now p))
-    us.0) c.deref-5.ensures.value us.3) in
-    let few : length us.0 ≤ length children = subst (λ (k : List ℕ). length us.0 ≤ length k) c.deref-6.ensures.value
-    us.2 in
+    let told = children_here x asked certs issuer c.deref-2.result.now above c.deref-2.ensures.value
+    c.deref-3.result.now children c.deref-3.ensures.value us.0 us.2 us.3 in
     let enough : length children ≤ c.args.share.steps =
-    omega (arith, c.if-len-share.false, c.len.ensures, c.in_ok-children.children.ok.0) in
+    omega (arith, c.if-len-share.false, c.len.ensures, c.in-Some.below.children.ok.0) in
     let cas = c.in_ok-cas.cas.items in
     let low : 0 < c.args.depth = omega (arith, c.if-depth-eq0.false) in
-    let j : AreJudged x asked issuer certs above children cas us.0 =
-    subst (λ (k : List ℕ). AreJudged x asked issuer certs above k cas us.0) c.deref-6.ensures.value
-    (subst (λ (l : List ℕ). AreJudged x asked issuer certs l c.deref-6.result.now cas us.0) c.deref-5.ensures.value
-    (if_ok (λ (k : Vec Ca). AreJudged x asked issuer certs c.deref-5.result.now c.deref-6.result.now k.items
-    us.0) c.judge_children.result c.in_ok-cas.cas c.in_ok-cas.was us.4)) in
+    let j = judged_here x asked certs issuer c.deref-2.result.now above c.deref-2.ensures.value
+    c.deref-3.result.now children c.deref-3.ensures.value us.0 c.judge_children.result c.in_ok-cas.cas
+    c.in_ok-cas.was us.4 in
     let next = c.below-next.result.steps in
-    let one : c.len-2.result ≡ length children = omega (arith, c.len-2.ensures, c.in_ok-children.children.ok.0) in
+    let one : c.len-2.result ≡ length children = omega (arith, c.len-2.ensures, c.in-Some.below.children.ok.0) in
     let other : c.len-3.result ≡ length cas = omega (arith, c.len-3.ensures, c.in_ok-cas.cas.ok.0) in
     let b = c.each_below.ensures.tells v ((ts ++ o.0) ++ us.0) us.1 in
-    let walks = subst (λ (l : List Ca). WalksBelowEach {E = AllocError} x asked
-    (IsLookedAt w.names admits top certs) certs above (c.args.depth - 1) next l c.each_below.result b.0)
-    c.deref-7.ensures.value b.2 in (
+    let walks = subst (λ (l : List Ca). WalksBelowEach {E = AllocError} x asked looks certs above (c.args.depth - 1)
+    next l c.each_below.result b.0) c.deref-4.ensures.value b.2 in (
       o.0 ++ (us.0 ++ b.0),
       subst (λ (l : List Told). g.W.Visitor.became v l c.each_below.new.visitor)
           (ap (λ (l : List Told). l ++ b.0) (append_assoc ts o.0 us.0) ∙ append_assoc ts (o.0 ++ us.0) b.0 ∙
           ap (λ (l : List Told). ts ++ l) (append_assoc o.0 us.0 b.0)) b.1,
-      at_each x asked w.names admits top certs above c.args.depth c.args.share.steps law issuer c.requires.last none
-          o.0 others places are children kids enough us.0 few told cas j low {E = AllocError} next
+      at_each x asked looks certs above c.args.depth c.args.share.steps law issuer o.0 others children kids.1 enough
+          us.0 told.0 told.1 cas j low {E = AllocError} next
           (λ some. c.below-next.ensures.steps ∙ ap (λ (n : ℕ). (c.args.share.steps - n) / c.len-3.result) one ∙
           ap (λ (n : ℕ). (c.args.share.steps - length children) / n) other) c.each_below.result b.0 walks,
     )
-
-pub descend-returns-then-is_empty-2-clause-limits : goal.descend-returns-then-is_empty-2-clause-limits
-descend-returns-then-is_empty-2-clause-limits g t c =
-    let w = c.args.self.now in
-    let x = context (g.V.Verifier.verifies w.verifier.now) w.at w.strict in
-    let asked = by_named_lists w.names x w.folder.now.lists in
-    let certs = w.folder.now.certs in
-    let admits = g.A.Admission.admits w.admission.now in
-    let top = c.args.top.now.cert in
-    let issuer = c.args.issuer.now in
-    let above = c.args.trail.now.above.items in
-    let law = c.unambiguous.ensures.certificate in
-    let none : EndsNoCircle w.names top certs above = subst (λ (l : List ℕ). EndsNoCircle w.names top certs l)
-    c.deref.ensures.value (c.in_ok-is_in_circle.ensures.none c.if-is_in_circle.false) in
-    let places = c.signed_by-places.result.now in
-    let own = issuer.cert.fields.extensions.subject_key_identifier in
-    let key = c.subject_key_identifier-key.ensures ∙ ap (λ (f : TbsFields). f.extensions.subject_key_identifier)
-    c.as_tbs.ensures ∙ ap (λ (d : CertFields). d.fields.extensions.subject_key_identifier)
-    c.as_cert.ensures in
-    let are = there certs c.subject_key_identifier-key.result own places key c.signed_by-places.ensures in
-    let children = c.in_ok-children.children.items in
-    let kids = kids_here x w.names admits issuer.cert w.folder.now above c.index-kept.result.now
-    c.deref-3.result.now c.deref-4.result.now children c.deref-3.ensures.value c.deref-4.ensures.value
-    (kept_at (λ (k : Issuer). IsKeptOf w.names x w.folder.now issuer.cert k) c.enter.new.issuers.kept.items
-    c.in_ok-at.at c.index-kept.result.now c.index-kept.ensures c.in_ok-at.ensures.found.1)
-    c.in_ok-children.ensures places are in
-    let old = c.args.trail.now.limits in
-    keeps_childless x asked w.names admits top certs above c.args.depth c.args.share law issuer c.requires.last none
-    places are children kids old old
-    (none_of children c.in_ok-children.children.len c.is_empty-2.result
-    (omega (arith, c.in_ok-children.children.ok.0)) c.is_empty-2.ensures c.if-is_empty-2.true)
-
-pub descend-returns-then-depth-eq0-clause-limits : goal.descend-returns-then-depth-eq0-clause-limits
-descend-returns-then-depth-eq0-clause-limits g t c =
-    let w = c.args.self.now in
-    let x = context (g.V.Verifier.verifies w.verifier.now) w.at w.strict in
-    let asked = by_named_lists w.names x w.folder.now.lists in
-    let certs = w.folder.now.certs in
-    let admits = g.A.Admission.admits w.admission.now in
-    let top = c.args.top.now.cert in
-    let issuer = c.args.issuer.now in
-    let above = c.args.trail.now.above.items in
-    let law = c.unambiguous.ensures.certificate in
-    let none : EndsNoCircle w.names top certs above = subst (λ (l : List ℕ). EndsNoCircle w.names top certs l)
-    c.deref.ensures.value (c.in_ok-is_in_circle.ensures.none c.if-is_in_circle.false) in
-    let places = c.signed_by-places.result.now in
-    let own = issuer.cert.fields.extensions.subject_key_identifier in
-    let key = c.subject_key_identifier-key.ensures ∙ ap (λ (f : TbsFields). f.extensions.subject_key_identifier)
-    c.as_tbs.ensures ∙ ap (λ (d : CertFields). d.fields.extensions.subject_key_identifier)
-    c.as_cert.ensures in
-    let are = there certs c.subject_key_identifier-key.result own places key c.signed_by-places.ensures in
-    let children = c.in_ok-children.children.items in
-    let kids = kids_here x w.names admits issuer.cert w.folder.now above c.index-kept.result.now
-    c.deref-3.result.now c.deref-4.result.now children c.deref-3.ensures.value c.deref-4.ensures.value
-    (kept_at (λ (k : Issuer). IsKeptOf w.names x w.folder.now issuer.cert k) c.enter.new.issuers.kept.items
-    c.in_ok-at.at c.index-kept.result.now c.index-kept.ensures c.in_ok-at.ensures.found.1)
-    c.in_ok-children.ensures places are in
-    let old = c.args.trail.now.limits in
-    keeps_deep x asked w.names admits top certs above c.args.depth c.args.share law issuer c.requires.last none
-    places are children kids old c.reach.new.self.limits c.if-depth-eq0.true
-    (some_of children c.in_ok-children.children.len c.is_empty-2.result
-    (omega (arith, c.in_ok-children.children.ok.0)) c.is_empty-2.ensures c.if-is_empty-2.false)
-    c.reach.ensures.counted
-
-pub descend-returns-then-len-share-clause-limits : goal.descend-returns-then-len-share-clause-limits
-descend-returns-then-len-share-clause-limits g t c =
-    let w = c.args.self.now in
-    let x = context (g.V.Verifier.verifies w.verifier.now) w.at w.strict in
-    let asked = by_named_lists w.names x w.folder.now.lists in
-    let certs = w.folder.now.certs in
-    let admits = g.A.Admission.admits w.admission.now in
-    let top = c.args.top.now.cert in
-    let issuer = c.args.issuer.now in
-    let above = c.args.trail.now.above.items in
-    let law = c.unambiguous.ensures.certificate in
-    let none : EndsNoCircle w.names top certs above = subst (λ (l : List ℕ). EndsNoCircle w.names top certs l)
-    c.deref.ensures.value (c.in_ok-is_in_circle.ensures.none c.if-is_in_circle.false) in
-    let places = c.signed_by-places.result.now in
-    let own = issuer.cert.fields.extensions.subject_key_identifier in
-    let key = c.subject_key_identifier-key.ensures ∙ ap (λ (f : TbsFields). f.extensions.subject_key_identifier)
-    c.as_tbs.ensures ∙ ap (λ (d : CertFields). d.fields.extensions.subject_key_identifier)
-    c.as_cert.ensures in
-    let are = there certs c.subject_key_identifier-key.result own places key c.signed_by-places.ensures in
-    let children = c.in_ok-children.children.items in
-    let kids = kids_here x w.names admits issuer.cert w.folder.now above c.index-kept.result.now
-    c.deref-3.result.now c.deref-4.result.now children c.deref-3.ensures.value c.deref-4.ensures.value
-    (kept_at (λ (k : Issuer). IsKeptOf w.names x w.folder.now issuer.cert k) c.enter.new.issuers.kept.items
-    c.in_ok-at.at c.index-kept.result.now c.index-kept.ensures c.in_ok-at.ensures.found.1)
-    c.in_ok-children.ensures places are in
-    let old = c.args.trail.now.limits in
-    let low : 0 < c.args.depth = omega (arith, c.if-depth-eq0.false) in
-    let short : c.args.share.steps < length children =
-    omega (arith, c.if-len-share.true, c.len.ensures, c.in_ok-children.children.ok.0) in
-    let one : c.len-then-len-share.result ≡ length children =
-    omega (arith, c.len-then-len-share.ensures, c.in_ok-children.children.ok.0) in
-    keeps_short x asked w.names admits top certs above c.args.depth c.args.share law issuer c.requires.last none
-    places are children kids old c.reach-then-len-share.new.self.limits low short c.needed.result
-    (λ base factor cost. subst (λ (n : ℕ). IsNumber c.needed.result (base + factor * n)) one
-    (c.needed.ensures base factor cost)) c.reach-then-len-share.ensures.counted
-
-pub descend-returns-then-is_empty-3-clause-limits : goal.descend-returns-then-is_empty-3-clause-limits
-descend-returns-then-is_empty-3-clause-limits g t c =
-    let w = c.args.self.now in
-    let x = context (g.V.Verifier.verifies w.verifier.now) w.at w.strict in
-    let asked = by_named_lists w.names x w.folder.now.lists in
-    let certs = w.folder.now.certs in
-    let admits = g.A.Admission.admits w.admission.now in
-    let top = c.args.top.now.cert in
-    let issuer = c.args.issuer.now in
-    let above = c.args.trail.now.above.items in
-    let law = c.unambiguous.ensures.certificate in
-    let none : EndsNoCircle w.names top certs above = subst (λ (l : List ℕ). EndsNoCircle w.names top certs l)
-    c.deref.ensures.value (c.in_ok-is_in_circle.ensures.none c.if-is_in_circle.false) in
-    let places = c.signed_by-places.result.now in
-    let own = issuer.cert.fields.extensions.subject_key_identifier in
-    let key = c.subject_key_identifier-key.ensures ∙ ap (λ (f : TbsFields). f.extensions.subject_key_identifier)
-    c.as_tbs.ensures ∙ ap (λ (d : CertFields). d.fields.extensions.subject_key_identifier)
-    c.as_cert.ensures in
-    let are = there certs c.subject_key_identifier-key.result own places key c.signed_by-places.ensures in
-    let children = c.in_ok-children.children.items in
-    let kids = kids_here x w.names admits issuer.cert w.folder.now above c.index-kept.result.now
-    c.deref-3.result.now c.deref-4.result.now children c.deref-3.ensures.value c.deref-4.ensures.value
-    (kept_at (λ (k : Issuer). IsKeptOf w.names x w.folder.now issuer.cert k) c.enter.new.issuers.kept.items
-    c.in_ok-at.at c.index-kept.result.now c.index-kept.ensures c.in_ok-at.ensures.found.1)
-    c.in_ok-children.ensures places are in
-    let old = c.args.trail.now.limits in
-    let new = c.args.trail.now.limits in
-    let o = c.enter.ensures.told c.args.visitor.now [] (g.met.W.Visitor.begins c.args.visitor.now) in
-    let us = c.judge_children.ensures c.args.visitor.now ([] ++ o.0) o.1 in
-    let enough : length children ≤ c.args.share.steps =
-    omega (arith, c.if-len-share.false, c.len.ensures, c.in_ok-children.children.ok.0) in
-    let cas = c.in_ok-cas.cas.items in
-    let low : 0 < c.args.depth = omega (arith, c.if-depth-eq0.false) in
-    let j : AreJudged x asked issuer certs above children cas us.0 =
-    subst (λ (k : List ℕ). AreJudged x asked issuer certs above k cas us.0) c.deref-6.ensures.value
-    (subst (λ (l : List ℕ). AreJudged x asked issuer certs l c.deref-6.result.now cas us.0) c.deref-5.ensures.value
-    (if_ok (λ (k : Vec Ca). AreJudged x asked issuer certs c.deref-5.result.now c.deref-6.result.now k.items
-    us.0) c.judge_children.result c.in_ok-cas.cas c.in_ok-cas.was us.4)) in
-    keeps_last x asked w.names admits top certs above c.args.depth c.args.share law issuer c.requires.last none
-    places are children kids old new low enough cas us.0 j
-    (none_of cas c.in_ok-cas.cas.len c.is_empty-3.result (omega (arith, c.in_ok-cas.cas.ok.0))
-    c.is_empty-3.ensures c.if-is_empty-3.true)
 
 pub descend-returns-clause-limits : goal.descend-returns-clause-limits
 descend-returns-clause-limits g t c =
@@ -883,52 +542,37 @@ descend-returns-clause-limits g t c =
     let x = context (g.V.Verifier.verifies w.verifier.now) w.at w.strict in
     let asked = by_named_lists w.names x w.folder.now.lists in
     let certs = w.folder.now.certs in
-    let admits = g.A.Admission.admits w.admission.now in
-    let top = c.args.top.now.cert in
+    let looks = IsLookedAt w.names (g.A.Admission.admits w.admission.now) c.args.top.now.cert certs in
     let issuer = c.args.issuer.now in
     let above = c.args.trail.now.above.items in
     let law = c.unambiguous.ensures.certificate in
-    let none : EndsNoCircle w.names top certs above = subst (λ (l : List ℕ). EndsNoCircle w.names top certs l)
-    c.deref.ensures.value (c.in_ok-is_in_circle.ensures.none c.if-is_in_circle.false) in
-    let places = c.signed_by-places.result.now in
-    let own = issuer.cert.fields.extensions.subject_key_identifier in
-    let key = c.subject_key_identifier-key.ensures ∙ ap (λ (f : TbsFields). f.extensions.subject_key_identifier)
-    c.as_tbs.ensures ∙ ap (λ (d : CertFields). d.fields.extensions.subject_key_identifier)
-    c.as_cert.ensures in
-    let are = there certs c.subject_key_identifier-key.result own places key c.signed_by-places.ensures in
-    let children = c.in_ok-children.children.items in
-    let kids = kids_here x w.names admits issuer.cert w.folder.now above c.index-kept.result.now
-    c.deref-3.result.now c.deref-4.result.now children c.deref-3.ensures.value c.deref-4.ensures.value
-    (kept_at (λ (k : Issuer). IsKeptOf w.names x w.folder.now issuer.cert k) c.enter.new.issuers.kept.items
-    c.in_ok-at.at c.index-kept.result.now c.index-kept.ensures c.in_ok-at.ensures.found.1)
-    c.in_ok-children.ensures places are in
-    let old = c.args.trail.now.limits in
-    let new = c.each_below.new.trail.limits in
-    let o = c.enter.ensures.told c.args.visitor.now [] (g.met.W.Visitor.begins c.args.visitor.now) in
+    let children = c.in-Some.below.children.items in
+    let kids = some_here x asked certs issuer c.deref.result.now above c.deref.ensures.value looks
+    c.in_ok-found.found c.in_ok-found.ensures.found c.in-Some.below c.in-Some.is in
+    let o = c.look_below.ensures.told c.args.visitor.now [] (g.met.W.Visitor.begins c.args.visitor.now) in
     let us = c.judge_children.ensures c.args.visitor.now ([] ++ o.0) o.1 in
     let enough : length children ≤ c.args.share.steps =
-    omega (arith, c.if-len-share.false, c.len.ensures, c.in_ok-children.children.ok.0) in
+    omega (arith, c.if-len-share.false, c.len.ensures, c.in-Some.below.children.ok.0) in
     let cas = c.in_ok-cas.cas.items in
     let low : 0 < c.args.depth = omega (arith, c.if-depth-eq0.false) in
-    let j : AreJudged x asked issuer certs above children cas us.0 =
-    subst (λ (k : List ℕ). AreJudged x asked issuer certs above k cas us.0) c.deref-6.ensures.value
-    (subst (λ (l : List ℕ). AreJudged x asked issuer certs l c.deref-6.result.now cas us.0) c.deref-5.ensures.value
-    (if_ok (λ (k : Vec Ca). AreJudged x asked issuer certs c.deref-5.result.now c.deref-6.result.now k.items
-    us.0) c.judge_children.result c.in_ok-cas.cas c.in_ok-cas.was us.4)) in
-    let one : c.len-2.result ≡ length children = omega (arith, c.len-2.ensures, c.in_ok-children.children.ok.0) in
+    let j = judged_here x asked certs issuer c.deref-2.result.now above c.deref-2.ensures.value
+    c.deref-3.result.now children c.deref-3.ensures.value us.0 c.judge_children.result c.in_ok-cas.cas
+    c.in_ok-cas.was us.4 in
+    let one : c.len-2.result ≡ length children = omega (arith, c.len-2.ensures, c.in-Some.below.children.ok.0) in
     let other : c.len-3.result ≡ length cas = omega (arith, c.len-3.ensures, c.in_ok-cas.cas.ok.0) in
-    ok_if (KeepsBelow x asked (IsLookedAt w.names admits top certs) issuer certs above c.args.depth c.args.share old
-    new) c.each_below.result (λ ended is.
-    let walks = if_ok (KeepsBelowEach x asked (IsLookedAt w.names admits top certs) certs above (c.args.depth - 1)
-    c.below-next.result c.deref-7.result.now old new) c.each_below.result ended is
-    c.each_below.ensures.limits in
-    keeps_each x asked w.names admits top certs above c.args.depth c.args.share law issuer c.requires.last none
-    places are children kids old new low enough cas us.0 j c.below-next.result
+    let old = c.args.trail.now.limits in
+    let new = c.each_below.new.trail.limits in
+    ok_if (KeepsBelow x asked looks issuer certs above c.args.depth c.args.share old new) c.each_below.result
+    (λ ended is.
+    let walks = if_ok (KeepsBelowEach x asked looks certs above (c.args.depth - 1) c.below-next.result
+    c.deref-4.result.now old new) c.each_below.result ended is c.each_below.ensures.limits in
+    keeps_each x asked looks certs above c.args.depth c.args.share law issuer children kids.1 old new low enough cas
+    us.0 j c.below-next.result
     (λ some. c.below-next.ensures.steps ∙ ap (λ (n : ℕ). (c.args.share.steps - n) / c.len-3.result) one ∙
     ap (λ (n : ℕ). (c.args.share.steps - length children) / n) other)
     (λ base factor cost. subst (λ (n : ℕ). CostIs c.below-next.result.cost (base + factor * n)
     (factor * length cas)) one
     (subst (λ (n : ℕ). CostIs c.below-next.result.cost (base + factor * c.len-2.result) (factor * n)) other
     (c.below-next.ensures.cost base factor cost)))
-    ended (subst (λ (l : List Ca). KeepsBelowEach x asked (IsLookedAt w.names admits top certs) certs above
-    (c.args.depth - 1) c.below-next.result l old new ended) c.deref-7.ensures.value walks))
+    ended (subst (λ (l : List Ca). KeepsBelowEach x asked looks certs above (c.args.depth - 1) c.below-next.result l
+    old new ended) c.deref-4.ensures.value walks))

@@ -3,8 +3,8 @@ use Rattle.std.proofs.Common.{◌≡◌, ℕ, List, [], refl, sym, subst, inl, i
 use Rattle.std.proofs.lemmas.List.{append-nil}
 use Rattle.rpki_cert.specs.Verification.{context}
 use Rattle.rpki_path.specs.AskedLists.{by_named_lists}
-use Rattle.rpki_folder.specs.declared.walk.Claim.{Claim}
-use Rattle.rpki_folder.specs.declared.walk.Claim.TheVariants.{OtherName, Child, Other}
+use Rattle.rpki_folder.specs.declared.children.Claim.{Claim}
+use Rattle.rpki_folder.specs.declared.children.Claim.TheVariants.{OtherName, Child, Other}
 use Rattle.rpki_folder.specs.Walks.{Told}
 use Rattle.rpki_folder.specs.Walks.Steps.{IsClaim, IsOther}
 use Rattle.rpki_folder.proofs.ClaimSteps.{other_name, a_child, known_of, no_child, an_other, told_weaker}

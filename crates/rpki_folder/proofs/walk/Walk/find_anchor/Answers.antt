@@ -1,4 +1,4 @@
-use Rattle.std.proofs.Common.{◌≡◌, ◌<◌, ℕ, length, ap, ◌∙◌, subst, arith}
+use Rattle.std.proofs.Common.{◌≡◌, ◌<◌, ℕ, length, ap, subst, arith}
 use Rattle.rpki_cert.specs.Verification.{context}
 use Rattle.rpki_path.specs.AskedLists.{by_named_lists}
 use Rattle.rpki_folder.specs.FoundAnchors.Steps.{IsFoundAmong}

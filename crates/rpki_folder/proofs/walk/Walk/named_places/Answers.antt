@@ -1,4 +1,4 @@
-use Rattle.std.specs.Prelude.{Bool, true, IfSome}
+use Rattle.std.specs.Prelude.{Bool, true}
 use Rattle.std.proofs.Common.{◌≡◌, ℕ, List, sym, ap, subst, ◌∙◌}
 use Rattle.rpki_cert.specs.Certificates.{TbsFields, CertFields}
 use Rattle.rpki_folder.specs.KeyTables.{places_in}
