@@ -12,11 +12,11 @@ use Rattle.rpki_folder.specs.declared.bounds.Limit.{Limit}
 use Rattle.rpki_folder.specs.declared.find.FoundPath.{FoundPath}
 use Rattle.rpki_verdicts.specs.Trees.{certs_of}
 use Rattle.rpki_verdicts.specs.declared.unordered.Tree.{Tree}
-use Rattle.rpki_answers.specs.TreeDocuments.{AreAll, AreOthers, AreSaid, above_node, above_nodes, accepted_head}
+use Rattle.rpki_answers.specs.TreeDocuments.{AreAll, AreOtherPaths, AreSaid, above_node, above_nodes, accepted_head}
 use Rattle.rpki_answers.specs.TreeDocuments.{also_line, also_node, count_of, file_first, file_last, has_word, is_word}
 use Rattle.rpki_answers.specs.TreeDocuments.{left_line, left_nodes, limit_nodes, more_line, more_nodes, rejected_head}
 use Rattle.rpki_answers.specs.TreeDocuments.{row_head, shown_node, unseen_spans, unseen_word, word_label, word_of}
-use Rattle.rpki_answers.specs.TreeLaws.{CountsAddUp, IsUnder, RowsBeginWithTheirWord}
+use Rattle.rpki_answers.specs.TreeLaws.{CountsAddUp, IsUnlabelled, RowsBeginWithTheirWord}
 use Rattle.rpki_answers.specs.declared.tree_rows.Said.{Said}
 use Rattle.rpki_answers.specs.declared.tree_rows.Said.TheVariants as said
 use Rattle.rpki_answers.specs.declared.tree_rows.Word.{Word}
@@ -30,11 +30,11 @@ rows_of_both (p ∷ a) b =
     ap (λ (l : List Line). node_rows p ++ l) (rows_of_both a b)
     ∙ sym (append_assoc (node_rows p) (document_rows (document_of a)) (document_rows (document_of b)))
 
-under_if : (b : Bool) (left : ℕ) → AllByRecursion IsUnder (document_rows (document_of (if b then [] else left_line left ∷ [])))
+under_if : (b : Bool) (left : ℕ) → AllByRecursion IsUnlabelled (document_rows (document_of (if b then [] else left_line left ∷ [])))
 under_if true left = tt
 under_if false left = (tt, tt)
 
-under_limit : (limit : Option Limit) → AllByRecursion IsUnder (document_rows (document_of (limit_nodes limit)))
+under_limit : (limit : Option Limit) → AllByRecursion IsUnlabelled (document_rows (document_of (limit_nodes limit)))
 under_limit None = tt
 under_limit (Some limit) = (tt, tt)
 
@@ -46,7 +46,7 @@ no_rows certs (place ∷ places) = no_rows certs places
 
 -- each is under the first
 abbrev AreUnder : List Line → Type 0
-AreUnder lines = AllByRecursion IsUnder lines
+AreUnder lines = AllByRecursion IsUnlabelled lines
 
 module _ (tree : Tree) where
   under_above : (above : List ℕ) (lines : List Line) → AreUnder lines → AreUnder (node_rows (above_node tree above) ++ lines)
@@ -55,13 +55,13 @@ module _ (tree : Tree) where
   under_also : (above : List ℕ) (same : Bool) → AreUnder (node_rows (also_node tree above same))
   under_also above same = under_above above (node_rows (also_line tree above same) ++ []) (tt, tt)
 
-  under_others : (shown : FoundPath) (paths : List FoundPath) (nodes : List Node) → AreOthers tree shown paths nodes →
+  under_others : (shown : FoundPath) (paths : List FoundPath) (nodes : List Node) → AreOtherPaths tree shown paths nodes →
       AreUnder (document_rows (document_of nodes))
   under_others shown [] [] are = tt
   under_others shown [] (node ∷ nodes) are = absurd are
   under_others shown (path ∷ paths) [] are = absurd are
   under_others shown (path ∷ paths) (node ∷ nodes) are =
-      all_append IsUnder (node_rows node) (document_rows (document_of nodes))
+      all_append IsUnlabelled (node_rows node) (document_rows (document_of nodes))
       (subst (λ (n : Node). AreUnder (node_rows n)) (sym are.0.2) (under_also path.above.items are.0.0))
       (under_others shown paths nodes are.1)
 
@@ -71,8 +71,8 @@ module _ (tree : Tree) where
   under_paths shown (path ∷ paths) nodes are =
       let others = document_rows (document_of are.0) in
       subst (λ (l : List Node). AreUnder (document_rows (document_of l))) (sym are.2)
-      (all_append IsUnder (node_rows (shown_node tree shown.above.items) ++ others) []
-      (all_append IsUnder (node_rows (shown_node tree shown.above.items)) others (under_above shown.above.items [] tt)
+      (all_append IsUnlabelled (node_rows (shown_node tree shown.above.items) ++ others) []
+      (all_append IsUnlabelled (node_rows (shown_node tree shown.above.items)) others (under_above shown.above.items [] tt)
       (under_others shown (path ∷ paths) are.0 are.1)) tt)
 
 under_some : (b : Bool) (more : ℕ) → AreUnder (document_rows (document_of (if b then [] else more_line more ∷ [])))
@@ -82,7 +82,7 @@ under_some false more = (tt, tt)
 under_both : (a b : List Node) → AreUnder (document_rows (document_of a)) → AreUnder (document_rows (document_of b)) →
     AreUnder (document_rows (document_of (a ++ b)))
 under_both a b p q =
-    subst AreUnder (sym (rows_of_both a b)) (all_append IsUnder (document_rows (document_of a)) (document_rows (document_of b)) p q)
+    subst AreUnder (sym (rows_of_both a b)) (all_append IsUnlabelled (document_rows (document_of a)) (document_rows (document_of b)) p q)
 
 -- ---- the first line
 
@@ -151,7 +151,7 @@ begin_with_word certs row nodes (of_it, are, is) =
     let more = document_rows (document_of below) in (
       first.0,
       first.1 ++ more,
-      all_append IsUnder first.1 more first.2
+      all_append IsUnlabelled first.1 more first.2
           (under_both (limit_nodes row.limit) (left_nodes row.left) (under_limit row.limit)
           (under_if (row.left == 0) row.left)),
       ap (λ (l : List Node). document_rows (document_of l)) is ∙ rows_of_both of_it below ∙ ap (λ (l : List Line). l ++ more) first.3,

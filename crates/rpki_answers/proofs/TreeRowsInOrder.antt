@@ -17,28 +17,28 @@ use Rattle.rpki_files.specs.Files.{FileFields}
 use Rattle.rpki_text.specs.declared.command_line.arguments.Format.{Format}
 use Rattle.rpki_text.specs.declared.command_line.arguments.Format.TheVariants.{Text, Json, JsonLines}
 use Rattle.rpki_verdicts.specs.declared.parts.Trees.{Trees}
-use Rattle.rpki_answers.specs.JsonTexts.{value_text}
+use Rattle.rpki_answers.specs.JsonTexts.{json_value_text}
 use Rattle.rpki_answers.specs.TreeDocuments.{IsRowDocument, PrintsRow, PrintsRows, errors_of, files_node, is_printed}
 use Rattle.rpki_answers.specs.TreeDocuments.{rendered, said_error, tree_text, unasked_of, with_error, with_unasked}
-use Rattle.rpki_answers.specs.TreeDocuments.Steps.{AddsDocuments, AddsRow, AddsRows, Appends, AppendsRow, AppendsRows}
-use Rattle.rpki_answers.specs.TreeRows.{AreRows, AreRowsFrom, IsRow}
+use Rattle.rpki_answers.specs.TreeDocuments.Steps.{AddsDocuments, AddsRow, AddsRows, AppendsDocuments, AppendsRow, AppendsRows}
+use Rattle.rpki_answers.specs.TreeRows.{AreRows, AreRowsFrom, IsTreeRow}
 use Rattle.rpki_answers.specs.declared.tree_rows.Row.{Row}
 
 -- ---- rows
 
 module _ (trees : Trees) where
   rows_more : (from mid last : ℕ) (files : List FileFields) (rows : List Row) →
-      AreRowsFrom trees from mid files rows → (file : FileFields) (row : Row) → IsRow trees mid last file row →
+      AreRowsFrom trees from mid files rows → (file : FileFields) (row : Row) → IsTreeRow trees mid last file row →
       AreRowsFrom trees from last (files ++ file ∷ []) (rows ++ row ∷ [])
   rows_more from mid last [] rows is file row one =
-      (last, row, [], subst (λ (p : ℕ). IsRow trees p last file row) is.1 one, (refl, refl), ap (λ (l : List Row). l ++ row ∷ []) is.0)
+      (last, row, [], subst (λ (p : ℕ). IsTreeRow trees p last file row) is.1 one, (refl, refl), ap (λ (l : List Row). l ++ row ∷ []) is.0)
   rows_more from mid last (f ∷ fs) rows is file row one =
       (is.0, is.1, is.2 ++ row ∷ [], is.3, rows_more is.0 mid last fs is.2 is.4 file row one, ap (λ (l : List Row). l ++ row ∷ []) is.5)
 
   -- one more
   pub next_row : (files : List FileFields) (i mid last : ℕ) (file : FileFields) (rows : List Row) (row : Row) →
       i < length files → file ≡ get_or files i file → AreRowsFrom trees 0 mid (take i files) rows →
-      IsRow trees mid last file row → AreRowsFrom trees 0 last (take (i + 1) files) (rows ++ row ∷ [])
+      IsTreeRow trees mid last file row → AreRowsFrom trees 0 last (take (i + 1) files) (rows ++ row ∷ [])
   next_row files i mid last file rows row low there so_far one =
       let more : take (i + 1) files ≡ take i files ++ file ∷ [] = take_more files i file low ∙
       ap (λ (y : FileFields). take i files ++ y ∷ []) (sym there) in
@@ -87,8 +87,8 @@ module _ (only : Bool) (certs : List FileFields) where
   -- ---- in a text
 
   module _ (format : Format) where
-    appends_both : (a b : List (List Node)) (old mid new : List ℕ) → Appends format a old mid →
-        Appends format b mid new → Appends format (a ++ b) old new
+    appends_both : (a b : List (List Node)) (old mid new : List ℕ) → AppendsDocuments format a old mid →
+        AppendsDocuments format b mid new → AppendsDocuments format (a ++ b) old new
     appends_both a b old mid new p q =
         q ∙ ap (λ (l : List ℕ). l ++ flat_map (rendered format) b) p
         ∙ append_assoc old (flat_map (rendered format) a) (flat_map (rendered format) b)
@@ -157,7 +157,7 @@ module _ (only : Bool) (certs : List FileFields) where
 
 pub by_format : {S E : Type 0} (bytes : S → List ℕ) (r : Result S E) (format : Format) (nodes : List Node)
     → (format ≡ Text → IfOk r (λ t. bytes t ≡ document_text (document_of nodes)))
-    → (format ≢ Text → IfOk r (λ t. bytes t ≡ value_text format (document_json (document_of nodes))))
+    → (format ≢ Text → IfOk r (λ t. bytes t ≡ json_value_text format (document_json (document_of nodes))))
     → IfOk r (λ t. bytes t ≡ rendered format nodes)
 by_format bytes r Text nodes text json = text refl
 by_format bytes r Json nodes text json = json (λ is. absurd cc)

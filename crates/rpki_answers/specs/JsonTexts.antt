@@ -41,9 +41,9 @@ unfoldable pub json_line : Data → List ℕ
 json_line d = in_ascii (compact_text d) ++ line_feed
 
 -- a value in a format of JSON
-abbrev pub value_text : Format → Data → List ℕ
-value_text JsonLines d = json_line d
-value_text _ d = json_lines d
+abbrev pub json_value_text : Format → Data → List ℕ
+json_value_text JsonLines d = json_line d
+json_value_text _ d = json_lines d
 
 -- ---- the values of files
 
@@ -51,4 +51,4 @@ value_text _ d = json_lines d
 -- one array of them
 abbrev pub values_text : Format → Bool → List Data → List ℕ
 values_text Json false values = json_lines (array_of values)
-values_text format is_single values = flat_map (value_text format) values
+values_text format is_single values = flat_map (json_value_text format) values

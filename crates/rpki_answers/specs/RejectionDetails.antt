@@ -11,7 +11,7 @@ use Rattle.rpki_cert.specs.Profiles.{MeetsProfile}
 use Rattle.rpki_der.specs.Times.{Moment}
 use Rattle.rpki_files.specs.FileSorts.{IsToldSort}
 use Rattle.rpki_files.specs.Files.{FileFields}
-use Rattle.rpki_files.specs.SortTexts.{description}
+use Rattle.rpki_files.specs.SortTexts.{sort_description}
 use Rattle.rpki_files.specs.declared.sorts.Sort.{Sort}
 use Rattle.rpki_document.specs.Documents.{text, characters, say, tell, Node, line, told_line}
 use Rattle.rpki_verdicts.specs.PathFiles.{QuestionFields}
@@ -24,20 +24,20 @@ use Rattle.rpki_answers.specs.declared.details.Details.{Details}
 -- ---- which faults
 
 -- the fault has this name, in this step
-abbrev pub IsNamed : List ℕ → List ℕ → Fault → Type 0
-IsNamed step name fault = (fault.step.now ≡ step) × (fault.name.now ≡ name)
+abbrev pub HasStepAndName : List ℕ → List ℕ → Fault → Type 0
+HasStepAndName step name fault = (fault.step.now ≡ step) × (fault.name.now ≡ name)
 
 -- the fault has this cause, of which there is more to tell; or it has none of them
 abbrev pub IsCause : Cause → Fault → Type 0
-IsCause NoList fault = IsNamed (codes "revocation") (codes "NoCrl") fault
-IsCause OtherKey fault = IsNamed (codes "verification") (codes "WrongKeyId") fault
-IsCause NotYetValid fault = IsNamed (codes "verification") (codes "NotYetValid") fault
-IsCause Expired fault = IsNamed (codes "verification") (codes "Expired") fault
+IsCause NoList fault = HasStepAndName (codes "revocation") (codes "NoCrl") fault
+IsCause OtherKey fault = HasStepAndName (codes "verification") (codes "WrongKeyId") fault
+IsCause NotYetValid fault = HasStepAndName (codes "verification") (codes "NotYetValid") fault
+IsCause Expired fault = HasStepAndName (codes "verification") (codes "Expired") fault
 IsCause Other fault =
-    (IsNamed (codes "revocation") (codes "NoCrl") fault → ⊥)
-    × (IsNamed (codes "verification") (codes "WrongKeyId") fault → ⊥)
-    × (IsNamed (codes "verification") (codes "NotYetValid") fault → ⊥)
-    × (IsNamed (codes "verification") (codes "Expired") fault → ⊥)
+    (HasStepAndName (codes "revocation") (codes "NoCrl") fault → ⊥)
+    × (HasStepAndName (codes "verification") (codes "WrongKeyId") fault → ⊥)
+    × (HasStepAndName (codes "verification") (codes "NotYetValid") fault → ⊥)
+    × (HasStepAndName (codes "verification") (codes "Expired") fault → ⊥)
 
 -- ---- of which certificates
 
@@ -135,8 +135,8 @@ order_nodes is_turned = if is_turned then told_line (codes "Order") (codes "orde
 abbrev pub sort_nodes : Option Sort → List Node
 sort_nodes None = []
 sort_nodes (Some s) =
-    told_line (codes "Kind") (codes "kind") (text (description s).name)
-    ∷ told_line (codes "To do") (codes "advice") (text (description s).advice)
+    told_line (codes "Kind") (codes "kind") (text (sort_description s).name)
+    ∷ told_line (codes "To do") (codes "advice") (text (sort_description s).advice)
     ∷ []
 
 -- what is told of a rejection beside its rule

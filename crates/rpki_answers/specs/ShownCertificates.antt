@@ -6,7 +6,7 @@ use Rattle.rpki_cert.specs.Certificates.{CertFields, TbsFields}
 use Rattle.rpki_cert.specs.declared.inspect.Kind.{Kind}
 use Rattle.rpki_cert.specs.declared.inspect.Kind.TheVariants.{Anchor, Authority, EndEntity, Detached, Router}
 use Rattle.rpki_der.specs.Times.{Moment}
-use Rattle.rpki_document.specs.Documents.{Told, text, characters, words, count, printed, Span, say, tell, keep, Node}
+use Rattle.rpki_document.specs.Documents.{ToldValue, text, characters, words, count, printed, Span, say, tell, keep, Node}
 use Rattle.rpki_document.specs.Documents.{line, inside, each, document_of, told_line}
 use Rattle.rpki_ext.specs.CertificateExtensions.{ExtensionFields}
 use Rattle.rpki_ext.specs.Inspection.{inspection_error_name}
@@ -43,7 +43,7 @@ type_word Detached = codes "ee_cert"
 type_word Router = codes "router_key"
 
 -- what it is, in our words and in rpki-client's
-abbrev pub typed_line : Told → List ℕ → Node
+abbrev pub typed_line : ToldValue → List ℕ → Node
 typed_line kind word = line (codes "Kind") (tell (codes "kind") kind ∷ keep (codes "type") (text word) ∷ [])
 
 abbrev pub kind_line : Kind → Node
@@ -68,7 +68,7 @@ validity_nodes v now =
     ∷ []
 
 -- what its key may be used for (RFC 6487 4.8.4)
-abbrev pub usage_told : KeyUsage → Told
+abbrev pub usage_told : KeyUsage → ToldValue
 usage_told Ca = words (codes "keyCertSign, cRLSign") (codes "ca")
 usage_told Ee = words (codes "digitalSignature") (codes "ee")
 
@@ -91,7 +91,7 @@ place_nodes x =
     ++ uri_nodes (codes "Notify URL") (codes "notify_url") x.access.rpki_notify))))
 
 -- what becomes of resources beyond the issuer's
-abbrev pub overclaim_told : Overclaim → Told
+abbrev pub overclaim_told : Overclaim → ToldValue
 overclaim_told Refuse = words (codes "rejected (RFC 6484 policy)") (codes "reject")
 overclaim_told Trim = words (codes "trimmed (RFC 8360 policy)") (codes "trim")
 
@@ -160,7 +160,7 @@ fact_word fact.UnknownMethod = codes "unknown_access_method"
 fact_word fact.MethodUri = codes "method_uri"
 
 -- an identifier; those of others are URIs
-abbrev pub fact_told : FactKind → List ℕ → Told
+abbrev pub fact_told : FactKind → List ℕ → ToldValue
 fact_told fact.UnknownExtension octets = text (identifier_text octets)
 fact_told fact.UnknownMethod octets = text (identifier_text octets)
 fact_told fact.PracticeStatement octets = characters octets

@@ -11,7 +11,7 @@ use Rattle.rpki_der.specs.Encoding.{Means}
 use Rattle.rpki_der.specs.declared.error.DecodeError.{DecodeError}
 use Rattle.rpki_der.specs.declared.error.DecodeError.TheVariants.{Memory}
 use Rattle.rpki_document.specs.Documents.{text, characters, words, count, say, tell, show, keep, Node, line, inside}
-use Rattle.rpki_document.specs.Documents.{each, document_of, document_json, document_text, kept, told_line}
+use Rattle.rpki_document.specs.Documents.{each, document_of, document_json, document_text, kept_node, told_line}
 use Rattle.rpki_files.specs.Contents.{BeginsBefore, BeginsWithEither, LooksLikeList}
 use Rattle.rpki_files.specs.FaultRules.{IsFileRule, RuleFields, rule_of, tal_rule}
 use Rattle.rpki_files.specs.FileSorts.{IsToldSort}
@@ -20,7 +20,7 @@ use Rattle.rpki_files.specs.FlawTexts.{flaw_text}
 use Rattle.rpki_files.specs.LocatorFiles.{AreLocator, IsWhyNoLocator, looks_like_locator}
 use Rattle.rpki_files.specs.Misreads.{StopsFor}
 use Rattle.rpki_files.specs.SortTexts.{sort_rule}
-use Rattle.rpki_files.specs.ToBeSigned.{BeginsWithAny, IsUnsigned}
+use Rattle.rpki_files.specs.ToBeSigned.{BeginsWithAny, IsUnsignedFile}
 use Rattle.rpki_files.specs.declared.flaws.Flaw.{Flaw}
 use Rattle.rpki_files.specs.declared.places.Place.{Place}
 use Rattle.rpki_files.specs.declared.rules.Rule.{Rule}
@@ -82,7 +82,7 @@ abbrev pub IsSubject : Bool → List ℕ → Subject → Type 0
 IsSubject strict octets (subject.Certificate cert left) = BeginsBefore IsCertificate octets cert.now left
 IsSubject strict octets (subject.List list left) = BeginsBefore IsCertificateList octets list.now.list left
 IsSubject strict octets (subject.ToBeSigned whole) =
-    (BeginsWithEither octets → ⊥) × IsUnsigned octets whole.octets
+    (BeginsWithEither octets → ⊥) × IsUnsignedFile octets whole.octets
 IsSubject strict octets (subject.Locator tal) =
     (BeginsWithAny octets → ⊥) × IsLocator strict tal.tal octets
 IsSubject strict octets (subject.NotALocator error) =
@@ -149,7 +149,7 @@ uri_line uri = told_line (codes "URI") [] (characters uri)
 abbrev pub tal_nodes : List ℕ → TalFields → KeyAnswer → List Node
 tal_nodes name tal found =
     told_line (codes "Kind") (codes "type") (words (codes "TAL") (codes "tal"))
-    ∷ kept (codes "name") (text name)
+    ∷ kept_node (codes "name") (text name)
     ∷ each (codes "trust_anchor_locations") (document_of (map uri_line tal.uris))
     ∷ tal_key_nodes tal.key found
 
@@ -216,22 +216,22 @@ IsShownUnsigned options octets nodes =
     ⊎ ((l : CrlFields) × Means IsCertificateList l octets × (nodes ≡ list_nodes l.fields options.at options.all))
 
 -- what is said of a file that is this
-abbrev pub IsSaid : Options → FileFields → Subject → List Node → Type 0
-IsSaid options file (subject.Certificate cert left) nodes = IsShownBefore options file.octets cert.now left nodes
-IsSaid options file (subject.List list left) nodes = nodes ≡ whole_list_nodes options list.now.list.fields left
-IsSaid options file (subject.ToBeSigned whole) nodes = IsShownUnsigned options whole.octets nodes
-IsSaid options file (subject.Locator tal) nodes =
+abbrev pub IsSaidOfFile : Options → FileFields → Subject → List Node → Type 0
+IsSaidOfFile options file (subject.Certificate cert left) nodes = IsShownBefore options file.octets cert.now left nodes
+IsSaidOfFile options file (subject.List list left) nodes = nodes ≡ whole_list_nodes options list.now.list.fields left
+IsSaidOfFile options file (subject.ToBeSigned whole) nodes = IsShownUnsigned options whole.octets nodes
+IsSaidOfFile options file (subject.Locator tal) nodes =
     (key : KeyAnswer) × IsLocatorKey tal.tal.key key × (nodes ≡ tal_nodes file.name tal.tal key)
-IsSaid options file (subject.NotALocator error) nodes =
+IsSaidOfFile options file (subject.NotALocator error) nodes =
     (rule : Rule) × (rule_of rule ≡ tal_rule error) × (nodes ≡ no_tal_nodes error rule)
-IsSaid options file (subject.Unread rejection) nodes = nodes ≡ unread_nodes options.all rejection
+IsSaidOfFile options file (subject.Unread rejection) nodes = nodes ≡ unread_nodes options.all rejection
 
 -- the document of a file
 pub record IsFileDocument (options : Options) (file : FileFields) (nodes : List Node) : Type 0 where
   pub what : Subject
   pub what_is : IsSubject options.strict file.octets what
   pub said : List Node
-  pub said_is : IsSaid options file what said
+  pub said_is : IsSaidOfFile options file what said
   pub nodes_are : nodes ≡ file_nodes file (is_to_be_signed what) ++ said
 
 -- ---- its two renderings

@@ -3,7 +3,7 @@ use Rattle.std.specs.Prelude.{ℕ, ◌||◌, nat_le, Bool, true, false, List, []
 use Rattle.rpki_crl.specs.Lists.{ListFields}
 use Rattle.rpki_crl.specs.RevokedEntries.{Entry, Revoked}
 use Rattle.rpki_der.specs.Times.{Moment}
-use Rattle.rpki_document.specs.Documents.{Told, words, count, printed, say, tell, show, Node, line, further, inside}
+use Rattle.rpki_document.specs.Documents.{ToldValue, words, count, printed, say, tell, show, Node, line, further, inside}
 use Rattle.rpki_document.specs.Documents.{each, document_of, told_line}
 use Rattle.rpki_parts.specs.NameTexts.{name_text}
 use Rattle.rpki_answers.specs.ToldValues.{identifier_told, moment_told, serial_told, until_line}
@@ -13,7 +13,7 @@ abbrev pub few : ℕ
 few = 5
 
 -- a revoked certificate: its serial number, and since when it is revoked
-abbrev pub revocation_node : Told → Told → Node
+abbrev pub revocation_node : ToldValue → ToldValue → Node
 revocation_node serial date = inside [] (document_of (
     further (tell (codes "serial") serial ∷ say (codes "  ") ∷ tell (codes "date") date ∷ []) ∷ []))
 

@@ -8,8 +8,8 @@ use Rattle.rpki_cert.specs.declared.inspect.Kind.TheVariants.{Anchor, Authority,
 use Rattle.rpki_der.specs.Texts.{serial_text, time_text}
 use Rattle.rpki_der.specs.Times.{Moment}
 use Rattle.rpki_der.specs.Timestamps.{timestamp}
-use Rattle.rpki_document.specs.Documents.{Told, text, words, count, flag, dated, Span, say, tell, show, keep, Node}
-use Rattle.rpki_document.specs.Documents.{line, further, inside, document_of, kept, told_line}
+use Rattle.rpki_document.specs.Documents.{ToldValue, text, words, count, flag, dated, Span, say, tell, show, keep, Node}
+use Rattle.rpki_document.specs.Documents.{line, further, inside, document_of, kept_node, told_line}
 use Rattle.rpki_ext.specs.CertificateExtensions.{ExtensionFields}
 use Rattle.rpki_keys.specs.declared.form.KeyForm.{KeyForm}
 use Rattle.rpki_keys.specs.declared.form.KeyForm.TheVariants.{RsaKey, EvenModulus, NoRsaKey, Point, OffCurve, CompressedPoint, NoPoint}
@@ -23,7 +23,7 @@ use Rattle.rpki_text.specs.declared.blocks.Family.TheVariants.{V4, V6}
 use Rattle.rpki_text.specs.declared.keys.KeyAnswer.{KeyAnswer}
 
 -- what a certificate is (RFC 6487 4, RFC 8209 3)
-abbrev pub kind_told : Kind → Told
+abbrev pub kind_told : Kind → ToldValue
 kind_told Anchor = words (codes "trust anchor") (codes "ta")
 kind_told Authority = words (codes "CA") (codes "ca")
 kind_told EndEntity = words (codes "EE") (codes "ee")
@@ -31,15 +31,15 @@ kind_told Detached = words (codes "detached EE") (codes "detached_ee")
 kind_told Router = words (codes "BGPsec router") (codes "router")
 
 -- a serial number: its octets in hexadecimal
-abbrev pub serial_told : ℕ → Told
+abbrev pub serial_told : ℕ → ToldValue
 serial_told serial = text (serial_text serial)
 
 -- a time: as ISO 8601 has it, and in seconds from 1970-01-01T00:00:00Z
-abbrev pub moment_told : Moment → Told
+abbrev pub moment_told : Moment → ToldValue
 moment_told m = dated (time_text m) (timestamp m)
 
 -- the identifier of a key
-abbrev pub identifier_told : List ℕ → Told
+abbrev pub identifier_told : List ℕ → ToldValue
 identifier_told octets = text (colons_text octets)
 
 -- the end of a period, and its state at a time in parentheses
@@ -80,16 +80,16 @@ form_word NoPoint = codes "no point"
 -- the exponent of an RSA key, if it is below 2^64
 abbrev pub exponent_nodes : Option ℕ → List Node
 exponent_nodes None = []
-exponent_nodes (Some e) = kept (codes "exponent") (count e) ∷ []
+exponent_nodes (Some e) = kept_node (codes "exponent") (count e) ∷ []
 
 -- the numbers of an RSA key
 abbrev pub form_nodes : KeyForm → List Node
-form_nodes (RsaKey bits exponent) = kept (codes "bits") (count bits) ∷ exponent_nodes exponent
+form_nodes (RsaKey bits exponent) = kept_node (codes "bits") (count bits) ∷ exponent_nodes exponent
 form_nodes _ = []
 
 -- the point of a key on a curve, under a label or in no line
-abbrev pub point_node : Option (List ℕ) → Told → Node
-point_node None point = kept (codes "point") point
+abbrev pub point_node : Option (List ℕ) → ToldValue → Node
+point_node None point = kept_node (codes "point") point
 point_node (Some label) point = told_line label (codes "point") point
 
 -- if it is one
@@ -98,7 +98,7 @@ point_nodes label None = []
 point_nodes label (Some point) = point_node label (text point) ∷ []
 
 -- a key of which this was found, and what is said of it
-abbrev pub key_nodes : List ℕ → Told → Option (List ℕ) → KeyFields → KeyAnswer → List Node
+abbrev pub key_nodes : List ℕ → ToldValue → Option (List ℕ) → KeyFields → KeyAnswer → List Node
 key_nodes label said point_label key found =
     line label (
     show said ∷ keep (codes "algorithm") (text (algorithm_word found.form))
@@ -108,19 +108,19 @@ key_nodes label said point_label key found =
 -- ---- resources
 
 -- a line under a label, or one more under the label above
-abbrev pub line_at : Option (List ℕ) → List Span → Node
-line_at None spans = further spans
-line_at (Some label) spans = line label spans
+abbrev pub line_under : Option (List ℕ) → List Span → Node
+line_under None spans = further spans
+line_under (Some label) spans = line label spans
 
 -- a block that is one value, under a key of its own
-abbrev pub single_node : Option (List ℕ) → List ℕ → Told → Node
-single_node label key told = inside [] (document_of (line_at label (tell key told ∷ []) ∷ []))
+abbrev pub single_node : Option (List ℕ) → List ℕ → ToldValue → Node
+single_node label key told = inside [] (document_of (line_under label (tell key told ∷ []) ∷ []))
 
 -- a block by its two ends
-abbrev pub ends_node : Option (List ℕ) → List ℕ → Told → Told → Node
+abbrev pub ends_node : Option (List ℕ) → List ℕ → ToldValue → ToldValue → Node
 ends_node label key min max = inside [] (document_of (
     inside key (document_of (
-    line_at label (tell (codes "min") min ∷ say (codes "-") ∷ tell (codes "max") max ∷ []) ∷ []))
+    line_under label (tell (codes "min") min ∷ say (codes "-") ∷ tell (codes "max") max ∷ []) ∷ []))
     ∷ []))
 
 -- AS numbers: the one, or the two ends

@@ -10,7 +10,7 @@ use Rattle.std.specs.Prelude.{length, map, count_by, codes, unwrap_or, Option, S
 use Rattle.std.specs.Str.{bytes_eq}
 use Rattle.rpki_document.specs.Documents.{text, inner, characters, count, flag, Span, say, tell, show, keep, Node}
 use Rattle.rpki_document.specs.Documents.{head, line, further, unsaid, inside, each, aside, document_of}
-use Rattle.rpki_document.specs.Documents.{document_text, document_json, kept}
+use Rattle.rpki_document.specs.Documents.{document_text, document_json, kept_node}
 use Rattle.rpki_files.specs.Files.{FileFields}
 use Rattle.rpki_folder.specs.declared.bounds.Ended.{Ended}
 use Rattle.rpki_folder.specs.declared.bounds.Ended.TheVariants.{Whole, TooDeep, OutOfSteps}
@@ -32,7 +32,7 @@ use Rattle.rpki_verdicts.specs.declared.shown_paths.ShownPaths.{ShownPaths}
 use Rattle.rpki_verdicts.specs.declared.unordered.Tree.{Tree}
 use Rattle.rpki_verdicts.specs.declared.unordered.TreeAnswer.{TreeAnswer}
 use Rattle.rpki_verdicts.specs.declared.unordered.TreeAnswer.TheVariants.{NoAnchor, Walked}
-use Rattle.rpki_answers.specs.JsonTexts.{value_text}
+use Rattle.rpki_answers.specs.JsonTexts.{json_value_text}
 use Rattle.rpki_answers.specs.ToldValues.{kind_told}
 use Rattle.rpki_answers.specs.TreeRows.{AreRows}
 use Rattle.rpki_answers.specs.Verdicts.{AreHeld, fault_spans, not_locators, reason_spans, time_node, unchecked}
@@ -203,7 +203,7 @@ below_spans certs places =
 
 -- those of the trust anchor and of the CAs, for a program
 abbrev pub above_nodes : List FileFields → List ℕ → List Node
-above_nodes certs places = map (λ place. kept [] (text (name_of certs place))) places
+above_nodes certs places = map (λ place. kept_node [] (text (name_of certs place))) places
 
 -- an accepted certificate: as what it was judged, and the CAs above it from the trust anchor down
 abbrev pub accepted_head : List ℕ → Tree → List ℕ → Kind → Node
@@ -220,7 +220,7 @@ above_node tree above =
 -- the shown path among all that are kept
 abbrev pub shown_node : Tree → List ℕ → Node
 shown_node tree above =
-    inside [] (document_of (above_node tree above ∷ kept (codes "same_resources") (flag true) ∷ []))
+    inside [] (document_of (above_node tree above ∷ kept_node (codes "same_resources") (flag true) ∷ []))
 
 -- whether another path gives the certificate the resources of the shown one
 abbrev pub same_spans : Bool → List Span
@@ -238,23 +238,23 @@ also_node tree above same =
     inside [] (document_of (above_node tree above ∷ also_line tree above same ∷ []))
 
 -- what is said of another path beside the shown one
-abbrev pub IsOther : Tree → FoundPath → FoundPath → Node → Type 0
-IsOther tree shown path node =
+abbrev pub IsOtherPath : Tree → FoundPath → FoundPath → Node → Type 0
+IsOtherPath tree shown path node =
     (same : Bool) × (IsTrue same ↔ HoldSame shown.judged.holder path.judged.holder)
     × (node ≡ also_node tree path.above.items same)
 
-abbrev pub AreOthers : Tree → FoundPath → List FoundPath → List Node → Type 0
-AreOthers tree shown paths nodes = AllZip (IsOther tree shown) paths nodes
+abbrev pub AreOtherPaths : Tree → FoundPath → List FoundPath → List Node → Type 0
+AreOtherPaths tree shown paths nodes = AllZip (IsOtherPath tree shown) paths nodes
 
 -- all paths, if there are several
 abbrev pub AreAll : Tree → FoundPath → List FoundPath → List Node → Type 0
 AreAll tree shown [] nodes = nodes ≡ []
 AreAll tree shown (path ∷ paths) nodes =
-    (others : List Node) × AreOthers tree shown (path ∷ paths) others
+    (others : List Node) × AreOtherPaths tree shown (path ∷ paths) others
     × (nodes ≡ each (codes "paths") (document_of (shown_node tree shown.above.items ∷ others)) ∷ [])
 
-abbrev pub ArePaths : Tree → ShownPaths → List Node → Type 0
-ArePaths tree paths nodes = AreAll tree paths.shown.now (map (λ path. path.now) paths.others.items) nodes
+abbrev pub ArePathNodes : Tree → ShownPaths → List Node → Type 0
+ArePathNodes tree paths nodes = AreAll tree paths.shown.now (map (λ path. path.now) paths.others.items) nodes
 
 -- how many more there are
 abbrev pub more_line : ℕ → Node
@@ -266,18 +266,18 @@ abbrev pub more_nodes : ℕ → List Node
 more_nodes more = if more == 0 then [] else more_line more ∷ []
 
 -- an accepted certificate, for a program with what it holds by the shown path
-abbrev pub IsAccepted : List ℕ → Tree → ShownPaths → Kind → List Node → Type 0
-IsAccepted name tree paths kind nodes =
+abbrev pub AreAcceptedNodes : List ℕ → Tree → ShownPaths → Kind → List Node → Type 0
+AreAcceptedNodes name tree paths kind nodes =
     (held : List Node) × (several : List Node)
     × AreHeld paths.shown.now.judged.holder paths.shown.now.judged.router held
-    × ArePaths tree paths several
+    × ArePathNodes tree paths several
     × (nodes ≡ accepted_head name tree paths.shown.now.above.items kind
     ∷ above_node tree paths.shown.now.above.items ∷ aside (document_of held)
     ∷ (several ++ more_nodes paths.more))
 
 -- what is said of a file
 abbrev pub AreSaid : List FileFields → List ℕ → Said → List Node → Type 0
-AreSaid certs name (said.Accepted tree paths kind) nodes = IsAccepted name tree.now paths kind nodes
+AreSaid certs name (said.Accepted tree paths kind) nodes = AreAcceptedNodes name tree.now paths kind nodes
 AreSaid certs name (said.Rejected fault) nodes = nodes ≡ rejected_row name fault
 AreSaid certs name (said.Unseen reason error) nodes =
     nodes ≡ unseen_row certs name reason (option_map (λ e. e.now) error)
@@ -465,7 +465,7 @@ tree_asked names =
 -- the names of what can't be read, for a program
 abbrev pub unread_node : List (List ℕ) → Node
 unread_node unread =
-    each (codes "unread") (document_of (map (λ name. kept [] (characters name)) unread))
+    each (codes "unread") (document_of (map (λ name. kept_node [] (characters name)) unread))
 
 -- what is said behind the rows
 abbrev pub end_nodes : TreeFields → Trees → List Row → List (List ℕ) → List Node
@@ -483,7 +483,7 @@ no_locator_nodes q f =
 -- a document in a format
 abbrev pub rendered : Format → List Node → List ℕ
 rendered Text nodes = document_text (document_of nodes)
-rendered format nodes = value_text format (document_json (document_of nodes))
+rendered format nodes = json_value_text format (document_json (document_of nodes))
 
 -- the documents of rows, as one
 abbrev pub files_node : List (List Node) → Node

@@ -9,16 +9,16 @@ use Rattle.rpki_answers.specs.declared.tree_rows.Row.{Row}
 use Rattle.rpki_answers.specs.declared.tree_rows.Word.TheVariants as word
 
 -- the line has no label of its own
-abbrev pub IsUnder : Line → Type 0
-IsUnder (labelled label behind) = ⊥
-IsUnder (under said) = Unit {0}
+abbrev pub IsUnlabelled : Line → Type 0
+IsUnlabelled (labelled label behind) = ⊥
+IsUnlabelled (under said) = Unit {0}
 
 -- the document of a row is one line, whose label is the word for what is said of the file, and lines
 -- without labels below it
 abbrev pub RowsBeginWithTheirWord : Type 0
 RowsBeginWithTheirWord =
     (certs : List FileFields) (row : Row) (nodes : List Node) → IsRowDocument certs row nodes
-    → (behind : List ℕ) × (more : List Line) × AllByRecursion IsUnder more
+    → (behind : List ℕ) × (more : List Line) × AllByRecursion IsUnlabelled more
     × (document_rows (document_of nodes) ≡ labelled (word_label (word_of row.said)) behind ∷ more)
 
 -- each row is counted under one word

@@ -18,7 +18,7 @@ use Rattle.rpki_files.specs.Files.{FileFields}
 use Rattle.rpki_files.specs.LocatorFiles.{AreLocator}
 use Rattle.rpki_verdicts.specs.GivenLocators.{locator_octets}
 use Rattle.rpki_verdicts.specs.PathAnswers.{IsNoLocator, reason_of}
-use Rattle.rpki_verdicts.specs.Reasons.{IsReason}
+use Rattle.rpki_verdicts.specs.Reasons.{IsPathReason}
 use Rattle.rpki_verdicts.specs.ShownPaths.{AreShown, placed_of}
 use Rattle.rpki_verdicts.specs.TreeParts.{AreAllAccepted, AreDamaged, AreTreesOf, shown_part, wrong_at}
 use Rattle.rpki_verdicts.specs.Trees.{TreeFields, is_anchor_at, line_at}
@@ -62,8 +62,8 @@ SaysUnseen trees file None said =
     × (option_map (λ name. name.now) error ≡ error_above trees why) × (said ≡ Unseen why error)
 
 -- where no verdict says it
-abbrev pub IsUnsaid : Trees → ℕ → FileFields → Said → Type 0
-IsUnsaid trees place file said = SaysUnseen trees file (wrong_at trees.parts.items place) said
+abbrev pub SaysWithoutVerdict : Trees → ℕ → FileFields → Said → Type 0
+SaysWithoutVerdict trees place file said = SaysUnseen trees file (wrong_at trees.parts.items place) said
 
 -- of an accepted certificate in a tree over these files of certificates, under their names below the
 -- directory that is named: the paths as they are shown,
@@ -77,7 +77,7 @@ SaysAccepted certs tree place paths _ = ⊥
 -- of a rejected one
 abbrev pub SaysRejected : FileFields → ℕ → PathFault → Said → Type 0
 SaysRejected file index error (Rejected fault) =
-    (fault.index ≡ index) × IsReason error file.octets (reason_of fault)
+    (fault.index ≡ index) × IsPathReason error file.octets (reason_of fault)
 SaysRejected file index error _ = ⊥
 
 -- by its line in a tree
@@ -85,18 +85,18 @@ abbrev pub SaysLine : Trees → Tree → ℕ → FileFields → Option Line → 
 SaysLine trees tree place file (Some (line.Accepted paths)) said =
     SaysAccepted (placed_of trees) tree place paths said
 SaysLine trees tree place file (Some (line.Rejected index error)) said = SaysRejected file index error said
-SaysLine trees tree place file _ said = IsUnsaid trees place file said
+SaysLine trees tree place file _ said = SaysWithoutVerdict trees place file said
 
 -- by the answer on a TAL: that it is the trust anchor, or a copy of it; or its line
 abbrev pub SaysAnswer : Trees → ℕ → FileFields → TreeAnswer → Said → Type 0
-SaysAnswer trees place file (NoAnchor wrong) said = IsUnsaid trees place file said
+SaysAnswer trees place file (NoAnchor wrong) said = SaysWithoutVerdict trees place file said
 SaysAnswer trees place file (Walked tree) said =
     MatchBool (is_anchor_at tree place) (said ≡ Anchor)
     (SaysLine trees tree place file (line_at tree place) said)
 
 -- by the part that tells most of it
 abbrev pub SaysPart : Trees → ℕ → FileFields → Option TreePart → Said → Type 0
-SaysPart trees place file None said = IsUnsaid trees place file said
+SaysPart trees place file None said = SaysWithoutVerdict trees place file said
 SaysPart trees place file (Some part) said = SaysAnswer trees place file part.answer said
 
 -- what is said of the certificate of a file at a place
@@ -114,9 +114,9 @@ is_unasked (Rejected fault) =
 is_unasked _ = false
 
 -- then this is the key of its issuer, as it names it, where it names one
-abbrev pub IsUnasked : FileFields → Said → Option (List ℕ) → Type 0
-IsUnasked file said None = IsTrue (is_unasked said) → (key : List ℕ) → NamesSigner key file.octets → ⊥
-IsUnasked file said (Some key) = IsTrue (is_unasked said) × NamesSigner key file.octets
+abbrev pub IsUnaskedKey : FileFields → Said → Option (List ℕ) → Type 0
+IsUnaskedKey file said None = IsTrue (is_unasked said) → (key : List ℕ) → NamesSigner key file.octets → ⊥
+IsUnaskedKey file said (Some key) = IsTrue (is_unasked said) × NamesSigner key file.octets
 
 -- ---- files
 
@@ -132,17 +132,17 @@ SaysFile trees place next file said limit =
 
 -- a row: the file, how many octets stand behind what it begins with, what is said of it, the key of the
 -- issuer that has no current CRL, and the limit that was reached below it
-pub record IsRow (trees : Trees) (place next : ℕ) (file : FileFields) (row : Row) : Type 0 where
+pub record IsTreeRow (trees : Trees) (place next : ℕ) (file : FileFields) (row : Row) : Type 0 where
   pub file_is : row.file.now ≡ file
   pub left_is : StandBehind file.octets row.left
   pub says : SaysFile trees place next file row.said row.limit
-  pub unasked_is : IsUnasked file row.said row.unasked
+  pub unasked_is : IsUnaskedKey file row.said row.unasked
 
 -- the rows of files, one after the other, with the places before and behind them
 abbrev pub AreRowsFrom : Trees → ℕ → ℕ → List FileFields → List Row → Type 0
 AreRowsFrom trees place last [] rows = (rows ≡ []) × (last ≡ place)
 AreRowsFrom trees place last (file ∷ files) rows =
-    (next : ℕ) × (row : Row) × (more : List Row) × IsRow trees place next file row
+    (next : ℕ) × (row : Row) × (more : List Row) × IsTreeRow trees place next file row
     × AreRowsFrom trees next last files more × (rows ≡ row ∷ more)
 
 -- the rows of all files

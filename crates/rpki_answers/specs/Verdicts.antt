@@ -9,9 +9,9 @@ use Rattle.rpki_cert.specs.declared.inspect.Kind.{Kind}
 use Rattle.rpki_crl.specs.Lists.{IsCertificateList}
 use Rattle.rpki_der.specs.Encoding.{Means}
 use Rattle.rpki_der.specs.Times.{Moment}
-use Rattle.rpki_document.specs.Documents.{Told, text, inner, words, count, flag, Span, say, tell, show, keep, Node}
+use Rattle.rpki_document.specs.Documents.{ToldValue, text, inner, words, count, flag, Span, say, tell, show, keep, Node}
 use Rattle.rpki_document.specs.Documents.{head, line, unsaid, inside, each, document_of, document_json, document_text}
-use Rattle.rpki_document.specs.Documents.{kept, told_line}
+use Rattle.rpki_document.specs.Documents.{kept_node, told_line}
 use Rattle.rpki_files.specs.Contents.{IsList}
 use Rattle.rpki_files.specs.Files.{FileFields}
 use Rattle.rpki_keys.specs.Locators.{NamedTal}
@@ -29,7 +29,7 @@ use Rattle.rpki_verdicts.specs.GivenLocators.{LocatorFields}
 use Rattle.rpki_verdicts.specs.PathFiles.{QuestionFields, IsAnchorLocator}
 use Rattle.rpki_verdicts.specs.declared.path.Fault.{Fault}
 use Rattle.rpki_verdicts.specs.declared.path.Verdict.TheVariants.{Accepted, Rejected}
-use Rattle.rpki_answers.specs.JsonTexts.{value_text}
+use Rattle.rpki_answers.specs.JsonTexts.{json_value_text}
 use Rattle.rpki_answers.specs.RejectionDetails.{AreDetails, details_nodes}
 use Rattle.rpki_answers.specs.ToldValues.{addresses_node, identifier_told, key_nodes, kind_told, listed_nodes}
 use Rattle.rpki_answers.specs.ToldValues.{moment_told, numbers_node, serial_told, set_nodes}
@@ -66,12 +66,12 @@ pub record IsKnown (strict : Bool) (index : ℕ) (file : FileFields) (node : Nod
   pub node_is : node ≡ certificate_node index kind cert.fields.serial file.name
 
 -- it begins with none, and this is said of it
-pub record IsOther (index : ℕ) (file : FileFields) (node : Node) : Type 0 where
+pub record IsOtherFileNode (index : ℕ) (file : FileFields) (node : Node) : Type 0 where
   pub none : (cert : CertFields) → Means IsCertificate cert file.octets → ⊥
   pub node_is : node ≡ other_node index file.name
 
 abbrev pub IsCertificateNode : Bool → ℕ → FileFields → Node → Type 0
-IsCertificateNode strict index file node = IsKnown strict index file node ⊎ IsOther index file node
+IsCertificateNode strict index file node = IsKnown strict index file node ⊎ IsOtherFileNode index file node
 
 -- of each file, where the first has this path index
 abbrev pub AreCertificates : Bool → ℕ → List FileFields → List Node → Type 0
@@ -94,7 +94,7 @@ note_node name note = inside [] (document_of (
 -- the notes of a certificate
 abbrev pub noted_node : List ℕ → List Note → Node
 noted_node name notes = inside [] (document_of (
-    kept (codes "file") (text name)
+    kept_node (codes "file") (text name)
     ∷ each (codes "notes") (document_of (map (note_node name) notes))
     ∷ []))
 
@@ -199,7 +199,7 @@ AreHeld holder (Some c) nodes =
     holder_nodes (codes "Issuer's AS") (codes "Issuer's IPv4") (codes "Issuer's IPv6") holder)) ∷ [])
 
 -- whether CRLs were given
-abbrev pub revocation_told : List FileFields → Told
+abbrev pub revocation_told : List FileFields → ToldValue
 revocation_told [] = words (codes "not checked, no CRL was given") (codes "not checked")
 revocation_told (list ∷ lists) =
     words (codes "checked, no certificate is revoked by the CRLs given") (codes "checked")
@@ -270,7 +270,7 @@ fault_spans name says section =
 -- the name of the file of the certificate that is wrong
 abbrev pub faulty_file : Option (List ℕ) → List Node
 faulty_file None = []
-faulty_file (Some name) = kept (codes "file") (text name) ∷ []
+faulty_file (Some name) = kept_node (codes "file") (text name) ∷ []
 
 -- in which step, and which certificate is wrong
 abbrev pub step_line : List ℕ → ℕ → Node
@@ -330,7 +330,7 @@ are_some (x ∷ xs) = true
 -- what was asked, for a program: the files' names, and what is checked
 abbrev pub asked_nodes : QuestionFields → List Node
 asked_nodes question =
-    each (codes "path") (document_of (map (λ file. kept [] (text file.name)) question.members))
+    each (codes "path") (document_of (map (λ file. kept_node [] (text file.name)) question.members))
     ∷ unsaid (
     keep (codes "tal_checked") (flag (are_some question.locators))
     ∷ keep (codes "names_checked") (flag question.names)
@@ -386,4 +386,4 @@ pub record IsJsonOfPath (format : Format) (x : Context) (question : QuestionFiel
   pub finding_is : IsFinding x question finding
   pub nodes : List Node
   pub nodes_are : IsVerdict question finding nodes
-  pub text_is : text ≡ value_text format (document_json (document_of nodes))
+  pub text_is : text ≡ json_value_text format (document_json (document_of nodes))

@@ -7,7 +7,7 @@ ghost use Rattle.rpki_document.specs.Views.{leaf_view};
 ghost use Rattle.rpki_text.specs.BlockLines.{family_address_text, family_text};
 ghost use Rattle.rpki_parts.specs.NameTexts.{name_text};
 ghost use Rattle.rpki_text.specs.KeyTexts.{point_text};
-ghost use Rattle.rpki_answers.specs.ToldValues.{addresses_node, algorithm_word, ends_node, exponent_nodes, form_nodes, form_word, identifier_told, key_nodes, kind_told, line_at, listed_nodes, moment_told, numbers_node, point_node, point_nodes, resource_nodes, set_nodes, signature_line, single_node, unsigned_line, until_line};
+ghost use Rattle.rpki_answers.specs.ToldValues.{addresses_node, algorithm_word, ends_node, exponent_nodes, form_nodes, form_word, identifier_told, key_nodes, kind_told, line_under, listed_nodes, moment_told, numbers_node, point_node, point_nodes, resource_nodes, set_nodes, signature_line, single_node, unsigned_line, until_line};
 
 use rpki_blocks::{Addr, AsBlock, AsBlocks, AsResources, IpBlock, IpBlocks, IpResources};
 use rpki_cert::{Kind, TbsCert};
@@ -283,7 +283,7 @@ fn add_at<'p>(
     pieces: Vec<Piece<'p>>,
 ) -> Result<(), AllocError>
     ensures { let label = option_map (λ l. l.now) label.entry in
-        let its = line_at label (spans_of pieces.entry.items) in
+        let its = line_under label (spans_of pieces.entry.items) in
         OnOk result (Adds (its ∷ []) parts.old.items parts.new.items) }
 {
     match label {

@@ -4,7 +4,7 @@ ghost use Rattle.std.specs.Str.{bytes_eq};
 ghost use Rattle.std.specs.Prelude.{◌≡◌, ◌++◌, ◌∷◌, [], Some, codes, count_by, length, map, option_map, IfOk, OnOk};
 ghost use Rattle.rpki_document.specs.Building.{Adds, AddsSome, nodes_of, spans_of};
 ghost use Rattle.rpki_document.specs.Documents.{count, further, inner, keep, say, show, tell, text};
-ghost use Rattle.rpki_answers.specs.TreeDocuments.{AreOthers, ArePaths, AreSaid, IsAccepted, IsRowDocument, above_node, above_nodes, also_line, also_node, more_line, more_nodes, same_spans, shown_node, accepted_head, anchor_head, below_spans, count_line, count_lines, count_of, counts_node, damage_nodes, end_nodes, ended_word, error_node, errors_node, errors_of, file_first, file_last, has_error, has_word, index_node, issuer_spans, left_line, left_nodes, left_words, limit_nodes, limit_spans, limited_spans, name_of, no_anchor_head, no_locator_nodes, rejected_head, rejected_row, rejected_spans, row_head, searched_line, limited_line, whole_line, tal_head, tal_node, tals_node, tree_asked, tree_unchecked, unasked_of, unread_node, unseen_row, with_error, with_unasked};
+ghost use Rattle.rpki_answers.specs.TreeDocuments.{AreOtherPaths, ArePathNodes, AreSaid, AreAcceptedNodes, IsRowDocument, above_node, above_nodes, also_line, also_node, more_line, more_nodes, same_spans, shown_node, accepted_head, anchor_head, below_spans, count_line, count_lines, count_of, counts_node, damage_nodes, end_nodes, ended_word, error_node, errors_node, errors_of, file_first, file_last, has_error, has_word, index_node, issuer_spans, left_line, left_nodes, left_words, limit_nodes, limit_spans, limited_spans, name_of, no_anchor_head, no_locator_nodes, rejected_head, rejected_row, rejected_spans, row_head, searched_line, limited_line, whole_line, tal_head, tal_node, tals_node, tree_asked, tree_unchecked, unasked_of, unread_node, unseen_row, with_error, with_unasked};
 ghost use Rattle.rpki_verdicts.specs.Trees.{asked_of};
 
 use crate::told::kind_leaf;
@@ -457,7 +457,7 @@ fn add_others<'p>(
     shown: &FoundPath,
     others: &[&FoundPath],
 ) -> Result<(), AllocError>
-    ensures { let Are = AreOthers tree.now shown.now (map (λ path. path.now) others.now) in
+    ensures { let Are = AreOtherPaths tree.now shown.now (map (λ path. path.now) others.now) in
         OnOk result (AddsSome Are parts.old.items parts.new.items) }
 {
     for path in others {
@@ -473,7 +473,7 @@ fn add_paths<'p>(
     tree: &Tree<'p, '_>,
     paths: &ShownPaths<'_>,
 ) -> Result<(), AllocError>
-    ensures { let Are = ArePaths tree.now paths.now in
+    ensures { let Are = ArePathNodes tree.now paths.now in
         OnOk result (AddsSome Are parts.old.items parts.new.items) }
 {
     if paths.others.is_empty() {
@@ -516,7 +516,7 @@ fn add_accepted<'p>(
     paths: &ShownPaths<'_>,
     kind: Kind,
 ) -> Result<(), AllocError>
-    ensures { let Are = IsAccepted name.now tree.now paths.now kind in
+    ensures { let Are = AreAcceptedNodes name.now tree.now paths.now kind in
         OnOk result (AddsSome Are parts.old.items parts.new.items) }
 {
     let shown = paths.shown;

@@ -3,12 +3,12 @@ ghost use Rattle.std.specs.Prelude.{◌≡◌, ◌≤◌, ◌<◌, ◌+◌, ◌^
 ghost use Rattle.rpki_cert.specs.SaidKinds.{SaysKind};
 ghost use Rattle.rpki_path.specs.Judging.{last_certificate};
 ghost use Rattle.rpki_verdicts.specs.PathAnswers.{reason_of};
-ghost use Rattle.rpki_verdicts.specs.Reasons.{IsReason};
+ghost use Rattle.rpki_verdicts.specs.Reasons.{IsPathReason};
 ghost use Rattle.rpki_verdicts.specs.ShownPaths.{placed_of};
 ghost use Rattle.rpki_verdicts.specs.TreeParts.{wrong_at};
-ghost use Rattle.rpki_verdicts.specs.UnseenCertificates.{AreIssuers};
+ghost use Rattle.rpki_verdicts.specs.UnseenCertificates.{AreTreeIssuers};
 ghost use Rattle.rpki_answers.specs.TreeDocuments.{is_unaccepted, said_error, unseen_word, word_key, word_label, word_of};
-ghost use Rattle.rpki_answers.specs.TreeRows.{AreRows, IsRow, IsUnasked, SaysAccepted, SaysAnswer, SaysCertificate, SaysLine, SaysUnseen, is_unasked};
+ghost use Rattle.rpki_answers.specs.TreeRows.{AreRows, IsTreeRow, IsUnaskedKey, SaysAccepted, SaysAnswer, SaysCertificate, SaysLine, SaysUnseen, is_unasked};
 
 use rpki_cert::{Kind, said_kind};
 use rpki_files::{BareObject, Front};
@@ -172,7 +172,7 @@ fn judged_as(judged: &Judged) -> Kind
 // What is wrong with a certificate that was rejected at a path index.
 fn fault_of(index: usize, error: &PathFault, file: &BareObject<'_>) -> Fault
     ensures index { result.index ≡ index }
-    ensures reason { IsReason error.now file.now.octets (reason_of result) }
+    ensures reason { IsPathReason error.now file.now.octets (reason_of result) }
 {
     let (step, name, rule) = of_path(error, file.octets());
     Fault {
@@ -190,7 +190,7 @@ fn said_unseen<'t, 'q, 'n>(
     place: usize,
     file: &BareObject<'_>,
 ) -> Said<'t, 'q, 'n>
-    requires { AreIssuers trees.now issuers.now }
+    requires { AreTreeIssuers trees.now issuers.now }
     ensures { SaysUnseen trees.now file.now (wrong_at trees.now.parts.items place) result }
 {
     match trees.wrong_at(place) {
@@ -211,7 +211,7 @@ fn said_accepted<'t, 'q, 'n>(
     place: usize,
     paths: &'t AcceptedPaths,
 ) -> Result<Said<'t, 'q, 'n>, AllocError>
-    requires { AreIssuers trees.now issuers.now }
+    requires { AreTreeIssuers trees.now issuers.now }
     ensures { IfOk result (SaysAccepted (placed_of trees.now) tree.now place paths.now) }
 {
     let shown = trees.shown_paths(alloc, issuers, tree, place, paths)?;
@@ -229,7 +229,7 @@ fn said_by_line<'t, 'q, 'n>(
     file: &BareObject<'_>,
     line: Option<&'t Line>,
 ) -> Result<Said<'t, 'q, 'n>, AllocError>
-    requires { AreIssuers trees.now issuers.now }
+    requires { AreTreeIssuers trees.now issuers.now }
     ensures { let its = option_map (λ l. l.now) line.entry in
         IfOk result (SaysLine trees.now tree.now place file.now its) }
 {
@@ -249,7 +249,7 @@ fn said_by_answer<'t, 'q, 'n>(
     place: usize,
     file: &BareObject<'_>,
 ) -> Result<Said<'t, 'q, 'n>, AllocError>
-    requires { AreIssuers trees.now issuers.now }
+    requires { AreTreeIssuers trees.now issuers.now }
     ensures { IfOk result (SaysAnswer trees.now place file.now answer.now) }
 {
     match answer {
@@ -271,7 +271,7 @@ fn said_of_certificate<'t, 'q, 'n>(
     place: usize,
     file: &BareObject<'_>,
 ) -> Result<Said<'t, 'q, 'n>, AllocError>
-    requires { AreIssuers trees.now issuers.now }
+    requires { AreTreeIssuers trees.now issuers.now }
     ensures { IfOk result (SaysCertificate trees.now place file.now) }
 {
     match trees.shown_part(place) {
@@ -292,7 +292,7 @@ fn is_unasked(said: &Said<'_, '_, '_>) -> bool
 
 // The key of the issuer of which no CRL can be asked.
 fn unasked_key(file: &BareObject<'_>, said: &Said<'_, '_, '_>) -> Option<KeyIdentifier>
-    ensures { IsUnasked file.now said.now result }
+    ensures { IsUnaskedKey file.now said.now result }
 {
     if is_unasked(said) {
         signer_of(file)
@@ -309,10 +309,10 @@ fn row_of<'t, 'q, 'n>(
     place: usize,
     file: &'q BareObject<'n>,
 ) -> Result<(usize, Row<'t, 'q, 'n>), AllocError>
-    requires issuers { AreIssuers trees.now issuers.now }
+    requires issuers { AreTreeIssuers trees.now issuers.now }
     requires place { place + 1 < 2 ^ 64 }
     ensures next { IfOk result (λ it. it.0 ≤ place + 1) }
-    ensures row { IfOk result (λ it. IsRow trees.now place it.0 file.now it.1) }
+    ensures row { IfOk result (λ it. IsTreeRow trees.now place it.0 file.now it.1) }
 {
     let left = file.left();
     let (next, said, limit) = match file.front() {
@@ -345,7 +345,7 @@ pub fn rows_of<'t, 'q, 'n>(
     issuers: &Issuers,
     files: &'q [BareObject<'n>],
 ) -> Result<Vec<Row<'t, 'q, 'n>>, AllocError>
-    requires { AreIssuers trees.now issuers.now }
+    requires { AreTreeIssuers trees.now issuers.now }
     ensures { IfOk result (λ rows. AreRows trees.now files.now rows.items) }
 {
     let mut rows = Vec::new(alloc);

@@ -3,7 +3,7 @@ ghost use Rattle.std.specs.Prelude.{◌≡◌, ◌++◌, [], ◌∷◌, All, Non
 ghost use Rattle.rpki_cert.specs.Certificates.{IsCertificate};
 ghost use Rattle.rpki_crl.specs.Lists.{IsCertificateList};
 ghost use Rattle.rpki_document.specs.Building.{Adds, AddsSome, nodes_of};
-ghost use Rattle.rpki_document.specs.Documents.{Node, inner, kept, say, show, text, unsaid};
+ghost use Rattle.rpki_document.specs.Documents.{Node, inner, kept_node, say, show, text, unsaid};
 ghost use Rattle.rpki_document.specs.Views.{leaf_view};
 ghost use Rattle.rpki_parts.specs.Keys.{key_identifier};
 ghost use Rattle.rpki_text.specs.KeyTexts.{IsKeyAnswer};
@@ -1016,7 +1016,7 @@ fn add_path<'p>(
     alloc: Global,
     members: &'p [Object<'_>],
 ) -> Result<(), AllocError>
-    ensures { let its = map (λ file. kept [] (text file.name)) members.now in
+    ensures { let its = map (λ file. kept_node [] (text file.name)) members.now in
         OnOk result (Adds its parts.old.items parts.new.items) }
 {
     for file in members {

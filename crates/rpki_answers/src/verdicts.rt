@@ -8,7 +8,7 @@ ghost use Rattle.rpki_verdicts.specs.GivenLocators.{IsRead};
 ghost use Rattle.rpki_verdicts.specs.PathFiles.{demands_of};
 ghost use Rattle.rpki_document.specs.Building.{nodes_of};
 ghost use Rattle.rpki_document.specs.Documents.{document_json, document_of, document_text};
-ghost use Rattle.rpki_answers.specs.JsonTexts.{value_text};
+ghost use Rattle.rpki_answers.specs.JsonTexts.{json_value_text};
 ghost use Rattle.rpki_answers.specs.Outcomes.{IsOutcomeOfValidate};
 ghost use Rattle.rpki_answers.specs.Verdicts.{IsJsonOfPath, IsTextOfPath};
 ghost use Rattle.rpki_answers.specs.VerdictTexts.{IsAcceptedFinding, IsFinding};
@@ -35,7 +35,7 @@ pub enum Finding {
 // The JSON of a document, in a format.
 fn json_text(alloc: Global, parts: &Vec<Part<'_>>, format: Format) -> Result<String, AllocError>
     ensures { let d = document_of (nodes_of parts.now.items) in
-        IfOk result (λ text. string_bytes text ≡ value_text format (document_json d)) }
+        IfOk result (λ text. string_bytes text ≡ json_value_text format (document_json d)) }
 {
     let value = json_of(alloc, parts)?;
     let text = value_text(alloc, &value, format);
@@ -53,7 +53,7 @@ pub(crate) fn rendered(
         format ≡ Format.Text → IfOk result (λ text. string_bytes text ≡ document_text d) }
     ensures json { let d = document_of (nodes_of parts.now.items) in
         format ≢ Format.Text
-        → IfOk result (λ text. string_bytes text ≡ value_text format (document_json d)) }
+        → IfOk result (λ text. string_bytes text ≡ json_value_text format (document_json d)) }
 {
     if format == Format::Text {
         return text_of(alloc, parts);

@@ -12,10 +12,10 @@ use Rattle.rpki_issuing.specs.declared.wanted.preparing.WantedError.TheVariants.
 use Rattle.rpki_issuing.specs.declared.wanted.preparing.WantedError.TheVariants.{UnreadyList, Unsigned}
 use Rattle.rpki_issuing.specs.declared.wanted.preparing.WantedError.TheVariants.{UnsignedList}
 use Rattle.rpki_c.specs.ListAnswers.{AnswersBehind, AnswersListCompletedBelow, AnswersListFields, AnswersListNamed}
-use Rattle.rpki_c.specs.ListAnswers.{AnswersListSigned, AsksList, CompletesList, GivesNoList, IsListNamed}
+use Rattle.rpki_c.specs.ListAnswers.{AnswersListSigned, WantsListFields, CompletesList, GivesNoList, IsListNamed}
 use Rattle.rpki_c.specs.ListAnswers.{fields_before}
 use Rattle.rpki_c.specs.WantedAnswers.{unfit_of}
-use Rattle.rpki_c.specs.WantedLists.{GivesList}
+use Rattle.rpki_c.specs.WantedLists.{GivesWantedList}
 use Rattle.rpki_c.specs.declared.list_completing.RpkiListCompletion.{RpkiListCompletion}
 use Rattle.rpki_c.specs.declared.question.Terms.{Terms}
 use Rattle.rpki_c.specs.declared.unissued.Unissued.{Unissued}
@@ -48,7 +48,7 @@ module _ (w : RpkiWantedList) (t : ListTerms) (issuer : TbsFields) (before : Opt
   ungiven_fields (why.Unfit e) h = absurd h
   ungiven_fields _ h = h
 
-  pub unwanted_fields : (wanted : WantedListFields) → GivesList w t wanted → (e : WantedError)
+  pub unwanted_fields : (wanted : WantedListFields) → GivesWantedList w t wanted → (e : WantedError)
       → (e ≢ Memory → (f : ListFields Revoked) → IsListWanted wanted (fields_before before) issuer f → ⊥)
       → AnswersListFields w t issuer before (Err (unfit_of e))
   unwanted_fields wanted given e none =
@@ -61,7 +61,7 @@ module _ (w : RpkiWantedList) (t : ListTerms) (issuer : TbsFields) (before : Opt
   unlisted_behind (why.Unfit e) (wanted, given, none) = (wanted, given, λ f is so. none f is tt)
   unlisted_behind _ h = h
 
-  pub unready_behind : (f : ListFields Revoked) → AsksList w t issuer before f → (e : WantedError)
+  pub unready_behind : (f : ListFields Revoked) → WantsListFields w t issuer before f → (e : WantedError)
       → (e ≢ Memory → (octets : List ℕ) → IsListPrepared t.asked.now t.asked.strict issuer f octets → ⊥)
       → AnswersBehind w t issuer before (Err (unfit_of e))
   unready_behind f asks e none =

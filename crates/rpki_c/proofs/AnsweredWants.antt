@@ -7,8 +7,8 @@ use Rattle.rpki_issuing.specs.declared.wanted.preparing.WantedError.{WantedError
 use Rattle.rpki_issuing.specs.declared.wanted.preparing.WantedError.TheVariants as wanting
 use Rattle.rpki_path.specs.Asking.{RevocationChecks}
 use Rattle.rpki_c.specs.WantedAnswers.{AnswersBelow, AnswersCompletedBelow, AnswersFields, AnswersNamed}
-use Rattle.rpki_c.specs.WantedAnswers.{AnswersSigned, AnswersValue, AsksFields, GivesValues, unfit_of}
-use Rattle.rpki_issuing.specs.Issuers.{IsNamed}
+use Rattle.rpki_c.specs.WantedAnswers.{AnswersSigned, AnswersValue, WantsFields, GivesValues, unfit_of}
+use Rattle.rpki_issuing.specs.Issuers.{HasIssuerName}
 use Rattle.rpki_issuing.specs.PreparedOctets.{IsToSign}
 use Rattle.rpki_c.specs.declared.completing.CompletionTerms.{CompletionTerms}
 use Rattle.rpki_c.specs.declared.completing.RpkiCompletion.{RpkiCompletion}
@@ -27,7 +27,7 @@ module _ (w : RpkiWanted) (t : WantedTerms) (issuer : Option ResourceFields) whe
     fields_below (Unfit e) h = absurd h
     fields_below _ h = h
 
-    pub unfit_below : (f : TbsFields) → AsksFields w t issuer f → (e : WantedError) →
+    pub unfit_below : (f : TbsFields) → WantsFields w t issuer f → (e : WantedError) →
         IsUnprepared t.kind issuer path checks t.asked.now t.asked.strict f e →
         AnswersBelow w t issuer path checks (Err (unfit_of e))
     unfit_below f asks wanting.Memory h = tt
@@ -45,7 +45,7 @@ module _ (c : RpkiCompletion) (t : CompletionTerms) (issuer : Option ResourceFie
   named_below (Unfit e) h = absurd h
   named_below _ h = h
 
-  pub unfit_completed : (f : TbsFields) → IsToSign f c.prepared.now → IsNamed issuer f → (e : WantedError) →
+  pub unfit_completed : (f : TbsFields) → IsToSign f c.prepared.now → HasIssuerName issuer f → (e : WantedError) →
       IsUncompleted t.kind issuer path checks t.asked.now t.asked.strict f c.prepared.now c.signature.now e →
       AnswersCompletedBelow c t issuer path checks (Err (unfit_of e))
   unfit_completed f signed named wanting.Memory h = tt

@@ -15,7 +15,8 @@ use Rattle.rpki_crl.specs.ListHeads.{NamesKey}
 use Rattle.rpki_crl.specs.Lists.{CrlFields, CrlState, IsCertificateList, certificate_list_format}
 use Rattle.rpki_crl.proofs.ListFormats.{certificate_list_alone}
 use Rattle.rpki_crl.proofs.NamedKeys.{list_names, one_key}
-use Rattle.rpki_c.specs.Verdicts.{AreAllLists, AreListsBut, AreListsNaming, AreNoList, IsForeign, IsGiven, IsUnreadList}
+use Rattle.rpki_c.specs.Verdicts.{AreAllLists, AreListsBut, AreListsNaming, AreNoList, IsForeign, IsListGiven}
+use Rattle.rpki_c.specs.Verdicts.{IsUnreadList}
 use Rattle.rpki_c.specs.declared.refusal.Refusal.{Refusal}
 use Rattle.rpki_c.specs.declared.refusal.Refusal.TheVariants as refusal
 
@@ -30,7 +31,7 @@ module _ (MayPass : List ℕ → Type 0) where
       inr (l, others, e, given, pass_push strings others octets are passes)
 
   give_push : (strings : List (List ℕ)) (lists : List CrlState) (octets : List ℕ) (m : CrlState) →
-      AreListsBut MayPass strings lists → IsGiven octets m →
+      AreListsBut MayPass strings lists → IsListGiven octets m →
       AreListsBut MayPass (strings ++ octets ∷ []) (lists ++ m ∷ [])
   give_push [] lists octets m are is = inr (m, [], ap (λ (ls : List CrlState). ls ++ m ∷ []) are, is, refl)
   give_push (s ∷ strings) lists octets m (inl (p, are)) is = inl (p, give_push strings lists octets m are is)
@@ -51,14 +52,14 @@ module _ (MayPass : List ℕ → Type 0) where
         (sym (take_more strings i [] within)) (pass_push (take i strings) lists (get_or strings i []) are passes)
 
     -- or it is a list
-    pub one_given : (m : CrlState) → IsGiven (get_or strings i []) m →
+    pub one_given : (m : CrlState) → IsListGiven (get_or strings i []) m →
         AreListsBut MayPass (take (i + 1) strings) (lists ++ m ∷ [])
     one_given m is = subst (λ (front : List (List ℕ)). AreListsBut MayPass front (lists ++ m ∷ []))
         (sym (take_more strings i [] within)) (give_push (take i strings) lists (get_or strings i []) m are is)
 
     -- as it was read
     pub one_more : (o : Option CrlState) (items : List CrlState) →
-        MatchOption o (MayPass (get_or strings i [])) (IsGiven (get_or strings i [])) →
+        MatchOption o (MayPass (get_or strings i [])) (IsListGiven (get_or strings i [])) →
         MatchOption o (items ≡ lists) (λ l. items ≡ lists ++ l ∷ [])
         → AreListsBut MayPass (take (i + 1) strings) items
     one_more None items passes same = subst (λ (ls : List CrlState). AreListsBut MayPass (take (i + 1) strings) ls)

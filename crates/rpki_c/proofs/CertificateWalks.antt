@@ -24,8 +24,9 @@ use Rattle.rpki_parts.proofs.PartFormats.{whole_bits_are}
 use Rattle.rpki_parts.proofs.SignedFormats.{SignedParts, signed_parts}
 use Rattle.rpki_cert.specs.Certificates.{CertFields, IsCertificate, TbsFields, certificate_content_format}
 use Rattle.rpki_cert.specs.Certificates.{tbs_content_format, tbs_format, version_format}
-use Rattle.rpki_c.specs.CertificateSpans.{AreSignedSpans, AreTagged, BitsStoodAt, GoesBehind, HasBits, HasTag}
-use Rattle.rpki_c.specs.CertificateSpans.{IsAtFields, IsAtKey, IsInside, IsKeySpan, IsSpan, StandsNoBits}
+use Rattle.rpki_c.specs.CertificateSpans.{AreSignedSpans, AreTagged, BitsStoodAt, GoesBehind, HasKeyBits}
+use Rattle.rpki_files.specs.StopPlaces.{HasTag}
+use Rattle.rpki_c.specs.CertificateSpans.{IsAtFields, IsAtKey, IsInside, IsKeySpan, IsSpanWithin, StandsNoBits}
 use Rattle.rpki_c.specs.CertificateSpans.{StandsNone, StoodAt}
 use Rattle.rpki_folder.specs.Folders.{BeginsNoCertificate}
 
@@ -107,7 +108,7 @@ none_left tags i old now whole left = λ text rest are parts.
 
 -- what a cursor went over is a span of the source
 pub span_between : (old new : Place) → old.to ≤ length old.source → new.from ≤ new.to → MovesOn old new →
-    IsSpan old.source (old.from, new.from)
+    IsSpanWithin old.source (old.from, new.from)
 span_between old new within later moves = record { order = moves.from; within = omega (arith, moves.to, later, within) }
 
 -- and stands from its place to the next one
@@ -342,10 +343,10 @@ module _ (octets : List ℕ) (at : Place) (is : IsAtKey octets at) where
   no_key none = λ c means. let k = is.key c means in none k.1.text k.0 (tagged_at c means) k.1.parts
 
   -- its span
-  pub key_stood : (r : Result (ℕ × ℕ) DecodeError) → IfOk r (IsSpan at.source) →
+  pub key_stood : (r : Result (ℕ × ℕ) DecodeError) → IfOk r (IsSpanWithin at.source) →
       IfOk r (StoodAt (HasTag SEQUENCE) at) → IfOk r (IsKeySpan octets)
   key_stood (Ok span) is_span stood = record {
-    is_span = subst (λ (s : List ℕ). IsSpan s span) is.source is_span;
+    is_span = subst (λ (s : List ℕ). IsSpanWithin s span) is.source is_span;
     key = λ c means.
         let k = is.key c means in
         let there : slice_range octets span.0 span.1 ≡ k.1.text =
@@ -376,13 +377,13 @@ bits_read bits text octets v after is parts b =
 
 -- what was read there is a span of the source
 pub bits_span_is : (old mid : Place) → MovesOn old mid → (bits : Place) → IsWithin bits mid → bits.from ≤ bits.to →
-    bits.to ≤ length bits.source → IsSpan old.source (bits.from, bits.to)
-bits_span_is old mid moves bits within order inside = subst (λ (s : List ℕ). IsSpan s (bits.from, bits.to))
+    bits.to ≤ length bits.source → IsSpanWithin old.source (bits.from, bits.to)
+bits_span_is old mid moves bits within order inside = subst (λ (s : List ℕ). IsSpanWithin s (bits.from, bits.to))
     (within.source ∙ moves.source) (record { order = order; within = inside })
 
 module _ (old mid : Place) (behind : GoesBehind (HasTag SEQUENCE) old mid) where
   -- behind the algorithm
-  bits_left : (bits : List ℕ) (has : HasBits bits (remaining old)) → remaining mid ≡ has.1
+  bits_left : (bits : List ℕ) (has : HasKeyBits bits (remaining old)) → remaining mid ≡ has.1
   bits_left bits has = behind has.0 has.1 has.2 has.4
 
   -- they aren't there
@@ -418,7 +419,7 @@ module _ (octets : List ℕ) (at : Place) (inside : IsInside octets at) where
   module _ (second : Place) (behind_message : GoesBehind (HasTag SEQUENCE) at second) where
     -- the signature stands behind it
     signature_left : (c : CertFields) → Means IsCertificate c octets →
-        HasBits c.signed_data.signature.value (remaining second)
+        HasKeyBits c.signed_data.signature.value (remaining second)
     signature_left c means =
         let parts = (parts_of octets at at inside c means).0 in (
           parts.algorithm,
@@ -434,14 +435,15 @@ module _ (octets : List ℕ) (at : Place) (inside : IsInside octets at) where
     no_signature none = λ c means. none c.signed_data.signature.value (signature_left c means)
 
     -- both spans
-    pub both_stood : (message signature : ℕ × ℕ) → IsSpan at.source message → StoodAt (HasTag SEQUENCE) at message →
-        MovesOn at second → IsSpan second.source signature → BitsStoodAt second signature
+    pub both_stood : (message signature : ℕ × ℕ) → IsSpanWithin at.source message →
+        StoodAt (HasTag SEQUENCE) at message →
+        MovesOn at second → IsSpanWithin second.source signature → BitsStoodAt second signature
         → AreSignedSpans octets message signature
     both_stood message signature is stood moves is_too stood_too =
         let source : second.source ≡ octets = moves.source ∙ inside.source in
         record {
-          first_is_span = subst (λ (s : List ℕ). IsSpan s message) inside.source is;
-          second_is_span = subst (λ (s : List ℕ). IsSpan s signature) source is_too;
+          first_is_span = subst (λ (s : List ℕ). IsSpanWithin s message) inside.source is;
+          second_is_span = subst (λ (s : List ℕ). IsSpanWithin s signature) source is_too;
           message_is = λ c means.
               let parts = (parts_of octets at at inside c means).0 in
               subst (λ (s : List ℕ). slice_range s message.0 message.1 ≡ c.signed_data.message) inside.source

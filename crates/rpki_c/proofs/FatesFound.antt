@@ -26,8 +26,8 @@ use Rattle.rpki_path.specs.declared.judging.Judged.{Judged}
 use Rattle.rpki_path.specs.declared.located.LocatedError.TheVariants.{OtherKey, NoResources, Path as path}
 use Rattle.rpki_path.specs.declared.path_fault.PathError.{PathError}
 use Rattle.rpki_path.specs.declared.path_fault.PathFault.{PathFault}
-use Rattle.rpki_folder.specs.FirstPlaces.{AreFirstsIn, IsFirstIn, first_of}
-use Rattle.rpki_folder.specs.Folders.{AreOneAt, octets_at, cas_at}
+use Rattle.rpki_folder.specs.FirstPlaces.{AreFirstsIn, IsFirstIn, first_place_of}
+use Rattle.rpki_folder.specs.Folders.{AreOneAt, string_at, cas_at}
 use Rattle.rpki_folder.specs.FoundAnchors.{AreWrongAnchors, HasNoValid, IsAnchorAt, IsFound, IsValidAt}
 use Rattle.rpki_folder.specs.KeptLines.{step, AreLines, IsRejectedWithin, IsLine}
 use Rattle.rpki_cert.specs.SaidKinds.{BeginsWithKind}
@@ -56,10 +56,10 @@ use Rattle.rpki_folder.proofs.KeptPaths.{first_told}
 use Rattle.rpki_folder.proofs.Renamed.{all_looked_there}
 use Rattle.rpki_folder.proofs.TriedAnchors.{begins_anchor, least_place}
 use Rattle.rpki_folder.proofs.WalkedNames.{walked_chain}
-use Rattle.rpki_c.specs.FolderFates.{Fate, anchor, HasNoAnchor, IsFirstWithKey, NoneHasKey, IsFate, IsJudgedAt}
-use Rattle.rpki_c.specs.FolderFates.{IsValidFate, StandsBelow, AreFates, AreJudged}
+use Rattle.rpki_c.specs.FolderFates.{Fate, anchor, HasNoFolderAnchor, IsFirstWithKey, NoneHasKey, IsFate, IsJudgedAt}
+use Rattle.rpki_c.specs.FolderFates.{IsValidFate, StandsBelow, AreFates, IsJudgedFolder}
 use Rattle.rpki_c.specs.FolderFates.Steps.{IsAddedAs, IsSorted, origin_of, kept_fate, added_fate, fate_at}
-use Rattle.rpki_c.specs.FolderFates.Steps.{reached_at, IsWalked, refusal_of, wrong_first}
+use Rattle.rpki_c.specs.FolderFates.Steps.{line_reached_at, IsWalked, refusal_of, wrong_first}
 use Rattle.rpki_folder.specs.UsualBounds.{usual_steps}
 use Rattle.rpki_c.specs.FolderQuestions.{asked_or}
 use Rattle.rpki_c.specs.FolderTelling.{AreLinesOf, AnswersBelow}
@@ -100,7 +100,7 @@ module _ (s : Sorted) (sorted : IsSorted s) where
   all_certs = s.folder.certs
 
   -- the certificate at a place is the string there
-  filed_same : (p : ℕ) → octets_at all_strings (origin_of s p) ≡ octets_at all_certs p
+  filed_same : (p : ℕ) → string_at all_strings (origin_of s p) ≡ string_at all_certs p
   filed_same p = elim (cases_lt p (length all_certs)) [
     | inl low ↦ sorted.came_from p (length s.added.items) low
     | inr high ↦
@@ -108,7 +108,7 @@ module _ (s : Sorted) (sorted : IsSorted s) where
         let past : origin_of s p ≡ length s.added.items = get_or_past s.origins.items p (length s.added.items)
         (omega (arith, high, few)) in
         let n = sorted.count in
-        ap (λ (i : ℕ). octets_at all_strings i) past ∙ get_or_past all_strings (length s.added.items) []
+        ap (λ (i : ℕ). string_at all_strings i) past ∙ get_or_past all_strings (length s.added.items) []
         (omega (arith, n)) ∙ sym (get_or_past all_certs p [] high)
   ]
 
@@ -122,7 +122,7 @@ module _ (s : Sorted) (sorted : IsSorted s) where
     stands : StandsAt all_certs place c
 
   added_as : (i : ℕ) (c : CertFields) → i < length all_strings → StandsAt all_strings i c → (a : Added) →
-      get_or s.added.items i Neither ≡ a → IsAddedAs (octets_at all_strings i) a → IsAddedAt i c
+      get_or s.added.items i Neither ≡ a → IsAddedAs (string_at all_strings i) a → IsAddedAt i c
   added_as i c low stands (Certificate p) is says =
       let at = sorted.placed i p Neither low is in
       let from = at.1 (length s.added.items) in
@@ -133,7 +133,7 @@ module _ (s : Sorted) (sorted : IsSorted s) where
         inside = at.0;
         from = from;
         stands = subst (λ (o : List ℕ). Means IsCertificate c o)
-            (ap (λ (n : ℕ). octets_at all_strings n) (sym from) ∙ filed_same p) stands;
+            (ap (λ (n : ℕ). string_at all_strings n) (sym from) ∙ filed_same p) stands;
       }
   added_as i c low stands list_added is says = absurd (says.1.no_certificate c stands)
   added_as i c low stands Neither is says = absurd (says.0 c stands)
@@ -141,7 +141,7 @@ module _ (s : Sorted) (sorted : IsSorted s) where
   added_at : (i : ℕ) (c : CertFields) → StandsAt all_strings i c → IsAddedAt i c
   added_at i c stands = elim (cases_lt i (length all_strings)) [
     | inl low ↦ added_as i c low stands (get_or s.added.items i Neither) refl (sorted.begins i Neither low)
-    | inr high ↦ absurd (no_certificate c (octets_at all_strings i) stands (get_or_past all_strings i [] high))
+    | inr high ↦ absurd (no_certificate c (string_at all_strings i) stands (get_or_past all_strings i [] high))
   ]
 
   -- ---- the trust anchor
@@ -157,7 +157,7 @@ module _ (s : Sorted) (sorted : IsSorted s) where
             inside = at.inside;
             stands = at.stands;
             is_valid = subst (λ (o : List ℕ). IsValidAnchor x asked names t o)
-                (ap (λ (n : ℕ). octets_at all_strings n) (sym at.from) ∙ filed_same at.place) valid.is_valid;
+                (ap (λ (n : ℕ). string_at all_strings n) (sym at.from) ∙ filed_same at.place) valid.is_valid;
           },
         )
 
@@ -179,7 +179,7 @@ module _ (s : Sorted) (sorted : IsSorted s) where
     -- a string with the locator's key is one of those that are wrong
     module _ (wrong : List WrongCandidate)
         (are : AreWrongAnchors x asked names t all_certs (length all_certs) wrong) where
-      wrong_among : (i : ℕ) → BeginsWithKey t.tal (octets_at all_strings i) →
+      wrong_among : (i : ℕ) → BeginsWithKey t.tal (string_at all_strings i) →
           (p : ℕ) × Any (λ w. w.place ≡ p) wrong × (origin_of s p ≡ i)
       wrong_among i key =
           let at = added_at i key.cert key.begins in (
@@ -219,12 +219,12 @@ module _ (s : Sorted) (sorted : IsSorted s) where
 -- ---- the same certificates at other places
 
 same_cas : (certs others : List (List ℕ)) (moved : ℕ → ℕ) (places : List ℕ) →
-    AllByRecursion (λ q. octets_at others (moved q) ≡ octets_at certs q) places →
+    AllByRecursion (λ q. string_at others (moved q) ≡ string_at certs q) places →
     cas_at others (map moved places) ≡ cas_at certs places
 same_cas certs others moved [] h = refl
 same_cas certs others moved (q ∷ places) h =
     ap (λ (octets : List ℕ). candidate Authority octets ∷ cas_at others (map moved places)) h.0
-    ∙ ap (λ (l : List Candidate). candidate Authority (octets_at certs q) ∷ l) (same_cas certs others moved places h.1)
+    ∙ ap (λ (l : List Candidate). candidate Authority (string_at certs q) ∷ l) (same_cas certs others moved places h.1)
 
 all_of : {X : Type 0} (P : X → Type 0) → ((x : X) → P x) → (xs : List X) → AllByRecursion P xs
 all_of P h [] = tt
@@ -247,7 +247,7 @@ all_admitted above (q ∷ places) = (tt, all_admitted (above ++ q ∷ []) places
 -- the CAs of a path begin with certificates
 zip_begins : (certs : List (List ℕ)) (places : List ℕ) (rest : List Candidate) (ms : List Member) →
     AllZip IsMember ms (cas_at certs places ++ rest) →
-    AllByRecursion (λ q. BeginsCertificate (octets_at certs q)) places
+    AllByRecursion (λ q. BeginsCertificate (string_at certs q)) places
 zip_begins certs [] rest ms h = tt
 zip_begins certs (q ∷ places) rest [] h = absurd h
 zip_begins certs (q ∷ places) rest (m ∷ ms) h = ((m.cert, h.0.begins), zip_begins certs places rest ms h.1)
@@ -258,12 +258,12 @@ module _ (x : Context) (asked : RevocationChecks) (t : NamedTal) (top_octets : L
 
   leads_begins : (certs : List (List ℕ)) (places : List ℕ) (rest : List Candidate) (r : ResourceFields) →
       LeadsTo x asked root (cas_at certs places ++ rest) r →
-      AllByRecursion (λ q. BeginsCertificate (octets_at certs q)) places
+      AllByRecursion (λ q. BeginsCertificate (string_at certs q)) places
   leads_begins certs places rest r leads = zip_begins certs places rest leads.path.below leads.path_of.members
 
   accepted_begins : (certs : List (List ℕ)) (places : List ℕ) (kind : Kind) (octets : List ℕ) (j : Judged) →
       BeginsWithKind kind octets → IsAcceptedAs x asked root (members_at root certs places) kind octets j →
-      AllByRecursion (λ q. BeginsCertificate (octets_at certs q)) places
+      AllByRecursion (λ q. BeginsCertificate (string_at certs q)) places
   accepted_begins certs places Anchor octets j says h = absurd says.2
   accepted_begins certs places Authority octets j says h =
       leads_begins certs places (candidate Authority octets ∷ []) j.holder h.0
@@ -298,13 +298,13 @@ module _ (x : Context) (asked : RevocationChecks) (t : NamedTal) (top_octets : L
 
   -- what is reached at one place is reached at another, below the same CAs
   reached_there : (certs others : List (List ℕ)) (above places : List ℕ) (p q : ℕ) →
-      cas_at others places ≡ cas_at certs above → octets_at others q ≡ octets_at certs p →
+      cas_at others places ≡ cas_at certs above → string_at others q ≡ string_at certs p →
       IsReached x asked root certs above p → IsReached x asked root others places q
   reached_there certs others above places p q cas octets h = (
     h.0,
     h.1,
     subst (λ (o : List ℕ). BeginsWithKind h.0 o) (sym octets) h.2,
-    subst (λ (l : List Candidate). IsAcceptedAs x asked root l h.0 (octets_at others q) h.1) (sym cas)
+    subst (λ (l : List Candidate). IsAcceptedAs x asked root l h.0 (string_at others q) h.1) (sym cas)
         (subst (λ (o : List ℕ). IsAcceptedAs x asked root (cas_at certs above) h.0 o h.1) (sym octets) h.3),
   )
 
@@ -314,7 +314,7 @@ module _ (x : Context) (asked : RevocationChecks) (t : NamedTal) (top_octets : L
       (count : length w.kept.now ≡ length w.sorted.now.folder.certs) (ended : Ended) (limited : List LimitedCa)
       (k : IsWalked x asked names root w.sorted.now.folder.certs w.firsts.now depth steps w.kept.now ended
       limited) (law : IsUnambiguous IsCertificate) (are : AreFirstsIn w.sorted.now.folder.certs w.firsts.now)
-      (there : top_octets ≡ octets_at w.sorted.now.folder.certs w.anchor) where
+      (there : top_octets ≡ string_at w.sorted.now.folder.certs w.anchor) where
     abbrev s : Sorted
     s = w.sorted.now
 
@@ -331,23 +331,23 @@ module _ (x : Context) (asked : RevocationChecks) (t : NamedTal) (top_octets : L
     top = origin_of s w.anchor
 
     abbrev first : ℕ → ℕ
-    first = first_of first_table
+    first = first_place_of first_table
 
-    origin_same : (p : ℕ) → octets_at strings_of (origin_of s p) ≡ octets_at certs_of p
+    origin_same : (p : ℕ) → string_at strings_of (origin_of s p) ≡ string_at certs_of p
     origin_same p = filed_same s sorted p
 
     origin_cas : (above : List ℕ) → cas_at strings_of (map (origin_of s) above) ≡ cas_at certs_of above
     origin_cas above = same_cas certs_of strings_of (origin_of s) above
-        (all_of (λ q. octets_at strings_of (origin_of s q) ≡ octets_at certs_of q) origin_same above)
+        (all_of (λ q. string_at strings_of (origin_of s q) ≡ string_at certs_of q) origin_same above)
 
     abbrev looked_at : List ℕ → ℕ → Type 0
     looked_at = IsLookedAt names (IsFirstIn first_table) k.holder.cert certs_of
 
     -- a path of which each certificate was looked at chains, if names are asked
     walked_names : (above : List ℕ) (p : ℕ) (kind : Kind) (way : Path)
-        → IsPathOf top_octets (cas_at certs_of above ++ candidate kind (octets_at certs_of p) ∷ []) way
+        → IsPathOf top_octets (cas_at certs_of above ++ candidate kind (string_at certs_of p) ∷ []) way
         → AreAdmitted looked_at [] (above ++ p ∷ []) → IsTrue names
-        → BeginChained top_octets (cas_at certs_of above ++ candidate kind (octets_at certs_of p) ∷ [])
+        → BeginChained top_octets (cas_at certs_of above ++ candidate kind (string_at certs_of p) ∷ [])
     walked_names above p kind way way_of by asks =
         let is = anchor_is x asked t top_octets k.holder k.holds law way.anchor way_of.anchor_begins in
         let here : AreAdmitted (IsLookedAt true (IsFirstIn first_table) way.anchor certs_of) [] (above ++ p ∷ []) =
@@ -363,25 +363,25 @@ module _ (x : Context) (asked : RevocationChecks) (t : NamedTal) (top_octets : L
         }
 
     -- a certificate that was told as accepted is judged so, also where a copy of it stands
-    module _ (above : List ℕ) (p i : ℕ) (alike : AreAlike (octets_at certs_of p) (octets_at strings_of i)) where
-      judged_there : (j : Judged) → IsRightOf x asked root (cas_at certs_of above) (octets_at certs_of p) (Ok j)
+    module _ (above : List ℕ) (p i : ℕ) (alike : AreAlike (string_at certs_of p) (string_at strings_of i)) where
+      judged_there : (j : Judged) → IsRightOf x asked root (cas_at certs_of above) (string_at certs_of p) (Ok j)
           → AreAdmitted looked_at [] (above ++ p ∷ [])
           → IsJudgedAt x asked names root strings_of (map (origin_of s) above) i j
       judged_there j right by =
           let kind = right.0 in
-          let way = path_to (cas_at certs_of above) kind (octets_at certs_of p) j right.1 right.2 in
+          let way = path_to (cas_at certs_of above) kind (string_at certs_of p) j right.1 right.2 in
           let cas = sym (origin_cas above) in
           record {
             kind = kind;
-            says = kind_alike (octets_at certs_of p) (octets_at strings_of i) alike kind right.1;
-            accepted_is = subst (λ (l : List Candidate). IsAcceptedAs x asked root l kind (octets_at strings_of i)
+            says = kind_alike (string_at certs_of p) (string_at strings_of i) alike kind right.1;
+            accepted_is = subst (λ (l : List Candidate). IsAcceptedAs x asked root l kind (string_at strings_of i)
                 j) cas
-                (accepted_alike (octets_at certs_of p) (octets_at strings_of i) alike x asked root
+                (accepted_alike (string_at certs_of p) (string_at strings_of i) alike x asked root
                 (cas_at certs_of above) kind j right.2);
             chained = λ asks.
                 subst (λ (l : List Candidate). BeginChained top_octets
-                (l ++ candidate kind (octets_at strings_of i) ∷ [])) cas
-                (chained_alike (octets_at certs_of p) (octets_at strings_of i) alike top_octets
+                (l ++ candidate kind (string_at strings_of i) ∷ [])) cas
+                (chained_alike (string_at certs_of p) (string_at strings_of i) alike top_octets
                 (cas_at certs_of above) kind (walked_names above p kind way.0 way.1 by asks));
           }
 
@@ -391,11 +391,11 @@ module _ (x : Context) (asked : RevocationChecks) (t : NamedTal) (top_octets : L
           let u = of_told (λ (t : Told). IsRight x asked root certs_of t × IsLetIn looked_at [] t)
           (λ t. (t.above ≡ above) × (t.place ≡ p) × (t.verdict ≡ Ok j)) k.tells
           (all_both (IsRight x asked root certs_of) (IsLetIn looked_at []) k.tells k.right k.let_in) h in
-          let right : IsRightOf x asked root (cas_at certs_of above) (octets_at certs_of p) (Ok j) =
+          let right : IsRightOf x asked root (cas_at certs_of above) (string_at certs_of p) (Ok j) =
           subst (λ (v : Result Judged PathFault). IsRightOf x asked root (cas_at certs_of above)
-          (octets_at certs_of p) v) u.2.2
-          (subst (λ (q : ℕ). IsRightOf x asked root (cas_at certs_of above) (octets_at certs_of q) u.0.verdict) u.2.1
-          (subst (λ (l : List ℕ). IsRightOf x asked root (cas_at certs_of l) (octets_at certs_of u.0.place)
+          (string_at certs_of p) v) u.2.2
+          (subst (λ (q : ℕ). IsRightOf x asked root (cas_at certs_of above) (string_at certs_of q) u.0.verdict) u.2.1
+          (subst (λ (l : List ℕ). IsRightOf x asked root (cas_at certs_of l) (string_at certs_of u.0.place)
           u.0.verdict) u.2.0 u.1.0)) in
           let by : AreAdmitted looked_at [] (above ++ p ∷ []) =
           subst (λ (q : ℕ). AreAdmitted looked_at [] (above ++ q ∷ [])) u.2.1
@@ -403,24 +403,24 @@ module _ (x : Context) (asked : RevocationChecks) (t : NamedTal) (top_octets : L
           judged_there j right by
 
     -- a certificate that was told as rejected is rejected
-    told_rejected : (p i n : ℕ) (fault : PathFault) → AreAlike (octets_at certs_of p) (octets_at strings_of i) →
+    told_rejected : (p i n : ℕ) (fault : PathFault) → AreAlike (string_at certs_of p) (string_at strings_of i) →
         Any (λ t. (t.place ≡ p) × (step t ≡ n) × (t.verdict ≡ Err fault)) k.tells
         → (above : List ℕ) × (n ≡ length above + 1) × IsRightOf x asked root (members_at root strings_of above)
-        (octets_at strings_of i) (Err fault)
+        (string_at strings_of i) (Err fault)
     told_rejected p i n fault alike h =
         let u = of_told (IsRight x asked root certs_of)
         (λ t. (t.place ≡ p) × (step t ≡ n) × (t.verdict ≡ Err fault)) k.tells k.right h in
         let above = u.0.above in
-        let right : IsRightOf x asked root (cas_at certs_of above) (octets_at certs_of p) (Err fault) =
+        let right : IsRightOf x asked root (cas_at certs_of above) (string_at certs_of p) (Err fault) =
         subst (λ (v : Result Judged PathFault). IsRightOf x asked root (cas_at certs_of above)
-        (octets_at certs_of p) v) u.2.2
-        (subst (λ (q : ℕ). IsRightOf x asked root (cas_at certs_of above) (octets_at certs_of q) u.0.verdict) u.2.0
+        (string_at certs_of p) v) u.2.2
+        (subst (λ (q : ℕ). IsRightOf x asked root (cas_at certs_of above) (string_at certs_of q) u.0.verdict) u.2.0
         u.1) in (
           map (origin_of s) above,
           sym u.2.1 ∙ ap (λ (m : ℕ). m + 1) (sym (length-map above (origin_of s))),
-          subst (λ (l : List Candidate). IsRightOf x asked root l (octets_at strings_of i) (Err fault))
+          subst (λ (l : List Candidate). IsRightOf x asked root l (string_at strings_of i) (Err fault))
               (sym (origin_cas above))
-              (rejected_alike (octets_at certs_of p) (octets_at strings_of i) alike x asked root
+              (rejected_alike (string_at certs_of p) (string_at strings_of i) alike x asked root
               (cas_at certs_of above) fault right),
         )
 
@@ -496,13 +496,13 @@ module _ (x : Context) (asked : RevocationChecks) (t : NamedTal) (top_octets : L
         let here : StandsAt certs_of (first w.anchor) c = subst (λ (n : ℕ). StandsAt certs_of n c) is
         (stands_first law certs_of first_table are p c filed) in
         let same : c ≡ k.holder.cert = one_meant IsCertificate law c k.holder.cert
-        (octets_at certs_of (first w.anchor)) here
+        (string_at certs_of (first w.anchor)) here
         (stands_first law certs_of first_table are w.anchor k.holder.cert anchor_stands) in
         (c, stands, subst (λ (d : CertFields). StandsAt strings_of top d) (sym same) top_stands)
 
     -- what is kept of a certificate is right
-    kept_right : (p i : ℕ) → AreAlike (octets_at certs_of p) (octets_at strings_of i) →
-        BeginsCertificate (octets_at strings_of i) → (l : Line) → IsLine k.tells p l →
+    kept_right : (p i : ℕ) → AreAlike (string_at certs_of p) (string_at strings_of i) →
+        BeginsCertificate (string_at strings_of i) → (l : Line) → IsLine k.tells p l →
         IsFate x asked names root strings_of top i (kept_fate (origin_of s) l)
     kept_right p i alike begins Unseen h = begins
     kept_right p i alike begins (Accepted paths) h = told_judged paths.first.above.items p i alike
@@ -523,12 +523,12 @@ module _ (x : Context) (asked : RevocationChecks) (t : NamedTal) (top_octets : L
           | inr apart ↦ subst (λ (f : Fate). IsFate x asked names root strings_of top i f)
               (sym (beside_top (first at.place) apart))
               (kept_right (first at.place) i
-              (are_alike law c (octets_at certs_of (first at.place)) (octets_at strings_of i) filed stands)
+              (are_alike law c (string_at certs_of (first at.place)) (string_at strings_of i) filed stands)
               (c, stands) (get_or w.kept.now (first at.place) Unseen)
               (k.lines_are (first at.place) Unseen low))
         ])
 
-    added_right : (i : ℕ) (a : Added) → get_or s.added.items i Neither ≡ a → IsAddedAs (octets_at strings_of i) a →
+    added_right : (i : ℕ) (a : Added) → get_or s.added.items i Neither ≡ a → IsAddedAs (string_at strings_of i) a →
         IsFate x asked names root strings_of top i (fate_at w i)
     added_right i (Certificate p) is says = cert_right i says.0 says.1
     added_right i list_added is says =
@@ -548,41 +548,41 @@ module _ (x : Context) (asked : RevocationChecks) (t : NamedTal) (top_octets : L
     moved i = place_in (get_or s.added.items i Neither)
 
     moved_added : (q : ℕ) (a : Added) → q < length strings_of → get_or s.added.items q Neither ≡ a →
-        IsAddedAs (octets_at strings_of q) a → BeginsCertificate (octets_at strings_of q) →
-        octets_at certs_of (place_in a) ≡ octets_at strings_of q
+        IsAddedAs (string_at strings_of q) a → BeginsCertificate (string_at strings_of q) →
+        string_at certs_of (place_in a) ≡ string_at strings_of q
     moved_added q (Certificate p) low is says begins =
         let at = sorted.placed q p Neither low is in
-        sym (origin_same p) ∙ ap (λ (n : ℕ). octets_at strings_of n) (at.1 (length s.added.items))
+        sym (origin_same p) ∙ ap (λ (n : ℕ). string_at strings_of n) (at.1 (length s.added.items))
     moved_added q list_added low is says begins = absurd (says.1.no_certificate begins.0 begins.1)
     moved_added q Neither low is says begins = absurd (says.0 begins.0 begins.1)
 
-    moved_same : (q : ℕ) → BeginsCertificate (octets_at strings_of q) →
-        octets_at certs_of (moved q) ≡ octets_at strings_of q
+    moved_same : (q : ℕ) → BeginsCertificate (string_at strings_of q) →
+        string_at certs_of (moved q) ≡ string_at strings_of q
     moved_same q begins = elim (cases_lt q (length strings_of)) [
       | inl low ↦ moved_added q (get_or s.added.items q Neither) low refl (sorted.begins q Neither low) begins
       | inr high ↦
           let n = sorted.count in
           let past : get_or s.added.items q Neither ≡ Neither =
           get_or_past s.added.items q Neither (omega (arith, n, high)) in
-          ap (λ (a : Added). octets_at certs_of (place_in a)) past ∙ get_or_past certs_of (length certs_of) []
+          ap (λ (a : Added). string_at certs_of (place_in a)) past ∙ get_or_past certs_of (length certs_of) []
           (omega arith) ∙ sym (get_or_past strings_of q [] high)
     ]
 
-    moved_cas : (above : List ℕ) → AllByRecursion (λ q. BeginsCertificate (octets_at strings_of q)) above →
+    moved_cas : (above : List ℕ) → AllByRecursion (λ q. BeginsCertificate (string_at strings_of q)) above →
         cas_at certs_of (map moved above) ≡ cas_at strings_of above
     moved_cas above begins =
         same_cas strings_of certs_of moved above
-        (all_weaker (λ (q : ℕ). BeginsCertificate (octets_at strings_of q))
-        (λ (q : ℕ). octets_at certs_of (moved q) ≡ octets_at strings_of q) moved_same above begins)
+        (all_weaker (λ (q : ℕ). BeginsCertificate (string_at strings_of q))
+        (λ (q : ℕ). string_at certs_of (moved q) ≡ string_at strings_of q) moved_same above begins)
 
     -- what stands in the folder stood among the strings_of
     stood_added : (q : ℕ) (a : Added) → get_or s.added.items q Neither ≡ a → (c : CertFields) →
-        Means IsCertificate c (octets_at certs_of (place_in a)) → StandsAt strings_of q c
+        Means IsCertificate c (string_at certs_of (place_in a)) → StandsAt strings_of q c
     stood_added q (Certificate p) is c stands = elim (cases_lt q (length strings_of)) [
       | inl low ↦
           let at = sorted.placed q p Neither low is in
           subst (λ (o : List ℕ). Means IsCertificate c o)
-          (sym (origin_same p) ∙ ap (λ (n : ℕ). octets_at strings_of n) (at.1 (length s.added.items))) stands
+          (sym (origin_same p) ∙ ap (λ (n : ℕ). string_at strings_of n) (at.1 (length s.added.items))) stands
       | inr high ↦
           let n = sorted.count in
           let past : get_or s.added.items q Neither ≡ Neither =
@@ -590,10 +590,10 @@ module _ (x : Context) (asked : RevocationChecks) (t : NamedTal) (top_octets : L
           absurd (cc (is, past))
     ]
     stood_added q list_added is c stands =
-        absurd (no_certificate c (octets_at certs_of (length certs_of)) stands
+        absurd (no_certificate c (string_at certs_of (length certs_of)) stands
         (get_or_past certs_of (length certs_of) [] (omega arith)))
     stood_added q Neither is c stands =
-        absurd (no_certificate c (octets_at certs_of (length certs_of)) stands
+        absurd (no_certificate c (string_at certs_of (length certs_of)) stands
         (get_or_past certs_of (length certs_of) [] (omega arith)))
 
     stood : (q : ℕ) (c : CertFields) → StandsAt certs_of (moved q) c → StandsAt strings_of q c
@@ -624,8 +624,8 @@ module _ (x : Context) (asked : RevocationChecks) (t : NamedTal) (top_octets : L
         Covers ended depth (length above + 1) → looked c strings_of [] (above ++ i ∷ []) →
         IsReached x asked root strings_of above i → IsValidFate (fate_at w i)
     reached_valid c above i starts covers by h =
-        let begins = accepted_begins strings_of above h.0 (octets_at strings_of i) h.1 h.2 h.3 in
-        let itself : BeginsCertificate (octets_at strings_of i) = (h.2.0, h.2.1) in
+        let begins = accepted_begins strings_of above h.0 (string_at strings_of i) h.1 h.2 h.3 in
+        let itself : BeginsCertificate (string_at strings_of i) = (h.2.0, h.2.1) in
         let reached = reached_there strings_of certs_of above (map moved above) i (moved i) (moved_cas above begins)
         (moved_same i itself) h in
         let all_firsts = map first (map moved above) in
@@ -664,9 +664,9 @@ pub walked_found : {E : Type 0} (x : Context) (asked : RevocationChecks) (names 
     issuer certs [] depth steps (Ok ended) ts
     → ((root : Root) → LeadsTo x asked root (members_at root certs []) issuer →
     AreLimited x asked (IsLookedAt names (IsFirstIn firsts) issuer.cert certs) root certs depth steps limited)
-    → IsWalked x asked names (at_anchor t (octets_at certs place)) certs firsts depth steps kept ended limited
+    → IsWalked x asked names (at_anchor t (string_at certs place)) certs firsts depth steps kept ended limited
 walked_found x asked names t certs firsts place issuer law found depth steps kept ended limited ts lines below limits =
-    let octets = octets_at certs place in
+    let octets = string_at certs place in
     let tells = below (at_anchor t octets) found.0 in
     let valid = found.1.valid.is_valid in
     let same : valid.0.cert ≡ issuer.cert = anchor_is x asked t octets valid.0 valid.1 law issuer.cert
@@ -690,7 +690,7 @@ module _ (x : Context) (names : Bool) (t : NamedTal) (w : WalkLines) (sorted : I
     (depth steps : ℕ) (count : length w.kept.now ≡ length w.sorted.now.folder.certs) (ended : Ended)
     (limited : List LimitedCa) (law : IsUnambiguous IsCertificate)
     (are : AreFirstsIn w.sorted.now.folder.certs w.firsts.now)
-    (table : IsTableOf (first_of w.firsts.now w.anchor) (length w.sorted.now.folder.certs) limited
+    (table : IsTableOf (first_place_of w.firsts.now w.anchor) (length w.sorted.now.folder.certs) limited
     w.limits.now) where
   abbrev by_lists : RevocationChecks
   by_lists = by_named_lists names x w.sorted.now.folder.lists
@@ -699,16 +699,17 @@ module _ (x : Context) (names : Bool) (t : NamedTal) (w : WalkLines) (sorted : I
   folder_certs = w.sorted.now.folder.certs
 
   judged_found : IsAnchorAt x by_lists names t folder_certs w.anchor →
-      IsWalked x by_lists names (at_anchor t (octets_at folder_certs w.anchor)) folder_certs w.firsts.now depth
+      IsWalked x by_lists names (at_anchor t (string_at folder_certs w.anchor)) folder_certs w.firsts.now depth
       (asked_or steps usual_steps) w.kept.now ended limited
-      → AreJudged x names t w.sorted.now.strings.now (origin_of w.sorted.now w.anchor) depth steps ended (fate_at w)
-      (reached_at w)
+      → IsJudgedFolder x names t w.sorted.now.strings.now (origin_of w.sorted.now w.anchor) depth steps ended
+      (fate_at w)
+      (line_reached_at w)
   unfolding anchor_among
   judged_found anchor_is_at k =
       let s = w.sorted.now in
       let top = origin_of s w.anchor in
-      let octets = octets_at folder_certs w.anchor in
-      let same : octets ≡ octets_at s.strings.now top = sym (filed_same s sorted w.anchor) in
+      let octets = string_at folder_certs w.anchor in
+      let same : octets ≡ string_at s.strings.now top = sym (filed_same s sorted w.anchor) in
       let is = anchor_is x by_lists t octets k.holder k.holds law anchor_is_at.cert anchor_is_at.valid.stands in
       record {
         lists = s.folder.lists;
@@ -741,7 +742,7 @@ module _ (x : Context) (names : Bool) (t : NamedTal) (w : WalkLines) (sorted : I
             reached_found w sorted law are limited table
             (limited_first x by_lists names (at_anchor t octets) k.holder.cert folder_certs w.firsts.now
             w.anchor depth (asked_or steps usual_steps) limited k.limited_are)
-            (octets_at s.strings.now top) same i low;
+            (string_at s.strings.now top) same i low;
       }
 
 -- ---- a wrong trust anchor
@@ -766,17 +767,17 @@ alone x asked octets e h = elim h [
 
 -- why a walk didn't begin
 module _ (x : Context) (t : NamedTal) (all : List (List ℕ)) (top : ℕ) (f : FolderTerms)
-    (n : HasNoAnchor x f.asks_names t all top) where
+    (n : HasNoFolderAnchor x f.asks_names t all top) where
   refused_right : IsUnambiguous IsCertificate → (e : WalkError) →
-      IsWhyNone x (by_named_lists f.asks_names x n.lists) f.asks_names t (octets_at all top) e
+      IsWhyNone x (by_named_lists f.asks_names x n.lists) f.asks_names t (string_at all top) e
       → AnswersBelow x f t all (Err (refusal_of top e))
   refused_right law Memory h = tt
   refused_right law OtherName h = (n, (n.lists, n.lists_are, h))
   refused_right law (at_fault OtherKey) h =
-      absurd (not_both t.tal (octets_at all top) law n.first.has_key h.1)
+      absurd (not_both t.tal (string_at all top) law n.first.has_key h.1)
   refused_right law (at_fault NoResources) h = (n, h.1.1)
   refused_right law (at_fault (path e)) h =
-      (n, h.0, alone x (by_named_lists f.asks_names x n.lists) (octets_at all top) e h.1.0)
+      (n, h.0, alone x (by_named_lists f.asks_names x n.lists) (string_at all top) e h.1.0)
 
 -- ---- answers
 
@@ -788,21 +789,21 @@ module _ (x : Context) (t : NamedTal) (f : FolderTerms) (law : IsUnambiguous IsC
   pub walk_answered : (w : WalkLines) (sorted : IsSorted w.sorted.now)
       (count : length w.kept.now ≡ length w.sorted.now.folder.certs) (it : Walked) (limited : List LimitedCa) →
       AreFirstsIn w.sorted.now.folder.certs w.firsts.now
-      → IsTableOf (first_of w.firsts.now w.anchor) (length w.sorted.now.folder.certs) limited w.limits.now
+      → IsTableOf (first_place_of w.firsts.now w.anchor) (length w.sorted.now.folder.certs) limited w.limits.now
       → IsAnchorAt x (asked_in w.sorted.now) f.asks_names t w.sorted.now.folder.certs w.anchor
-      → IsWalked x (asked_in w.sorted.now) f.asks_names (at_anchor t (octets_at w.sorted.now.folder.certs w.anchor))
+      → IsWalked x (asked_in w.sorted.now) f.asks_names (at_anchor t (string_at w.sorted.now.folder.certs w.anchor))
       w.sorted.now.folder.certs w.firsts.now f.depth (asked_or f.steps usual_steps) w.kept.now it.ended
       limited
-      → AreLinesOf f.asks_key (origin_of w.sorted.now w.anchor) w.sorted.now.strings.now (fate_at w) (reached_at w)
+      → AreLinesOf f.asks_key (origin_of w.sorted.now w.anchor) w.sorted.now.strings.now (fate_at w) (line_reached_at w)
       (length w.sorted.now.strings.now) it.told → it.anchor ≡ origin_of w.sorted.now w.anchor
       → AnswersBelow x f t w.sorted.now.strings.now (Ok it)
   walk_answered w sorted count it limited are table at k lines same = record {
     fate = fate_at w;
-    reached = reached_at w;
-    judged = subst (λ (n : ℕ). AreJudged x f.asks_names t w.sorted.now.strings.now n f.depth f.steps it.ended
-        (fate_at w) (reached_at w)) (sym same)
+    reached = line_reached_at w;
+    judged = subst (λ (n : ℕ). IsJudgedFolder x f.asks_names t w.sorted.now.strings.now n f.depth f.steps it.ended
+        (fate_at w) (line_reached_at w)) (sym same)
         (judged_found x f.asks_names t w sorted f.depth f.steps count it.ended limited law are table at k);
-    lines_are = subst (λ (n : ℕ). AreLinesOf f.asks_key n w.sorted.now.strings.now (fate_at w) (reached_at w)
+    lines_are = subst (λ (n : ℕ). AreLinesOf f.asks_key n w.sorted.now.strings.now (fate_at w) (line_reached_at w)
         (length w.sorted.now.strings.now) it.told) (sym same) lines;
   }
 
@@ -814,7 +815,7 @@ module _ (x : Context) (t : NamedTal) (f : FolderTerms) (law : IsUnambiguous IsC
   wrong_answered s sorted [] are none = none_has_key s sorted x (asked_in s) f.asks_names t are
   wrong_answered s sorted (w ∷ more) are none =
       let top = origin_of s w.place in
-      let n : HasNoAnchor x f.asks_names t s.strings.now top = record {
+      let n : HasNoFolderAnchor x f.asks_names t s.strings.now top = record {
         first = first_among s sorted x (asked_in s) f.asks_names t w more are;
         lists = s.folder.lists;
         lists_are = sorted.lists_are;

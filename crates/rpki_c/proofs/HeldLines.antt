@@ -6,11 +6,11 @@ use Rattle.std.proofs.Math.ListN.{get_or-append}
 use Rattle.std.proofs.lemmas.Bool.{cases_lt}
 use Rattle.std.proofs.lemmas.List.{append-nil, drop-append-le, get_or_push, length-append, length-drop, take-append-le}
 use Rattle.rpki_cert.specs.Verification.{ResourceFields}
-use Rattle.rpki_folder.specs.Folders.{octets_at}
+use Rattle.rpki_folder.specs.Folders.{string_at}
 use Rattle.rpki_c.specs.FolderFates.{Fate, anchor, list, neither, unseen, accepted, rejected}
 use Rattle.rpki_c.specs.FolderLimits.{TellsReached, but_for_limits}
-use Rattle.rpki_c.specs.FolderTelling.{IsLineOf, IsLineWith, AreLinesOf}
-use Rattle.rpki_c.specs.HeldRanges.{AreHeldAt, GoesOn, HaveGrown}
+use Rattle.rpki_c.specs.FolderTelling.{IsFateLine, IsLineWith, AreLinesOf}
+use Rattle.rpki_c.specs.HeldRanges.{AreHeldAt, KeepsItems, HaveGrown}
 use Rattle.rpki_c.specs.Writing.{as_struct, ip_struct, IsPartAt}
 use Rattle.rpki_c.specs.declared.folder_lines.RpkiLine.{RpkiLine}
 use Rattle.rpki_c.specs.declared.folder_lines.ToldLines.{ToldLines}
@@ -33,14 +33,14 @@ part_stays old more at count part h =
     )
 
 -- nothing was added
-goes_on : {A : Type 0} (xs : List A) → GoesOn xs xs
+goes_on : {A : Type 0} (xs : List A) → KeepsItems xs xs
 goes_on xs = ([], sym (append-nil xs))
 
 pub not_grown : (r : Ranges) → HaveGrown r r
 not_grown r = record { v4_on = goes_on r.v4.items; v6_on = goes_on r.v6.items; asn_on = goes_on r.asn.items }
 
 part_goes_on : {A : Type 0} (old new : List A) (at count : ℕ) (part : List A)
-    → GoesOn old new → IsPartAt old at count part → IsPartAt new at count part
+    → KeepsItems old new → IsPartAt old at count part → IsPartAt new at count part
 part_goes_on old new at count part on h =
     subst (λ (l : List _). IsPartAt l at count part) (sym on.1) (part_stays old on.0 at count part h)
 
@@ -55,8 +55,8 @@ held_stays r old new held on h = record {
 
 -- a line of a fate is one without limits
 module _ (asks : Bool) (top : ℕ) (octets : List ℕ) (ranges : Ranges) where
-  line_bare : (fate : Fate) (line : RpkiLine) → IsLineOf asks top octets fate ranges line →
-      IsLineOf asks top octets fate ranges (but_for_limits line)
+  line_bare : (fate : Fate) (line : RpkiLine) → IsFateLine asks top octets fate ranges line →
+      IsFateLine asks top octets fate ranges (but_for_limits line)
   line_bare unseen line h = ap but_for_limits h
   line_bare anchor line h = ap but_for_limits h
   line_bare (accepted above j) line h = (
@@ -72,15 +72,15 @@ module _ (asks : Bool) (top : ℕ) (octets : List ℕ) (ranges : Ranges) where
   line_bare neither line h = ap but_for_limits h
 
   -- and tells limits where these are added
-  pub line_with : (fate : Fate) (r : Reached) (line told : RpkiLine) → IsLineOf asks top octets fate ranges line →
+  pub line_with : (fate : Fate) (r : Reached) (line told : RpkiLine) → IsFateLine asks top octets fate ranges line →
       but_for_limits told ≡ but_for_limits line → TellsReached r told
       → IsLineWith asks top octets fate r ranges told
   line_with fate r line told h same tells =
-      (subst (λ (l : RpkiLine). IsLineOf asks top octets fate ranges l) (sym same) (line_bare fate line h), tells)
+      (subst (λ (l : RpkiLine). IsFateLine asks top octets fate ranges l) (sym same) (line_bare fate line h), tells)
 
 module _ (asks : Bool) (top : ℕ) (old new : Ranges) (on : HaveGrown old new) where
   line_stays : (octets : List ℕ) (fate : Fate) (line : RpkiLine)
-      → IsLineOf asks top octets fate old line → IsLineOf asks top octets fate new line
+      → IsFateLine asks top octets fate old line → IsFateLine asks top octets fate new line
   line_stays octets unseen line h = h
   line_stays octets anchor line h = h
   line_stays octets (accepted above j) line h = (
@@ -104,7 +104,7 @@ module _ (asks : Bool) (top : ℕ) (old new : Ranges) (on : HaveGrown old new) w
       (line : RpkiLine)
       → it.ranges ≡ old → told.ranges ≡ new → told.lines.items ≡ it.lines.items ++ line ∷ []
       → AreLinesOf asks top strings fate reached n it →
-      IsLineWith asks top (octets_at strings n) (fate n) (reached n) new line
+      IsLineWith asks top (string_at strings n) (fate n) (reached n) new line
       → AreLinesOf asks top strings fate reached (n + 1) told
   lines_more strings fate reached n it told line were are pushed h is =
       let size = length-append it.lines.items (line ∷ []) in
@@ -113,27 +113,27 @@ module _ (asks : Bool) (top : ℕ) (old new : Ranges) (on : HaveGrown old new) w
       record {
         count_is = all;
         line_is = λ place d low.
-            subst (λ (r : Ranges). IsLineWith asks top (octets_at strings place) (fate place) (reached place) r
+            subst (λ (r : Ranges). IsLineWith asks top (string_at strings place) (fate place) (reached place) r
             (get_or told.lines.items place d)) (sym are)
-            (subst (λ (l : List RpkiLine). IsLineWith asks top (octets_at strings place) (fate place)
+            (subst (λ (l : List RpkiLine). IsLineWith asks top (string_at strings place) (fate place)
             (reached place) new (get_or l place d)) (sym pushed)
             (elim (cases_lt place n) [
               | inl before ↦
                   let within : place < length it.lines.items = omega (arith, before, count) in
-                  subst (λ (l : RpkiLine). IsLineWith asks top (octets_at strings place) (fate place)
+                  subst (λ (l : RpkiLine). IsLineWith asks top (string_at strings place) (fate place)
                   (reached place) new l)
                   (sym (get_or-append it.lines.items (line ∷ []) d place within))
-                  (stays_with (octets_at strings place) (fate place) (reached place) (get_or it.lines.items place d)
-                  (subst (λ (r : Ranges). IsLineWith asks top (octets_at strings place) (fate place) (reached place)
+                  (stays_with (string_at strings place) (fate place) (reached place) (get_or it.lines.items place d)
+                  (subst (λ (r : Ranges). IsLineWith asks top (string_at strings place) (fate place) (reached place)
                   r (get_or it.lines.items place d)) were
                   (h.line_is place d before)))
               | inr behind ↦
                   let same : place ≡ n = omega (arith, low, behind) in
                   let here : length it.lines.items ≡ place = count ∙ sym same in
-                  subst (λ (l : RpkiLine). IsLineWith asks top (octets_at strings place) (fate place)
+                  subst (λ (l : RpkiLine). IsLineWith asks top (string_at strings place) (fate place)
                   (reached place) new l)
                   (sym (get_or_push it.lines.items line d place here))
-                  (subst (λ (m : ℕ). IsLineWith asks top (octets_at strings m) (fate m) (reached m) new line)
+                  (subst (λ (m : ℕ). IsLineWith asks top (string_at strings m) (fate m) (reached m) new line)
                   (sym same) is)
             ]));
       }

@@ -4,7 +4,7 @@ use Rattle.std.proofs.Common.{◌≡◌, inl, inr, sym, ap, subst}
 use Rattle.rpki_cert.specs.Verification.{Context}
 use Rattle.rpki_path.specs.GivenPaths.{PathStrings}
 use Rattle.rpki_path.specs.declared.judging.Judged.{Judged}
-use Rattle.rpki_c.specs.Verdicts.{AnswersKeyed, AnswersNamed, AnswersTrusted, AreChainedIf, HasKeyAsked, IsOtherName}
+use Rattle.rpki_c.specs.Verdicts.{AnswersKeyed, AnswersNamed, AnswersTrusted, AreChainedIf, HasKeyAsked, IsNameRefusal}
 use Rattle.rpki_c.specs.declared.question.RpkiQuestion.{RpkiQuestion}
 use Rattle.rpki_c.specs.declared.question.Terms.{Terms}
 use Rattle.rpki_c.specs.declared.refusal.Refusal.{Refusal}
@@ -13,7 +13,7 @@ use Rattle.rpki_c.specs.declared.refusal.Refusal.TheVariants.{UnusedKey}
 -- the answer of an accepted path is that of its names
 pub named_answer : (x : Context) (q : RpkiQuestion) (t : Terms) (path : PathStrings) (judged : Judged)
     (r : Result Judged Refusal) → AnswersTrusted x q t path (Ok judged)
-    → IfOk r (λ it. (it ≡ judged) × AreChainedIf t.asks_names path) → IfErr r (IsOtherName t.asks_names path) →
+    → IfOk r (λ it. (it ≡ judged) × AreChainedIf t.asks_names path) → IfErr r (IsNameRefusal t.asks_names path) →
     AnswersNamed x q t path r
 named_answer x q t path judged (Ok it) trusted chained other =
     inr (subst (λ (j : Judged). AnswersTrusted x q t path (Ok j)) (sym chained.0) trusted, chained.1)

@@ -11,9 +11,9 @@ use Rattle.rpki_der.specs.Values.{IsUnambiguous}
 use Rattle.rpki_der.proofs.Formats.{one_meant}
 use Rattle.rpki_ext.specs.Kinds.{Means}
 use Rattle.rpki_cert.specs.Certificates.{CertFields, IsCertificate}
-use Rattle.rpki_folder.specs.FirstPlaces.{AreFirstsIn, IsCertificateOctets, first_from, first_of}
-use Rattle.rpki_folder.specs.Folders.{octets_at}
-use Rattle.rpki_folder.specs.LimitTables.{IsTableOf, both, ca_at, lesser, nothing, of_limit}
+use Rattle.rpki_folder.specs.FirstPlaces.{AreFirstsIn, IsCertificateOctets, first_from, first_place_of}
+use Rattle.rpki_folder.specs.Folders.{string_at}
+use Rattle.rpki_folder.specs.LimitTables.{IsTableOf, both_reached, ca_at, lesser, nothing, of_limit}
 use Rattle.rpki_folder.specs.ReachedLimits.{LimitedCa}
 use Rattle.rpki_folder.specs.Walks.{StandsAt}
 use Rattle.rpki_folder.specs.declared.bounds.Limit.{Limit}
@@ -24,7 +24,7 @@ use Rattle.rpki_folder.specs.declared.folder.Added.TheVariants.{Certificate, Lis
 use Rattle.rpki_folder.proofs.Descent.{there as inside_at}
 use Rattle.rpki_folder.proofs.FirstPaths.{first_is, first_same, stands_first}
 use Rattle.rpki_folder.proofs.LimitPlaces.{first_reached}
-use Rattle.rpki_c.specs.FolderFates.Steps.{IsAddedAs, IsSorted, added_reached, cert_reached, reached_at}
+use Rattle.rpki_c.specs.FolderFates.Steps.{IsAddedAs, IsSorted, added_reached, cert_reached, line_reached_at}
 use Rattle.rpki_c.specs.FolderLimits.{AreReachedAt, IsCaOf, IsLeastNeed, IsShortAmong, last_octets}
 use Rattle.rpki_c.specs.declared.folder_lines.WalkLines.{WalkLines}
 use Rattle.rpki_c.proofs.SortedMore.{filed_at}
@@ -119,7 +119,7 @@ module _ (Of : LimitedCa → Type 0) (before : List LimitedCa) (l : LimitedCa) w
 
   -- at this one
   there_as : Of l → (limit : Limit) → l.limit ≡ limit → (r : Reached) → AreReachedAt Of before r →
-      AreReachedAt Of (before ++ l ∷ []) (both (of_limit limit) r)
+      AreReachedAt Of (before ++ l ∷ []) (both_reached (of_limit limit) r)
   there_as of Depth is r are = record {
     deep_is = ((λ h. any_last IsDeep before l (of, is)), (λ there. refl));
     short_is = (
@@ -156,17 +156,17 @@ module _ (Of : LimitedCa → Type 0) (before : List LimitedCa) (l : LimitedCa) w
 
 module _ (Of : LimitedCa → Type 0) (place : LimitedCa → ℕ) (p : ℕ) (same : (l : LimitedCa) → Of l ↔ (place l ≡ p)) where
   abbrev step : Reached → LimitedCa → Reached
-  step r l = if place l == p then both (of_limit l.limit) r else r
+  step r l = if place l == p then both_reached (of_limit l.limit) r else r
 
   one_more : (before : List LimitedCa) (l : LimitedCa) (r : Reached) → AreReachedAt Of before r →
       AreReachedAt Of (before ++ l ∷ []) (step r l)
   one_more before l r are = elim (cases_eq (place l) p) [
     | inl is ↦
-        subst (λ (b : Bool). AreReachedAt Of (before ++ l ∷ []) (if b then both (of_limit l.limit) r else r))
+        subst (λ (b : Bool). AreReachedAt Of (before ++ l ∷ []) (if b then both_reached (of_limit l.limit) r else r))
         (sym (eq-eqb (place l) p is))
         (there_as Of before l ((same l).1 is) l.limit refl r are)
     | inr apart ↦
-        subst (λ (b : Bool). AreReachedAt Of (before ++ l ∷ []) (if b then both (of_limit l.limit) r else r))
+        subst (λ (b : Bool). AreReachedAt Of (before ++ l ∷ []) (if b then both_reached (of_limit l.limit) r else r))
         (sym (ne_eqb (place l) p apart))
         (not_there Of before l (λ of. apart ((same l).0 of)) r are)
   ]
@@ -198,7 +198,7 @@ none_reached Of limited none = record {
 
 -- the last of the CAs
 last_is : (certs : List (List ℕ)) (top : ℕ) (above : List ℕ) →
-    last_octets certs (octets_at certs top) above ≡ octets_at certs (ca_at top above)
+    last_octets certs (string_at certs top) above ≡ string_at certs (ca_at top above)
 last_is certs top [] = refl
 last_is certs top (p ∷ above) = last_is certs p above
 
@@ -206,9 +206,9 @@ last_is certs top (p ∷ above) = last_is certs p above
 
 module _ (w : WalkLines) (sorted : IsSorted w.sorted.now) (law : IsUnambiguous IsCertificate)
     (are : AreFirstsIn w.sorted.now.folder.certs w.firsts.now) (limited : List LimitedCa)
-    (table : IsTableOf (first_of w.firsts.now w.anchor) (length w.sorted.now.folder.certs) limited w.limits.now)
+    (table : IsTableOf (first_place_of w.firsts.now w.anchor) (length w.sorted.now.folder.certs) limited w.limits.now)
     (at_first : AllByRecursion
-    (λ l. first_of w.firsts.now (ca_at w.anchor l.above) ≡ ca_at (first_of w.firsts.now w.anchor) l.above)
+    (λ l. first_place_of w.firsts.now (ca_at w.anchor l.above) ≡ ca_at (first_place_of w.firsts.now w.anchor) l.above)
     limited) where
   abbrev certs : List (List ℕ)
   certs = w.sorted.now.folder.certs
@@ -217,7 +217,7 @@ module _ (w : WalkLines) (sorted : IsSorted w.sorted.now) (law : IsUnambiguous I
   strings = w.sorted.now.strings.now
 
   abbrev first : ℕ → ℕ
-  first = first_of w.firsts.now
+  first = first_place_of w.firsts.now
 
   abbrev ca : LimitedCa → ℕ
   ca l = ca_at w.anchor l.above
@@ -226,7 +226,7 @@ module _ (w : WalkLines) (sorted : IsSorted w.sorted.now) (law : IsUnambiguous I
   module _ (p : ℕ) (c : CertFields) (stands : StandsAt certs p c) (octets : List ℕ)
       (begins : Means IsCertificate c octets) where
     abbrev Of : LimitedCa → Type 0
-    Of = IsCaOf certs (octets_at certs w.anchor) octets
+    Of = IsCaOf certs (string_at certs w.anchor) octets
 
     first_there : (l : LimitedCa) → Of l → first (ca l) ≡ first p
     first_there l (d, here, last) =
@@ -240,7 +240,7 @@ module _ (w : WalkLines) (sorted : IsSorted w.sorted.now) (law : IsUnambiguous I
         let one = (first_is law certs w.firsts.now are (ca l) low).one in
         let filed : StandsAt certs (first (ca l)) c = subst (λ (n : ℕ). StandsAt certs n c) (sym is)
         (stands_first law certs w.firsts.now are p c stands) in
-        let same : one.0 ≡ c = one_meant IsCertificate law one.0 c (octets_at certs (first (ca l))) one.2 filed in (
+        let same : one.0 ≡ c = one_meant IsCertificate law one.0 c (string_at certs (first (ca l))) one.2 filed in (
           c,
           begins,
           subst (λ (o : List ℕ). Means IsCertificate c o) (sym (last_is certs w.anchor l.above))
@@ -280,20 +280,20 @@ module _ (w : WalkLines) (sorted : IsSorted w.sorted.now) (law : IsUnambiguous I
         limited at_first nothing))
         (all_more Of (λ l. first (ca l)) (first p) same_place [] limited nothing (nothing_yet Of))
 
-  module _ (anchor : List ℕ) (there : octets_at certs w.anchor ≡ anchor) (i : ℕ) (low : i < length strings) where
+  module _ (anchor : List ℕ) (there : string_at certs w.anchor ≡ anchor) (i : ℕ) (low : i < length strings) where
     abbrev IsHere : LimitedCa → Type 0
-    IsHere = IsCaOf certs anchor (octets_at strings i)
+    IsHere = IsCaOf certs anchor (string_at strings i)
 
-    added_found : (a : Added) → get_or w.sorted.now.added.items i Neither ≡ a → IsAddedAs (octets_at strings i) a →
+    added_found : (a : Added) → get_or w.sorted.now.added.items i Neither ≡ a → IsAddedAs (string_at strings i) a →
         AreReachedAt IsHere limited (added_reached w a)
     added_found (Certificate p) is (c, begins) =
         let filed = filed_at w.sorted.now sorted i p low is in
         let stands : StandsAt certs p c = subst (λ (o : List ℕ). Means IsCertificate c o) (sym filed.1) begins in
-        subst (λ (o : List ℕ). AreReachedAt (IsCaOf certs o (octets_at strings i)) limited (cert_reached w p)) there
-        (cert_found p c stands (octets_at strings i) begins)
+        subst (λ (o : List ℕ). AreReachedAt (IsCaOf certs o (string_at strings i)) limited (cert_reached w p)) there
+        (cert_found p c stands (string_at strings i) begins)
     added_found list_added is says = none_reached IsHere limited (λ l (c, begins, last). says.1.no_certificate c begins)
     added_found Neither is says = none_reached IsHere limited (λ l (c, begins, last). says.0 c begins)
 
     -- the limits that are told of a string are those at its certificate
-    pub reached_found : AreReachedAt IsHere limited (reached_at w i)
+    pub reached_found : AreReachedAt IsHere limited (line_reached_at w i)
     reached_found = added_found (get_or w.sorted.now.added.items i Neither) refl (sorted.begins i Neither low)

@@ -3,14 +3,14 @@ use Rattle.std.specs.Prelude.{slice_range}
 use Rattle.std.proofs.Common.{◌≡◌, ◌+◌, ℕ, List, refl, sym, subst, arith}
 use Rattle.rpki_ext.specs.Kinds.{Means}
 use Rattle.rpki_cert.specs.Certificates.{CertFields, IsCertificate}
-use Rattle.rpki_c.specs.CertificateSpans.{AreSignedSpans, IsKeySpan, IsSpan}
+use Rattle.rpki_c.specs.CertificateSpans.{AreSignedSpans, IsKeySpan, IsSpanWithin}
 use Rattle.rpki_c.specs.Contents.{TellsPlaces}
 use Rattle.rpki_c.specs.Writing.{IsPartAt}
 use Rattle.rpki_c.specs.declared.places.RpkiPlaces.{RpkiPlaces}
 
 -- a span of octets is a part of them
 part_of_span : (octets : List ℕ) (span : ℕ × ℕ) (at count : ℕ) (part : List ℕ)
-    → IsSpan octets span → at ≡ span.0 → at + count ≡ span.1
+    → IsSpanWithin octets span → at ≡ span.0 → at + count ≡ span.1
     → slice_range octets span.0 span.1 ≡ part → IsPartAt octets at count part
 part_of_span octets span at count part is begin end same =
     let within = is.within in (

@@ -9,17 +9,17 @@ use Rattle.std.proofs.lemmas.List.{length-append}
 use Rattle.rpki_ext.specs.Kinds.{Means}
 use Rattle.rpki_cert.specs.Certificates.{CertFields, IsCertificate}
 use Rattle.rpki_crl.specs.Lists.{CrlState}
-use Rattle.rpki_folder.specs.Folders.{FolderFields, with_cert, with_list, octets_at, BeginsNoCertificate}
+use Rattle.rpki_folder.specs.Folders.{FolderFields, with_cert, with_list, string_at, BeginsNoCertificate}
 use Rattle.rpki_folder.specs.declared.folder.Added.{Added}
 use Rattle.rpki_folder.specs.declared.folder.Added.TheVariants.{Certificate, List as list_added, Neither}
 use Rattle.rpki_c.specs.Verdicts.{AreNoList}
-use Rattle.rpki_c.specs.FolderFates.{IsTakenFor, IsNoList, AreListsAmong, AreCertificatesAmong}
+use Rattle.rpki_c.specs.FolderFates.{IsTakenFor, IsTakenForNoList, AreListsAmong, AreCertificatesAmong}
 use Rattle.rpki_c.specs.FolderFates.Steps.{IsAddedAs, AreSorted, IsSorted}
 use Rattle.rpki_c.specs.declared.sorting.Sorted.{Sorted}
 
 -- ---- lists
 
-no_list_more : (strings : List (List ℕ)) (lists : List CrlState) (octets : List ℕ) → IsNoList octets →
+no_list_more : (strings : List (List ℕ)) (lists : List CrlState) (octets : List ℕ) → IsTakenForNoList octets →
     AreListsAmong strings lists → AreListsAmong (strings ++ octets ∷ []) lists
 no_list_more [] lists octets never h = inl (never, h)
 no_list_more (s ∷ strings) lists octets never h = elim h [
@@ -41,10 +41,10 @@ list_more (s ∷ strings) lists octets l taken h = elim h [
   )
 ]
 
-certificate_no_list : (octets : List ℕ) (c : CertFields) → Means IsCertificate c octets → IsNoList octets
+certificate_no_list : (octets : List ℕ) (c : CertFields) → Means IsCertificate c octets → IsTakenForNoList octets
 certificate_no_list octets c means l taken = taken.no_certificate c means
 
-neither_no_list : (octets : List ℕ) → AreNoList octets → IsNoList octets
+neither_no_list : (octets : List ℕ) → AreNoList octets → IsTakenForNoList octets
 neither_no_list octets never l taken = never l.list taken.list_is
 
 -- ---- certificates
@@ -80,10 +80,10 @@ module _ (strings : List (List ℕ)) (octets : List ℕ) where
   longer : length more ≡ length strings + 1
   longer = length-append strings (octets ∷ [])
 
-  old_string : (i : ℕ) → i < length strings → octets_at more i ≡ octets_at strings i
+  old_string : (i : ℕ) → i < length strings → string_at more i ≡ string_at strings i
   old_string i h = get_or-append strings (octets ∷ []) [] i h
 
-  new_string : octets_at more (length strings) ≡ octets
+  new_string : string_at more (length strings) ≡ octets
   new_string = get_or-append_seam strings octets [] []
 
   old_or_new : (i : ℕ) → i < length more → (i ≡ length strings) ⊎ (i < length strings)
@@ -104,13 +104,13 @@ module _ (strings : List (List ℕ)) (octets : List ℕ) where
     new_added d = subst (λ (n : ℕ). get_or addeds n d ≡ one) old.count (get_or-append_seam added one [] d)
 
     begins_more : IsAddedAs octets one → (i : ℕ) (d : Added) → i < length more →
-        IsAddedAs (octets_at more i) (get_or addeds i d)
+        IsAddedAs (string_at more i) (get_or addeds i d)
     begins_more says i d h = elim (old_or_new i h) [
-      | inl is ↦ subst (λ (n : ℕ). IsAddedAs (octets_at more n) (get_or addeds n d)) (sym is)
+      | inl is ↦ subst (λ (n : ℕ). IsAddedAs (string_at more n) (get_or addeds n d)) (sym is)
           (subst (λ (o : List ℕ). IsAddedAs o (get_or addeds (length strings) d)) (sym new_string)
           (subst (λ (a : Added). IsAddedAs octets a) (sym (new_added d)) says))
       | inr low ↦ subst (λ (o : List ℕ). IsAddedAs o (get_or addeds i d)) (sym (old_string i low))
-          (subst (λ (a : Added). IsAddedAs (octets_at strings i) a) (sym (old_added i d low)) (old.begins i d low))
+          (subst (λ (a : Added). IsAddedAs (string_at strings i) a) (sym (old_added i d low)) (old.begins i d low))
     ]
 
     -- what is no certificate leaves the certificates where they are
@@ -122,11 +122,11 @@ module _ (strings : List (List ℕ)) (octets : List ℕ) where
           omega (arith, longer, there)
 
       still_from : (place d : ℕ) → place < length g.certs →
-          octets_at more (get_or origins place d) ≡ octets_at g.certs place
+          string_at more (get_or origins place d) ≡ string_at g.certs place
       still_from place d h =
           let low : place < length f.certs = subst (λ (l : List (List ℕ)). place < length l) same h in
           old_string (get_or origins place d) (old.inside place d low) ∙ old.came_from place d low ∙
-          ap (λ (l : List (List ℕ)). octets_at l place) (sym same)
+          ap (λ (l : List (List ℕ)). string_at l place) (sym same)
 
       still_placed : ((place : ℕ) → one ≡ Certificate place → ⊥) → (i place : ℕ) (d : Added) → i < length more →
           get_or addeds i d ≡ Certificate place →
@@ -230,13 +230,13 @@ module _ (strings : List (List ℕ)) (octets : List ℕ) (f : FolderFields) (add
         omega (arith, here, there, later)
   ]
 
-  cert_from : (place d : ℕ) → place < length g.certs → octets_at (strings ++ octets ∷ []) (get_or froms place d) ≡
-      octets_at g.certs place
+  cert_from : (place d : ℕ) → place < length g.certs → string_at (strings ++ octets ∷ []) (get_or froms place d) ≡
+      string_at g.certs place
   cert_from place d h = elim (old_or_last place h) [
-    | inl is ↦ ap (λ (n : ℕ). octets_at (strings ++ octets ∷ []) n)
+    | inl is ↦ ap (λ (n : ℕ). string_at (strings ++ octets ∷ []) n)
         (ap (λ (n : ℕ). get_or froms n d) is ∙ new_origin d) ∙ new_string strings octets
-        ∙ sym (ap (λ (n : ℕ). octets_at g.certs n) is ∙ get_or-append_seam f.certs octets [] [])
-    | inr low ↦ ap (λ (n : ℕ). octets_at (strings ++ octets ∷ []) n) (old_origin place d low) ∙
+        ∙ sym (ap (λ (n : ℕ). string_at g.certs n) is ∙ get_or-append_seam f.certs octets [] [])
+    | inr low ↦ ap (λ (n : ℕ). string_at (strings ++ octets ∷ []) n) (old_origin place d low) ∙
         old_string strings octets (get_or origins place d) (old.inside place d low)
         ∙ old.came_from place d low ∙ sym (get_or-append f.certs (octets ∷ []) [] place low)
   ]
@@ -283,7 +283,7 @@ module _ (strings : List (List ℕ)) (octets : List ℕ) (f : FolderFields) (add
 -- a certificate that was added stands in the folder as the string at its place
 pub filed_at : (s : Sorted) → IsSorted s → (place at : ℕ) → place < length s.strings.now →
     get_or s.added.items place Neither ≡ Certificate at
-    → (at < length s.folder.certs) × (octets_at s.folder.certs at ≡ octets_at s.strings.now place)
+    → (at < length s.folder.certs) × (string_at s.folder.certs at ≡ string_at s.strings.now place)
 filed_at s sorted place at inside is =
     let placed = sorted.placed place at Neither inside is in
-    (placed.0, sym (sorted.came_from at 0 placed.0) ∙ ap (λ (n : ℕ). octets_at s.strings.now n) (placed.1 0))
+    (placed.0, sym (sorted.came_from at 0 placed.0) ∙ ap (λ (n : ℕ). string_at s.strings.now n) (placed.1 0))

@@ -1,18 +1,14 @@
 -- Where the parts of a certificate stand that are wanted to verify a signature (own).
+use Rattle.rpki_files.specs.StopPlaces.{HasTag}
 use Rattle.std.specs.Prelude.{◌≡◌, ◌≤◌, ℕ, List, [], ◌∷◌, ◌++◌, length, slice_range}
 use Rattle.rpki_der.specs.Place.{Place, remaining}
 use Rattle.rpki_der.specs.Skipping.{levels}
 use Rattle.rpki_der.specs.Tags.{SEQUENCE}
-use Rattle.rpki_der.specs.Values.{IsEnc}
 use Rattle.rpki_ext.specs.Kinds.{Means}
 use Rattle.rpki_parts.specs.Keys.{IsPublicKey, whole_bits_format}
 use Rattle.rpki_cert.specs.Certificates.{CertFields, IsCertificate, certificate_content_format, tbs_content_format}
 
 -- ---- what stands next
-
--- a value with this identifier octet
-abbrev pub HasTag : ℕ → List ℕ → Type 0
-HasTag tag text = (content : List ℕ) × IsEnc tag content text
 
 -- values with these identifier octets, one after the other
 abbrev pub AreTagged : List ℕ → List ℕ → Type 0
@@ -33,21 +29,22 @@ StoodAt Is old span = (text rest : List ℕ) → Is text → remaining old ≡ t
     slice_range old.source span.0 span.1 ≡ text
 
 -- an algorithm, and behind it these bits, none of which is unused
-abbrev pub HasBits : List ℕ → List ℕ → Type 0
-HasBits bits text = (a : List ℕ) × (b : List ℕ) × HasTag SEQUENCE a × whole_bits_format.encodes bits b × (text ≡ a ++ b)
+abbrev pub HasKeyBits : List ℕ → List ℕ → Type 0
+HasKeyBits bits text = (a : List ℕ) × (b : List ℕ) × HasTag SEQUENCE a × whole_bits_format.encodes bits b ×
+    (text ≡ a ++ b)
 
 -- where they are all that is left, they stood from the first place to the second
 abbrev pub BitsStoodAt : Place → ℕ × ℕ → Type 0
-BitsStoodAt old span = (bits : List ℕ) → HasBits bits (remaining old) → slice_range old.source span.0 span.1 ≡ bits
+BitsStoodAt old span = (bits : List ℕ) → HasKeyBits bits (remaining old) → slice_range old.source span.0 span.1 ≡ bits
 
 -- they aren't
 abbrev pub StandsNoBits : Place → Type 0
-StandsNoBits at = (bits : List ℕ) → HasBits bits (remaining at) → ⊥
+StandsNoBits at = (bits : List ℕ) → HasKeyBits bits (remaining at) → ⊥
 
 -- ---- spans
 
 -- the first place isn't behind the second, nor that behind the octets
-pub record IsSpan (octets : List ℕ) (span : ℕ × ℕ) : Type 0 where
+pub record IsSpanWithin (octets : List ℕ) (span : ℕ × ℕ) : Type 0 where
   pub order : span.0 ≤ span.1
   pub within : span.1 ≤ length octets
 
@@ -72,14 +69,14 @@ pub record IsAtKey (octets : List ℕ) (at : Place) : Type 0 where
 
 -- the span of the key of the certificate with which the octets begin
 pub record IsKeySpan (octets : List ℕ) (span : ℕ × ℕ) : Type 0 where
-  pub is_span : IsSpan octets span
+  pub is_span : IsSpanWithin octets span
   pub key : (c : CertFields) → Means IsCertificate c octets
       → IsPublicKey c.fields.key (slice_range octets span.0 span.1)
 
 -- the spans of what is signed of the certificate with which the octets begin, and of its signature
 pub record AreSignedSpans (octets : List ℕ) (message signature : ℕ × ℕ) : Type 0 where
-  pub first_is_span : IsSpan octets message
-  pub second_is_span : IsSpan octets signature
+  pub first_is_span : IsSpanWithin octets message
+  pub second_is_span : IsSpanWithin octets signature
   pub message_is : (c : CertFields) → Means IsCertificate c octets
       → slice_range octets message.0 message.1 ≡ c.signed_data.message
   pub signature_is : (c : CertFields) → Means IsCertificate c octets

@@ -2,7 +2,7 @@
 use Rattle.std.specs.Prelude.{◌≡◌, ℕ, ◌-◌, ◌%◌, ◌++◌, ◌&&◌, Bool, if◌then◌else◌, nat_le, nat_lt, List, [], Option}
 use Rattle.std.specs.Prelude.{Some, None, option_map}
 use Rattle.rpki_files.specs.FaultTable.{FaultFields, PartFields, fault_numbered, part_numbered}
-use Rattle.rpki_c.specs.Writing.{IsWritten}
+use Rattle.rpki_c.specs.Writing.{IsWrittenInto}
 
 -- what is told of a fault
 pub record ToldFields : Type 0 where
@@ -44,4 +44,4 @@ sentence_told number = option_map (λ (it : ToldFields). it.sentence) (told_of n
 -- nothing and answers that it is a bad call
 abbrev pub TellsText : Option (List ℕ) → ℕ → List ℕ → List ℕ → ℕ → Type 0
 TellsText None answer old new count = (answer ≡ 2) × (new ≡ old) × (count ≡ 0)
-TellsText (Some text) answer old new count = (answer ≡ 0) × IsWritten text old new count
+TellsText (Some text) answer old new count = (answer ≡ 0) × IsWrittenInto text old new count

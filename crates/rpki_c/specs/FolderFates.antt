@@ -16,7 +16,7 @@ use Rattle.rpki_path.specs.Paths.{candidate}
 use Rattle.rpki_path.specs.declared.judging.Judged.{Judged}
 use Rattle.rpki_path.specs.declared.path_fault.PathFault.{PathFault}
 use Rattle.rpki_folder.specs.FirstPlaces.{AreFirstsIn, IsFirstIn}
-use Rattle.rpki_folder.specs.Folders.{octets_at, AreOneAt, BeginsNoCertificate}
+use Rattle.rpki_folder.specs.Folders.{string_at, AreOneAt, BeginsNoCertificate}
 use Rattle.rpki_folder.specs.FoundAnchors.{HasNoValid, IsAnchorAt}
 use Rattle.rpki_folder.specs.Walks.{Root, at_anchor, members_at, IsAcceptedAs, IsReached, IsRightOf, Covers}
 use Rattle.rpki_folder.specs.Walks.{AreAdmitted, IsLookedAt, HasBelow, IsShort}
@@ -39,14 +39,14 @@ pub record IsTakenFor (octets : List ℕ) (l : CrlState) : Type 0 where
   pub no_certificate : BeginsNoCertificate octets
 
 -- the octets are taken for no list
-abbrev pub IsNoList : List ℕ → Type 0
-IsNoList octets = (l : CrlState) → IsTakenFor octets l → ⊥
+abbrev pub IsTakenForNoList : List ℕ → Type 0
+IsTakenForNoList octets = (l : CrlState) → IsTakenFor octets l → ⊥
 
 -- these are the lists for which strings are taken, in the order of the strings
 abbrev pub AreListsAmong : List (List ℕ) → List CrlState → Type 0
 AreListsAmong [] lists = lists ≡ []
 AreListsAmong (octets ∷ strings) lists =
-    (IsNoList octets × AreListsAmong strings lists)
+    (IsTakenForNoList octets × AreListsAmong strings lists)
     ⊎ ((l : CrlState) × (more : List CrlState) × (lists ≡ l ∷ more) × IsTakenFor octets l
     × AreListsAmong strings more)
 
@@ -61,16 +61,16 @@ AreCertificatesAmong (octets ∷ strings) certs =
 -- the string at the place is the first that begins with a certificate of the locator's key
 pub record IsFirstWithKey (t : TalFields) (strings : List (List ℕ)) (place : ℕ) : Type 0 where
   pub inside : place < length strings
-  pub has_key : BeginsWithKey t (octets_at strings place)
-  pub none_before : (i : ℕ) → i < place → BeginsWithKey t (octets_at strings i) → ⊥
+  pub has_key : BeginsWithKey t (string_at strings place)
+  pub none_before : (i : ℕ) → i < place → BeginsWithKey t (string_at strings i) → ⊥
 
 -- no string begins with one
 abbrev pub NoneHasKey : TalFields → List (List ℕ) → Type 0
-NoneHasKey t strings = (i : ℕ) → i < length strings → BeginsWithKey t (octets_at strings i) → ⊥
+NoneHasKey t strings = (i : ℕ) → i < length strings → BeginsWithKey t (string_at strings i) → ⊥
 
 -- no string is a valid trust anchor of the locator, and the one at the place is the first that has its
 -- key
-pub record HasNoAnchor (x : Context) (names : Bool) (t : NamedTal) (strings : List (List ℕ))
+pub record HasNoFolderAnchor (x : Context) (names : Bool) (t : NamedTal) (strings : List (List ℕ))
     (place : ℕ) : Type 0 where
   pub first : IsFirstWithKey t.tal strings place
   pub lists : List CrlState
@@ -85,11 +85,11 @@ pub record HasNoAnchor (x : Context) (names : Bool) (t : NamedTal) (strings : Li
 pub record IsJudgedAt (x : Context) (asked : RevocationChecks) (names : Bool) (root : Root)
     (strings : List (List ℕ)) (above : List ℕ) (place : ℕ) (j : Judged) : Type 0 where
   pub kind : Kind
-  pub says : BeginsWithKind kind (octets_at strings place)
+  pub says : BeginsWithKind kind (string_at strings place)
   pub accepted_is : IsAcceptedAs x asked root (members_at root strings above) kind
-      (octets_at strings place) j
+      (string_at strings place) j
   pub chained : IsTrue names → BeginChained root.anchor
-      (members_at root strings above ++ candidate kind (octets_at strings place) ∷ [])
+      (members_at root strings above ++ candidate kind (string_at strings place) ∷ [])
 
 -- what becomes of a string: it is the trust anchor or a copy of it, a list, neither a list nor a certificate, or a
 -- certificate which no CA of a valid path signed; or one that is accepted, below the CAs at these
@@ -103,16 +103,16 @@ pub data Fate : Type 0 where
 abbrev pub IsFate : Context → RevocationChecks → Bool → Root → List (List ℕ) → ℕ → ℕ → Fate → Type 0
 IsFate x asked names root strings top place anchor = AreOneAt strings place top
 IsFate x asked names root strings top place list =
-    (l : CrlState) × IsTakenFor (octets_at strings place) l
+    (l : CrlState) × IsTakenFor (string_at strings place) l
 IsFate x asked names root strings top place neither =
-    BeginsNoCertificate (octets_at strings place) × AreNoList (octets_at strings place)
+    BeginsNoCertificate (string_at strings place) × AreNoList (string_at strings place)
 IsFate x asked names root strings top place unseen =
-    (c : CertFields) × Means IsCertificate c (octets_at strings place)
+    (c : CertFields) × Means IsCertificate c (string_at strings place)
 IsFate x asked names root strings top place (accepted above j) =
     IsJudgedAt x asked names root strings above place j
 IsFate x asked names root strings top place (rejected step fault) =
     (above : List ℕ) × (step ≡ length above + 1)
-    × IsRightOf x asked root (members_at root strings above) (octets_at strings place) (Err fault)
+    × IsRightOf x asked root (members_at root strings above) (string_at strings place) (Err fault)
 
 -- the string is a valid certificate
 abbrev pub IsValidFate : Fate → Type 0
@@ -148,12 +148,12 @@ pub record AreFates (x : Context) (asked : RevocationChecks) (names : Bool) (roo
 -- the steps are those that are asked for, or else the usual ones. The walk is said to be out of steps
 -- only where the share of a CA is less than its children, of which copies don't count. These are the
 -- limits that it reached at the certificate of each string
-pub record AreJudged (x : Context) (names : Bool) (t : NamedTal) (strings : List (List ℕ))
+pub record IsJudgedFolder (x : Context) (names : Bool) (t : NamedTal) (strings : List (List ℕ))
     (top depth steps : ℕ) (ended : Ended) (fate : ℕ → Fate) (reached : ℕ → Reached) : Type 0 where
   pub lists : List CrlState
   pub lists_are : AreListsAmong strings lists
   pub anchor_is : IsAnchorAt x (by_named_lists names x lists) names t strings top
-  pub fates : AreFates x (by_named_lists names x lists) names (at_anchor t (octets_at strings top))
+  pub fates : AreFates x (by_named_lists names x lists) names (at_anchor t (string_at strings top))
       strings top depth ended fate
   pub certs : List (List ℕ)
   pub certs_are : AreCertificatesAmong strings certs
@@ -161,11 +161,11 @@ pub record AreJudged (x : Context) (names : Bool) (t : NamedTal) (strings : List
   pub firsts_are : AreFirstsIn certs firsts
   pub short : ended ≡ OutOfSteps → IsShort x (by_named_lists names x lists)
       (IsLookedAt names (IsFirstIn firsts) anchor_is.cert certs)
-      (at_anchor t (octets_at strings top)) certs [] (asked_or steps usual_steps)
+      (at_anchor t (string_at strings top)) certs [] (asked_or steps usual_steps)
   pub limited : List LimitedCa
   pub limited_are : AreLimited x (by_named_lists names x lists)
       (IsLookedAt names (IsFirstIn firsts) anchor_is.cert certs)
-      (at_anchor t (octets_at strings top)) certs depth (asked_or steps usual_steps) limited
+      (at_anchor t (string_at strings top)) certs depth (asked_or steps usual_steps) limited
   pub reached_are : (place : ℕ) → place < length strings
-      → AreReachedAt (IsCaOf certs (octets_at strings top) (octets_at strings place)) limited
+      → AreReachedAt (IsCaOf certs (string_at strings top) (string_at strings place)) limited
       (reached place)

@@ -3,7 +3,7 @@ use Rattle.std.specs.Prelude.{◌≡◌, ◌↔◌, ◌≤◌, ◌+◌, ℕ, Lis
 use Rattle.std.specs.Prelude.{if◌then◌else◌}
 use Rattle.rpki_ext.specs.Kinds.{Means}
 use Rattle.rpki_cert.specs.Certificates.{CertFields, IsCertificate}
-use Rattle.rpki_folder.specs.Folders.{octets_at}
+use Rattle.rpki_folder.specs.Folders.{string_at}
 use Rattle.rpki_folder.specs.ReachedLimits.{LimitedCa}
 use Rattle.rpki_folder.specs.declared.bounds.Limit.{Limit}
 use Rattle.rpki_folder.specs.declared.bounds.Limit.TheVariants.{Depth, Steps as steps}
@@ -15,7 +15,7 @@ use Rattle.rpki_c.specs.declared.folder_lines.RpkiLine.{RpkiLine}
 -- the octets of the last of the CAs at these places, and where there is none the trust anchor's
 abbrev pub last_octets : List (List ℕ) → List ℕ → List ℕ → List ℕ
 last_octets certs anchor [] = anchor
-last_octets certs anchor (place ∷ places) = last_octets certs (octets_at certs place) places
+last_octets certs anchor (place ∷ places) = last_octets certs (string_at certs place) places
 
 -- the octets begin with the certificate of the CA at which a limit was reached. Whatever is behind it
 -- doesn't count

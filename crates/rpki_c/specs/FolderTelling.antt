@@ -12,16 +12,16 @@ use Rattle.rpki_path.specs.LocatedPaths.{BeginsWithNoNumber}
 use Rattle.rpki_path.specs.Paths.{Finds, trust_anchor_demand}
 use Rattle.rpki_path.specs.declared.judging.Judged.{Judged}
 use Rattle.rpki_path.specs.declared.path_fault.PathFault.TheVariants.{Memory}
-use Rattle.rpki_folder.specs.Folders.{octets_at}
+use Rattle.rpki_folder.specs.Folders.{string_at}
 use Rattle.rpki_folder.specs.Walks.{HasOtherName}
 use Rattle.rpki_folder.specs.declared.bounds.Ended.{Ended}
 use Rattle.rpki_folder.specs.declared.bounds.Ended.TheVariants.{Whole, TooDeep, OutOfSteps}
 use Rattle.rpki_c.specs.FaultNumbers.{path_number, refusal_number}
 use Rattle.rpki_c.specs.FolderFates.{Fate, anchor, list, neither, unseen, accepted, rejected, AreListsAmong}
-use Rattle.rpki_c.specs.FolderFates.{HasNoAnchor, NoneHasKey, AreJudged}
+use Rattle.rpki_c.specs.FolderFates.{HasNoFolderAnchor, NoneHasKey, IsJudgedFolder}
 use Rattle.rpki_c.specs.FolderLimits.{TellsReached, but_for_limits}
 use Rattle.rpki_c.specs.FolderQuestions.{HasFolderTerms, HasNoFolderTerms}
-use Rattle.rpki_c.specs.HeldRanges.{AreHeldAt, nothing_held}
+use Rattle.rpki_c.specs.HeldRanges.{AreHeldAt, no_ranges_held}
 use Rattle.rpki_c.specs.Questions.{kind_number}
 use Rattle.rpki_c.specs.Telling.{HoldsTheSame}
 use Rattle.rpki_c.specs.Verdicts.{AreStringsOf, DontAddUp, HasKeyAsked, Refused, IsUncalled}
@@ -49,7 +49,7 @@ issuer_of top (place ∷ places) = issuer_of place places
 -- the line of which no more is told than what it is
 abbrev pub plain_line : ℕ → RpkiLine
 plain_line what =
-    record { what = what; fault = 0; step = 0; issuer = 0; kind = 0; limits = 0; held = nothing_held; needed = 0 }
+    record { what = what; fault = 0; step = 0; issuer = 0; kind = 0; limits = 0; held = no_ranges_held; needed = 0 }
 
 -- the line of a certificate that is judged as one of the kind of this number, and accepted below the
 -- CAs at these places, below the trust anchor at a place; what it holds is at these places
@@ -74,7 +74,7 @@ rejected_line kind step fault = record {
   issuer = 0;
   kind = kind;
   limits = 0;
-  held = nothing_held;
+  held = no_ranges_held;
   needed = 0;
 }
 
@@ -92,20 +92,20 @@ IsAcceptedLine asks_key kind top above j ranges line =
     × (line ≡ accepted_line kind top above line.held))
 
 -- the line of a string that has this fate
-abbrev pub IsLineOf : Bool → ℕ → List ℕ → Fate → Ranges → RpkiLine → Type 0
-IsLineOf asks_key top octets unseen ranges line = line ≡ plain_line 0
-IsLineOf asks_key top octets anchor ranges line = line ≡ plain_line 1
-IsLineOf asks_key top octets (accepted above j) ranges line =
+abbrev pub IsFateLine : Bool → ℕ → List ℕ → Fate → Ranges → RpkiLine → Type 0
+IsFateLine asks_key top octets unseen ranges line = line ≡ plain_line 0
+IsFateLine asks_key top octets anchor ranges line = line ≡ plain_line 1
+IsFateLine asks_key top octets (accepted above j) ranges line =
     (kind : ℕ) × IsKindSaid octets kind × IsAcceptedLine asks_key kind top above j ranges line
-IsLineOf asks_key top octets (rejected step fault) ranges line =
+IsFateLine asks_key top octets (rejected step fault) ranges line =
     (kind : ℕ) × IsKindSaid octets kind × (line ≡ rejected_line kind step (path_number fault))
-IsLineOf asks_key top octets list ranges line = line ≡ plain_line 4
-IsLineOf asks_key top octets neither ranges line = line ≡ plain_line 5
+IsFateLine asks_key top octets list ranges line = line ≡ plain_line 4
+IsFateLine asks_key top octets neither ranges line = line ≡ plain_line 5
 
 -- the line of a string that has this fate, and at whose certificate these limits were reached
 abbrev pub IsLineWith : Bool → ℕ → List ℕ → Fate → Reached → Ranges → RpkiLine → Type 0
 IsLineWith asks_key top octets fate r ranges line =
-    IsLineOf asks_key top octets fate ranges (but_for_limits line) × TellsReached r line
+    IsFateLine asks_key top octets fate ranges (but_for_limits line) × TellsReached r line
 
 -- these are the lines of so many strings, which have these fates, and at whose certificates these
 -- limits were reached, with what is held
@@ -113,7 +113,7 @@ pub record AreLinesOf (asks_key : Bool) (top : ℕ) (strings : List (List ℕ)) 
     (reached : ℕ → Reached) (count : ℕ) (it : ToldLines) : Type 0 where
   pub count_is : length it.lines.items ≡ count
   pub line_is : (place : ℕ) (d : RpkiLine) → place < count
-      → IsLineWith asks_key top (octets_at strings place) (fate place) (reached place) it.ranges
+      → IsLineWith asks_key top (string_at strings place) (fate place) (reached place) it.ranges
       (slice_index_or it.lines.items place d)
 
 -- ---- answers
@@ -123,20 +123,20 @@ pub record IsWalkOf (x : Context) (f : FolderTerms) (t : NamedTal) (strings : Li
     (w : Walked) : Type 0 where
   pub fate : ℕ → Fate
   pub reached : ℕ → Reached
-  pub judged : AreJudged x f.asks_names t strings w.anchor f.depth f.steps w.ended fate reached
+  pub judged : IsJudgedFolder x f.asks_names t strings w.anchor f.depth f.steps w.ended fate reached
   pub lines_are : AreLinesOf f.asks_key w.anchor strings fate reached (length strings) w.told
 
 -- the file is no locator
-abbrev pub IsNoLocator : Bool → List ℕ → Refusal → Type 0
-IsNoLocator strict file (refusal.Locator e) = RejectsTal strict e file
-IsNoLocator strict file refusal.Memory = Unit {0}
-IsNoLocator strict file _ = ⊥
+abbrev pub IsTalRefusal : Bool → List ℕ → Refusal → Type 0
+IsTalRefusal strict file (refusal.Locator e) = RejectsTal strict e file
+IsTalRefusal strict file refusal.Memory = Unit {0}
+IsTalRefusal strict file _ = ⊥
 
 -- names are asked, and the string at the place is a valid trust anchor of two names
 abbrev pub IsTwoNamed : Context → Bool → NamedTal → List (List ℕ) → ℕ → Type 0
 IsTwoNamed x names t strings place =
     (lists : List CrlState) × AreListsAmong strings lists
-    × HasOtherName x (by_named_lists names x lists) names t (octets_at strings place)
+    × HasOtherName x (by_named_lists names x lists) names t (string_at strings place)
 
 -- the answer of the strings below this locator: what became of them; or none has its key; or, where
 -- none is a valid trust anchor, what is wrong of the first that has it
@@ -145,12 +145,12 @@ abbrev pub AnswersBelow : Context → FolderTerms → NamedTal → List (List �
 AnswersBelow x f t strings (Ok w) = IsWalkOf x f t strings w
 AnswersBelow x f t strings (Err refusal.OtherKey) = NoneHasKey t.tal strings
 AnswersBelow x f t strings (Err (refusal.NoResources place)) =
-    HasNoAnchor x f.asks_names t strings place × BeginsWithNoNumber (octets_at strings place)
+    HasNoFolderAnchor x f.asks_names t strings place × BeginsWithNoNumber (string_at strings place)
 AnswersBelow x f t strings (Err (refusal.OtherName place)) =
-    HasNoAnchor x f.asks_names t strings place × IsTwoNamed x f.asks_names t strings place
+    HasNoFolderAnchor x f.asks_names t strings place × IsTwoNamed x f.asks_names t strings place
 AnswersBelow x f t strings (Err (refusal.Member e)) =
-    HasNoAnchor x f.asks_names t strings e.index × (e.fault ≢ Memory)
-    × Finds x (trust_anchor_demand x) (octets_at strings e.index) e.fault
+    HasNoFolderAnchor x f.asks_names t strings e.index × (e.fault ≢ Memory)
+    × Finds x (trust_anchor_demand x) (string_at strings e.index) e.fault
 AnswersBelow x f t strings (Err refusal.Memory) = Unit {0}
 AnswersBelow x f t strings _ = ⊥
 
@@ -158,7 +158,7 @@ AnswersBelow x f t strings _ = ⊥
 abbrev pub AnswersLocated : Context → FolderTerms → List ℕ → List (List ℕ) → Result Walked Refusal
     → Type 0
 AnswersLocated x f file strings r =
-    Refused (IsNoLocator x.strict file) r
+    Refused (IsTalRefusal x.strict file) r
     ⊎ ((t : NamedTal) × IsLocator x.strict t.tal file × AnswersBelow x f t strings r)
 
 -- the answer of the question's strings

@@ -12,15 +12,15 @@ pub record AreHeldAt (r : ResourceFields) (ranges : Ranges) (held : RpkiHeld) : 
   pub asn_is : IsPartAt ranges.asn.items held.asn_at held.asn (map as_struct r.as_numbers)
 
 -- nothing is held
-abbrev pub nothing_held : RpkiHeld
-nothing_held = record { v4 = 0; v6 = 0; asn = 0; v4_at = 0; v6_at = 0; asn_at = 0 }
+abbrev pub no_ranges_held : RpkiHeld
+no_ranges_held = record { v4 = 0; v6 = 0; asn = 0; v4_at = 0; v6_at = 0; asn_at = 0 }
 
 -- the items are still there, and others may follow
-abbrev pub GoesOn : {A : Type 0} → List A → List A → Type 0
-GoesOn {A} old new = (more : List A) × (new ≡ old ++ more)
+abbrev pub KeepsItems : {A : Type 0} → List A → List A → Type 0
+KeepsItems {A} old new = (more : List A) × (new ≡ old ++ more)
 
 -- the ranges are still there, and others may follow
 pub record HaveGrown (old new : Ranges) : Type 0 where
-  pub v4_on : GoesOn old.v4.items new.v4.items
-  pub v6_on : GoesOn old.v6.items new.v6.items
-  pub asn_on : GoesOn old.asn.items new.asn.items
+  pub v4_on : KeepsItems old.v4.items new.v4.items
+  pub v6_on : KeepsItems old.v6.items new.v6.items
+  pub asn_on : KeepsItems old.asn.items new.asn.items

@@ -11,8 +11,8 @@ use Rattle.rpki_issuing.specs.Issuers.{IsOwnList}
 use Rattle.rpki_keys.specs.RsaSignatures.{IsSignedByRsa}
 use Rattle.rpki_issuing.specs.WantedLists.{IsListCompleted, IsListPrepared, IsListWanted, WantedListFields}
 use Rattle.rpki_c.specs.Verdicts.{AreNoList}
-use Rattle.rpki_c.specs.WantedAnswers.{IsAuthorityOf, IsNoAuthority}
-use Rattle.rpki_c.specs.WantedLists.{GivesList, HasListCompletionTerms, HasListTerms, HasNoListCompletionTerms}
+use Rattle.rpki_c.specs.WantedAnswers.{IsAuthorityOf, IsWhyNoIssuer}
+use Rattle.rpki_c.specs.WantedLists.{GivesWantedList, HasListCompletionTerms, HasListTerms, HasNoListCompletionTerms}
 use Rattle.rpki_c.specs.WantedLists.{HasNoListTerms, HaveDates}
 use Rattle.rpki_c.specs.declared.list_completing.RpkiListCompletion.{RpkiListCompletion}
 use Rattle.rpki_c.specs.declared.question.Terms.{Terms}
@@ -34,9 +34,9 @@ AreOther issuer octets =
     ⊎ ((list : CrlFields) × IsCertificateList list octets × (IsOwnList issuer list → ⊥))
 
 -- the list before; where there are no octets, there was none
-abbrev pub IsPreviousOf : TbsFields → List ℕ → Option CrlState → Type 0
-IsPreviousOf issuer octets None = octets ≡ []
-IsPreviousOf issuer octets (Some list) = IsOwn issuer octets list
+abbrev pub IsPreviousCrl : TbsFields → List ℕ → Option CrlState → Type 0
+IsPreviousCrl issuer octets None = octets ≡ []
+IsPreviousCrl issuer octets (Some list) = IsOwn issuer octets list
 
 -- why none is found
 abbrev pub IsNoPrevious : TbsFields → List ℕ → Unissued → Type 0
@@ -57,23 +57,23 @@ GivesNoList w why.Memory = Unit {0}
 GivesNoList w _ = ⊥
 
 -- the fields that are asked for below this issuer, behind this list
-pub record AsksList (w : RpkiWantedList) (t : ListTerms) (issuer : TbsFields)
+pub record WantsListFields (w : RpkiWantedList) (t : ListTerms) (issuer : TbsFields)
     (before : Option CrlState) (f : ListFields Revoked) : Type 0 where
   pub wanted : WantedListFields
-  pub given : GivesList w t wanted
+  pub given : GivesWantedList w t wanted
   pub fields_are : IsListWanted wanted (fields_before before) issuer f
 
 -- values are given of which there are no such fields that are so
 abbrev pub AsksNone : RpkiWantedList → ListTerms → TbsFields → Option CrlState
     → (ListFields Revoked → Type 0) → Type 0
 AsksNone w t issuer before Are =
-    (wanted : WantedListFields) × GivesList w t wanted
+    (wanted : WantedListFields) × GivesWantedList w t wanted
     × ((f : ListFields Revoked) → IsListWanted wanted (fields_before before) issuer f → Are f → ⊥)
 
 -- the fields, or why there are none: no such list may follow the one before
 abbrev pub AnswersListFields : RpkiWantedList → ListTerms → TbsFields → Option CrlState
     → Result (ListFields Revoked) Unissued → Type 0
-AnswersListFields w t issuer before (Ok f) = AsksList w t issuer before f
+AnswersListFields w t issuer before (Ok f) = WantsListFields w t issuer before f
 AnswersListFields w t issuer before (Err (why.Unfit e)) =
     AsksNone w t issuer before (λ f. Unit {0})
 AnswersListFields w t issuer before (Err e) = GivesNoList w e
@@ -83,7 +83,7 @@ AnswersListFields w t issuer before (Err e) = GivesNoList w e
 abbrev pub AnswersBehind : RpkiWantedList → ListTerms → TbsFields → Option CrlState
     → Result (List ℕ) Unissued → Type 0
 AnswersBehind w t issuer before (Ok octets) =
-    (f : ListFields Revoked) × AsksList w t issuer before f
+    (f : ListFields Revoked) × WantsListFields w t issuer before f
     × IsListPrepared t.asked.now t.asked.strict issuer f octets
 AnswersBehind w t issuer before (Err (why.Unfit e)) =
     AsksNone w t issuer before (λ f.
@@ -95,13 +95,13 @@ abbrev pub AnswersListBelow : RpkiWantedList → ListTerms → TbsFields → Res
     → Type 0
 AnswersListBelow w t issuer r =
     ((e : Unissued) × (r ≡ Err e) × IsNoPrevious issuer w.previous.now e)
-    ⊎ ((before : Option CrlState) × IsPreviousOf issuer w.previous.now before
+    ⊎ ((before : Option CrlState) × IsPreviousCrl issuer w.previous.now before
     × AnswersBehind w t issuer before r)
 
 -- the answer below who issues, or why nobody does
 abbrev pub AnswersListTerms : RpkiWantedList → ListTerms → Result (List ℕ) Unissued → Type 0
 AnswersListTerms w t r =
-    ((e : Unissued) × (r ≡ Err e) × IsNoAuthority w.issuer e)
+    ((e : Unissued) × (r ≡ Err e) × IsWhyNoIssuer w.issuer e)
     ⊎ ((issuer : ResourceFields) × IsAuthorityOf w.issuer issuer
     × AnswersListBelow w t issuer.cert.fields r)
 
@@ -154,7 +154,7 @@ AnswersListCompletedBelow c t issuer (Err e) = AnswersListNamed issuer c.prepare
 abbrev pub AnswersListCompletionTerms : RpkiListCompletion → Terms → Result (List ℕ) Unissued
     → Type 0
 AnswersListCompletionTerms c t r =
-    ((e : Unissued) × (r ≡ Err e) × IsNoAuthority c.issuer e)
+    ((e : Unissued) × (r ≡ Err e) × IsWhyNoIssuer c.issuer e)
     ⊎ ((issuer : ResourceFields) × IsAuthorityOf c.issuer issuer
     × AnswersListCompletedBelow c t issuer.cert.fields r)
 

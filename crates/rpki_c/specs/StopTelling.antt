@@ -7,7 +7,7 @@ use Rattle.rpki_files.specs.declared.decoding.Misread.TheVariants.{Stopped}
 use Rattle.rpki_files.specs.declared.flaws.Flaw.{Flaw}
 use Rattle.rpki_files.specs.declared.places.Place.{Place}
 use Rattle.rpki_c.specs.FaultNumbers.{decode_number}
-use Rattle.rpki_c.specs.Writing.{IsWritten}
+use Rattle.rpki_c.specs.Writing.{IsWrittenInto}
 use Rattle.rpki_c.specs.declared.stops.PartText.{PartText}
 use Rattle.rpki_c.specs.declared.stops.PartText.TheVariants.{Name, Wanted, Found}
 use Rattle.rpki_c.specs.declared.stops.RpkiStop.{RpkiStop}
@@ -44,7 +44,7 @@ pub record TellsPlace (is_list : Bool) (which : PartText) (octets : List ℕ) (s
   pub misread : IsMisread is_list octets (Stopped fault place)
   pub fault_is : stop.fault ≡ decode_number fault
   pub octet_is : stop.octet ≡ place.octet
-  pub text : IsWritten (place_text which place) old new count
+  pub text : IsWrittenInto (place_text which place) old new count
 
 -- what is told of octets that are read as a certificate, or as a list: they begin with one, and
 -- nothing is written; or that

@@ -82,15 +82,15 @@ abbrev pub IsForeign : (List ℕ → Type 0) → List ℕ → Type 0
 IsForeign IsKey octets = (key : List ℕ) × NamesKey key octets × (IsKey key → ⊥)
 
 -- the octets are this list
-abbrev pub IsGiven : List ℕ → CrlState → Type 0
-IsGiven octets l = IsCertificateList l.list octets
+abbrev pub IsListGiven : List ℕ → CrlState → Type 0
+IsListGiven octets l = IsCertificateList l.list octets
 
 -- the lists that the strings are, in their order, but for strings that may be passed over
 abbrev pub AreListsBut : (List ℕ → Type 0) → List (List ℕ) → List CrlState → Type 0
 AreListsBut MayPass [] lists = lists ≡ []
 AreListsBut MayPass (octets ∷ strings) lists =
     (MayPass octets × AreListsBut MayPass strings lists)
-    ⊎ ((l : CrlState) × (others : List CrlState) × (lists ≡ l ∷ others) × IsGiven octets l
+    ⊎ ((l : CrlState) × (others : List CrlState) × (lists ≡ l ∷ others) × IsListGiven octets l
     × AreListsBut MayPass strings others)
 
 -- lists among which each is that names one of these keys
@@ -169,16 +169,16 @@ AreChainedIf asks_names path = IsTrue asks_names → BeginChained path.anchor (s
 
 -- names are asked, and those of the certificate at the place are the first that don't chain; or memory
 -- ran out
-abbrev pub IsOtherName : Bool → PathStrings → Refusal → Type 0
-IsOtherName asks_names path (refusal.OtherName place) =
+abbrev pub IsNameRefusal : Bool → PathStrings → Refusal → Type 0
+IsNameRefusal asks_names path (refusal.OtherName place) =
     IsTrue asks_names × IsUnchained path.anchor (strings_below path) place
-IsOtherName asks_names path refusal.Memory = Unit {0}
-IsOtherName asks_names path _ = ⊥
+IsNameRefusal asks_names path refusal.Memory = Unit {0}
+IsNameRefusal asks_names path _ = ⊥
 
 -- the answer of a path whose trust anchor is trusted, and whose names are asked behind all else of it
 abbrev pub AnswersNamed : Context → RpkiQuestion → Terms → PathStrings → Result Judged Refusal → Type 0
 AnswersNamed x q t path r =
-    (Refused (IsOtherName t.asks_names path) r
+    (Refused (IsNameRefusal t.asks_names path) r
     × ((judged : Judged) × AnswersTrusted x q t path (Ok judged)))
     ⊎ (AnswersTrusted x q t path r × IfOk r (λ judged. AreChainedIf t.asks_names path))
 

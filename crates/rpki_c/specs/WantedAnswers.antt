@@ -16,14 +16,14 @@ use Rattle.rpki_path.specs.Asking.{RevocationChecks, nobody}
 use Rattle.rpki_path.specs.declared.judging.Judged.{Judged}
 use Rattle.rpki_issuing.specs.Acceptance.{IsAcceptedBelow}
 use Rattle.rpki_issuing.specs.AskedFields.{fields_asked, subject_asked}
-use Rattle.rpki_issuing.specs.Issuers.{IsNamed, fields_above}
+use Rattle.rpki_issuing.specs.Issuers.{HasIssuerName, fields_above}
 use Rattle.rpki_issuing.specs.PreparedOctets.{IsCompleted, IsPrepared, IsToSign, IsUncompleted, IsUnprepared}
 use Rattle.rpki_issuing.specs.declared.wanted.preparing.WantedError.{WantedError}
 use Rattle.rpki_issuing.specs.declared.wanted.preparing.WantedError.TheVariants as wanting
 use Rattle.rpki_issuing.specs.declared.wanted.wanted.Wanted.{Wanted}
 use Rattle.rpki_c.specs.Verdicts.{AnswersQuestion, AreListsNaming, AreStringsOf, DontAddUp, IsKeyOf, IsUncalled}
 use Rattle.rpki_c.specs.Verdicts.{IsUnreadList}
-use Rattle.rpki_c.specs.WantedQuestions.{GivesWanted, HasCompletionTerms, HasNoCompletionTerms, HasNoWantedTerms}
+use Rattle.rpki_c.specs.WantedQuestions.{GivesWantedValues, HasCompletionTerms, HasNoCompletionTerms, HasNoWantedTerms}
 use Rattle.rpki_c.specs.WantedQuestions.{HasWantedTerms, IsKeyGiven}
 use Rattle.rpki_c.specs.declared.certificates.CertUri.{CertUri}
 use Rattle.rpki_c.specs.declared.certificates.CertUri.TheVariants as uri
@@ -52,13 +52,13 @@ uri_wanted uri.SignedObject uris = uris.signed_object.now
 uri_wanted uri.Notify uris = uris.notify.now
 
 -- the form that it has to have
-abbrev pub IsUri : CertUri → List ℕ → Type 0
-IsUri uri.Notify octets = IsHttps octets
-IsUri which octets = IsRsync octets
+abbrev pub HasUriForm : CertUri → List ℕ → Type 0
+HasUriForm uri.Notify octets = IsHttps octets
+HasUriForm which octets = IsRsync octets
 
 -- the octets are no such URI, and are there
 abbrev pub IsBadUri : RpkiUris → CertUri → Type 0
-IsBadUri uris which = (uri_wanted which uris ≢ []) × (IsUri which (uri_wanted which uris) → ⊥)
+IsBadUri uris which = (uri_wanted which uris ≢ []) × (HasUriForm which (uri_wanted which uris) → ⊥)
 
 -- the octets are none of what has this text
 abbrev pub IsNoText : {V : Type 0} → (V → List ℕ → Type 0) → List ℕ → Type 0
@@ -89,23 +89,23 @@ abbrev pub EndsWell : Kind → RpkiQuestion → Type 0
 EndsWell kind q = ((kind ≡ Anchor) × (q.members.lengths.now ≡ [])) ⊎ ((kind ≢ Anchor) × (q.last < 2))
 
 -- the path that is asked about is accepted, and its last member holds this
-abbrev pub IsHeld : RpkiQuestion → ResourceFields → Type 0
-IsHeld q r = (judged : Judged) × AnswersQuestion IsSignedByRsa q (Ok judged) × (judged.holder ≡ r)
+abbrev pub IsHeldAtPathEnd : RpkiQuestion → ResourceFields → Type 0
+IsHeldAtPathEnd q r = (judged : Judged) × AnswersQuestion IsSignedByRsa q (Ok judged) × (judged.holder ≡ r)
 
 -- the CA that the path ends in, and what it holds
 abbrev pub IsAuthorityOf : RpkiQuestion → ResourceFields → Type 0
-IsAuthorityOf q r = (q.last < 2) × IsHeld q r
+IsAuthorityOf q r = (q.last < 2) × IsHeldAtPathEnd q r
 
 -- why there is none: the path ends in no CA, or isn't accepted
-abbrev pub IsNoAuthority : RpkiQuestion → Unissued → Type 0
-IsNoAuthority q why.BadCall = q.last < 2 → ⊥
-IsNoAuthority q (why.Issuer r) = AnswersQuestion IsSignedByRsa q (Err r)
-IsNoAuthority q _ = ⊥
+abbrev pub IsWhyNoIssuer : RpkiQuestion → Unissued → Type 0
+IsWhyNoIssuer q why.BadCall = q.last < 2 → ⊥
+IsWhyNoIssuer q (why.Issuer r) = AnswersQuestion IsSignedByRsa q (Err r)
+IsWhyNoIssuer q _ = ⊥
 
 -- nobody above a trust anchor; else the CA that the path ends in, and what it holds
-abbrev pub IsIssuerOf : Kind → RpkiQuestion → Option ResourceFields → Type 0
-IsIssuerOf kind q None = (kind ≡ Anchor) × (q.members.lengths.now ≡ [])
-IsIssuerOf kind q (Some r) = (kind ≢ Anchor) × IsAuthorityOf q r
+abbrev pub IsWantedIssuer : Kind → RpkiQuestion → Option ResourceFields → Type 0
+IsWantedIssuer kind q None = (kind ≡ Anchor) × (q.members.lengths.now ≡ [])
+IsWantedIssuer kind q (Some r) = (kind ≢ Anchor) × IsAuthorityOf q r
 
 -- why nobody issues: the path doesn't go with the kind, or isn't accepted
 abbrev pub IsNoIssuer : Kind → RpkiQuestion → Unissued → Type 0
@@ -163,14 +163,14 @@ AnswersAbove q t (Some issuer) Answers r =
 
 -- the values that are given, and the key
 abbrev pub GivesValues : RpkiWanted → WantedTerms → (Wanted × KeyFields) → Type 0
-GivesValues w t values = GivesWanted w t values.0 × IsKeyGiven w.key.now values.1
+GivesValues w t values = GivesWantedValues w t values.0 × IsKeyGiven w.key.now values.1
 
 -- the subject's name
 abbrev pub subject_of : WantedTerms → (Wanted × KeyFields) → List ℕ
 subject_of t values = subject_asked t.kind values.0.numbers.systems values.1
 
 -- the fields that are asked for below this issuer; and their subject is a name
-pub record AsksFields (w : RpkiWanted) (t : WantedTerms) (issuer : Option ResourceFields)
+pub record WantsFields (w : RpkiWanted) (t : WantedTerms) (issuer : Option ResourceFields)
     (f : TbsFields) : Type 0 where
   pub values : Wanted × KeyFields
   pub given : GivesValues w t values
@@ -185,7 +185,7 @@ IsUnnamed w t =
 
 -- the fields, or why there are none
 abbrev pub AnswersFields : RpkiWanted → WantedTerms → Option ResourceFields → Result TbsFields Unissued → Type 0
-AnswersFields w t issuer (Ok f) = AsksFields w t issuer f
+AnswersFields w t issuer (Ok f) = WantsFields w t issuer f
 AnswersFields w t issuer (Err why.NoName) = IsUnnamed w t
 AnswersFields w t issuer (Err e) = AnswersValue w (GivesValues w t) (Err e)
 
@@ -199,10 +199,10 @@ unfit_of e = why.Unfit e
 abbrev pub AnswersBelow : RpkiWanted → WantedTerms → Option ResourceFields → List (List ℕ)
     → RevocationChecks → Result (List ℕ) Unissued → Type 0
 AnswersBelow w t issuer path checks (Ok octets) =
-    (f : TbsFields) × AsksFields w t issuer f
+    (f : TbsFields) × WantsFields w t issuer f
     × IsPrepared t.kind issuer path checks t.asked.now t.asked.strict f octets
 AnswersBelow w t issuer path checks (Err (why.Unfit e)) =
-    (f : TbsFields) × AsksFields w t issuer f
+    (f : TbsFields) × WantsFields w t issuer f
     × IsUnprepared t.kind issuer path checks t.asked.now t.asked.strict f e
 AnswersBelow w t issuer path checks (Err e) = AnswersFields w t issuer (Err e)
 
@@ -210,7 +210,7 @@ AnswersBelow w t issuer path checks (Err e) = AnswersFields w t issuer (Err e)
 abbrev pub AnswersTerms : RpkiWanted → WantedTerms → Result (List ℕ) Unissued → Type 0
 AnswersTerms w t r =
     ((e : Unissued) × (r ≡ Err e) × IsNoIssuer t.kind w.issuer e)
-    ⊎ ((issuer : Option ResourceFields) × IsIssuerOf t.kind w.issuer issuer
+    ⊎ ((issuer : Option ResourceFields) × IsWantedIssuer t.kind w.issuer issuer
     × AnswersAbove w.issuer t.asked issuer (AnswersBelow w t issuer) r)
 
 -- the octets that are to be signed of the certificate that is wanted, or why there are none
@@ -232,9 +232,9 @@ AnswersSigned octets (Err _) = ⊥
 
 -- the fields of what was signed below this issuer
 abbrev pub AnswersNamed : Option ResourceFields → List ℕ → Result TbsFields Unissued → Type 0
-AnswersNamed issuer octets (Ok f) = IsToSign f octets × IsNamed issuer f
+AnswersNamed issuer octets (Ok f) = IsToSign f octets × HasIssuerName issuer f
 AnswersNamed issuer octets (Err why.OtherName) =
-    (f : TbsFields) × IsToSign f octets × (IsNamed issuer f → ⊥)
+    (f : TbsFields) × IsToSign f octets × (HasIssuerName issuer f → ⊥)
 AnswersNamed issuer octets (Err e) = AnswersSigned octets (Err e)
 
 -- the certificate that the signature makes of these fields below the issuer, the last of this path,
@@ -242,12 +242,12 @@ AnswersNamed issuer octets (Err e) = AnswersSigned octets (Err e)
 abbrev pub AnswersCompletedBelow : RpkiCompletion → CompletionTerms → Option ResourceFields
     → List (List ℕ) → RevocationChecks → Result (List ℕ) Unissued → Type 0
 AnswersCompletedBelow c t issuer path checks (Ok octets) =
-    (f : TbsFields) × IsToSign f c.prepared.now × IsNamed issuer f
+    (f : TbsFields) × IsToSign f c.prepared.now × HasIssuerName issuer f
     × IsCompleted t.kind issuer path checks t.asked.now t.asked.strict f
     c.prepared.now c.signature.now octets
     × IsAcceptedBelow (context IsSignedByRsa t.asked.now t.asked.strict) checks t.kind issuer octets
 AnswersCompletedBelow c t issuer path checks (Err (why.Unfit e)) =
-    (f : TbsFields) × IsToSign f c.prepared.now × IsNamed issuer f
+    (f : TbsFields) × IsToSign f c.prepared.now × HasIssuerName issuer f
     × IsUncompleted t.kind issuer path checks t.asked.now t.asked.strict f
     c.prepared.now c.signature.now e
 AnswersCompletedBelow c t issuer path checks (Err e) = AnswersNamed issuer c.prepared.now (Err e)
@@ -256,7 +256,7 @@ AnswersCompletedBelow c t issuer path checks (Err e) = AnswersNamed issuer c.pre
 abbrev pub AnswersCompletionTerms : RpkiCompletion → CompletionTerms → Result (List ℕ) Unissued → Type 0
 AnswersCompletionTerms c t r =
     ((e : Unissued) × (r ≡ Err e) × IsNoIssuer t.kind c.issuer e)
-    ⊎ ((issuer : Option ResourceFields) × IsIssuerOf t.kind c.issuer issuer
+    ⊎ ((issuer : Option ResourceFields) × IsWantedIssuer t.kind c.issuer issuer
     × AnswersAbove c.issuer t.asked issuer (AnswersCompletedBelow c t issuer) r)
 
 -- the certificate that is completed, or why there is none

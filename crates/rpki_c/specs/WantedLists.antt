@@ -52,7 +52,7 @@ HaveDates revoked = AllByRecursion HasDate revoked
 -- ---- the whole
 
 -- what is wanted of the list
-pub record GivesList (w : RpkiWantedList) (t : ListTerms) (it : WantedListFields) : Type 0 where
+pub record GivesWantedList (w : RpkiWantedList) (t : ListTerms) (it : WantedListFields) : Type 0 where
   pub number_is : IsNumberChosen w.number it.number
   pub revoked_are : it.revoked ≡ map given_entry w.revoked.now
   pub dates_exist : HaveDates w.revoked.now

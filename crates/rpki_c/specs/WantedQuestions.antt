@@ -72,16 +72,16 @@ AreOrdered bs = AllByRecursion (λ b. b.min ≤ b.max) bs
 
 -- what is listed of a kind of numbers, by the number of a state: nothing; what the issuer has; or
 -- the numbers of these blocks, in any order
-abbrev pub AreGiven : ℕ → List Block → Resources → Type 0
-AreGiven state bs r =
+abbrev pub AreResourcesGiven : ℕ → List Block → Resources → Type 0
+AreResourcesGiven state bs r =
     ((state ≡ 0) × (bs ≡ []) × (r ≡ missing))
     ⊎ ((state ≡ 1) × (bs ≡ []) × (r ≡ inherit))
     ⊎ ((state ≡ 2) × (bs ≢ []) × AreOrdered bs × IsUnion bs r)
 
-pub record GivesNumbers (w : RpkiWanted) (numbers : Numbers) : Type 0 where
-  pub v4_is : AreGiven w.v4.state (map v4_span w.v4.ranges.now) numbers.v4
-  pub v6_is : AreGiven w.v6.state (map v6_span w.v6.ranges.now) numbers.v6
-  pub systems_is : AreGiven w.asn.state (map as_span w.asn.ranges.now) numbers.systems
+pub record GivesWantedNumbers (w : RpkiWanted) (numbers : Numbers) : Type 0 where
+  pub v4_is : AreResourcesGiven w.v4.state (map v4_span w.v4.ranges.now) numbers.v4
+  pub v6_is : AreResourcesGiven w.v6.state (map v6_span w.v6.ranges.now) numbers.v6
+  pub systems_is : AreResourcesGiven w.asn.state (map as_span w.asn.ranges.now) numbers.systems
 
 -- ---- URIs
 
@@ -90,7 +90,7 @@ abbrev pub IsUriGiven : {V : Type 0} → (V → List ℕ → Type 0) → List �
 IsUriGiven IsText octets None = octets ≡ []
 IsUriGiven IsText octets (Some uri) = IsText uri octets
 
-pub record GivesPlaces (uris : RpkiUris) (places : Places) : Type 0 where
+pub record GivesWantedUris (uris : RpkiUris) (places : Places) : Type 0 where
   pub repository_is : IsUriGiven IsRsyncText uris.repository.now places.repository
   pub manifest_is : IsUriGiven IsRsyncText uris.manifest.now places.manifest
   pub object_is : IsUriGiven IsRsyncText uris.signed_object.now places.object
@@ -101,12 +101,12 @@ pub record GivesPlaces (uris : RpkiUris) (places : Places) : Type 0 where
 -- ---- the whole
 
 -- the values of the certificate that is wanted
-pub record GivesWanted (w : RpkiWanted) (t : WantedTerms) (it : Wanted) : Type 0 where
+pub record GivesWantedValues (w : RpkiWanted) (t : WantedTerms) (it : Wanted) : Type 0 where
   pub serial_is : IsAllowedSerial it.serial w.serial
   pub begin_is : it.not_before ≡ t.not_before
   pub end_is : it.not_after ≡ t.not_after
-  pub numbers_are : GivesNumbers w it.numbers
-  pub places_are : GivesPlaces w.uris it.places
+  pub numbers_are : GivesWantedNumbers w it.numbers
+  pub places_are : GivesWantedUris w.uris it.places
 
 -- the octets are the SubjectPublicKeyInfo of a key that the RPKI uses
 pub record IsKeyGiven (octets : List ℕ) (key : KeyFields) : Type 0 where

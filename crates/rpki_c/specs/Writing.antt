@@ -21,5 +21,5 @@ abbrev pub as_struct : Block → RpkiAsRange
 as_struct it = record { min = it.min; max = it.max }
 
 -- the items stand in the caller's memory, as many as there is room for, and all are counted
-abbrev pub IsWritten : {A : Type 0} → List A → List A → List A → ℕ → Type 0
-IsWritten items old new count = (new ≡ written_over items old) × (count ≡ length items)
+abbrev pub IsWrittenInto : {A : Type 0} → List A → List A → List A → ℕ → Type 0
+IsWrittenInto items old new count = (new ≡ written_over items old) × (count ≡ length items)

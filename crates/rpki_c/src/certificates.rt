@@ -11,7 +11,7 @@ ghost use Rattle.rpki_c.specs.Contents.{state_number, TellsKey, TellsKeys, Tells
 ghost use Rattle.rpki_folder.specs.Folders.{BeginsNoCertificate};
 ghost use Rattle.rpki_parts.specs.NameTexts.{name_text};
 ghost use Rattle.rpki_c.specs.FaultNumbers.{inspection_number};
-ghost use Rattle.rpki_c.specs.Writing.{IsWritten, as_struct, ip_struct};
+ghost use Rattle.rpki_c.specs.Writing.{IsWrittenInto, as_struct, ip_struct};
 ghost use Rattle.rpki_c.specs.declared.certificates.Family.{Family as families};
 ghost use Rattle.rpki_c.specs.declared.certificates.CertUri.{CertUri as uris};
 ghost use Rattle.rpki_c.specs.declared.certificates.CertName.{CertName as names};
@@ -214,7 +214,7 @@ pub extern "C" fn rpki_certificate_key(
 ) -> u32
     ensures key { result ≡ NONE → (info : List ℕ)
         × TellsKey octets.now info (is_used.new ≡ 1) × (is_used.new ≤ 1)
-        × IsWritten info out.old out.new count.new }
+        × IsWrittenInto info out.old out.new count.new }
     ensures at_fault { result ≢ NONE → (count.new ≡ 0) × (is_used.new ≡ 0) }
     ensures untouched { result ≢ NONE → out.new ≡ out.old }
     ensures unread { result ≢ NONE → result ≢ MEMORY → BeginsNoCertificate octets.now }
@@ -338,7 +338,7 @@ fn addresses_of(tbs: &TbsCert, family: Family) -> &IpResources
 // there are.
 fn put_family(tbs: &TbsCert, family: Family, out: &mut [RpkiIpRange]) -> u64
     ensures { let blocks = listed_blocks (family_field family tbs.now.extensions) in
-        IsWritten (map ip_struct blocks) out.old out.new result }
+        IsWrittenInto (map ip_struct blocks) out.old out.new result }
 {
     match addresses_of(tbs, family).as_blocks() {
         Some(blocks) => put_addresses(blocks, out),
@@ -363,7 +363,7 @@ pub extern "C" fn rpki_certificate_addresses(
     ensures bad_call { (result ≡ BAD_CALL) ↔ (family ≢ 4) × (family ≢ 6) }
     ensures listed { result ≡ NONE → (f : families) × (family ≡ family_number f)
         × (c : CertFields) × Means IsCertificate c octets.now
-        × IsWritten (map ip_struct (listed_blocks (family_field f c.fields.extensions)))
+        × IsWrittenInto (map ip_struct (listed_blocks (family_field f c.fields.extensions)))
         out.old out.new count.new }
     ensures at_fault { result ≢ NONE → count.new ≡ 0 }
     ensures untouched { result ≢ NONE → out.new ≡ out.old }
@@ -398,7 +398,7 @@ pub extern "C" fn rpki_certificate_as_numbers(
     count: &mut u64,
 ) -> u32
     ensures listed { result ≡ NONE → (c : CertFields) × Means IsCertificate c octets.now
-        × IsWritten (map as_struct (listed_blocks c.fields.extensions.as_resources))
+        × IsWrittenInto (map as_struct (listed_blocks c.fields.extensions.as_resources))
         out.old out.new count.new }
     ensures at_fault { result ≢ NONE → count.new ≡ 0 }
     ensures untouched { result ≢ NONE → out.new ≡ out.old }
@@ -499,7 +499,7 @@ fn uri_of(tbs: &TbsCert, which: CertUri) -> Option<&[u8]>
 // Writes the octets of a URI, as many as there is room for, and tells how many there are.
 fn put_uri(tbs: &TbsCert, which: CertUri, out: &mut [u8]) -> u64
     ensures { let octets = octets_if_any (uri_field which tbs.now.extensions) in
-        IsWritten octets out.old out.new result }
+        IsWrittenInto octets out.old out.new result }
 {
     match uri_of(tbs, which) {
         Some(uri) => put_octets(uri, out),
@@ -525,7 +525,7 @@ pub extern "C" fn rpki_certificate_uri(
     ensures bad_call { (result ≡ BAD_CALL) ↔ 5 < which }
     ensures uri { result ≡ NONE → (u : uris) × (which ≡ uri_number u)
         × (c : CertFields) × Means IsCertificate c octets.now
-        × IsWritten (octets_if_any (uri_field u c.fields.extensions)) out.old out.new count.new }
+        × IsWrittenInto (octets_if_any (uri_field u c.fields.extensions)) out.old out.new count.new }
     ensures at_fault { result ≢ NONE → count.new ≡ 0 }
     ensures untouched { result ≢ NONE → out.new ≡ out.old }
     ensures unread { result ≢ NONE → result ≢ MEMORY → result ≢ BAD_CALL
@@ -570,7 +570,7 @@ fn name_numbered(number: u32) -> Option<CertName>
 
 // Writes the text of a name, as much as there is room for, and tells how long it is.
 fn put_text(alloc: Global, name: &Name, out: &mut [u8]) -> Result<u64, AllocError>
-    ensures written { IfOk result (IsWritten (name_text name.now) out.old out.new) }
+    ensures written { IfOk result (IsWrittenInto (name_text name.now) out.old out.new) }
     ensures untouched { IsErr result → out.new ≡ out.old }
 {
     let text = format!(in alloc; "{name}")?;
@@ -586,7 +586,7 @@ fn put_name(
     which: CertName,
     out: &mut [u8],
 ) -> Result<u64, AllocError>
-    ensures written { IfOk result (IsWritten (name_field which tbs.now) out.old out.new) }
+    ensures written { IfOk result (IsWrittenInto (name_field which tbs.now) out.old out.new) }
     ensures untouched { IsErr result → out.new ≡ out.old }
 {
     match which {
@@ -615,7 +615,7 @@ pub extern "C" fn rpki_certificate_name(
     ensures bad_call { (result ≡ BAD_CALL) ↔ 3 < which }
     ensures name { result ≡ NONE → (n : names) × (which ≡ name_number n)
         × (c : CertFields) × Means IsCertificate c octets.now
-        × IsWritten (name_field n c.fields) out.old out.new count.new }
+        × IsWrittenInto (name_field n c.fields) out.old out.new count.new }
     ensures at_fault { result ≢ NONE → count.new ≡ 0 }
     ensures untouched { result ≢ NONE → out.new ≡ out.old }
     ensures unread { result ≢ NONE → result ≢ MEMORY → result ≢ BAD_CALL

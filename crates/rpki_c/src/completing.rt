@@ -3,7 +3,7 @@ ghost use Rattle.std.specs.Prelude.{◌≡◌, option_map, Some, IfErr, IfOk, Is
 ghost use Rattle.rpki_cert.specs.Verification.{context};
 ghost use Rattle.rpki_keys.specs.RsaSignatures.{IsSignedByRsa};
 ghost use Rattle.rpki_c.specs.WantedAnswers.{AnswersAbove, AnswersCompletedBelow, AnswersCompletion, AnswersCompletionTerms, AnswersNamed, AnswersSigned, checks_above};
-ghost use Rattle.rpki_issuing.specs.Issuers.{IsNamed};
+ghost use Rattle.rpki_issuing.specs.Issuers.{HasIssuerName};
 ghost use Rattle.rpki_c.specs.WantedQuestions.{HasCompletionTerms, HasNoCompletionTerms};
 ghost use Rattle.rpki_c.specs.declared.unissued.Unissued.TheVariants.{OtherName};
 
@@ -83,9 +83,9 @@ fn to_sign(alloc: Global, octets: &[u8]) -> Result<TbsCert, Unissued>
 // The fields, whose issuer has to be named as the one above.
 fn named_by(tbs: TbsCert, issuer: Option<&ResourceCert>) -> Result<TbsCert, Unissued>
     ensures named { let above = option_map (λ r. r.now) issuer.entry in
-        IfOk result (λ f. (f ≡ tbs) × IsNamed above tbs) }
+        IfOk result (λ f. (f ≡ tbs) × HasIssuerName above tbs) }
     ensures other { let above = option_map (λ r. r.now) issuer.entry in
-        IfErr result (λ e. (e ≡ OtherName) × (IsNamed above tbs → ⊥)) }
+        IfErr result (λ e. (e ≡ OtherName) × (HasIssuerName above tbs → ⊥)) }
 {
     if is_named(&tbs, issuer) {
         return Ok(tbs);

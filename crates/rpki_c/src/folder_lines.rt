@@ -2,7 +2,7 @@
 ghost use Rattle.std.specs.Prelude.{◌≡◌};
 ghost use Rattle.rpki_c.specs.FolderLimits.{TellsReached, but_for_limits};
 ghost use Rattle.rpki_c.specs.FolderTelling.{plain_line, rejected_line};
-ghost use Rattle.rpki_c.specs.HeldRanges.{nothing_held};
+ghost use Rattle.rpki_c.specs.HeldRanges.{no_ranges_held};
 ghost use Rattle.rpki_c.specs.Questions.{kind_number as number_of};
 
 use crate::faults::{BAD_KEY, NONE, of_path};
@@ -71,7 +71,7 @@ fn kind_number(kind: Kind) -> u32
 }
 
 fn nothing() -> RpkiHeld
-    ensures { result ≡ nothing_held }
+    ensures { result ≡ no_ranges_held }
 {
     RpkiHeld {
         v4: 0,
@@ -144,9 +144,9 @@ pub(crate) struct WalkLines<'w, 's> {
 
 impl<'s> Sorted<'s> {
     ghost use Rattle.std.specs.Prelude.{◌≡◌, ◌<◌, length, map, IfOk, OnOk};
-    ghost use Rattle.rpki_folder.specs.Folders.{octets_at};
+    ghost use Rattle.rpki_folder.specs.Folders.{string_at};
     ghost use Rattle.rpki_c.specs.FolderFates.Steps.{origin_of, kept_fate};
-    ghost use Rattle.rpki_c.specs.FolderTelling.{issuer_of, IsAcceptedLine, IsKindSaid, IsLineOf};
+    ghost use Rattle.rpki_c.specs.FolderTelling.{issuer_of, IsAcceptedLine, IsKindSaid, IsFateLine};
     ghost use Rattle.rpki_c.specs.HeldRanges.{HaveGrown};
 
     // The place of the issuer's string, below the CAs at these places of the folder.
@@ -162,7 +162,7 @@ impl<'s> Sorted<'s> {
     // The number of the kind as which the certificate at a place of the folder is judged.
     fn kind(&self, at: usize) -> u32
         requires { at < length self.now.folder.certs }
-        ensures { IsKindSaid (octets_at self.now.folder.certs at) result }
+        ensures { IsKindSaid (string_at self.now.folder.certs at) result }
     {
         kind_number(self.folder.certs()[at].said().kind)
     }
@@ -210,9 +210,9 @@ impl<'s> Sorted<'s> {
         ranges: &mut Ranges,
     ) -> Result<RpkiLine, AllocError>
         requires { at < length self.now.folder.certs }
-        ensures line { let octets = octets_at self.now.folder.certs at in
+        ensures line { let octets = string_at self.now.folder.certs at in
             let fate = kept_fate (origin_of self.now) kept.now in
-            IfOk result (IsLineOf asks_key anchor octets fate ranges.new) }
+            IfOk result (IsFateLine asks_key anchor octets fate ranges.new) }
         ensures grown { OnOk result (HaveGrown ranges.old ranges.new) }
     {
         let kind = self.kind(at);
@@ -226,9 +226,9 @@ impl<'s> Sorted<'s> {
 
 impl<'w, 's> WalkLines<'w, 's> {
     ghost use Rattle.std.specs.Prelude.{◌≡◌, ◌<◌, length, IfOk, IsTrue, OnOk};
-    ghost use Rattle.rpki_folder.specs.Folders.{octets_at};
-    ghost use Rattle.rpki_c.specs.FolderFates.Steps.{IsSorted, origin_of, cert_fate, cert_reached, fate_at, reached_at};
-    ghost use Rattle.rpki_c.specs.FolderTelling.{AreLinesOf, IsLineOf, IsLineWith};
+    ghost use Rattle.rpki_folder.specs.Folders.{string_at};
+    ghost use Rattle.rpki_c.specs.FolderFates.Steps.{IsSorted, origin_of, cert_fate, cert_reached, fate_at, line_reached_at};
+    ghost use Rattle.rpki_c.specs.FolderTelling.{AreLinesOf, IsFateLine, IsLineWith};
     ghost use Rattle.rpki_c.specs.HeldRanges.{HaveGrown};
 
     // The line of the certificate at a place of the folder: that of its first place.
@@ -241,9 +241,9 @@ impl<'w, 's> WalkLines<'w, 's> {
     ) -> Result<RpkiLine, AllocError>
         requires { at < length self.now.sorted.now.folder.certs }
         ensures line { let sorted = self.now.sorted.now in
-            let octets = octets_at sorted.folder.certs at in
+            let octets = string_at sorted.folder.certs at in
             let top = origin_of sorted self.now.anchor in
-            IfOk result (IsLineOf asks_key top octets (cert_fate self.now at) ranges.new) }
+            IfOk result (IsFateLine asks_key top octets (cert_fate self.now at) ranges.new) }
         ensures grown { OnOk result (HaveGrown ranges.old ranges.new) }
     {
         let first = self.firsts.first_of(at);
@@ -275,10 +275,10 @@ impl<'w, 's> WalkLines<'w, 's> {
         requires sorted { IsSorted self.now.sorted.now }
         requires inside { place < length self.now.sorted.now.strings.now }
         ensures line { let sorted = self.now.sorted.now in
-            let octets = octets_at sorted.strings.now place in
+            let octets = string_at sorted.strings.now place in
             let top = origin_of sorted self.now.anchor in
             IfOk result (IsLineWith asks_key top octets (fate_at self.now place)
-            (reached_at self.now place) ranges.new) }
+            (line_reached_at self.now place) ranges.new) }
         ensures grown { OnOk result (HaveGrown ranges.old ranges.new) }
     {
         match self.sorted.added[place] {
@@ -298,7 +298,7 @@ impl<'w, 's> WalkLines<'w, 's> {
             let strings = sorted.strings.now in
             let top = origin_of sorted self.now.anchor in
             IfOk result (AreLinesOf asks_key top strings (fate_at self.now)
-            (reached_at self.now) (length strings)) }
+            (line_reached_at self.now) (length strings)) }
     {
         let mut lines = Vec::new(alloc);
         let mut ranges = Ranges::new(alloc);

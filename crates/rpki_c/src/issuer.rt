@@ -2,7 +2,7 @@
 ghost use Rattle.std.specs.Prelude.{◌≡◌, ◌↔◌, Err, IfErr, IfOk, IsTrue};
 ghost use Rattle.rpki_cert.specs.declared.inspect.Kind.TheVariants.{Anchor};
 ghost use Rattle.rpki_c.specs.Verdicts.{AnswersQuestion, AreListsNaming, IsKeyOf, IsUnreadList};
-ghost use Rattle.rpki_c.specs.WantedAnswers.{AreListsGiven, AreNoListsGiven, GivesAbove, GivesNoAbove, IsAuthorityOf, IsHeld, IsIssuerOf, IsNoAuthority, IsNoIssuer};
+ghost use Rattle.rpki_c.specs.WantedAnswers.{AreListsGiven, AreNoListsGiven, GivesAbove, GivesNoAbove, IsAuthorityOf, IsHeldAtPathEnd, IsWantedIssuer, IsWhyNoIssuer, IsNoIssuer};
 ghost use Rattle.rpki_keys.specs.RsaSignatures.{IsSignedByRsa};
 
 use crate::judging::{judge_question, strings_of};
@@ -29,7 +29,7 @@ fn is_anchor(kind: Kind) -> bool
 
 // The last member of the path, and what it holds.
 fn held(alloc: Global, question: &RpkiQuestion<'_>) -> Result<ResourceCert, Refusal>
-    ensures held { IfOk result (IsHeld question.now) }
+    ensures held { IfOk result (IsHeldAtPathEnd question.now) }
     ensures refused { IfErr result (λ e. AnswersQuestion IsSignedByRsa question.now (Err e)) }
 {
     let judged = judge_question(alloc, question)?;
@@ -44,7 +44,7 @@ pub(crate) fn authority_of(
     question: &RpkiQuestion<'_>,
 ) -> Result<ResourceCert, Unissued>
     ensures authority { IfOk result (IsAuthorityOf question.now) }
-    ensures none { IfErr result (IsNoAuthority question.now) }
+    ensures none { IfErr result (IsWhyNoIssuer question.now) }
 {
     if question.last > 1 {
         return Err(Unissued::BadCall);
@@ -62,7 +62,7 @@ pub(crate) fn issuer_of(
     kind: Kind,
     question: &RpkiQuestion<'_>,
 ) -> Result<Option<ResourceCert>, Unissued>
-    ensures issuer { IfOk result (IsIssuerOf kind question.now) }
+    ensures issuer { IfOk result (IsWantedIssuer kind question.now) }
     ensures none { IfErr result (IsNoIssuer kind question.now) }
 {
     if is_anchor(kind) {

@@ -6,7 +6,7 @@ ghost use Rattle.rpki_path.specs.AskedLists.{by_named_lists};
 ghost use Rattle.rpki_path.specs.NameChains.{BeginPath, IsUnchained, strings_below};
 ghost use Rattle.rpki_keys.specs.RsaSignatures.{IsSignedByRsa};
 ghost use Rattle.rpki_c.specs.declared.refusal.Refusal.TheVariants.{UnusedKey};
-ghost use Rattle.rpki_c.specs.Verdicts.{AreStringsOf, DontAddUp, IsUncalled, AreListsNaming, IsKeyOf, IsUnreadList, all_strings, AnswersListed, AnswersWith, AnswersTrusted, AreChainedIf, IsOtherName, AnswersNamed, AnswersKeyed, AnswersPath, HasKeyAsked, AnswersStrings, AnswersMembers, AnswersQuestion};
+ghost use Rattle.rpki_c.specs.Verdicts.{AreStringsOf, DontAddUp, IsUncalled, AreListsNaming, IsKeyOf, IsUnreadList, all_strings, AnswersListed, AnswersWith, AnswersTrusted, AreChainedIf, IsNameRefusal, AnswersNamed, AnswersKeyed, AnswersPath, HasKeyAsked, AnswersStrings, AnswersMembers, AnswersQuestion};
 
 use crate::keys::keys_of;
 use crate::lists::lists_of;
@@ -143,7 +143,7 @@ fn named(
 ) -> Result<Judged, Refusal>
     requires { BeginPath path.now }
     ensures chained { IfOk result (λ it. (it ≡ judged) × AreChainedIf asks_names path.now) }
-    ensures other { IfErr result (IsOtherName asks_names path.now) }
+    ensures other { IfErr result (IsNameRefusal asks_names path.now) }
 {
     match unchained(alloc, path, asks_names) {
         Ok(None) => Ok(judged),

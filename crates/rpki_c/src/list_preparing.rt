@@ -1,7 +1,7 @@
 //! The to-be-signed part of a CRL that a caller requests.
 ghost use Rattle.std.specs.Prelude.{◌≡◌, ◌⊎◌, option_map, IfErr, IfOk};
 ghost use Rattle.rpki_crl.specs.Lists.{IsCertificateList};
-ghost use Rattle.rpki_c.specs.ListAnswers.{AnswersBehind, AnswersListBelow, AnswersListFields, AnswersListTerms, AnswersWantedList, IsNoPrevious, IsOwn, IsPreviousOf};
+ghost use Rattle.rpki_c.specs.ListAnswers.{AnswersBehind, AnswersListBelow, AnswersListFields, AnswersListTerms, AnswersWantedList, IsNoPrevious, IsOwn, IsPreviousCrl};
 ghost use Rattle.rpki_issuing.specs.Issuers.{IsOwnList};
 ghost use Rattle.rpki_c.specs.Verdicts.{AreNoList};
 ghost use Rattle.rpki_c.specs.declared.unissued.Unissued.TheVariants.{Memory, OtherList};
@@ -66,7 +66,7 @@ fn own_list(alloc: Global, octets: &[u8], issuer: &ResourceCert) -> Result<Crl, 
 
 // The list before. Without octets there was none.
 fn previous_of(alloc: Global, octets: &[u8], issuer: &ResourceCert) -> Result<Option<Crl>, Unissued>
-    ensures previous { IfOk result (IsPreviousOf issuer.now.cert.fields octets.now) }
+    ensures previous { IfOk result (IsPreviousCrl issuer.now.cert.fields octets.now) }
     ensures other { IfErr result (IsNoPrevious issuer.now.cert.fields octets.now) }
 {
     if octets.is_empty() {

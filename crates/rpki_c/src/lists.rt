@@ -7,8 +7,8 @@ ghost use Rattle.rpki_crl.specs.Lists.{CrlFields, IsCertificateList};
 ghost use Rattle.rpki_crl.specs.RevokedEntries.{IsRevoked};
 ghost use Rattle.rpki_crl.specs.RevokedEntries.Views.{entry_of};
 ghost use Rattle.rpki_c.specs.Contents.{AreEntriesPut, AreTold, IsFlag, TellsEntry, TellsList, serial_in, told_count};
-ghost use Rattle.rpki_c.specs.Verdicts.{AreListsNaming, AreNoList, BeginsNoList, IsForeign, IsGiven, IsUnreadList};
-ghost use Rattle.rpki_c.specs.Writing.{IsWritten};
+ghost use Rattle.rpki_c.specs.Verdicts.{AreListsNaming, AreNoList, BeginsNoList, IsForeign, IsListGiven, IsUnreadList};
+ghost use Rattle.rpki_c.specs.Writing.{IsWrittenInto};
 
 use crate::copying::put_octets;
 use crate::faults::{BAD_CALL, MEMORY, NONE, of_decoding};
@@ -181,7 +181,7 @@ pub extern "C" fn rpki_list_issuer(
     count: &mut u64,
 ) -> u32
     ensures issuer { result ≡ NONE → (l : CrlFields) × Means IsCertificateList l octets.now
-        × IsWritten l.fields.issuer out.old out.new count.new }
+        × IsWrittenInto l.fields.issuer out.old out.new count.new }
     ensures at_fault { result ≢ NONE → count.new ≡ 0 }
     ensures untouched { result ≢ NONE → out.new ≡ out.old }
     ensures unread { result ≢ NONE → result ≢ MEMORY → BeginsNoList octets.now }
@@ -355,7 +355,7 @@ fn list_naming(
     keys: &[KeyIdentifier],
 ) -> Result<Option<Crl>, DecodeError>
     ensures list { IfOk result (λ o. MatchOption o
-        (IsForeign (Contains keys.now) octets.now) (IsGiven octets.now)) }
+        (IsForeign (Contains keys.now) octets.now) (IsListGiven octets.now)) }
     ensures unread { IfErr result (λ e. Rejects e
         (AreNoList octets.now × (IsForeign (Contains keys.now) octets.now → ⊥))) }
 {

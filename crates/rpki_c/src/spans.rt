@@ -4,7 +4,8 @@ ghost use Rattle.rpki_der.specs.Place.{MovesOn};
 ghost use Rattle.rpki_der.specs.Tags.{SEQUENCE};
 ghost use Rattle.rpki_der.specs.declared.error.DecodeError.TheVariants.{Memory};
 ghost use Rattle.rpki_folder.specs.Folders.{BeginsNoCertificate};
-ghost use Rattle.rpki_c.specs.CertificateSpans.{AreSignedSpans, AreTagged, BitsStoodAt, GoesBehind, HasTag, IsAtFields, IsAtKey, IsInside, IsKeySpan, IsSpan, StandsNone, StandsNoBits, StoodAt};
+ghost use Rattle.rpki_c.specs.CertificateSpans.{AreSignedSpans, AreTagged, BitsStoodAt, GoesBehind, IsAtFields, IsAtKey, IsInside, IsKeySpan, IsSpanWithin, StandsNone, StandsNoBits, StoodAt};
+ghost use Rattle.rpki_files.specs.StopPlaces.{HasTag};
 
 use bytes::Bytes;
 use rpki_der::{Cursor, DecodeError, tag};
@@ -45,7 +46,7 @@ fn skip(cursor: &mut Cursor<'_>, tags: &[u8]) -> Result<(), DecodeError>
 
 // Where the SEQUENCE stands that stands next. Goes behind it.
 fn sequence_span(cursor: &mut Cursor<'_>) -> Result<(usize, usize), DecodeError>
-    ensures span { IfOk result (IsSpan cursor.old.source) }
+    ensures span { IfOk result (IsSpanWithin cursor.old.source) }
     ensures stood { IfOk result (StoodAt (HasTag SEQUENCE) cursor.old) }
     ensures behind { OnOk result (GoesBehind (HasTag SEQUENCE) cursor.old cursor.new) }
     ensures moves { OnOk result (MovesOn cursor.old cursor.new) }
@@ -60,7 +61,7 @@ fn sequence_span(cursor: &mut Cursor<'_>) -> Result<(usize, usize), DecodeError>
 
 // Where the bits stand behind the algorithm that stands next.
 fn bits_span(cursor: &mut Cursor<'_>) -> Result<(usize, usize), DecodeError>
-    ensures span { IfOk result (IsSpan cursor.old.source) }
+    ensures span { IfOk result (IsSpanWithin cursor.old.source) }
     ensures stood { IfOk result (BitsStoodAt cursor.old) }
     ensures none { IfErr result (λ _. StandsNoBits cursor.old) }
     ensures fault { IfErr result (λ e. e ≢ Memory) }

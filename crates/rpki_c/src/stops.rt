@@ -2,7 +2,7 @@
 ghost use Rattle.std.specs.Prelude.{◌≡◌, ◌≢◌, ◌<◌, ◌↔◌, ◌==◌, not, false, true, Bool, ℕ, List, IsNone, IsErr, IfOk, IfSome};
 ghost use Rattle.rpki_files.specs.Misreads.{BeginsAsRead, IsMisread};
 ghost use Rattle.rpki_c.specs.StopTelling.{TellsStop, found_text, place_text, text_number};
-ghost use Rattle.rpki_c.specs.Writing.{IsWritten};
+ghost use Rattle.rpki_c.specs.Writing.{IsWrittenInto};
 ghost use Rattle.rpki_c.specs.declared.stops.PartText.{PartText as texts};
 
 use crate::copying::put_octets;
@@ -44,7 +44,7 @@ fn text_numbered(number: u32) -> Option<PartText>
 
 // Writes what is found, where that is told.
 fn put_found(alloc: Global, found: Option<Flaw>, out: &mut [u8]) -> Result<u64, AllocError>
-    ensures written { IfOk result (IsWritten (found_text found) out.old out.new) }
+    ensures written { IfOk result (IsWrittenInto (found_text found) out.old out.new) }
     ensures untouched { IsErr result → out.new ≡ out.old }
 {
     match found {
@@ -60,7 +60,7 @@ fn put_found(alloc: Global, found: Option<Flaw>, out: &mut [u8]) -> Result<u64, 
 
 // Writes a text of the part at which reading stops.
 fn put_text(alloc: Global, place: Place, which: PartText, out: &mut [u8]) -> Result<u64, AllocError>
-    ensures written { IfOk result (IsWritten (place_text which place) out.old out.new) }
+    ensures written { IfOk result (IsWrittenInto (place_text which place) out.old out.new) }
     ensures untouched { IsErr result → out.new ≡ out.old }
 {
     match which {

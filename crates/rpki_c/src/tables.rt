@@ -8,9 +8,9 @@ ghost use Rattle.rpki_crl.specs.RevokedEntries.{Entry, IsRevoked};
 ghost use Rattle.rpki_crl.specs.SerialTables.{AreAscending, serials_of};
 ghost use Rattle.rpki_ext.specs.Kinds.{Means};
 ghost use Rattle.rpki_c.specs.Contents.{AreTold, IsFlag};
-ghost use Rattle.rpki_c.specs.ListTables.{IsTableOf, serials_in};
+ghost use Rattle.rpki_c.specs.ListTables.{IsSerialTable, serials_in};
 ghost use Rattle.rpki_c.specs.Verdicts.{BeginsNoList};
-ghost use Rattle.rpki_c.specs.Writing.{IsWritten, written_over};
+ghost use Rattle.rpki_c.specs.Writing.{IsWrittenInto, written_over};
 
 use crate::faults::{BAD_CALL, MEMORY, NONE};
 use crate::lists::{add_up, decoded, number_of, serial_at};
@@ -135,7 +135,7 @@ fn with_hints(alloc: Global, serials: &[Serial]) -> Result<Vec<RpkiSerial>, Allo
 
 // The table of a list.
 fn table_of(alloc: Global, list: &Crl) -> Result<Vec<RpkiSerial>, AllocError>
-    ensures { IfOk result (λ it. IsTableOf list.now.list.fields.revoked.entries it.items) }
+    ensures { IfOk result (λ it. IsSerialTable list.now.list.fields.revoked.entries it.items) }
 {
     let serials = ascending(alloc, list)?;
     let table = with_hints(alloc, &serials);
@@ -145,7 +145,7 @@ fn table_of(alloc: Global, list: &Crl) -> Result<Vec<RpkiSerial>, AllocError>
 
 // Writes as many entries of a table as there is room for, and tells how many there are.
 fn put_table(table: &[RpkiSerial], out: &mut [RpkiSerial]) -> u64
-    ensures { IsWritten table.now out.old out.new result }
+    ensures { IsWrittenInto table.now out.old out.new result }
 {
     let fit = table.len().min(out.len());
     out[..fit].copy_from_slice(&table[..fit]);
@@ -155,7 +155,7 @@ fn put_table(table: &[RpkiSerial], out: &mut [RpkiSerial]) -> u64
 // The table of the list that the octets begin with, or the number of a fault.
 fn read_table(alloc: Global, octets: &[u8]) -> Result<Vec<RpkiSerial>, u32>
     ensures table { IfOk result (λ it. (l : CrlFields) × Means IsCertificateList l octets.now
-        × IsTableOf l.fields.revoked.entries it.items) }
+        × IsSerialTable l.fields.revoked.entries it.items) }
     ensures fault { IfErr result (λ fault. fault ≢ NONE) }
     ensures unread { IfErr result (λ fault. fault ≢ MEMORY → BeginsNoList octets.now) }
 {
@@ -186,8 +186,8 @@ pub extern "C" fn rpki_list_table(
     count: &mut u64,
 ) -> u32
     ensures table { result ≡ NONE → (l : CrlFields) × Means IsCertificateList l octets.now
-        × (table : List RpkiSerial) × IsTableOf l.fields.revoked.entries table
-        × IsWritten table out.old out.new count.new }
+        × (table : List RpkiSerial) × IsSerialTable l.fields.revoked.entries table
+        × IsWrittenInto table out.old out.new count.new }
     ensures at_fault { result ≢ NONE → count.new ≡ 0 }
     ensures untouched { result ≢ NONE → out.new ≡ out.old }
     ensures unread { result ≢ NONE → result ≢ MEMORY → BeginsNoList octets.now }
@@ -289,7 +289,7 @@ fn places_of(table: &[RpkiSerial], serial: Serial) -> (usize, usize)
 
 // Whether the serial number stands in an ascending table.
 fn has(table: &[RpkiSerial], serial: Serial) -> bool
-    ensures { (entries : List Entry) → IsTableOf entries table.now
+    ensures { (entries : List Entry) → IsSerialTable entries table.now
         → IsTrue result ↔ IsRevoked serial entries }
 {
     let (mut low, mut high) = places_of(table, serial);
@@ -306,7 +306,7 @@ fn has(table: &[RpkiSerial], serial: Serial) -> bool
 
 // 1 where the serial number stands in an ascending table, and else 0.
 fn answer_of(table: &[RpkiSerial], serial: Serial) -> u8
-    ensures { (entries : List Entry) → IsTableOf entries table.now
+    ensures { (entries : List Entry) → IsSerialTable entries table.now
         → IsFlag (IsRevoked serial entries) result }
 {
     if has(table, serial) { 1 } else { 0 }
@@ -314,7 +314,7 @@ fn answer_of(table: &[RpkiSerial], serial: Serial) -> u8
 
 fn put_answers(table: &[RpkiSerial], serials: &[u8], answers: &mut [u8])
     requires { length serials.now ≡ 20 * length answers.old }
-    ensures { (entries : List Entry) → IsTableOf entries table.now
+    ensures { (entries : List Entry) → IsSerialTable entries table.now
         → AreTold entries serials.now answers.new }
 {
     for at in 0..answers.len() {
@@ -332,7 +332,7 @@ fn put_answers(table: &[RpkiSerial], serials: &[u8], answers: &mut [u8])
 #[unsafe(no_mangle)]
 pub extern "C" fn rpki_table_ask(table: &[RpkiSerial], serials: &[u8], answers: &mut [u8]) -> u32
     ensures bad_call { (result ≡ BAD_CALL) ↔ (length serials.now ≢ 20 * length answers.old) }
-    ensures answers { result ≡ NONE → (entries : List Entry) → IsTableOf entries table.now
+    ensures answers { result ≡ NONE → (entries : List Entry) → IsSerialTable entries table.now
         → AreTold entries serials.now answers.new }
     ensures untouched { result ≢ NONE → answers.new ≡ answers.old }
 {

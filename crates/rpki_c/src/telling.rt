@@ -2,7 +2,7 @@
 ghost use Rattle.std.specs.Prelude.{◌≡◌, ◌≢◌, ◌<◌, ◌^◌, length, option_map};
 ghost use Rattle.rpki_files.specs.FaultTable.{fault_fields};
 ghost use Rattle.rpki_c.specs.FaultTexts.{TellsText, first_number as first, has_part as parted, name_told, part_name as name_of_part, sentence_told, told_of, told_fields};
-ghost use Rattle.rpki_c.specs.Writing.{IsWritten};
+ghost use Rattle.rpki_c.specs.Writing.{IsWrittenInto};
 
 use crate::copying::{put_behind, put_octets};
 use crate::faults::{BAD_CALL, NONE};
@@ -70,7 +70,7 @@ pub extern "C" fn rpki_fault_name(number: u32, out: &mut [u8], count: &mut u64) 
 // Writes the fault's sentence, and tells how many octets it has.
 fn put_sentence(fault: &Fault, part: &str, out: &mut [u8]) -> u64
     requires { length (told_fields (fault_fields fault.now) part.now).sentence < 2 ^ 32 }
-    ensures { IsWritten (told_fields (fault_fields fault.now) part.now).sentence
+    ensures { IsWrittenInto (told_fields (fault_fields fault.now) part.now).sentence
         out.old out.new result }
 {
     let (before, behind) = (fault.before.len(), fault.behind.len());

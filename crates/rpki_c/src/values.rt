@@ -6,7 +6,7 @@ ghost use Rattle.rpki_blocks.specs.Unions.{IsUnion};
 ghost use Rattle.rpki_parts.specs.Keys.{IsPublicKey};
 ghost use Rattle.rpki_issuing.specs.ValueTexts.{IsHttpsText, IsRsyncText};
 ghost use Rattle.rpki_c.specs.WantedAnswers.{AnswersValue, GivesValues, IsNoKey, IsNoText, uri_wanted};
-ghost use Rattle.rpki_c.specs.WantedQuestions.{AreGiven, AreOrdered, GivesNumbers, GivesPlaces, GivesWanted, IsKeyGiven, IsUriGiven, as_span, first_v4, last_v4, v4_span, v6_span};
+ghost use Rattle.rpki_c.specs.WantedQuestions.{AreResourcesGiven, AreOrdered, GivesWantedNumbers, GivesWantedUris, GivesWantedValues, IsKeyGiven, IsUriGiven, as_span, first_v4, last_v4, v4_span, v6_span};
 ghost use Rattle.rpki_c.specs.declared.certificates.CertUri.TheVariants.{Notify};
 ghost use Rattle.rpki_c.specs.declared.unissued.Unissued.TheVariants.{BadUri, Memory, NoKey};
 ghost use Rattle.rpki_c.specs.declared.wanted.RpkiWanted.{RpkiWanted as Asked};
@@ -169,7 +169,7 @@ fn listed_of<R, B: Bound, T: Ranges<R, B>>(
     alloc: Global,
     ranges: &[R],
 ) -> Result<Resources<B>, Unissued>
-    ensures { (w : Asked) → AnswersValue w (AreGiven 2 (map T.span ranges.now)) result }
+    ensures { (w : Asked) → AnswersValue w (AreResourcesGiven 2 (map T.span ranges.now)) result }
 {
     match set_of::<R, B, T>(alloc, ranges)? {
         Some(set) => Ok(set),
@@ -183,7 +183,7 @@ fn resources_of<R, B: Bound, T: Ranges<R, B>>(
     state: u32,
     ranges: &[R],
 ) -> Result<Resources<B>, Unissued>
-    ensures { (w : Asked) → AnswersValue w (AreGiven state (map T.span ranges.now)) result }
+    ensures { (w : Asked) → AnswersValue w (AreResourcesGiven state (map T.span ranges.now)) result }
 {
     match state {
         0 if ranges.is_empty() => Ok(Resources::missing()),
@@ -218,7 +218,7 @@ fn both<A: Drop, B: Drop>(
 
 // What is listed of each kind of numbers.
 fn numbers(alloc: Global, w: &RpkiWanted<'_>) -> Result<Numbers, Unissued>
-    ensures { AnswersValue w.now (GivesNumbers w.now) result }
+    ensures { AnswersValue w.now (GivesWantedNumbers w.now) result }
 {
     let v4 = resources_of::<_, _, V4Ranges>(alloc, w.v4.state, w.v4.ranges);
     let v6 = resources_of::<_, _, V6Ranges>(alloc, w.v6.state, w.v6.ranges);
@@ -281,7 +281,7 @@ fn notify_of(alloc: Global, w: &RpkiWanted<'_>) -> Result<Option<Https>, Unissue
 
 // The URIs.
 fn places(alloc: Global, w: &RpkiWanted<'_>) -> Result<Places, Unissued>
-    ensures { AnswersValue w.now (GivesPlaces w.now.uris) result }
+    ensures { AnswersValue w.now (GivesWantedUris w.now.uris) result }
 {
     let repository = rsync_of(alloc, w, CertUri::Repository);
     let manifest = rsync_of(alloc, w, CertUri::Manifest);
@@ -315,7 +315,7 @@ fn places(alloc: Global, w: &RpkiWanted<'_>) -> Result<Places, Unissued>
 
 // What is wanted of the certificate.
 fn wanted_of(alloc: Global, w: &RpkiWanted<'_>, terms: WantedTerms) -> Result<Wanted, Unissued>
-    ensures { AnswersValue w.now (GivesWanted w.now terms) result }
+    ensures { AnswersValue w.now (GivesWantedValues w.now terms) result }
 {
     let Some(serial) = serial_of(&w.serial) else {
         return Err(Unissued::BadCall);

@@ -2,7 +2,7 @@
 ghost use Rattle.std.specs.Prelude.{◌≡◌, [], map, IfErr, IfOk, IfSome, IsFalse, IsNone, IsTrue, MatchOption};
 ghost use Rattle.rpki_crl.specs.RevokedEntries.Views.{entry_of};
 ghost use Rattle.rpki_c.specs.ListAnswers.{GivesNoList};
-ghost use Rattle.rpki_c.specs.WantedLists.{GivesList, HasDate, HasListTerms, HasNoListTerms, HaveDates, IsNumberChosen, given_entry};
+ghost use Rattle.rpki_c.specs.WantedLists.{GivesWantedList, HasDate, HasListTerms, HasNoListTerms, HaveDates, IsNumberChosen, given_entry};
 
 use crate::lists::{RpkiEntry, number_of};
 use crate::moments::{RpkiTime, moment_of};
@@ -123,7 +123,7 @@ pub(crate) fn list_given(
     list: &RpkiWantedList<'_>,
     terms: ListTerms,
 ) -> Result<WantedList, Unissued>
-    ensures given { IfOk result (GivesList list.now terms) }
+    ensures given { IfOk result (GivesWantedList list.now terms) }
     ensures none { IfErr result (GivesNoList list.now) }
 {
     let Some(revoked) = entries_given(alloc, list.revoked)? else {

@@ -15,11 +15,11 @@ use Rattle.rpki_verdicts.specs.PathFiles.{Demands}
 use Rattle.rpki_command.specs.AboutTexts.{about_text, topic_of}
 use Rattle.rpki_text.specs.CommandLines.{RequestFields, with_files, IsCommandLine}
 use Rattle.rpki_answers.specs.Outcomes.{AsksOfFiles, IsOutcomeOf, demands_by, run_status}
-use Rattle.rpki_command.specs.ListedFolders.{Lists, roots_of}
-use Rattle.rpki_command.specs.ReadFiles.{Reads}
+use Rattle.rpki_command.specs.ListedFolders.{ListsFolder, roots_of}
+use Rattle.rpki_command.specs.ReadFiles.{ReadsFile}
 use Rattle.rpki_command.specs.Moments.{IsMomentBy}
 use Rattle.rpki_command.specs.SoughtPaths.{with_sought}
-use Rattle.rpki_command.specs.Runs.{IsAnswer, IsAnswerAmong, IsAnswerBy, IsAnswerIn, IsAnswerOf, IsAnswerOfNamed, LineEnds, TaskEnds}
+use Rattle.rpki_command.specs.Runs.{IsRunAnswer, IsAnswerAmong, IsAnswerBy, IsAnswerIn, IsAnswerOf, IsAnswerOfNamed, LineEnds, TaskEnds}
 use Rattle.rpki_text.specs.declared.command_line.arguments.Task.{Task}
 use Rattle.rpki_text.specs.declared.command_line.arguments.Task.TheVariants.{Show, Validate, Tree, Help, Version}
 use Rattle.rpki_command.proofs.WrittenTexts.{appends_both}
@@ -37,16 +37,16 @@ no_misuse Help x d files lists h = cc
 no_misuse Version x d files lists h = cc
 
 -- neither does a path that is sought
-module _ (reads : Reads) (lists : Lists) (r : RequestFields) (now : Moment) (text : List ℕ) where
-  by_files : (q : RequestFields) (said : List ℕ) → IsAnswer reads q now WrongUse text said → ⊥
+module _ (reads : ReadsFile) (lists : ListsFolder) (r : RequestFields) (now : Moment) (text : List ℕ) where
+  by_files : (q : RequestFields) (said : List ℕ) → IsRunAnswer reads q now WrongUse text said → ⊥
   by_files q said answer =
       let its = answer.whole in
       no_misuse q.task (context IsSignedByRsa now q.strict) (demands_by q (locator_files its.locators))
       (contents its.files) (contents its.lists) its.ends.1
 
   by_found : (q : RequestFields) (said : List ℕ) (found : Outcome) (are_all_read : Bool) →
-      IsAnswer reads q now found text said → MatchBool are_all_read (WrongUse ≡ found) (WrongUse ≡ Unread) → ⊥
-  by_found q said found true answer is = by_files q said (subst (λ (o : Outcome). IsAnswer reads q now o text said) (sym is) answer)
+      IsRunAnswer reads q now found text said → MatchBool are_all_read (WrongUse ≡ found) (WrongUse ≡ Unread) → ⊥
+  by_found q said found true answer is = by_files q said (subst (λ (o : Outcome). IsRunAnswer reads q now o text said) (sym is) answer)
   by_found q said found false answer is = cc
 
   by_sought : (q : RequestFields) (said : List ℕ) (sought : Option SoughtNames) → IsAnswerBy reads q now sought WrongUse text said → ⊥
@@ -57,7 +57,7 @@ module _ (reads : Reads) (lists : Lists) (r : RequestFields) (now : Moment) (tex
   never_misuse [] said h = by_files (record r { files = h.names; folders = roots_of r.files }) h.of_files h.answer
   never_misuse (folder ∷ folders) said h = by_sought (with_files r h.names) h.of_files h.sought h.answer
 
-module _ (reads : Reads) (lists : Lists) (tells : Moment → Type 0) (words : List (List ℕ)) (r : RequestFields)
+module _ (reads : ReadsFile) (lists : ListsFolder) (tells : Moment → Type 0) (words : List (List ℕ)) (r : RequestFields)
     (line : IsCommandLine r words) where
   -- a text about the command
   about_ends : (task : Task) → (AsksOfFiles task → ⊥) →
@@ -99,7 +99,7 @@ module _ (reads : Reads) (lists : Lists) (tells : Moment → Type 0) (words : Li
 
 -- ---- an answer of files, or of a path that is sought
 
-module _ (reads : Reads) (lists : Lists) (r : RequestFields) (now : Moment) (outcome : Outcome) (text said : List ℕ) where
+module _ (reads : ReadsFile) (lists : ListsFolder) (r : RequestFields) (now : Moment) (outcome : Outcome) (text said : List ℕ) where
   -- where there is no folder
   pub of_named : (folders : List (List ℕ)) → folders ≡ [] → IsAnswerOfNamed reads lists r now outcome text said →
       IsAnswerAmong folders reads lists r now outcome text said

@@ -3,7 +3,7 @@ use Rattle.std.proofs.Common.{◌≡◌, ◌+◌, ◌<◌, ◌∷◌, ◌++◌, 
 use Rattle.std.proofs.lemmas.List.{append_assoc, append-nil, get_or-map, length-map}
 use Rattle.std.specs.Bool.{MatchBool}
 use Rattle.std.specs.List.Sorted.{IsSortedBy}
-use Rattle.rpki_command.specs.ListedFolders.{Lists, StandFor, StandsForItself, AreOpened, AreDown, is_folder_name}
+use Rattle.rpki_command.specs.ListedFolders.{ListsFolder, StandFor, StandsForItself, AreOpened, AreDown, is_folder_name}
 
 -- what is sorted by what a function gives, is sorted where that stands in its place
 pub IsSortedBy-map : {X Y : Type 0} (f : X → Y) (lt : Y → Y → Bool) (xs : List X) →
@@ -13,7 +13,7 @@ IsSortedBy-map f lt (x ∷ xs) up = λ k d low high.
     let within : k + 1 < length (x ∷ xs) = omega (arith, length-map (x ∷ xs) f) in
     rw (get_or-map f (x ∷ xs) (k + 1) x d within, get_or-map f (x ∷ xs) k x d (omega arith)) (up k x low within)
 
-module _ (lists : Lists) (opens : List ℕ → Bool) where
+module _ (lists : ListsFolder) (opens : List ℕ → Bool) where
   -- of both
   both_opened : (a b x y : List (List ℕ)) (m n : ℕ) (s t : List ℕ) → AreOpened lists opens a x m s →
       AreOpened lists opens b y n t → AreOpened lists opens (a ++ b) (x ++ y) (m + n) (s ++ t)
@@ -54,7 +54,7 @@ module _ (lists : Lists) (opens : List ℕ → Bool) where
         sym (append-nil line),
       )
 
-module _ (lists : Lists) where
+module _ (lists : ListsFolder) where
   -- no level
   pub down_none : (names : List (List ℕ)) → AreDown lists 0 names names 0 []
   unfolding AreDown

@@ -5,8 +5,8 @@ use Rattle.std.proofs.lemmas.List.{append-nil, length-map, map_more}
 use Rattle.rpki_files.specs.Files.{FileFields, file_names}
 use Rattle.rpki_verdicts.specs.GivenLocators.{LocatorFields, locator_files}
 use Rattle.rpki_text.specs.CommandLines.{RequestFields}
-use Rattle.rpki_command.specs.ReadFiles.{Reads, IsFileRead, IsObjectRead}
-use Rattle.rpki_command.specs.NamedFiles.{AreReadOf, AreFilesRead, AreObjectsRead, AreNamed, AreRead, AreGiven}
+use Rattle.rpki_command.specs.ReadFiles.{ReadsFile, IsFileRead, IsObjectRead}
+use Rattle.rpki_command.specs.NamedFiles.{AreReadOf, AreFilesRead, AreObjectsRead, AreSomeNamed, AreRead, AreNamedAndRead}
 use Rattle.rpki_command.specs.UnreadFiles.{SaysUnread}
 
 module _ (Is : List ℕ → FileFields → Type 0) (Tells : List ℕ → List ℕ → Type 0) where
@@ -38,26 +38,26 @@ module _ (Is : List ℕ → FileFields → Type 0) (Tells : List ℕ → List �
   -- files of some of the names
   some_named : ((name : List ℕ) (file : FileFields) → Is name file → file.name ≡ name) →
       (names : List (List ℕ)) (files : List FileFields) (said : List ℕ) → AreReadOf Is Tells names files said →
-      AreNamed names files
+      AreSomeNamed names files
   some_named named [] files said none = none.0
   some_named named (name ∷ names) files said (inl h) = inl (h.0, h.1, named name h.0 h.2, some_named named names h.1 said h.3, h.4)
   some_named named (name ∷ names) files said (inr h) = inr (some_named named names files h.1 h.3)
 
 -- ---- those of a request
 
-module _ (reads : Reads) (most : ℕ) where
+module _ (reads : ReadsFile) (most : ℕ) where
   files_named : (names : List (List ℕ)) (files : List FileFields) (said : List ℕ) →
-      AreFilesRead reads most names files said → AreNamed names files
+      AreFilesRead reads most names files said → AreSomeNamed names files
   files_named names files said are = some_named (IsFileRead reads most) (SaysUnread reads most) (λ name file is. is.0) names files said are
 
   objects_named : (names : List (List ℕ)) (files : List FileFields) (said : List ℕ) →
-      AreObjectsRead reads most names files said → AreNamed names files
+      AreObjectsRead reads most names files said → AreSomeNamed names files
   objects_named names files said are = some_named (IsObjectRead reads most) (SaysUnread reads most)
       (λ name file is. is.0) names files said are
 
 -- what could be read is given
-pub are_given : (reads : Reads) (r : RequestFields) (files lists : List FileFields) (locators : List LocatorFields)
-    (said : List ℕ) → AreRead reads r files lists locators said → AreGiven r files lists locators
+pub are_given : (reads : ReadsFile) (r : RequestFields) (files lists : List FileFields) (locators : List LocatorFields)
+    (said : List ℕ) → AreRead reads r files lists locators said → AreNamedAndRead r files lists locators
 are_given reads r files lists locators said are = record {
   files_are = objects_named reads r.max_size r.files files are.of_files are.files_are;
   lists_are = objects_named reads r.max_size r.lists lists are.of_lists are.lists_are;
@@ -67,14 +67,14 @@ are_given reads r files lists locators said are = record {
 
 -- ---- all of them
 
-no_more : (names : List (List ℕ)) (files : List FileFields) → AreNamed names files → length files ≤ length names
+no_more : (names : List (List ℕ)) (files : List FileFields) → AreSomeNamed names files → length files ≤ length names
 no_more [] files none = let e : length files ≡ 0 = ap length none in omega arith
 no_more (name ∷ names) files (inl h) =
     let e : length files ≡ length (h.0 ∷ h.1) = ap length h.4 in omega (arith, no_more names h.1 h.3)
 no_more (name ∷ names) files (inr h) = omega (arith, no_more names files h)
 
 -- as many as are named
-pub all_read : (names : List (List ℕ)) (files : List FileFields) → AreNamed names files →
+pub all_read : (names : List (List ℕ)) (files : List FileFields) → AreSomeNamed names files →
     length files ≡ length names → file_names files ≡ names
 all_read [] files none same = ap file_names none
 all_read (name ∷ names) files (inl h) same =

@@ -3,12 +3,12 @@ use Rattle.std.proofs.Common.{◌≡◌, ◌+◌, ◌<◌, ◌∷◌, ◌++◌, 
 use Rattle.std.proofs.lemmas.List.{get_or-map, length-map, map_more}
 use Rattle.std.proofs.lemmas.List.Elements.{AllZip-push}
 use Rattle.rpki_text.specs.CommandLines.{usual_size}
-use Rattle.rpki_command.specs.ReadFiles.{Reads}
+use Rattle.rpki_command.specs.ReadFiles.{ReadsFile}
 use Rattle.rpki_command.specs.RequestRuns.{AreObjectsNamed, IsObjectNamed, IsUnreadOf}
 use Rattle.rpki_command.specs.UnreadFiles.{IsWhyUnread}
 use Rattle.rpki_command.specs.declared.inputs.Unreadable.{Unreadable}
 
-module _ {X : Type 0} (reads : Reads) (now : X → List ℕ) (names : List X) (i : ℕ) (d : X) (low : i < length names) where
+module _ {X : Type 0} (reads : ReadsFile) (now : X → List ℕ) (names : List X) (i : ℕ) (d : X) (low : i < length names) where
   -- one more that was read
   pub more_named : (objects all : List (List ℕ)) (octets : List ℕ) →
       AreObjectsNamed reads (map now (take i names)) objects → IsObjectNamed reads (now (get_or names i d)) octets →

@@ -9,20 +9,20 @@ use Rattle.rpki_text.specs.declared.command_line.arguments.Format.TheVariants.{T
 use Rattle.rpki_answers.specs.AnswerTexts.{IsTextBy, IsJsonBy}
 use Rattle.rpki_answers.specs.Outcomes.{EndsBy}
 use Rattle.rpki_answers.specs.declared.outcomes.Outcome.{Outcome}
-use Rattle.rpki_command.specs.NamedFiles.{AreGiven, AreRead}
-use Rattle.rpki_command.specs.ReadFiles.{Reads}
+use Rattle.rpki_command.specs.NamedFiles.{AreNamedAndRead, AreRead}
+use Rattle.rpki_command.specs.ReadFiles.{ReadsFile}
 use Rattle.rpki_command.specs.Runs.{IsWholeAnswer}
 use Rattle.rpki_command.proofs.NamedFiles.{are_given}
 
 -- what is kept of what was read is what is given
-module _ (reads : Reads) (r : RequestFields) (kept_files kept_lists : List FileFields) (kept_locators : List LocatorFields)
+module _ (reads : ReadsFile) (r : RequestFields) (kept_files kept_lists : List FileFields) (kept_locators : List LocatorFields)
     (files lists : List FileFields) (locators : List LocatorFields) (said : List ℕ)
     (files_are : files ≡ kept_files) (lists_are : lists ≡ kept_lists) (locators_are : locators ≡ kept_locators)
     (read : AreRead reads r (map (λ (f : FileFields). f) kept_files) (map (λ (f : FileFields). f) kept_lists) kept_locators said) where
   given_read : AreRead reads r files lists locators said
   given_read = rw (files_are, lists_are, locators_are) (rw (map-id kept_files, map-id kept_lists) at read)
 
-  pub read_given : AreGiven r files lists locators
+  pub read_given : AreNamedAndRead r files lists locators
   read_given = are_given reads r files lists locators said given_read
 
   pub whole_answer : (now : Moment) (outcome : Outcome) (text : List ℕ) → EndsBy r now files lists (locator_files locators) outcome

@@ -29,17 +29,17 @@ topic_of [] = about.All
 topic_of (first ∷ rest) = if bytes_eq first (codes "help") then topic_first rest else topic_named first
 
 -- what the command is called, with the program's name
-abbrev pub called : Topic → List ℕ
-called about.Show = codes "rpki show"
-called about.Validate = codes "rpki validate"
-called about.Tree = codes "rpki tree"
-called about.Prepare = codes "rpki prepare"
-called about.Complete = codes "rpki complete"
-called about.All = codes "rpki"
+abbrev pub topic_name : Topic → List ℕ
+topic_name about.Show = codes "rpki show"
+topic_name about.Validate = codes "rpki validate"
+topic_name about.Tree = codes "rpki tree"
+topic_name about.Prepare = codes "rpki prepare"
+topic_name about.Complete = codes "rpki complete"
+topic_name about.All = codes "rpki"
 
 -- where its help is, in a line
 abbrev pub hint_text : Topic → List ℕ
-hint_text topic = codes "Try '" ++ (called topic ++ codes " --help'.\n")
+hint_text topic = codes "Try '" ++ (topic_name topic ++ codes " --help'.\n")
 
 -- ---- how the commands are used
 
@@ -101,8 +101,8 @@ validate_text = concat (
     ∷ [])
 
 -- `rpki tree`
-abbrev pub tree_text : List ℕ
-tree_text = concat (
+abbrev pub tree_usage : List ℕ
+tree_usage = concat (
     codes "usage: rpki tree --tal FILE.. [OPTION].. FILE|DIRECTORY..\n"
     ∷ codes "Validates every certificate among the files, in any order, with the CRLs among them.\n"
     ∷ codes "Of a DIRECTORY it reads the files in it and below it that end in .cer or .crl.\n"
@@ -174,7 +174,7 @@ complete_text = concat (
 abbrev pub help_text : Topic → List ℕ
 help_text about.Show = show_text
 help_text about.Validate = validate_text
-help_text about.Tree = tree_text
+help_text about.Tree = tree_usage
 help_text about.Prepare = prepare_text
 help_text about.Complete = complete_text
 help_text about.All = usage_text

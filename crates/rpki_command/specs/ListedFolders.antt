@@ -26,8 +26,8 @@ pub data Listing : Type 0 where
   holds : List (List ℕ) → Listing
   no_folder barred : Listing
 
-abbrev pub Lists : Type 1
-Lists = List ℕ → Listing → Type 0
+abbrev pub ListsFolder : Type 1
+ListsFolder = List ℕ → Listing → Type 0
 
 -- the names, or that the name is no folder's
 abbrev pub listing_of : Option (List (List ℕ)) → Listing
@@ -35,11 +35,11 @@ listing_of None = no_folder
 listing_of (Some names) = holds names
 
 -- of the system's folders a contract knows nothing
-abbrev pub SystemLists : Lists
+abbrev pub SystemLists : ListsFolder
 SystemLists name given = Unit {0}
 
 -- the name is no folder's
-abbrev pub IsNoFolder : Lists → List ℕ → Type 0
+abbrev pub IsNoFolder : ListsFolder → List ℕ → Type 0
 IsNoFolder lists name = (IsUtf8 name → ⊥) ⊎ lists name no_folder
 
 -- ---- the names in it
@@ -64,12 +64,12 @@ IsDots its = (its ≡ codes ".") ⊎ (its ≡ codes "..")
 
 -- the path is that of what stands in the folder of this path under this name, and isn't the folder
 -- itself, nor the one above it
-abbrev pub IsPathOf : List ℕ → List ℕ → List ℕ → Type 0
-IsPathOf folder its path =
+abbrev pub IsEntryPath : List ℕ → List ℕ → List ℕ → Type 0
+IsEntryPath folder its path =
     (IsDots its → ⊥) × ((path ≡ folder ++ its) ⊎ (path ≡ (folder ++ its) ++ codes "/"))
 
 abbrev pub IsPathIn : List ℕ → List ℕ → Type 0
-IsPathIn folder path = (its : List ℕ) × IsPathOf folder its path
+IsPathIn folder path = (its : List ℕ) × IsEntryPath folder its path
 
 -- it ends as that of a certificate or a revocation list does
 abbrev pub is_file_name : List ℕ → Bool
@@ -94,7 +94,7 @@ told_count count = min count (2 ^ 64 - 1)
 -- these names stand for the name: those in its folder that are taken, sorted by their octets, while
 -- so many others are passed over; or it alone, where it is no folder's; or the name that stays of a
 -- folder that can't be listed, which is said
-abbrev pub StandFor : Lists → List ℕ → List (List ℕ) → ℕ → List ℕ → Type 0
+abbrev pub StandFor : ListsFolder → List ℕ → List (List ℕ) → ℕ → List ℕ → Type 0
 StandFor lists name its passed said =
     (IsNoFolder lists name × (its ≡ name ∷ []) × (passed ≡ 0) × (said ≡ []))
     ⊎ (lists name barred × IsToldUnlisted name said × (its ≡ closed_name name ∷ []) × (passed ≡ 0))
@@ -110,7 +110,7 @@ StandsForItself name its passed said = (its ≡ name ∷ []) × (passed ≡ 0) �
 
 -- for each of the names that the test gives stand its own, one after the other, and the others
 -- stay; so many are passed over in all, and this is said of them
-abbrev pub AreOpened : Lists → (List ℕ → Bool) → List (List ℕ) → List (List ℕ) → ℕ → List ℕ → Type 0
+abbrev pub AreOpened : ListsFolder → (List ℕ → Bool) → List (List ℕ) → List (List ℕ) → ℕ → List ℕ → Type 0
 AreOpened lists opens [] all passed said = (all ≡ []) × (passed ≡ 0) × (said ≡ [])
 AreOpened lists opens (name ∷ names) all passed said =
     (its : List (List ℕ)) × (more : List (List ℕ)) × (of_it : ℕ) × (of_more : ℕ) × (line : List ℕ)
@@ -121,7 +121,7 @@ AreOpened lists opens (name ∷ names) all passed said =
     × (all ≡ its ++ more) × (passed ≡ of_it + of_more) × (said ≡ line ++ lines)
 
 -- the names given so many levels further down, where each level opens the folders of the one above
-unfoldable pub AreDown : Lists → ℕ → List (List ℕ) → List (List ℕ) → ℕ → List ℕ → Type 0
+unfoldable pub AreDown : ListsFolder → ℕ → List (List ℕ) → List (List ℕ) → ℕ → List ℕ → Type 0
 AreDown lists zero names all passed said = (all ≡ names) × (passed ≡ 0) × (said ≡ [])
 AreDown lists (suc levels) names all passed said =
     (above : List (List ℕ)) × (before : ℕ) × (last : ℕ) × (so_far : List ℕ) × (lines : List ℕ)
@@ -135,7 +135,7 @@ AreDown lists (suc levels) names all passed said =
 -- opened 32 levels down, and a folder below these stays a name, which can't be read; of another
 -- task each name is a file's. Behind what is said of folders stands how many files in them were
 -- passed over
-abbrev pub AreFilesOf : Lists → Task → List (List ℕ) → List (List ℕ) → List ℕ → Type 0
+abbrev pub AreFilesOf : ListsFolder → Task → List (List ℕ) → List (List ℕ) → List ℕ → Type 0
 AreFilesOf lists Tree names files said =
     (first : List (List ℕ)) × (in_first : ℕ) × (in_further : ℕ) × (of_first : List ℕ)
     × (of_further : List ℕ)

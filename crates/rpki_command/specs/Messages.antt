@@ -9,7 +9,7 @@ use Rattle.rpki_text.specs.Pages.{count_text}
 use Rattle.rpki_text.specs.declared.command_line.arguments.Misuse as arguments
 use Rattle.rpki_answers.specs.declared.outcomes.Outcome.{Outcome}
 use Rattle.rpki_answers.specs.declared.outcomes.Outcome.TheVariants.{Rejection, WrongUse}
-use Rattle.rpki_command.specs.AboutTexts.{called, hint_text, topic_of}
+use Rattle.rpki_command.specs.AboutTexts.{topic_name, hint_text, topic_of}
 use Rattle.rpki_command.specs.declared.about.Topic.{Topic}
 use Rattle.rpki_command.specs.declared.about.Topic.TheVariants.{Prepare, Complete}
 use Rattle.rpki_requests.specs.Refusals.{refusal_text, words_about}
@@ -25,7 +25,7 @@ use Rattle.rpki_verdicts.specs.Trees.{TreeFields}
 -- what is wrong, in a line, and in another one where the help is
 abbrev pub misuse_message : Topic → List ℕ → List ℕ
 misuse_message topic wrong =
-    called topic ++ (codes ": " ++ (wrong ++ (codes "\n" ++ hint_text topic)))
+    topic_name topic ++ (codes ": " ++ (wrong ++ (codes "\n" ++ hint_text topic)))
 
 -- this says what is wrong with words that are no command line: which is so, and is the first word
 -- that is wrong, or why what they ask doesn't suit its task
@@ -54,7 +54,7 @@ refusal_hint topic why = []
 -- why a request gives nothing, where it is about these words, in a line, and that hint
 abbrev pub told_refusal : Topic → List (List ℕ) → Refusal → List ℕ
 told_refusal topic words why =
-    called topic ++ (codes ": " ++ (refusal_text words why ++ (codes "\n" ++ refusal_hint topic why)))
+    topic_name topic ++ (codes ": " ++ (refusal_text words why ++ (codes "\n" ++ refusal_hint topic why)))
 
 abbrev pub refusal_message : AskedFields → Refusal → List ℕ
 refusal_message asked why = told_refusal (topic_asked asked.errand) (words_about asked why) why

@@ -4,7 +4,7 @@ use Rattle.std.specs.Prelude.{◌≡◌, ◌⊎◌, ℕ, All, List, [], ◌∷�
 use Rattle.rpki_text.specs.CommandLines.{RequestFields}
 use Rattle.rpki_files.specs.Files.{FileFields}
 use Rattle.rpki_verdicts.specs.GivenLocators.{LocatorFields, IsRead, locator_files}
-use Rattle.rpki_command.specs.ReadFiles.{Reads, IsFileRead, IsObjectRead}
+use Rattle.rpki_command.specs.ReadFiles.{ReadsFile, IsFileRead, IsObjectRead}
 use Rattle.rpki_command.specs.UnreadFiles.{SaysUnread}
 
 -- ---- the files of several names
@@ -19,26 +19,26 @@ AreReadOf Is Tells (name ∷ names) files said =
 
 -- the files of these names that can be read, as they are, and by their objects; of each of the rest
 -- it is said why it can't be read
-abbrev pub AreFilesRead : Reads → ℕ → List (List ℕ) → List FileFields → List ℕ → Type 0
+abbrev pub AreFilesRead : ReadsFile → ℕ → List (List ℕ) → List FileFields → List ℕ → Type 0
 AreFilesRead reads most names files said =
     AreReadOf (IsFileRead reads most) (SaysUnread reads most) names files said
 
-abbrev pub AreObjectsRead : Reads → ℕ → List (List ℕ) → List FileFields → List ℕ → Type 0
+abbrev pub AreObjectsRead : ReadsFile → ℕ → List (List ℕ) → List FileFields → List ℕ → Type 0
 AreObjectsRead reads most names files said =
     AreReadOf (IsObjectRead reads most) (SaysUnread reads most) names files said
 
 -- files of some of these names, in their order
-abbrev pub AreNamed : List (List ℕ) → List FileFields → Type 0
-AreNamed [] files = files ≡ []
-AreNamed (name ∷ names) files =
-    ((file : FileFields) × (more : List FileFields) × (file.name ≡ name) × AreNamed names more × (files ≡ file ∷ more))
-    ⊎ AreNamed names files
+abbrev pub AreSomeNamed : List (List ℕ) → List FileFields → Type 0
+AreSomeNamed [] files = files ≡ []
+AreSomeNamed (name ∷ names) files =
+    ((file : FileFields) × (more : List FileFields) × (file.name ≡ name) × AreSomeNamed names more × (files ≡ file ∷ more))
+    ⊎ AreSomeNamed names files
 
 -- ---- those of a request
 
 -- what can be read of the files, lists and locators that the request names is this, and this is
 -- said of the others
-pub record AreRead (reads : Reads) (r : RequestFields) (files lists : List FileFields) (locators : List LocatorFields)
+pub record AreRead (reads : ReadsFile) (r : RequestFields) (files lists : List FileFields) (locators : List LocatorFields)
     (said : List ℕ) : Type 0 where
   pub of_files : List ℕ
   pub of_lists : List ℕ
@@ -50,8 +50,8 @@ pub record AreRead (reads : Reads) (r : RequestFields) (files lists : List FileF
   pub said_is : said ≡ of_files ++ of_lists ++ of_locators
 
 -- these have some of the names that the request names, and each locator was read of its file
-pub record AreGiven (r : RequestFields) (files lists : List FileFields) (locators : List LocatorFields) : Type 0 where
-  pub files_are : AreNamed r.files files
-  pub lists_are : AreNamed r.lists lists
-  pub locators_are : AreNamed r.locators (locator_files locators)
+pub record AreNamedAndRead (r : RequestFields) (files lists : List FileFields) (locators : List LocatorFields) : Type 0 where
+  pub files_are : AreSomeNamed r.files files
+  pub lists_are : AreSomeNamed r.lists lists
+  pub locators_are : AreSomeNamed r.locators (locator_files locators)
   pub locators_read : All (IsRead r.strict) locators

@@ -34,9 +34,9 @@ only_file name overwrites read octets = record {
 
 -- octets on standard output, which `-` names too, or in the file that is named, where these files
 -- were read
-abbrev pub placed : List (List ℕ) → Bool → List (List ℕ) → List ℕ → Output
-placed [] overwrites read octets = only_text octets
-placed (name ∷ more) overwrites read octets =
+abbrev pub placed_output : List (List ℕ) → Bool → List (List ℕ) → List ℕ → Output
+placed_output [] overwrites read octets = only_text octets
+placed_output (name ∷ more) overwrites read octets =
     if bytes_eq name (codes "-") then only_text octets else only_file name overwrites read octets
 
 -- the name is one of these

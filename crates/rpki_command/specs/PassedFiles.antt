@@ -5,7 +5,7 @@ use Rattle.std.specs.Prelude.{◌≡◌, ◌==◌, ◌⊎◌, ℕ, if◌then◌e
 use Rattle.rpki_files.specs.Contents.{BeginsWithCertificate, IsList, StandBehind}
 use Rattle.rpki_files.specs.Files.{FileFields}
 use Rattle.rpki_answers.specs.VerdictTexts.{SaysOfEach}
-use Rattle.rpki_command.specs.UnreadFiles.{called, file_message}
+use Rattle.rpki_command.specs.UnreadFiles.{input_name, file_message}
 
 -- why a file is neither, where it begins with a CRL and so many octets stand behind that
 abbrev pub neither_text : ℕ → List ℕ
@@ -19,7 +19,7 @@ neither_text left =
 abbrev pub SaysNeither : FileFields → List ℕ → Type 0
 SaysNeither file said =
     (left : ℕ) × StandBehind file.octets left
-    × (said ≡ file_message (called file.name) (neither_text left))
+    × (said ≡ file_message (input_name file.name) (neither_text left))
 
 -- of one that is neither that is said, and of another nothing
 abbrev pub SaysIfPassed : FileFields → List ℕ → Type 0

@@ -15,7 +15,7 @@ use Rattle.rpki_answers.specs.Outcomes.{AreAllRead}
 use Rattle.rpki_command.specs.Messages.{bound_message}
 use Rattle.rpki_command.specs.NamedFiles.{AreRead}
 use Rattle.rpki_command.specs.PassedFiles.{SaysOfFiles}
-use Rattle.rpki_command.specs.ReadFiles.{Reads}
+use Rattle.rpki_command.specs.ReadFiles.{ReadsFile}
 use Rattle.rpki_command.specs.declared.searching.SoughtNames.{SoughtNames}
 
 -- these are the names of those of the files that are lists, in their order
@@ -28,7 +28,7 @@ AreListNames (file ∷ files) names =
 
 -- these are the names of the files of the path that is sought to the first of the files, and those
 -- of all lists among these; and so the walk ended, where it came to no valid path
-pub record IsSought (q : TreeFields) (sought : SoughtNames) : Type 0 where
+pub record AreSoughtNames (q : TreeFields) (sought : SoughtNames) : Type 0 where
   pub path : List FileFields
   pub path_is : (file : FileFields) (more : List FileFields) → q.files ≡ file ∷ more
       → IsSoughtPath (context IsSignedByRsa q.at q.strict) q file path sought.ended
@@ -58,7 +58,7 @@ abbrev pub IsSearchOf : RequestFields → Moment → List FileFields → List Fi
 IsSearchOf r now files lists locators None = IsAskedRead r files locators → ⊥
 IsSearchOf r now files lists locators (Some sought) =
     IsAskedRead r files locators
-    × IsSought (tree_question_of r now files locators) sought
+    × AreSoughtNames (tree_question_of r now files locators) sought
     × (IsTrue sought.are_all_read ↔ AreAllRead r files lists (locator_files locators))
 
 -- what is said in it: of the files, and then which bound it met, if it met one
@@ -74,7 +74,7 @@ SaysOfSearch q (Some sought) said = SaysOfSought q sought said
 
 -- what a search gives, by what reading files gives, and what is said in it: why files can't be
 -- read, and then of those that could be
-pub record IsSearch (reads : Reads) (r : RequestFields) (now : Moment) (sought : Option SoughtNames)
+pub record IsPathSearch (reads : ReadsFile) (r : RequestFields) (now : Moment) (sought : Option SoughtNames)
     (said : List ℕ) : Type 0 where
   pub files : List FileFields
   pub lists : List FileFields

@@ -9,7 +9,7 @@ use Rattle.std.specs.declared.io.ErrorKind.TheVariants.{AlreadyExists, IsADirect
 use Rattle.rpki_answers.specs.UnreadNames.{is_closed_name}
 use Rattle.rpki_text.specs.Pages.{characters_text}
 use Rattle.rpki_command.specs.Outputs.{is_among}
-use Rattle.rpki_command.specs.ReadFiles.{Reads}
+use Rattle.rpki_command.specs.ReadFiles.{ReadsFile}
 use Rattle.rpki_command.specs.declared.files.Unread.{Unread}
 use Rattle.rpki_command.specs.declared.files.Unread.TheVariants as unread
 use Rattle.rpki_command.specs.declared.making.Unmade.{Unmade}
@@ -20,7 +20,7 @@ use Rattle.rpki_command.specs.declared.making.Unmade.TheVariants as unmade
 -- why the file of this name can't be read, where no more than so many octets are taken: its name
 -- isn't text, it has more octets, or the system doesn't give them; or memory ran out, of which no
 -- more is known
-abbrev pub IsWhyUnread : Reads → ℕ → List ℕ → Unread → Type 0
+abbrev pub IsWhyUnread : ReadsFile → ℕ → List ℕ → Unread → Type 0
 IsWhyUnread reads most name unread.OtherName = IsUtf8 name → ⊥
 IsWhyUnread reads most name (unread.TooLong limit) = (limit ≡ most) × reads name most None
 IsWhyUnread reads most name (unread.AboveLimit limit) = (limit ≡ most) × reads name most None
@@ -72,8 +72,8 @@ unmade_text unmade.OtherName = Some (codes "a file whose name isn't UTF-8 can't 
 unmade_text (unmade.Failed error) = making_text (error_kind error)
 
 -- what a file is called: `-` is standard input
-abbrev pub called : List ℕ → List ℕ
-called name = if bytes_eq name (codes "-") then codes "standard input" else characters_text name
+abbrev pub input_name : List ℕ → List ℕ
+input_name name = if bytes_eq name (codes "-") then codes "standard input" else characters_text name
 
 -- a file by what it is called, and why nothing came of it
 abbrev pub file_message : List ℕ → List ℕ → List ℕ
@@ -86,18 +86,18 @@ IsLineAbout file words line =
 
 -- the line says why the file of this name can't be read, where no more than so many octets are
 -- taken; and that is so
-pub record IsToldUnread (reads : Reads) (most : ℕ) (name line : List ℕ) : Type 0 where
+pub record IsToldUnread (reads : ReadsFile) (most : ℕ) (name line : List ℕ) : Type 0 where
   pub why : Unread
   pub because : IsWhyUnread reads most name why
   pub known : why ≢ unread.Memory
-  pub line_is : IsLineAbout (called name) (unread_text why) line
+  pub line_is : IsLineAbout (input_name name) (unread_text why) line
 
 -- of a file that can't be read the line says why; of a folder that couldn't be listed nothing more is said
-abbrev pub SaysUnread : Reads → ℕ → List ℕ → List ℕ → Type 0
+abbrev pub SaysUnread : ReadsFile → ℕ → List ℕ → List ℕ → Type 0
 SaysUnread reads most name said =
     MatchBool (is_closed_name name) (said ≡ []) (IsToldUnread reads most name said)
 
 -- the line says why the folder of this name can't be listed, in these words
 abbrev pub IsToldUnlisted : List ℕ → List ℕ → Type 0
 IsToldUnlisted name line =
-    (why : Unread) × (why ≢ unread.Memory) × IsLineAbout (called name) (unread_text why) line
+    (why : Unread) × (why ≢ unread.Memory) × IsLineAbout (input_name name) (unread_text why) line

@@ -1,7 +1,7 @@
 //! The texts about the command.
 ghost use Rattle.std.specs.Prelude.{◌≡◌, IfSome, MatchOption};
 ghost use Rattle.rpki_text.specs.CommandLines.Views.{word_octets};
-ghost use Rattle.rpki_command.specs.AboutTexts.{about_text, called, help_text, hint_text, topic_named, topic_of};
+ghost use Rattle.rpki_command.specs.AboutTexts.{about_text, topic_name, help_text, hint_text, topic_named, topic_of};
 ghost use Rattle.rpki_answers.specs.Outcomes.{AsksOfFiles};
 
 use rpki_text::command_line::Task;
@@ -116,7 +116,7 @@ const VERSION: &str = "rpki (Gonxebhula) 0.2.0\nlogic: dac8208d650f15bf\n";
 impl Topic {
     /// Returns what the command is called, with the program's name.
     pub fn called(self) -> &'static str
-        ensures { result.now ≡ called self }
+        ensures { result.now ≡ topic_name self }
     {
         match self {
             Topic::Show => "rpki show",

@@ -6,7 +6,7 @@ ghost use Rattle.rpki_cert.specs.Verification.{context};
 ghost use Rattle.rpki_answers.specs.AnswerTexts.{IsJsonBy, IsTextBy, IsTreeBy, options_of, question_of, tree_options_of, tree_question_of};
 ghost use Rattle.rpki_text.specs.CommandLines.Views.{fields_of};
 ghost use Rattle.rpki_answers.specs.Outcomes.{IsOutcomeOfTree, AreAllRead, EndsBy, IsOutcomeOfShow, IsOutcomeOfValidate};
-ghost use Rattle.rpki_command.specs.NamedFiles.{AreGiven, AreNamed};
+ghost use Rattle.rpki_command.specs.NamedFiles.{AreNamedAndRead, AreSomeNamed};
 ghost use Rattle.rpki_answers.specs.ShownFiles.{IsJsonOfFiles, IsTextOfFiles, is_single};
 ghost use Rattle.rpki_answers.specs.UnreadNames.{unread_names};
 ghost use Rattle.rpki_answers.specs.Verdicts.{IsJsonOfPath, IsTextOfPath};
@@ -26,7 +26,7 @@ use std::alloc::{AllocError, Global};
 /// Returns whether all files of these names could be read, of which `count` could be.
 pub fn are_read(names: &[&[u8]], count: usize) -> bool
     ensures { let names = map (λ name. name.now) names.now in (files : List FileFields)
-        → AreNamed names files → count ≡ length files
+        → AreSomeNamed names files → count ≡ length files
         → IsTrue result ↔ (file_names files ≡ names) }
 {
     count == names.len()
@@ -35,7 +35,7 @@ pub fn are_read(names: &[&[u8]], count: usize) -> bool
 /// Returns whether all files, CRLs and TALs of a request could be read, of which so many could be.
 pub fn are_all_read(request: &Request<'_>, files: usize, lists: usize, locators: usize) -> bool
     ensures { let r = fields_of request.now in (read lists_read : List FileFields)
-        → (locators_read : List LocatorFields) → AreGiven r read lists_read locators_read
+        → (locators_read : List LocatorFields) → AreNamedAndRead r read lists_read locators_read
         → files ≡ length read → lists ≡ length lists_read → locators ≡ length locators_read
         → IsTrue result ↔ AreAllRead r read lists_read (locator_files locators_read) }
 {
@@ -248,7 +248,7 @@ pub fn answer_objects(
     locators: &[GivenLocator<'_>],
 ) -> Result<Answer, AllocError>
     requires asks { let task = request.now.task in (task ≡ Task.Show) ⊎ (task ≡ Task.Validate) }
-    requires given { AreGiven (fields_of request.now) files.now lists.now locators.now }
+    requires given { AreNamedAndRead (fields_of request.now) files.now lists.now locators.now }
     ensures ends { let request = fields_of request.now in
         let its = locator_files locators.now in
         IfOk result (λ answer. EndsBy request now files.now lists.now its answer.outcome) }
@@ -287,7 +287,7 @@ pub fn answer_tree(
     locators: &[GivenLocator<'_>],
 ) -> Result<Answer, AllocError>
     requires asks { request.now.task ≡ Task.Tree }
-    requires given { AreGiven (fields_of request.now) files.now lists.now locators.now }
+    requires given { AreNamedAndRead (fields_of request.now) files.now lists.now locators.now }
     ensures ends { let request = fields_of request.now in
         let its = locator_files locators.now in
         IfOk result (λ answer. EndsBy request now files.now lists.now its answer.outcome) }

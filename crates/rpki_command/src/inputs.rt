@@ -1,7 +1,7 @@
 //! The files of a request that prepares or completes a certificate or a CRL.
 ghost use Rattle.std.specs.Prelude.{◌≡◌, ◌≢◌, ◌∷◌, [], ◌++◌, List, ℕ, map, IfErr, IfOk, OnOk};
 ghost use Rattle.rpki_files.specs.Files.{contents};
-ghost use Rattle.rpki_requests.specs.RequestWords.{values_of};
+ghost use Rattle.rpki_requests.specs.RequestWords.{given_values};
 ghost use Rattle.rpki_requests.specs.RequestWords.Views.{asked_fields};
 ghost use Rattle.rpki_command.specs.RequestRuns.{AreInputs, AreObjectsNamed, IsObjectNamed, IsUnreadInput, IsUnreadOf};
 ghost use Rattle.rpki_command.specs.RequestRuns.Views.{input_fields};
@@ -136,9 +136,9 @@ fn objects_of<'a, F: FileSource>(
     order: &Order<'a>,
     setting: Setting,
 ) -> Result<Vec<Object<'a>>, Unreadable<'a>>
-    ensures objects { let names = values_of setting (asked_fields order.now).given in
+    ensures objects { let names = given_values setting (asked_fields order.now).given in
         IfOk result (λ all. AreObjectsNamed (F.reads files.now) names (contents all.items)) }
-    ensures unread { let names = values_of setting (asked_fields order.now).given in
+    ensures unread { let names = given_values setting (asked_fields order.now).given in
         IfErr result (λ e. e.why ≢ Unread.Memory → IsUnreadOf (F.reads files.now) names e) }
 {
     let Ok(names) = order.values_of(alloc, setting) else {

@@ -3,7 +3,7 @@ ghost use Rattle.std.specs.Io.KnownBytes.{Appends};
 ghost use Rattle.std.specs.Prelude.{◌≡◌, [], ◌∷◌, ◌++◌, All, List, ℕ, Some, map, IfErr, IfOk, MatchOption, OnOk};
 ghost use Rattle.rpki_text.specs.CommandLines.Views.{fields_of};
 ghost use Rattle.rpki_command.specs.NamedFiles.{AreFilesRead, AreObjectsRead, AreRead};
-ghost use Rattle.rpki_command.specs.UnreadFiles.{IsLineAbout, IsWhyUnread, SaysUnread, called, file_message};
+ghost use Rattle.rpki_command.specs.UnreadFiles.{IsLineAbout, IsWhyUnread, SaysUnread, input_name, file_message};
 ghost use Rattle.rpki_verdicts.specs.GivenLocators.{LocatorFields, IsRead, locator_files};
 
 use crate::files::{FileSource, Unread};
@@ -20,7 +20,7 @@ use std::io::Write;
 
 // Writes what a file is called, and why nothing comes of it.
 fn put_line<E: Write>(err: &mut E, name: &[u8], why: &str) -> io::Result<()>
-    ensures { let message = file_message (called name.now) why.now in
+    ensures { let message = file_message (input_name name.now) why.now in
         OnOk result (Appends (E.contents err.old) (E.contents err.new) message) }
 {
     if name == b"-".as_slice() {
@@ -36,7 +36,7 @@ fn put_line<E: Write>(err: &mut E, name: &[u8], why: &str) -> io::Result<()>
 ///
 /// Returns an error if memory runs out or writing fails.
 pub fn tell<E: Write, W: Display>(alloc: Global, err: &mut E, name: &[u8], why: &W) -> Result<()>
-    ensures { OnOk result ((line : List ℕ) × IsLineAbout (called name.now) (W.output why.now) line
+    ensures { OnOk result ((line : List ℕ) × IsLineAbout (input_name name.now) (W.output why.now) line
         × Appends (E.contents err.old) (E.contents err.new) line) }
 {
     let text = why.to_string(alloc)?;

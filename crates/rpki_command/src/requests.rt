@@ -6,11 +6,11 @@ ghost use Rattle.rpki_text.specs.CommandLines.Views.{word_octets};
 ghost use Rattle.rpki_requests.specs.Fulfilment.{Fulfils, context_of};
 ghost use Rattle.rpki_requests.specs.Refusals.{TellsPath};
 ghost use Rattle.rpki_requests.specs.RefusedErrands.{IsSoOf};
-ghost use Rattle.rpki_requests.specs.RequestMisuses.{misuse_text};
-ghost use Rattle.rpki_requests.specs.RequestWords.{values_of};
+ghost use Rattle.rpki_requests.specs.RequestMisuses.{request_misuse_text};
+ghost use Rattle.rpki_requests.specs.RequestWords.{given_values};
 ghost use Rattle.rpki_requests.specs.RequestWords.Views.{asked_fields};
 ghost use Rattle.rpki_command.specs.Messages.{misuse_message, refusal_hint, refusal_message, refusal_outcome, told_refusal, topic_asked};
-ghost use Rattle.rpki_command.specs.Outputs.{IsApart, Makes, Output, placed};
+ghost use Rattle.rpki_command.specs.Outputs.{IsApart, Makes, Output, placed_output};
 ghost use Rattle.rpki_command.specs.PemTexts.{IsPemText};
 ghost use Rattle.rpki_command.specs.RequestRuns.{AskedEnds, InputsEnd, IsLineOf, IsUnmadeOf, IsWritten, PlaceEnds, RequestEnds, WordsEnd, names_read};
 ghost use Rattle.rpki_command.specs.RequestRuns.Views.{input_fields};
@@ -39,7 +39,7 @@ use std::io::Write;
 fn say<E: Write>(err: &mut E, topic: Topic, misuse: &Misuse<'_>) -> Result<()>
     ensures memory { OnOk result (misuse.now ≢ Misuse.Memory) }
     ensures said { OnOk result (Appends (E.contents err.old) (E.contents err.new)
-        (misuse_message topic (misuse_text misuse.now))) }
+        (misuse_message topic (request_misuse_text misuse.now))) }
 {
     if let Misuse::Memory = misuse {
         return Err(anyhow!("out of memory"));
@@ -199,11 +199,11 @@ fn put<'a, M: FileMaker, O: Write>(
     ensures written { let names = map (λ name. name.now) names.now in
         let read = map (λ name. name.now) read.now in IfOk result (λ written.
         OnOk written (Appends (O.contents out.old) (O.contents out.new)
-        (placed names overwrites read text.now).text)) }
+        (placed_output names overwrites read text.now).text)) }
     ensures made { let names = map (λ name. name.now) names.now in
         let read = map (λ name. name.now) read.now in IfOk result (λ _.
         Makes (M.made files.old) (M.made files.new)
-        (placed names overwrites read text.now).files) }
+        (placed_output names overwrites read text.now).files) }
     ensures apart { OnOk result (IsApart (map (λ name. name.now) names.now)
         (map (λ name. name.now) read.now)) }
     ensures unmade { IfErr result (IsUnmadeOf (map (λ name. name.now) names.now)
@@ -263,7 +263,7 @@ fn push_values<'a>(
     names: &mut Vec<&'a [u8]>,
 ) -> Result<(), AllocError>
     ensures { OnOk result (map (λ name. name.now) names.new.items
-        ≡ map (λ name. name.now) names.old.items ++ values_of setting (asked_fields order.now).given) }
+        ≡ map (λ name. name.now) names.old.items ++ given_values setting (asked_fields order.now).given) }
 {
     let values = order.values_of(alloc, setting)?;
     names.extend_from_slice(&values)

@@ -6,7 +6,7 @@ ghost use Rattle.rpki_answers.specs.Outcomes.{AsksOfFiles};
 ghost use Rattle.rpki_text.specs.MisuseTexts.{misuse_text};
 ghost use Rattle.rpki_command.specs.Messages.{misuse_message};
 ghost use Rattle.rpki_command.specs.Outputs.{Makes, Output};
-ghost use Rattle.rpki_command.specs.Runs.{IsAnswer, IsAnswerBy, IsAnswerIn, IsAnswerOf, IsAnswerOfNamed, IsWholeAnswer, LineEnds, RunEnds};
+ghost use Rattle.rpki_command.specs.Runs.{IsRunAnswer, IsAnswerBy, IsAnswerIn, IsAnswerOf, IsAnswerOfNamed, IsWholeAnswer, LineEnds, RunEnds};
 
 use crate::about::{Topic, text_about, topic_of};
 use crate::answering::{answer_objects, answer_tree, quieted};
@@ -128,7 +128,7 @@ fn answered<F: FileSource, E: Write>(
 ) -> Result<Answer>
     requires { AsksOfFiles request.now.task }
     ensures { let request = fields_of request.now in IfOk result (λ answer. (said : List ℕ)
-        × IsAnswer (F.reads files.now) request now answer.outcome (string_bytes answer.text) said
+        × IsRunAnswer (F.reads files.now) request now answer.outcome (string_bytes answer.text) said
         × Appends (E.contents err.old) (E.contents err.new) said) }
 {
     let answer = whole_answered(alloc, files, err, request, now)?;
@@ -153,7 +153,7 @@ pub fn answer<F: FileSource, O: Write, E: Write>(
     requires { AsksOfFiles request.now.task }
     ensures answer { let request = fields_of request.now in
         IfOk result (λ ended. (text : List ℕ) × (said : List ℕ)
-        × IsAnswer (F.reads files.now) request now ended.outcome text said
+        × IsRunAnswer (F.reads files.now) request now ended.outcome text said
         × OnOk ended.written (Appends (O.contents out.old) (O.contents out.new) text)
         × Appends (E.contents err.old) (E.contents err.new) said) }
     ensures unwritten { OnErr result (out.new ≡ out.old) }

@@ -9,9 +9,9 @@ ghost use Rattle.rpki_verdicts.specs.Searches.{IsSoughtPath};
 ghost use Rattle.rpki_verdicts.specs.Trees.{asked_of};
 ghost use Rattle.rpki_answers.specs.AnswerTexts.{tree_question_of};
 ghost use Rattle.rpki_command.specs.Messages.{bound_message};
-ghost use Rattle.rpki_command.specs.NamedFiles.{AreGiven};
+ghost use Rattle.rpki_command.specs.NamedFiles.{AreNamedAndRead};
 ghost use Rattle.rpki_command.specs.PassedFiles.{SaysOfFiles};
-ghost use Rattle.rpki_command.specs.SoughtPaths.{AreListNames, IsFirstRead, IsSearch, IsSearchOf, IsSought, SaysOfSearch, SaysOfSought};
+ghost use Rattle.rpki_command.specs.SoughtPaths.{AreListNames, IsFirstRead, IsPathSearch, IsSearchOf, AreSoughtNames, SaysOfSearch, SaysOfSought};
 
 use crate::answering::{are_all_read, are_read, tree_question};
 use crate::files::FileSource;
@@ -189,7 +189,7 @@ fn sought_among<E: Write>(
     locators: &[GivenLocator<'_>],
     are_all_read: bool,
 ) -> Result<SoughtNames>
-    ensures sought { IfOk result (IsSought
+    ensures sought { IfOk result (AreSoughtNames
         (tree_question_of (fields_of request.now) now files.now locators.now)) }
     ensures read { IfOk result (λ sought. sought.are_all_read ≡ are_all_read) }
     ensures said { let q = tree_question_of (fields_of request.now) now files.now locators.now in
@@ -235,7 +235,7 @@ fn sought_if_read<E: Write>(
     lists: &[BareObject<'_>],
     locators: &[GivenLocator<'_>],
 ) -> Result<Option<SoughtNames>>
-    requires { AreGiven (fields_of request.now) files.now lists.now locators.now }
+    requires { AreNamedAndRead (fields_of request.now) files.now lists.now locators.now }
     ensures gives { IfOk result
         (IsSearchOf (fields_of request.now) now files.now lists.now locators.now) }
     ensures said { let q = tree_question_of (fields_of request.now) now files.now locators.now in
@@ -266,7 +266,7 @@ pub fn names_sought<F: FileSource, E: Write>(
     now: Time,
 ) -> Result<Option<SoughtNames>>
     ensures { IfOk result (λ sought. (said : List ℕ)
-        × IsSearch (F.reads files.now) (fields_of request.now) now sought said
+        × IsPathSearch (F.reads files.now) (fields_of request.now) now sought said
         × Appends (E.contents err.old) (E.contents err.new) said) }
 {
     let given: GivenFiles<'_, BareObject<'_>> = read_given(alloc, files, err, request)?;

@@ -12,14 +12,14 @@ use Rattle.serde_json.specs.Data.{Data, Members}
 use Rattle.rpki_document.specs.Documents.{Node, document_of, document_text, document_members, document_items}
 use Rattle.rpki_document.specs.Documents.{node_text, node_members, node_items, Pair, put_all, object_of, array_of}
 use Rattle.rpki_document.specs.Documents.{span_text, span_members, span_items, spans_text}
-use Rattle.rpki_document.specs.Views.{Entries, Puts, Pushes, part_view, piece_view, parts_text, parts_members}
+use Rattle.rpki_document.specs.Views.{Entries, Puts, Pushes, part_view, piece_view, node_parts_text, parts_members}
 use Rattle.rpki_document.specs.Views.{parts_items, pieces_text, pieces_members, pieces_items}
 use Rattle.rpki_document.specs.declared.parts.Part.{Part, Inside, Each, Aside, the_lemmas}
 use Rattle.rpki_document.specs.declared.parts.Piece.{Piece}
 
 -- ---- a document is gone over part by part
 
-pub text_of_parts : (ps : List Part) → document_text (document_of (map part_view ps)) ≡ parts_text ps
+pub text_of_parts : (ps : List Part) → document_text (document_of (map part_view ps)) ≡ node_parts_text ps
 text_of_parts [] = refl
 text_of_parts (p ∷ ps) = ap (λ (l : List ℕ). node_text (part_view p) ++ l) (text_of_parts ps)
 
@@ -81,13 +81,13 @@ push_aside r old new p ps is e = subst (λ (l : List Data). OnOk r (Pushes l old
 
 -- the text of parts is that of the part that they are inside of
 pub written_inside : {T E : Type 0} (r : Result T E) (old new key : List ℕ) (p : Part) (ps : List Part) →
-    part_view p ≡ doc.inside key (document_of (map part_view ps)) → OnOk r (new ≡ old ++ parts_text ps) →
+    part_view p ≡ doc.inside key (document_of (map part_view ps)) → OnOk r (new ≡ old ++ node_parts_text ps) →
     OnOk r (new ≡ old ++ node_text (part_view p))
 written_inside (Ok x) old new key p ps is e = e ∙ ap (λ (l : List ℕ). old ++ l) (sym (ap node_text is ∙ text_of_parts ps))
 written_inside (Err x) old new key p ps is e = tt
 
 pub written_each : {T E : Type 0} (r : Result T E) (old new key : List ℕ) (p : Part) (ps : List Part) →
-    part_view p ≡ doc.each key (document_of (map part_view ps)) → OnOk r (new ≡ old ++ parts_text ps) →
+    part_view p ≡ doc.each key (document_of (map part_view ps)) → OnOk r (new ≡ old ++ node_parts_text ps) →
     OnOk r (new ≡ old ++ node_text (part_view p))
 written_each (Ok x) old new key p ps is e = e ∙ ap (λ (l : List ℕ). old ++ l) (sym (ap node_text is ∙ text_of_parts ps))
 written_each (Err x) old new key p ps is e = tt

@@ -9,7 +9,7 @@ use Rattle.std.proofs.lemmas.Bool.Decides.{nat_tests}
 use Rattle.std.proofs.lemmas.Fmt.{decimal_by_steps}
 use Rattle.std.proofs.lemmas.List.{append-nil, append_cancel_left}
 use Rattle.std.proofs.lemmas.Grind.{flat_map-append}
-use Rattle.rpki_document.specs.Documents.{Told, text, inner, printed, characters, words, count, octets, flag, dated}
+use Rattle.rpki_document.specs.Documents.{ToldValue, text, inner, printed, characters, words, count, octets, flag, dated}
 use Rattle.rpki_document.specs.Documents.{Span, say, tell, show, keep, Node, head, line, further, unsaid, inside}
 use Rattle.rpki_document.specs.Documents.{each, aside, Document, nothing, part, told_text, span_text, spans_text}
 use Rattle.rpki_document.specs.Documents.{node_text, document_text}
@@ -18,7 +18,7 @@ use Rattle.rpki_document.specs.Texts.{two_digits, colons_text, character_text, c
 use Rattle.rpki_document.specs.Texts.{inner_text, printed_character_text, printed_text, flag_text, pad}
 use Rattle.rpki_document.specs.Texts.{further_margin, line_feed}
 use Rattle.rpki_document.specs.Lines.{Row, labelled, under, row_text, node_rows, document_rows, AreOctets}
-use Rattle.rpki_document.specs.Lines.{BeginsPlain, IsTold, IsSpan, IsNode, IsMade, IsRow}
+use Rattle.rpki_document.specs.Lines.{BeginsPlain, IsToldValue, IsSpan, IsNode, IsMade, IsRow}
 
 -- ---- visible texts
 
@@ -88,7 +88,7 @@ flag_visible : (is_so : Bool) → AreVisible (flag_text is_so)
 flag_visible true = (refl, (refl, (refl, tt)))
 flag_visible false = (refl, (refl, tt))
 
-told_visible : (told : Told) → IsTold told → AreVisible (told_text told)
+told_visible : (told : ToldValue) → IsToldValue told → AreVisible (told_text told)
 told_visible (text t) is = characters_visible t is
 told_visible (inner t) is = inner_visible t is
 told_visible (printed t) is = printed_visible t is

@@ -8,7 +8,7 @@ use Rattle.serde_json.specs.Data.{Data, Members, no_members, member, put, number
 use Rattle.serde_json.specs.Find.{of_integer}
 use Rattle.serde_json.specs.View.{items_of}
 use Rattle.serde_json.specs.Written.{has_float, items_have_float, members_have_float}
-use Rattle.rpki_document.specs.Documents.{Told, text, inner, printed, characters, words, count, octets, flag, dated}
+use Rattle.rpki_document.specs.Documents.{ToldValue, text, inner, printed, characters, words, count, octets, flag, dated}
 use Rattle.rpki_document.specs.Documents.{Span, say, tell, show, keep, Node, head, line, further, unsaid, inside}
 use Rattle.rpki_document.specs.Documents.{each, aside, Document, nothing, part, Pair, put_all, told_json, span_items}
 use Rattle.rpki_document.specs.Documents.{span_members, node_items, node_members, document_items, document_members}
@@ -63,7 +63,7 @@ integer_whole : (z : ℤ) → LacksFloat (number (of_integer z))
 integer_whole (pos n) = refl
 integer_whole (negsuc n) = refl
 
-told_whole : (told : Told) → LacksFloat (told_json told)
+told_whole : (told : ToldValue) → LacksFloat (told_json told)
 told_whole (text t) = refl
 told_whole (inner t) = refl
 told_whole (printed t) = refl

@@ -13,19 +13,19 @@ use Rattle.rpki_document.specs.Texts.{head_text, further_margin, line_feed}
 -- a text that anyone may have chosen; such a text behind which more follows in its line; a text that
 -- has escapes of its own; octets as characters, in both forms; a word for a person and one for a
 -- program; a count; octets; whether something is so; a number that is words for a person, as a time is
-pub data Told : Type 0 where
-  text : List ℕ → Told
-  inner : List ℕ → Told
-  printed : List ℕ → Told
-  characters : List ℕ → Told
-  words : List ℕ → List ℕ → Told
-  count : ℕ → Told
-  octets : List ℕ → Told
-  flag : Bool → Told
-  dated : List ℕ → ℤ → Told
+pub data ToldValue : Type 0 where
+  text : List ℕ → ToldValue
+  inner : List ℕ → ToldValue
+  printed : List ℕ → ToldValue
+  characters : List ℕ → ToldValue
+  words : List ℕ → List ℕ → ToldValue
+  count : ℕ → ToldValue
+  octets : List ℕ → ToldValue
+  flag : Bool → ToldValue
+  dated : List ℕ → ℤ → ToldValue
 
 -- in a line: what isn't visible is escaped, so that it stays in its line
-abbrev pub told_text : Told → List ℕ
+abbrev pub told_text : ToldValue → List ℕ
 told_text (text t) = characters_text t
 told_text (inner t) = inner_text t
 told_text (printed t) = printed_text t
@@ -36,7 +36,7 @@ told_text (octets os) = colons_text os
 told_text (flag is_so) = flag_text is_so
 told_text (dated said n) = characters_text said
 
-abbrev pub told_json : Told → Data
+abbrev pub told_json : ToldValue → Data
 told_json (text t) = string t
 told_json (inner t) = string t
 told_json (printed t) = string t
@@ -53,9 +53,9 @@ told_json (dated said n) = number (of_integer n)
 -- that isn't in the line
 pub data Span : Type 0 where
   say : List ℕ → Span
-  tell : List ℕ → Told → Span
-  show : Told → Span
-  keep : List ℕ → Told → Span
+  tell : List ℕ → ToldValue → Span
+  show : ToldValue → Span
+  keep : List ℕ → ToldValue → Span
 
 mutual
   -- the head of an answer; a line; a further line of the label above; values that are in no line;
@@ -80,12 +80,12 @@ document_of [] = nothing
 document_of (p ∷ ps) = part p (document_of ps)
 
 -- a line of one value, under a key
-abbrev pub told_line : List ℕ → List ℕ → Told → Node
+abbrev pub told_line : List ℕ → List ℕ → ToldValue → Node
 told_line label key told = line label (tell key told ∷ [])
 
 -- a value that is in no line, under a key
-abbrev pub kept : List ℕ → Told → Node
-kept key told = unsaid (keep key told ∷ [])
+abbrev pub kept_node : List ℕ → ToldValue → Node
+kept_node key told = unsaid (keep key told ∷ [])
 
 -- ---- as text
 

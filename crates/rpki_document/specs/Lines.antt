@@ -1,7 +1,7 @@
 -- The lines of a document's text, and what keeps them apart.
 use Rattle.std.specs.List.{AllByRecursion}
 use Rattle.std.specs.Prelude.{ℕ, ◌<◌, ◌^◌, ◌≢◌, List, [], ◌∷◌, ◌++◌}
-use Rattle.rpki_document.specs.Documents.{Told, text, inner, printed, characters, words, count, octets, flag, dated}
+use Rattle.rpki_document.specs.Documents.{ToldValue, text, inner, printed, characters, words, count, octets, flag, dated}
 use Rattle.rpki_document.specs.Documents.{Span, say, tell, show, keep, Node, head, line, further, unsaid, inside}
 use Rattle.rpki_document.specs.Documents.{each, aside, Document, nothing, part, spans_text}
 use Rattle.rpki_document.specs.Texts.{AreVisible, pad, further_margin, line_feed}
@@ -43,21 +43,21 @@ BeginsPlain (o ∷ os) = o ≢ 32
 abbrev pub IsLabel : List ℕ → Type 0
 IsLabel label = BeginsPlain label × AllByRecursion (λ o. o ≢ 58) label
 
-abbrev pub IsTold : Told → Type 0
-IsTold (text t) = AreOctets t
-IsTold (inner t) = AreOctets t
-IsTold (printed t) = AreOctets t
-IsTold (characters os) = AreOctets os
-IsTold (words said word) = AreOctets said
-IsTold (count n) = n < 2 ^ 64
-IsTold (octets os) = AreOctets os
-IsTold (flag is_so) = Unit {0}
-IsTold (dated said n) = AreOctets said
+abbrev pub IsToldValue : ToldValue → Type 0
+IsToldValue (text t) = AreOctets t
+IsToldValue (inner t) = AreOctets t
+IsToldValue (printed t) = AreOctets t
+IsToldValue (characters os) = AreOctets os
+IsToldValue (words said word) = AreOctets said
+IsToldValue (count n) = n < 2 ^ 64
+IsToldValue (octets os) = AreOctets os
+IsToldValue (flag is_so) = Unit {0}
+IsToldValue (dated said n) = AreOctets said
 
 abbrev pub IsSpan : Span → Type 0
 IsSpan (say said) = AreOctets said
-IsSpan (tell key told) = IsTold told
-IsSpan (show told) = IsTold told
+IsSpan (tell key told) = IsToldValue told
+IsSpan (show told) = IsToldValue told
 IsSpan (keep key told) = Unit {0}
 
 abbrev mutual

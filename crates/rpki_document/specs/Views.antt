@@ -5,7 +5,7 @@ use Rattle.std.specs.declared.alloc.Global.{Global}
 use Rattle.serde_json.specs.Data.{Data}
 use Rattle.serde_json.specs.View.{view, members_view}
 use Rattle.serde_json.specs.declared.value.Value.{Value}
-use Rattle.rpki_document.specs.Documents.{Told, Span, Node, Document, document_of, Pair, put_all, span_text}
+use Rattle.rpki_document.specs.Documents.{ToldValue, Span, Node, Document, document_of, Pair, put_all, span_text}
 use Rattle.rpki_document.specs.Documents.{span_members, span_items, node_text, node_members, node_items}
 use Rattle.rpki_document.specs.Documents as doc
 use Rattle.rpki_document.specs.declared.parts.Leaf.{Leaf}
@@ -15,7 +15,7 @@ use Rattle.rpki_document.specs.declared.parts.Piece.TheVariants as piece
 use Rattle.rpki_document.specs.declared.parts.Part.{Part, fold-Part}
 use Rattle.rpki_document.specs.declared.parts.Part.TheOpen.{Part-F}
 
-abbrev pub leaf_view : Leaf → Told
+abbrev pub leaf_view : Leaf → ToldValue
 leaf_view (leaf.Text t) = doc.text t.now
 leaf_view (leaf.Inner t) = doc.inner t.now
 leaf_view (leaf.Characters os) = doc.characters os.now
@@ -60,8 +60,8 @@ pieces_members pieces = flat_map (λ p. span_members (piece_view p)) pieces
 abbrev pub pieces_items : List Piece → List Data
 pieces_items pieces = flat_map (λ p. span_items (piece_view p)) pieces
 
-abbrev pub parts_text : List Part → List ℕ
-parts_text parts = flat_map (λ p. node_text (part_view p)) parts
+abbrev pub node_parts_text : List Part → List ℕ
+node_parts_text parts = flat_map (λ p. node_text (part_view p)) parts
 
 abbrev pub parts_members : List Part → List Pair
 parts_members parts = flat_map (λ p. node_members (part_view p)) parts

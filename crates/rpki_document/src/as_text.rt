@@ -2,7 +2,7 @@
 ghost use Rattle.std.specs.Prelude.{◌≡◌, ◌++◌, map, string_bytes, IfOk, IfSome, OnOk};
 ghost use Rattle.rpki_document.specs.Documents.{document_text, node_text, span_text, spans_text};
 ghost use Rattle.rpki_document.specs.Texts.{further_margin, head_text, label_text, line_feed};
-ghost use Rattle.rpki_document.specs.Views.{document_view, part_view, parts_text, piece_view, pieces_text};
+ghost use Rattle.rpki_document.specs.Views.{document_view, part_view, node_parts_text, piece_view, pieces_text};
 
 use crate::leaves::{Characters, Heading, Label};
 use crate::parts::{Part, Piece};
@@ -96,7 +96,7 @@ fn write_part(out: &mut String, alloc: Global, it: &Part<'_>) -> Result<(), Allo
 #[cycle(write)]
 fn write_parts(out: &mut String, alloc: Global, parts: &Vec<Part<'_>>) -> Result<(), AllocError>
     ensures { OnOk result
-        (string_bytes out.new ≡ string_bytes out.old ++ parts_text parts.now.items) }
+        (string_bytes out.new ≡ string_bytes out.old ++ node_parts_text parts.now.items) }
 {
     for it in parts {
         write_part(out, alloc, it)?;

@@ -1,6 +1,6 @@
 //! Documents that are being built.
 ghost use Rattle.std.specs.Prelude.{◌∷◌, [], OnOk};
-ghost use Rattle.rpki_document.specs.Documents.{aside, document_of, each, further, head, inside, kept, line, told_line, unsaid};
+ghost use Rattle.rpki_document.specs.Documents.{aside, document_of, each, further, head, inside, kept_node, line, told_line, unsaid};
 ghost use Rattle.rpki_document.specs.Building.{Adds, nodes_of, spans_of};
 ghost use Rattle.rpki_document.specs.Views.{leaf_view};
 
@@ -73,7 +73,7 @@ pub fn add_kept<'a>(
     key: &'a str,
     leaf: Leaf<'a>,
 ) -> Result<(), AllocError>
-    ensures { let its = kept key.now (leaf_view leaf.entry) in
+    ensures { let its = kept_node key.now (leaf_view leaf.entry) in
         OnOk result (Adds (its ∷ []) parts.old.items parts.new.items) }
 {
     let pieces = vec![in alloc; Piece::Keep(key, leaf)]?;

@@ -20,7 +20,7 @@ use Rattle.rpki_crl.specs.declared.revocation_error.RevocationError.TheVariants 
 use Rattle.rpki_keys.specs.TalErrors.{tal_error_name}
 use Rattle.rpki_keys.specs.declared.tal.tal_error.TalError.{TalError}
 use Rattle.rpki_keys.specs.declared.tal.tal_error.TalError.TheVariants as tal
-use Rattle.rpki_files.specs.FaultTable.{FaultFields, IsFaultOf, fault_fields, field_number, first_named}
+use Rattle.rpki_files.specs.FaultTable.{FaultFields, IsNumberedFault, fault_fields, field_number, first_named}
 use Rattle.rpki_files.specs.FaultTable.{general_faults, inspection_fault, inspection_faults, locator_fault}
 use Rattle.rpki_files.specs.FaultTable.{locator_faults, part_numbered, part_table, reading_fault, reading_faults}
 use Rattle.rpki_files.specs.FaultTable.{revocation_fault, revocation_faults, or_no_fault, fault_named, table_of}
@@ -78,30 +78,32 @@ reading_numbers _ = record {
   small = omega arith;
 }
 
-pub readings : (e : DecodeError) → IsFaultOf (decode_error_name e) (reading_fault e)
+pub readings : (e : DecodeError) → IsNumberedFault (decode_error_name e) (reading_fault e)
 unfolding fault_named general_faults reading_faults
 readings decoding.Memory = record { name_is = refl; numbered = refl }
 readings _ = record { name_is = refl; numbered = refl }
 
-pub inspections : (e : InspectionError) → ((inspection_fault e).number / 100 ≡ 3) × IsFaultOf (inspection_error_name e) (inspection_fault e)
+pub inspections : (e : InspectionError) →
+    ((inspection_fault e).number / 100 ≡ 3) × IsNumberedFault (inspection_error_name e) (inspection_fault e)
 unfolding fault_named general_faults inspection_faults
 inspections inspection.AlgorithmMismatch = (refl, record { name_is = refl; numbered = refl })
 inspections _ = (refl, record { name_is = refl; numbered = refl })
 
 pub verifications : (e : VerificationError) →
     ((verification_fault e).number ≢ 1 → (verification_fault e).number / 100 ≡ 4) ×
-    IsFaultOf (verification_error_name e) (verification_fault e)
+    IsNumberedFault (verification_error_name e) (verification_fault e)
 unfolding fault_named general_faults verification_faults
 verifications verification.Memory = ((λ other. absurd (other refl)), record { name_is = refl; numbered = refl })
 verifications _ = ((λ other. refl), record { name_is = refl; numbered = refl })
 
-pub revocations : (e : RevocationError) → ((revocation_fault e).number / 100 ≡ 5) × IsFaultOf (revocation_error_name e) (revocation_fault e)
+pub revocations : (e : RevocationError) →
+    ((revocation_fault e).number / 100 ≡ 5) × IsNumberedFault (revocation_error_name e) (revocation_fault e)
 unfolding fault_named general_faults revocation_faults
 revocations revocation.NoCrl = (refl, record { name_is = refl; numbered = refl })
 revocations _ = (refl, record { name_is = refl; numbered = refl })
 
 pub locators : (e : TalError) → ((locator_fault e).number ≢ 1 → (locator_fault e).number / 100 ≡ 7) ×
-    IsFaultOf (tal_error_name e) (locator_fault e)
+    IsNumberedFault (tal_error_name e) (locator_fault e)
 unfolding fault_named general_faults locator_faults
 locators tal.Memory = ((λ other. absurd (other refl)), record { name_is = refl; numbered = refl })
 locators _ = ((λ other. refl), record { name_is = refl; numbered = refl })

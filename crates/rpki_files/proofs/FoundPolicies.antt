@@ -12,7 +12,7 @@ use Rattle.rpki_der.proofs.ExtensionReads.{extension_reads, extension_shrinks}
 use Rattle.rpki_der.proofs.Octets.{AreOctets-after, bind_some, some, some_is}
 use Rattle.rpki_der.proofs.Readings.{inside_reads}
 use Rattle.rpki_der.proofs.ValueReads.{value_reads}
-use Rattle.rpki_files.specs.PolicyPresence.{AreExtensions, BeginsWithOne, IsWanted, StandBefore, tags_before, HasExtensions}
+use Rattle.rpki_files.specs.PolicyPresence.{AreAnyExtensions, BeginsWithOne, IsWanted, StandBefore, tags_before, HasExtensions}
 use Rattle.rpki_files.specs.PolicyPresence.Reading.{behind, rest_at, extensions_at}
 use Rattle.rpki_files.specs.declared.policies.Wanted.{Wanted}
 
@@ -88,12 +88,13 @@ none_of_nothing wanted octets few (v ∷ xs, means, among) =
 module _ (octets : List ℕ) where
   -- none stands at the front of octets that are some
   pub no_extensions : (octets ≡ [] → ⊥) → ((x : Extension) (rest : List ℕ) → Begins IsExtension octets x rest → ⊥) →
-      AreExtensions octets → ⊥
+      AreAnyExtensions octets → ⊥
   no_extensions some none ([], are) = some are
   no_extensions some none (v ∷ xs, s) = none v s.1 (record { text = s.0; encoded = s.2; parts = s.4 })
 
   -- what stands behind the first
-  rest_are : (x : Extension) (rest : List ℕ) → extension_format.read octets ≡ Some (x, rest) → AreExtensions octets → AreExtensions rest
+  rest_are : (x : Extension) (rest : List ℕ) → extension_format.read octets ≡ Some (x, rest) →
+      AreAnyExtensions octets → AreAnyExtensions rest
   rest_are x rest read ([], are) =
       let empty : length octets ≡ 0 = ap length are in
       absurd (omega (arith, empty, extension_shrinks octets x rest read))
@@ -104,11 +105,11 @@ module _ (octets : List ℕ) where
 
   -- the first one aside
   pub are_more : (x : Extension) (rest : List ℕ) → Begins IsExtension octets x rest →
-      extension_format.read octets ≡ Some (x, rest) → AreExtensions rest ↔ AreExtensions octets
+      extension_format.read octets ≡ Some (x, rest) → AreAnyExtensions rest ↔ AreAnyExtensions octets
   are_more x rest begins read = ((λ are. (x ∷ are.0, (begins.text, rest, begins.encoded, are.1, begins.parts))), rest_are x rest read)
 
 -- no octets are no extensions
-pub are_none : (octets : List ℕ) → length octets < 1 → AreExtensions octets
+pub are_none : (octets : List ℕ) → length octets < 1 → AreAnyExtensions octets
 are_none [] few = ([], refl)
 are_none (octet ∷ octets) few = absurd (omega arith)
 

@@ -4,7 +4,7 @@ use Rattle.rpki_der.specs.Place.{Place}
 use Rattle.rpki_files.specs.StopPlaces.{Opens, Passes, ReadsToExtensions, StopsAmong, StopsAmongElements, StopsAt}
 use Rattle.rpki_files.specs.StopPlaces.{StopsAtEntries, StopsAtExtension, StopsAtExtensions, StopsBefore}
 use Rattle.rpki_files.specs.StopPlaces.{StopsBeforeExtensions, StopsBehind, StopsBehindSigned, StopsInSigned}
-use Rattle.rpki_files.specs.StopPlaces.{StopsInside, whole}
+use Rattle.rpki_files.specs.StopPlaces.{StopsInside, whole_place}
 use Rattle.rpki_files.specs.declared.expected.Part.{Part}
 
 module _ (octets : List ℕ) where
@@ -95,9 +95,9 @@ module _ (octets : List ℕ) where
   pub stops_within : (is_list : Bool) (stop : Part) (octet : ℕ) → StopsAt is_list octets stop octet → octet ≤ length octets
   stops_within is_list stop octet s = by_part s
     where
-      all : IsIn (whole octets)
+      all : IsIn (whole_place octets)
       all = record { source = refl; order = omega arith; end = omega arith }
 
       by_part : StopsAt is_list octets stop octet → octet ≤ length octets
-      by_part (inl t) = before_in _ _ (whole octets) stop octet all t
-      by_part (inr (outer, next, opens, t)) = inside_in is_list outer stop octet (inner_in _ (whole octets) outer next all opens) t
+      by_part (inl t) = before_in _ _ (whole_place octets) stop octet all t
+      by_part (inr (outer, next, opens, t)) = inside_in is_list outer stop octet (inner_in _ (whole_place octets) outer next all opens) t

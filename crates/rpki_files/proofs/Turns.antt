@@ -11,7 +11,7 @@ use Rattle.rpki_der.specs.Values.{AreOctets, IsEnc}
 use Rattle.rpki_der.specs.Values.Reading.{◌>>=◌, value_at}
 use Rattle.rpki_der.proofs.Octets.{AreOctets-after, bind_some, if_some, nothing, some_is}
 use Rattle.rpki_der.proofs.ValueReads.{value_reads}
-use Rattle.rpki_files.specs.FileSorts.{BeginSo, IsFirstOf, type_octets}
+use Rattle.rpki_files.specs.FileSorts.{BeginSo, IsFirstHaving, type_octets}
 use Rattle.rpki_files.specs.FileSorts.Reading.{turned, all_turned}
 use Rattle.rpki_files.specs.declared.sorts.Turn.{Turn}
 use Rattle.rpki_files.specs.declared.sorts.Turn.TheVariants.{Over, Into, Named}
@@ -96,15 +96,15 @@ module _ (turns : List Turn) (octets old : List ℕ) (i : ℕ) (d : Turn) (low :
 
 module _ {X : Type 0} (P : X → Type 0) where
   -- an item that has the property, where none before it has
-  pub found_at : (xs : List X) (i : ℕ) (d : X) → i < length xs → IsFirstOf P (take i xs) None → P (get_or xs i d) →
-      IsFirstOf P xs (Some (get_or xs i d))
+  pub found_at : (xs : List X) (i : ℕ) (d : X) → i < length xs → IsFirstHaving P (take i xs) None → P (get_or xs i d) →
+      IsFirstHaving P xs (Some (get_or xs i d))
   found_at [] i d low none has = absurd (omega arith)
   found_at (x ∷ xs) zero d low none has = inl (has, refl)
   found_at (x ∷ xs) (suc i) d low (inl (is, e)) has = absurd (nothing x e)
   found_at (x ∷ xs) (suc i) d low (inr (not, none)) has = inr (not, found_at xs i d (omega arith) none has)
 
   -- one more that hasn't
-  pub still_none : (xs : List X) (x : X) → IsFirstOf P xs None → (P x → ⊥) → IsFirstOf P (xs ++ x ∷ []) None
+  pub still_none : (xs : List X) (x : X) → IsFirstHaving P xs None → (P x → ⊥) → IsFirstHaving P (xs ++ x ∷ []) None
   still_none [] x none not = inr (not, refl)
   still_none (y ∷ xs) x (inl (is, e)) not = absurd (nothing y e)
   still_none (y ∷ xs) x (inr (other, none)) not = inr (other, still_none xs x none not)

@@ -259,25 +259,25 @@ pub record PartFields : Type 0 where
 abbrev pub part_fields : Part → PartFields
 part_fields it = record { name = it.name.now; section = it.section.now }
 
-abbrev pub part : String → String → PartFields
-part name section = record { name = codes name; section = codes section }
+abbrev pub section_part : String → String → PartFields
+section_part name section = record { name = codes name; section = codes section }
 
 -- all parts, by their numbers
 unfoldable pub part_table : List PartFields
 part_table =
-    part "BasicConstraints" "RFC 6487 4.8.1" ∷
-    part "SubjectKeyIdentifier" "RFC 6487 4.8.2" ∷
-    part "AuthorityKeyIdentifier" "RFC 6487 4.8.3" ∷
-    part "KeyUsage" "RFC 6487 4.8.4" ∷
-    part "ExtendedKeyUsage" "RFC 6487 4.8.5" ∷
-    part "CrlDistributionPoints" "RFC 6487 4.8.6" ∷
-    part "AuthorityInformationAccess" "RFC 6487 4.8.7" ∷
-    part "SubjectInformationAccess" "RFC 6487 4.8.8" ∷
-    part "CertificatePolicies" "RFC 6487 4.8.9" ∷
-    part "IpResources" "RFC 6487 4.8.10" ∷
-    part "AsResources" "RFC 6487 4.8.11" ∷
-    part "Resources" "RFC 6487 4.8.10" ∷
-    part "CrlNumber" "RFC 6487 5" ∷ []
+    section_part "BasicConstraints" "RFC 6487 4.8.1" ∷
+    section_part "SubjectKeyIdentifier" "RFC 6487 4.8.2" ∷
+    section_part "AuthorityKeyIdentifier" "RFC 6487 4.8.3" ∷
+    section_part "KeyUsage" "RFC 6487 4.8.4" ∷
+    section_part "ExtendedKeyUsage" "RFC 6487 4.8.5" ∷
+    section_part "CrlDistributionPoints" "RFC 6487 4.8.6" ∷
+    section_part "AuthorityInformationAccess" "RFC 6487 4.8.7" ∷
+    section_part "SubjectInformationAccess" "RFC 6487 4.8.8" ∷
+    section_part "CertificatePolicies" "RFC 6487 4.8.9" ∷
+    section_part "IpResources" "RFC 6487 4.8.10" ∷
+    section_part "AsResources" "RFC 6487 4.8.11" ∷
+    section_part "Resources" "RFC 6487 4.8.10" ∷
+    section_part "CrlNumber" "RFC 6487 5" ∷ []
 
 -- ---- from a fault to its line
 
@@ -360,6 +360,6 @@ section_in None = []
 section_in (Some it) = it.section
 
 -- it is a fault with this name, and the one that is found by its number
-pub record IsFaultOf (name : List ℕ) (it : FaultFields) : Type 0 where
+pub record IsNumberedFault (name : List ℕ) (it : FaultFields) : Type 0 where
   pub name_is : it.name ≡ name
   pub numbered : fault_numbered it.number ≡ Some it

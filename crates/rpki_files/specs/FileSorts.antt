@@ -42,8 +42,8 @@ BeginSo (Named type ∷ turns) octets =
 -- contentType } (RFC 5652 3), of SignedData ::= SEQUENCE { version CMSVersion, digestAlgorithms
 -- SET, encapContentInfo EncapsulatedContentInfo, .. }, EncapsulatedContentInfo ::= SEQUENCE {
 -- eContentType ContentType, .. } (5.1, 5.2)
-abbrev pub signed_data : Turn → List Turn
-signed_data turn =
+abbrev pub inside_signed_data : Turn → List Turn
+inside_signed_data turn =
     Into SEQUENCE ∷ Named of.SignedData ∷ Into 0xA0 ∷ Into SEQUENCE ∷ Over INTEGER ∷ Over SET ∷ Into SEQUENCE ∷ turn ∷ []
 
 -- OneAsymmetricKey ::= SEQUENCE { version INTEGER, privateKeyAlgorithm SEQUENCE, privateKey OCTET
@@ -90,10 +90,10 @@ IsOfSort sort.SeveralPem octets = IsSeveralPem octets
 IsOfSort sort.UnendedPem octets = IsUnendedPem octets
 IsOfSort sort.DamagedPem octets = IsDamagedPem octets
 IsOfSort sort.Locator octets = IsTrue (looks_like_locator octets)
-IsOfSort sort.Roa octets = BeginSo (signed_data (Named of.Roa)) octets
-IsOfSort sort.Manifest octets = BeginSo (signed_data (Named of.Manifest)) octets
-IsOfSort sort.Ghostbusters octets = BeginSo (signed_data (Named of.Ghostbusters)) octets
-IsOfSort sort.SignedData octets = BeginSo (signed_data (Over OBJECT_IDENTIFIER)) octets
+IsOfSort sort.Roa octets = BeginSo (inside_signed_data (Named of.Roa)) octets
+IsOfSort sort.Manifest octets = BeginSo (inside_signed_data (Named of.Manifest)) octets
+IsOfSort sort.Ghostbusters octets = BeginSo (inside_signed_data (Named of.Ghostbusters)) octets
+IsOfSort sort.SignedData octets = BeginSo (inside_signed_data (Over OBJECT_IDENTIFIER)) octets
 IsOfSort sort.PrivateKey octets = BeginSo private_key octets
 IsOfSort sort.RsaPrivateKey octets = BeginSo rsa_private_key octets
 IsOfSort sort.CurvePrivateKey octets = BeginSo curve_private_key octets
@@ -110,13 +110,13 @@ every_sort =
     ∷ sort.PublicKey ∷ sort.Request ∷ sort.Version1 ∷ sort.OtherCertificate ∷ []
 
 -- the first of the xs that has the property, if one has it
-abbrev pub IsFirstOf : {X : Type 0} → (X → Type 0) → List X → Option X → Type 0
-IsFirstOf P [] found = found ≡ None
-IsFirstOf P (x ∷ xs) found = (P x × (found ≡ Some x)) ⊎ ((P x → ⊥) × IsFirstOf P xs found)
+abbrev pub IsFirstHaving : {X : Type 0} → (X → Type 0) → List X → Option X → Type 0
+IsFirstHaving P [] found = found ≡ None
+IsFirstHaving P (x ∷ xs) found = (P x × (found ≡ Some x)) ⊎ ((P x → ⊥) × IsFirstHaving P xs found)
 
 -- the sort of the octets: the first one that they are of, if they are of one
 unfoldable pub IsSortOf : List ℕ → Option Sort → Type 0
-IsSortOf octets found = IsFirstOf (λ s. IsOfSort s octets) every_sort found
+IsSortOf octets found = IsFirstHaving (λ s. IsOfSort s octets) every_sort found
 
 -- what is told: the sort of octets that begin with neither a certificate nor a list
 abbrev pub IsToldSort : List ℕ → Option Sort → Type 0

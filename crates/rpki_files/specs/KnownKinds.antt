@@ -134,9 +134,9 @@ called known.Unknown = None
 called known.NoList = None
 
 -- a fault names extensions of this kind: as resources both kinds of them
-abbrev pub IsNamed : Field → Kind → Type 0
-IsNamed field.Resources k = (k ≡ known.IpResources) ⊎ (k ≡ known.AsResources)
-IsNamed f k = called k ≡ Some f
+abbrev pub NamesKind : Field → Kind → Type 0
+NamesKind field.Resources k = (k ≡ known.IpResources) ⊎ (k ≡ known.AsResources)
+NamesKind f k = called k ≡ Some f
 
 -- the name of a kind (RFC 6487 4.8, 5)
 abbrev pub kind_name : Kind → List ℕ

@@ -12,7 +12,7 @@ use Rattle.rpki_der.specs.Reading.{Inside}
 use Rattle.rpki_der.specs.Sequences.{AreEncodings}
 use Rattle.rpki_der.specs.Tags.{INTEGER, SEQUENCE}
 use Rattle.rpki_der.specs.Values.{IsEnc}
-use Rattle.rpki_files.specs.KnownKinds.{HasContent, IsNamed, known_kind}
+use Rattle.rpki_files.specs.KnownKinds.{HasContent, NamesKind, known_kind}
 use Rattle.rpki_files.specs.declared.kinds.Kind.TheVariants as known
 use Rattle.rpki_files.specs.declared.policies.Wanted.{Wanted}
 use Rattle.rpki_files.specs.declared.policies.Wanted.TheVariants.{Named, OfRpki, Policies, Policy, Resources}
@@ -43,19 +43,19 @@ IsWanted Policies id content = id ≡ certificate_policies.identifier
 IsWanted OfRpki id content =
     IsOneOf resource_identifiers id
     ⊎ ((id ≡ certificate_policies.identifier) × HasContent known.CertificatePolicies content)
-IsWanted (Named f is_list) id content = IsNamed f (known_kind is_list id)
+IsWanted (Named f is_list) id content = NamesKind f (known_kind is_list id)
 IsWanted (Resources f mode) id content = IsOfMode f mode id
 IsWanted (Policy mode) id content =
     (id ≡ certificate_policies.identifier) × Means certificate_policies.format.encodes mode content
 
 -- one of the extensions is one that is looked for
-abbrev pub IsAmong : Wanted → List Extension → Type 0
-IsAmong wanted [] = ⊥
-IsAmong wanted (x ∷ xs) = IsWanted wanted x.identifier x.content ⊎ IsAmong wanted xs
+abbrev pub IsAmongExtensions : Wanted → List Extension → Type 0
+IsAmongExtensions wanted [] = ⊥
+IsAmongExtensions wanted (x ∷ xs) = IsWanted wanted x.identifier x.content ⊎ IsAmongExtensions wanted xs
 
 -- extensions stand at the front of the octets, one of which is one that is looked for
 abbrev pub BeginsWithOne : Wanted → List ℕ → Type 0
-BeginsWithOne wanted octets = (xs : List Extension) × Means (AreEncodings IsExtension) xs octets × IsAmong wanted xs
+BeginsWithOne wanted octets = (xs : List Extension) × Means (AreEncodings IsExtension) xs octets × IsAmongExtensions wanted xs
 
 -- values with these identifier octets stand at the front, and the rest behind them
 abbrev pub StandBefore : List ℕ → List ℕ → List ℕ → Type 0
@@ -90,12 +90,12 @@ HasPurposes octets =
     × BeginsWithOne (Named field.ExtendedKeyUsage false) elements
 
 -- the octets are extensions, and nothing else
-abbrev pub AreExtensions : List ℕ → Type 0
-AreExtensions octets = (xs : List Extension) × AreEncodings IsExtension xs octets
+abbrev pub AreAnyExtensions : List ℕ → Type 0
+AreAnyExtensions octets = (xs : List Extension) × AreEncodings IsExtension xs octets
 
 -- the octets are extensions, and nothing else, of which none is one that is looked for
 abbrev pub Lack : Wanted → List ℕ → Type 0
-Lack wanted elements = AreExtensions elements × (BeginsWithOne wanted elements → ⊥)
+Lack wanted elements = AreAnyExtensions elements × (BeginsWithOne wanted elements → ⊥)
 
 -- none of its extensions, which are all well formed, is one that only certificates of the RPKI have
 abbrev pub IsOtherCertificate : List ℕ → Type 0

@@ -27,7 +27,7 @@ use Rattle.rpki_parts.specs.Validities.{validity_format}
 use Rattle.rpki_der.specs.Values.{IsEnc}
 use Rattle.rpki_files.specs.Flaws.{IsFirstFlaw}
 use Rattle.rpki_files.specs.KnownKinds.{HasContent, MayHaveFlag, known_kind}
-use Rattle.rpki_files.specs.PartTexts.{part_text}
+use Rattle.rpki_files.specs.PartTexts.{part_description}
 use Rattle.rpki_files.specs.declared.expected.Field.{Field}
 use Rattle.rpki_files.specs.declared.expected.Field.TheVariants as field
 use Rattle.rpki_files.specs.declared.expected.Part.{Part}
@@ -41,8 +41,8 @@ use Rattle.rpki_files.specs.declared.places.Stop.TheVariants.{At, Memory}
 -- ---- what stands at a place of a file
 
 -- all octets of a file
-abbrev pub whole : List ℕ → Place
-whole octets = record { source = octets; from = 0; to = length octets }
+abbrev pub whole_place : List ℕ → Place
+whole_place octets = record { source = octets; from = 0; to = length octets }
 
 -- a text that encodes a value of the format
 abbrev pub EncodesSome : {V : Type 0} → Format V → List ℕ → Type 0
@@ -162,8 +162,8 @@ StopsBeforeExtensions true at stop octet =
 -- ---- single extensions
 
 -- the kind of an extension
-abbrev pub kind_of : Bool → Extension → Kind
-kind_of is_list x = known_kind is_list x.identifier
+abbrev pub extension_kind : Bool → Extension → Kind
+extension_kind is_list x = known_kind is_list x.identifier
 
 -- one of a known kind that is among these (RFC 5280 4.2); of those that certificates don't know
 -- there may be several (own)
@@ -178,13 +178,13 @@ pub record MayStandAs (is_list : Bool) (kinds : List Kind) (kind : Kind) (critic
 
 -- it may
 abbrev pub MayStand : Bool → List Kind → Extension → Type 0
-MayStand is_list kinds x = MayStandAs is_list kinds (kind_of is_list x) x.critical x.content
+MayStand is_list kinds x = MayStandAs is_list kinds (extension_kind is_list x) x.critical x.content
 
 -- each of them may stand behind these kinds and those before it
 abbrev pub MayStandBehind : Bool → List Kind → List Extension → Type 0
 MayStandBehind is_list kinds [] = Unit {0}
 MayStandBehind is_list kinds (x ∷ xs) =
-    MayStand is_list kinds x × MayStandBehind is_list (kinds ++ kind_of is_list x ∷ []) xs
+    MayStand is_list kinds x × MayStandBehind is_list (kinds ++ extension_kind is_list x ∷ []) xs
 
 -- the octets are these extensions, each of which may stand behind those before it
 abbrev pub AreWellPlaced : Bool → List Extension → List ℕ → Type 0
@@ -204,7 +204,7 @@ abbrev pub StopsAtExtension : Bool → List Kind → Place → Part → ℕ → 
 StopsAtExtension is_list kinds at stop octet =
     StopsBefore (EncodesSome extension_format) part.Extension at stop octet
     ⊎ ((x : Extension) × (rest : List ℕ) × Begins IsExtension (remaining at) x rest × (octet ≡ at.from)
-    × IsMisplaced is_list kinds (kind_of is_list x) x.critical x.content stop)
+    × IsMisplaced is_list kinds (extension_kind is_list x) x.critical x.content stop)
 
 -- reading stops at one of the extensions: those before it were read
 pub record StopsInExtensions (is_list : Bool) (at : Place) (stop : Part) (octet : ℕ) : Type 0 where
@@ -212,7 +212,7 @@ pub record StopsInExtensions (is_list : Bool) (at : Place) (stop : Part) (octet 
   pub next : Place
   pub read : Passes (AreWellPlaced is_list extensions) at next
   pub left : next.from < next.to
-  pub stops : StopsAtExtension is_list (map (kind_of is_list) extensions) next stop octet
+  pub stops : StopsAtExtension is_list (map (extension_kind is_list) extensions) next stop octet
 
 -- ---- the extensions together
 
@@ -321,16 +321,16 @@ StopsInside is_list outer stop octet =
 -- the reading of octets as a certificate, or as a list, stops at this part and this octet
 abbrev pub StopsAt : Bool → List ℕ → Part → ℕ → Type 0
 StopsAt is_list octets stop octet =
-    StopsBefore (HasTag SEQUENCE) part.Outer (whole octets) stop octet
-    ⊎ ((outer : Place) × (next : Place) × Opens SEQUENCE (whole octets) outer next
+    StopsBefore (HasTag SEQUENCE) part.Outer (whole_place octets) stop octet
+    ⊎ ((outer : Place) × (next : Place) × Opens SEQUENCE (whole_place octets) outer next
     × StopsInside is_list outer stop octet)
 
 -- what is told of it
 pub record IsStopPlace (is_list : Bool) (octets : List ℕ) (place : ToldPlace) : Type 0 where
   pub part_is : Part
   pub stops : StopsAt is_list octets part_is place.octet
-  pub field_is : place.field.now ≡ (part_text part_is).name
-  pub wanted_is : place.wanted.now ≡ (part_text part_is).wanted
+  pub field_is : place.field.now ≡ (part_description part_is).name
+  pub wanted_is : place.wanted.now ≡ (part_description part_is).wanted
   pub found_is : IsFirstFlaw is_list part_is (drop place.octet octets) place.found
 
 -- what is told of a stop at this part
@@ -345,13 +345,13 @@ IsStop Stops (At stop octet) = Stops stop octet
 IsStop Stops Memory = Unit {0}
 
 -- an extension of this kind may stand behind those of these kinds
-abbrev pub IsNext : Bool → List Kind → Extension → Kind → Type 0
-IsNext is_list kinds x kind = MayStand is_list kinds x × (kind ≡ kind_of is_list x)
+abbrev pub IsNextKind : Bool → List Kind → Extension → Kind → Type 0
+IsNextKind is_list kinds x kind = MayStand is_list kinds x × (kind ≡ extension_kind is_list x)
 
 -- the octets are extensions of these kinds, each of which may stand behind those before it
 abbrev pub AreOfKinds : Bool → List Kind → List ℕ → Type 0
 AreOfKinds is_list kinds elements =
-    (xs : List Extension) × AreWellPlaced is_list xs elements × (kinds ≡ map (kind_of is_list) xs)
+    (xs : List Extension) × AreWellPlaced is_list xs elements × (kinds ≡ map (extension_kind is_list) xs)
 
 -- both kinds of a list's extensions are there (RFC 6487 5)
 abbrev pub HasBoth : List Kind → Type 0

@@ -8,20 +8,20 @@ use Rattle.rpki_files.specs.LocatorFiles.{AreLocator}
 -- SEQUENCE { tbsCertificate TBSCertificate or tbsCertList TBSCertList,
 --   signatureAlgorithm AlgorithmIdentifier, signatureValue BIT STRING }   (RFC 5280 4.1, 5.1)
 -- of these octets, with a signature that has none
-abbrev pub unsigned : Algorithm → List ℕ → SignedFields
-unsigned algorithm octets =
+abbrev pub unsigned_data : Algorithm → List ℕ → SignedFields
+unsigned_data algorithm octets =
     record { message = octets; signature = record { algorithm = algorithm; value = [] } }
 
 -- the octets are a TBSCertificate or a TBSCertList: so they are a certificate or a list, which isn't
 -- too long for one
-pub record IsUnsigned (octets whole : List ℕ) : Type 0 where
+pub record IsUnsignedFile (octets whole : List ℕ) : Type 0 where
   pub algorithm : Algorithm
-  pub short : length (signed_content (unsigned algorithm octets)) < 2 ^ 32
-  pub whole_is : whole ≡ signed_data (unsigned algorithm octets)
+  pub short : length (signed_content (unsigned_data algorithm octets)) < 2 ^ 32
+  pub whole_is : whole ≡ signed_data (unsigned_data algorithm octets)
   pub begins : BeginsWithEither whole
 
 abbrev pub IsToBeSigned : List ℕ → Type 0
-IsToBeSigned octets = (whole : List ℕ) × IsUnsigned octets whole
+IsToBeSigned octets = (whole : List ℕ) × IsUnsignedFile octets whole
 
 -- a certificate or a list, with its signature or to be signed
 abbrev pub BeginsWithAny : List ℕ → Type 0

@@ -1,6 +1,6 @@
 //! The parts at which reading may stop, and what is expected there.
 ghost use Rattle.std.specs.Prelude.{◌≡◌};
-ghost use Rattle.rpki_files.specs.PartTexts.{field_text, part_text};
+ghost use Rattle.rpki_files.specs.PartTexts.{field_text, part_description};
 
 use crate::kinds::Kind;
 
@@ -95,7 +95,7 @@ impl Field {
 impl Part {
     /// Returns the name of the part.
     pub fn name(self) -> &'static str
-        ensures { result.now ≡ (part_text self).name }
+        ensures { result.now ≡ (part_description self).name }
     {
         match self {
             Part::Outer => "the outer SEQUENCE",
@@ -114,7 +114,7 @@ impl Part {
 
     /// Returns what is expected of the part, with the section that requires it.
     pub fn wanted(self) -> &'static str
-        ensures { result.now ≡ (part_text self).wanted }
+        ensures { result.now ≡ (part_description self).wanted }
     {
         match self {
             Part::Outer => "a SEQUENCE that ends within the file (RFC 5280 4.1, 5.1)",

@@ -14,7 +14,7 @@ ghost use Rattle.rpki_crl.specs.Revocation.{revocation_error_name};
 ghost use Rattle.rpki_crl.specs.declared.revocation_error.RevocationError.{RevocationError as revocations};
 ghost use Rattle.rpki_keys.specs.TalErrors.{tal_error_name};
 ghost use Rattle.rpki_keys.specs.declared.tal.tal_error.TalError.{TalError as locators};
-ghost use Rattle.rpki_files.specs.FaultTable.{IsFaultOf, fault_fields, fault_numbered, field_number, inspection_fault, kind_of_hundreds, locator_fault, part_fields, part_numbered, part_table, reading_fault, revocation_fault, or_no_fault, fault_named, table_of, verification_fault};
+ghost use Rattle.rpki_files.specs.FaultTable.{IsNumberedFault, fault_fields, fault_numbered, field_number, inspection_fault, kind_of_hundreds, locator_fault, part_fields, part_numbered, part_table, reading_fault, revocation_fault, or_no_fault, fault_named, table_of, verification_fault};
 
 use rpki_cert::{InspectionError, VerificationError};
 use rpki_crl::RevocationError;
@@ -431,13 +431,13 @@ pub fn part_number(field: Field) -> u32
 
 /// States that each error is in the table under its name, and is found by its number too.
 pub fn faults_are_found()
-    ensures reading { (e : decodings) → IsFaultOf (decode_error_name e) (reading_fault e) }
+    ensures reading { (e : decodings) → IsNumberedFault (decode_error_name e) (reading_fault e) }
     ensures inspection { (e : inspections)
-        → IsFaultOf (inspection_error_name e) (inspection_fault e) }
+        → IsNumberedFault (inspection_error_name e) (inspection_fault e) }
     ensures verification { (e : verifications)
-        → IsFaultOf (verification_error_name e) (verification_fault e) }
+        → IsNumberedFault (verification_error_name e) (verification_fault e) }
     ensures revocation { (e : revocations)
-        → IsFaultOf (revocation_error_name e) (revocation_fault e) }
-    ensures locator { (e : locators) → IsFaultOf (tal_error_name e) (locator_fault e) }
+        → IsNumberedFault (revocation_error_name e) (revocation_fault e) }
+    ensures locator { (e : locators) → IsNumberedFault (tal_error_name e) (locator_fault e) }
     ensures part { (field : fields) → is_some (part_numbered (field_number field)) ≡ true }
 {}

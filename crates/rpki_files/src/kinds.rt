@@ -1,7 +1,7 @@
 //! The kinds of extensions: their names, and the form that each has to have.
 ghost use Rattle.std.specs.Prelude.{◌≡◌, ◌++◌, ◌↔◌, IsTrue, IsOk, MatchResult, Some};
 ghost use Rattle.rpki_der.specs.Place.{remaining};
-ghost use Rattle.rpki_files.specs.KnownKinds.{IsNamed, kind_among, place_kinds, resource_kinds, known_in_certificates, known_in_lists, known_kind, called, kind_name, kind_wanted, HasContent, MayHaveFlag, SaysWhether};
+ghost use Rattle.rpki_files.specs.KnownKinds.{NamesKind, kind_among, place_kinds, resource_kinds, known_in_certificates, known_in_lists, known_kind, called, kind_name, kind_wanted, HasContent, MayHaveFlag, SaysWhether};
 ghost use Rattle.rpki_files.specs.declared.kinds.Kind.TheVariants.{Unknown, NoList};
 
 use rpki_blocks::{AsResources, IpResources};
@@ -140,7 +140,7 @@ impl Kind {
 
     // Whether a fault names extensions of this kind.
     pub(crate) fn is_named(self, field: Field) -> bool
-        ensures { IsTrue result ↔ IsNamed field self }
+        ensures { IsTrue result ↔ NamesKind field self }
     {
         match field {
             Field::Resources => self == Kind::IpResources || self == Kind::AsResources,

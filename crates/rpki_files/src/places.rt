@@ -12,8 +12,8 @@ ghost use Rattle.rpki_crl.specs.RevokedEntries.{AreEntries, Entry, IsEntry, entr
 ghost use Rattle.rpki_der.specs.Tags.{SEQUENCE};
 ghost use Rattle.rpki_files.specs.Flaws.{IsFirstFlaw};
 ghost use Rattle.rpki_files.specs.KnownKinds.{known_kind};
-ghost use Rattle.rpki_files.specs.PartTexts.{part_text};
-ghost use Rattle.rpki_files.specs.StopPlaces.{AlgorithmsDiffer, AnswersWhether, AreComplete, AreFields, AreIncomplete, AreOfKinds, EncodesSome, HasAlgorithm, HasBoth, HasOther, HasTag, IsField, IsMisplaced, IsNext, IsSecond, IsStop, IsStopOf, MayStand, MayStandAs, Opens, Passes, ReadsAlgorithm, ReadsEntries, ReadsExtensions, ReadsSigned, ReadsToExtensions, StopsAmong, StopsAmongElements, StopsAt, StopsAtAlgorithm, StopsAtEntries, StopsAtExtension, StopsAtExtensions, StopsBefore, StopsBeforeExtensions, StopsBehind, StopsInEntries, StopsInExtensions, StopsInSigned, StopsInside, extensions_tag, kind_of};
+ghost use Rattle.rpki_files.specs.PartTexts.{part_description};
+ghost use Rattle.rpki_files.specs.StopPlaces.{AlgorithmsDiffer, AnswersWhether, AreComplete, AreFields, AreIncomplete, AreOfKinds, EncodesSome, HasAlgorithm, HasBoth, HasOther, HasTag, IsField, IsMisplaced, IsNextKind, IsSecond, IsStop, IsStopOf, MayStand, MayStandAs, Opens, Passes, ReadsAlgorithm, ReadsEntries, ReadsExtensions, ReadsSigned, ReadsToExtensions, StopsAmong, StopsAmongElements, StopsAt, StopsAtAlgorithm, StopsAtEntries, StopsAtExtension, StopsAtExtensions, StopsBefore, StopsBeforeExtensions, StopsBehind, StopsInEntries, StopsInExtensions, StopsInSigned, StopsInside, extensions_tag, extension_kind};
 
 use crate::expected::{Field, Part};
 use crate::flaws::Flaw;
@@ -317,7 +317,7 @@ fn next_extension(
     kinds: &[Kind],
 ) -> Result<Kind, Stop>
     ensures stop { IfErr result (IsStop (StopsAtExtension is_list kinds.now rest.old)) }
-    ensures read { IfOk result (λ kind. (x : Extension) × IsNext is_list kinds.now x kind
+    ensures read { IfOk result (λ kind. (x : Extension) × IsNextKind is_list kinds.now x kind
         × Passes (IsExtension x) rest.old rest.new) }
     ensures shrinks { OnOk result (length (remaining rest.new) < length (remaining rest.old)) }
 {
@@ -350,7 +350,7 @@ fn keep_next(
     ensures stop { IfErr result (IsStop (StopsAtExtension is_list kinds.old.items rest.old)) }
     ensures read { OnOk result ((x : Extension) × MayStand is_list kinds.old.items x
         × Passes (IsExtension x) rest.old rest.new
-        × (kinds.new.items ≡ kinds.old.items ++ kind_of is_list x ∷ [])) }
+        × (kinds.new.items ≡ kinds.old.items ++ extension_kind is_list x ∷ [])) }
     ensures shrinks { OnOk result (length (remaining rest.new) < length (remaining rest.old)) }
 {
     let kind = next_extension(alloc, rest, is_list, kinds)?;
@@ -592,8 +592,8 @@ fn told(
 ) -> Result<Place, AllocError>
     requires { octet ≤ length octets.now }
     ensures octet { IfOk result (λ place. place.octet ≡ octet) }
-    ensures field { IfOk result (λ place. place.field.now ≡ (part_text part).name) }
-    ensures wanted { IfOk result (λ place. place.wanted.now ≡ (part_text part).wanted) }
+    ensures field { IfOk result (λ place. place.field.now ≡ (part_description part).name) }
+    ensures wanted { IfOk result (λ place. place.wanted.now ≡ (part_description part).wanted) }
     ensures found { IfOk result
         (λ place. IsFirstFlaw is_list part (drop octet octets.now) place.found) }
 {

@@ -6,7 +6,7 @@ ghost use Rattle.rpki_der.specs.Place.{remaining};
 ghost use Rattle.rpki_ext.specs.ExtensionKinds.{certificate_policies};
 ghost use Rattle.rpki_der.specs.Values.Reading.{value_at};
 ghost use Rattle.rpki_files.specs.KnownKinds.{HasContent};
-ghost use Rattle.rpki_files.specs.PolicyPresence.{AreExtensions, BeginsWithOne, HasPolicies, HasPurposes, IsOfMode, IsOneOf, IsOtherCertificate, IsWanted, Lack, resource_identifiers};
+ghost use Rattle.rpki_files.specs.PolicyPresence.{AreAnyExtensions, BeginsWithOne, HasPolicies, HasPurposes, IsOfMode, IsOneOf, IsOtherCertificate, IsWanted, Lack, resource_identifiers};
 ghost use Rattle.rpki_files.specs.PolicyPresence.Reading.{extensions_at, rest_at};
 
 use crate::kinds::Kind;
@@ -164,7 +164,7 @@ pub(crate) fn begins_with_one(elements: &Cursor<'_>, wanted: Wanted) -> bool
 
 // Whether extensions stand there, and nothing else.
 fn are_extensions(elements: &Cursor<'_>) -> bool
-    ensures { IsTrue result ↔ AreExtensions (remaining elements.now) }
+    ensures { IsTrue result ↔ AreAnyExtensions (remaining elements.now) }
 {
     let mut rest = elements.fork();
     // Each has an octet at least.

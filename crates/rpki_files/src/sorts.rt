@@ -3,7 +3,7 @@ ghost use Rattle.std.specs.Prelude.{◌≡◌, ◌↔◌, option_map, IfOk, IsTr
 ghost use Rattle.rpki_der.specs.Place.{remaining};
 ghost use Rattle.rpki_files.specs.FileSorts.{BeginSo, IsOfSort, IsSortOf, type_octets};
 ghost use Rattle.rpki_files.specs.FileSorts.Reading.{turned};
-ghost use Rattle.rpki_files.specs.SortTexts.{description};
+ghost use Rattle.rpki_files.specs.SortTexts.{sort_description};
 
 use crate::files::{is_bare_base64, is_damaged_pem, is_several_pem, is_unended_pem};
 use crate::locators::looks_like_locator;
@@ -295,10 +295,10 @@ macro_rules! descriptions {
 
 /// Returns the texts of a sort.
 pub fn describe(sort: Sort) -> Description
-    ensures name { result.name.now ≡ (description sort).name }
-    ensures says { result.says.now ≡ (description sort).says }
-    ensures section { result.section.now ≡ (description sort).section }
-    ensures advice { result.advice.now ≡ (description sort).advice }
+    ensures name { result.name.now ≡ (sort_description sort).name }
+    ensures says { result.says.now ≡ (sort_description sort).says }
+    ensures section { result.section.now ≡ (sort_description sort).section }
+    ensures advice { result.advice.now ≡ (sort_description sort).advice }
 {
     descriptions! { sort:
         Empty => "empty file",

@@ -2,7 +2,7 @@
 ghost use Rattle.std.specs.Prelude.{◌≡◌, ◌≤◌, ◌<◌, ◌^◌, ℕ, List, None, length, IfOk, MatchOption};
 ghost use Rattle.rpki_parts.specs.SignedDatas.{signed_content, signed_data};
 ghost use Rattle.rpki_files.specs.Contents.{BeginsWithEither};
-ghost use Rattle.rpki_files.specs.ToBeSigned.{IsToBeSigned, IsUnsigned, unsigned};
+ghost use Rattle.rpki_files.specs.ToBeSigned.{IsToBeSigned, IsUnsignedFile, unsigned_data};
 
 use crate::contents::Content;
 use crate::files::{Object, object_of};
@@ -17,7 +17,7 @@ fn unsigned_octets(
     octets: &Bytes,
     algorithm: RpkiSignatureAlgorithm,
 ) -> Result<Option<Bytes>, AllocError>
-    ensures { let fields = unsigned algorithm octets.now in IfOk result (λ made.
+    ensures { let fields = unsigned_data algorithm octets.now in IfOk result (λ made.
         MatchOption made (2 ^ 32 ≤ length (signed_content fields))
         (λ whole. (whole ≡ signed_data fields) × (length (signed_content fields) < 2 ^ 32))) }
 {
@@ -66,9 +66,9 @@ fn unsigned_under<'a>(
     algorithm: RpkiSignatureAlgorithm,
 ) -> Result<Option<Object<'a>>, AllocError>
     ensures found { IfOk result (λ found. MatchOption found (Unit {0})
-        (λ object. IsUnsigned octets.now object.octets)) }
+        (λ object. IsUnsignedFile octets.now object.octets)) }
     ensures none { IfOk result (λ found. (found ≡ None) → (whole : List ℕ)
-        → (it : IsUnsigned octets.now whole) → it.algorithm ≡ algorithm → ⊥) }
+        → (it : IsUnsignedFile octets.now whole) → it.algorithm ≡ algorithm → ⊥) }
 {
     match unsigned_octets(alloc, octets, algorithm)? {
         Some(whole) => object_of_either(alloc, name, whole),
@@ -88,7 +88,7 @@ pub fn as_unsigned<'a>(
     octets: &Bytes,
 ) -> Result<Option<Object<'a>>, AllocError>
     ensures { IfOk result (λ found. MatchOption found (IsToBeSigned octets.now → ⊥)
-        (λ object. IsUnsigned octets.now object.octets)) }
+        (λ object. IsUnsignedFile octets.now object.octets)) }
 {
     let usual = RpkiSignatureAlgorithm::default();
     match unsigned_under(alloc, name, octets, usual)? {

@@ -7,7 +7,7 @@ use Rattle.rpki_cert.specs.Verification.{Context, ResourceFields}
 use Rattle.rpki_cert.specs.declared.inspect.Kind.TheVariants.{Authority}
 use Rattle.rpki_path.specs.Asking.{RevocationChecks}
 use Rattle.rpki_path.specs.Paths.{Candidate, candidate}
-use Rattle.rpki_folder.specs.Folders.{octets_at, cas_at}
+use Rattle.rpki_folder.specs.Folders.{string_at, cas_at}
 use Rattle.rpki_folder.specs.Walks.{Root, members_at, LeadsTo, IsChildOf}
 use Rattle.rpki_folder.proofs.PathsDown.{members_more, one_holder, is_child}
 
@@ -16,7 +16,7 @@ module _ (x : Context) (asked : RevocationChecks) (root : Root) (law : IsUnambig
   -- a path to CAs further down goes through the first of them
   pub passing : (p : ℕ) (rest : List ℕ) (r : ResourceFields) →
       LeadsTo x asked root (members_at root certs (above ++ p ∷ rest)) r
-      → LeadsTo x asked root (members_at root certs above ++ candidate Authority (octets_at certs p) ∷
+      → LeadsTo x asked root (members_at root certs above ++ candidate Authority (string_at certs p) ∷
       cas_at certs rest) r
   passing p rest r leads = subst (λ (l : List Candidate). LeadsTo x asked root l r)
       (members_more root certs above (p ∷ rest)) leads
@@ -27,7 +27,7 @@ module _ (x : Context) (asked : RevocationChecks) (root : Root) (law : IsUnambig
         LeadsTo x asked root (members_at root certs (above ++ p ∷ rest)) r →
         IsChildOf x.verifies issuer.cert certs p
     child_on p rest r leads = is_child x asked root law (members_at root certs above) issuer a Authority
-        (octets_at certs p) (cas_at certs rest) r (passing p rest r leads) certs p refl
+        (string_at certs p) (cas_at certs rest) r (passing p rest r leads) certs p refl
 
     -- a child at the end of the same path is one of the same issuer
     pub child_here : (r : ResourceFields) (p : ℕ) → LeadsTo x asked root (members_at root certs (above ++ [])) r →

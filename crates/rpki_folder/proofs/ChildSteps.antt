@@ -10,8 +10,8 @@ use Rattle.rpki_path.specs.Asking.{RevocationChecks}
 use Rattle.rpki_path.specs.declared.judging.Judged.{Judged}
 use Rattle.rpki_path.specs.declared.path_fault.PathFault.{PathFault}
 use Rattle.rpki_folder.specs.declared.walk.Ca.{Ca}
-use Rattle.rpki_folder.specs.Folders.{octets_at, IsOnce}
-use Rattle.rpki_folder.specs.Walks.{Told, told, IsChildOf}
+use Rattle.rpki_folder.specs.Folders.{string_at, IsOnce}
+use Rattle.rpki_folder.specs.Walks.{Told, told_at, IsChildOf}
 use Rattle.rpki_folder.specs.Walks.Steps.{IsOutcome, AreChildrenAmong, places_of, HasVerdict, AreJudged}
 use Rattle.rpki_folder.proofs.OnceLists.{once_push, once_apart}
 use Rattle.rpki_folder.proofs.PickedLists.{in_none}
@@ -111,7 +111,7 @@ module _ (x : Context) (asked : RevocationChecks) (issuer : ResourceFields) (cer
     v.0,
     v.1,
     v.2,
-    Contains-append_left ts us (told above place v.0) v.3,
+    Contains-append_left ts us (told_at above place v.0) v.3,
     (λ holder is. subst (λ (l : List ℕ). Contains l place) (sym (map-append (λ (ca : Ca). ca.place) cas more))
         (Contains-append_left (places_of cas) (places_of more) place (v.4 holder is))),
   )
@@ -122,18 +122,18 @@ module _ (x : Context) (asked : RevocationChecks) (issuer : ResourceFields) (cer
   module _ (places : List ℕ) (cas : List Ca) (ts : List Told) (j : Judges places cas ts) (place : ℕ)
       (verdict : Result Judged PathFault) where
     abbrev more : List Told
-    more = ts ++ told above place verdict ∷ []
+    more = ts ++ told_at above place verdict ∷ []
 
     -- one that isn't an accepted CA
-    pub judged_other : IsOutcome x asked issuer (octets_at certs place) verdict None →
+    pub judged_other : IsOutcome x asked issuer (string_at certs place) verdict None →
         Judges (places ++ place ∷ []) cas more
     judged_other o = record {
       all = λ p at. elim (Contains-push_cases places place p at) [
         | inl before ↦
             let v = j.all p before in
-            (v.0, v.1, v.2, Contains-append_left ts (told above place verdict ∷ []) (told above p v.0) v.3, v.4)
+            (v.0, v.1, v.2, Contains-append_left ts (told_at above place verdict ∷ []) (told_at above p v.0) v.3, v.4)
         | inr is ↦ subst (λ (q : ℕ). HasVerdict x asked issuer certs above cas more q) is
-            (verdict, None, o, Contains-push ts (told above place verdict), (λ holder e. absurd (cc e)))
+            (verdict, None, o, Contains-push ts (told_at above place verdict), (λ holder e. absurd (cc e)))
       ];
       only = λ ca at. let h = j.only ca at in (Contains-append_left places (place ∷ []) ca.place h.0, h.1);
       once = j.once;
@@ -141,7 +141,7 @@ module _ (x : Context) (asked : RevocationChecks) (issuer : ResourceFields) (cer
 
     -- one that is
     pub judged_ca : (Contains places place → ⊥) → (holder : ResourceFields) →
-        IsOutcome x asked issuer (octets_at certs place) verdict (Some holder) →
+        IsOutcome x asked issuer (string_at certs place) verdict (Some holder) →
         Judges (places ++ place ∷ []) (cas ++ record { place = place; holder = holder } ∷ []) more
     judged_ca never holder o =
         let one : Ca = record { place = place; holder = holder } in
@@ -149,19 +149,19 @@ module _ (x : Context) (asked : RevocationChecks) (issuer : ResourceFields) (cer
         map-append (λ (ca : Ca). ca.place) cas (one ∷ []) in
         record {
           all = λ p at. elim (Contains-push_cases places place p at) [
-            | inl before ↦ verdict_stays cas (one ∷ []) ts (told above place verdict ∷ []) p (j.all p before)
+            | inl before ↦ verdict_stays cas (one ∷ []) ts (told_at above place verdict ∷ []) p (j.all p before)
             | inr is ↦ subst (λ (q : ℕ). HasVerdict x asked issuer certs above (cas ++ one ∷ []) more q) is (
               verdict,
               Some holder,
               o,
-              Contains-push ts (told above place verdict),
+              Contains-push ts (told_at above place verdict),
               (λ other e. subst (λ (l : List ℕ). Contains l place) (sym pushed) (Contains-push (places_of cas) place)),
             )
           ];
           only = λ ca at. elim (Contains-push_cases cas one ca at) [
             | inl before ↦ let h = j.only ca before in (Contains-append_left places (place ∷ []) ca.place h.0, h.1)
             | inr is ↦ subst (λ (k : Ca). Contains (places ++ place ∷ []) k.place ×
-                ((v : Result Judged PathFault) × IsOutcome x asked issuer (octets_at certs k.place) v
+                ((v : Result Judged PathFault) × IsOutcome x asked issuer (string_at certs k.place) v
                 (Some k.holder))) is (Contains-push places place, (verdict, o))
           ];
           once = subst (λ (l : List ℕ). IsOnce l) (sym pushed) (once_push (places_of cas) place j.once

@@ -16,7 +16,7 @@ use Rattle.rpki_path.specs.Paths.{Candidate, candidate, IsMember, Member, last}
 use Rattle.rpki_path.specs.Repeats.{AsksByEntity, HasNoRepeat, IsWalkable, without}
 use Rattle.rpki_path.proofs.ComparedIssuers.{Repeat, told_repeat}
 use Rattle.rpki_path.proofs.CutPaths.{cut_length, cut_walkable, one_entity_alike}
-use Rattle.rpki_folder.specs.Folders.{cas_at, octets_at}
+use Rattle.rpki_folder.specs.Folders.{cas_at, string_at}
 use Rattle.rpki_folder.specs.Walks.{LeadsBy, LeadsTo, IsAcceptedAs, IsReached, at_anchor, Told, IsTold, TellsFrom}
 use Rattle.rpki_folder.specs.Walks.{Covers}
 use Rattle.rpki_folder.specs.declared.bounds.Ended.{Ended}
@@ -47,7 +47,7 @@ module _ (certs : List (List ℕ)) (end : Candidate) where
 module _ (x : Context) (asked : RevocationChecks) (names : Bool) (t : NamedTal) (anchor : List ℕ)
     (certs : List (List ℕ)) (place : ℕ) (kind : Kind) where
   abbrev end : Candidate
-  end = candidate kind (octets_at certs place)
+  end = candidate kind (string_at certs place)
 
   abbrev Way : List ℕ → Type 0
   Way above = LeadsBy x asked names t anchor certs kind place above
@@ -122,10 +122,10 @@ module _ (x : Context) (asked : RevocationChecks) (names : Bool) (t : NamedTal) 
   covers_shorter TooDeep depth n m less h = omega (arith, less, h)
   covers_shorter OutOfSteps depth n m less h = absurd h
 
-  accepted_as : (above : List ℕ) (k : Kind) → (k ≡ Router → ⊥) → BeginsWithKind k (octets_at certs place) →
+  accepted_as : (above : List ℕ) (k : Kind) → (k ≡ Router → ⊥) → BeginsWithKind k (string_at certs place) →
       (r : ResourceFields)
-      → LeadsTo x asked (at_anchor t anchor) (cas_at certs above ++ candidate k (octets_at certs place) ∷ []) r
-      → IsAcceptedAs x asked (at_anchor t anchor) (cas_at certs above) k (octets_at certs place)
+      → LeadsTo x asked (at_anchor t anchor) (cas_at certs above ++ candidate k (string_at certs place) ∷ []) r
+      → IsAcceptedAs x asked (at_anchor t anchor) (cas_at certs above) k (string_at certs place)
       (record { holder = r; router = None })
   accepted_as above Anchor other says r leads = absurd says.2
   accepted_as above Authority other says r leads = (leads, refl)
@@ -134,7 +134,7 @@ module _ (x : Context) (asked : RevocationChecks) (names : Bool) (t : NamedTal) 
   accepted_as above Router other says r leads = absurd (other refl)
 
   pub none_lost : IsUnambiguous IsCertificate → AsksByEntity names asked →
-      BeginsWithKind kind (octets_at certs place) → (kind ≡ Router → ⊥) →
+      BeginsWithKind kind (string_at certs place) → (kind ≡ Router → ⊥) →
       {E : Type 0} (depth steps : ℕ) (ended : Ended) (ts : List Told)
       → TellsFrom {E = E} x asked names (λ l n. Unit {0}) t anchor certs depth steps (Ok ended) ts →
       (above : List ℕ) → Covers ended depth (length above + 1) → Way above →
@@ -145,7 +145,7 @@ module _ (x : Context) (asked : RevocationChecks) (names : Bool) (t : NamedTal) 
       let told = tells way.path.anchor way.path_of.anchor_begins in
       let r = held x asked t.name way.path in
       let leads : LeadsTo x asked (at_anchor t anchor)
-      (cas_at certs f.other ++ candidate kind (octets_at certs place) ∷ []) r.0 =
+      (cas_at certs f.other ++ candidate kind (string_at certs place) ∷ []) r.0 =
       record { path = way.path; path_of = way.path_of; is_valid = way.is_valid; held = r.1 } in
       let j : Judged = record { holder = r.0; router = None } in
       let short : length f.other + 1 ≤ length above + 1 = omega (arith, f.short) in

@@ -9,7 +9,7 @@ use Rattle.rpki_cert.specs.Certificates.{CertFields, IsCertificate}
 use Rattle.rpki_cert.specs.Verification.{Context, ResourceFields, IsSignedBy}
 use Rattle.rpki_path.specs.Asking.{RevocationChecks}
 use Rattle.rpki_path.specs.NameChains.{IsNamedBelow}
-use Rattle.rpki_folder.specs.Folders.{octets_at, NamesSigner}
+use Rattle.rpki_folder.specs.Folders.{string_at, NamesSigner}
 use Rattle.rpki_folder.specs.IssuerTables.{AreAllChildren}
 use Rattle.rpki_folder.specs.NameTables.{ArePlacesUnder}
 use Rattle.rpki_folder.specs.Walks.{Told, StandsAt, IsChildOf, IsNamedUnder}
@@ -20,7 +20,7 @@ use Rattle.rpki_folder.proofs.Descent.{there as low_of, child_names}
 module _ (law : IsUnambiguous IsCertificate) (names : Bool) (verifies : Verifies) (issuer : CertFields)
     (certs : List (List ℕ)) (place : ℕ) where
   one : (c d : CertFields) → StandsAt certs place c → StandsAt certs place d → c ≡ d
-  one c d a b = one_meant IsCertificate law c d (octets_at certs place) a b
+  one c d a b = one_meant IsCertificate law c d (string_at certs place) a b
 
   named_one : (c : CertFields) → StandsAt certs place c → (IsTrue names → IsNamedBelow issuer c) →
       IsNamedUnder names issuer certs place
@@ -33,7 +33,7 @@ module _ (law : IsUnambiguous IsCertificate) (names : Bool) (verifies : Verifies
 
   -- a child
   pub a_child : IsClaim names verifies issuer certs place Child →
-      NamesSigner issuer.fields.extensions.subject_key_identifier (octets_at certs place) →
+      NamesSigner issuer.fields.extensions.subject_key_identifier (string_at certs place) →
       IsNamedUnder names issuer certs place × IsChildOf verifies issuer certs place
   a_child (c, stands, claim) names_it = (
     named_one c stands claim.0,

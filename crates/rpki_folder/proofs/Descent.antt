@@ -21,9 +21,9 @@ use Rattle.rpki_path.specs.Paths.{Candidate}
 use Rattle.rpki_path.specs.Paths.Steps.{IsIssuedBy}
 use Rattle.rpki_folder.specs.declared.bounds.Ended.{Ended}
 use Rattle.rpki_folder.specs.declared.bounds.Ended.TheVariants.{Whole, TooDeep, OutOfSteps}
-use Rattle.rpki_folder.specs.Folders.{octets_at, NamesSigner}
+use Rattle.rpki_folder.specs.Folders.{string_at, NamesSigner}
 use Rattle.rpki_folder.specs.IssuerLists.{ArePicked}
-use Rattle.rpki_folder.specs.Walks.{Root, members_at, LeadsTo, Told, told, IsRight, IsTold, IsVerdictTold, StandsAt}
+use Rattle.rpki_folder.specs.Walks.{Root, members_at, LeadsTo, Told, told_at, IsRight, IsTold, IsVerdictTold, StandsAt}
 use Rattle.rpki_folder.specs.Walks.{worse, Covers, AreAdmitted, IsLetIn, IsChildOf, TakesStep, AreFew}
 use Rattle.rpki_folder.specs.Walks.Steps.{IsAnswer, IsOutcome, IsToldOf}
 use Rattle.rpki_folder.proofs.PathsDown.{members_next, leads_further, one_holder}
@@ -43,8 +43,8 @@ told_behind ts more above place h = let c = Contains-append_right ts more h.1 (h
 
 -- a verdict that is among these, and accepts
 pub told_here : (ts : List Told) (above : List ℕ) (place : ℕ) (verdict : Result Judged PathFault) →
-    Contains ts (told above place verdict) → IsOk verdict → IsTold ts above place
-told_here ts above place verdict at ok = (at.0, told above place verdict, at.1, at.2, (refl, refl, ok))
+    Contains ts (told_at above place verdict) → IsOk verdict → IsTold ts above place
+told_here ts above place verdict at ok = (at.0, told_at above place verdict, at.1, at.2, (refl, refl, ok))
 
 -- so does a verdict
 pub has_more : (ts more : List Told) (above : List ℕ) (place : ℕ) → IsVerdictTold ts above place →
@@ -57,8 +57,8 @@ has_behind ts more above place h = let c = Contains-append_right ts more h.1 (h.
     (c.0, h.1, c.1, c.2, h.4)
 
 pub has_here : (ts : List Told) (above : List ℕ) (place : ℕ) (verdict : Result Judged PathFault) →
-    Contains ts (told above place verdict) → IsVerdictTold ts above place
-has_here ts above place verdict at = (at.0, told above place verdict, at.1, at.2, (refl, refl))
+    Contains ts (told_at above place verdict) → IsVerdictTold ts above place
+has_here ts above place verdict at = (at.0, told_at above place verdict, at.1, at.2, (refl, refl))
 
 pub all_append : {X : Type 0} (P : X → Type 0) (xs ys : List X) → AllByRecursion P xs → AllByRecursion P ys →
     AllByRecursion P (xs ++ ys)
@@ -142,13 +142,13 @@ less-or-not (suc a) (suc b) = elim (less-or-not a b) [ inl h ↦ inl (omega arit
 pub there : (certs : List (List ℕ)) (c : CertFields) (place : ℕ) → StandsAt certs place c → place < length certs
 there certs c place stands = elim (less-or-not place (length certs)) [
   | inl h ↦ h
-  | inr h ↦ absurd (no_certificate c (octets_at certs place) stands (get_or_past certs place [] h))
+  | inr h ↦ absurd (no_certificate c (string_at certs place) stands (get_or_past certs place [] h))
 ]
 
 -- a child names its issuer's key
 pub child_names : (verifies : Verifies) (issuer : CertFields) (certs : List (List ℕ)) (place : ℕ) →
     IsChildOf verifies issuer certs place →
-    NamesSigner issuer.fields.extensions.subject_key_identifier (octets_at certs place)
+    NamesSigner issuer.fields.extensions.subject_key_identifier (string_at certs place)
 child_names verifies issuer certs place child =
     record { cert = child.cert; begins = child.stands; names = child.names_key }
 
@@ -210,9 +210,9 @@ module _ (x : Context) (asked : RevocationChecks) (issuer : ResourceFields) wher
 
   -- an accepted CA stands at its place
   pub ca_stands : (certs : List (List ℕ)) (place : ℕ) (verdict : Result Judged PathFault) (ca : ResourceFields) →
-      IsOutcome x asked issuer (octets_at certs place) verdict (Some ca) → StandsAt certs place ca.cert
+      IsOutcome x asked issuer (string_at certs place) verdict (Some ca) → StandsAt certs place ca.cert
   ca_stands certs place verdict ca o =
-      (issued o.kind (octets_at certs place) verdict ca o.answer o.goes_on.0 o.goes_on.1).begins
+      (issued o.kind (string_at certs place) verdict ca o.answer o.goes_on.0 o.goes_on.1).begins
 
 module _ (x : Context) (asked : RevocationChecks) (admits : List ℕ → ℕ → Type 0) (root : Root)
     (certs : List (List ℕ)) (above : List ℕ) where
@@ -256,22 +256,22 @@ module _ (x : Context) (asked : RevocationChecks) (admits : List ℕ → ℕ →
       (a : LeadsTo x asked root (members_at root certs above) issuer) where
     -- a valid path leads to a CA that is accepted
     pub ca_leads : (place : ℕ) (verdict : Result Judged PathFault) (ca : ResourceFields) →
-        IsOutcome x asked issuer (octets_at certs place) verdict (Some ca) →
+        IsOutcome x asked issuer (string_at certs place) verdict (Some ca) →
         LeadsTo x asked root (members_at root certs (above ++ place ∷ [])) ca
     ca_leads place verdict ca o =
         subst (λ (l : List Candidate). LeadsTo x asked root l ca) (sym (members_next root certs above place))
-        (leads_further x asked root law (members_at root certs above) issuer a Authority (octets_at certs place) ca
-        (issued x asked issuer o.kind (octets_at certs place) verdict ca o.answer o.goes_on.0 o.goes_on.1))
+        (leads_further x asked root law (members_at root certs above) issuer a Authority (string_at certs place) ca
+        (issued x asked issuer o.kind (string_at certs place) verdict ca o.answer o.goes_on.0 o.goes_on.1))
 
     -- what was told of a place that is let in is right
     one_right : (t : Told) →
         (t.above ≡ above) ×
-        ((next : Option ResourceFields) × IsOutcome x asked issuer (octets_at certs t.place) t.verdict next) →
+        ((next : Option ResourceFields) × IsOutcome x asked issuer (string_at certs t.place) t.verdict next) →
         IsRight x asked root certs t
     one_right t h =
         let o = h.1.1 in
-        subst (λ (l : List ℕ). IsRight x asked root certs (told l t.place t.verdict)) (sym h.0)
-        (right_answer x asked root law (members_at root certs above) issuer a (octets_at certs t.place) o.kind
+        subst (λ (l : List ℕ). IsRight x asked root certs (told_at l t.place t.verdict)) (sym h.0)
+        (right_answer x asked root law (members_at root certs above) issuer a (string_at certs t.place) o.kind
         o.says t.verdict o.answer)
 
     one_let_in : (t : Told) → t.above ≡ above → admits above t.place → IsLetIn admits above t

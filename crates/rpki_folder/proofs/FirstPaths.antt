@@ -16,8 +16,8 @@ use Rattle.rpki_keys.specs.Locators.{NamedTal}
 use Rattle.rpki_path.specs.Asking.{RevocationChecks}
 use Rattle.rpki_path.specs.Paths.{Candidate, IsMember, Member, candidate}
 use Rattle.rpki_path.specs.declared.judging.Judged.{Judged}
-use Rattle.rpki_folder.specs.FirstPlaces.{AreFirstsIn, IsCertificateOctets, IsFirstIn, first_from, first_of}
-use Rattle.rpki_folder.specs.Folders.{IsFirstOf, cas_at, octets_at}
+use Rattle.rpki_folder.specs.FirstPlaces.{AreFirstsIn, IsCertificateOctets, IsFirstIn, first_from, first_place_of}
+use Rattle.rpki_folder.specs.Folders.{IsFirstPlaceOf, cas_at, string_at}
 use Rattle.rpki_folder.specs.Walks.{AreAdmitted, IsAcceptedAs, IsLookedAt, IsReached, LeadsTo, StandsAt, at_anchor}
 use Rattle.rpki_folder.specs.declared.firsts.Firsts.{Firsts}
 use Rattle.rpki_folder.proofs.AlikeOctets.{accepted_alike, are_alike, kind_alike}
@@ -49,7 +49,7 @@ module _ (names : Bool) (top : CertFields) (certs : List (List ℕ)) (table : Fi
   )
 
   -- and back, at first places
-  let_in_firsts : (above places : List ℕ) → AllByRecursion (λ (p : ℕ). first_of table p ≡ p) places →
+  let_in_firsts : (above places : List ℕ) → AllByRecursion (λ (p : ℕ). first_place_of table p ≡ p) places →
       AreAdmitted (IsLookedAt names (λ l p. Unit {0}) top certs) above places →
       AreAdmitted (IsLookedAt names (IsFirstIn table) top certs) above places
   let_in_firsts above [] firsts h = tt
@@ -63,16 +63,16 @@ module _ (names : Bool) (top : CertFields) (certs : List (List ℕ)) (table : Fi
 module _ (law : IsUnambiguous IsCertificate) (certs : List (List ℕ)) (table : Firsts)
     (are : AreFirstsIn certs table) where
   abbrev moved : ℕ → ℕ
-  moved = first_of table
+  moved = first_place_of table
 
-  pub first_is : (place : ℕ) → place < length certs → IsFirstOf certs place (moved place)
+  pub first_is : (place : ℕ) → place < length certs → IsFirstPlaceOf certs place (moved place)
   first_is place low = is_first_of law octets_kept certs table are place low
 
   -- the certificate stands at the first place
   pub stands_first : (place : ℕ) (c : CertFields) → StandsAt certs place c → StandsAt certs (moved place) c
   stands_first place c stands =
       let one = (first_is place (inside_at certs c place stands)).one in
-      let same : one.0 ≡ c = one_meant IsCertificate law one.0 c (octets_at certs place) one.1 stands in
+      let same : one.0 ≡ c = one_meant IsCertificate law one.0 c (string_at certs place) one.1 stands in
       subst (λ (d : CertFields). StandsAt certs (moved place) d) same one.2
 
   -- copies have one
@@ -123,7 +123,7 @@ module _ (law : IsUnambiguous IsCertificate) (certs : List (List ℕ)) (table : 
   stood place c stands = elim (less-or-not place (length certs)) [
     | inl low ↦
         let one = (first_is place low).one in
-        let same : one.0 ≡ c = one_meant IsCertificate law one.0 c (octets_at certs (moved place)) one.2 stands in
+        let same : one.0 ≡ c = one_meant IsCertificate law one.0 c (string_at certs (moved place)) one.2 stands in
         subst (λ (d : CertFields). StandsAt certs place d) same one.1
     | inr high ↦ subst (λ (n : ℕ). StandsAt certs n c) (beyond place high) stands
   ]
@@ -200,8 +200,8 @@ module _ (law : IsUnambiguous IsCertificate) (certs : List (List ℕ)) (table : 
         ((r.leads, h.1), r.firsts)
 
     module _ (place : ℕ) (reached : IsReached x asked (at_anchor t anchor) certs above place) where
-      by_firsts : IsFirstAs reached.0 (octets_at certs place) reached.1
-      by_firsts = as_first reached.0 (octets_at certs place) reached.1 reached.3
+      by_firsts : IsFirstAs reached.0 (string_at certs place) reached.1
+      by_firsts = as_first reached.0 (string_at certs place) reached.1 reached.3
 
       -- the path by first places leads to the certificate
       pub reached_first : IsReached x asked (at_anchor t anchor) certs (map moved above) place
@@ -211,8 +211,8 @@ module _ (law : IsUnambiguous IsCertificate) (certs : List (List ℕ)) (table : 
       pub reached_firsts : IsReached x asked (at_anchor t anchor) certs (map moved above) (moved place)
       reached_firsts =
           let c = reached.2.0 in
-          let one = octets_at certs place in
-          let other = octets_at certs (moved place) in
+          let one = string_at certs place in
+          let other = string_at certs (moved place) in
           let alike = are_alike law c one other reached.2.1 (stands_first place c reached.2.1) in (
             reached.0,
             reached.1,

@@ -15,8 +15,8 @@ use Rattle.rpki_der.proofs.Formats.{one_meant}
 use Rattle.rpki_ext.specs.Kinds.{Means}
 use Rattle.rpki_parts.specs.SignedDatas.{signed_data}
 use Rattle.rpki_cert.specs.Certificates.{CertFields, IsCertificate}
-use Rattle.rpki_folder.specs.FirstPlaces.{first_from, IsCertificateOctets, AreFirstsIn, first_of}
-use Rattle.rpki_folder.specs.Folders.{octets_at, AreOneAt, IsFirstOf}
+use Rattle.rpki_folder.specs.FirstPlaces.{first_from, IsCertificateOctets, AreFirstsIn, first_place_of}
+use Rattle.rpki_folder.specs.Folders.{string_at, AreOneAt, IsFirstPlaceOf}
 use Rattle.rpki_folder.specs.declared.firsts.Firsts.{Firsts}
 use Rattle.rpki_folder.proofs.PickedLists.{in_none, in_front, further, first_or_further}
 
@@ -257,7 +257,7 @@ module _ (law : IsUnambiguous IsCertificate) (octets_kept : (c : CertFields) (b 
   here = zip_at certs own place are.1 low
 
   abbrev first : ℕ
-  first = first_of table place
+  first = first_place_of table place
 
   at : Stands 0 own (get_or own place []) first
   at = stands 0 own (get_or own place []) first
@@ -276,14 +276,14 @@ module _ (law : IsUnambiguous IsCertificate) (octets_kept : (c : CertFields) (b 
   cert = here.1.0
 
   -- the certificate stands at the first place
-  there_too : Means IsCertificate cert (octets_at certs first)
+  there_too : Means IsCertificate cert (string_at certs first)
   there_too =
       let f = (zip_at certs own first are.1 (zip_low certs own first are.1 first_low)).1 in
       means (get_or certs first []) (get_or own first []) cert
       (subst (λ (l : List ℕ). IsCertificate cert l) (sym same_own) here.1.1) f.2
 
   -- one certificate has one string
-  string_is : (q : ℕ) (c : CertFields) → q < length certs → Means IsCertificate c (octets_at certs q) →
+  string_is : (q : ℕ) (c : CertFields) → q < length certs → Means IsCertificate c (string_at certs q) →
       get_or own q [] ≡ signed_data c.signed_data
   string_is q c less begins =
       let z = (zip_at certs own q are.1 less).1 in
@@ -298,7 +298,7 @@ module _ (law : IsUnambiguous IsCertificate) (octets_kept : (c : CertFields) (b 
       let before : other < at.index = let i = index_is in omega (arith, less, i) in
       at.none other before (string_is other c near two ∙ sym (string_is first c far one) ∙ same_own)
 
-  pub is_first_of : IsFirstOf certs place first
+  pub is_first_of : IsFirstPlaceOf certs place first
   is_first_of = record {
     one = (cert, means (get_or certs place []) (get_or own place []) cert here.1.1 here.1.2, there_too);
     is_first = no_earlier;

@@ -17,7 +17,7 @@ use Rattle.rpki_der.specs.Encoding.{Begins}
 use Rattle.rpki_ext.specs.Kinds.{Means}
 use Rattle.rpki_crl.specs.Lists.{CrlFields, IsCertificateList}
 use Rattle.rpki_cert.specs.Certificates.{CertFields, IsCertificate}
-use Rattle.rpki_folder.specs.Folders.{octets_at, NamesSigner, ArePlacesOf}
+use Rattle.rpki_folder.specs.Folders.{string_at, NamesSigner, ArePlacesOf}
 use Rattle.rpki_folder.specs.KeyTables.{with_place}
 use Rattle.rpki_folder.proofs.OnceLists.{once_push}
 
@@ -28,10 +28,10 @@ module _ (certs : List (List ℕ)) (octets : List ℕ) where
   abbrev more : List (List ℕ)
   more = certs ++ octets ∷ []
 
-  old_at : (place : ℕ) → place < length certs → octets_at more place ≡ octets_at certs place
+  old_at : (place : ℕ) → place < length certs → string_at more place ≡ string_at certs place
   old_at place h = get_or-append certs (octets ∷ []) [] place h
 
-  new_at : octets_at more (length certs) ≡ octets
+  new_at : string_at more (length certs) ≡ octets
   new_at = get_or-append_seam certs octets [] []
 
   longer : length more ≡ length certs + 1
@@ -44,11 +44,11 @@ module _ (certs : List (List ℕ)) (octets : List ℕ) where
     old_inside : (place : ℕ) → Contains places place → place < length more
     old_inside place among = let h = old.inside place among in omega (arith, longer)
 
-    old_only : (place : ℕ) → Contains places place → NamesSigner key (octets_at more place)
+    old_only : (place : ℕ) → Contains places place → NamesSigner key (string_at more place)
     old_only place among = subst (λ (o : List ℕ). NamesSigner key o) (sym (old_at place (old.inside place among)))
         (old.only place among)
 
-    old_all : (place : ℕ) → place < length certs → NamesSigner key (octets_at more place) → Contains places place
+    old_all : (place : ℕ) → place < length certs → NamesSigner key (string_at more place) → Contains places place
     old_all place h names = old.all place h (subst (λ (o : List ℕ). NamesSigner key o) (old_at place h) names)
 
     -- the key of another one
@@ -59,7 +59,7 @@ module _ (certs : List (List ℕ)) (octets : List ℕ) where
       all = λ place h names. elim (old_or_new place h) [
         | inl is ↦ absurd (never
             (subst (λ (o : List ℕ). NamesSigner key o) new_at
-            (subst (λ (p : ℕ). NamesSigner key (octets_at more p)) is names)))
+            (subst (λ (p : ℕ). NamesSigner key (string_at more p)) is names)))
         | inr low ↦ old_all place low names
       ];
       once = old.once;
@@ -74,7 +74,7 @@ module _ (certs : List (List ℕ)) (octets : List ℕ) where
       ];
       only = λ place among. elim (Contains-push_cases places (length certs) place among) [
         | inl h ↦ old_only place h
-        | inr is ↦ subst (λ (p : ℕ). NamesSigner key (octets_at more p)) is
+        | inr is ↦ subst (λ (p : ℕ). NamesSigner key (string_at more p)) is
             (subst (λ (o : List ℕ). NamesSigner key o) (sym new_at) names_it)
       ];
       all = λ place h names. elim (old_or_new place h) [

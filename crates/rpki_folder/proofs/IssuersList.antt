@@ -14,7 +14,7 @@ use Rattle.rpki_path.specs.AskedLists.{IsFor, IsForBelow, HasBegun, IsEligibleNa
 use Rattle.rpki_path.proofs.AskedNamedList.{no_list, other_name, unsigned, not_begun, answered}
 use Rattle.rpki_folder.specs.KeyTables.{signer_of, list_places}
 use Rattle.rpki_folder.specs.IssuerLists.{ArePicked, HasName, HasSigned, IsOfIssuer, IsCurrent, CanBeAsked, IsBelow}
-use Rattle.rpki_folder.specs.IssuerLists.{IssuerFields, AreIssuers, IsLatestOf, IsAnswered}
+use Rattle.rpki_folder.specs.IssuerLists.{IssuerFields, AreIssuerLists, IsLatestOf, IsAnswered}
 use Rattle.rpki_folder.proofs.PickedLists.{in_none, one_of_all, one_of_picked, picked_through, latest_of_all}
 use Rattle.rpki_folder.proofs.PickedLists.{none_of_all}
 use Rattle.rpki_folder.proofs.ListPlaces.{lists_at, at_one, list_inside, Names, named_there}
@@ -167,7 +167,7 @@ module _ (names : Bool) (x : Context) (lists : List CrlState) (issuer : TbsField
 
     -- ---- what was kept answers as all lists
 
-    module _ (kept : IssuerFields) (are : AreIssuers names x lists issuer kept) where
+    module _ (kept : IssuerFields) (are : AreIssuerLists names x lists issuer kept) where
       latest : (l : CrlState) → IsLatestOf c kept.eligible l → IsLatest Fits c lists l
       latest l h = latest_of_all (CanBeAsked names x.verifies x.now issuer) Fits c lists kept.eligible are.eligible
           asked l (fits l) h

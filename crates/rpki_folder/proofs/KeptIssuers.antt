@@ -17,8 +17,8 @@ use Rattle.rpki_path.specs.AskedLists.{IsForBelow, IsEligibleNamed, by_named_lis
 use Rattle.rpki_path.specs.Repeats.{AreAlike}
 use Rattle.rpki_path.proofs.AskedByEntity.{named_lists_by_entity}
 use Rattle.rpki_folder.specs.Folders.{FolderFields, ArePlacesOf, IsOnce}
-use Rattle.rpki_folder.specs.IssuerLists.{ArePicked, CanBeAsked, FailsWithout, IssuerFields, AreIssuers}
-use Rattle.rpki_folder.specs.IssuerTables.{AreAllChildren, IsKeptOf, AreKept}
+use Rattle.rpki_folder.specs.IssuerLists.{ArePicked, CanBeAsked, FailsWithout, IssuerFields, AreIssuerLists}
+use Rattle.rpki_folder.specs.IssuerTables.{AreAllChildren, IsKeptOf, AreIssuersKept}
 use Rattle.rpki_folder.specs.NameTables.{IsOfKey}
 use Rattle.rpki_folder.specs.Walks.{IsChildOf, IsNamedUnder}
 use Rattle.rpki_folder.specs.Walks.Steps.{AreChildrenAmong}
@@ -85,7 +85,7 @@ module _ (names : Bool) (x : Context) where
         (fails c (below ∙ ap (λ (k : List ℕ). Some k) (sym alike.identifier_is))
         (λ l at is. none l at (eligible f g alike c l is)))
 
-    issuers_alike : (kept : IssuerFields) → AreIssuers names x lists f kept → AreIssuers names x lists g kept
+    issuers_alike : (kept : IssuerFields) → AreIssuerLists names x lists f kept → AreIssuerLists names x lists g kept
     issuers_alike kept are = record {
       eligible = picked_alike (CanBeAsked names x.verifies x.now f) (CanBeAsked names x.verifies x.now g)
           (can_be_asked f g alike) (can_be_asked g f back) lists kept.eligible are.eligible;
@@ -176,7 +176,7 @@ kids_here x names admits issuer folder above kept trail all those same whole h p
 
 -- nothing is kept at first
 pub kept_none : (names : Bool) (x : Context) (folder : FolderFields) (table : Issuers) → table.kept.items ≡ [] →
-    table.keys.items ≡ [] → AreKept names x folder table
+    table.keys.items ≡ [] → AreIssuersKept names x folder table
 kept_none names x folder table no_issuers no_keys = record {
   issuers = λ k at. absurd (in_none k (subst (λ (l : List Issuer). Contains l k) no_issuers at));
   keys = λ k at. absurd (in_none k (subst (λ (l : List NamedKey). Contains l k) no_keys at));
@@ -185,7 +185,7 @@ kept_none names x folder table no_issuers no_keys = record {
 module _ (names : Bool) (x : Context) (folder : FolderFields) (old new : Issuers) where
   -- one key more
   pub key_more : (key : NamedKey) → new.keys.items ≡ old.keys.items ++ key ∷ [] → new.kept.items ≡ old.kept.items →
-      AreKept names x folder old → IsOfKey x.verifies folder key.cert key → AreKept names x folder new
+      AreIssuersKept names x folder old → IsOfKey x.verifies folder key.cert key → AreIssuersKept names x folder new
   key_more key items same olds is = record {
     issuers = λ k at. olds.issuers k (subst (λ (l : List Issuer). Contains l k) same at);
     keys = λ k at. elim (Contains-push_cases old.keys.items key k
@@ -198,8 +198,8 @@ module _ (names : Bool) (x : Context) (folder : FolderFields) (old new : Issuers
 module _ (names : Bool) (x : Context) (folder : FolderFields) (old new : Issuers) (one : Issuer)
     (items : new.kept.items ≡ old.kept.items ++ one ∷ []) where
   -- one issuer more
-  pub kept_more : new.keys.items ≡ old.keys.items → AreKept names x folder old →
-      IsKeptOf names x folder one.cert one → AreKept names x folder new
+  pub kept_more : new.keys.items ≡ old.keys.items → AreIssuersKept names x folder old →
+      IsKeptOf names x folder one.cert one → AreIssuersKept names x folder new
   kept_more same olds is = record {
     issuers = λ k at. elim
         (Contains-push_cases old.kept.items one k (subst (λ (l : List Issuer). Contains l k) items at)) [

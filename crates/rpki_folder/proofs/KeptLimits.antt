@@ -18,12 +18,12 @@ use Rattle.rpki_folder.specs.declared.limits.Reached.{Reached}
 use Rattle.rpki_folder.specs.declared.share.Share.{Share}
 use Rattle.rpki_folder.specs.declared.walk.Ca.{Ca}
 use Rattle.rpki_folder.specs.Folders.{cas_at}
-use Rattle.rpki_folder.specs.LimitTables.{nothing, both, of_limit, ca_at, reached_more, IsTableOf, HasReached}
-use Rattle.rpki_folder.specs.ReachedLimits.{IsNumber, LimitedCa, limited_ca, AreLimited, end_of, ended_of}
+use Rattle.rpki_folder.specs.LimitTables.{nothing, both_reached, of_limit, ca_at, reached_more, IsTableOf, HasReached}
+use Rattle.rpki_folder.specs.ReachedLimits.{IsToldNumber, LimitedCa, limited_ca, AreLimited, end_of, ended_of}
 use Rattle.rpki_folder.specs.ReachedLimits.Steps.{CostIs, IsEmpty, AreCounted, AreLimitedBelow, AreLimitedBelowEach}
 use Rattle.rpki_folder.specs.ReachedLimits.Steps.{KeepsBelow, KeepsBelowEach}
 use Rattle.rpki_folder.specs.Walks.{Root, members_at, LeadsTo, Told, worse}
-use Rattle.rpki_folder.specs.Walks.{IsChildOf, AreChildren, Tells, TakesStep, IsShort, IsTooDeep, IsComplete}
+use Rattle.rpki_folder.specs.Walks.{IsChildOf, AreChildren, TellsWithin, TakesStep, IsShort, IsTooDeep, IsComplete}
 use Rattle.rpki_folder.specs.Walks.{IsCompleteInShares, IsJudgedInShares, IsEnough}
 use Rattle.rpki_folder.specs.Walks.Steps.{AreJudged, AreLookedAt}
 use Rattle.rpki_folder.proofs.ChildPaths.{passing, child_on}
@@ -48,7 +48,7 @@ counts_more old mid new ls more h k = record {
       k.each place (subst (λ (n : ℕ). place < n) (sym h.count_is) low)
       ∙ ap (λ (start : ℕ). reached_more start place (slice_index_or mid.reached.items place nothing) more) h.start_is
       ∙ ap (λ (r : Reached). reached_more old.start place r more) (h.each place low)
-      ∙ sym (fold-append (λ r ca. if ca_at old.start ca.above == place then both (of_limit ca.limit) r else r)
+      ∙ sym (fold-append (λ r ca. if ca_at old.start ca.above == place then both_reached (of_limit ca.limit) r else r)
       (slice_index_or old.reached.items place nothing) ls more);
 }
 
@@ -144,7 +144,7 @@ module _ (x : Context) (asked : RevocationChecks) (looks : List ℕ → ℕ → 
   module _ (low : 0 < depth) where
     -- where the share is too small
     pub keeps_short : share.steps < length children → (told : Option ℕ) →
-        ((base factor : ℕ) → CostIs share.cost base factor → IsNumber told (base + factor * length children)) →
+        ((base factor : ℕ) → CostIs share.cost base factor → IsToldNumber told (base + factor * length children)) →
         AreCounted old (limited_ca above (steps told) ∷ []) new
         → KeepsBelow x asked looks issuer certs above depth share old new OutOfSteps
     keeps_short short told number counted = record {
@@ -232,7 +232,7 @@ err_ended (Err e) err = refl
 -- and where it failed before it judged a certificate, it told nothing
 pub tells_nothing : {E : Type 0} (x : Context) (asked : RevocationChecks) (admits : List ℕ → ℕ → Type 0)
     (root : Root) (certs : List (List ℕ)) (depth share : ℕ) (r : Result Walked E) → IsErr r →
-    Tells x asked admits root certs [] depth share (ended_of r) []
+    TellsWithin x asked admits root certs [] depth share (ended_of r) []
 tells_nothing x asked admits root certs depth share r err = record {
   right = tt;
   let_in = tt;

@@ -11,7 +11,7 @@ use Rattle.std.proofs.lemmas.List.{get_or-set_same, get_or-set_other, get_or_def
 use Rattle.std.proofs.lemmas.List.Elements.{Contains-append_left, Contains-push}
 use Rattle.rpki_path.specs.declared.judging.Judged.{Judged}
 use Rattle.rpki_path.specs.declared.path_fault.PathFault.{PathFault}
-use Rattle.rpki_folder.specs.Walks.{Told, told, IsTold}
+use Rattle.rpki_folder.specs.Walks.{Told, told_at, IsTold}
 use Rattle.rpki_folder.specs.KeptLines.{step, IsRejectedWithin, IsToldBy, IsLine, AreLines, Stays}
 use Rattle.rpki_folder.specs.declared.find.FoundPath.{FoundPath}
 use Rattle.rpki_folder.specs.declared.lines.AcceptedPaths.{AcceptedPaths}
@@ -118,19 +118,19 @@ module _ (ts : List Told) (above : List ℕ) (place : ℕ) where
   pub accepted_now : (j : Judged) (paths : AcceptedPaths) (l : Line) →
       ((paths : AcceptedPaths) → l ≡ Accepted paths → ⊥) → IsLine ts place l → paths.first.above.items ≡ above →
       paths.first.judged ≡ j → paths.others.items ≡ [] → paths.more ≡ 0 →
-      IsLine (ts ++ told above place (Ok j) ∷ []) place (Accepted paths)
-  accepted_now j paths l other h is holds others more = paths_first place (told above place (Ok j)) ts paths
+      IsLine (ts ++ told_at above place (Ok j) ∷ []) place (Accepted paths)
+  accepted_now j paths l other h is holds others more = paths_first place (told_at above place (Ok j)) ts paths
       (sym is, refl, ap (λ (k : Judged). Ok k) (sym holds)) others more (none_accepted l other h)
 
   -- and keeps it where it is rejected
   pub accepted_before : (fault : PathFault) (paths : AcceptedPaths) → IsLine ts place (Accepted paths) →
-      IsLine (ts ++ told above place (Err fault) ∷ []) place (Accepted paths)
-  accepted_before fault paths h = paths_same place (told above place (Err fault)) ts paths h
+      IsLine (ts ++ told_at above place (Err fault) ∷ []) place (Accepted paths)
+  accepted_before fault paths h = paths_same place (told_at above place (Err fault)) ts paths h
       (λ f. let ok = f.1 in absurd cc)
 
   module _ (fault : PathFault) where
     abbrev t : Told
-    t = told above place (Err fault)
+    t = told_at above place (Err fault)
 
     within : (n : ℕ) → length above + 1 ≤ n → IsRejectedWithin place n t
     within n low = λ is. ((λ ok. absurd cc), low)

@@ -6,8 +6,8 @@ use Rattle.std.proofs.lemmas.List.{append-nil}
 use Rattle.rpki_cert.specs.Certificates.{CertFields}
 use Rattle.rpki_cert.specs.Verification.{Context}
 use Rattle.rpki_path.specs.Asking.{RevocationChecks}
-use Rattle.rpki_folder.specs.FirstPlaces.{IsFirstIn, first_of}
-use Rattle.rpki_folder.specs.LimitTables.{both, ca_at, of_limit, reached_more}
+use Rattle.rpki_folder.specs.FirstPlaces.{IsFirstIn, first_place_of}
+use Rattle.rpki_folder.specs.LimitTables.{both_reached, ca_at, of_limit, reached_more}
 use Rattle.rpki_folder.specs.ReachedLimits.{AreLimited, IsLimitAt, LimitedCa}
 use Rattle.rpki_folder.specs.Walks.{Root, AreAdmitted, IsLookedAt}
 use Rattle.rpki_folder.specs.declared.bounds.Limit.{Limit}
@@ -23,34 +23,37 @@ module _ (x : Context) (asked : RevocationChecks) (names : Bool) (root : Root) (
 
   -- the last of the places that are let in is a first one
   last_first : (p : ℕ) (done above more : List ℕ) → AreAdmitted Looks done (above ++ more) →
-      first_of firsts (ca_at p above) ≡ ca_at (first_of firsts p) above
+      first_place_of firsts (ca_at p above) ≡ ca_at (first_place_of firsts p) above
   last_first p done [] more in_all = refl
   last_first p done (q ∷ above) more (here, rest) = last_first q (done ++ q ∷ []) above more rest ∙
       ap (λ (n : ℕ). ca_at n above) here.admitted
 
   one_first : (above : List ℕ) (limit : Limit) → IsLimitAt x asked Looks root certs share depth above limit →
-      first_of firsts (ca_at start above) ≡ ca_at (first_of firsts start) above
+      first_place_of firsts (ca_at start above) ≡ ca_at (first_place_of firsts start) above
   one_first above Depth deep = last_first start [] above (deep.below.place ∷ []) deep.below.admitted
   one_first above (steps needed) short =
       last_first start [] above []
       (subst (λ (l : List ℕ). AreAdmitted Looks [] l) (sym (append-nil above)) short.0.admitted)
 
   pub limited_first : (limited : List LimitedCa) → AreLimited x asked Looks root certs depth share limited →
-      AllByRecursion (λ l. first_of firsts (ca_at start l.above) ≡ ca_at (first_of firsts start) l.above) limited
+      AllByRecursion (λ l. first_place_of firsts (ca_at start l.above) ≡ ca_at (first_place_of firsts start)
+      l.above) limited
   limited_first limited are =
       all_weaker (λ (l : LimitedCa). IsLimitAt x asked Looks root certs share depth l.above l.limit)
-      (λ (l : LimitedCa). first_of firsts (ca_at start l.above) ≡ ca_at (first_of firsts start) l.above)
+      (λ (l : LimitedCa). first_place_of firsts (ca_at start l.above) ≡ ca_at (first_place_of firsts start) l.above)
       (λ l at. one_first l.above l.limit at) limited are.only
 
 -- so what was reached at the first place of a certificate was reached at any of its copies
 pub first_reached : (firsts : Firsts) (start place : ℕ) (limited : List LimitedCa) →
-    AllByRecursion (λ l. first_of firsts (ca_at start l.above) ≡ ca_at (first_of firsts start) l.above) limited
-    → (r : Reached) → reached_more (first_of firsts start) place r limited ≡
-    fold (λ s l. if first_of firsts (ca_at start l.above) == place then both (of_limit l.limit) s else s) r
+    AllByRecursion (λ l. first_place_of firsts (ca_at start l.above) ≡ ca_at (first_place_of firsts start) l.above)
+    limited
+    → (r : Reached) → reached_more (first_place_of firsts start) place r limited ≡
+    fold (λ s l. if first_place_of firsts (ca_at start l.above) == place then both_reached (of_limit l.limit) s
+    else s) r
     limited
 first_reached firsts start place [] are r = refl
 first_reached firsts start place (l ∷ limited) (is, are) r =
-    let here = ap (λ (n : ℕ). if n == place then both (of_limit l.limit) r else r) (sym is) in
-    ap (λ (s : Reached). reached_more (first_of firsts start) place s limited) here ∙
+    let here = ap (λ (n : ℕ). if n == place then both_reached (of_limit l.limit) r else r) (sym is) in
+    ap (λ (s : Reached). reached_more (first_place_of firsts start) place s limited) here ∙
     first_reached firsts start place limited are
-    (if first_of firsts (ca_at start l.above) == place then both (of_limit l.limit) r else r)
+    (if first_place_of firsts (ca_at start l.above) == place then both_reached (of_limit l.limit) r else r)

@@ -17,7 +17,7 @@ use Rattle.rpki_folder.specs.declared.walk.Ca.{Ca}
 use Rattle.rpki_folder.specs.Walks.{Root, members_at, LeadsTo, worse, IsChildOf, AreChildren, AreAcceptedCas}
 use Rattle.rpki_folder.specs.Walks.{IsHandedDown, HasShare}
 use Rattle.rpki_folder.specs.Walks.Steps.{places_of, down_to}
-use Rattle.rpki_folder.specs.ReachedLimits.{IsDeepAt, IsShortAt, IsNeed, IsNumber, IsLimitAt, LimitedCa, limited_ca}
+use Rattle.rpki_folder.specs.ReachedLimits.{IsDeepAt, IsShortAt, IsNeed, IsToldNumber, IsLimitAt, LimitedCa, limited_ca}
 use Rattle.rpki_folder.specs.ReachedLimits.{IsDeepTold, IsShortTold, AreLimited, end_at, end_of}
 use Rattle.rpki_folder.specs.ReachedLimits.Steps.{IsLimitOf, IsLimitBelow, AreLimitedBelow, AreLimitedBelowEach}
 use Rattle.rpki_folder.proofs.ChildPaths.{child_here, child_on}
@@ -210,7 +210,7 @@ module _ (x : Context) (asked : RevocationChecks) (admits : List ℕ → ℕ →
 
       -- where the share is too small
       pub limits_short : share < length children → (told : Option ℕ) →
-          IsNumber told (base + factor * length children) → Are (limited_ca above (steps told) ∷ [])
+          IsToldNumber told (base + factor * length children) → Are (limited_ca above (steps told) ∷ [])
       limits_short small told number =
           let here : IsShortAt x asked admits root certs above share depth [] = record {
             within = low;
@@ -383,7 +383,7 @@ module _ (x : Context) (asked : RevocationChecks) (admits : List ℕ → ℕ →
                 length children + length cas * need,
                 subst (λ (n : ℕ). IsNeed x asked admits root certs above depth (ca.place ∷ between)
                     (length children + n * need)) count above_it,
-                subst (λ (n : ℕ). IsNumber told n) (costs need) number,
+                subst (λ (n : ℕ). IsToldNumber told n) (costs need) number,
               ),
             )
 
@@ -449,7 +449,7 @@ module _ (x : Context) (asked : RevocationChecks) (admits : List ℕ → ℕ →
   limit_whole l between (steps told) is (s, (need, needed, number)) =
       let one : 0 + 1 * need ≡ need = omega arith in
       subst (λ (b : List ℕ). IsLimitAt x asked admits root certs share depth b (steps told)) (sym is)
-      (s, (need, needed, subst (λ (n : ℕ). IsNumber told n) one number))
+      (s, (need, needed, subst (λ (n : ℕ). IsToldNumber told n) one number))
 
   only_whole : (l : LimitedCa) → IsLimitBelow x asked admits root certs [] depth share 0 1 l →
       IsLimitAt x asked admits root certs share depth l.above l.limit

@@ -5,7 +5,7 @@ use Rattle.std.proofs.lemmas.List.Elements.{Contains-push_cases}
 use Rattle.rpki_der.specs.Values.{IsUnambiguous}
 use Rattle.rpki_der.proofs.Formats.{one_meant}
 use Rattle.rpki_cert.specs.Certificates.{CertFields, IsCertificate}
-use Rattle.rpki_folder.specs.Folders.{octets_at}
+use Rattle.rpki_folder.specs.Folders.{string_at}
 use Rattle.rpki_folder.specs.Walks.{StandsAt, IsLastOf, IsNamedUnder, IsRepeated, EndsNoCircle, IsLookedAt}
 
 module _ (top : CertFields) (certs : List (List ℕ)) where
@@ -35,7 +35,7 @@ module _ (top : CertFields) (certs : List (List ℕ)) where
     -- there is one last
     pub one_last : (above : List ℕ) (c d : CertFields) → IsLastOf top certs above c → IsLastOf top certs above d → c ≡ d
     one_last [] c d a b = a ∙ sym b
-    one_last (p ∷ []) c d a b = one_meant IsCertificate law c d (octets_at certs p) a b
+    one_last (p ∷ []) c d a b = one_meant IsCertificate law c d (string_at certs p) a b
     one_last (p ∷ q ∷ more) c d a b = one_last (q ∷ more) c d a b
 
     module _ (names : Bool) (above : List ℕ) (issuer : CertFields) (is_last : IsLastOf top certs above issuer) where
@@ -81,7 +81,7 @@ module _ (top : CertFields) (certs : List (List ℕ)) where
       in_none before place is never = λ others last same c there repeated.
           let e = same_end before others place last (sym is ∙ same) in
           let here = last_there before place issuer (subst (λ (l : List ℕ). IsLastOf top certs l issuer) is is_last) in
-          let one : c ≡ issuer = one_meant IsCertificate law c issuer (octets_at certs place)
+          let one : c ≡ issuer = one_meant IsCertificate law c issuer (string_at certs place)
           (subst (λ (p : ℕ). StandsAt certs p c) (sym e.1) there) here in
           never (subst (λ (d : CertFields). IsRepeated names top certs before d) one
           (subst (λ (l : List ℕ). IsRepeated names top certs l c) (sym e.0) repeated))

@@ -14,7 +14,7 @@ use Rattle.rpki_cert.specs.declared.inspect.Kind.{Kind}
 use Rattle.rpki_path.specs.NameChains.{IsNamedBelow}
 use Rattle.rpki_path.specs.Paths.{Candidate, candidate, IsMember, IsPathOf, Member, Path, certificate_at, last}
 use Rattle.rpki_path.specs.Repeats.{AreOneEntity, HasNoRepeat}
-use Rattle.rpki_folder.specs.Folders.{cas_at, octets_at}
+use Rattle.rpki_folder.specs.Folders.{cas_at, string_at}
 use Rattle.rpki_folder.specs.Walks.{StandsAt, IsAmong, IsLastOf, IsRepeated, IsLookedAt, AreAdmitted}
 use Rattle.rpki_folder.proofs.LookedAt.{last_there}
 use Rattle.rpki_folder.proofs.WalkedNames.{named_at, stand_at, walked}
@@ -70,7 +70,7 @@ admitted_at A (p ∷ front) q rest before h = subst (λ (l : List ℕ). A l q) (
 
 module _ (names : Bool) (anchor : List ℕ) (certs : List (List ℕ)) (place : ℕ) (kind : Kind)
     (law : IsUnambiguous IsCertificate) (above : List ℕ) (p : Path)
-    (path_of : IsPathOf anchor (cas_at certs above ++ candidate kind (octets_at certs place) ∷ []) p) where
+    (path_of : IsPathOf anchor (cas_at certs above ++ candidate kind (string_at certs place) ∷ []) p) where
   abbrev all : List ℕ
   all = above ++ place ∷ []
 
@@ -99,11 +99,11 @@ module _ (names : Bool) (anchor : List ℕ) (certs : List (List ℕ)) (place : �
       c ≡ certificate_at p (k + 1)
   index_at k q c low is stands =
       let one : suc k ≡ k + 1 = omega arith in
-      one_meant IsCertificate law c (certificate_at p (suc k)) (octets_at certs q) stands (stands_there k q low is)
+      one_meant IsCertificate law c (certificate_at p (suc k)) (string_at certs q) stands (stands_there k q low is)
       ∙ ap (λ (n : ℕ). certificate_at p n) one
 
   total : last p ≡ length above + 1
-  total = zip_length certs (candidate kind (octets_at certs place)) p.below above path_of.members
+  total = zip_length certs (candidate kind (string_at certs place)) p.below above path_of.members
 
   many : length all ≡ length above + 1
   many = let e = length-append above (place ∷ []) in omega (arith, e)

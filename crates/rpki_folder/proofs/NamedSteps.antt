@@ -11,7 +11,7 @@ use Rattle.rpki_cert.specs.Certificates.{TbsFields, CertFields, IsCertificate}
 use Rattle.rpki_cert.specs.Verification.{IsSignedBy}
 use Rattle.rpki_crl.specs.Lists.{CrlState}
 use Rattle.rpki_path.specs.Repeats.{AreAlike}
-use Rattle.rpki_folder.specs.Folders.{FolderFields, octets_at, ArePlacesOf}
+use Rattle.rpki_folder.specs.Folders.{FolderFields, string_at, ArePlacesOf}
 use Rattle.rpki_folder.specs.IssuerLists.{ArePicked, HasSigned}
 use Rattle.rpki_folder.specs.KeyTables.{places_in, with_place}
 use Rattle.rpki_folder.specs.NameTables.{HasIssuer, ArePlacesUnder, IsOfKey}
@@ -25,7 +25,7 @@ module _ (law : IsUnambiguous IsCertificate) (certs : List (List ℕ)) (xs : Lis
     (has : HasIssuer name certs place) where
   one_name : (k : List ℕ) → HasIssuer k certs place → name ≡ k
   one_name k h = sym has.2 ∙ ap (λ (c : CertFields). c.fields.issuer)
-      (one_meant IsCertificate law has.0 h.0 (octets_at certs place) has.1 h.1) ∙ h.2
+      (one_meant IsCertificate law has.0 h.0 (string_at certs place) has.1 h.1) ∙ h.2
 
   by_test : (k old : List ℕ) → ArePicked (HasIssuer k certs) xs old → (b : Bool) → bytes_eq name k ≡ b →
       ArePicked (HasIssuer k certs) (xs ++ place ∷ []) (if b then old ++ place ∷ [] else old)

@@ -12,7 +12,7 @@ use Rattle.rpki_path.specs.declared.judging.Judged.{Judged}
 use Rattle.rpki_path.specs.declared.path_fault.PathFault.{PathFault}
 use Rattle.rpki_path.specs.Paths.{Candidate, candidate}
 use Rattle.rpki_path.specs.Judging.{IsRouterIfAny}
-use Rattle.rpki_folder.specs.Folders.{octets_at, cas_at}
+use Rattle.rpki_folder.specs.Folders.{string_at, cas_at}
 use Rattle.rpki_cert.specs.SaidKinds.{BeginsWithKind}
 use Rattle.rpki_folder.specs.Walks.{Root, members_at, LeadsTo, IsAcceptedAs, IsReached, IsRightOf, IsChildOf}
 use Rattle.rpki_folder.specs.Walks.Steps.{IsAnswer, GoesOn, IsOutcome}
@@ -54,7 +54,7 @@ module _ (x : Context) (asked : RevocationChecks) (root : Root) (law : IsUnambig
     -- octets that are accepted are those of a child
     pub accepted_child : (kind : Kind) → BeginsWithKind kind octets → (j : Judged) →
         IsAcceptedAs x asked root members kind octets j → (certs : List (List ℕ)) (place : ℕ) →
-        octets ≡ octets_at certs place → IsChildOf x.verifies issuer.cert certs place
+        octets ≡ string_at certs place → IsChildOf x.verifies issuer.cert certs place
     accepted_child Anchor says j h = absurd says.2
     accepted_child Authority says j h = is_child x asked root law members issuer a Authority octets [] j.holder h.0
     accepted_child EndEntity says j h = is_child x asked root law members issuer a EndEntity octets [] j.holder h.0
@@ -117,14 +117,14 @@ module _ (x : Context) (asked : RevocationChecks) (root : Root) (law : IsUnambig
     pub record Passes : Type 0 where
       pub after : List Candidate
       pub holder : ResourceFields
-      pub leads : LeadsTo x asked root (members_at root certs above ++ candidate Authority (octets_at certs place) ∷
+      pub leads : LeadsTo x asked root (members_at root certs above ++ candidate Authority (string_at certs place) ∷
           after) holder
 
     member_passes : (rest : List ℕ) (m : Candidate) (r : ResourceFields) →
         LeadsTo x asked root (members_at root certs (above ++ place ∷ rest) ++ m ∷ []) r → Passes
     member_passes rest m r b =
         let cut : members_at root certs (above ++ place ∷ rest) ++ m ∷ [] ≡ members_at root certs above ++
-        candidate Authority (octets_at certs place) ∷ (cas_at certs rest ++ m ∷ []) =
+        candidate Authority (string_at certs place) ∷ (cas_at certs rest ++ m ∷ []) =
         ap (λ (l : List Candidate). l ++ m ∷ []) (members_more root certs above (place ∷ rest)) ∙
         append_assoc (members_at root certs above) (cas_at certs (place ∷ rest)) (m ∷ []) in
         record {
@@ -149,7 +149,7 @@ module _ (x : Context) (asked : RevocationChecks) (root : Root) (law : IsUnambig
 
     -- what is reached by the CA at the place is reached through it
     pub reached_passes : (rest : List ℕ) (end : ℕ) → IsReached x asked root certs (above ++ place ∷ rest) end → Passes
-    reached_passes rest end h = accepted_passes rest h.0 (octets_at certs end) h.1 h.2 h.3
+    reached_passes rest end h = accepted_passes rest h.0 (string_at certs end) h.1 h.2 h.3
 
     module _ (issuer : ResourceFields) (a : LeadsTo x asked root (members_at root certs above) issuer) where
       -- what is reached below an issuer goes by a child of it
@@ -158,10 +158,10 @@ module _ (x : Context) (asked : RevocationChecks) (root : Root) (law : IsUnambig
       reached_child [] end is h =
           let here : IsReached x asked root certs above end =
           subst (λ (l : List ℕ). IsReached x asked root certs l end) (append-nil above) h in
-          accepted_child (members_at root certs above) issuer a (octets_at certs end) here.0 here.2 here.1 here.3
-          certs place (ap (λ (p : ℕ). octets_at certs p) is)
+          accepted_child (members_at root certs above) issuer a (string_at certs end) here.0 here.2 here.1 here.3
+          certs place (ap (λ (p : ℕ). string_at certs p) is)
       reached_child (p ∷ rest) end is h =
           let passes = reached_passes rest end
           (subst (λ (q : ℕ). IsReached x asked root certs (above ++ q ∷ rest) end) is h) in
-          is_child x asked root law (members_at root certs above) issuer a Authority (octets_at certs place)
+          is_child x asked root law (members_at root certs above) issuer a Authority (string_at certs place)
           passes.after passes.holder passes.leads certs place refl

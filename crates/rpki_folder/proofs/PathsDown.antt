@@ -28,7 +28,7 @@ use Rattle.rpki_path.proofs.LocatedPaths.{located_headline}
 use Rattle.rpki_path.proofs.ValidPaths.{one_more}
 use Rattle.rpki_path.proofs.Rejections.{one_path, GoesOn, goes_on, fault_there, no_valid_path}
 use Rattle.rpki_path.proofs.Verdicts.{wrong_below}
-use Rattle.rpki_folder.specs.Folders.{octets_at, cas_at}
+use Rattle.rpki_folder.specs.Folders.{string_at, cas_at}
 use Rattle.rpki_cert.specs.SaidKinds.{BeginsWithKind}
 use Rattle.rpki_folder.specs.Walks.{Root, members_at, LeadsTo, IsChildOf}
 use Rattle.rpki_cert.proofs.SaidOnce.{authority_says}
@@ -37,7 +37,7 @@ use Rattle.rpki_cert.proofs.SaidOnce.{authority_says}
 
 module _ (root : Root) (certs : List (List ℕ)) where
   abbrev ca : ℕ → Candidate
-  ca place = candidate Authority (octets_at certs place)
+  ca place = candidate Authority (string_at certs place)
 
   -- with further places below them
   pub members_more : (above more : List ℕ) → members_at root certs (above ++ more) ≡ members_at root certs above ++
@@ -123,7 +123,7 @@ module _ (x : Context) (asked : RevocationChecks) (root : Root) (law : IsUnambig
         none b.path b.path_of b.is_valid.is_valid
 
     -- it is a child of the issuer
-    pub is_child : (certs : List (List ℕ)) (place : ℕ) → octets ≡ octets_at certs place →
+    pub is_child : (certs : List (List ℕ)) (place : ℕ) → octets ≡ string_at certs place →
         IsChildOf x.verifies issuer.cert certs place
     is_child certs place stands =
         let q = a.path in
@@ -201,7 +201,7 @@ module _ (x : Context) (asked : RevocationChecks) (root : Root) (law : IsUnambig
 
   router_child_of : (holder : ResourceFields) (octets : List ℕ) (o : Option CertFields) →
       IsRouterIfAny x asked holder (Some octets) o → (certs : List (List ℕ)) (place : ℕ) →
-      octets ≡ octets_at certs place
+      octets ≡ string_at certs place
       → IsChildOf x.verifies holder.cert certs place
   router_child_of holder octets None h certs place stands = absurd h
   router_child_of holder octets (Some c) h certs place stands = record {
@@ -227,7 +227,7 @@ module _ (x : Context) (asked : RevocationChecks) (root : Root) (law : IsUnambig
         (record { accepted = alone members holder b; router = router_same holder octets o router })
 
     -- it is a child of the issuer
-    pub router_is_child : (certs : List (List ℕ)) (place : ℕ) → octets ≡ octets_at certs place →
+    pub router_is_child : (certs : List (List ℕ)) (place : ℕ) → octets ≡ string_at certs place →
         IsChildOf x.verifies issuer.cert certs place
     router_is_child certs place stands =
         subst (λ (c : CertFields). IsChildOf x.verifies c certs place) (one_holder members holder issuer b a)

@@ -10,18 +10,18 @@ use Rattle.rpki_path.specs.Asking.{RevocationChecks, IsUnrevokedBy}
 use Rattle.rpki_path.specs.declared.judging.Judged.{Judged}
 use Rattle.rpki_path.specs.Paths.{Candidate, candidate}
 use Rattle.rpki_path.proofs.AskedAlike.{accepted_too, router_too}
-use Rattle.rpki_folder.specs.Folders.{octets_at, cas_at}
+use Rattle.rpki_folder.specs.Folders.{string_at, cas_at}
 use Rattle.rpki_cert.specs.SaidKinds.{BeginsWithKind}
 use Rattle.rpki_folder.specs.Walks.{Root, members_at, LeadsTo, IsAcceptedAs, IsReached, StandsAt, IsAmong, IsLastOf}
 use Rattle.rpki_folder.specs.Walks.{EndsNoCircle, IsLookedAt, AreAdmitted}
 
 module _ (certs others : List (List ℕ)) (moved : ℕ → ℕ) (same : (place : ℕ) →
-    octets_at others (moved place) ≡ octets_at certs place) where
+    string_at others (moved place) ≡ string_at certs place) where
   same_cas : (places : List ℕ) → cas_at others (map moved places) ≡ cas_at certs places
   same_cas [] = refl
   same_cas (place ∷ places) =
       ap (λ (octets : List ℕ). candidate Authority octets ∷ cas_at others (map moved places)) (same place)
-      ∙ ap (λ (l : List Candidate). candidate Authority (octets_at certs place) ∷ l) (same_cas places)
+      ∙ ap (λ (l : List Candidate). candidate Authority (string_at certs place) ∷ l) (same_cas places)
 
   pub reached_there : (x : Context) (asked : RevocationChecks) (root : Root) (above : List ℕ) (place : ℕ) →
       IsReached x asked root certs above place → IsReached x asked root others (map moved above) (moved place)
@@ -32,7 +32,7 @@ module _ (certs others : List (List ℕ)) (moved : ℕ → ℕ) (same : (place :
         h.0,
         h.1,
         subst (λ (o : List ℕ). BeginsWithKind h.0 o) octets h.2,
-        subst (λ (l : List Candidate). IsAcceptedAs x asked root l h.0 (octets_at others (moved place)) h.1)
+        subst (λ (l : List Candidate). IsAcceptedAs x asked root l h.0 (string_at others (moved place)) h.1)
             (sym members)
             (subst (λ (o : List ℕ). IsAcceptedAs x asked root (members_at root certs above) h.0 o h.1) octets h.3),
       )
@@ -56,7 +56,7 @@ module _ (x : Context) (asked other : RevocationChecks) (leaves : (issuer : TbsF
   pub reached_too : (certs : List (List ℕ)) (above : List ℕ) (place : ℕ) →
       IsReached x asked root certs above place → IsReached x other root certs above place
   reached_too certs above place h =
-      (h.0, h.1, h.2, as_too (members_at root certs above) h.0 (octets_at certs place) h.1 h.3)
+      (h.0, h.1, h.2, as_too (members_at root certs above) h.0 (string_at certs place) h.1 h.3)
 
 -- ---- what is looked at
 

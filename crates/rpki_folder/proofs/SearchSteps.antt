@@ -7,9 +7,9 @@ use Rattle.rpki_cert.specs.Verification.{Context}
 use Rattle.rpki_path.specs.Asking.{RevocationChecks}
 use Rattle.rpki_path.specs.declared.judging.Judged.{Judged}
 use Rattle.rpki_path.specs.declared.path_fault.PathFault.{PathFault}
-use Rattle.rpki_folder.specs.Folders.{octets_at}
+use Rattle.rpki_folder.specs.Folders.{string_at}
 use Rattle.rpki_folder.specs.Searches.{IsSought}
-use Rattle.rpki_folder.specs.Walks.{Root, members_at, IsRight, IsRightOf, IsTold, IsLetIn, AreAdmitted, Told, told}
+use Rattle.rpki_folder.specs.Walks.{Root, members_at, IsRight, IsRightOf, IsTold, IsLetIn, AreAdmitted, Told, told_at}
 use Rattle.rpki_folder.specs.declared.find.FoundPath.{FoundPath}
 use Rattle.rpki_folder.proofs.Descent.{all_append}
 
@@ -25,9 +25,9 @@ module _ (place : ℕ) (ts : List Told) where
   -- a verdict that accepts it
   pub sought_now : (above : List ℕ) (p : ℕ) (verdict : Result Judged PathFault) (path : FoundPath) →
       above ≡ path.above.items → p ≡ place → verdict ≡ Ok path.judged →
-      IsSought place (ts ++ told above p verdict ∷ []) (Some path)
-  sought_now above p verdict path is here ok = let c = Contains-push ts (told above p verdict) in
-      (c.0, told above p verdict, c.1, c.2, (is, here, ok))
+      IsSought place (ts ++ told_at above p verdict ∷ []) (Some path)
+  sought_now above p verdict path is here ok = let c = Contains-push ts (told_at above p verdict) in
+      (c.0, told_at above p verdict, c.1, c.2, (is, here, ok))
 
 -- ---- when the walk has ended
 
@@ -36,16 +36,16 @@ module _ (x : Context) (asked : RevocationChecks) (root : Root) (certs : List (L
   -- what was found is right
   pub found_right : (path : FoundPath) → AllByRecursion (IsRight x asked root certs) ts →
       IsSought place ts (Some path) →
-      IsRightOf x asked root (members_at root certs path.above.items) (octets_at certs place) (Ok path.judged)
+      IsRightOf x asked root (members_at root certs path.above.items) (string_at certs place) (Ok path.judged)
   found_right path right h =
       let t = h.1 in
       let is : IsRight x asked root certs t = subst (λ (u : Told). IsRight x asked root certs u) h.3
       (All-from_recursion (IsRight x asked root certs) ts right h.0 t h.2) in
       subst (λ (v : Result Judged PathFault). IsRightOf x asked root (members_at root certs path.above.items)
-      (octets_at certs place) v) h.4.2
-      (subst (λ (p : ℕ). IsRightOf x asked root (members_at root certs path.above.items) (octets_at certs p)
+      (string_at certs place) v) h.4.2
+      (subst (λ (p : ℕ). IsRightOf x asked root (members_at root certs path.above.items) (string_at certs p)
       t.verdict) h.4.1
-      (subst (λ (l : List ℕ). IsRightOf x asked root (members_at root certs l) (octets_at certs t.place) t.verdict)
+      (subst (λ (l : List ℕ). IsRightOf x asked root (members_at root certs l) (string_at certs t.place) t.verdict)
       h.4.0 is))
 
 -- what was accepted was let in, by CAs each of which was

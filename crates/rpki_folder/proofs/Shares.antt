@@ -16,12 +16,12 @@ use Rattle.rpki_cert.specs.declared.inspect.Kind.TheVariants.{Authority}
 use Rattle.rpki_folder.specs.declared.bounds.Ended.{Ended}
 use Rattle.rpki_folder.specs.declared.bounds.Ended.TheVariants.{Whole, TooDeep, OutOfSteps}
 use Rattle.rpki_folder.specs.declared.walk.Ca.{Ca}
-use Rattle.rpki_folder.specs.Folders.{octets_at, cas_at}
+use Rattle.rpki_folder.specs.Folders.{string_at, cas_at}
 use Rattle.rpki_folder.specs.Walks.{Root, members_at, LeadsTo, IsReached, Told, IsRight, IsTold, worse, Covers}
 use Rattle.rpki_folder.specs.Walks.{AreAdmitted, IsLetIn, IsChildOf, AreChildren, IsAcceptedCa, AreAcceptedCas}
 use Rattle.rpki_folder.specs.Walks.{IsHandedDown, HasShare, HasEnough, IsShort, TakesStep, AreFew, HasBelow}
 use Rattle.rpki_folder.specs.Walks.{IsTooDeep, IsChildAt, IsComplete, IsCompleteInShares, IsJudgedInShares}
-use Rattle.rpki_folder.specs.Walks.{IsVerdictTold, IsEnough, Tells, TellsBelow}
+use Rattle.rpki_folder.specs.Walks.{IsVerdictTold, IsEnough, TellsWithin, TellsBelow}
 use Rattle.rpki_folder.specs.Walks.Steps.{AreLookedAt, places_of, AreJudged, down_to, TellsBelowEach}
 use Rattle.rpki_folder.specs.Walks.Steps.{WalksBelowEach}
 use Rattle.rpki_folder.proofs.ChildPaths.{passing, child_here, child_on}
@@ -181,7 +181,7 @@ module _ (x : Context) (asked : RevocationChecks) (admits : List ℕ → ℕ →
 
   module _ {E : Type 0} (cas : List Ca) (one : Ca) (ts us : List Told) where
     let_in_more : {r q : Result Ended E} → Each cas r ts →
-        Tells x asked admits root certs (down_to above one) depth share q us
+        TellsWithin x asked admits root certs (down_to above one) depth share q us
         → AllByRecursion (λ t. (ca : Ca) × Contains (cas ++ one ∷ []) ca × IsLetIn admits (down_to above ca) t)
         (ts ++ us)
     let_in_more h t = all_append
@@ -195,7 +195,7 @@ module _ (x : Context) (asked : RevocationChecks) (admits : List ℕ → ℕ →
 
     -- below one more
     pub each_more : (ended end : Ended) → Each {E = E} cas (Ok ended) ts →
-        Tells {E = E} x asked admits root certs (down_to above one) depth share (Ok end) us →
+        TellsWithin {E = E} x asked admits root certs (down_to above one) depth share (Ok end) us →
         Each {E = E} (cas ++ one ∷ []) (Ok (worse ended end)) (ts ++ us)
     each_more ended end h t = record {
       right = all_append (IsRight x asked root certs) ts us h.right t.right;
@@ -254,7 +254,7 @@ module _ (x : Context) (asked : RevocationChecks) (admits : List ℕ → ℕ →
       ((ca : Ca) → Contains (take index cas) ca → Contains cas ca) → length (take index cas) < length cas →
       Contains cas one
       → (ts us : List Told) (r q e : Result Ended E) → Each (take index cas) r ts →
-      Tells x asked admits root certs (down_to above one) depth share q us → IsErr e → Each cas e (ts ++ us)
+      TellsWithin x asked admits root certs (down_to above one) depth share q us → IsErr e → Each cas e (ts ++ us)
   each_fails {E} cas index one within fewer at ts us r q e h t err =
       each_stops (take index cas ++ one ∷ []) cas (ts ++ us) e e
       (λ ca among. elim (Contains-push_cases (take index cas) one ca among)
@@ -298,7 +298,7 @@ module _ (x : Context) (asked : RevocationChecks) (admits : List ℕ → ℕ →
     (certs : List (List ℕ)) (above : List ℕ) (depth share : ℕ) (law : IsUnambiguous IsCertificate)
     (issuer : ResourceFields) (a : LeadsTo x asked root (members_at root certs above) issuer) where
   abbrev Told_so : {E : Type 0} → Result Ended E → List Told → Type 0
-  Told_so {E} r ts = Tells {E = E} x asked admits root certs above depth share r ts
+  Told_so {E} r ts = TellsWithin {E = E} x asked admits root certs above depth share r ts
 
   abbrev Sound : ℕ → List Told → Type 0
   Sound n ts = IsSound x asked admits root certs above n ts
@@ -466,12 +466,12 @@ module _ (x : Context) (asked : RevocationChecks) (admits : List ℕ → ℕ →
 
       -- a place through which a valid path goes is that of one of the CAs
       pub goes_through : (place : ℕ) → Contains children place → (after : List Candidate) (r : ResourceFields) →
-          LeadsTo x asked root (members_at root certs above ++ candidate Authority (octets_at certs place) ∷
+          LeadsTo x asked root (members_at root certs above ++ candidate Authority (string_at certs place) ∷
           after) r → Contains (places_of cas) place
       goes_through place at after r leads =
           let v = j.all place at in
           some_holder (Contains (places_of cas) place) v.1
-          (outcome_goes_on x asked root law (members_at root certs above) issuer a (octets_at certs place) v.0
+          (outcome_goes_on x asked root law (members_at root certs above) issuer a (string_at certs place) v.0
           v.1 v.2 after r leads) v.4
 
       ca_child : (place : ℕ) → IsAcceptedCa x asked root certs above place →
@@ -479,7 +479,7 @@ module _ (x : Context) (asked : RevocationChecks) (admits : List ℕ → ℕ →
       ca_child place accepted =
           let leads = subst (λ (l : List Candidate). LeadsTo x asked root l accepted.0)
           (members_next root certs above place) accepted.1 in
-          is_child x asked root law (members_at root certs above) issuer a Authority (octets_at certs place) []
+          is_child x asked root law (members_at root certs above) issuer a Authority (string_at certs place) []
           accepted.0 leads certs place refl
 
       pub are_cas : AreAcceptedCas x asked admits root certs above (places_of cas)
@@ -554,7 +554,7 @@ module _ (x : Context) (asked : RevocationChecks) (admits : List ℕ → ℕ →
               subst (λ (l : List ℕ). IsReached x asked root certs l place) (append-nil above) reached in
               let v = j.all place (c.all place admitted
               (reached_child x asked root law certs above place issuer a [] place refl reached)) in
-              let ok = outcome_ok x asked root law (members_at root certs above) issuer a (octets_at certs place)
+              let ok = outcome_ok x asked root law (members_at root certs above) issuer a (string_at certs place)
               v.0 v.1 v.2 here.0 here.2 here.1 here.3 in
               subst (λ (l : List ℕ). IsTold all l place) (sym (append-nil above))
               (told_behind ts (us ++ vs) above place

@@ -20,13 +20,13 @@ use Rattle.rpki_path.specs.Paths.Steps.{kind_of, demand_under, IsTrustAnchor}
 use Rattle.rpki_path.specs.LocatedPaths.{BeginsWithAnchor, IsLocatedFault}
 use Rattle.rpki_path.proofs.LocatedPaths.{below_anchor, located_headline}
 use Rattle.rpki_path.proofs.ValidPaths.{anchor_alone}
-use Rattle.rpki_folder.specs.Folders.{octets_at}
+use Rattle.rpki_folder.specs.Folders.{string_at}
 use Rattle.rpki_folder.specs.Walks.{at_anchor, LeadsTo}
 use Rattle.rpki_folder.specs.Walks.Steps.{IsAnswer, IsAtTop}
 
 -- the octets at a place
 pub octets_here : (certs now : List (List ℕ)) (place : ℕ) (item : List ℕ) → now ≡ certs →
-    item ≡ get_or now place item → place < length certs → item ≡ octets_at certs place
+    item ≡ get_or now place item → place < length certs → item ≡ string_at certs place
 octets_here certs now place item same is low = is ∙ ap (λ (l : List (List ℕ)). get_or l place item) same ∙
     get_or_default certs place item [] low
 

@@ -28,10 +28,10 @@ use Rattle.rpki_path.specs.declared.path_fault.PathFault.{PathFault}
 use Rattle.rpki_path.specs.declared.path_fault.PathFault.TheVariants.{Decode, Inspect, Verify, Revocation, Memory}
 use Rattle.rpki_path.proofs.LocatedPaths.{no_path_from, no_path_below}
 use Rattle.rpki_path.proofs.Rejections.{no_valid_path}
-use Rattle.rpki_folder.specs.Folders.{octets_at}
-use Rattle.rpki_folder.specs.FoundAnchors.{AreAscending, AreWrongAnchors, IsFound, IsValidAt, IsWrongAnchor}
+use Rattle.rpki_folder.specs.Folders.{string_at}
+use Rattle.rpki_folder.specs.FoundAnchors.{HaveAscendingPlaces, AreWrongAnchors, IsFound, IsValidAt, IsWrongAnchor}
 use Rattle.rpki_folder.specs.FoundAnchors.{anchor_order}
-use Rattle.rpki_folder.specs.FoundAnchors.Steps.{IsFoundAmong, IsKept, IsTried}
+use Rattle.rpki_folder.specs.FoundAnchors.Steps.{IsFoundAmong, IsKeptFound, IsTried}
 use Rattle.rpki_folder.specs.Walks.{LeadsTo, IsValidAnchor, IsWhyNone, at_anchor}
 use Rattle.rpki_folder.specs.declared.anchors.FoundAnchor.{FoundAnchor}
 use Rattle.rpki_folder.specs.declared.anchors.FoundAnchor.TheVariants as found
@@ -70,7 +70,7 @@ all_within n [] all = tt
 all_within n (w ∷ l) all = let low = all.0 in (omega (arith, low), all_within n l all.1)
 
 ascending_both : (l : List WrongCandidate) (w : WrongCandidate) → AllByRecursion (λ v. v.place < w.place) l →
-    AreAscending l → AreAscending (l ++ w ∷ [])
+    HaveAscendingPlaces l → HaveAscendingPlaces (l ++ w ∷ [])
 ascending_both [] w low is = (tt, tt)
 ascending_both (v ∷ l) w low is = (all_both (λ u. v.place < u.place) l w is.0 low.0, ascending_both l w low.1 is.1)
 
@@ -80,7 +80,7 @@ any_both place l w any = let c = Contains-append_left l (w ∷ []) any.1 (any.0,
     (c.0, any.1, c.1, c.2, any.4)
 
 -- the first of them stands before the others
-pub least_place : (w : WrongCandidate) (more : List WrongCandidate) → AreAscending (w ∷ more) → (place : ℕ) →
+pub least_place : (w : WrongCandidate) (more : List WrongCandidate) → HaveAscendingPlaces (w ∷ more) → (place : ℕ) →
     Any (λ v. v.place ≡ place) (w ∷ more) → w.place ≤ place
 least_place w more is place any =
     let at = any.4 in
@@ -172,17 +172,17 @@ module _ (x : Context) (asked : RevocationChecks) (names : Bool) (t : NamedTal) 
     ]
 
     all_more : (wrong : List WrongCandidate) →
-        ((k : ℕ) → k < n → BeginsWithKey t.tal (octets_at certs k) → Any (λ w. w.place ≡ k) wrong) →
-        (BeginsWithKey t.tal (octets_at certs n) → Any (λ w. w.place ≡ n) wrong) → (k : ℕ) → k < n + 1 →
-        BeginsWithKey t.tal (octets_at certs k) → Any (λ w. w.place ≡ k) wrong
+        ((k : ℕ) → k < n → BeginsWithKey t.tal (string_at certs k) → Any (λ w. w.place ≡ k) wrong) →
+        (BeginsWithKey t.tal (string_at certs n) → Any (λ w. w.place ≡ n) wrong) → (k : ℕ) → k < n + 1 →
+        BeginsWithKey t.tal (string_at certs k) → Any (λ w. w.place ≡ k) wrong
     all_more wrong old here k low key = elim (cases_eq k n) [
       | inl at ↦ subst (λ (m : ℕ). Any (λ w. w.place ≡ m) wrong) (sym at)
-          (here (subst (λ (m : ℕ). BeginsWithKey t.tal (octets_at certs m)) at key))
+          (here (subst (λ (m : ℕ). BeginsWithKey t.tal (string_at certs m)) at key))
       | inr not ↦ let less : k < n = omega (arith, low, not) in old k less key
     ]
 
     -- one of another key
-    same_wrong : (BeginsWithKey t.tal (octets_at certs n) → ⊥) → (wrong : List WrongCandidate) →
+    same_wrong : (BeginsWithKey t.tal (string_at certs n) → ⊥) → (wrong : List WrongCandidate) →
         AreWrongAnchors x asked names t certs n wrong → AreWrongAnchors x asked names t certs (n + 1) wrong
     same_wrong none wrong are = record {
       inside = all_within n wrong are.inside;
@@ -191,21 +191,21 @@ module _ (x : Context) (asked : RevocationChecks) (names : Bool) (t : NamedTal) 
       ascending = are.ascending;
     }
 
-    no_key : (BeginsWithKey t.tal (octets_at certs n) → ⊥) → (f : FoundAnchor) →
+    no_key : (BeginsWithKey t.tal (string_at certs n) → ⊥) → (f : FoundAnchor) →
         IsFoundAmong x asked names t certs n f → IsFoundAmong x asked names t certs (n + 1) f
     no_key none (found.Valid place r) is = (
       is.0,
       is.1,
       one_more (λ c. anchor_order r.cert c ≡ Less → ⊥) is.2
-          (λ c valid. absurd (none (valid_key x asked t (octets_at certs n) names valid.is_valid))),
+          (λ c valid. absurd (none (valid_key x asked t (string_at certs n) names valid.is_valid))),
     )
     no_key none (found.Wrong wrong) is = (
       same_wrong none wrong.items is.0,
-      one_more (λ c. ⊥) is.1 (λ c valid. none (valid_key x asked t (octets_at certs n) names valid.is_valid)),
+      one_more (λ c. ⊥) is.1 (λ c valid. none (valid_key x asked t (string_at certs n) names valid.is_valid)),
     )
 
     -- one that is wrong
-    module _ (e : WalkError) (wrong : IsWrongAnchor x asked names t (octets_at certs n) e) where
+    module _ (e : WalkError) (wrong : IsWrongAnchor x asked names t (string_at certs n) e) where
       abbrev this : WrongCandidate
       this = record { place = n; error = e }
 
@@ -213,18 +213,18 @@ module _ (x : Context) (asked : RevocationChecks) (names : Bool) (t : NamedTal) 
           AreWrongAnchors x asked names t certs (n + 1) (l ++ this ∷ [])
       with_this l are = record {
         inside = all_both (λ w. w.place < n + 1) l this (all_within n l are.inside) (omega arith);
-        each = all_both (λ w. IsWrongAnchor x asked names t (octets_at certs w.place) w.error) l this are.each wrong;
+        each = all_both (λ w. IsWrongAnchor x asked names t (string_at certs w.place) w.error) l this are.each wrong;
         all = all_more (l ++ this ∷ []) (λ k low key. any_both k l this (are.all k low key))
             (λ key. let c = Contains-push l this in (c.0, this, c.1, c.2, refl));
         ascending = ascending_both l this are.inside are.ascending;
       }
 
       never_valid : (c : CertFields) → IsValidAt x asked names t certs n c → ⊥
-      never_valid c valid = never_wrong x asked t (octets_at certs n) law names e wrong.no_memory wrong.why
+      never_valid c valid = never_wrong x asked t (string_at certs n) law names e wrong.no_memory wrong.why
           valid.is_valid
 
       is_wrong : (old new : FoundAnchor) → IsFoundAmong x asked names t certs n old →
-          IsKept old n (tried.Wrong e) new → IsFoundAmong x asked names t certs (n + 1) new
+          IsKeptFound old n (tried.Wrong e) new → IsFoundAmong x asked names t certs (n + 1) new
       is_wrong (found.Valid place r) new is kept =
           subst (λ (f : FoundAnchor). IsFoundAmong x asked names t certs (n + 1) f) (sym kept)
           (is.0, is.1, one_more (λ c. anchor_order r.cert c ≡ Less → ⊥) is.2 (λ c valid. absurd (never_valid c valid)))
@@ -236,18 +236,18 @@ module _ (x : Context) (asked : RevocationChecks) (names : Bool) (t : NamedTal) 
           )
 
     -- one that is valid
-    module _ (r : ResourceFields) (leads : LeadsTo x asked (at_anchor t (octets_at certs n)) [] r)
+    module _ (r : ResourceFields) (leads : LeadsTo x asked (at_anchor t (string_at certs n)) [] r)
         (named : IsTrue names → IsSelfNamed r.cert) where
       here : IsValidAt x asked names t certs n r.cert
       here = record {
         inside = inside;
-        stands = begins_anchor x asked t (octets_at certs n) r leads;
+        stands = begins_anchor x asked t (string_at certs n) r leads;
         is_valid =
             (r, leads, named);
       }
 
       one_cert : (c : CertFields) → IsValidAt x asked names t certs n c → c ≡ r.cert
-      one_cert c valid = one_meant IsCertificate law c r.cert (octets_at certs n) valid.stands here.stands
+      one_cert c valid = one_meant IsCertificate law c r.cert (string_at certs n) valid.stands here.stands
 
       -- it is the greatest
       taken : ((k : ℕ) (c : CertFields) → k < n → IsValidAt x asked names t certs k c →
@@ -261,7 +261,7 @@ module _ (x : Context) (asked : RevocationChecks) (names : Bool) (t : NamedTal) 
       )
 
       is_valid : (old new : FoundAnchor) → IsFoundAmong x asked names t certs n old →
-          IsKept old n (tried.Valid r) new → IsFoundAmong x asked names t certs (n + 1) new
+          IsKeptFound old n (tried.Valid r) new → IsFoundAmong x asked names t certs (n + 1) new
       is_valid (found.Wrong l) new is kept =
           subst (λ (f : FoundAnchor). IsFoundAmong x asked names t certs (n + 1) f) (sym kept)
           (taken (λ k c low valid less. is.1 k c low valid))
@@ -279,7 +279,7 @@ module _ (x : Context) (asked : RevocationChecks) (names : Bool) (t : NamedTal) 
 
     -- what was found of the certificate is kept
     pub one_tried : (old new : FoundAnchor) (this : Tried) → IsFoundAmong x asked names t certs n old →
-        IsTried x asked names t (octets_at certs n) this → IsKept old n this new →
+        IsTried x asked names t (string_at certs n) this → IsKeptFound old n this new →
         IsFoundAmong x asked names t certs (n + 1) new
     one_tried old new tried.OtherKey is none kept =
         subst (λ (f : FoundAnchor). IsFoundAmong x asked names t certs (n + 1) f) (sym kept) (no_key none old is)

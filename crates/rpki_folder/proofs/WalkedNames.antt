@@ -7,7 +7,7 @@ use Rattle.rpki_cert.specs.Certificates.{CertFields}
 use Rattle.rpki_cert.specs.declared.inspect.Kind.{Kind}
 use Rattle.rpki_path.specs.NameChains.{IsNamedBelow, IsSelfNamed, NamesChain}
 use Rattle.rpki_path.specs.Paths.{candidate, IsMember, IsPathOf, Member, Path}
-use Rattle.rpki_folder.specs.Folders.{cas_at, octets_at}
+use Rattle.rpki_folder.specs.Folders.{cas_at, string_at}
 use Rattle.rpki_folder.specs.Walks.{StandsAt, IsLastOf, IsLookedAt, AreAdmitted}
 use Rattle.rpki_folder.proofs.LookedAt.{last_pushed}
 
@@ -44,7 +44,7 @@ module _ (admits : List ℕ → ℕ → Type 0) (top : CertFields) (certs : List
   )
 
   pub stand_at : (above : List ℕ) (place : ℕ) (kind : Kind) (ms : List Member) →
-      AllZip IsMember ms (cas_at certs above ++ candidate kind (octets_at certs place) ∷ []) →
+      AllZip IsMember ms (cas_at certs above ++ candidate kind (string_at certs place) ∷ []) →
       AllZip Stand ms (above ++ place ∷ [])
   stand_at [] place kind [] h = absurd h
   stand_at [] place kind (m ∷ []) h = (h.0.begins, tt)
@@ -54,7 +54,7 @@ module _ (admits : List ℕ → ℕ → Type 0) (top : CertFields) (certs : List
 
 pub walked_chain : (admits : List ℕ → ℕ → Type 0) (anchor : List ℕ) (certs : List (List ℕ)) (above : List ℕ)
     (place : ℕ) (kind : Kind) (p : Path)
-    → IsPathOf anchor (cas_at certs above ++ candidate kind (octets_at certs place) ∷ []) p → IsSelfNamed p.anchor
+    → IsPathOf anchor (cas_at certs above ++ candidate kind (string_at certs place) ∷ []) p → IsSelfNamed p.anchor
     → AreAdmitted (IsLookedAt true admits p.anchor certs) [] (above ++ place ∷ []) → NamesChain p
 walked_chain admits anchor certs above place kind p path_of itself h = record {
   anchor_named = itself;

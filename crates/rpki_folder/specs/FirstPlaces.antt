@@ -32,9 +32,9 @@ AreFirstsIn certs table =
     (own : List (List ℕ)) × AllZip IsCertificateOctets certs own × AreFirsts own table
 
 -- the place that the table has for this one
-abbrev pub first_of : Firsts → ℕ → ℕ
-first_of table place = slice_index_or table.firsts.items place place
+abbrev pub first_place_of : Firsts → ℕ → ℕ
+first_place_of table place = slice_index_or table.firsts.items place place
 
 -- the table has this place for itself: there each certificate is let in once
 abbrev pub IsFirstIn : Firsts → List ℕ → ℕ → Type 0
-IsFirstIn table above place = first_of table place ≡ place
+IsFirstIn table above place = first_place_of table place ≡ place

@@ -25,12 +25,12 @@ abbrev pub with_list : FolderFields → CrlState → FolderFields
 with_list f l = record { certs = f.certs; lists = f.lists ++ l ∷ [] }
 
 -- the octets at the place; none where there is no such place
-abbrev pub octets_at : List (List ℕ) → ℕ → List ℕ
-octets_at certs place = slice_index_or certs place []
+abbrev pub string_at : List (List ℕ) → ℕ → List ℕ
+string_at certs place = slice_index_or certs place []
 
 -- the CAs at these places
 abbrev pub cas_at : List (List ℕ) → List ℕ → List Candidate
-cas_at certs places = map (λ place. candidate Authority (octets_at certs place)) places
+cas_at certs places = map (λ place. candidate Authority (string_at certs place)) places
 
 -- the octets begin with a certificate that names this key as the one that signs it
 pub record NamesSigner (key octets : List ℕ) : Type 0 where
@@ -41,15 +41,15 @@ pub record NamesSigner (key octets : List ℕ) : Type 0 where
 -- the octets at the two places begin with one certificate. Whatever is behind it doesn't count
 abbrev pub AreOneAt : List (List ℕ) → ℕ → ℕ → Type 0
 AreOneAt certs place other =
-    (c : CertFields) × Means IsCertificate c (octets_at certs place)
-    × Means IsCertificate c (octets_at certs other)
+    (c : CertFields) × Means IsCertificate c (string_at certs place)
+    × Means IsCertificate c (string_at certs other)
 
 -- the place is the first of those whose octets begin with its certificate
 abbrev pub IsFirst : List (List ℕ) → ℕ → Type 0
 IsFirst certs place = (other : ℕ) → other < place → AreOneAt certs place other → ⊥
 
 -- this is the first of the places whose octets begin with the certificate at the place
-pub record IsFirstOf (certs : List (List ℕ)) (place first : ℕ) : Type 0 where
+pub record IsFirstPlaceOf (certs : List (List ℕ)) (place first : ℕ) : Type 0 where
   pub one : AreOneAt certs place first
   pub is_first : IsFirst certs first
 
@@ -61,8 +61,8 @@ IsOnce {X} (x ∷ xs) = (Contains xs x → ⊥) × IsOnce xs
 -- these are the places of the certificates that name the key as the one that signs them, each once
 pub record ArePlacesOf (certs : List (List ℕ)) (key places : List ℕ) : Type 0 where
   pub inside : (place : ℕ) → Contains places place → place < length certs
-  pub only : (place : ℕ) → Contains places place → NamesSigner key (octets_at certs place)
-  pub all : (place : ℕ) → place < length certs → NamesSigner key (octets_at certs place)
+  pub only : (place : ℕ) → Contains places place → NamesSigner key (string_at certs place)
+  pub all : (place : ℕ) → place < length certs → NamesSigner key (string_at certs place)
       → Contains places place
   pub once : IsOnce places
 

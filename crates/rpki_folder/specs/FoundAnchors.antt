@@ -11,7 +11,7 @@ use Rattle.rpki_cert.specs.Verification.{Context}
 use Rattle.rpki_keys.specs.Locators.{NamedTal}
 use Rattle.rpki_path.specs.Asking.{RevocationChecks}
 use Rattle.rpki_path.specs.LocatedPaths.{BeginsWithKey}
-use Rattle.rpki_folder.specs.Folders.{octets_at}
+use Rattle.rpki_folder.specs.Folders.{string_at}
 use Rattle.rpki_folder.specs.Walks.{IsValidAnchor, IsWhyNone, LeadsTo, StandsAt, at_anchor}
 use Rattle.rpki_folder.specs.declared.anchors.FoundAnchor.{FoundAnchor}
 use Rattle.rpki_folder.specs.declared.anchors.FoundAnchor.TheVariants.{Valid, Wrong}
@@ -38,7 +38,7 @@ pub record IsValidAt (x : Context) (asked : RevocationChecks) (names : Bool) (t 
     (certs : List (List ℕ)) (place : ℕ) (c : CertFields) : Type 0 where
   pub inside : place < length certs
   pub stands : StandsAt certs place c
-  pub is_valid : IsValidAnchor x asked names t (octets_at certs place)
+  pub is_valid : IsValidAnchor x asked names t (string_at certs place)
 
 -- the trust anchor stands at this place: a valid one, and no other valid one is greater, wherever
 -- it stands
@@ -63,24 +63,24 @@ pub record IsWrongAnchor (x : Context) (asked : RevocationChecks) (names : Bool)
   pub why : IsWhyNone x asked names t octets error
 
 -- the places ascend
-abbrev pub AreAscending : List WrongCandidate → Type 0
-AreAscending [] = Unit {0}
-AreAscending (w ∷ more) = AllByRecursion (λ v. w.place < v.place) more × AreAscending more
+abbrev pub HaveAscendingPlaces : List WrongCandidate → Type 0
+HaveAscendingPlaces [] = Unit {0}
+HaveAscendingPlaces (w ∷ more) = AllByRecursion (λ v. w.place < v.place) more × HaveAscendingPlaces more
 
 -- of the first n certificates these have the locator's key, each with what is wrong with it as the
 -- trust anchor, in their order
 pub record AreWrongAnchors (x : Context) (asked : RevocationChecks) (names : Bool) (t : NamedTal)
     (certs : List (List ℕ)) (n : ℕ) (wrong : List WrongCandidate) : Type 0 where
   pub inside : AllByRecursion (λ w. w.place < n) wrong
-  pub each : AllByRecursion (λ w. IsWrongAnchor x asked names t (octets_at certs w.place) w.error) wrong
-  pub all : (place : ℕ) → place < n → BeginsWithKey t.tal (octets_at certs place)
+  pub each : AllByRecursion (λ w. IsWrongAnchor x asked names t (string_at certs w.place) w.error) wrong
+  pub all : (place : ℕ) → place < n → BeginsWithKey t.tal (string_at certs place)
       → Any (λ w. w.place ≡ place) wrong
-  pub ascending : AreAscending wrong
+  pub ascending : HaveAscendingPlaces wrong
 
 -- what is found: where the trust anchor stands, and what it holds; or that none is valid, and what
 -- is wrong with each certificate that has the locator's key
 abbrev pub IsFound : Context → RevocationChecks → Bool → NamedTal → List (List ℕ) → FoundAnchor → Type 0
 IsFound x asked names t certs (Valid place r) =
-    LeadsTo x asked (at_anchor t (octets_at certs place)) [] r × IsAnchorAt x asked names t certs place
+    LeadsTo x asked (at_anchor t (string_at certs place)) [] r × IsAnchorAt x asked names t certs place
 IsFound x asked names t certs (Wrong wrong) =
     AreWrongAnchors x asked names t certs (length certs) wrong.items × HasNoValid x asked names t certs

@@ -60,7 +60,7 @@ FailsWithout names x lists issuer e = (c : CertFields) → IsBelow issuer c
     → IsFirstFalse (by_named_lists names x lists issuer c) revocation_checks e
 
 -- they are what is to be kept of the lists for the issuer
-pub record AreIssuers (names : Bool) (x : Context) (lists : List CrlState) (issuer : TbsFields)
+pub record AreIssuerLists (names : Bool) (x : Context) (lists : List CrlState) (issuer : TbsFields)
     (kept : IssuerFields) : Type 0 where
   pub eligible : ArePicked (CanBeAsked names x.verifies x.now issuer) lists kept.eligible
   pub otherwise : FailsWithout names x lists issuer kept.otherwise

@@ -4,7 +4,7 @@ use Rattle.rpki_parts.specs.Signatures.{Verifies}
 use Rattle.rpki_cert.specs.Certificates.{CertFields}
 use Rattle.rpki_cert.specs.Verification.{Context}
 use Rattle.rpki_folder.specs.Folders.{FolderFields, IsOnce}
-use Rattle.rpki_folder.specs.IssuerLists.{AreIssuers}
+use Rattle.rpki_folder.specs.IssuerLists.{AreIssuerLists}
 use Rattle.rpki_folder.specs.NameTables.{IsOfKey}
 use Rattle.rpki_folder.specs.Walks.{IsChildOf, IsNamedUnder}
 use Rattle.rpki_folder.specs.declared.issuers.Issuer.{Issuer}
@@ -25,10 +25,10 @@ pub record AreAllChildren (names : Bool) (verifies : Verifies) (issuer : CertFie
 pub record IsKeptOf (names : Bool) (x : Context) (folder : FolderFields) (issuer : CertFields)
     (kept : Issuer) : Type 0 where
   pub children : AreAllChildren names x.verifies issuer folder.certs kept.children.items
-  pub lists : AreIssuers names x folder.lists issuer.fields kept.lists
+  pub lists : AreIssuerLists names x folder.lists issuer.fields kept.lists
 
 -- all that is kept of issuers and of keys is right
-pub record AreKept (names : Bool) (x : Context) (folder : FolderFields) (table : Issuers) : Type 0 where
+pub record AreIssuersKept (names : Bool) (x : Context) (folder : FolderFields) (table : Issuers) : Type 0 where
   pub issuers : (kept : Issuer) → Contains table.kept.items kept
       → IsKeptOf names x folder kept.cert kept
   pub keys : (kept : NamedKey) → Contains table.keys.items kept

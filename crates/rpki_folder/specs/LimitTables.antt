@@ -26,8 +26,8 @@ of_limit Depth = record { paths = 1; deep = true; short = false; needed = None }
 of_limit (steps needed) = record { paths = 1; deep = false; short = true; needed = needed }
 
 -- these were reached and those; paths are counted as far as a usize goes
-abbrev pub both : Reached → Reached → Reached
-both r s = record {
+abbrev pub both_reached : Reached → Reached → Reached
+both_reached r s = record {
   paths = min (r.paths + s.paths) (2 ^ 64 - 1);
   deep = r.deep || s.deep;
   short = r.short || s.short;
@@ -37,14 +37,14 @@ both r s = record {
 -- where the least number of steps is this, and the depth and the share of the steps were reached or not: the
 -- limit that asks for the least to be changed, which is that number of steps, or else the depth, or else more
 -- steps than there can be
-abbrev pub least_of : Option ℕ → Bool → Bool → Option Limit
-least_of (Some n) deep short = Some (steps (Some n))
-least_of None true short = Some Depth
-least_of None false true = Some (steps None)
-least_of None false false = None
+abbrev pub least_limit : Option ℕ → Bool → Bool → Option Limit
+least_limit (Some n) deep short = Some (steps (Some n))
+least_limit None true short = Some Depth
+least_limit None false true = Some (steps None)
+least_limit None false false = None
 
 abbrev pub least : Reached → Option Limit
-least r = least_of r.needed r.deep r.short
+least r = least_limit r.needed r.deep r.short
 
 -- ---- at each
 
@@ -57,7 +57,7 @@ ca_at start (place ∷ places) = ca_at place places
 -- what was reached at the certificate at a place, if at these CAs more was reached than before
 abbrev pub reached_more : ℕ → ℕ → Reached → List LimitedCa → Reached
 reached_more start place before limited =
-    fold (λ r ca. if ca_at start ca.above == place then both (of_limit ca.limit) r else r) before limited
+    fold (λ r ca. if ca_at start ca.above == place then both_reached (of_limit ca.limit) r else r) before limited
 
 -- what a table has at a place
 abbrev pub reached_at : LimitTable → ℕ → Reached

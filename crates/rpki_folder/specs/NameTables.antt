@@ -3,7 +3,7 @@
 use Rattle.std.specs.Prelude.{◌≡◌, ◌<◌, ◌↔◌, ℕ, Bool, List, length, Contains, IsTrue}
 use Rattle.rpki_parts.specs.Signatures.{Verifies}
 use Rattle.rpki_cert.specs.Certificates.{CertFields}
-use Rattle.rpki_folder.specs.Folders.{FolderFields, octets_at, NamesSigner, ArePlacesOf, IsOnce}
+use Rattle.rpki_folder.specs.Folders.{FolderFields, string_at, NamesSigner, ArePlacesOf, IsOnce}
 use Rattle.rpki_folder.specs.IssuerLists.{ArePicked, HasSigned}
 use Rattle.rpki_folder.specs.KeyTables.{places_in}
 use Rattle.rpki_folder.specs.Walks.{StandsAt, IsNamedUnder}
@@ -25,9 +25,9 @@ pub record ArePlacesUnder (names : Bool) (issuer : CertFields) (certs : List (Li
     (places : List ℕ) : Type 0 where
   pub inside : (place : ℕ) → Contains places place → place < length certs
   pub only : (place : ℕ) → Contains places place
-      → NamesSigner issuer.fields.extensions.subject_key_identifier (octets_at certs place)
+      → NamesSigner issuer.fields.extensions.subject_key_identifier (string_at certs place)
   pub all : (place : ℕ) → place < length certs
-      → NamesSigner issuer.fields.extensions.subject_key_identifier (octets_at certs place)
+      → NamesSigner issuer.fields.extensions.subject_key_identifier (string_at certs place)
       → IsNamedUnder names issuer certs place → Contains places place
   pub once : IsOnce places
 

@@ -49,9 +49,9 @@ IsNeed x asked admits root certs above depth between need =
     (share : ℕ) → need ≤ share ↔ HasEnough x asked admits root certs above share depth between
 
 -- this number, or none if it is more than a usize has
-abbrev pub IsNumber : Option ℕ → ℕ → Type 0
-IsNumber (Some told) n = told ≡ n
-IsNumber None n = 2 ^ 64 ≤ n
+abbrev pub IsToldNumber : Option ℕ → ℕ → Type 0
+IsToldNumber (Some told) n = told ≡ n
+IsToldNumber None n = 2 ^ 64 ≤ n
 
 -- a walk of so many steps and this depth reaches this limit at the last of the CAs at these places
 abbrev pub IsLimitAt : Context → RevocationChecks → (List ℕ → ℕ → Type 0) → Root → List (List ℕ)
@@ -60,7 +60,7 @@ IsLimitAt x asked admits root certs share depth above Depth =
     IsDeepAt x asked admits root certs [] share depth above
 IsLimitAt x asked admits root certs share depth above (steps told) =
     IsShortAt x asked admits root certs [] share depth above
-    × ((need : ℕ) × IsNeed x asked admits root certs [] depth above need × IsNumber told need)
+    × ((need : ℕ) × IsNeed x asked admits root certs [] depth above need × IsToldNumber told need)
 
 -- ---- what is told of them
 

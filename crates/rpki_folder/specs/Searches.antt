@@ -7,7 +7,7 @@ use Rattle.rpki_cert.specs.Certificates.{CertFields, IsCertificate}
 use Rattle.rpki_cert.specs.Verification.{Context}
 use Rattle.rpki_keys.specs.Locators.{NamedTal}
 use Rattle.rpki_path.specs.Asking.{RevocationChecks}
-use Rattle.rpki_folder.specs.Folders.{octets_at, cas_at}
+use Rattle.rpki_folder.specs.Folders.{string_at, cas_at}
 use Rattle.rpki_folder.specs.KeptLines.{IsToldBy}
 use Rattle.rpki_folder.specs.Walks.{at_anchor, IsRightOf, IsReached, Told, TellsFrom, Covers, AreAdmitted, IsLookedAt}
 use Rattle.rpki_folder.specs.declared.walk_error.WalkError.{WalkError}
@@ -27,7 +27,7 @@ abbrev pub IsFound : Context → RevocationChecks → Bool → (List ℕ → ℕ
     → List (List ℕ) → ℕ → ℕ → ℕ → Found → Type 0
 IsFound x asked names admits t anchor certs depth steps place (Valid path) =
     let above = path.above.items in
-    IsRightOf x asked (at_anchor t anchor) (cas_at certs above) (octets_at certs place)
+    IsRightOf x asked (at_anchor t anchor) (cas_at certs above) (string_at certs place)
     (Ok path.judged)
     × ((top : CertFields) → Means IsCertificate top anchor
     → AreAdmitted (IsLookedAt names admits top certs) [] (above ++ place ∷ []))

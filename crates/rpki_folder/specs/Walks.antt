@@ -23,7 +23,7 @@ use Rattle.rpki_path.specs.NameChains.{IsNamedBelow, IsSelfNamed, NamesChain}
 use Rattle.rpki_path.specs.Repeats.{AreOneEntity}
 use Rattle.rpki_path.specs.LocatedPaths.{IsAcceptedFrom, IsLocatedFault, IsOutOfMemory, IsValidFrom}
 use Rattle.rpki_cert.specs.SaidKinds.{BeginsWithKind}
-use Rattle.rpki_folder.specs.Folders.{octets_at, cas_at, NamesSigner, IsOnce}
+use Rattle.rpki_folder.specs.Folders.{string_at, cas_at, NamesSigner, IsOnce}
 use Rattle.rpki_folder.specs.IssuerLists.{ArePicked}
 use Rattle.rpki_folder.specs.declared.bounds.Ended.{Ended}
 use Rattle.rpki_folder.specs.declared.bounds.Ended.TheVariants.{Whole, TooDeep, OutOfSteps}
@@ -72,8 +72,8 @@ IsAcceptedAs x asked root members kind octets j =
 -- says that it is
 abbrev pub IsReached : Context → RevocationChecks → Root → List (List ℕ) → List ℕ → ℕ → Type 0
 IsReached x asked root certs above place =
-    (kind : Kind) × (j : Judged) × BeginsWithKind kind (octets_at certs place)
-    × IsAcceptedAs x asked root (members_at root certs above) kind (octets_at certs place) j
+    (kind : Kind) × (j : Judged) × BeginsWithKind kind (string_at certs place)
+    × IsAcceptedAs x asked root (members_at root certs above) kind (string_at certs place) j
 
 -- a valid path from the locator's trust anchor, with these octets, leads by the CAs at these places to
 -- the certificate at the place, as one of this kind, and its names chain, if they are asked
@@ -81,7 +81,7 @@ pub record LeadsBy (x : Context) (asked : RevocationChecks) (names : Bool) (t : 
     (anchor : List ℕ) (certs : List (List ℕ)) (kind : Kind) (place : ℕ)
     (above : List ℕ) : Type 0 where
   pub path : Path
-  pub path_of : IsPathOf anchor (cas_at certs above ++ candidate kind (octets_at certs place) ∷ [])
+  pub path_of : IsPathOf anchor (cas_at certs above ++ candidate kind (string_at certs place) ∷ [])
       path
   pub is_valid : IsValidFrom x asked t.tal path
   pub chained : IsTrue names → NamesChain path
@@ -95,8 +95,8 @@ pub record Told : Type 0 where
   pub place : ℕ
   pub verdict : Result Judged PathFault
 
-abbrev pub told : List ℕ → ℕ → Result Judged PathFault → Told
-told above place verdict = record { above = above; place = place; verdict = verdict }
+abbrev pub told_at : List ℕ → ℕ → Result Judged PathFault → Told
+told_at above place verdict = record { above = above; place = place; verdict = verdict }
 
 -- what is asked of a certificate of this kind below an issuer
 abbrev pub demand_as : Context → RevocationChecks → ResourceFields → Kind → Demand
@@ -115,7 +115,7 @@ IsRightOf x asked root members octets (Err e) =
 
 abbrev pub IsRight : Context → RevocationChecks → Root → List (List ℕ) → Told → Type 0
 IsRight x asked root certs t =
-    IsRightOf x asked root (members_at root certs t.above) (octets_at certs t.place) t.verdict
+    IsRightOf x asked root (members_at root certs t.above) (string_at certs t.place) t.verdict
 
 -- among what was told the certificate at the place was accepted below the CAs at these places
 abbrev pub IsTold : List Told → List ℕ → ℕ → Type 0
@@ -129,7 +129,7 @@ IsVerdictTold ts above place = Any (λ t. (t.above ≡ above) × (t.place ≡ pl
 
 -- the octets at the place begin with this certificate
 abbrev pub StandsAt : List (List ℕ) → ℕ → CertFields → Type 0
-StandsAt certs place c = Means IsCertificate c (octets_at certs place)
+StandsAt certs place c = Means IsCertificate c (string_at certs place)
 
 -- it is the certificate below which a walk begins, or one of those at these places
 abbrev pub IsAmong : CertFields → List (List ℕ) → List ℕ → CertFields → Type 0
@@ -361,7 +361,7 @@ IsTooDeep x asked admits root certs above depth ended =
 -- at whose CAs have enough: each child that is let in below them has a verdict. Where the walk ended, it
 -- looked at each path that its end says, and the CAs of each have enough. It says that a bound was met
 -- only where it was.
-pub record Tells {E : Type 0} (x : Context) (asked : RevocationChecks)
+pub record TellsWithin {E : Type 0} (x : Context) (asked : RevocationChecks)
     (admits : List ℕ → ℕ → Type 0) (root : Root) (certs : List (List ℕ)) (above : List ℕ)
     (depth share : ℕ) (result : Result Ended E) (ts : List Told) : Type 0 where
   pub right : AllByRecursion (IsRight x asked root certs) ts
@@ -382,7 +382,7 @@ abbrev pub TellsBelow : {E : Type 0} → Context → RevocationChecks → (List 
     → ResourceFields → List (List ℕ) → List ℕ → ℕ → ℕ → Result Ended E → List Told → Type 0
 TellsBelow x asked admits issuer certs above depth share result ts =
     (root : Root) → LeadsTo x asked root (members_at root certs above) issuer
-    → Tells x asked admits root certs above depth share result ts
+    → TellsWithin x asked admits root certs above depth share result ts
 
 -- what a walk tells below the locator's trust anchor, with these octets, of the certificates that it
 -- looks at
@@ -391,7 +391,7 @@ abbrev pub TellsFrom : {E : Type 0} → Context → RevocationChecks → Bool
     → List Told → Type 0
 TellsFrom x asked names admits t anchor certs depth steps result ts =
     (top : CertFields) → Means IsCertificate top anchor
-    → Tells x asked (IsLookedAt names admits top certs) (at_anchor t anchor) certs [] depth steps
+    → TellsWithin x asked (IsLookedAt names admits top certs) (at_anchor t anchor) certs [] depth steps
     result ts
 
 -- names are asked, and the trust anchor, which is valid, has two

@@ -1,8 +1,8 @@
 //! The trust anchor of a TAL among the certificates of a folder.
 ghost use Rattle.std.specs.Prelude.{◌≡◌, ◌↔◌, ◌<◌, length, IfOk, IsTrue};
-ghost use Rattle.rpki_folder.specs.Folders.{octets_at};
+ghost use Rattle.rpki_folder.specs.Folders.{string_at};
 ghost use Rattle.rpki_folder.specs.FoundAnchors.{IsFound, anchor_order};
-ghost use Rattle.rpki_folder.specs.FoundAnchors.Steps.{IsKept, IsTried};
+ghost use Rattle.rpki_folder.specs.FoundAnchors.Steps.{IsKeptFound, IsTried};
 ghost use Rattle.rpki_folder.specs.WalkViews.{walk_view};
 
 use crate::admission::Admission;
@@ -75,7 +75,7 @@ fn is_less(order: Ordering) -> bool
 
 // Keeps what is wrong with one candidate more, unless a valid one was found.
 fn with_wrong(found: FoundAnchor, wrong: WrongCandidate) -> Result<FoundAnchor, AllocError>
-    ensures { IfOk result (IsKept found wrong.place (Tried.Wrong wrong.error)) }
+    ensures { IfOk result (IsKeptFound found wrong.place (Tried.Wrong wrong.error)) }
 {
     match found {
         FoundAnchor::Valid(place, issuer) => {
@@ -91,7 +91,7 @@ fn with_wrong(found: FoundAnchor, wrong: WrongCandidate) -> Result<FoundAnchor, 
 
 // Keeps a valid trust anchor, unless one was found before that isn't less.
 fn with_valid(found: FoundAnchor, place: usize, issuer: ResourceCert) -> FoundAnchor
-    ensures { IsKept found place (Tried.Valid issuer) result }
+    ensures { IsKeptFound found place (Tried.Valid issuer) result }
 {
     match found {
         FoundAnchor::Valid(before, best) => {
@@ -111,7 +111,7 @@ fn with_valid(found: FoundAnchor, place: usize, issuer: ResourceCert) -> FoundAn
 
 // Keeps what was found of the certificate at a place.
 fn kept(found: FoundAnchor, place: usize, tried: Tried) -> Result<FoundAnchor, AllocError>
-    ensures { IfOk result (IsKept found place tried) }
+    ensures { IfOk result (IsKeptFound found place tried) }
 {
     match tried {
         Tried::OtherKey => Ok(found),
@@ -125,7 +125,7 @@ impl<'w, A: Admission, V: Verifier> Walk<'w, A, V> {
     fn try_anchor(&self, tal: &Tal, place: usize) -> Result<Tried, AllocError>
         requires { place < length self.now.folder.now.certs }
         ensures { let w = walk_view V.verifies A.admits self.now in
-            let octets = octets_at w.folder.certs place in
+            let octets = string_at w.folder.certs place in
             IfOk result (IsTried w.context w.asked w.names tal.now octets) }
     {
         laws::unambiguous();

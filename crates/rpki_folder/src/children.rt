@@ -3,11 +3,11 @@ ghost use Rattle.std.specs.Prelude.{◌≡◌, ◌↔◌, ◌+◌, ◌++◌, ◌
 ghost use Rattle.std.specs.List.{AllByRecursion};
 ghost use Rattle.rpki_cert.specs.Certificates.{CertFields};
 ghost use Rattle.rpki_cert.specs.Verification.{IsSignedBy, context};
-ghost use Rattle.rpki_folder.specs.Folders.{octets_at, ArePlacesOf, NamesSigner};
-ghost use Rattle.rpki_folder.specs.IssuerLists.{AreIssuers, ArePicked};
-ghost use Rattle.rpki_folder.specs.Walks.{Told, told, StandsAt};
+ghost use Rattle.rpki_folder.specs.Folders.{string_at, ArePlacesOf, NamesSigner};
+ghost use Rattle.rpki_folder.specs.IssuerLists.{AreIssuerLists, ArePicked};
+ghost use Rattle.rpki_folder.specs.Walks.{Told, told_at, StandsAt};
 ghost use Rattle.rpki_folder.specs.Walks.Steps.{ClaimIs, IsChildAdded, IsClaim, IsOther, IsToldOf};
-ghost use Rattle.rpki_folder.specs.IssuerTables.{AreAllChildren, AreKept, IsKeptOf};
+ghost use Rattle.rpki_folder.specs.IssuerTables.{AreAllChildren, AreIssuersKept, IsKeptOf};
 ghost use Rattle.rpki_folder.specs.NameTables.{ArePlacesUnder, IsOfKey};
 ghost use Rattle.rpki_folder.specs.WalkViews.{walk_view};
 ghost use Rattle.rpki_folder.specs.declared.issuers.Issuer.{Issuer as Kept};
@@ -100,10 +100,10 @@ impl<'w, A, V: Verifier> Walk<'w, A, V> {
             ArePlacesOf self.now.folder.now.certs key places.now }
         requires kept { let w = self.now in
             let x = context (V.verifies w.verifier.now) w.at w.strict in
-            AreKept w.names x w.folder.now issuers.old }
+            AreIssuersKept w.names x w.folder.now issuers.old }
         ensures { let w = self.now in
             let x = context (V.verifies w.verifier.now) w.at w.strict in
-            OnOk result (AreKept w.names x w.folder.now issuers.new) }
+            OnOk result (AreIssuersKept w.names x w.folder.now issuers.new) }
     {
         let key = issuer.as_cert().as_tbs().subject_key_identifier();
         if !self.names || issuers.by_key.get(&key).is_empty() {
@@ -149,7 +149,7 @@ impl<'w, A, V: Verifier> Walk<'w, A, V> {
             IfSome key (λ kept. IsOfKey verifies w.folder.now issuer.now.cert kept.now) }
         ensures { let w = self.now in
             let x = context (V.verifies w.verifier.now) w.at w.strict in
-            IfOk result (AreIssuers w.names x w.folder.now.lists issuer.now.cert.fields) }
+            IfOk result (AreIssuerLists w.names x w.folder.now.lists issuer.now.cert.fields) }
     {
         let identifier = issuer.as_cert().as_tbs().subject_key_identifier();
         let (lists, places) = (self.folder.lists(), self.folder.lists_of(&identifier));
@@ -173,7 +173,7 @@ impl<'w, A: Admission, V: Verifier> Walk<'w, A, V> {
     fn claim(&self, issuer: &ResourceCert, place: usize) -> Result<Claim, AllocError>
         requires place { place < length self.now.folder.now.certs }
         requires names { let key = issuer.now.cert.fields.extensions.subject_key_identifier in
-            NamesSigner key (octets_at self.now.folder.now.certs place) }
+            NamesSigner key (string_at self.now.folder.now.certs place) }
         ensures { let w = walk_view V.verifies A.admits self.now in
             IfOk result (IsClaim w.names w.context.verifies issuer.now.cert w.folder.certs place) }
     {
@@ -197,7 +197,7 @@ impl<'w, A: Admission, V: Verifier> Walk<'w, A, V> {
     ) -> Result<(), AllocError>
         requires place { place < length self.now.folder.now.certs }
         requires kept { let w = walk_view V.verifies A.admits self.now in
-            AreIssuers w.names w.context w.folder.lists issuer.now.cert.fields lists.now }
+            AreIssuerLists w.names w.context w.folder.lists issuer.now.cert.fields lists.now }
         requires signed { let w = walk_view V.verifies A.admits self.now in
             (c : CertFields) → StandsAt w.folder.certs place c → IsTrue is_signed
             ↔ IsSignedBy w.context.verifies issuer.now.cert.fields.key c.signed_data }
@@ -228,9 +228,9 @@ impl<'w, A: Admission, V: Verifier> Walk<'w, A, V> {
     ) -> Result<(), AllocError>
         requires place { place < length self.now.folder.now.certs }
         requires names { let key = issuer.now.cert.fields.extensions.subject_key_identifier in
-            NamesSigner key (octets_at self.now.folder.now.certs place) }
+            NamesSigner key (string_at self.now.folder.now.certs place) }
         requires kept { let w = walk_view V.verifies A.admits self.now in
-            AreIssuers w.names w.context w.folder.lists issuer.now.cert.fields lists.now }
+            AreIssuerLists w.names w.context w.folder.lists issuer.now.cert.fields lists.now }
         ensures told { let w = walk_view V.verifies A.admits self.now in
             let certs = w.folder.certs in
             let others = IsOther w.context.verifies w.names w.admits issuer.now.cert certs
@@ -266,7 +266,7 @@ impl<'w, A: Admission, V: Verifier> Walk<'w, A, V> {
         visitor: &mut W,
     ) -> Result<Vec<usize>, AllocError>
         requires kept { let w = walk_view V.verifies A.admits self.now in
-            AreIssuers w.names w.context w.folder.lists issuer.now.cert.fields lists.now }
+            AreIssuerLists w.names w.context w.folder.lists issuer.now.cert.fields lists.now }
         requires places { let w = walk_view V.verifies A.admits self.now in
             ArePlacesUnder w.names issuer.now.cert w.folder.certs places.now }
         ensures told { let w = walk_view V.verifies A.admits self.now in
@@ -301,7 +301,7 @@ impl<'w, A: Admission, V: Verifier> Walk<'w, A, V> {
         requires places { let key = issuer.now.cert.fields.extensions.subject_key_identifier in
             ArePlacesOf self.now.folder.now.certs key places.now }
         requires kept { let w = walk_view V.verifies A.admits self.now in
-            AreKept w.names w.context w.folder issuers.old }
+            AreIssuersKept w.names w.context w.folder issuers.old }
         ensures told { let w = walk_view V.verifies A.admits self.now in
             let certs = w.folder.certs in
             let others = IsOther w.context.verifies w.names w.admits issuer.now.cert certs
@@ -310,7 +310,7 @@ impl<'w, A: Admission, V: Verifier> Walk<'w, A, V> {
             → (more : List Told) × W.became v (ts ++ more) visitor.new
             × AllByRecursion (IsToldOf w.context w.asked issuer.now certs above.now others) more }
         ensures kept { let w = walk_view V.verifies A.admits self.now in
-            OnOk result (AreKept w.names w.context w.folder issuers.new) }
+            OnOk result (AreIssuersKept w.names w.context w.folder issuers.new) }
         ensures found { let w = walk_view V.verifies A.admits self.now in
             IfOk result (λ at. (at < length issuers.new.kept.items) × ((d : Kept)
             → IsKeptOf w.names w.context w.folder issuer.now.cert

@@ -1,7 +1,7 @@
 //! Which certificates of a folder are copies of an earlier one.
 ghost use Rattle.std.specs.Prelude.{◌≡◌, ◌<◌, ◌++◌, ◌∷◌, [], List, ℕ, length, IfOk, OnOk};
-ghost use Rattle.rpki_folder.specs.Folders.{IsFirstOf};
-ghost use Rattle.rpki_folder.specs.FirstPlaces.{AreFirsts, AreFirstsIn, first_of};
+ghost use Rattle.rpki_folder.specs.Folders.{IsFirstPlaceOf};
+ghost use Rattle.rpki_folder.specs.FirstPlaces.{AreFirsts, AreFirstsIn, first_place_of};
 
 use crate::admission::Admission;
 use crate::folder::Folder;
@@ -72,9 +72,9 @@ impl Firsts {
     /// Returns the first place whose bytes start with the certificate at this place. A walk that
     /// these [`Firsts`] admit judges the certificate there alone: its verdict is that on every copy.
     pub fn first_of(&self, place: usize) -> usize
-        ensures value { result ≡ first_of self.now place }
+        ensures value { result ≡ first_place_of self.now place }
         ensures first { (certs : List (List ℕ)) → AreFirstsIn certs self.now
-            → place < length certs → IsFirstOf certs place result }
+            → place < length certs → IsFirstPlaceOf certs place result }
     {
         laws::unambiguous();
         laws::octets_are_kept();

@@ -5,7 +5,7 @@ ghost use Rattle.rpki_cert.specs.Verification.{context};
 ghost use Rattle.rpki_path.specs.AskedLists.{HaveNone};
 ghost use Rattle.rpki_path.specs.AskedLists.Steps.{IsLatestIfAny};
 ghost use Rattle.rpki_folder.specs.KeyTables.{list_places};
-ghost use Rattle.rpki_folder.specs.IssuerLists.{ArePicked, HasName, HasSigned, IsCurrent, IsOfIssuer, FailsWithout, AreIssuers, IsAnswered};
+ghost use Rattle.rpki_folder.specs.IssuerLists.{ArePicked, HasName, HasSigned, IsCurrent, IsOfIssuer, FailsWithout, AreIssuerLists, IsAnswered};
 
 use rpki_cert::{Cert, ResourceCert};
 use rpki_crl::{Crl, RevocationError};
@@ -245,7 +245,7 @@ impl<'l> IssuerLists<'l> {
         requires known { let verifies = V.verifies verifier.now in IfSome known (λ is.
             IsTrue is ↔ HasSigned verifies lists.now issuer.now.cert.fields) }
         ensures { (strict : Bool) → let x = context (V.verifies verifier.now) now strict in
-            IfOk result (AreIssuers names x lists.now issuer.now.cert.fields) }
+            IfOk result (AreIssuerLists names x lists.now issuer.now.cert.fields) }
     {
         let named = named_lists(alloc, lists, places, issuer, names)?;
         let eligible = current_lists(alloc, &named, issuer, now, verifier)?;

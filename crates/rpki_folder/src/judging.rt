@@ -11,9 +11,9 @@ ghost use Rattle.rpki_path.specs.Asking.{nobody};
 ghost use Rattle.rpki_path.specs.Paths.{Finds};
 ghost use Rattle.rpki_path.specs.Paths.Steps.{kind_of, IsIssuedBy, demand_under};
 ghost use Rattle.rpki_path.specs.Routers.{IsRouterUnder, router_demand};
-ghost use Rattle.rpki_folder.specs.Folders.{octets_at};
-ghost use Rattle.rpki_folder.specs.IssuerLists.{AreIssuers};
-ghost use Rattle.rpki_folder.specs.Walks.{Told, told, StandsAt};
+ghost use Rattle.rpki_folder.specs.Folders.{string_at};
+ghost use Rattle.rpki_folder.specs.IssuerLists.{AreIssuerLists};
+ghost use Rattle.rpki_folder.specs.Walks.{Told, told_at, StandsAt};
 ghost use Rattle.rpki_folder.specs.Walks.Steps.{IsAnswer, IsOutcome, Hands};
 ghost use Rattle.rpki_folder.specs.WalkViews.{walk_view};
 
@@ -37,7 +37,7 @@ fn reject<W: Visitor>(
     visitor: &mut W,
 ) -> Result<(), AllocError>
     ensures ok { (v : W) (ts : List Told) → W.became v ts visitor.old
-        → OnOk result (W.became v (ts ++ told above.now place (Err fault) ∷ []) visitor.new) }
+        → OnOk result (W.became v (ts ++ told_at above.now place (Err fault) ∷ []) visitor.new) }
     ensures no_memory { OnOk result (fault ≢ Memory) }
     ensures err { (v : W) (ts : List Told) → W.became v ts visitor.old
         → OnErr result (W.became v ts visitor.new) }
@@ -59,10 +59,10 @@ impl<'w, A: Admission, V: Verifier> Walk<'w, A, V> {
     ) -> Result<ResourceCert, PathFault>
         requires { place < length self.now.folder.now.certs }
         ensures ok { let w = walk_view V.verifies A.admits self.now in
-            let octets = octets_at w.folder.certs place in
+            let octets = string_at w.folder.certs place in
             IfOk result (IsIssuedBy w.context nobody issuer.now (kind_of role) octets) }
         ensures fault { let w = walk_view V.verifies A.admits self.now in
-            let octets = octets_at w.folder.certs place in
+            let octets = string_at w.folder.certs place in
             IfErr result (Finds w.context (demand_under w.context nobody issuer.now (kind_of role))
             octets) }
     {
@@ -86,13 +86,13 @@ impl<'w, A: Admission, V: Verifier> Walk<'w, A, V> {
     ) -> Result<ResourceCert, PathFault>
         requires place { place < length self.now.folder.now.certs }
         requires kept { let w = walk_view V.verifies A.admits self.now in
-            AreIssuers w.names w.context w.folder.lists issuer.now.cert.fields lists.now }
+            AreIssuerLists w.names w.context w.folder.lists issuer.now.cert.fields lists.now }
         ensures ok { let w = walk_view V.verifies A.admits self.now in
             IfOk result (IsIssuedBy w.context w.asked issuer.now (kind_of role)
-            (octets_at w.folder.certs place)) }
+            (string_at w.folder.certs place)) }
         ensures fault { let w = walk_view V.verifies A.admits self.now in
             IfErr result (Finds w.context (demand_under w.context w.asked issuer.now (kind_of role))
-            (octets_at w.folder.certs place)) }
+            (string_at w.folder.certs place)) }
     {
         let member = self.unasked_member(issuer, place, role)?;
         let test = lists.ask(member.as_cert(), self.at);
@@ -104,11 +104,11 @@ impl<'w, A: Admission, V: Verifier> Walk<'w, A, V> {
     fn unasked_router(&self, issuer: &ResourceCert, place: usize) -> Result<Cert, PathFault>
         requires { place < length self.now.folder.now.certs }
         ensures begins { let w = walk_view V.verifies A.admits self.now in
-            IfOk result (λ c. Means IsCertificate c (octets_at w.folder.certs place)) }
+            IfOk result (λ c. Means IsCertificate c (string_at w.folder.certs place)) }
         ensures ok { let w = walk_view V.verifies A.admits self.now in
             IfOk result (IsRouterUnder w.context nobody issuer.now) }
         ensures fault { let w = walk_view V.verifies A.admits self.now in
-            let octets = octets_at w.folder.certs place in
+            let octets = string_at w.folder.certs place in
             IfErr result (Finds w.context (router_demand w.context nobody issuer.now) octets) }
     {
         let validator = Validator {
@@ -130,14 +130,14 @@ impl<'w, A: Admission, V: Verifier> Walk<'w, A, V> {
     ) -> Result<Cert, PathFault>
         requires place { place < length self.now.folder.now.certs }
         requires kept { let w = walk_view V.verifies A.admits self.now in
-            AreIssuers w.names w.context w.folder.lists issuer.now.cert.fields lists.now }
+            AreIssuerLists w.names w.context w.folder.lists issuer.now.cert.fields lists.now }
         ensures begins { let w = walk_view V.verifies A.admits self.now in
-            IfOk result (λ c. Means IsCertificate c (octets_at w.folder.certs place)) }
+            IfOk result (λ c. Means IsCertificate c (string_at w.folder.certs place)) }
         ensures ok { let w = walk_view V.verifies A.admits self.now in
             IfOk result (IsRouterUnder w.context w.asked issuer.now) }
         ensures fault { let w = walk_view V.verifies A.admits self.now in
             IfErr result (Finds w.context (router_demand w.context w.asked issuer.now)
-            (octets_at w.folder.certs place)) }
+            (string_at w.folder.certs place)) }
     {
         let cert = self.unasked_router(issuer, place)?;
         let test = lists.ask(&cert, self.at);
@@ -158,12 +158,12 @@ impl<'w, A: Admission, V: Verifier> Walk<'w, A, V> {
     ) -> Result<Option<ResourceCert>, AllocError>
         requires place { place < length self.now.folder.now.certs }
         requires kept { let w = walk_view V.verifies A.admits self.now in
-            AreIssuers w.names w.context w.folder.lists issuer.now.cert.fields lists.now }
+            AreIssuerLists w.names w.context w.folder.lists issuer.now.cert.fields lists.now }
         ensures ok { let w = walk_view V.verifies A.admits self.now in
-            let octets = octets_at w.folder.certs place in
+            let octets = string_at w.folder.certs place in
             (v : W) (ts : List Told) → W.became v ts visitor.old → IfOk result (λ member.
             (verdict : Result Judged Fault)
-            × W.became v (ts ++ told above.now place verdict ∷ []) visitor.new
+            × W.became v (ts ++ told_at above.now place verdict ∷ []) visitor.new
             × IsAnswer w.context w.asked issuer.now octets (kind_of role) verdict × Hands verdict
             member) }
         ensures err { (v : W) (ts : List Told) → W.became v ts visitor.old
@@ -193,12 +193,12 @@ impl<'w, A: Admission, V: Verifier> Walk<'w, A, V> {
     ) -> Result<(), AllocError>
         requires place { place < length self.now.folder.now.certs }
         requires kept { let w = walk_view V.verifies A.admits self.now in
-            AreIssuers w.names w.context w.folder.lists issuer.now.cert.fields lists.now }
+            AreIssuerLists w.names w.context w.folder.lists issuer.now.cert.fields lists.now }
         ensures ok { let w = walk_view V.verifies A.admits self.now in
-            let octets = octets_at w.folder.certs place in
+            let octets = string_at w.folder.certs place in
             (v : W) (ts : List Told) → W.became v ts visitor.old → OnOk result (
             (verdict : Result Judged Fault)
-            × W.became v (ts ++ told above.now place verdict ∷ []) visitor.new
+            × W.became v (ts ++ told_at above.now place verdict ∷ []) visitor.new
             × IsAnswer w.context w.asked issuer.now octets Router verdict) }
         ensures err { (v : W) (ts : List Told) → W.became v ts visitor.old
             → OnErr result (W.became v ts visitor.new) }
@@ -225,12 +225,12 @@ impl<'w, A: Admission, V: Verifier> Walk<'w, A, V> {
     ) -> Result<Option<ResourceCert>, AllocError>
         requires place { place < length self.now.folder.now.certs }
         requires kept { let w = walk_view V.verifies A.admits self.now in
-            AreIssuers w.names w.context w.folder.lists issuer.now.cert.fields lists.now }
+            AreIssuerLists w.names w.context w.folder.lists issuer.now.cert.fields lists.now }
         ensures ok { let w = walk_view V.verifies A.admits self.now in
-            let octets = octets_at w.folder.certs place in
+            let octets = string_at w.folder.certs place in
             (v : W) (ts : List Told) → W.became v ts visitor.old → IfOk result (λ next.
             (verdict : Result Judged Fault)
-            × W.became v (ts ++ told above.now place verdict ∷ []) visitor.new
+            × W.became v (ts ++ told_at above.now place verdict ∷ []) visitor.new
             × IsOutcome w.context w.asked issuer.now octets verdict next) }
         ensures err { (v : W) (ts : List Told) → W.became v ts visitor.old
             → OnErr result (W.became v ts visitor.new) }
@@ -273,15 +273,15 @@ impl<'w, A: Admission, V: Verifier> Walk<'w, A, V> {
     ) -> Result<Option<ResourceCert>, AllocError>
         requires place { place < length self.now.folder.now.certs }
         requires kept { let w = walk_view V.verifies A.admits self.now in
-            AreIssuers w.names w.context w.folder.lists issuer.now.cert.fields lists.now }
+            AreIssuerLists w.names w.context w.folder.lists issuer.now.cert.fields lists.now }
         requires signed { let w = walk_view V.verifies A.admits self.now in
             (c : CertFields) → StandsAt w.folder.certs place c → IsTrue is_signed
             ↔ IsSignedBy w.context.verifies issuer.now.cert.fields.key c.signed_data }
         ensures ok { let w = walk_view V.verifies A.admits self.now in
-            let octets = octets_at w.folder.certs place in
+            let octets = string_at w.folder.certs place in
             (v : W) (ts : List Told) → W.became v ts visitor.old → IfOk result (λ next.
             (verdict : Result Judged Fault)
-            × W.became v (ts ++ told above.now place verdict ∷ []) visitor.new
+            × W.became v (ts ++ told_at above.now place verdict ∷ []) visitor.new
             × IsOutcome w.context w.asked issuer.now octets verdict next) }
         ensures err { (v : W) (ts : List Told) → W.became v ts visitor.old
             → OnErr result (W.became v ts visitor.new) }

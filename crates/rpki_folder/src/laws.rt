@@ -11,7 +11,7 @@ ghost use Rattle.rpki_keys.specs.Locators.{NamedTal};
 ghost use Rattle.rpki_cert.specs.declared.inspect.Kind.TheVariants.{Anchor, Router};
 ghost use Rattle.rpki_path.specs.Asking.{IsUnrevokedBy};
 ghost use Rattle.rpki_path.specs.AskedLists.{AreSameLists, by_named_lists};
-ghost use Rattle.rpki_folder.specs.Folders.{FolderFields, cas_at, octets_at};
+ghost use Rattle.rpki_folder.specs.Folders.{FolderFields, cas_at, string_at};
 ghost use Rattle.rpki_folder.specs.Strangers.{AddsOnly, HasCertificate, IsFreeOf, LeadsThrough};
 ghost use Rattle.rpki_folder.specs.Walks.{Root, AreAdmitted, Covers, IsLookedAt, IsReached, IsTold, LeadsBy, Told, TellsFrom};
 ghost use Rattle.rpki_path.specs.NameChains.{IsSelfNamed, NamesChain};
@@ -37,14 +37,14 @@ pub fn blind_to_order<V: Verifier>()
         (folder other : FolderFields) (moved : ℕ → ℕ)
         → let x = context (V.verifies verifier) now strict in
         AreSameLists folder.lists other.lists
-        → ((place : ℕ) → octets_at other.certs (moved place) ≡ octets_at folder.certs place)
+        → ((place : ℕ) → string_at other.certs (moved place) ≡ string_at folder.certs place)
         → (above : List ℕ) (place : ℕ)
         → IsReached x (by_named_lists names x folder.lists) root folder.certs above place
         → IsReached x (by_named_lists names x other.lists) root other.certs (map moved above)
         (moved place) }
     ensures looked_at { (names : Bool) (top : CertFields) (folder other : FolderFields)
         (moved : ℕ → ℕ)
-        → ((place : ℕ) → octets_at other.certs (moved place) ≡ octets_at folder.certs place)
+        → ((place : ℕ) → string_at other.certs (moved place) ≡ string_at folder.certs place)
         → (places : List ℕ)
         → AreAdmitted (IsLookedAt names (λ l p. Unit {0}) top folder.certs) [] places
         → AreAdmitted (IsLookedAt names (λ l p. Unit {0}) top other.certs) [] (map moved places) }
@@ -82,7 +82,7 @@ pub fn isolated<V: Verifier>()
 pub fn looked_at_chains<A: Admission>()
     ensures { (admission : A) (anchor : List ℕ) (certs : List (List ℕ)) (above : List ℕ)
         (place : ℕ) (kind : Kind) (p : Path)
-        → let end = candidate kind (octets_at certs place) in
+        → let end = candidate kind (string_at certs place) in
         IsPathOf anchor (cas_at certs above ++ end ∷ []) p → IsSelfNamed p.anchor
         → AreAdmitted (IsLookedAt true (A.admits admission) p.anchor certs) []
         (above ++ place ∷ [])
@@ -101,7 +101,7 @@ pub fn nothing_is_lost<R: RevocationSource, V: Verifier>()
         let asked = R.asks source x in
         AsksByEntity names asked
         → TellsFrom {E = WalkError} x asked names (λ l p. Unit {0}) t anchor certs depth steps
-        (Ok ended) ts → BeginsWithKind kind (octets_at certs place) → kind ≢ Router
+        (Ok ended) ts → BeginsWithKind kind (string_at certs place) → kind ≢ Router
         → Covers ended depth (length above + 1)
         → LeadsBy x asked names t anchor certs kind place above
         → (other : List ℕ) × IsTold ts other place }

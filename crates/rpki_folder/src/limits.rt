@@ -1,6 +1,6 @@
 //! The limits that a walk reached, by the certificates of the CAs at which it reached them.
 ghost use Rattle.std.specs.Prelude.{◌≡◌, ◌∷◌, [], IfOk};
-ghost use Rattle.rpki_folder.specs.LimitTables.{both, ca_at, least, lesser, nothing, of_limit, reached_at};
+ghost use Rattle.rpki_folder.specs.LimitTables.{both_reached, ca_at, least, lesser, nothing, of_limit, reached_at};
 ghost use Rattle.rpki_folder.specs.ReachedLimits.{limited_ca};
 ghost use Rattle.rpki_folder.specs.ReachedLimits.Steps.{AreCounted, IsEmpty};
 
@@ -76,7 +76,7 @@ impl Reached {
 
     /// Returns the limits that were reached, if these were and the others.
     pub fn and(self, other: Reached) -> Reached
-        ensures { result ≡ both self other }
+        ensures { result ≡ both_reached self other }
     {
         Reached {
             paths: self.paths.saturating_add(other.paths),

@@ -1,7 +1,7 @@
 //! One line for each certificate of a folder.
 ghost use Rattle.std.specs.Prelude.{◌≡◌, ◌↔◌, ◌<◌, ◌∷◌, ◌++◌, ℕ, List, [], length, Ok, Err, IsTrue, IfOk, OnOk, OnErr};
 ghost use Rattle.std.specs.Str.{bytes_eq};
-ghost use Rattle.rpki_folder.specs.Walks.{Told, told};
+ghost use Rattle.rpki_folder.specs.Walks.{Told, told_at};
 ghost use Rattle.rpki_folder.specs.KeptLines.{AreLines, ArePaths, IsLine, Stays, has_path, paths_in};
 
 use crate::find::{FoundPath, path_of};
@@ -113,7 +113,7 @@ impl AcceptedPaths {
     ) -> Result<(), AllocError>
         ensures ok { (ts : List Told) (place : ℕ) → ArePaths ts place self.old
             → OnOk result
-            (ArePaths (ts ++ told above.now place (Ok accepted.now) ∷ []) place self.new) }
+            (ArePaths (ts ++ told_at above.now place (Ok accepted.now) ∷ []) place self.new) }
         ensures err { (ts : List Told) (place : ℕ) → ArePaths ts place self.old
             → OnErr result (ArePaths ts place self.new) }
     {
@@ -140,7 +140,7 @@ impl Line {
     ) -> Result<(), AllocError>
         ensures ok { (ts : List Told) (place : ℕ) → IsLine ts place self.old
             → OnOk result
-            (IsLine (ts ++ told above.now place (Ok accepted.now) ∷ []) place self.new) }
+            (IsLine (ts ++ told_at above.now place (Ok accepted.now) ∷ []) place self.new) }
         ensures err { (ts : List Told) (place : ℕ) → IsLine ts place self.old
             → OnErr result (IsLine ts place self.new) }
     {
@@ -186,7 +186,7 @@ impl Lines {
     ) -> Result<(), AllocError>
         requires { place < length self.old }
         ensures ok { (ts : List Told) → AreLines ts self.old
-            → OnOk result (AreLines (ts ++ told above.now place (Ok accepted.now) ∷ []) self.new) }
+            → OnOk result (AreLines (ts ++ told_at above.now place (Ok accepted.now) ∷ []) self.new) }
         ensures count { length self.new ≡ length self.old }
         ensures err { (ts : List Told) → AreLines ts self.old → OnErr result (AreLines ts self.new) }
     {
@@ -198,7 +198,7 @@ impl Lines {
     fn reject(&mut self, above: &[usize], place: usize, fault: PathFault)
         requires { place < length self.old }
         ensures lines { (ts : List Told) → AreLines ts self.old
-            → AreLines (ts ++ told above.now place (Err fault) ∷ []) self.new }
+            → AreLines (ts ++ told_at above.now place (Err fault) ∷ []) self.new }
         ensures count { length self.new ≡ length self.old }
     {
         let step = above.len() + 1;

@@ -1,6 +1,6 @@
 //! The share of the steps that a CA has, and what a share costs.
 ghost use Rattle.std.specs.Prelude.{◌≡◌, ◌+◌, ◌-◌, ◌*◌, ◌/◌, ◌<◌, ◌≤◌, ℕ};
-ghost use Rattle.rpki_folder.specs.ReachedLimits.{IsNumber};
+ghost use Rattle.rpki_folder.specs.ReachedLimits.{IsToldNumber};
 ghost use Rattle.rpki_folder.specs.ReachedLimits.Steps.{CostIs};
 
 /// What a share costs: a walk of `base + factor * share` steps hands down this share.
@@ -22,7 +22,7 @@ pub(crate) struct Share {
 impl Cost {
     // The steps that a share costs, if a `usize` has so many.
     fn of(self, share: usize) -> Option<usize>
-        ensures { IsNumber result (self.base + self.factor * share) }
+        ensures { IsToldNumber result (self.base + self.factor * share) }
     {
         let more = self.factor.checked_mul(share)?;
         self.base.checked_add(more)
@@ -53,7 +53,7 @@ impl Share {
     pub(crate) fn needed(self, children: usize) -> Option<usize>
         requires { 0 < children }
         ensures { (base factor : ℕ) → CostIs self.cost base factor
-            → IsNumber result (base + factor * children) }
+            → IsToldNumber result (base + factor * children) }
     {
         self.cost?.of(children)
     }

@@ -1,6 +1,6 @@
 //! Visitors, which a walk calls with each verdict.
 ghost use Rattle.std.specs.Prelude.{◌≡◌, None, Some, ◌++◌, ◌∷◌, [], List, OnOk, OnErr};
-ghost use Rattle.rpki_folder.specs.Walks.{Told, told};
+ghost use Rattle.rpki_folder.specs.Walks.{Told, told_at};
 
 use rpki_cert::{Cert, ResourceCert};
 use rpki_path::PathFault;
@@ -70,7 +70,7 @@ pub trait Visitor {
         verdict: Result<Accepted<'_>, PathFault>,
     ) -> Result<(), AllocError>
         ensures ok { (v : Self) (ts : List Told) → became v ts self.old
-            → OnOk result (became v (ts ++ told above.now place verdict.entry ∷ []) self.new) }
+            → OnOk result (became v (ts ++ told_at above.now place verdict.entry ∷ []) self.new) }
         ensures err { (v : Self) (ts : List Told) → became v ts self.old
             → OnErr result (became v ts self.new) };
 

@@ -6,10 +6,10 @@ ghost use Rattle.rpki_path.specs.LocatedPaths.{IsLocatedFault};
 ghost use Rattle.rpki_path.specs.declared.path_fault.PathFault.TheVariants.{Memory};
 ghost use Rattle.rpki_path.specs.NameChains.{IsSelfNamed};
 ghost use Rattle.rpki_folder.specs.Folders.{IsOnce};
-ghost use Rattle.rpki_folder.specs.IssuerLists.{AreIssuers};
-ghost use Rattle.rpki_folder.specs.Walks.{Root, at_anchor, members_at, LeadsTo, IsValidAnchor, Told, told, StandsAt, IsLastOf, IsLookedAt, IsChildOf, TellsBelow, TellsFrom, IsWhyNone};
+ghost use Rattle.rpki_folder.specs.IssuerLists.{AreIssuerLists};
+ghost use Rattle.rpki_folder.specs.Walks.{Root, at_anchor, members_at, LeadsTo, IsValidAnchor, Told, told_at, StandsAt, IsLastOf, IsLookedAt, IsChildOf, TellsBelow, TellsFrom, IsWhyNone};
 ghost use Rattle.rpki_folder.specs.Walks.Steps.{IsAtTop, AreJudged, IsNoChild, IsToldOf, WalksBelowEach, AreBelow};
-ghost use Rattle.rpki_folder.specs.IssuerTables.{AreKept, IsKeptOf};
+ghost use Rattle.rpki_folder.specs.IssuerTables.{AreIssuersKept, IsKeptOf};
 ghost use Rattle.rpki_folder.specs.LimitTables.{HasReached};
 ghost use Rattle.rpki_folder.specs.ReachedLimits.{AreLimited, AreLimitedFrom, LimitedCa, ended_of, limited_ca};
 ghost use Rattle.rpki_folder.specs.ReachedLimits.Steps.{AreCounted, KeepsBelow, KeepsBelowEach};
@@ -144,7 +144,7 @@ impl<'w, A: Admission, V: Verifier> Walk<'w, A, V> {
             (place : ℕ) → Contains children.now place
             → IsChildOf w.context.verifies issuer.now.cert w.folder.certs place }
         requires kept { let w = walk_view V.verifies A.admits self.now in
-            AreIssuers w.names w.context w.folder.lists issuer.now.cert.fields lists.now }
+            AreIssuerLists w.names w.context w.folder.lists issuer.now.cert.fields lists.now }
         ensures { let w = walk_view V.verifies A.admits self.now in
             let certs = w.folder.certs in
             let among = λ (p : ℕ). Contains children.now p in
@@ -182,7 +182,7 @@ impl<'w, A: Admission, V: Verifier> Walk<'w, A, V> {
         requires inside { (place : ℕ) → Contains above.now place
             → place < length self.now.folder.now.certs }
         requires kept { let w = walk_view V.verifies A.admits self.now in
-            AreKept w.names w.context w.folder issuers.old }
+            AreIssuersKept w.names w.context w.folder issuers.old }
         requires last { let certs = self.now.folder.now.certs in
             IsLastOf top.now.cert certs above.now issuer.now.cert }
         ensures told { let w = walk_view V.verifies A.admits self.now in
@@ -193,7 +193,7 @@ impl<'w, A: Admission, V: Verifier> Walk<'w, A, V> {
             → (more : List Told) × W.became v (ts ++ more) visitor.new
             × AllByRecursion (IsToldOf w.context w.asked issuer.now certs above.now others) more }
         ensures kept { let w = walk_view V.verifies A.admits self.now in
-            OnOk result (AreKept w.names w.context w.folder issuers.new) }
+            OnOk result (AreIssuersKept w.names w.context w.folder issuers.new) }
         ensures found { let w = walk_view V.verifies A.admits self.now in
             let certs = w.folder.certs in
             let looks = IsLookedAt w.names w.admits top.now.cert certs above.now in
@@ -238,7 +238,7 @@ impl<'w, A: Admission, V: Verifier> Walk<'w, A, V> {
         requires inside { (place : ℕ) → Contains trail.old.above.items place
             → place < length self.now.folder.now.certs }
         requires kept { let w = walk_view V.verifies A.admits self.now in
-            AreKept w.names w.context w.folder issuers.old }
+            AreIssuersKept w.names w.context w.folder issuers.old }
         requires stand { (ca : Ca) → Contains cas.now ca
             → StandsAt self.now.folder.now.certs ca.place ca.holder.cert }
         ensures tells { let w = walk_view V.verifies A.admits self.now in
@@ -255,7 +255,7 @@ impl<'w, A: Admission, V: Verifier> Walk<'w, A, V> {
             share cas.now trail.old.limits trail.new.limits) }
         ensures trail { OnOk result (trail.new.above.items ≡ trail.old.above.items) }
         ensures kept { let w = walk_view V.verifies A.admits self.now in
-            OnOk result (AreKept w.names w.context w.folder issuers.new) }
+            OnOk result (AreIssuersKept w.names w.context w.folder issuers.new) }
     {
         laws::unambiguous();
         let mut ended = Ended::Whole;
@@ -284,7 +284,7 @@ impl<'w, A: Admission, V: Verifier> Walk<'w, A, V> {
         requires inside { (place : ℕ) → Contains trail.old.above.items place
             → place < length self.now.folder.now.certs }
         requires kept { let w = walk_view V.verifies A.admits self.now in
-            AreKept w.names w.context w.folder issuers.old }
+            AreIssuersKept w.names w.context w.folder issuers.old }
         requires last { let certs = self.now.folder.now.certs in
             IsLastOf top.now.cert certs trail.old.above.items issuer.now.cert }
         ensures tells { let w = walk_view V.verifies A.admits self.now in
@@ -301,7 +301,7 @@ impl<'w, A: Admission, V: Verifier> Walk<'w, A, V> {
             depth share trail.old.limits trail.new.limits) }
         ensures trail { OnOk result (trail.new.above.items ≡ trail.old.above.items) }
         ensures kept { let w = walk_view V.verifies A.admits self.now in
-            OnOk result (AreKept w.names w.context w.folder issuers.new) }
+            OnOk result (AreIssuersKept w.names w.context w.folder issuers.new) }
     {
         laws::unambiguous();
         let found = self.look_below(top, issuer, &trail.above, issuers, visitor)?;

@@ -20,7 +20,7 @@ use Rattle.rpki_cert.specs.Certificates.{CertFields, IsCertificate, IsTbsCertifi
 use Rattle.rpki_cert.specs.Verification.{Context}
 use Rattle.rpki_keys.specs.Locators.{NamedTal}
 use Rattle.rpki_path.specs.AskedLists.{by_named_lists}
-use Rattle.rpki_folder.specs.Folders.{FolderFields, octets_at}
+use Rattle.rpki_folder.specs.Folders.{FolderFields, string_at}
 use Rattle.rpki_folder.specs.FoundAnchors.{IsAnchorAt, IsValidAt, anchor_order}
 use Rattle.rpki_folder.specs.Strangers.{AddsOnly}
 use Rattle.rpki_folder.specs.Walks.{IsValidAnchor}
@@ -84,7 +84,7 @@ module _ (x : Context) (names : Bool) (t : NamedTal) (law : IsUnambiguous IsCert
         IsValidAt x (by_named_lists names x folder.lists) names t folder.certs place c →
         IsAnchorIn x names t folder c
     in_folder place c valid = record {
-      octets = octets_at folder.certs place;
+      octets = string_at folder.certs place;
       among = Contains-get_or folder.certs place [] valid.inside;
       begins = valid.stands;
       is_valid = valid.is_valid;
@@ -95,7 +95,7 @@ module _ (x : Context) (names : Bool) (t : NamedTal) (law : IsUnambiguous IsCert
     at_place c h =
         let k = h.among.0 in
         let low = h.among.1 in
-        let there : octets_at folder.certs k ≡ h.octets = default_same folder.certs k [] h.octets low ∙ h.among.2 in (
+        let there : string_at folder.certs k ≡ h.octets = default_same folder.certs k [] h.octets low ∙ h.among.2 in (
           k,
           record {
             inside = low;
@@ -109,7 +109,7 @@ module _ (x : Context) (names : Bool) (t : NamedTal) (law : IsUnambiguous IsCert
         c.fields.algorithm ≡ c.signed_data.signature.algorithm
     one_algorithm place c valid =
         let l = valid.is_valid.1 in
-        let same : l.path.anchor ≡ c = one_meant IsCertificate law l.path.anchor c (octets_at folder.certs place)
+        let same : l.path.anchor ≡ c = one_meant IsCertificate law l.path.anchor c (string_at folder.certs place)
         l.path_of.anchor_begins valid.stands in
         subst (λ (d : CertFields). d.fields.algorithm ≡ d.signed_data.signature.algorithm) same l.is_valid.is_valid.anchor_meets.0
 
@@ -117,7 +117,7 @@ module _ (x : Context) (names : Bool) (t : NamedTal) (law : IsUnambiguous IsCert
       (old new : FolderFields) → AddsOnly x.verifies keys old new → (place other : ℕ)
       → IsAnchorAt x (by_named_lists names x old.lists) names t old.certs place
       → IsAnchorAt x (by_named_lists names x new.lists) names t new.certs other →
-      BeginAlike (octets_at old.certs place) (octets_at new.certs other)
+      BeginAlike (string_at old.certs place) (string_at new.certs other)
   chosen_same fields_law keys own old new adds place other a b =
       let c = a.cert in
       let d = b.cert in
@@ -128,9 +128,9 @@ module _ (x : Context) (names : Bool) (t : NamedTal) (law : IsUnambiguous IsCert
       let equal : anchor_order c d ≡ Equal = neither (anchor_order c d) (anchor_order d c) (order_total.antisymm c d) not back in
       let last = both_equal _ _ equal in
       let messages = both_equal _ _ last.0 in
-      let same : c ≡ d = one_certificate fields_law c d (octets_at old.certs place) (octets_at new.certs other)
+      let same : c ≡ d = one_certificate fields_law c d (string_at old.certs place) (string_at new.certs other)
       a.valid.stands b.valid.stands
       (one_algorithm old place c a.valid) (one_algorithm new other d b.valid)
       (exact_bytes c.signed_data.message d.signed_data.message messages.1)
       (exact_bytes c.signed_data.signature.value d.signed_data.signature.value last.1) in
-      (c, a.valid.stands, subst (λ (e : CertFields). Means IsCertificate e (octets_at new.certs other)) (sym same) b.valid.stands)
+      (c, a.valid.stands, subst (λ (e : CertFields). Means IsCertificate e (string_at new.certs other)) (sym same) b.valid.stands)

@@ -14,7 +14,7 @@ use Rattle.rpki_path.specs.LocatedPaths.{IsValidFrom, ListsSome}
 use Rattle.rpki_path.specs.Paths.{Candidate, HasHeld, IsMember, IsPathOf, Member, Path, candidate, certificate_at, last, longer, member}
 use Rattle.rpki_path.proofs.LongerPaths.{zip_more}
 use Rattle.rpki_path.proofs.Rejections.{one_path}
-use Rattle.rpki_folder.specs.Folders.{FolderFields, cas_at, octets_at}
+use Rattle.rpki_folder.specs.Folders.{FolderFields, cas_at, string_at}
 use Rattle.rpki_folder.specs.Strangers.{HasCertificate, LeadsThrough}
 use Rattle.rpki_folder.specs.Walks.{LeadsTo, StandsAt, at_anchor}
 use Rattle.rpki_folder.proofs.Descent.{there as inside_at}
@@ -38,7 +38,7 @@ module _ (folder : FolderFields) where
   -- what stands at one is of the folder
   pub has_there : (place : ℕ) (c : CertFields) → StandsAt folder.certs place c → HasCertificate folder c
   has_there place c stands = (
-    octets_at folder.certs place,
+    string_at folder.certs place,
     Contains-get_or folder.certs place [] (inside_at folder.certs c place stands),
     stands,
   )
@@ -89,10 +89,10 @@ all_front P (z ∷ xs) ys h = (h.0, all_front P xs ys h.1)
 -- with a certificate below the CAs
 pub with_end : (anchor : List ℕ) (certs : List (List ℕ)) (above : List ℕ) (place : ℕ) (kind : Kind) (p : Path)
     (c : CertFields) → IsPathOf anchor (cas_at certs above) p → StandsAt certs place c
-    → IsPathOf anchor (cas_at certs above ++ candidate kind (octets_at certs place) ∷ []) (longer p (member kind c))
+    → IsPathOf anchor (cas_at certs above ++ candidate kind (string_at certs place) ∷ []) (longer p (member kind c))
 with_end anchor certs above place kind p c path_of stands = record {
   anchor_begins = path_of.anchor_begins;
-  members = zip_more IsMember p.below (cas_at certs above) (member kind c) (candidate kind (octets_at certs place))
+  members = zip_more IsMember p.below (cas_at certs above) (member kind c) (candidate kind (string_at certs place))
       path_of.members (record { kind_is = refl; begins = stands });
 }
 

@@ -15,7 +15,7 @@ use Rattle.rpki_path.specs.AskedLists.{by_named_lists}
 use Rattle.rpki_path.specs.Asking.{RevocationChecks}
 use Rattle.rpki_path.specs.Paths.{Candidate, IsMember, IsPathOf, Member, Path, candidate, certificate_at, last, longer, member}
 use Rattle.rpki_path.proofs.LongerPaths.{above, last_extended, zip_more}
-use Rattle.rpki_folder.specs.Folders.{FolderFields, cas_at, octets_at}
+use Rattle.rpki_folder.specs.Folders.{FolderFields, cas_at, string_at}
 use Rattle.rpki_folder.specs.Strangers.{HasCertificate, IsFreeOf}
 use Rattle.rpki_folder.specs.Walks.{AreAcceptedCas, AreChildren, HasShare, IsAcceptedCa, IsChildOf, IsHandedDown}
 use Rattle.rpki_folder.specs.Walks.{IsLookedAt, LeadsTo, Root, StandsAt, at_anchor, members_at}
@@ -49,7 +49,7 @@ module _ (x : Context) (names : Bool) (t : NamedTal) (law : IsUnambiguous IsCert
   root anchor = at_anchor t anchor
 
   abbrev ca : FolderFields → ℕ → Candidate
-  ca f place = candidate Authority (octets_at f.certs place)
+  ca f place = candidate Authority (string_at f.certs place)
 
   abbrev Looks : CertFields → FolderFields → (List ℕ → ℕ → Type 0) → List ℕ → ℕ → Type 0
   Looks top f admits = IsLookedAt names admits top f.certs
@@ -175,7 +175,7 @@ module _ (x : Context) (names : Bool) (t : NamedTal) (law : IsUnambiguous IsCert
             (members_next (root aa) a.certs A k) accepted.1 in
             let c = child_on k looked
             (is_child x (asked a) (root aa) law (members_at (root aa) a.certs A) r leads Authority
-            (octets_at a.certs k) [] accepted.0 leads_k a.certs k refl) in
+            (string_at a.certs k) [] accepted.0 leads_k a.certs k refl) in
             let cert = c.1.same.0 in
             let m = member Authority cert in
             let to_a = with_end aa a.certs A k Authority q cert pa c.1.same.1 in
@@ -195,7 +195,7 @@ module _ (x : Context) (names : Bool) (t : NamedTal) (law : IsUnambiguous IsCert
       -- at which place of the first folder it is let in the second tells
       one_before : LetsInOnce x.verifies keys a.certs ia → (issuer : CertFields) (k n j : ℕ) → Child issuer k j → Child issuer n j → k ≡ n
       one_before once issuer k n j c d =
-          let one : c.same.0 ≡ d.same.0 = one_meant IsCertificate law c.same.0 d.same.0 (octets_at b.certs j) c.same.2 d.same.2 in
+          let one : c.same.0 ≡ d.same.0 = one_meant IsCertificate law c.same.0 d.same.0 (string_at b.certs j) c.same.2 d.same.2 in
           once d.same.0 d.others A k n (subst (λ (e : CertFields). StandsAt a.certs k e) one c.same.1) d.same.1
           c.looked.admitted d.looked.admitted
 
@@ -203,7 +203,7 @@ module _ (x : Context) (names : Bool) (t : NamedTal) (law : IsUnambiguous IsCert
       one_behind : LetsInOnce x.verifies keys b.certs ib → (issuer other : CertFields) (k j i : ℕ) →
           Child issuer k j → StandsAt b.certs i other → StandsAt a.certs k other → ib B i → j ≡ i
       one_behind once issuer other k j i c there here admitted =
-          let one : other ≡ c.same.0 = one_meant IsCertificate law other c.same.0 (octets_at a.certs k) here c.same.1 in
+          let one : other ≡ c.same.0 = one_meant IsCertificate law other c.same.0 (string_at a.certs k) here c.same.1 in
           once c.same.0 c.others B j i c.same.2 (subst (λ (e : CertFields). StandsAt b.certs i e) one there) c.looks.admitted admitted
 
   -- a child at which a walk looks
@@ -222,7 +222,7 @@ module _ (x : Context) (names : Bool) (t : NamedTal) (law : IsUnambiguous IsCert
         let child : IsChildOf x.verifies d.holder.cert a.certs h.place =
         subst (λ (i : CertFields). IsChildOf x.verifies i a.certs h.place) (sym held.cert_is) h.child in
         let n = child_on keys aa a ia bb b ib on p free d.above e.above d.path_of e.path_of d.holder d.leads h.place h.looks child in
-        let one : n.1.same.0 ≡ c = one_meant IsCertificate law n.1.same.0 c (octets_at a.certs h.place) n.1.same.1 h.stands in
+        let one : n.1.same.0 ≡ c = one_meant IsCertificate law n.1.same.0 c (string_at a.certs h.place) n.1.same.1 h.stands in
         record {
           down = e;
           place = n.0;

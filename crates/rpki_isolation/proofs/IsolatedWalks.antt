@@ -30,11 +30,11 @@ use Rattle.rpki_path.specs.Routers.{IsRouterUnder}
 use Rattle.rpki_path.specs.declared.judging.Judged.{Judged}
 use Rattle.rpki_path.specs.declared.path_fault.PathFault.{PathFault}
 use Rattle.rpki_path.proofs.LongerPaths.{above, all_at, last_extended}
-use Rattle.rpki_folder.specs.Folders.{FolderFields, cas_at, octets_at}
+use Rattle.rpki_folder.specs.Folders.{FolderFields, cas_at, string_at}
 use Rattle.rpki_folder.specs.Strangers.{AddsOnly, HasCertificate, IsFreeOf, LeadsThrough}
 use Rattle.rpki_isolation.specs.PathShares.{HasEnoughOn, IsOfOthers, LetsIn}
 use Rattle.rpki_isolation.specs.ToldWalks.{AreAlikeFaults, BeginAlike, HasLookedBelow, HasNoList, HoldAlike}
-use Rattle.rpki_isolation.specs.ToldWalks.{IsAcceptedBelow, IsAllFreeOf, IsForWantOfList, IsToldOf, SayAlike, Walked}
+use Rattle.rpki_isolation.specs.ToldWalks.{IsToldAccepted, IsAllFreeOf, IsForWantOfList, HasToldVerdict, SayAlike, Walked}
 use Rattle.rpki_folder.specs.Walks.{at_anchor, AreAdmitted, IsLookedAt, Covers, demand_as, IsAcceptedAs, IsReached}
 use Rattle.rpki_folder.specs.Walks.{IsRight, IsRightOf, IsTold, StandsAt, Told}
 use Rattle.rpki_folder.proofs.PathsDown.{no_fault, no_router_fault, some_is}
@@ -79,17 +79,17 @@ module _ (x : Context) (names : Bool) (t : NamedTal) (law : IsUnambiguous IsCert
     right_at : (ts : List Told) (places : List ℕ) (place : ℕ) (v : Result Judged PathFault) →
         AllByRecursion (IsRight x asked (at_anchor t anchor) folder.certs) ts →
         Any (λ (u : Told). (u.above ≡ places) × (u.place ≡ place) × (u.verdict ≡ v)) ts
-        → IsRightOf x asked (at_anchor t anchor) (cas_at folder.certs places) (octets_at folder.certs place) v
+        → IsRightOf x asked (at_anchor t anchor) (cas_at folder.certs places) (string_at folder.certs place) v
     right_at ts places place v right h =
         let u = h.1 in
         let is : IsRight x asked (at_anchor t anchor) folder.certs u =
         subst (λ (w : Told). IsRight x asked (at_anchor t anchor) folder.certs w) h.3
         (All-from_recursion (IsRight x asked (at_anchor t anchor) folder.certs) ts right h.0 u h.2) in
         subst (λ (w : Result Judged PathFault). IsRightOf x asked (at_anchor t anchor) (cas_at folder.certs places)
-        (octets_at folder.certs place) w) h.4.2
-        (subst (λ (n : ℕ). IsRightOf x asked (at_anchor t anchor) (cas_at folder.certs places) (octets_at folder.certs n) u.verdict) h.4.1
+        (string_at folder.certs place) w) h.4.2
+        (subst (λ (n : ℕ). IsRightOf x asked (at_anchor t anchor) (cas_at folder.certs places) (string_at folder.certs n) u.verdict) h.4.1
         (subst (λ (l : List ℕ). IsRightOf x asked (at_anchor t anchor) (cas_at folder.certs l)
-        (octets_at folder.certs u.place) u.verdict) h.4.0 is))
+        (string_at folder.certs u.place) u.verdict) h.4.0 is))
 
     told_there : (ts : List Told) (places : List ℕ) (place : ℕ) (j : Judged) →
         Any (λ (u : Told). (u.above ≡ places) × (u.place ≡ place) × (u.verdict ≡ Ok j)) ts → IsTold ts places place
@@ -98,7 +98,7 @@ module _ (x : Context) (names : Bool) (t : NamedTal) (law : IsUnambiguous IsCert
     module _ (p : Path) (c : CertFields) (places : List ℕ) (place : ℕ)
         (path_of : IsPathOf anchor (cas_at folder.certs places) p) (stands : StandsAt folder.certs place c) where
       abbrev octets : List ℕ
-      octets = octets_at folder.certs place
+      octets = string_at folder.certs place
 
       abbrev cas_there : List Candidate
       cas_there = cas_at folder.certs places
@@ -194,13 +194,13 @@ module _ (x : Context) (names : Bool) (t : NamedTal) (law : IsUnambiguous IsCert
     -- ---- the way to what a walk accepted
 
     module _ (admits : List ℕ → ℕ → Type 0) (w : Walked x names admits t anchor folder) (p : Path) (c : CertFields) where
-      way_of : (j : Judged) → IsToldOf anchor folder.certs w.verdicts p c (Ok j) → Way admits anchor folder p c j
+      way_of : (j : Judged) → HasToldVerdict anchor folder.certs w.verdicts p c (Ok j) → Way admits anchor folder p c j
       way_of j told =
           let tells = w.tells p.anchor told.path_of.anchor_begins in
           let right = right_at w.verdicts told.above told.place (Ok j) tells.right told.among in
           let kind = right.0 in
           let says : SaysKind kind c.fields = subst (λ (d : CertFields). SaysKind kind d.fields)
-          (one_meant IsCertificate law right.1.0 c (octets_at folder.certs told.place) right.1.1 told.stands)
+          (one_meant IsCertificate law right.1.0 c (string_at folder.certs told.place) right.1.1 told.stands)
           right.1.2 in
           record {
             kind = kind;
@@ -215,7 +215,7 @@ module _ (x : Context) (names : Bool) (t : NamedTal) (law : IsUnambiguous IsCert
           }
 
       -- where the walk's end says that it looked at what it accepted there, the CAs of the path have enough
-      pub enough_of : Covers w.ended w.depth (last p + 1) → IsAcceptedBelow anchor folder.certs w.verdicts p c →
+      pub enough_of : Covers w.ended w.depth (last p + 1) → IsToldAccepted anchor folder.certs w.verdicts p c →
           HasEnoughOn x names admits t anchor folder w.depth w.steps p
       enough_of covers accepted =
           let told = accepted.1 in
@@ -331,7 +331,7 @@ module _ (x : Context) (names : Bool) (t : NamedTal) (law : IsUnambiguous IsCert
         there : (place : ℕ) × StandsAt b.certs place c × ib d.places place
         there = let some = place_of b c (have_all s.kind j kind_is).1 in on.lets_in c (others_all s.kind j kind_is).1 some.0 some.1 d.places
 
-        accepted_so : IsTold v.verdicts d.places there.0 → IsAcceptedBelow bb b.certs v.verdicts p c
+        accepted_so : IsTold v.verdicts d.places there.0 → IsToldAccepted bb b.certs v.verdicts p c
         accepted_so told =
             let k = ok_value told.1.verdict told.4.2 in (
               k.0,
@@ -356,7 +356,7 @@ module _ (x : Context) (names : Bool) (t : NamedTal) (law : IsUnambiguous IsCert
             (c, s.stands, there.1) there.2
             (admitted_last (IsLookedAt names ia p.anchor a.certs) [] s.places s.place s.looked))
 
-      accepted_there : HasLookedBelow p v → IsAcceptedBelow bb b.certs v.verdicts p c
+      accepted_there : HasLookedBelow p v → IsToldAccepted bb b.certs v.verdicts p c
       accepted_there (inl covers) =
           let d = looked_down x.verifies keys law names p.anchor a.certs ia b ib on.lets_in p.below
           (have_all s.kind j kind_is).0 (others_all s.kind j kind_is).0 [] s.places [] tt s.path_of.members
@@ -372,7 +372,7 @@ module _ (x : Context) (names : Bool) (t : NamedTal) (law : IsUnambiguous IsCert
     -- and finds no fault
     not_rejected : (j : Judged) → Way ia aa a p c j →
         (lets : List ℕ → ℕ → Type 0) (v : Walked x names lets t bb b) (e : PathFault) →
-        IsToldOf bb b.certs v.verdicts p c (Err e) → ⊥
+        HasToldVerdict bb b.certs v.verdicts p c (Err e) → ⊥
     not_rejected j s lets v e told =
         let right = right_at bb b v.verdicts told.above told.place (Err e) (v.tells p.anchor told.path_of.anchor_begins).right told.among in
         not_wrong bb b p c told.above told.place told.path_of told.stands s.kind j s.says (carried s.kind j s.is_of) e right
@@ -404,13 +404,13 @@ module _ (x : Context) (names : Bool) (t : NamedTal) (law : IsUnambiguous IsCert
     module _ (w : Walked x names i t anchor old) (v : Walked x names i_then t after new) where
       -- what one walk accepted, the other did, if it looked below the path
       pub accepted_then : LetsIn x.verifies keys new.certs i_then → HasLookedBelow p v →
-          IsAcceptedBelow anchor old.certs w.verdicts p c → IsAcceptedBelow after new.certs v.verdicts p c
+          IsToldAccepted anchor old.certs w.verdicts p c → IsToldAccepted after new.certs v.verdicts p c
       accepted_then lets far told = accepted_there keys anchor old i after new i_then
           (carries_on x names law keys old new adds anchor after alike i_then lets) p free c told.0
           (way_of anchor old i w p c told.0 told.1) v far
 
       pub accepted_before : LetsIn x.verifies keys old.certs i → HasLookedBelow p w →
-          IsAcceptedBelow after new.certs v.verdicts p c → IsAcceptedBelow anchor old.certs w.verdicts p c
+          IsToldAccepted after new.certs v.verdicts p c → IsToldAccepted anchor old.certs w.verdicts p c
       accepted_before lets far told = accepted_there keys after new i_then anchor old i
           (carries_back x names law keys old new adds anchor after alike i lets) p free c told.0
           (way_of after new i_then v p c told.0 told.1) w far
@@ -495,8 +495,8 @@ module _ (x : Context) (names : Bool) (t : NamedTal) (law : IsUnambiguous IsCert
           by_kind Detached i j = by_checks Detached issued_checks issued_names i j
           by_kind Router i j = by_checks Router router_checks router_names i j
 
-      rejected_alike : (e f : PathFault) → IsToldOf anchor old.certs w.verdicts p c (Err e) →
-          IsToldOf after new.certs v.verdicts p c (Err f) → AreAlikeFaults names x old p c e f
+      rejected_alike : (e f : PathFault) → HasToldVerdict anchor old.certs w.verdicts p c (Err e) →
+          HasToldVerdict after new.certs v.verdicts p c (Err f) → AreAlikeFaults names x old p c e f
       rejected_alike e f m n =
           let i = right_at anchor old w.verdicts m.above m.place (Err e) (w.tells p.anchor m.path_of.anchor_begins).right m.among in
           let j = right_at after new v.verdicts n.above n.place (Err f) (v.tells p.anchor n.path_of.anchor_begins).right n.among in
@@ -505,18 +505,18 @@ module _ (x : Context) (names : Bool) (t : NamedTal) (law : IsUnambiguous IsCert
           let k = leads_of x names t after law new p (cas_at new.certs n.above) j.1.1 j.1.3 n.path_of
           (have new p.below n.above n.path_of.members) in
           let said : SaysKind i.1.0 c.fields = subst (λ (d : CertFields). SaysKind i.1.0 d.fields)
-          (one_meant IsCertificate law i.1.2.0 c (octets_at old.certs m.place) i.1.2.1 m.stands) i.1.2.2 in
+          (one_meant IsCertificate law i.1.2.0 c (string_at old.certs m.place) i.1.2.1 m.stands) i.1.2.2 in
           let said_then : SaysKind j.1.0 c.fields = subst (λ (d : CertFields). SaysKind j.1.0 d.fields)
-          (one_meant IsCertificate law j.1.2.0 c (octets_at new.certs n.place) j.1.2.1 n.stands) j.1.2.2 in
+          (one_meant IsCertificate law j.1.2.0 c (string_at new.certs n.place) j.1.2.1 n.stands) j.1.2.2 in
           let same = says_one c.fields j.1.0 i.1.0 said_then said in
-          by_kind i.1.1 j.1.1 h.held k.held (octets_at old.certs m.place) (octets_at new.certs n.place) m.stands
+          by_kind i.1.1 j.1.1 h.held k.held (string_at old.certs m.place) (string_at new.certs n.place) m.stands
           n.stands e f i.0 j.0 i.1.0 i.1.4
           (subst (λ (kind : Kind). Finds x (demand_as x (by_named_lists names x new.lists) j.1.1 kind)
-          (octets_at new.certs n.place) f) same j.1.4)
+          (string_at new.certs n.place) f) same j.1.4)
 
       -- two verdicts on one certificate below one path say the same
-      pub verdicts_alike : (one other : Result Judged PathFault) → IsToldOf anchor old.certs w.verdicts p c one →
-          IsToldOf after new.certs v.verdicts p c other → SayAlike names x old p c one other
+      pub verdicts_alike : (one other : Result Judged PathFault) → HasToldVerdict anchor old.certs w.verdicts p c one →
+          HasToldVerdict after new.certs v.verdicts p c other → SayAlike names x old p c one other
       verdicts_alike (Ok j) (Ok k) m n =
           let s = way_of anchor old i w p c j m in
           let r = way_of after new i_then v p c k n in

@@ -11,7 +11,7 @@ use Rattle.rpki_parts.specs.Signatures.{Verifies}
 use Rattle.rpki_cert.specs.Certificates.{CertFields, IsCertificate}
 use Rattle.rpki_path.specs.Paths.{IsMember, Member}
 use Rattle.rpki_path.proofs.LongerPaths.{zip_more}
-use Rattle.rpki_folder.specs.Folders.{FolderFields, cas_at, octets_at}
+use Rattle.rpki_folder.specs.Folders.{FolderFields, cas_at, string_at}
 use Rattle.rpki_folder.specs.Strangers.{HasCertificate}
 use Rattle.rpki_folder.specs.Walks.{AreAdmitted, IsAmong, IsLastOf, IsLookedAt, StandsAt}
 use Rattle.rpki_isolation.specs.PathShares.{IsOfOthers, LetsIn}
@@ -67,7 +67,7 @@ module _ (certs others : List (List ℕ)) where
     -- what stands at the one stands at the other
     back_at : (k j : ℕ) → Same k j → (c : CertFields) → StandsAt others j c → StandsAt certs k c
     back_at k j same c stands =
-        let one : same.0 ≡ c = one_meant IsCertificate law same.0 c (octets_at others j) same.2 stands in
+        let one : same.0 ≡ c = one_meant IsCertificate law same.0 c (string_at others j) same.2 stands in
         subst (λ (d : CertFields). StandsAt certs k d) one same.1
 
     last_back : (top : CertFields) (ks js : List ℕ) → AllZip Same ks js → (c : CertFields) →

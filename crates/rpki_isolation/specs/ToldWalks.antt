@@ -48,7 +48,7 @@ pub record Walked (x : Context) (names : Bool) (admits : List ℕ → ℕ → Ty
       folder.certs depth steps (Ok ended) verdicts
 
 -- among what was told is this verdict on the certificate, below the CAs of the path
-pub record IsToldOf (anchor : List ℕ) (certs : List (List ℕ)) (ts : List Told) (p : Path)
+pub record HasToldVerdict (anchor : List ℕ) (certs : List (List ℕ)) (ts : List Told) (p : Path)
     (c : CertFields) (verdict : Result Judged PathFault) : Type 0 where
   pub above : List ℕ
   pub place : ℕ
@@ -57,8 +57,8 @@ pub record IsToldOf (anchor : List ℕ) (certs : List (List ℕ)) (ts : List Tol
   pub among : Any (λ t. (t.above ≡ above) × (t.place ≡ place) × (t.verdict ≡ verdict)) ts
 
 -- among what was told is that it is accepted there
-abbrev pub IsAcceptedBelow : List ℕ → List (List ℕ) → List Told → Path → CertFields → Type 0
-IsAcceptedBelow anchor certs ts p c = (j : Judged) × IsToldOf anchor certs ts p c (Ok j)
+abbrev pub IsToldAccepted : List ℕ → List (List ℕ) → List Told → Path → CertFields → Type 0
+IsToldAccepted anchor certs ts p c = (j : Judged) × HasToldVerdict anchor certs ts p c (Ok j)
 
 -- the walk looked at all below the path: its end says so; or the path's CAs have enough
 abbrev pub HasLookedBelow : {x : Context} {names : Bool} {admits : List ℕ → ℕ → Type 0}

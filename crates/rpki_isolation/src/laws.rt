@@ -13,13 +13,13 @@ ghost use Rattle.rpki_path.specs.Paths.{Path, last};
 ghost use Rattle.rpki_path.specs.declared.judging.Judged.{Judged};
 ghost use Rattle.rpki_path.specs.declared.path_fault.PathFault.{PathFault};
 ghost use Rattle.rpki_folder.specs.FirstPlaces.{AreFirstsIn, IsFirstIn};
-ghost use Rattle.rpki_folder.specs.Folders.{FolderFields, octets_at, with_cert, with_list};
+ghost use Rattle.rpki_folder.specs.Folders.{FolderFields, string_at, with_cert, with_list};
 ghost use Rattle.rpki_folder.specs.FoundAnchors.{IsAnchorAt};
 ghost use Rattle.rpki_folder.specs.declared.firsts.Firsts.{Firsts};
 ghost use Rattle.rpki_folder.specs.Strangers.{AddsOnly, IsFreeOf, IsSignedByOnly};
 ghost use Rattle.rpki_folder.specs.Walks.{Covers};
 ghost use Rattle.rpki_isolation.specs.PathShares.{HasEnoughOn, HasOthersOnce, HasShareOn, IsChildOn, LetsIn, LetsInEach, ReachesLimit};
-ghost use Rattle.rpki_isolation.specs.ToldWalks.{BeginAlike, HasLookedBelow, IsAcceptedBelow, IsAllFreeOf, IsAnchorIn, IsToldOf, SayAlike, Walked};
+ghost use Rattle.rpki_isolation.specs.ToldWalks.{BeginAlike, HasLookedBelow, IsToldAccepted, IsAllFreeOf, IsAnchorIn, HasToldVerdict, SayAlike, Walked};
 
 use rpki_folder::Admission;
 use rpki_parts::Verifier;
@@ -38,7 +38,7 @@ pub fn isolated_anchors<V: Verifier>()
         → (place other : ℕ)
         → IsAnchorAt x (by_named_lists names x old.lists) names t old.certs place
         → IsAnchorAt x (by_named_lists names x new.lists) names t new.certs other
-        → BeginAlike (octets_at old.certs place) (octets_at new.certs other) }
+        → BeginAlike (string_at old.certs place) (string_at new.certs other) }
 {
     rpki_cert::laws::unambiguous();
 }
@@ -131,8 +131,8 @@ pub fn isolated_walks<A: Admission, B: Admission, V: Verifier>()
         → (w : Walked x names (A.admits a) t anchor old)
         (v : Walked x names (B.admits b) t other new)
         → (p : Path) → IsAllFreeOf keys p → (c : CertFields) (one two : Result Judged PathFault)
-        → IsToldOf anchor old.certs w.verdicts p c one
-        → IsToldOf other new.certs v.verdicts p c two → SayAlike names x old p c one two }
+        → HasToldVerdict anchor old.certs w.verdicts p c one
+        → HasToldVerdict other new.certs v.verdicts p c two → SayAlike names x old p c one two }
     ensures stays { (verifier : V) (now : Moment) (strict names : Bool) (keys : List KeyFields)
         (old new : FolderFields) (t : NamedTal) (anchor other : List ℕ) (a : A) (b : B)
         → let x = context (V.verifies verifier) now strict in
@@ -141,8 +141,8 @@ pub fn isolated_walks<A: Admission, B: Admission, V: Verifier>()
         → (w : Walked x names (A.admits a) t anchor old)
         (v : Walked x names (B.admits b) t other new)
         → (p : Path) → IsAllFreeOf keys p → (c : CertFields) → HasLookedBelow p v
-        → IsAcceptedBelow anchor old.certs w.verdicts p c
-        → IsAcceptedBelow other new.certs v.verdicts p c }
+        → IsToldAccepted anchor old.certs w.verdicts p c
+        → IsToldAccepted other new.certs v.verdicts p c }
     ensures only { (verifier : V) (now : Moment) (strict names : Bool) (keys : List KeyFields)
         (old new : FolderFields) (t : NamedTal) (anchor other : List ℕ) (a : A) (b : B)
         → let x = context (V.verifies verifier) now strict in
@@ -151,8 +151,8 @@ pub fn isolated_walks<A: Admission, B: Admission, V: Verifier>()
         → (w : Walked x names (A.admits a) t anchor old)
         (v : Walked x names (B.admits b) t other new)
         → (p : Path) → IsAllFreeOf keys p → (c : CertFields) → HasLookedBelow p w
-        → IsAcceptedBelow other new.certs v.verdicts p c
-        → IsAcceptedBelow anchor old.certs w.verdicts p c }
+        → IsToldAccepted other new.certs v.verdicts p c
+        → IsToldAccepted anchor old.certs w.verdicts p c }
     ensures bounded { (verifier : V) (now : Moment) (strict names : Bool) (keys : List KeyFields)
         (old new : FolderFields) (t : NamedTal) (anchor other : List ℕ) (a : A) (b : B)
         → let x = context (V.verifies verifier) now strict in
@@ -163,8 +163,8 @@ pub fn isolated_walks<A: Admission, B: Admission, V: Verifier>()
         (v : Walked x names (B.admits b) t other new)
         → w.depth ≡ v.depth → w.steps ≡ v.steps → (p : Path) → IsAllFreeOf keys p
         → HasEnoughOn x names (A.admits a) t anchor old w.depth w.steps p → (c : CertFields)
-        → IsAcceptedBelow anchor old.certs w.verdicts p c
-        ↔ IsAcceptedBelow other new.certs v.verdicts p c }
+        → IsToldAccepted anchor old.certs w.verdicts p c
+        ↔ IsToldAccepted other new.certs v.verdicts p c }
     ensures unharmed { (verifier : V) (now : Moment) (strict names : Bool) (keys : List KeyFields)
         (old new : FolderFields) (t : NamedTal) (anchor other : List ℕ) (a : A) (b : B)
         → let x = context (V.verifies verifier) now strict in
@@ -175,8 +175,8 @@ pub fn isolated_walks<A: Admission, B: Admission, V: Verifier>()
         (v : Walked x names (B.admits b) t other new)
         → w.depth ≡ v.depth → w.steps ≡ v.steps → (p : Path) → IsAllFreeOf keys p
         → Covers w.ended w.depth (last p + 1) → (c : CertFields)
-        → IsAcceptedBelow anchor old.certs w.verdicts p c
-        ↔ IsAcceptedBelow other new.certs v.verdicts p c }
+        → IsToldAccepted anchor old.certs w.verdicts p c
+        ↔ IsToldAccepted other new.certs v.verdicts p c }
 {
     rpki_cert::laws::unambiguous();
 }

@@ -15,7 +15,7 @@ use Rattle.rpki_issuing.specs.Acceptance.{AnswersFor, IsAcceptedAlone, IsAccepte
 use Rattle.rpki_issuing.specs.Acceptance.{IsAskedAmong, IsUnrevokedIn}
 use Rattle.rpki_issuing.specs.ListReadiness.{IsCurrentList}
 use Rattle.rpki_issuing.specs.PreparedOctets.{IsRoleOf, issuer_in}
-use Rattle.rpki_issuing.specs.Roles.{GetsNumbers, IsValidAs, kind_of}
+use Rattle.rpki_issuing.specs.Roles.{GetsNumbers, IsValidAs, role_kind}
 use Rattle.rpki_issuing.specs.declared.role.Role.{Role}
 use Rattle.rpki_issuing.specs.declared.role.Role.TheVariants.{Anchor, Authority, EndEntity, Detached, Router}
 use Rattle.rpki_path.specs.AskedLists.{IsEligibleNamed, IsFor, IsForBelow, IsLatest, IsNamedBy, Revokes}
@@ -57,7 +57,7 @@ module _ (x : Context) (asked : RevocationChecks) (c : CertFields) (octets : Lis
       )
 
   in_role : (role : Role) → IsValidAs x role c → GetsNumbers role c → IsUnrevokedIn asked (issuer_in role) c →
-      IsAcceptedBelow x asked (kind_of role) (issuer_in role) octets
+      IsAcceptedBelow x asked (role_kind role) (issuer_in role) octets
   in_role Anchor valid gets free = alone valid
   in_role (Authority issuer) valid gets free = below_issuer kind.Authority issuer.now gets.0 gets.1 valid.meets
       valid.checks free
@@ -77,7 +77,7 @@ module _ (x : Context) (asked : RevocationChecks) (c : CertFields) (octets : Lis
       IsAcceptedBelow x asked k issuer octets
   accepted_below k issuer role of valid gets free =
       subst (λ (j : Kind). IsAcceptedBelow x asked j issuer octets) of.kind_is
-      (subst (λ (above : Option ResourceFields). IsAcceptedBelow x asked (kind_of role) above octets) of.issuer_is
+      (subst (λ (above : Option ResourceFields). IsAcceptedBelow x asked (role_kind role) above octets) of.issuer_is
       (in_role role valid gets
       (subst (λ (above : Option ResourceFields). IsUnrevokedIn asked above c) (sym of.issuer_is) free)))
 

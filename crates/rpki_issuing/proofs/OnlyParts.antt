@@ -1,11 +1,11 @@
 -- Only one value, carried over to another relation; and the parts of a text are only one pair.
 use Rattle.std.proofs.Common.{◌≡◌, ℕ, ◌+◌, List, take, drop, Option, Some, None, sym, ap, ◌∙◌}
-use Rattle.rpki_issuing.specs.BlockTexts.{IsParted, Lacks}
-use Rattle.rpki_issuing.specs.OnlyValues.{Finds}
+use Rattle.rpki_issuing.specs.BlockTexts.{IsParted, LacksOctet}
+use Rattle.rpki_issuing.specs.OnlyValues.{FindsOnly}
 
 -- what is so of the same values finds the same one
 pub carried : {V : Type 0} (P Q : V → Type 0) → ((v : V) → P v → Q v) → ((v : V) → Q v → P v) → (o : Option V) →
-    Finds P o → Finds Q o
+    FindsOnly P o → FindsOnly Q o
 carried P Q to back None none = λ v q. none v (back v q)
 carried P Q to back (Some v) only = (to v only.0, λ w q. only.1 w (back w q))
 
@@ -22,5 +22,5 @@ one_parting octet text a b x y p q =
     )
 
 -- a text that is parted doesn't lack the octet
-pub parted_has : (octet : ℕ) (text a b : List ℕ) → IsParted octet text a b → Lacks octet text → ⊥
+pub parted_has : (octet : ℕ) (text a b : List ℕ) → IsParted octet text a b → LacksOctet octet text → ⊥
 parted_has octet text a b p lacks = let e : Some p.place ≡ None = sym p.place_is ∙ lacks in cc

@@ -2,7 +2,7 @@
 use Rattle.std.proofs.Common.{◌≡◌, ℕ, ◌+◌, ◌-◌, ◌*◌, ◌/◌, ◌^◌, ◌≤◌, List, min, max, arith, sym, ap, ◌∙◌}
 use Rattle.rpki_blocks.specs.Prefixes.{IsPrefixBlock}
 use Rattle.rpki_blocks.specs.Sets.{Block, between}
-use Rattle.rpki_issuing.specs.BlockTexts.{IsAddressText, IsNumberText, IsPrefix, IsRange, bits_of, size_of}
+use Rattle.rpki_issuing.specs.BlockTexts.{IsAddressText, IsNumberText, IsPrefix, IsAddressRange, address_bits, size_of}
 use Rattle.rpki_issuing.specs.OnlyValues.{IsOnly}
 use Rattle.rpki_issuing.specs.declared.values.families.Family.{Family}
 use Rattle.rpki_issuing.specs.declared.values.families.Family.TheVariants.{V4, V6}
@@ -17,7 +17,7 @@ pub record AreRead (family : Family) (before behind : List ℕ) (address count :
 
 -- the block from an address that has no bit set behind the count
 pub only_prefix : (family : Family) (before behind : List ℕ) (address count first len : ℕ) (b : Block) →
-    AreRead family before behind address count → count ≤ bits_of family → first ≡ address * size_of family →
+    AreRead family before behind address count → count ≤ address_bits family → first ≡ address * size_of family →
     len ≡ count → IsPrefixBlock first len b → b.min ≡ first
     → IsOnly (IsPrefix family before behind) b
 only_prefix family before behind address count first len b read fits first_is len_is block whole = (
@@ -61,7 +61,7 @@ in_order V6 first last low high le low_is high_is = omega arith
 pub only_range : (family : Family) (before behind : List ℕ) (first last low high : ℕ) (b : Block) →
     IsOnly (λ n. IsAddressText family n before) first → IsOnly (λ n. IsAddressText family n behind) last →
     first ≤ last → low ≡ first * size_of family → high + 1 ≡ (last + 1) * size_of family
-    → b.min ≡ min low high → b.max ≡ max low high → IsOnly (IsRange family before behind) b
+    → b.min ≡ min low high → b.max ≡ max low high → IsOnly (IsAddressRange family before behind) b
 only_range family before behind first last low high b firsts lasts le low_is high_is min_is max_is =
     let ordered : low ≤ high = in_order family first last low high le low_is high_is in
     let lower : b.min ≡ low = omega arith in

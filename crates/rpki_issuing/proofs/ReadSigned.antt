@@ -19,7 +19,7 @@ use Rattle.rpki_cert.specs.Certificates.{tbs_content}
 use Rattle.rpki_cert.specs.Issuing.{IsUnreadable}
 use Rattle.rpki_cert.proofs.CertificateFormats.{certificate_is}
 use Rattle.rpki_cert.proofs.ReadAgain.{message_again, certificate_again, fields_again, readable}
-use Rattle.rpki_issuing.specs.IssuingErrors.{of_encoding, of_decoding}
+use Rattle.rpki_issuing.specs.IssuingErrors.{of_encoding, error_of_decoding}
 use Rattle.rpki_issuing.specs.Readiness.{signed_with, IsTooLong, IsUnassembled}
 
 -- what begins octets is a certificate whose own octets are read
@@ -48,7 +48,8 @@ module _ (f : TbsFields) (octets : List ℕ) (value : AreOctets octets) where
         (subst (λ (e : CertFields). IsMade e) (sym same) (made can), same)
 
     -- where nothing is read, it ran out of memory, or the fields can't be written
-    pub unread : (e : DecodeError) → Rejects e (IsUnreadable c.signed_data) → IsUnassembled f octets (of_decoding e)
+    pub unread : (e : DecodeError) → Rejects e (IsUnreadable c.signed_data) →
+        IsUnassembled f octets (error_of_decoding e)
     unread reading.Memory h = tt
     unread _ h = λ can. readable c (made can) h
 

@@ -10,8 +10,8 @@ use Rattle.rpki_cert.proofs.Checks.{first_not_all}
 use Rattle.rpki_der.specs.Times.{Moment}
 use Rattle.rpki_cert.specs.declared.verification_error.VerificationError.TheVariants.{BadSignature}
 use Rattle.rpki_issuing.specs.Readiness.{IsReady, IsUnready, IsSignatureOf, IsSignatureFault, but_signature}
-use Rattle.rpki_issuing.specs.Readiness.{unsigned, signed_with}
-use Rattle.rpki_issuing.specs.Roles.{kind_of, signing_key, RoleCheck, role_checks}
+use Rattle.rpki_issuing.specs.Readiness.{unsigned_certificate, signed_with}
+use Rattle.rpki_issuing.specs.Roles.{role_kind, signing_key, RoleCheck, role_checks}
 use Rattle.rpki_issuing.specs.declared.issuing_error.IssuingError.{IssuingError}
 use Rattle.rpki_issuing.specs.declared.issuing_error.IssuingError.TheVariants.{Unwritable, TooLong, Invalid, Memory}
 use Rattle.rpki_issuing.specs.declared.role.Role.{Role}
@@ -41,19 +41,21 @@ module _ (at : Moment) (strict : Bool) (f : TbsFields) where
   pub unready_not : (r : Role) (e : IssuingError) → e ≢ Memory → IsUnready at strict r f e → IsReady at strict r f → ⊥
   unready_not r Unwritable apart h ready = h ready.fields_are
   unready_not r TooLong apart h ready = let short = ready.short in omega arith
-  unready_not r (Invalid (Inspection e)) apart h ready = first_not_all (Lacks (kind_of r) strict (unsigned f))
-      (faults (kind_of r)) e h ready.valid.meets
+  unready_not r (Invalid (Inspection e)) apart h ready =
+      first_not_all (Lacks (role_kind r) strict (unsigned_certificate f))
+      (faults (role_kind r)) e h ready.valid.meets
   unready_not r (Invalid (Verification e)) apart h ready =
-      first_not_all (RoleCheck (but_signature at strict) r (unsigned f)) (role_checks r) e h.1 ready.valid.checks
+      first_not_all (RoleCheck (but_signature at strict) r (unsigned_certificate f)) (role_checks r) e h.1
+      ready.valid.checks
   unready_not r Memory apart h ready = apart refl
 
   abbrev checked : ResourceFields → Type 0
-  checked r = IsVerified (CheckUnder (but_signature at strict) r (unsigned f)) issued_checks
+  checked r = IsVerified (CheckUnder (but_signature at strict) r (unsigned_certificate f)) issued_checks
 
   abbrev router_checked : ResourceFields → Type 0
-  router_checked r = IsVerified (CheckUnder (but_signature at strict) r (unsigned f)) router_checks
+  router_checked r = IsVerified (CheckUnder (but_signature at strict) r (unsigned_certificate f)) router_checks
 
-  same_ready : (r s : Role) → kind_of r ≡ kind_of s → issuer_in r ≡ issuer_in s → IsReady at strict r f →
+  same_ready : (r s : Role) → role_kind r ≡ role_kind s → issuer_in r ≡ issuer_in s → IsReady at strict r f →
       IsReady at strict s f
   same_ready Anchor Anchor k i h = h
   same_ready (Authority a) (Authority b) k i h =

@@ -16,10 +16,10 @@ use Rattle.rpki_cert.specs.declared.verification_error.VerificationError.{Verifi
 use Rattle.rpki_cert.specs.declared.verification_error.VerificationError.TheVariants.{BadSignature}
 use Rattle.rpki_cert.specs.declared.verification_error.VerificationError.TheVariants as verifying
 use Rattle.rpki_cert.proofs.Checks.{first_not_all}
-use Rattle.rpki_issuing.specs.IssuingErrors.{of_verification, of_validation}
-use Rattle.rpki_issuing.specs.Readiness.{signed_with, unsigned, IsUnassembled, but_signature, IsSignatureOf}
+use Rattle.rpki_issuing.specs.IssuingErrors.{error_of_verification, error_of_validation}
+use Rattle.rpki_issuing.specs.Readiness.{signed_with, unsigned_certificate, IsUnassembled, but_signature, IsSignatureOf}
 use Rattle.rpki_issuing.specs.Readiness.{IsIncomplete, IsSignatureFault, IsUnready}
-use Rattle.rpki_issuing.specs.Roles.{kind_of, RoleCheck, role_checks, IsValidAs, IsInvalidAs}
+use Rattle.rpki_issuing.specs.Roles.{role_kind, RoleCheck, role_checks, IsValidAs, IsInvalidAs}
 use Rattle.rpki_issuing.specs.declared.issuing_error.IssuingError.{IssuingError}
 use Rattle.rpki_issuing.specs.declared.issuing_error.IssuingError.TheVariants.{Unwritable, TooLong, Invalid, Memory}
 use Rattle.rpki_issuing.specs.declared.role.Role.{Role}
@@ -48,24 +48,24 @@ module _ {X : Type 0} (P Q : X → Type 0) (b : X) (follows : (y : X) → (y ≡
 -- ---- why a certificate isn't valid in its role
 
 module _ (x : Context) (role : Role) (c : CertFields) where
-  verified_not : (e : VerificationError) → MeetsProfile (kind_of role) x.strict c →
-      IsFirstFalse (RoleCheck x role c) (role_checks role) e → IsInvalidAs x role c (of_verification e)
+  verified_not : (e : VerificationError) → MeetsProfile (role_kind role) x.strict c →
+      IsFirstFalse (RoleCheck x role c) (role_checks role) e → IsInvalidAs x role c (error_of_verification e)
   verified_not verifying.Memory meets first = tt
   verified_not _ meets first = (meets, first)
 
   -- what is said of one that is verified and gets numbers
   pub invalid_below : (e : ValidationError) →
-      IsInvalid (kind_of role) x.strict c (IsFirstFalseOrMemory (RoleCheck x role c) (role_checks role)) e →
-      IsInvalidAs x role c (of_validation e)
+      IsInvalid (role_kind role) x.strict c (IsFirstFalseOrMemory (RoleCheck x role c) (role_checks role)) e →
+      IsInvalidAs x role c (error_of_validation e)
   invalid_below (Inspection e) h = h
   invalid_below (Verification e) (meets, inl same) =
-      subst (λ (d : VerificationError). IsInvalidAs x role c (of_verification d)) (sym same) tt
+      subst (λ (d : VerificationError). IsInvalidAs x role c (error_of_verification d)) (sym same) tt
   invalid_below (Verification e) (meets, inr first) = verified_not e meets first
 
   -- what is said of one that is verified alone
   pub invalid_alone : (e : ValidationError) →
-      IsInvalid (kind_of role) x.strict c (IsFirstFalse (RoleCheck x role c) (role_checks role)) e →
-      IsInvalidAs x role c (of_validation e)
+      IsInvalid (role_kind role) x.strict c (IsFirstFalse (RoleCheck x role c) (role_checks role)) e →
+      IsInvalidAs x role c (error_of_validation e)
   invalid_alone (Inspection e) h = h
   invalid_alone (Verification e) (meets, first) = verified_not e meets first
 
@@ -79,7 +79,7 @@ passed_on x role told c copy r e is same one h =
 
 -- before it is signed
 pub unready : (now : Moment) (strict : Bool) (role : Role) (f : TbsFields) (e : IssuingError) →
-    IsInvalidAs (but_signature now strict) role (unsigned f) e → IsUnready now strict role f e
+    IsInvalidAs (but_signature now strict) role (unsigned_certificate f) e → IsUnready now strict role f e
 unready now strict role f Unwritable h = absurd h
 unready now strict role f TooLong h = absurd h
 unready now strict role f (Invalid e) h = h
@@ -97,7 +97,8 @@ incomplete x role f value Memory h = tt
 
 -- the profile asks only which algorithm it names
 meets_same : (strict : Bool) (role : Role) (f : TbsFields) (value : List ℕ) →
-    MeetsProfile (kind_of role) strict (unsigned f) → MeetsProfile (kind_of role) strict (signed_with f value)
+    MeetsProfile (role_kind role) strict (unsigned_certificate f) →
+    MeetsProfile (role_kind role) strict (signed_with f value)
 meets_same strict Anchor f value h = h
 meets_same strict (Authority issuer) f value h = h
 meets_same strict (EndEntity issuer) f value h = h
@@ -106,13 +107,13 @@ meets_same strict (Router issuer) f value h = h
 
 module _ (V : Verifies) (now : Moment) (strict : Bool) (f : TbsFields) (value : List ℕ) where
   check_same : (issuer : TbsFields) (held : Held) (e : VerificationError) →
-      (e ≡ BadSignature) ⊎ (Check (but_signature now strict) issuer held (unsigned f) e →
+      (e ≡ BadSignature) ⊎ (Check (but_signature now strict) issuer held (unsigned_certificate f) e →
       Check (context V now strict) issuer held (signed_with f value) e)
   check_same issuer held BadSignature = inl refl
   check_same issuer held _ = inr (λ h. h)
 
   checks_same : (role : Role) (e : VerificationError) →
-      (e ≡ BadSignature) ⊎ (RoleCheck (but_signature now strict) role (unsigned f) e →
+      (e ≡ BadSignature) ⊎ (RoleCheck (but_signature now strict) role (unsigned_certificate f) e →
       RoleCheck (context V now strict) role (signed_with f value) e)
   checks_same Anchor e = check_same f nothing_held e
   checks_same (Authority issuer) e = check_same issuer.now.cert.fields (held_by issuer.now) e
@@ -137,11 +138,11 @@ module _ (V : Verifies) (now : Moment) (strict : Bool) (f : TbsFields) (value : 
   check_signature (Router issuer) h = h
 
   -- what is ready is valid once it is signed
-  pub valid_signed : (role : Role) → IsValidAs (but_signature now strict) role (unsigned f) →
+  pub valid_signed : (role : Role) → IsValidAs (but_signature now strict) role (unsigned_certificate f) →
       IsSignatureOf V role f value → IsValidAs (context V now strict) role (signed_with f value)
   valid_signed role valid signed = record {
     meets = meets_same strict role f value valid.meets;
-    checks = all_but (RoleCheck (but_signature now strict) role (unsigned f))
+    checks = all_but (RoleCheck (but_signature now strict) role (unsigned_certificate f))
         (RoleCheck (context V now strict) role (signed_with f value)) BadSignature (checks_same role)
         (role_checks role) (check_signature role signed) valid.checks;
   }
@@ -157,16 +158,17 @@ module _ (V : Verifies) (now : Moment) (strict : Bool) (f : TbsFields) (value : 
   signed_of (Router issuer) (_, (_, (_, (_, (_, (h, _)))))) = h
 
   -- what is ready fails by the signature alone
-  pub signature_fault : (role : Role) (e : IssuingError) → IsValidAs (but_signature now strict) role (unsigned f) →
+  pub signature_fault : (role : Role) (e : IssuingError) →
+      IsValidAs (but_signature now strict) role (unsigned_certificate f) →
       IsIncomplete (context V now strict) role f value e → IsSignatureFault V role f value e
   signature_fault role Unwritable valid h = h
   signature_fault role TooLong valid h = h
   signature_fault role Memory valid h = tt
   signature_fault role (Invalid (Inspection e)) valid h =
-      absurd (first_not_all (Lacks (kind_of role) strict (signed_with f value)) (faults (kind_of role)) e h
+      absurd (first_not_all (Lacks (role_kind role) strict (signed_with f value)) (faults (role_kind role)) e h
       (meets_same strict role f value valid.meets))
   signature_fault role (Invalid (Verification e)) valid (meets, first) =
-      let (same, unsigned_is) = first_is (RoleCheck (but_signature now strict) role (unsigned f))
+      let (same, unsigned_is) = first_is (RoleCheck (but_signature now strict) role (unsigned_certificate f))
       (RoleCheck (context V now strict) role (signed_with f value)) BadSignature (checks_same role)
       (role_checks role) e valid.checks first in
       subst (λ (d : VerificationError). IsSignatureFault V role f value (Invalid (Verification d))) (sym same)

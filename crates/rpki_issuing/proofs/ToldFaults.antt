@@ -7,7 +7,7 @@ use Rattle.rpki_cert.specs.declared.inspect.Kind.{Kind}
 use Rattle.rpki_cert.proofs.Checks.{first_not_all}
 use Rattle.rpki_crl.specs.Revocation.{revocation_checks}
 use Rattle.rpki_der.specs.Times.{Moment}
-use Rattle.rpki_issuing.specs.Readiness.{signed_with, unsigned as unsigned_of}
+use Rattle.rpki_issuing.specs.Readiness.{signed_with, unsigned_certificate as unsigned_of}
 use Rattle.rpki_issuing.specs.declared.issuing_error.IssuingError.TheVariants.{TooLong}
 use Rattle.rpki_issuing.specs.declared.role.Role.{Role}
 use Rattle.rpki_parts.specs.SignedDatas.{SignedFields, signed_content}

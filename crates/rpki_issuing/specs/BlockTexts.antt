@@ -1,5 +1,6 @@
 -- Blocks of addresses and of AS numbers as texts, and what is listed of a kind of numbers: as what
 -- is shown of a certificate has them (own).
+use Rattle.rpki_parts.specs.Uris.{slash}
 use Rattle.std.specs.List.{AllZip, position}
 use Rattle.std.specs.Net.Addr.{ipv4_bits, ipv6_bits}
 use Rattle.std.specs.Net.Grammar.{IsIpv4Text, IsIpv6Text}
@@ -17,10 +18,6 @@ use Rattle.rpki_issuing.specs.declared.values.families.Family.TheVariants.{V4, V
 
 -- ---- parts
 
--- `/`, between an address and the number of a prefix's bits
-abbrev pub slash : ℕ
-slash = 47
-
 -- `-`, between two ends
 abbrev pub hyphen : ℕ
 hyphen = 45
@@ -33,8 +30,8 @@ pub record IsParted (octet : ℕ) (text before behind : List ℕ) : Type 0 where
   pub behind_is : behind ≡ drop (place + 1) text
 
 -- it doesn't stand in the text
-abbrev pub Lacks : ℕ → List ℕ → Type 0
-Lacks octet text = position (λ other. other == octet) text ≡ None
+abbrev pub LacksOctet : ℕ → List ℕ → Type 0
+LacksOctet octet text = position (λ other. other == octet) text ≡ None
 
 -- a number below 2^32 in decimal digits
 pub record IsNumberText (n : ℕ) (text : List ℕ) : Type 0 where
@@ -59,7 +56,7 @@ pub record IsAsRangeText (b : Block) (text : List ℕ) : Type 0 where
 
 -- one AS number
 pub record IsOneAsText (b : Block) (text : List ℕ) : Type 0 where
-  pub unparted : Lacks hyphen text
+  pub unparted : LacksOctet hyphen text
   pub min_is : IsNumberText b.min text
   pub max_is : b.max ≡ b.min
 
@@ -70,9 +67,9 @@ IsAsText b text = IsOneAsText b text ⊎ IsAsRangeText b text
 -- ---- addresses
 
 -- how many bits an address of the family has
-abbrev pub bits_of : Family → ℕ
-bits_of V4 = 32
-bits_of V6 = 128
+abbrev pub address_bits : Family → ℕ
+address_bits V4 = 32
+address_bits V6 = 128
 
 -- how many addresses of 128 bits begin with one of the family: an IPv4 address stands in the upper
 -- 32 bits
@@ -92,7 +89,7 @@ pub record IsPrefix (family : Family) (before behind : List ℕ) (b : Block) : T
   pub address_is : IsAddressText family address before
   pub count : ℕ
   pub count_is : IsNumberText count behind
-  pub fits : count ≤ bits_of family
+  pub fits : count ≤ address_bits family
   pub block_is : IsPrefixBlock (address * size_of family) count b
   pub whole : b.min ≡ address * size_of family
 
@@ -104,7 +101,7 @@ pub record IsPrefixText (family : Family) (b : Block) (text : List ℕ) : Type 0
   pub prefix : IsPrefix family before behind b
 
 -- the texts of the first and the last of some addresses
-pub record IsRange (family : Family) (before behind : List ℕ) (b : Block) : Type 0 where
+pub record IsAddressRange (family : Family) (before behind : List ℕ) (b : Block) : Type 0 where
   pub first : ℕ
   pub first_is : IsAddressText family first before
   pub last : ℕ
@@ -115,11 +112,11 @@ pub record IsRange (family : Family) (before behind : List ℕ) (b : Block) : Ty
 
 -- with a hyphen between them
 pub record IsRangeText (family : Family) (b : Block) (text : List ℕ) : Type 0 where
-  pub unprefixed : Lacks slash text
+  pub unprefixed : LacksOctet slash text
   pub before : List ℕ
   pub behind : List ℕ
   pub parted : IsParted hyphen text before behind
-  pub range : IsRange family before behind b
+  pub range : IsAddressRange family before behind b
 
 -- a prefix, or the first and the last of some
 abbrev pub IsAddressesText : Family → Block → List ℕ → Type 0

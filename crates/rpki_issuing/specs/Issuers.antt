@@ -13,8 +13,8 @@ abbrev pub fields_above : Option ResourceFields → Option TbsFields
 fields_above issuer = option_map (λ r. r.cert.fields) issuer
 
 -- the issuer is named as the certificate above, and without one as the subject (RFC 6487 4.4)
-abbrev pub IsNamed : Option ResourceFields → TbsFields → Type 0
-IsNamed issuer f = f.issuer ≡ issuer_name (fields_above issuer) f.subject
+abbrev pub HasIssuerName : Option ResourceFields → TbsFields → Type 0
+HasIssuerName issuer f = f.issuer ≡ issuer_name (fields_above issuer) f.subject
 
 -- the list names the issuer's key, and this key signed it; it may be stale
 pub record IsOwnList (issuer : TbsFields) (list : CrlFields) : Type 0 where

@@ -24,15 +24,15 @@ of_encoding writing.TooLong = TooLong
 of_encoding writing.Memory = Memory
 
 -- what a reader rejected
-abbrev pub of_decoding : DecodeError → IssuingError
-of_decoding reading.Memory = Memory
-of_decoding e = Unwritable
+abbrev pub error_of_decoding : DecodeError → IssuingError
+error_of_decoding reading.Memory = Memory
+error_of_decoding e = Unwritable
 
 -- out of memory is one error, wherever it comes
-abbrev pub of_verification : VerificationError → IssuingError
-of_verification verifying.Memory = Memory
-of_verification e = Invalid (Verification e)
+abbrev pub error_of_verification : VerificationError → IssuingError
+error_of_verification verifying.Memory = Memory
+error_of_verification e = Invalid (Verification e)
 
-abbrev pub of_validation : ValidationError → IssuingError
-of_validation (Inspection e) = Invalid (Inspection e)
-of_validation (Verification e) = of_verification e
+abbrev pub error_of_validation : ValidationError → IssuingError
+error_of_validation (Inspection e) = Invalid (Inspection e)
+error_of_validation (Verification e) = error_of_verification e

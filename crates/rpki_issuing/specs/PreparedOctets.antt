@@ -7,8 +7,9 @@ use Rattle.rpki_der.specs.Times.{Moment}
 use Rattle.rpki_crl.specs.Revocation.{revocation_checks}
 use Rattle.rpki_issuing.specs.Acceptance.{AskedIn, IsUnrevokedIn}
 use Rattle.rpki_issuing.specs.IssuingRules.{KeepsRules, RuleCheck, issuing_rules}
-use Rattle.rpki_issuing.specs.Readiness.{signed_with, unsigned, IsReady, IsSignatureFault, IsSignatureOf, IsUnready}
-use Rattle.rpki_issuing.specs.Roles.{kind_of}
+use Rattle.rpki_issuing.specs.Readiness.{signed_with, unsigned_certificate, IsReady, IsSignatureFault}
+use Rattle.rpki_issuing.specs.Readiness.{IsSignatureOf, IsUnready}
+use Rattle.rpki_issuing.specs.Roles.{role_kind}
 use Rattle.rpki_issuing.specs.declared.role.Role.{Role}
 use Rattle.rpki_issuing.specs.declared.role.Role.TheVariants.{Anchor, Authority, EndEntity, Detached, Router}
 use Rattle.rpki_keys.specs.KeyForms.{IsUsableKey}
@@ -29,7 +30,7 @@ issuer_in (Router issuer) = Some issuer.now
 
 -- the role of a certificate of this kind below this issuer
 pub record IsRoleOf (kind : Kind) (issuer : Option ResourceFields) (role : Role) : Type 0 where
-  pub kind_is : kind_of role ≡ kind
+  pub kind_is : role_kind role ≡ kind
   pub issuer_is : issuer_in role ≡ issuer
 
 -- a certificate of this kind has no such issuer
@@ -48,7 +49,7 @@ pub record IsPrepared (kind : Kind) (issuer : Option ResourceFields) (path : Lis
   pub role_is : IsRoleOf kind issuer role
   pub rules : KeepsRules kind issuer path f
   pub ready : IsReady at strict role f
-  pub unrevoked : IsUnrevokedIn asked issuer (unsigned f)
+  pub unrevoked : IsUnrevokedIn asked issuer (unsigned_certificate f)
   pub octets_are : octets ≡ encoding f
 
 -- it is unready in its role for this; or memory was wanted
@@ -65,7 +66,7 @@ IsUnprepared kind issuer path asked at strict f error.NoRole = HasNoRole kind is
 IsUnprepared kind issuer path asked at strict f (error.Broken rule) =
     IsFirstFalse (RuleCheck kind issuer path f) issuing_rules rule
 IsUnprepared kind issuer path asked at strict f (error.Listed e) =
-    IsFirstFalse (AskedIn asked issuer (unsigned f)) revocation_checks e
+    IsFirstFalse (AskedIn asked issuer (unsigned_certificate f)) revocation_checks e
 IsUnprepared kind issuer path asked at strict f error.Memory = Unit {0}
 IsUnprepared kind issuer path asked at strict f e =
     (role : Role) × IsRoleOf kind issuer role × IsUnpreparedAs at strict role f e

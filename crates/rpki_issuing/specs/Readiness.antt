@@ -19,8 +19,8 @@ abbrev pub signed_with : TbsFields → List ℕ → CertFields
 signed_with f value = made_with f (record { algorithm = f.algorithm; value = value })
 
 -- as it stands before it is signed: its signature has no octets
-abbrev pub unsigned : TbsFields → CertFields
-unsigned f = signed_with f []
+abbrev pub unsigned_certificate : TbsFields → CertFields
+unsigned_certificate f = signed_with f []
 
 -- it has 2^32 octets or more
 abbrev pub IsTooLong : CertFields → Type 0
@@ -47,14 +47,15 @@ but_signature now strict = context any_signature now strict
 -- its kind, and all of its checks but the signature's are true
 pub record IsReady (now : Moment) (strict : Bool) (role : Role) (f : TbsFields) : Type 0 where
   pub fields_are : CanBeWritten f
-  pub short : length (signed_content (unsigned f).signed_data) < 2 ^ 32
-  pub valid : IsValidAs (but_signature now strict) role (unsigned f)
+  pub short : length (signed_content (unsigned_certificate f).signed_data) < 2 ^ 32
+  pub valid : IsValidAs (but_signature now strict) role (unsigned_certificate f)
 
 -- why it isn't; or memory was wanted
 abbrev pub IsUnready : Moment → Bool → Role → TbsFields → IssuingError → Type 0
 IsUnready now strict role f Unwritable = CanBeWritten f → ⊥
-IsUnready now strict role f TooLong = IsTooLong (unsigned f)
-IsUnready now strict role f (Invalid e) = IsInvalidAs (but_signature now strict) role (unsigned f) (Invalid e)
+IsUnready now strict role f TooLong = IsTooLong (unsigned_certificate f)
+IsUnready now strict role f (Invalid e) = IsInvalidAs (but_signature now strict) role (unsigned_certificate f)
+    (Invalid e)
 IsUnready now strict role f Memory = Unit {0}
 
 -- ---- once it is signed

@@ -16,12 +16,12 @@ use Rattle.rpki_issuing.specs.declared.role.Role.{Role}
 use Rattle.rpki_issuing.specs.declared.role.Role.TheVariants.{Anchor, Authority, EndEntity, Detached, Router}
 
 -- of which kind it is
-abbrev pub kind_of : Role → Kind
-kind_of Anchor = kind.Anchor
-kind_of (Authority issuer) = kind.Authority
-kind_of (EndEntity issuer) = kind.EndEntity
-kind_of (Detached issuer) = kind.Detached
-kind_of (Router issuer) = kind.Router
+abbrev pub role_kind : Role → Kind
+role_kind Anchor = kind.Anchor
+role_kind (Authority issuer) = kind.Authority
+role_kind (EndEntity issuer) = kind.EndEntity
+role_kind (Detached issuer) = kind.Detached
+role_kind (Router issuer) = kind.Router
 
 -- whose key signs it: a trust anchor's own, else the issuer's
 abbrev pub signing_key : Role → TbsFields → KeyFields
@@ -49,7 +49,7 @@ role_checks (Router issuer) = router_checks
 
 -- it meets the profile of its kind, and its checks are true
 pub record IsValidAs (x : Context) (role : Role) (c : CertFields) : Type 0 where
-  pub meets : MeetsProfile (kind_of role) x.strict c
+  pub meets : MeetsProfile (role_kind role) x.strict c
   pub checks : IsVerified (RoleCheck x role c) (role_checks role)
 
 -- there are the sets of numbers that it gets of its issuer's (RFC 6487 7.2); of a trust anchor, and
@@ -66,5 +66,5 @@ abbrev pub IsInvalidAs : Context → Role → CertFields → IssuingError → Ty
 IsInvalidAs x role c Unwritable = ⊥
 IsInvalidAs x role c TooLong = ⊥
 IsInvalidAs x role c (Invalid e) =
-    IsInvalid (kind_of role) x.strict c (IsFirstFalse (RoleCheck x role c) (role_checks role)) e
+    IsInvalid (role_kind role) x.strict c (IsFirstFalse (RoleCheck x role c) (role_checks role)) e
 IsInvalidAs x role c Memory = Unit {0}

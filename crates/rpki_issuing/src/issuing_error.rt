@@ -77,9 +77,9 @@ impl From<EncodeError> for IssuingError {
 }
 
 impl From<DecodeError> for IssuingError {
-    ghost use Rattle.rpki_issuing.specs.IssuingErrors.{of_decoding};
+    ghost use Rattle.rpki_issuing.specs.IssuingErrors.{error_of_decoding};
 
-    ghost from_gives = { λ d e. e ≡ of_decoding d };
+    ghost from_gives = { λ d e. e ≡ error_of_decoding d };
 
     fn from(error: DecodeError) -> IssuingError {
         match error {
@@ -101,9 +101,9 @@ impl From<InspectionError> for IssuingError {
 }
 
 impl From<VerificationError> for IssuingError {
-    ghost use Rattle.rpki_issuing.specs.IssuingErrors.{of_verification};
+    ghost use Rattle.rpki_issuing.specs.IssuingErrors.{error_of_verification};
 
-    ghost from_gives = { λ d e. e ≡ of_verification d };
+    ghost from_gives = { λ d e. e ≡ error_of_verification d };
 
     fn from(error: VerificationError) -> IssuingError {
         match error {
@@ -114,9 +114,9 @@ impl From<VerificationError> for IssuingError {
 }
 
 impl From<ValidationError> for IssuingError {
-    ghost use Rattle.rpki_issuing.specs.IssuingErrors.{of_validation};
+    ghost use Rattle.rpki_issuing.specs.IssuingErrors.{error_of_validation};
 
-    ghost from_gives = { λ d e. e ≡ of_validation d };
+    ghost from_gives = { λ d e. e ≡ error_of_validation d };
 
     fn from(error: ValidationError) -> IssuingError {
         match error {

@@ -1,7 +1,7 @@
 //! Certificates that are prepared for signing.
 ghost use Rattle.std.specs.Prelude.{◌≡◌, IfOk, IfErr, OnOk};
 ghost use Rattle.rpki_cert.specs.Certificates.{CanBeWritten, encoding};
-ghost use Rattle.rpki_issuing.specs.Readiness.{IsReady, IsUnready, unsigned as unsigned_of};
+ghost use Rattle.rpki_issuing.specs.Readiness.{IsReady, IsUnready, unsigned_certificate as unsigned_of};
 
 use crate::any_signature::AnySignature;
 use crate::assembling::assemble;
@@ -21,7 +21,7 @@ pub struct Prepared {
 impl Model for Prepared {
     ghost use Rattle.std.specs.Prelude.{◌≡◌};
     ghost use Rattle.rpki_cert.specs.Certificates.{TbsFields, IsMade};
-    ghost use Rattle.rpki_issuing.specs.Readiness.{unsigned as unsigned_of};
+    ghost use Rattle.rpki_issuing.specs.Readiness.{unsigned_certificate as unsigned_of};
 
     ghost Value = { TbsFields };
 

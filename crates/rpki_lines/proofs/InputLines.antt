@@ -10,15 +10,15 @@ use Rattle.rpki_path.specs.declared.validating.Leaf.{Leaf}
 use Rattle.rpki_path.specs.declared.validating.Leaf.TheVariants.{Ee, DetachedEe}
 use Rattle.rpki_lines.specs.declared.input.Input.{Input}
 use Rattle.rpki_lines.specs.declared.input.Input.TheVariants.{Bad}
-use Rattle.rpki_lines.specs.TextLines.{AreLines, line_end}
-use Rattle.rpki_lines.specs.InputLines.{at_moment, strictness, anchor, authority, end_entity, IsLine, IsRevokedLine}
+use Rattle.rpki_lines.specs.TextLines.{AreTextLines, line_end}
+use Rattle.rpki_lines.specs.InputLines.{at_moment, strictness, anchor, authority, end_entity, IsInputLine, IsRevokedLine}
 use Rattle.rpki_lines.specs.InputLines.{IsMomentLine, IsOctetsLine}
 use Rattle.rpki_lines.specs.Program.{PathQuestion, Question, is_revoked, is_valid_path, Ask, AreInput, BeginInput}
 use Rattle.rpki_lines.specs.Questions.{IsFirstLine, AreReadAs, IsReadBehind}
 
 -- every text has lines
 first_octet : (x : ℕ) (text : List ℕ) (ends : Bool) → (x == line_end) ≡ ends → (lines : List (List ℕ)) →
-    AreLines lines text → (more : List (List ℕ)) × AreLines more (x ∷ text)
+    AreTextLines lines text → (more : List (List ℕ)) × AreTextLines more (x ∷ text)
 first_octet x text true e lines are = ([] ∷ lines, (tt, inr (text, cc (eqb-true x line_end e), are)))
 first_octet x text false e [] are =
     let other : x ≢ line_end = λ same. false≢true (sym e ∙ eq-eqb x line_end same) in
@@ -36,7 +36,7 @@ first_octet x text false e (line ∷ lines) are =
     )
 
 -- a text is some lines
-pub some_lines : (text : List ℕ) → (lines : List (List ℕ)) × AreLines lines text
+pub some_lines : (text : List ℕ) → (lines : List (List ℕ)) × AreTextLines lines text
 some_lines [] = ([], refl)
 some_lines (x ∷ text) = let more = some_lines text in first_octet x text (x == line_end) refl more.0 more.1
 
@@ -46,18 +46,18 @@ some_there : (line rest : List ℕ) → [] ≡ line ++ line_end ∷ rest → ⊥
 some_there [] rest e = absurd cc
 some_there (x ∷ line) rest e = absurd cc
 
-no_lines : (lines : List (List ℕ)) → AreLines lines [] → lines ≡ []
+no_lines : (lines : List (List ℕ)) → AreTextLines lines [] → lines ≡ []
 no_lines [] are = refl
 no_lines (line ∷ lines) are =
     absurd (elim are.1 [ inl only ↦ only.1 (sym only.2) | inr more ↦ some_there line more.0 more.1 ])
 
 -- a first line before the lines of the rest is a line more
-pub one_more : (line rest text : List ℕ) (lines : List (List ℕ)) → IsFirstLine line rest text → AreLines lines rest →
-    AreLines (line ∷ lines) text
+pub one_more : (line rest text : List ℕ) (lines : List (List ℕ)) → IsFirstLine line rest text → AreTextLines lines rest →
+    AreTextLines (line ∷ lines) text
 one_more line rest text lines first are = (
   first.0,
   elim first.1 [
-    | inl whole ↦ inl (no_lines lines (subst (λ (r : List ℕ). AreLines lines r) whole.0 are), whole.1, whole.2)
+    | inl whole ↦ inl (no_lines lines (subst (λ (r : List ℕ). AreTextLines lines r) whole.0 are), whole.1, whole.2)
     | inr e ↦ inr (rest, e, are)
   ],
 )
@@ -91,7 +91,7 @@ module _ (before : List (List ℕ)) (fit : BeginInput before) (number : ℕ) (e 
       )
 
   -- no further line fits, and there is one
-  bad_of_lines : (lines : List (List ℕ)) → AreLines lines text → (text ≡ [] → ⊥) →
+  bad_of_lines : (lines : List (List ℕ)) → AreTextLines lines text → (text ≡ [] → ⊥) →
       ((line : List ℕ) → BeginInput (before ++ line ∷ []) → ⊥) → IsReadBehind before text (Bad number)
   bad_of_lines [] are some unfit = absurd (some are)
   bad_of_lines (line ∷ more) are some unfit = (
@@ -139,7 +139,7 @@ unfolding head
 not_both now list serial line m r = let same : 97 ≡ 114 = ap head (sym m.is ∙ r.is) in absurd (omega (arith, same))
 
 -- a line of a CA is none of a leaf
-pub other_name : (leaf : Leaf) (octets line : List ℕ) → IsLine (end_entity leaf) line → IsLine (authority octets) line → ⊥
+pub other_name : (leaf : Leaf) (octets line : List ℕ) → IsInputLine (end_entity leaf) line → IsInputLine (authority octets) line → ⊥
 unfolding head
 other_name (Ee o) octets line l a = let same : 101 ≡ 99 = ap head (sym l.is ∙ a.is) in absurd (omega (arith, same))
 other_name (DetachedEe o) octets line l a = let same : 100 ≡ 99 = ap head (sym l.is ∙ a.is) in absurd (omega (arith, same))
@@ -213,7 +213,7 @@ abbrev short_path : Moment → Bool → List ℕ → PathQuestion
 short_path now strict octets = record { now = now; strict = strict; anchor_octets = octets; authorities = []; leaf = None }
 
 second_tells : (q : Question) (m line : List ℕ) (more : List (List ℕ)) → Ask q (m ∷ line ∷ more) →
-    (strict : Bool) × IsLine (strictness strict) line
+    (strict : Bool) × IsInputLine (strictness strict) line
 second_tells (is_revoked list serial) m line more h = absurd h.1
 second_tells (is_valid_path q) m line more h = (q.strict, h.1.0)
 
@@ -222,7 +222,7 @@ moment_not_alone now (is_revoked list serial) m is h = not_both now list serial 
 moment_not_alone now (is_valid_path q) m is h = h.1
 
 abbrev Moments : Moment → List (List ℕ) → Type 0
-Moments now before = AllZip IsLine (at_moment now ∷ []) before
+Moments now before = AllZip IsInputLine (at_moment now ∷ []) before
 
 module _ (now : Moment) where
   moment_begins : (before : List (List ℕ)) → Moments now before → BeginInput before
@@ -239,7 +239,7 @@ module _ (now : Moment) where
   one_so_far (m ∷ s ∷ more) is = elim is.1 [ ]
 
   second_unfit : (before : List (List ℕ)) → Moments now before → (line : List ℕ) →
-      ((strict : Bool) → IsLine (strictness strict) line → ⊥) → BeginInput (before ++ line ∷ []) → ⊥
+      ((strict : Bool) → IsInputLine (strictness strict) line → ⊥) → BeginInput (before ++ line ∷ []) → ⊥
   second_unfit [] is line none b = elim is [ ]
   second_unfit (m ∷ []) is line none (more, (q, asked)) = let (strict, tells) = second_tells q m line more asked in none strict tells
   second_unfit (m ∷ s ∷ more) is line none b = elim is.1 [ ]
@@ -256,14 +256,14 @@ module _ (now : Moment) where
 
     -- a second line that tells no mode doesn't fit
     pub bad_second : (line rest : List ℕ) → IsFirstLine line rest text →
-        ((strict : Bool) → IsLine (strictness strict) line → ⊥) → IsReadBehind before text (Bad 2)
+        ((strict : Bool) → IsInputLine (strictness strict) line → ⊥) → IsReadBehind before text (Bad 2)
     bad_second line rest first none = bad_line before (moment_begins before is) 2 (one_so_far before is) text line
         rest first (second_unfit before is line none)
 
 -- ---- the third line
 
 third_tells : (q : Question) (m s line : List ℕ) (more : List (List ℕ)) → Ask q (m ∷ s ∷ line ∷ more) →
-    (octets : List ℕ) × IsLine (anchor octets) line
+    (octets : List ℕ) × IsInputLine (anchor octets) line
 third_tells (is_revoked list serial) m s line more h = absurd h.1
 third_tells (is_valid_path q) m s line more (_, (_, (tells, _))) = (q.anchor_octets, tells)
 
@@ -272,7 +272,7 @@ two_are_few (is_revoked list serial) m s h = h.1
 two_are_few (is_valid_path q) m s (_, (_, none)) = none
 
 abbrev Pairs : Moment → Bool → List (List ℕ) → Type 0
-Pairs now strict before = AllZip IsLine (at_moment now ∷ strictness strict ∷ []) before
+Pairs now strict before = AllZip IsInputLine (at_moment now ∷ strictness strict ∷ []) before
 
 module _ (now : Moment) (strict : Bool) where
   pair_begins : (before : List (List ℕ)) → Pairs now strict before → BeginInput before
@@ -291,7 +291,7 @@ module _ (now : Moment) (strict : Bool) where
   two_so_far (m ∷ s ∷ t ∷ more) (_, (_, none)) = elim none [ ]
 
   third_unfit : (before : List (List ℕ)) → Pairs now strict before → (line : List ℕ) →
-      ((octets : List ℕ) → IsLine (anchor octets) line → ⊥) → BeginInput (before ++ line ∷ []) → ⊥
+      ((octets : List ℕ) → IsInputLine (anchor octets) line → ⊥) → BeginInput (before ++ line ∷ []) → ⊥
   third_unfit [] is line none b = elim is [ ]
   third_unfit (m ∷ []) is line none b = elim is.1 [ ]
   third_unfit (m ∷ s ∷ []) is line none (more, (q, asked)) = let (octets, tells) = third_tells q m s line more asked in none octets tells
@@ -310,7 +310,7 @@ module _ (now : Moment) (strict : Bool) where
 
     -- a third line that tells no trust anchor doesn't fit
     pub bad_third : (line rest : List ℕ) → IsFirstLine line rest text →
-        ((octets : List ℕ) → IsLine (anchor octets) line → ⊥) → IsReadBehind before text (Bad 3)
+        ((octets : List ℕ) → IsInputLine (anchor octets) line → ⊥) → IsReadBehind before text (Bad 3)
     bad_third line rest first none = bad_line before (pair_begins before is) 3 (two_so_far before is) text line rest
         first (third_unfit before is line none)
 

@@ -11,8 +11,8 @@ use Rattle.rpki_lines.specs.declared.path_lines.Member.TheVariants.{Authority, L
 use Rattle.rpki_lines.specs.declared.input.Input.TheVariants.{Bad}
 use Rattle.rpki_lines.specs.declared.input.Input.TheVariants as input
 use Rattle.rpki_lines.specs.declared.path_lines.PathQuestion as declared
-use Rattle.rpki_lines.specs.TextLines.{AreLines}
-use Rattle.rpki_lines.specs.InputLines.{InputLine, at_moment, strictness, anchor, authority, end_entity, IsLine, IsOctetsLine}
+use Rattle.rpki_lines.specs.TextLines.{AreTextLines}
+use Rattle.rpki_lines.specs.InputLines.{InputLine, at_moment, strictness, anchor, authority, end_entity, IsInputLine, IsOctetsLine}
 use Rattle.rpki_lines.specs.Program.{PathQuestion, Question, is_revoked, is_valid_path, leaf_lines, Ask, BeginInput, IsBadLine}
 use Rattle.rpki_lines.specs.Questions.{IsFirstLine, member_line, path_question, IsReadBehind}
 use Rattle.rpki_lines.proofs.InputLines.{other_name, whole_begins, one_more, bad_line, bad_after}
@@ -31,7 +31,7 @@ module _ {A B : Type 0} (R : A → B → Type 0) where
   none_behind [] y more h = h
   none_behind (b ∷ before) y more h = h
 
-as_many : (cas : List (List ℕ)) (lines : List (List ℕ)) → AllZip IsLine (map authority cas) lines → length cas ≡ length lines
+as_many : (cas : List (List ℕ)) (lines : List (List ℕ)) → AllZip IsInputLine (map authority cas) lines → length cas ≡ length lines
 as_many [] [] is = refl
 as_many [] (line ∷ lines) is = absurd is
 as_many (c ∷ cas) [] is = absurd is
@@ -41,7 +41,7 @@ as_many (c ∷ cas) (line ∷ lines) is = let rest = as_many cas lines is.1 in o
 pub no_member : (line : List ℕ) → ((octets : List ℕ) → IsOctetsLine (codes "ca ") octets line → ⊥) →
     ((octets : List ℕ) → IsOctetsLine (codes "ee ") octets line → ⊥) →
     ((octets : List ℕ) → IsOctetsLine (codes "detached ") octets line → ⊥) → (member : Member) →
-    IsLine (member_line member) line → ⊥
+    IsInputLine (member_line member) line → ⊥
 no_member line ca ee detached (Authority octets) h = ca octets h
 no_member line ca ee detached (Last (Ee octets)) h = ee octets h
 no_member line ca ee detached (Last (DetachedEe octets)) h = detached octets h
@@ -49,38 +49,38 @@ no_member line ca ee detached (Last (DetachedEe octets)) h = detached octets h
 -- ---- what stands there tells of a member, and nothing follows a leaf
 
 member_tells : (cas : List (List ℕ)) (leaf : Option Leaf) (before : List (List ℕ)) (line : List ℕ)
-    (more : List (List ℕ)) → AllZip IsLine (map authority cas ++ leaf_lines leaf) (before ++ line ∷ more) →
-    (member : Member) × IsLine (member_line member) line
+    (more : List (List ℕ)) → AllZip IsInputLine (map authority cas ++ leaf_lines leaf) (before ++ line ∷ more) →
+    (member : Member) × IsInputLine (member_line member) line
 member_tells [] None [] line more h = absurd h
 member_tells [] (Some leaf) [] line more h = (Last leaf, h.0)
 member_tells (c ∷ cas) leaf [] line more h = (Authority c, h.0)
 member_tells [] None (b ∷ before) line more h = absurd h
-member_tells [] (Some leaf) (b ∷ before) line more h = absurd (none_behind IsLine before line more h.1)
+member_tells [] (Some leaf) (b ∷ before) line more h = absurd (none_behind IsInputLine before line more h.1)
 member_tells (c ∷ cas) leaf (b ∷ before) line more h = member_tells cas leaf before line more h.1
 
-leaf_is_last : (leaf : Leaf) (e line : List ℕ) → IsLine (end_entity leaf) e →
+leaf_is_last : (leaf : Leaf) (e line : List ℕ) → IsInputLine (end_entity leaf) e →
     (cas : List (List ℕ)) (other : Option Leaf) (before : List (List ℕ)) (more : List (List ℕ)) →
-    AllZip IsLine (map authority cas ++ leaf_lines other) (before ++ e ∷ line ∷ more) → ⊥
+    AllZip IsInputLine (map authority cas ++ leaf_lines other) (before ++ e ∷ line ∷ more) → ⊥
 leaf_is_last leaf e line is [] None [] more h = h
 leaf_is_last leaf e line is [] (Some other) [] more h = h.1
 leaf_is_last leaf e line is (c ∷ cas) other [] more h = other_name leaf c e is h.0
 leaf_is_last leaf e line is [] None (b ∷ before) more h = h
-leaf_is_last leaf e line is [] (Some other) (b ∷ before) more h = none_behind IsLine before e (line ∷ more) h.1
+leaf_is_last leaf e line is [] (Some other) (b ∷ before) more h = none_behind IsInputLine before e (line ∷ more) h.1
 leaf_is_last leaf e line is (c ∷ cas) other (b ∷ before) more h = leaf_is_last leaf e line is cas other before more h.1
 
 -- the lines before the members tell the moment, the mode and the trust anchor
 abbrev pub Heads : Moment → Bool → List ℕ → List (List ℕ) → Type 0
-Heads now strict octets before = AllZip IsLine (at_moment now ∷ strictness strict ∷ anchor octets ∷ []) before
+Heads now strict octets before = AllZip IsInputLine (at_moment now ∷ strictness strict ∷ anchor octets ∷ []) before
 
 below_tells : (q : Question) (m s t : List ℕ) (lines : List (List ℕ)) → Ask q (m ∷ s ∷ t ∷ lines) →
-    (cas : List (List ℕ)) × (leaf : Option Leaf) × AllZip IsLine (map authority cas ++ leaf_lines leaf) lines
+    (cas : List (List ℕ)) × (leaf : Option Leaf) × AllZip IsInputLine (map authority cas ++ leaf_lines leaf) lines
 below_tells (is_revoked list serial) m s t lines h = absurd h.1
 below_tells (is_valid_path q) m s t lines (_, (_, (_, below))) = (q.authorities, q.leaf, below)
 
 module _ (now : Moment) (strict : Bool) (octets : List ℕ) where
   tells_below : (before : List (List ℕ)) → Heads now strict octets before → (q : Question) (lines : List (List ℕ)) →
       Ask q (before ++ lines) →
-      (cas : List (List ℕ)) × (leaf : Option Leaf) × AllZip IsLine (map authority cas ++ leaf_lines leaf) lines
+      (cas : List (List ℕ)) × (leaf : Option Leaf) × AllZip IsInputLine (map authority cas ++ leaf_lines leaf) lines
   tells_below [] is q lines h = elim is [ ]
   tells_below (m ∷ []) is q lines h = elim is.1 [ ]
   tells_below (m ∷ s ∷ []) (_, (_, none)) q lines h = elim none [ ]
@@ -99,21 +99,21 @@ module _ (now : Moment) (strict : Bool) (octets : List ℕ) where
   question cas leaf = record { now = now; strict = strict; anchor_octets = octets; authorities = cas; leaf = leaf }
 
   module _ (before : List (List ℕ)) (is : Heads now strict octets before) (cas : List (List ℕ))
-      (lines : List (List ℕ)) (encoded : AllZip IsLine (map authority cas) lines) where
+      (lines : List (List ℕ)) (encoded : AllZip IsInputLine (map authority cas) lines) where
     -- the lines so far ask of these strings
-    pub asks : (leaf : Option Leaf) (last_lines : List (List ℕ)) → AllZip IsLine (leaf_lines leaf) last_lines →
+    pub asks : (leaf : Option Leaf) (last_lines : List (List ℕ)) → AllZip IsInputLine (leaf_lines leaf) last_lines →
         Ask (is_valid_path (question cas leaf)) (before ++ (lines ++ last_lines))
     asks leaf last_lines h =
-        zip_both IsLine (at_moment now ∷ strictness strict ∷ anchor octets ∷ []) before
+        zip_both IsInputLine (at_moment now ∷ strictness strict ∷ anchor octets ∷ []) before
         (map authority cas ++ leaf_lines leaf) (lines ++ last_lines) is
-        (zip_both IsLine (map authority cas) lines (leaf_lines leaf) last_lines encoded h)
+        (zip_both IsInputLine (map authority cas) lines (leaf_lines leaf) last_lines encoded h)
 
     asks_so_far : Ask (is_valid_path (question cas None)) (before ++ lines)
     asks_so_far = subst (λ (l : List (List ℕ)). Ask (is_valid_path (question cas None)) (before ++ l)) (append-nil lines) (asks None [] tt)
 
     -- ---- a line that tells of no member
 
-    members_unfit : (line : List ℕ) → ((member : Member) → IsLine (member_line member) line → ⊥) →
+    members_unfit : (line : List ℕ) → ((member : Member) → IsInputLine (member_line member) line → ⊥) →
         BeginInput ((before ++ lines) ++ line ∷ []) → ⊥
     members_unfit line none (more, (q, asked)) =
         let parts : ((before ++ lines) ++ line ∷ []) ++ more ≡ before ++ (lines ++ line ∷ more) =
@@ -122,7 +122,7 @@ module _ (now : Moment) (strict : Bool) (octets : List ℕ) where
         let (member, tells) = member_tells others leaf lines line more below in
         none member tells
 
-    module _ (text rest : List ℕ) (so_far : (more : List (List ℕ)) → AreLines more rest → AreLines (lines ++ more) text) where
+    module _ (text rest : List ℕ) (so_far : (more : List (List ℕ)) → AreTextLines more rest → AreTextLines (lines ++ more) text) where
       -- what is read behind the lines so far
       regrouped : (number : ℕ) → IsReadBehind (before ++ lines) rest (Bad number) → IsReadBehind before text (Bad number)
       regrouped number read = (
@@ -136,7 +136,7 @@ module _ (now : Moment) (strict : Bool) (octets : List ℕ) where
 
       -- a line that tells of no member doesn't fit
       pub bad_member : (line others : List ℕ) → IsFirstLine line others rest →
-          ((member : Member) → IsLine (member_line member) line → ⊥) →
+          ((member : Member) → IsInputLine (member_line member) line → ⊥) →
           IsReadBehind before text (Bad (length cas + 4))
       bad_member line others first none =
           regrouped (length cas + 4)
@@ -152,7 +152,8 @@ module _ (now : Moment) (strict : Bool) (octets : List ℕ) where
         subst (λ (p : PathQuestion). Ask (is_valid_path p) (before ++ (lines ++ []))) (sym same) (asks None [] tt),
       )
 
-      module _ (leaf : Leaf) (line others : List ℕ) (first : IsFirstLine line others rest) (tells : IsLine (end_entity leaf) line) where
+      module _ (leaf : Leaf) (line others : List ℕ) (first : IsFirstLine line others rest)
+          (tells : IsInputLine (end_entity leaf) line) where
         -- nor a further line behind that of a leaf
         pub ended_by_leaf : (q : declared.PathQuestion) → path_question q ≡ question cas (Some leaf) → others ≡ [] →
             IsReadBehind before text (input.Path q)
@@ -198,16 +199,16 @@ module _ (now : Moment) (strict : Bool) (octets : List ℕ) where
 
 -- one line of a CA more is read
 pub authority_more : (lines : List (List ℕ)) (text rest : List ℕ) →
-    ((more : List (List ℕ)) → AreLines more rest → AreLines (lines ++ more) text) → (line others : List ℕ) →
-    IsFirstLine line others rest → (more : List (List ℕ)) → AreLines more others →
-    AreLines ((lines ++ line ∷ []) ++ more) text
-authority_more lines text rest so_far line others first more are = subst (λ (l : List (List ℕ)). AreLines l text)
+    ((more : List (List ℕ)) → AreTextLines more rest → AreTextLines (lines ++ more) text) → (line others : List ℕ) →
+    IsFirstLine line others rest → (more : List (List ℕ)) → AreTextLines more others →
+    AreTextLines ((lines ++ line ∷ []) ++ more) text
+authority_more lines text rest so_far line others first more are = subst (λ (l : List (List ℕ)). AreTextLines l text)
     (sym (append_assoc lines (line ∷ []) more)) (so_far (line ∷ more) (one_more line others rest more first are))
 
 -- the lines of the CAs with one more are lines of them
-pub authority_encoded : (cas lines : List (List ℕ)) → AllZip IsLine (map authority cas) lines →
-    (octets line : List ℕ) → IsLine (authority octets) line →
-    AllZip IsLine (map authority (cas ++ octets ∷ [])) (lines ++ line ∷ [])
+pub authority_encoded : (cas lines : List (List ℕ)) → AllZip IsInputLine (map authority cas) lines →
+    (octets line : List ℕ) → IsInputLine (authority octets) line →
+    AllZip IsInputLine (map authority (cas ++ octets ∷ [])) (lines ++ line ∷ [])
 authority_encoded cas lines encoded octets line is =
-    subst (λ (l : List InputLine). AllZip IsLine l (lines ++ line ∷ [])) (sym (map_push authority cas octets))
-    (zip_more IsLine (map authority cas) lines (authority octets) line encoded is)
+    subst (λ (l : List InputLine). AllZip IsInputLine l (lines ++ line ∷ [])) (sym (map_push authority cas octets))
+    (zip_more IsInputLine (map authority cas) lines (authority octets) line encoded is)

@@ -21,7 +21,7 @@ use Rattle.rpki_path.specs.declared.path_fault.PathFault.TheVariants as fault
 use Rattle.rpki_path.specs.Paths.{IsAccepted, IsFault, IsNoValidPath}
 use Rattle.rpki_path.specs.Paths as paths
 use Rattle.rpki_lines.specs.PrintedSets.{v4_end, v6_end, ranges, name_and_words}
-use Rattle.rpki_lines.specs.Program.{PathQuestion, question_context, asked_below, decode_faults, output_of, IsToldBy}
+use Rattle.rpki_lines.specs.Program.{PathQuestion, question_context, asked_below, decode_faults, output_of, IsFaultTold}
 use Rattle.rpki_lines.specs.Program.{PrintsFault, SaysOfList, SaysOfPath}
 use Rattle.rpki_lines.specs.Reports.{accepted_text, HasSortedSets}
 
@@ -114,7 +114,7 @@ path_accepted q tal cert (Ok report) a s t sorted = says_with (SaysOfPath q) rep
 path_accepted q tal cert (Err x) a s t sorted = tt
 
 -- what is told of a fault is none of being out of memory
-not_memory : {P : Type 0} (f : PathFault) (stage name : List ℕ) → IsToldBy f stage name → paths.UnlessMemory f P → P
+not_memory : {P : Type 0} (f : PathFault) (stage name : List ℕ) → IsFaultTold f stage name → paths.UnlessMemory f P → P
 not_memory (fault.Decode e) stage name t h = h
 not_memory (fault.Inspect e) stage name t h = h
 not_memory (fault.Verify e) stage name t h = h

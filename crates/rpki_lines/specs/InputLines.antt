@@ -50,12 +50,12 @@ pub data InputLine : Type 0 where
   end_entity : Leaf → InputLine
 
 -- the line tells it
-abbrev pub IsLine : InputLine → List ℕ → Type 0
-IsLine (seeks list serial) line = IsRevokedLine list serial line
-IsLine (at_moment now) line = IsMomentLine now line
-IsLine (strictness true) line = line ≡ codes "strict"
-IsLine (strictness false) line = line ≡ codes "lenient"
-IsLine (anchor octets) line = IsOctetsLine (codes "ta ") octets line
-IsLine (authority octets) line = IsOctetsLine (codes "ca ") octets line
-IsLine (end_entity (Ee octets)) line = IsOctetsLine (codes "ee ") octets line
-IsLine (end_entity (DetachedEe octets)) line = IsOctetsLine (codes "detached ") octets line
+abbrev pub IsInputLine : InputLine → List ℕ → Type 0
+IsInputLine (seeks list serial) line = IsRevokedLine list serial line
+IsInputLine (at_moment now) line = IsMomentLine now line
+IsInputLine (strictness true) line = line ≡ codes "strict"
+IsInputLine (strictness false) line = line ≡ codes "lenient"
+IsInputLine (anchor octets) line = IsOctetsLine (codes "ta ") octets line
+IsInputLine (authority octets) line = IsOctetsLine (codes "ca ") octets line
+IsInputLine (end_entity (Ee octets)) line = IsOctetsLine (codes "ee ") octets line
+IsInputLine (end_entity (DetachedEe octets)) line = IsOctetsLine (codes "detached ") octets line

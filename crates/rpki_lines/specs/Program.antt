@@ -15,12 +15,12 @@ use Rattle.rpki_path.specs.declared.path_fault.PathFault.TheVariants.{Decode, In
 use Rattle.rpki_lines.specs.declared.running.Status.{Status}
 use Rattle.rpki_lines.specs.declared.running.Status.TheVariants.{Done, Refused, BadInput}
 use Rattle.rpki_path.specs.declared.validating.Leaf.{Leaf}
-use Rattle.rpki_lines.specs.InputLines.{InputLine, seeks, at_moment, strictness, anchor, authority, end_entity, IsLine}
+use Rattle.rpki_lines.specs.InputLines.{InputLine, seeks, at_moment, strictness, anchor, authority, end_entity, IsInputLine}
 use Rattle.rpki_path.specs.Paths.{Path, Holds, v4_addresses, v6_addresses, system_numbers, candidates, Candidate}
 use Rattle.rpki_path.specs.Paths.{IsPathOf, IsValidPath, IsNoValidPath, IsFault}
 use Rattle.rpki_path.specs.Paths as paths
 use Rattle.rpki_lines.specs.PrintedSets.{v4_end, v6_end, IsSetLine}
-use Rattle.rpki_lines.specs.TextLines.{line_end, AreLines}
+use Rattle.rpki_lines.specs.TextLines.{line_end, AreTextLines}
 
 -- ---- the input
 
@@ -51,7 +51,7 @@ lines_of (is_valid_path q) =
 
 -- the lines ask this
 abbrev pub Ask : Question → List (List ℕ) → Type 0
-Ask q lines = AllZip IsLine (lines_of q) lines
+Ask q lines = AllZip IsInputLine (lines_of q) lines
 
 -- the lines of an input that fits
 abbrev pub AreInput : List (List ℕ) → Type 0
@@ -118,18 +118,18 @@ pub record PrintsHeld (p : Path) (output : List ℕ) : Type 0 where
 
 -- where a fault was met, and its name; which of its faults a reader names is free, and nobody is
 -- asked for revocation
-abbrev pub IsToldBy : PathFault → List ℕ → List ℕ → Type 0
-IsToldBy (Decode e) stage name = (stage ≡ codes "decode") × Contains decode_faults name
-IsToldBy (Inspect e) stage name = (stage ≡ codes "inspect") × (name ≡ inspection_error_name e)
-IsToldBy (Verify e) stage name = (stage ≡ codes "verify") × (name ≡ verification_error_name e)
-IsToldBy (Revocation e) stage name = ⊥
-IsToldBy Memory stage name = ⊥
+abbrev pub IsFaultTold : PathFault → List ℕ → List ℕ → Type 0
+IsFaultTold (Decode e) stage name = (stage ≡ codes "decode") × Contains decode_faults name
+IsFaultTold (Inspect e) stage name = (stage ≡ codes "inspect") × (name ≡ inspection_error_name e)
+IsFaultTold (Verify e) stage name = (stage ≡ codes "verify") × (name ≡ verification_error_name e)
+IsFaultTold (Revocation e) stage name = ⊥
+IsFaultTold Memory stage name = ⊥
 
 -- at which place a path is wrong, the trust anchor at 0, and how
 pub record PrintsFault (e : PathError) (output : List ℕ) : Type 0 where
   pub stage : List ℕ
   pub name : List ℕ
-  pub told : IsToldBy e.fault stage name
+  pub told : IsFaultTold e.fault stage name
   pub is : output ≡ stand_in ++ output_of (codes "refused " ∷ decimal e.index ∷ codes " " ∷ stage ∷ codes " " ∷ name ∷ [])
 
 -- the strings of a question that stand below the trust anchor
@@ -163,7 +163,7 @@ SaysBadInput lines output status =
 -- what is printed for an input, and the status
 abbrev pub Says : List ℕ → List ℕ → Status → Type 0
 Says input output status =
-    (lines : List (List ℕ)) × AreLines lines input
+    (lines : List (List ℕ)) × AreTextLines lines input
     × (((q : Question) × Ask q lines × SaysOf q output status) ⊎ SaysBadInput lines output status)
 
 -- ---- a run

@@ -7,7 +7,7 @@ use Rattle.rpki_lines.specs.declared.path_lines.Member.TheVariants.{Authority, L
 use Rattle.rpki_lines.specs.declared.input.Input.{Input}
 use Rattle.rpki_lines.specs.declared.input.Input.TheVariants.{Revoked, Path, Bad}
 use Rattle.rpki_lines.specs.InputLines.{InputLine, authority, end_entity}
-use Rattle.rpki_lines.specs.TextLines.{line_end, IsWithout, AreLines}
+use Rattle.rpki_lines.specs.TextLines.{line_end, IsWithout, AreTextLines}
 use Rattle.rpki_lines.specs.Program.{Question, is_revoked, is_valid_path, Ask, IsBadLine}
 use Rattle.rpki_lines.specs.Program as program
 
@@ -38,7 +38,7 @@ AreReadAs (Bad number) lines = IsBadLine number lines
 
 -- what a text is read as, where these lines stand before its own
 abbrev pub IsReadBehind : List (List ℕ) → List ℕ → Input → Type 0
-IsReadBehind before text input = (lines : List (List ℕ)) × AreLines lines text × AreReadAs input (before ++ lines)
+IsReadBehind before text input = (lines : List (List ℕ)) × AreTextLines lines text × AreReadAs input (before ++ lines)
 
 -- what a whole text is read as
 abbrev pub IsInput : Input → List ℕ → Type 0

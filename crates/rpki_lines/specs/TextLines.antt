@@ -15,9 +15,9 @@ abbrev pub IsWithout : ℕ → List ℕ → Type 0
 IsWithout octet octets = AllByRecursion (λ other. other ≢ octet) octets
 
 -- these are the lines of the text: the first, with the LF that ends it, and then those of the rest
-abbrev pub AreLines : List (List ℕ) → List ℕ → Type 0
-AreLines [] text = text ≡ []
-AreLines (line ∷ lines) text =
+abbrev pub AreTextLines : List (List ℕ) → List ℕ → Type 0
+AreTextLines [] text = text ≡ []
+AreTextLines (line ∷ lines) text =
     IsWithout line_end line
     × (((lines ≡ []) × (line ≢ []) × (text ≡ line))
-    ⊎ ((rest : List ℕ) × (text ≡ line ++ line_end ∷ rest) × AreLines lines rest))
+    ⊎ ((rest : List ℕ) × (text ≡ line ++ line_end ∷ rest) × AreTextLines lines rest))

@@ -2,7 +2,7 @@
 ghost use Rattle.std.specs.Prelude.{◌<◌, ℕ, Bool, List, [], ◌∷◌, Some, None, IfOk, IfSome, IfNone};
 ghost use Rattle.std.specs.List.{AllZip};
 ghost use Rattle.rpki_der.specs.Times.{Moment};
-ghost use Rattle.rpki_lines.specs.InputLines.{IsMomentLine, IsLine, at_moment, strictness};
+ghost use Rattle.rpki_lines.specs.InputLines.{IsMomentLine, IsInputLine, at_moment, strictness};
 ghost use Rattle.rpki_lines.specs.InputLines.{anchor as anchor_line};
 ghost use Rattle.rpki_lines.specs.Questions.{member_line, IsReadBehind};
 
@@ -37,8 +37,8 @@ pub(crate) fn moment_from(line: &[u8]) -> Option<Time>
 
 // Whether a line is `strict` or `lenient`.
 fn strictness_from(line: &[u8]) -> Option<bool>
-    ensures some { IfSome result (λ strict. IsLine (strictness strict) line.now) }
-    ensures none { IfNone result ((strict : Bool) → IsLine (strictness strict) line.now → ⊥) }
+    ensures some { IfSome result (λ strict. IsInputLine (strictness strict) line.now) }
+    ensures none { IfNone result ((strict : Bool) → IsInputLine (strictness strict) line.now → ⊥) }
 {
     if line == STRICT {
         Some(true)
@@ -59,9 +59,9 @@ pub(crate) enum Member {
 // The string of a line `ca HEX`, `ee HEX` or `detached HEX`.
 fn member_from(alloc: Global, line: &[u8]) -> Result<Option<Member>, AllocError>
     ensures some { IfOk result (λ found.
-        IfSome found (λ member. IsLine (member_line member) line.now)) }
+        IfSome found (λ member. IsInputLine (member_line member) line.now)) }
     ensures none { IfOk result (λ found.
-        IfNone found ((member : Member) → IsLine (member_line member) line.now → ⊥)) }
+        IfNone found ((member : Member) → IsInputLine (member_line member) line.now → ⊥)) }
 {
     if let Some(octets) = octets_behind(alloc, b"ca ", line)? {
         return Ok(Some(Member::Authority(octets)));
@@ -84,7 +84,7 @@ fn members_from(
     text: &[u8],
 ) -> Result<Input, AllocError>
     ensures { (before : List (List ℕ))
-        → AllZip IsLine (at_moment now ∷ strictness strict ∷ anchor_line anchor ∷ []) before
+        → AllZip IsInputLine (at_moment now ∷ strictness strict ∷ anchor_line anchor ∷ []) before
         → IfOk result (IsReadBehind before text.now) }
 {
     let mut cas = Vec::new(alloc);
@@ -122,7 +122,7 @@ fn members_from(
 // The lines from the third on: first that of the trust anchor.
 fn anchor_from(alloc: Global, now: Time, strict: bool, text: &[u8]) -> Result<Input, AllocError>
     ensures { (before : List (List ℕ))
-        → AllZip IsLine (at_moment now ∷ strictness strict ∷ []) before
+        → AllZip IsInputLine (at_moment now ∷ strictness strict ∷ []) before
         → IfOk result (IsReadBehind before text.now) }
 {
     let Some((line, rest)) = split_line(text) else {
@@ -136,7 +136,7 @@ fn anchor_from(alloc: Global, now: Time, strict: bool, text: &[u8]) -> Result<In
 
 /// Reads the lines from the second on; the first of them says whether names are inspected strictly.
 pub(crate) fn path_from(alloc: Global, now: Time, text: &[u8]) -> Result<Input, AllocError>
-    ensures { (before : List (List ℕ)) → AllZip IsLine (at_moment now ∷ []) before
+    ensures { (before : List (List ℕ)) → AllZip IsInputLine (at_moment now ∷ []) before
         → IfOk result (IsReadBehind before text.now) }
 {
     let Some((line, rest)) = split_line(text) else {

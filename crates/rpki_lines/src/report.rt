@@ -1,7 +1,7 @@
 //! The output of the line program.
 ghost use Rattle.std.specs.Prelude.{◌≡◌, ◌≢◌, ℕ, List, [], ◌∷◌, IfOk, OnOk, Contains, cond, string_bytes, codes, decimal};
 ghost use Rattle.rpki_path.specs.Paths.{IsUnasked};
-ghost use Rattle.rpki_lines.specs.Program.{decode_faults, output_of, IsToldBy, PrintsFault, Says, SaysOfList, SaysOfPath};
+ghost use Rattle.rpki_lines.specs.Program.{decode_faults, output_of, IsFaultTold, PrintsFault, Says, SaysOfList, SaysOfPath};
 ghost use Rattle.rpki_lines.specs.Reports.{accepted_text, HasSortedSets};
 ghost use Rattle.rpki_lines.specs.Questions.{IsInput, path_question};
 ghost use Rattle.rpki_crl.specs.RevokedEntries.{IsRevokedCertificates};
@@ -110,7 +110,7 @@ fn accepted(alloc: Global, cert: &ResourceCert) -> Result<Report, AllocError>
 // At which stage a fault was met, and its name; running out of memory is none. No lists were asked.
 fn told(fault: &PathFault) -> Result<(&'static str, &'static str), AllocError>
     requires { IsUnasked fault.now }
-    ensures { IfOk result (λ words. IsToldBy fault.now words.0.now words.1.now) }
+    ensures { IfOk result (λ words. IsFaultTold fault.now words.0.now words.1.now) }
 {
     match fault {
         PathFault::Decode(error) => Ok(("decode", decode_fault(error)?)),

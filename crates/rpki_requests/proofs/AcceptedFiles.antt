@@ -36,7 +36,7 @@ use Rattle.rpki_verdicts.specs.PathFiles.{IsGivenBy, IsJudgedAs}
 use Rattle.rpki_verdicts.specs.declared.path.Verdict.TheVariants.{Accepted}
 use Rattle.rpki_requests.specs.Fulfilment.{AnswersForIssuer, IsAcceptedCertificate, IsAcceptedMade, IsAcceptedOf}
 use Rattle.rpki_requests.specs.Fulfilment.{context_of}
-use Rattle.rpki_requests.specs.RequestFiles.{InputFields, IsIssuerOf, IsPathIssuer, IsSoAsked, chained}
+use Rattle.rpki_requests.specs.RequestFiles.{InputFields, IsRequestIssuer, IsPathIssuer, IsSoAsked, chained}
 use Rattle.rpki_requests.specs.RequestWords.{AskedFields}
 use Rattle.rpki_requests.specs.declared.fulfilling.Made.{Made}
 use Rattle.rpki_requests.specs.declared.fulfilling.Made.TheVariants as made
@@ -348,7 +348,7 @@ module _ (one_certificate : IsUnambiguous IsCertificate) where
   -- what is completed is accepted
   pub accepted_of : IsUnambiguous IsCertificateList →
       (asked : AskedFields) (inputs : InputFields) (at : Moment) (issuer : Option ResourceFields) →
-      IsIssuerOf (context_of asked at) inputs.issuers inputs.lists issuer → (given : Made) →
+      IsRequestIssuer (context_of asked at) inputs.issuers inputs.lists issuer → (given : Made) →
       IsSoAsked (context_of asked at) inputs.lists
       (λ checks. IsAcceptedMade (context_of asked at) checks issuer given) → IsAcceptedOf asked inputs at given
   accepted_of one_list asked inputs at issuer is (made.ToSign octets) so =

@@ -11,7 +11,7 @@ use Rattle.rpki_issuing.specs.declared.wanted.wanted.Numbers.{Numbers}
 use Rattle.rpki_issuing.specs.declared.wanted.wanted.Places.{Places}
 use Rattle.rpki_requests.specs.OptionValues.{GivesNumbers, GivesPlaces, GivesWanted, IsMomentSaid, SaysAtMostOnce}
 use Rattle.rpki_requests.specs.OptionValues.{SaysOnce}
-use Rattle.rpki_requests.specs.RequestWords.{GivenFields, values_of}
+use Rattle.rpki_requests.specs.RequestWords.{OptionFields, given_values}
 use Rattle.rpki_requests.specs.declared.words.Setting.TheVariants.{Serial, From, Until, Ipv4, Ipv6, AsNumbers}
 use Rattle.rpki_requests.specs.declared.words.Setting.TheVariants.{Repository, Manifest, Notify, Object, IssuerUri}
 use Rattle.rpki_requests.specs.declared.words.Setting.TheVariants.{CrlUri}
@@ -31,42 +31,42 @@ module _ {V : Type 0} (IsText : V → List ℕ → Type 0) (texts : List (List �
 
 -- ---- all of them
 
-module _ (given : List GivenFields) where
+module _ (given : List OptionFields) where
   abbrev pub IsV4 : Resources → Type 0
-  IsV4 r = AreListed (IsAddressesText V4) r (values_of Ipv4 given)
+  IsV4 r = AreListed (IsAddressesText V4) r (given_values Ipv4 given)
 
   abbrev pub IsV6 : Resources → Type 0
-  IsV6 r = AreListed (IsAddressesText V6) r (values_of Ipv6 given)
+  IsV6 r = AreListed (IsAddressesText V6) r (given_values Ipv6 given)
 
   abbrev pub IsSystems : Resources → Type 0
-  IsSystems r = AreListed IsAsText r (values_of AsNumbers given)
+  IsSystems r = AreListed IsAsText r (given_values AsNumbers given)
 
   abbrev pub IsRepository : Option (List ℕ) → Type 0
-  IsRepository o = SaysAtMostOnce IsRsyncText (values_of Repository given) o
+  IsRepository o = SaysAtMostOnce IsRsyncText (given_values Repository given) o
 
   abbrev pub IsManifest : Option (List ℕ) → Type 0
-  IsManifest o = SaysAtMostOnce IsRsyncText (values_of Manifest given) o
+  IsManifest o = SaysAtMostOnce IsRsyncText (given_values Manifest given) o
 
   abbrev pub IsObject : Option (List ℕ) → Type 0
-  IsObject o = SaysAtMostOnce IsRsyncText (values_of Object given) o
+  IsObject o = SaysAtMostOnce IsRsyncText (given_values Object given) o
 
   abbrev pub IsNotify : Option (List ℕ) → Type 0
-  IsNotify o = SaysAtMostOnce IsHttpsText (values_of Notify given) o
+  IsNotify o = SaysAtMostOnce IsHttpsText (given_values Notify given) o
 
   abbrev pub IsIssuerUri : Option (List ℕ) → Type 0
-  IsIssuerUri o = SaysAtMostOnce IsRsyncText (values_of IssuerUri given) o
+  IsIssuerUri o = SaysAtMostOnce IsRsyncText (given_values IssuerUri given) o
 
   abbrev pub IsList : Option (List ℕ) → Type 0
-  IsList o = SaysAtMostOnce IsRsyncText (values_of CrlUri given) o
+  IsList o = SaysAtMostOnce IsRsyncText (given_values CrlUri given) o
 
   abbrev pub IsSerialGiven : ℕ → Type 0
-  IsSerialGiven n = SaysOnce IsSerialText (values_of Serial given) n
+  IsSerialGiven n = SaysOnce IsSerialText (given_values Serial given) n
 
   abbrev pub IsFrom : Moment → Type 0
-  IsFrom m = SaysOnce IsMomentSaid (values_of From given) m
+  IsFrom m = SaysOnce IsMomentSaid (given_values From given) m
 
   abbrev pub IsUntil : Moment → Type 0
-  IsUntil m = SaysOnce IsMomentSaid (values_of Until given) m
+  IsUntil m = SaysOnce IsMomentSaid (given_values Until given) m
 
   -- two by two
   abbrev pub Both : {A B : Type 0} → (A → Type 0) → (B → Type 0) → A × B → Type 0

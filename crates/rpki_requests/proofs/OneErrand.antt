@@ -9,9 +9,9 @@ use Rattle.rpki_requests.specs.declared.words.Errand.{Errand}
 use Rattle.rpki_requests.specs.declared.words.Errand.TheVariants.{Authority, EndEntity, Detached, Router, Anchor}
 use Rattle.rpki_requests.specs.declared.words.Errand.TheVariants.{RevocationList, Completion}
 use Rattle.rpki_requests.specs.declared.words.Misuse.{Misuse}
-use Rattle.rpki_requests.specs.RequestMisuses.{IsReason, IsUnsuited}
+use Rattle.rpki_requests.specs.RequestMisuses.{IsErrandReason, IsUnsuitedRequest}
 use Rattle.rpki_requests.specs.RequestWords.{AskedFields, BeginsRequest, IsRequestLine, IsRequestPart, RequestPart}
-use Rattle.rpki_requests.specs.RequestWords.{Suits, errand_words, file, only_errand, with_part}
+use Rattle.rpki_requests.specs.RequestWords.{SuitsErrand, errand_words, file, only_errand, with_request_part}
 use Rattle.rpki_requests.proofs.RequestParts.{request_grammar, request_clear}
 
 -- ---- the first words
@@ -89,15 +89,15 @@ module _ (words : List (List ℕ)) (errand : Errand) (rest : List (List ℕ))
       (sym (same_words asked h).1) h.parts_are)
 
   module _ (mid asked : AskedFields)
-      (adds : AddsParts IsRequestPart with_part (words_before rest) (only_errand errand) mid)
-      (files : asked ≡ fold with_part mid (map file (words_behind rest))) where
-    all_asked : asked ≡ fold with_part (only_errand errand) (adds.0 ++ map file (words_behind rest))
+      (adds : AddsParts IsRequestPart with_request_part (words_before rest) (only_errand errand) mid)
+      (files : asked ≡ fold with_request_part mid (map file (words_behind rest))) where
+    all_asked : asked ≡ fold with_request_part (only_errand errand) (adds.0 ++ map file (words_behind rest))
     all_asked =
-        files ∙ ap (λ (m : AskedFields). fold with_part m (map file (words_behind rest))) adds.2
-        ∙ sym (fold-append with_part (only_errand errand) adds.0 (map file (words_behind rest)))
+        files ∙ ap (λ (m : AskedFields). fold with_request_part m (map file (words_behind rest))) adds.2
+        ∙ sym (fold-append with_request_part (only_errand errand) adds.0 (map file (words_behind rest)))
 
     -- they ask this
-    pub asks : Suits asked → IsRequestLine asked words
+    pub asks : SuitsErrand asked → IsRequestLine asked words
     asks suits = record {
       errand = errand;
       rest = rest;
@@ -117,17 +117,19 @@ module _ (words : List (List ℕ)) (errand : Errand) (rest : List (List ℕ))
         (subst (λ (l : List (List ℕ)). AreInOrder IsRequestPart h.parts (words_before l)) (sym same.1)
         h.parts_are) in
         h.asks
-        ∙ ap (λ (e : Errand). fold with_part (only_errand e) (h.parts ++ map file (words_behind h.rest))) (sym same.0)
-        ∙ ap (λ (l : List RequestPart). fold with_part (only_errand errand) (l ++ map file (words_behind h.rest))) parts
-        ∙ ap (λ (l : List (List ℕ)). fold with_part (only_errand errand) (adds.0 ++ map file (words_behind l)))
+        ∙ ap (λ (e : Errand). fold with_request_part (only_errand e) (h.parts ++ map file (words_behind h.rest)))
+        (sym same.0)
+        ∙ ap (λ (l : List RequestPart). fold with_request_part (only_errand errand)
+        (l ++ map file (words_behind h.rest))) parts
+        ∙ ap (λ (l : List (List ℕ)). fold with_request_part (only_errand errand) (adds.0 ++ map file (words_behind l)))
         (sym same.1)
         ∙ sym all_asked
 
     -- for a reason that is told
-    pub reason_told : (misuse : Misuse) → IsReason misuse asked → IsUnsuited misuse errand rest
+    pub reason_told : (misuse : Misuse) → IsErrandReason misuse asked → IsUnsuitedRequest misuse errand rest
     reason_told misuse reason =
         record { parts = adds.0; parts_are = adds.1; asked = asked; asks = all_asked; reason = reason }
 
     -- what they ask doesn't suit their errand
-    pub unsuited : (Suits asked → ⊥) → (other : AskedFields) → IsRequestLine other words → ⊥
-    unsuited not other h = not (subst Suits (only other h) h.suits)
+    pub unsuited : (SuitsErrand asked → ⊥) → (other : AskedFields) → IsRequestLine other words → ⊥
+    unsuited not other h = not (subst SuitsErrand (only other h) h.suits)

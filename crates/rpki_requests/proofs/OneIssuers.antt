@@ -5,13 +5,13 @@ use Rattle.std.proofs.Common.{◌≡◌, ◌≢◌, ℕ, Bool, List, [], ◌∷�
 use Rattle.rpki_cert.specs.Certificates.{TbsFields, CertFields, encoding}
 use Rattle.rpki_cert.specs.declared.inspect.Kind.{Kind}
 use Rattle.rpki_issuing.specs.Acceptance.{IsUnrevokedIn}
-use Rattle.rpki_issuing.specs.Readiness.{IsReady, but_signature, signed_with, unsigned}
+use Rattle.rpki_issuing.specs.Readiness.{IsReady, but_signature, signed_with, unsigned_certificate}
 use Rattle.rpki_path.specs.Asking.{RevocationChecks, IsUnrevokedBy}
 use Rattle.rpki_issuing.specs.declared.role.Role.{Role}
 use Rattle.rpki_issuing.specs.declared.role.Role.TheVariants.{Anchor, Authority, EndEntity, Detached, Router}
 use Rattle.rpki_issuing.specs.IssuingRules.{HasOwnKey, KeepsRules}
 use Rattle.rpki_cert.specs.declared.inspect.Kind.TheVariants as said
-use Rattle.rpki_issuing.specs.Roles.{kind_of, signing_key}
+use Rattle.rpki_issuing.specs.Roles.{role_kind, signing_key}
 use Rattle.rpki_keys.specs.RsaSignatures.{IsSignedByRsa}
 use Rattle.rpki_parts.specs.Keys.{KeyFields}
 use Rattle.rpki_der.specs.Times.{Moment}
@@ -76,7 +76,7 @@ moved (EndEntity a) issuer = EndEntity issuer
 moved (Detached a) issuer = Detached issuer
 moved (Router a) issuer = Router issuer
 
-kind_moved : (role : Role) (issuer : Bor ResourceFields) → kind_of (moved role issuer) ≡ kind_of role
+kind_moved : (role : Role) (issuer : Bor ResourceFields) → role_kind (moved role issuer) ≡ role_kind role
 kind_moved Anchor issuer = refl
 kind_moved (Authority a) issuer = refl
 kind_moved (EndEntity a) issuer = refl
@@ -121,7 +121,7 @@ module _ (r : ResourceFields) (issuer : Bor ResourceFields) (same : HoldSame r i
               record {
                 meets = h.valid.meets;
                 checks = checks_moved (but_signature at strict) a.now issuer.now
-                    (same_as a.now is) (unsigned f) issued_checks h.valid.checks;
+                    (same_as a.now is) (unsigned_certificate f) issued_checks h.valid.checks;
               };
         }
     ready_moved (EndEntity a) is h =
@@ -132,7 +132,7 @@ module _ (r : ResourceFields) (issuer : Bor ResourceFields) (same : HoldSame r i
               record {
                 meets = h.valid.meets;
                 checks = checks_moved (but_signature at strict) a.now issuer.now
-                    (same_as a.now is) (unsigned f) issued_checks h.valid.checks;
+                    (same_as a.now is) (unsigned_certificate f) issued_checks h.valid.checks;
               };
         }
     ready_moved (Detached a) is h =
@@ -143,7 +143,7 @@ module _ (r : ResourceFields) (issuer : Bor ResourceFields) (same : HoldSame r i
               record {
                 meets = h.valid.meets;
                 checks = checks_moved (but_signature at strict) a.now issuer.now
-                    (same_as a.now is) (unsigned f) issued_checks h.valid.checks;
+                    (same_as a.now is) (unsigned_certificate f) issued_checks h.valid.checks;
               };
         }
     ready_moved (Router a) is h =
@@ -154,7 +154,7 @@ module _ (r : ResourceFields) (issuer : Bor ResourceFields) (same : HoldSame r i
               record {
                 meets = h.valid.meets;
                 checks = checks_moved (but_signature at strict) a.now issuer.now
-                    (same_as a.now is) (unsigned f) router_checks h.valid.checks;
+                    (same_as a.now is) (unsigned_certificate f) router_checks h.valid.checks;
               };
         }
 
@@ -175,7 +175,7 @@ module _ (r : ResourceFields) (issuer : Bor ResourceFields) (same : HoldSame r i
         IsPrepared kind (Some issuer.now) path checks at strict f octets
     prepared_moved kind path checks octets p = record {
       rules = rules_moved kind path p.rules;
-      unrevoked = unrevoked_moved checks (unsigned f) p.unrevoked;
+      unrevoked = unrevoked_moved checks (unsigned_certificate f) p.unrevoked;
       role = moved p.role issuer;
       role_is = record {
         kind_is = kind_moved p.role issuer ∙ p.role_is.kind_is;

@@ -8,9 +8,9 @@ use Rattle.rpki_issuing.specs.declared.wanted.preparing.WantedError.{WantedError
 use Rattle.rpki_requests.specs.RefusedErrands.{IsAskedListFault, IsFieldsFault, IsSoAs, MayNotFollow}
 use Rattle.rpki_requests.specs.Refusals.{AnswersOnly, AnswersOnlyBy, IsPathless}
 use Rattle.rpki_requests.specs.RequestFiles.{InputFields}
-use Rattle.rpki_requests.specs.RequestWords.{AskedFields, GivenFields}
+use Rattle.rpki_requests.specs.RequestWords.{AskedFields, OptionFields}
 use Rattle.rpki_requests.specs.ToldRefusals.{IsDataFault, IsKeyFault, IsUnfit, IsUnsaid, IsValueOf, HasListValue}
-use Rattle.rpki_requests.specs.ToldRefusals.{HasValue}
+use Rattle.rpki_requests.specs.ToldRefusals.{HasOptionValue}
 use Rattle.rpki_requests.specs.declared.refusals.Refusal.{Refusal}
 use Rattle.rpki_requests.specs.declared.refusals.Refusal.TheVariants.{Value, NoKey, UnusedKey, Rejected}
 use Rattle.rpki_requests.specs.declared.refusals.Refusal.TheVariants.{NoAuthority, OtherCrl, NoIssuer, OtherList}
@@ -133,9 +133,9 @@ data_pathless octets Files h = absurd h
 data_pathless octets (OtherName place) h = absurd h
 data_pathless octets (Unfit e) h = absurd h
 
-pub fields_pathless : (kind : Kind) (given : List GivenFields) (keys : List (List ℕ)) (why : Refusal) →
+pub fields_pathless : (kind : Kind) (given : List OptionFields) (keys : List (List ℕ)) (why : Refusal) →
     IsFieldsFault kind given keys why → IsPathless why
-fields_pathless kind given keys why (inl option) = unsaid_pathless (HasValue given) why option
+fields_pathless kind given keys why (inl option) = unsaid_pathless (HasOptionValue given) why option
 fields_pathless kind given keys why (inr (inl key)) = key_pathless keys why key
 fields_pathless kind given keys why (inr (inr name)) = is_pathless why NoName name.0 tt
 
@@ -143,7 +143,7 @@ unfit_pathless : (Is : WantedError → Type 0) (why : Refusal) → IsUnfit Is wh
 unfit_pathless Is why (inl memory) = is_pathless why Memory memory tt
 unfit_pathless Is why (inr unfit) = is_pathless why (Unfit unfit.0) unfit.1 tt
 
-pub list_pathless : (given : List GivenFields) (inputs : InputFields) (at : Moment) (issuer : TbsFields)
+pub list_pathless : (given : List OptionFields) (inputs : InputFields) (at : Moment) (issuer : TbsFields)
     (why : Refusal) → IsAskedListFault given inputs at issuer why → IsPathless why
 list_pathless given inputs at issuer why (inl other) = is_pathless why OtherList other.0 tt
 list_pathless given inputs at issuer why (inr (inl (inl option))) = unsaid_pathless (HasListValue given) why option

@@ -17,7 +17,7 @@ use Rattle.rpki_requests.specs.declared.words.Setting.TheVariants.{NextUpdate, A
 use Rattle.rpki_requests.specs.declared.words.Switch.{Switch}
 use Rattle.rpki_requests.specs.declared.words.Switch.TheVariants.{Trim, Lenient, Pem, Force}
 use Rattle.rpki_requests.specs.RequestWords.{AskedFields, IsRequestPart, RequestPart, file, option, switch}
-use Rattle.rpki_requests.specs.RequestWords.{setting_name, switch_name, with_part}
+use Rattle.rpki_requests.specs.RequestWords.{asked_option_name, switch_name, with_request_part}
 use Rattle.rpki_requests.proofs.Settings.{setting_of, first_named, settings, found, none_found, dashed}
 
 -- ---- the first word
@@ -54,11 +54,11 @@ sort_of word =
     (or_switch (switch_of word) (single (file word))))
 
 -- an option that takes a value
-named : (setting : Setting) → sort_of (setting_name setting) ≡ before setting
+named : (setting : Setting) → sort_of (asked_option_name setting) ≡ before setting
 unfolding sort_of or_before
 named setting = rw (found setting) refl
 
-joined : (setting : Setting) (value : List ℕ) → sort_of (setting_name setting ++ codes "=" ++ value) ≡
+joined : (setting : Setting) (value : List ℕ) → sort_of (asked_option_name setting ++ codes "=" ++ value) ≡
     joining setting value
 unfolding sort_of or_before or_joining first_named
 joined Issuer value = refl
@@ -85,7 +85,7 @@ joined Out value = refl
 
 -- what stands before its first `=` is its name
 pub front_is : (setting : Setting) (value : List ℕ) →
-    before_first is_equals (setting_name setting ++ codes "=" ++ value) ≡ setting_name setting
+    before_first is_equals (asked_option_name setting ++ codes "=" ++ value) ≡ asked_option_name setting
 front_is Issuer value = refl
 front_is Key value = refl
 front_is Serial value = refl
@@ -111,10 +111,10 @@ front_is Out value = refl
 -- ---- a file
 
 module _ (word : List ℕ) (not_option : IsOption word → ⊥) where
-  no_name : (setting : Setting) → word ≡ setting_name setting → ⊥
-  no_name setting is = not_option (subst IsOption (append-nil (setting_name setting) ∙ sym is) (dashed setting []))
+  no_name : (setting : Setting) → word ≡ asked_option_name setting → ⊥
+  no_name setting is = not_option (subst IsOption (append-nil (asked_option_name setting) ∙ sym is) (dashed setting []))
 
-  no_front : (n : ℕ) (setting : Setting) → take n word ≡ setting_name setting → ⊥
+  no_front : (n : ℕ) (setting : Setting) → take n word ≡ asked_option_name setting → ⊥
   no_front n setting is =
       not_option (subst IsOption (ap (λ (l : List ℕ). l ++ drop n word) (sym is) ∙ take-append-drop n word)
       (dashed setting (drop n word)))
@@ -152,14 +152,14 @@ IsSet setting value part = part ≡ option (record { setting = setting; value = 
 
 -- the parts of a request
 abbrev pub request_grammar : Grammar RequestPart Setting
-request_grammar = record { IsPart = IsRequestPart; name = setting_name; IsSet = IsSet; sort_of = sort_of }
+request_grammar = record { IsPart = IsRequestPart; name = asked_option_name; IsSet = IsSet; sort_of = sort_of }
 
 one_set : (setting : Setting) (value : List ℕ) (p q : RequestPart) → IsSet setting value p → IsSet setting value q →
     p ≡ q
 one_set setting value p q h k = h ∙ sym k
 
 is_part : (setting : Setting) (value : List ℕ) (part : RequestPart) (words : List (List ℕ)) →
-    IsSet setting value part → GivesValue (setting_name setting) value words → IsRequestPart part words
+    IsSet setting value part → GivesValue (asked_option_name setting) value words → IsRequestPart part words
 is_part setting value part words set gives = subst (λ (p : RequestPart). IsRequestPart p words) (sym set) gives
 
 switch_sort : (s : Switch) → sort_of (switch_name s) ≡ single (switch s)
@@ -182,11 +182,11 @@ request_clear = record { named = named; joined = joined; one_set = one_set; is_p
 -- ---- words that begin no part
 
 -- a word that is an option and none of those that there are
-module _ (word : List ℕ) (is_option : IsOption word) (unnamed : (setting : Setting) → word ≡ setting_name setting →
-    ⊥) (unjoined : (setting : Setting) (value : List ℕ) → Joins (setting_name setting) value word → ⊥)
+module _ (word : List ℕ) (is_option : IsOption word) (unnamed : (setting : Setting) → word ≡ asked_option_name setting →
+    ⊥) (unjoined : (setting : Setting) (value : List ℕ) → Joins (asked_option_name setting) value word → ⊥)
     (unswitched : (s : Switch) → word ≡ switch_name s → ⊥) where
   not_given : (setting : Setting) (value : List ℕ) (its behind rest : List (List ℕ)) →
-      GivesValue (setting_name setting) value its → (word ∷ []) ++ behind ≡ its ++ rest → ⊥
+      GivesValue (asked_option_name setting) value its → (word ∷ []) ++ behind ≡ its ++ rest → ⊥
   not_given setting value its behind rest (inl is) e = unnamed setting cc
   not_given setting value its behind rest (inr is) e = unjoined setting value cc
 
@@ -199,16 +199,16 @@ module _ (word : List ℕ) (is_option : IsOption word) (unnamed : (setting : Set
 
 -- a file is
 pub file_added : {T E : Type 0} (r : Result T E) (old new : AskedFields) (name : List ℕ) →
-    OnOk r (new ≡ with_part old (file name)) → (IsOption name → ⊥) →
-    OnOk r (AddsPart IsRequestPart with_part (name ∷ []) old new)
+    OnOk r (new ≡ with_request_part old (file name)) → (IsOption name → ⊥) →
+    OnOk r (AddsPart IsRequestPart with_request_part (name ∷ []) old new)
 file_added (Ok x) old new name e not_option = (file name, (refl, not_option), e)
 file_added (Err x) old new name e not_option = e
 
 -- an option is, whose value stands behind `=`
 pub joined_added : {T E : Type 0} (r : Result T E) (old new : AskedFields) (setting : Setting)
-    (value word : List ℕ) → Joins (setting_name setting) value word →
-    OnOk r (new ≡ with_part old (option (record { setting = setting; value = value }))) →
-    OnOk r (AddsPart IsRequestPart with_part (word ∷ []) old new)
+    (value word : List ℕ) → Joins (asked_option_name setting) value word →
+    OnOk r (new ≡ with_request_part old (option (record { setting = setting; value = value }))) →
+    OnOk r (AddsPart IsRequestPart with_request_part (word ∷ []) old new)
 joined_added (Ok x) old new setting value word joins e =
     (option (record { setting = setting; value = value }), inr (ap (λ (w : List ℕ). w ∷ []) joins), e)
 joined_added (Err x) old new setting value word joins e = e

@@ -17,7 +17,7 @@ use Rattle.rpki_requests.specs.OptionValues.{GivesEntries, GivesList, IsMomentSa
 use Rattle.rpki_requests.specs.OptionValues.{given_alone, revoked_at}
 use Rattle.rpki_requests.specs.RequestFiles.{IsOwnListIn, IsPreviousOf, IsRevokedFile}
 use Rattle.rpki_issuing.specs.Issuers.{IsOwnList}
-use Rattle.rpki_requests.specs.RequestWords.{GivenFields, values_of}
+use Rattle.rpki_requests.specs.RequestWords.{OptionFields, given_values}
 use Rattle.rpki_requests.specs.declared.words.Setting.TheVariants.{Number, NextUpdate, Serial}
 use Rattle.rpki_requests.specs.Refusals.{AnswersOnlyBy}
 use Rattle.rpki_requests.specs.ToldRefusals.{HasListValue, IsOtherFile, IsUnsaid, IsValueOf, IsWantedFault}
@@ -100,12 +100,12 @@ module _ (issuer : TbsFields) (octets : List ℕ) (one : IsUnambiguous IsCertifi
 
 -- ---- what is wanted of the list
 
-module _ (given : List GivenFields) (files : List (List ℕ)) (issuer : TbsFields) (at : Moment) where
+module _ (given : List OptionFields) (files : List (List ℕ)) (issuer : TbsFields) (at : Moment) where
   abbrev pub OfFiles : List ℕ → Type 0
   OfFiles serials = AllZip (IsRevokedFile issuer) serials files
 
   abbrev pub OfNumbers : List ℕ → Type 0
-  OfNumbers serials = AllZip IsSerialText serials (values_of Serial given)
+  OfNumbers serials = AllZip IsSerialText serials (given_values Serial given)
 
   -- both are, or one isn't
   pub both_revoked : {X Y : Type 0} (view : X → List ℕ) (look : Y → List ℕ) (first : Result X Refusal)
@@ -153,8 +153,8 @@ module _ (given : List GivenFields) (files : List (List ℕ)) (issuer : TbsField
   entries_none none es h = let s = h.serials_are in none (s.by_files, s.by_numbers) (s.files_are, s.numbers_are)
 
   pub list_ok : (number : Option ℕ) (next : Moment) (es : List Entry) →
-      IsOnly (λ n. SaysAtMostOnce IsSerialText (values_of Number given) n) number →
-      IsOnly (λ m. SaysOnce IsMomentSaid (values_of NextUpdate given) m) next →
+      IsOnly (λ n. SaysAtMostOnce IsSerialText (given_values Number given) n) number →
+      IsOnly (λ m. SaysOnce IsMomentSaid (given_values NextUpdate given) m) next →
       IsOnly (GivesEntries given files issuer at) es →
       IsOnly (GivesList given files issuer at)
       (record { number = number; revoked = es; this_update = at; next_update = next })

@@ -9,7 +9,7 @@ use Rattle.rpki_requests.specs.declared.words.Setting.TheVariants.{Issuer, Key, 
 use Rattle.rpki_requests.specs.declared.words.Setting.TheVariants.{AsNumbers, Repository, Manifest, Notify, Object}
 use Rattle.rpki_requests.specs.declared.words.Setting.TheVariants.{IssuerUri, CrlUri, Crl, Previous, Number, Revoke}
 use Rattle.rpki_requests.specs.declared.words.Setting.TheVariants.{NextUpdate, At, Out}
-use Rattle.rpki_requests.specs.RequestWords.{setting_name}
+use Rattle.rpki_requests.specs.RequestWords.{asked_option_name}
 
 -- all of them
 abbrev pub settings : List Setting
@@ -46,14 +46,14 @@ of_each P each Out = each 20 (lit< tt)
 -- the first of these that has this name
 unfoldable pub first_named : List Setting → List ℕ → Option Setting
 first_named [] word = None
-first_named (s ∷ rest) word = cond (bytes_eq word (setting_name s)) (Some s) (first_named rest word)
+first_named (s ∷ rest) word = cond (bytes_eq word (asked_option_name s)) (Some s) (first_named rest word)
 
 -- the option that has this name
 abbrev pub setting_of : List ℕ → Option Setting
 setting_of word = first_named settings word
 
 -- a name is its option's
-pub found : (setting : Setting) → setting_of (setting_name setting) ≡ Some setting
+pub found : (setting : Setting) → setting_of (asked_option_name setting) ≡ Some setting
 unfolding first_named
 found Issuer = refl
 found Key = refl
@@ -83,16 +83,16 @@ either true here later never is = absurd (never refl)
 either false here later never is = is
 
 -- a word that is no option's name
-pub none_found : (some : List Setting) (word : List ℕ) → ((setting : Setting) → word ≡ setting_name setting → ⊥) →
+pub none_found : (some : List Setting) (word : List ℕ) → ((setting : Setting) → word ≡ asked_option_name setting → ⊥) →
     first_named some word ≡ None
 unfolding first_named
 none_found [] word none = refl
 none_found (s ∷ rest) word none =
-    either (bytes_eq word (setting_name s)) (Some s) (first_named rest word)
-    (λ same. none s ((bytes_eq-Decides word (setting_name s)).0 same)) (none_found rest word none)
+    either (bytes_eq word (asked_option_name s)) (Some s) (first_named rest word)
+    (λ same. none s ((bytes_eq-Decides word (asked_option_name s)).0 same)) (none_found rest word none)
 
 -- a name begins with two hyphens
-pub dashed : (setting : Setting) (rest : List ℕ) → IsOption (setting_name setting ++ rest)
+pub dashed : (setting : Setting) (rest : List ℕ) → IsOption (asked_option_name setting ++ rest)
 dashed Issuer rest = (refl, omega arith)
 dashed Key rest = (refl, omega arith)
 dashed Serial rest = (refl, omega arith)

@@ -1,5 +1,5 @@
 -- What is told of words that ask for nothing to be prepared or completed.
-use Rattle.rpki_requests.specs.RequestMisuses.{HasWrongCount, IsReason}
+use Rattle.rpki_requests.specs.RequestMisuses.{HasWrongCount, IsErrandReason}
 use Rattle.rpki_requests.specs.RequestWords.{AskedFields}
 use Rattle.rpki_requests.specs.declared.words.Misuse.{Misuse}
 use Rattle.rpki_requests.specs.declared.words.Misuse.TheVariants.{NoErrand, UnknownErrand, Unknown, NoValue}
@@ -7,7 +7,7 @@ use Rattle.rpki_requests.specs.declared.words.Misuse.TheVariants.{Unsuited, Unsu
 use Rattle.rpki_requests.specs.declared.words.Misuse.TheVariants.{Files, Memory}
 
 -- what is told of an option that stands so often is a reason
-pub reason_of : (misuse : Misuse) (asked : AskedFields) → HasWrongCount misuse asked → IsReason misuse asked
+pub reason_of : (misuse : Misuse) (asked : AskedFields) → HasWrongCount misuse asked → IsErrandReason misuse asked
 reason_of NoErrand asked h = h
 reason_of (UnknownErrand word) asked h = h
 reason_of (Unknown word) asked h = h

@@ -14,7 +14,7 @@ use Rattle.rpki_der.specs.Times.{Moment}
 use Rattle.rpki_cert.specs.Verification.{Context, ResourceFields, context}
 use Rattle.rpki_issuing.specs.Acceptance.{IsAcceptedBelow, IsAnsweringList}
 use Rattle.rpki_issuing.specs.AskedFields.{fields_asked, subject_asked}
-use Rattle.rpki_issuing.specs.Issuers.{IsNamed, fields_above}
+use Rattle.rpki_issuing.specs.Issuers.{HasIssuerName, fields_above}
 use Rattle.rpki_issuing.specs.PreparedOctets.{IsCompleted, IsPrepared, IsToSign}
 use Rattle.rpki_issuing.specs.WantedLists.{IsListCompleted, IsListPrepared, IsListWanted, WantedListFields}
 use Rattle.rpki_issuing.specs.declared.wanted.wanted.Wanted.{Wanted}
@@ -23,7 +23,7 @@ use Rattle.rpki_path.specs.declared.judging.Judged.{Judged}
 use Rattle.rpki_verdicts.specs.PathAnswers.{IsVerdictBy}
 use Rattle.rpki_verdicts.specs.declared.path.Verdict.TheVariants.{Accepted}
 use Rattle.rpki_requests.specs.OptionValues.{GivesList, GivesWanted}
-use Rattle.rpki_requests.specs.RequestFiles.{InputFields, IsCompletedAs, IsIssuerOf, IsKeyFile, IsPreviousOf}
+use Rattle.rpki_requests.specs.RequestFiles.{InputFields, IsCompletedAs, IsRequestIssuer, IsKeyFile, IsPreviousOf}
 use Rattle.rpki_requests.specs.RequestFiles.{IsSoAsked, chained}
 use Rattle.rpki_requests.specs.RequestWords.{AskedFields}
 use Rattle.rpki_requests.specs.declared.fulfilling.Made.{Made}
@@ -38,10 +38,10 @@ abbrev pub context_of : AskedFields → Moment → Context
 context_of asked at = context IsSignedByRsa at asked.strict
 
 -- below the issuer that the files are it is so
-pub record IsBelow (asked : AskedFields) (inputs : InputFields) (at : Moment)
+pub record IsSoBelow (asked : AskedFields) (inputs : InputFields) (at : Moment)
     (Is : Option ResourceFields → Type 0) : Type 0 where
   pub issuer : Option ResourceFields
-  pub issuer_is : IsIssuerOf (context_of asked at) inputs.issuers inputs.lists issuer
+  pub issuer_is : IsRequestIssuer (context_of asked at) inputs.issuers inputs.lists issuer
   pub is_so : Is issuer
 
 -- ---- what is prepared
@@ -70,7 +70,7 @@ pub record PreparesBelow (kind : Kind) (asked : AskedFields) (keys path : List (
 pub record Prepares (kind : Kind) (asked : AskedFields) (inputs : InputFields) (at : Moment)
     (octets : List ℕ) : Type 0 where
   pub issuer : Option ResourceFields
-  pub issuer_is : IsIssuerOf (context_of asked at) inputs.issuers inputs.lists issuer
+  pub issuer_is : IsRequestIssuer (context_of asked at) inputs.issuers inputs.lists issuer
   pub prepares : IsSoAsked (context_of asked at) inputs.lists
       (λ checks. PreparesBelow kind asked inputs.keys inputs.issuers checks at issuer octets)
 
@@ -96,7 +96,7 @@ pub record PreparesListBelow (asked : AskedFields) (inputs : InputFields) (at : 
 pub record PreparesList (asked : AskedFields) (inputs : InputFields) (at : Moment)
     (octets : List ℕ) : Type 0 where
   pub issuer : ResourceFields
-  pub issuer_is : IsIssuerOf (context_of asked at) inputs.issuers inputs.lists (Some issuer)
+  pub issuer_is : IsRequestIssuer (context_of asked at) inputs.issuers inputs.lists (Some issuer)
   pub prepares : PreparesListBelow asked inputs at issuer.cert.fields octets
 
 -- ---- what is completed
@@ -108,7 +108,7 @@ pub record CompletesBelow (asked : AskedFields) (path : List (List ℕ)) (checks
     : Type 0 where
   pub fields : TbsFields
   pub fields_are : IsToSign fields prepared
-  pub named : IsNamed issuer fields
+  pub named : HasIssuerName issuer fields
   pub kind : Kind
   pub kind_is : IsCompletedAs issuer fields kind
   pub completed :
@@ -136,7 +136,7 @@ CompletesAs asked path checks at issuer prepared signature given = ⊥
 pub record Completes (asked : AskedFields) (inputs : InputFields) (at : Moment)
     (given : Made) : Type 0 where
   pub issuer : Option ResourceFields
-  pub issuer_is : IsIssuerOf (context_of asked at) inputs.issuers inputs.lists issuer
+  pub issuer_is : IsRequestIssuer (context_of asked at) inputs.issuers inputs.lists issuer
   pub prepared : List ℕ
   pub signature : List ℕ
   pub files_are : inputs.files ≡ prepared ∷ signature ∷ []
@@ -150,7 +150,7 @@ pub record IsAcceptedCertificate (x : Context) (checks : RevocationChecks)
   pub cert : CertFields
   pub is_certificate : IsCertificate cert octets
   pub usable : IsUsableKey cert.fields.key
-  pub named : IsNamed issuer cert.fields
+  pub named : HasIssuerName issuer cert.fields
   pub kind_is : IsCompletedAs issuer cert.fields kind
   pub accepted : IsAcceptedBelow x checks kind issuer octets
 
@@ -176,7 +176,7 @@ IsAcceptedOf asked inputs at (Certificate octets) =
     (judged : Judged) × IsVerdictBy (context_of asked at) chained
     (inputs.issuers ++ octets ∷ []) inputs.lists (Accepted judged)
 IsAcceptedOf asked inputs at (made.RevocationList octets) =
-    IsBelow asked inputs at (λ issuer. AnswersForIssuer (context_of asked at) issuer octets)
+    IsSoBelow asked inputs at (λ issuer. AnswersForIssuer (context_of asked at) issuer octets)
 
 -- ---- the whole
 

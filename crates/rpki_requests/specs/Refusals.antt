@@ -23,8 +23,8 @@ use Rattle.rpki_issuing.specs.declared.wanted.preparing.WantedError.TheVariants 
 use Rattle.rpki_issuing.specs.declared.wanted.rules.IssuingRule.{IssuingRule}
 use Rattle.rpki_issuing.specs.declared.wanted.rules.IssuingRule.TheVariants.{ZeroSerial, EarlyValidity, IssuerKey}
 use Rattle.rpki_requests.specs.RequestFiles.{IsNoAuthority, IsNoListAt, chained}
-use Rattle.rpki_requests.specs.ExpectedValues.{expected_value, value_kind}
-use Rattle.rpki_requests.specs.RequestWords.{AskedFields, setting_name, values_of}
+use Rattle.rpki_requests.specs.ExpectedValues.{asked_value_expected, asked_value_kind}
+use Rattle.rpki_requests.specs.RequestWords.{AskedFields, asked_option_name, given_values}
 use Rattle.rpki_requests.specs.declared.refusals.Refusal.{Refusal}
 use Rattle.rpki_requests.specs.declared.refusals.Refusal.TheVariants.{Value, NoKey, UnusedKey, Rejected}
 use Rattle.rpki_requests.specs.declared.refusals.Refusal.TheVariants.{NoAuthority, OtherCrl, NoIssuer, OtherList}
@@ -124,15 +124,15 @@ wanted_text wanted.Memory = codes "out of memory"
 
 -- the words of a request that a refusal is about: the values of an option, or the files
 abbrev pub words_about : AskedFields → Refusal → List (List ℕ)
-words_about asked (Value setting) = values_of setting asked.given
-words_about asked NoKey = values_of Key asked.given
+words_about asked (Value setting) = given_values setting asked.given
+words_about asked NoKey = given_values Key asked.given
 words_about asked (UnusedKey format) = []
-words_about asked (Rejected fault) = values_of Issuer asked.given
-words_about asked NoAuthority = values_of Issuer asked.given
-words_about asked (OtherCrl place) = values_of Crl asked.given
+words_about asked (Rejected fault) = given_values Issuer asked.given
+words_about asked NoAuthority = given_values Issuer asked.given
+words_about asked (OtherCrl place) = given_values Crl asked.given
 words_about asked NoIssuer = []
-words_about asked OtherList = values_of Previous asked.given
-words_about asked (OtherCertificate place) = values_of Revoke asked.given
+words_about asked OtherList = given_values Previous asked.given
+words_about asked (OtherCertificate place) = given_values Revoke asked.given
 words_about asked NoName = []
 words_about asked Files = asked.files
 words_about asked NotToSign = asked.files
@@ -146,11 +146,11 @@ spaced word = codes " " ++ characters_text word
 
 -- an option and these words
 abbrev pub given_text : Setting → List (List ℕ) → List ℕ
-given_text setting words = setting_name setting ++ flat_map spaced words
+given_text setting words = asked_option_name setting ++ flat_map spaced words
 
 -- an option and the word at this place
 abbrev pub given_at : Setting → List (List ℕ) → ℕ → List ℕ
-given_at setting words place = setting_name setting ++ spaced (get_or words place [])
+given_at setting words place = asked_option_name setting ++ spaced (get_or words place [])
 
 -- of the issuer's path the file that is rejected, the step, and why
 abbrev pub path_text : List (List ℕ) → Fault → List ℕ
@@ -162,7 +162,7 @@ path_text words fault =
 abbrev pub refusal_text : List (List ℕ) → Refusal → List ℕ
 refusal_text words (Value setting) =
     given_text setting words
-    ++ (codes ": not " ++ (value_kind setting ++ (codes "; expected " ++ expected_value setting)))
+    ++ (codes ": not " ++ (asked_value_kind setting ++ (codes "; expected " ++ asked_value_expected setting)))
 refusal_text words NoKey =
     given_text Key words ++ codes ": not a public key; expected a SubjectPublicKeyInfo, in DER or PEM"
 refusal_text words (UnusedKey format) = fault_text (codes "BadKey") (key_rule format)

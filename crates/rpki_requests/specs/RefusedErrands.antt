@@ -10,18 +10,18 @@ use Rattle.rpki_crl.specs.RevokedEntries.{Revoked}
 use Rattle.rpki_der.specs.Times.{Moment}
 use Rattle.rpki_cert.specs.Verification.{ResourceFields}
 use Rattle.rpki_issuing.specs.AskedFields.{subject_asked}
-use Rattle.rpki_issuing.specs.Issuers.{IsNamed}
+use Rattle.rpki_issuing.specs.Issuers.{HasIssuerName}
 use Rattle.rpki_issuing.specs.PreparedOctets.{IsToSign, IsUncompleted, IsUnprepared}
 use Rattle.rpki_issuing.specs.WantedLists.{IsListCompleted, IsListPrepared, IsListUncompleted, IsListUnprepared}
 use Rattle.rpki_issuing.specs.WantedLists.{IsListWanted, IsNoList, WantedListFields}
 use Rattle.rpki_issuing.specs.declared.wanted.preparing.WantedError.{WantedError}
 use Rattle.rpki_issuing.specs.declared.wanted.wanted.Wanted.{Wanted}
 use Rattle.rpki_path.specs.Asking.{RevocationChecks}
-use Rattle.rpki_requests.specs.Fulfilment.{AsksFields, AsksList, IsBelow, context_of}
+use Rattle.rpki_requests.specs.Fulfilment.{AsksFields, AsksList, IsSoBelow, context_of}
 use Rattle.rpki_requests.specs.OptionValues.{GivesList, GivesWanted}
 use Rattle.rpki_requests.specs.RequestFiles.{InputFields, IsCompletedAs, IsKeyFile, IsPreviousOf, IsSoAsked}
-use Rattle.rpki_requests.specs.RequestWords.{AskedFields, GivenFields}
-use Rattle.rpki_requests.specs.ToldRefusals.{IsDataFault, IsKeyFault, IsOfPath, IsOption, IsOtherList, IsUnfit}
+use Rattle.rpki_requests.specs.RequestWords.{AskedFields, OptionFields}
+use Rattle.rpki_requests.specs.ToldRefusals.{IsDataFault, IsKeyFault, IsOfPath, IsOptionRefusal, IsOtherList, IsUnfit}
 use Rattle.rpki_requests.specs.ToldRefusals.{IsWantedFault}
 use Rattle.rpki_requests.specs.declared.refusals.Refusal.{Refusal}
 use Rattle.rpki_requests.specs.declared.refusals.Refusal.TheVariants.{NoIssuer, NoName, Files, OtherName, Memory}
@@ -32,7 +32,7 @@ use Rattle.rpki_requests.specs.declared.words.Errand.TheVariants.{RevocationList
 -- ---- a certificate is prepared
 
 -- the subject that options and key ask for is no name
-pub record HasNoName (kind : Kind) (given : List GivenFields) (keys : List (List ℕ))
+pub record HasNoName (kind : Kind) (given : List OptionFields) (keys : List (List ℕ))
     : Type 0 where
   pub wanted : Wanted
   pub wanted_is : GivesWanted given wanted
@@ -42,9 +42,9 @@ pub record HasNoName (kind : Kind) (given : List GivenFields) (keys : List (List
       let subject = subject_asked kind wanted.numbers.systems key in IsName subject subject → ⊥
 
 -- it speaks of an option, of the key, or of the subject's name
-abbrev pub IsFieldsFault : Kind → List GivenFields → List (List ℕ) → Refusal → Type 0
+abbrev pub IsFieldsFault : Kind → List OptionFields → List (List ℕ) → Refusal → Type 0
 IsFieldsFault kind given keys why =
-    IsOption given why
+    IsOptionRefusal given why
     ⊎ (IsKeyFault keys why ⊎ ((why ≡ NoName) × HasNoName kind given keys))
 
 -- the fields that are asked for aren't ready below this issuer, the last of this path, for this
@@ -66,14 +66,14 @@ IsSoOfCertificate kind asked keys path checks at issuer why =
 abbrev pub IsSoOfPrepared : Kind → AskedFields → InputFields → Moment → Refusal → Type 0
 IsSoOfPrepared kind asked inputs at why =
     IsOfPath why
-    ⊎ IsBelow asked inputs at (λ issuer. IsSoAsked (context_of asked at) inputs.lists
+    ⊎ IsSoBelow asked inputs at (λ issuer. IsSoAsked (context_of asked at) inputs.lists
     (λ checks. IsSoOfCertificate kind asked inputs.keys inputs.issuers checks at issuer why))
 
 -- ---- a list is prepared
 
 -- options and files say what is wanted of this issuer's list, and no such list may follow the one
 -- before, for this
-pub record MayNotFollow (given : List GivenFields) (inputs : InputFields) (at : Moment)
+pub record MayNotFollow (given : List OptionFields) (inputs : InputFields) (at : Moment)
     (issuer : TbsFields) (e : WantedError) : Type 0 where
   pub previous : Option CrlFields
   pub previous_is : IsPreviousOf issuer inputs.previous previous
@@ -86,7 +86,7 @@ pub record MayNotFollow (given : List GivenFields) (inputs : InputFields) (at : 
 
 -- it speaks of the list before, of an option or of what is revoked; or no such list may follow, for
 -- what it says
-abbrev pub IsAskedListFault : List GivenFields → InputFields → Moment → TbsFields → Refusal → Type 0
+abbrev pub IsAskedListFault : List OptionFields → InputFields → Moment → TbsFields → Refusal → Type 0
 IsAskedListFault given inputs at issuer why =
     IsOtherList issuer inputs.previous why
     ⊎ (IsWantedFault given inputs.revoked issuer why
@@ -101,8 +101,8 @@ pub record IsListUnready (asked : AskedFields) (inputs : InputFields) (at : Mome
   pub reason : IsListUnprepared at asked.strict issuer fields e
 
 -- what it says of this issuer's list is so
-abbrev pub IsListFault : AskedFields → InputFields → Moment → TbsFields → Refusal → Type 0
-IsListFault asked inputs at issuer why =
+abbrev pub IsListErrandFault : AskedFields → InputFields → Moment → TbsFields → Refusal → Type 0
+IsListErrandFault asked inputs at issuer why =
     IsAskedListFault asked.given inputs at issuer why
     ⊎ IsUnfit (IsListUnready asked inputs at issuer) why
 
@@ -110,12 +110,12 @@ IsListFault asked inputs at issuer why =
 abbrev pub IsSoOfList : AskedFields → InputFields → Moment → Refusal → Option ResourceFields
     → Type 0
 IsSoOfList asked inputs at why None = why ≡ NoIssuer
-IsSoOfList asked inputs at why (Some r) = IsListFault asked inputs at r.cert.fields why
+IsSoOfList asked inputs at why (Some r) = IsListErrandFault asked inputs at r.cert.fields why
 
 -- it speaks of the issuer's path; or of the list of the issuer that this is, and is so
 abbrev pub IsSoOfListed : AskedFields → InputFields → Moment → Refusal → Type 0
 IsSoOfListed asked inputs at why =
-    IsOfPath why ⊎ IsBelow asked inputs at (IsSoOfList asked inputs at why)
+    IsOfPath why ⊎ IsSoBelow asked inputs at (IsSoOfList asked inputs at why)
 
 -- ---- a certificate or a list is completed
 
@@ -128,7 +128,7 @@ name_place (Some issuer) = 1
 pub record IsNamedOtherwise (issuer : Option ResourceFields) (prepared : List ℕ) : Type 0 where
   pub fields : TbsFields
   pub fields_are : IsToSign fields prepared
-  pub unnamed : IsNamed issuer fields → ⊥
+  pub unnamed : HasIssuerName issuer fields → ⊥
 
 -- they are one, which isn't completed by this signature below this issuer, the last of this path,
 -- for this
@@ -137,7 +137,7 @@ pub record IsUnmade (asked : AskedFields) (path : List (List ℕ)) (checks : Rev
     (e : WantedError) : Type 0 where
   pub fields : TbsFields
   pub fields_are : IsToSign fields prepared
-  pub named : IsNamed issuer fields
+  pub named : HasIssuerName issuer fields
   pub kind : Kind
   pub kind_is : IsCompletedAs issuer fields kind
   pub uncompleted : IsUncompleted kind issuer path checks at asked.strict fields prepared signature e
@@ -211,7 +211,7 @@ AreNotTwo files = (prepared signature : List ℕ) → files ≡ prepared ∷ sig
 abbrev pub IsSoOfCompletion : AskedFields → InputFields → Moment → Refusal → Type 0
 IsSoOfCompletion asked inputs at why =
     ((why ≡ Files) × AreNotTwo inputs.files)
-    ⊎ (IsOfPath why ⊎ IsBelow asked inputs at (IsSoOfFiles asked inputs at why))
+    ⊎ (IsOfPath why ⊎ IsSoBelow asked inputs at (IsSoOfFiles asked inputs at why))
 
 -- ---- the whole
 

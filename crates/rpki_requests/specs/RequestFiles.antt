@@ -52,8 +52,8 @@ IsPathIssuer x files lists None = files ≡ []
 IsPathIssuer x files lists (Some r) = IsHeldByLast x files lists r
 
 -- the issuer is this one, and each file that is given as a list is one
-abbrev pub IsIssuerOf : Context → List (List ℕ) → List (List ℕ) → Option ResourceFields → Type 0
-IsIssuerOf x files lists issuer = All IsList lists × IsPathIssuer x files lists issuer
+abbrev pub IsRequestIssuer : Context → List (List ℕ) → List (List ℕ) → Option ResourceFields → Type 0
+IsRequestIssuer x files lists issuer = All IsList lists × IsPathIssuer x files lists issuer
 
 -- the file that is given as a list at this place is none
 abbrev pub IsNoListAt : List (List ℕ) → ℕ → Type 0
@@ -74,7 +74,7 @@ IsOnlyPathIssuer x files lists issuer =
 -- there is no other one
 abbrev pub IsOnlyIssuer : Context → List (List ℕ) → List (List ℕ) → Option ResourceFields → Type 0
 IsOnlyIssuer x files lists issuer =
-    (other : Option ResourceFields) → IsIssuerOf x files lists other → AreOneIssuer other issuer
+    (other : Option ResourceFields) → IsRequestIssuer x files lists other → AreOneIssuer other issuer
 
 -- ---- who is asked for revocation
 

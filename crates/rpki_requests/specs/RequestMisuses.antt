@@ -3,10 +3,11 @@
 use Rattle.std.specs.Prelude.{◌≡◌, ◌≢◌, ◌≤◌, ◌⊎◌, ℕ, List, [], ◌∷◌, ◌++◌, length, map, fold, true, false, codes}
 use Rattle.rpki_text.specs.Pages.{characters_text}
 use Rattle.rpki_text.specs.WordParts.{AreInOrder, IsFirstWrong, IsOption, Joins, words_before, words_behind}
-use Rattle.rpki_requests.specs.ExpectedValues.{expected_value}
+use Rattle.rpki_requests.specs.ExpectedValues.{asked_value_expected}
 use Rattle.rpki_requests.specs.RequestWords.{AskedFields, IsRequestPart, RequestPart, demand, errand_words, file}
-use Rattle.rpki_requests.specs.RequestWords.{files_wanted, only_errand, setting_name, switch_name, takes, values_of}
-use Rattle.rpki_requests.specs.RequestWords.{with_part}
+use Rattle.rpki_requests.specs.RequestWords.{files_wanted, only_errand, asked_option_name, switch_name, takes}
+use Rattle.rpki_requests.specs.RequestWords.{given_values}
+use Rattle.rpki_requests.specs.RequestWords.{with_request_part}
 use Rattle.rpki_requests.specs.declared.words.Demand.{Demand}
 use Rattle.rpki_requests.specs.declared.words.Demand.TheVariants.{Never, AtMostOnce, Once, AtLeastOnce}
 use Rattle.rpki_requests.specs.declared.words.Errand.{Errand}
@@ -34,19 +35,19 @@ IsNoErrand _ words = ⊥
 -- ---- a word behind them
 
 -- the word is an option that there isn't
-abbrev pub IsUnknownOption : List ℕ → Type 0
-IsUnknownOption word =
-    IsOption word × ((setting : Setting) → word ≡ setting_name setting → ⊥)
-    × ((setting : Setting) (value : List ℕ) → Joins (setting_name setting) value word → ⊥)
+abbrev pub IsUnknownRequestOption : List ℕ → Type 0
+IsUnknownRequestOption word =
+    IsOption word × ((setting : Setting) → word ≡ asked_option_name setting → ⊥)
+    × ((setting : Setting) (value : List ℕ) → Joins (asked_option_name setting) value word → ⊥)
     × ((given : Switch) → word ≡ switch_name given → ⊥)
 
 -- the words begin with what is told: with an option that there isn't, or with one whose value is
 -- missing
-abbrev pub IsWrongFirst : Misuse → List (List ℕ) → Type 0
-IsWrongFirst (Unknown word) words =
-    (rest : List (List ℕ)) × (words ≡ word.now ∷ rest) × IsUnknownOption word.now
-IsWrongFirst (NoValue setting) words = words ≡ setting_name setting ∷ []
-IsWrongFirst _ words = ⊥
+abbrev pub IsWrongRequestStart : Misuse → List (List ℕ) → Type 0
+IsWrongRequestStart (Unknown word) words =
+    (rest : List (List ℕ)) × (words ≡ word.now ∷ rest) × IsUnknownRequestOption word.now
+IsWrongRequestStart (NoValue setting) words = words ≡ asked_option_name setting ∷ []
+IsWrongRequestStart _ words = ⊥
 
 -- ---- what is asked
 
@@ -64,33 +65,34 @@ IsWrongCount _ setting often times = ⊥
 abbrev pub HasWrongCount : Misuse → AskedFields → Type 0
 HasWrongCount misuse asked =
     (setting : Setting)
-    × IsWrongCount misuse setting (demand setting asked.errand) (length (values_of setting asked.given))
+    × IsWrongCount misuse setting (demand setting asked.errand) (length (given_values setting asked.given))
 
 -- what is told is a reason why this doesn't suit its errand
-abbrev pub IsReason : Misuse → AskedFields → Type 0
-IsReason (UnsuitedSwitch Trim) asked = (asked.trims ≡ true) × (takes Trim asked.errand ≡ false)
-IsReason (UnsuitedSwitch Pem) asked = (asked.is_pem ≡ true) × (takes Pem asked.errand ≡ false)
-IsReason (UnsuitedSwitch _) asked = ⊥
-IsReason Files asked = length asked.files ≢ files_wanted asked.errand
-IsReason misuse asked = HasWrongCount misuse asked
+abbrev pub IsErrandReason : Misuse → AskedFields → Type 0
+IsErrandReason (UnsuitedSwitch Trim) asked = (asked.trims ≡ true) × (takes Trim asked.errand ≡ false)
+IsErrandReason (UnsuitedSwitch Pem) asked = (asked.is_pem ≡ true) × (takes Pem asked.errand ≡ false)
+IsErrandReason (UnsuitedSwitch _) asked = ⊥
+IsErrandReason Files asked = length asked.files ≢ files_wanted asked.errand
+IsErrandReason misuse asked = HasWrongCount misuse asked
 
 -- the words behind those of the errand are parts, and what they ask doesn't suit it, as is told
-pub record IsUnsuited (misuse : Misuse) (errand : Errand) (words : List (List ℕ)) : Type 0 where
+pub record IsUnsuitedRequest (misuse : Misuse) (errand : Errand) (words : List (List ℕ)) : Type 0 where
   pub parts : List RequestPart
   pub parts_are : AreInOrder IsRequestPart parts (words_before words)
   pub asked : AskedFields
-  pub asks : asked ≡ fold with_part (only_errand errand) (parts ++ map file (words_behind words))
-  pub reason : IsReason misuse asked
+  pub asks : asked ≡ fold with_request_part (only_errand errand) (parts ++ map file (words_behind words))
+  pub reason : IsErrandReason misuse asked
 
 -- ---- all words
 
 -- what is told of the words is so: they begin as no request does; or behind what they ask is the
 -- first word that is wrong, or it doesn't suit what is asked
-abbrev pub IsMisuse : Misuse → List (List ℕ) → Type 0
-IsMisuse misuse words =
+abbrev pub IsRequestMisuse : Misuse → List (List ℕ) → Type 0
+IsRequestMisuse misuse words =
     IsNoErrand misuse words
     ⊎ ((errand : Errand) × (rest : List (List ℕ)) × (words ≡ errand_words errand ++ rest)
-    × (IsFirstWrong IsRequestPart IsWrongFirst misuse (words_before rest) ⊎ IsUnsuited misuse errand rest))
+    × (IsFirstWrong IsRequestPart IsWrongRequestStart misuse (words_before rest) ⊎ IsUnsuitedRequest misuse errand
+    rest))
 
 -- ---- what is said of it
 
@@ -103,18 +105,18 @@ abbrev pub no_option : List ℕ
 no_option = codes ": not an option of this command"
 
 -- what is wrong first, and what is expected
-abbrev pub misuse_text : Misuse → List ℕ
-misuse_text NoErrand = codes "nothing to prepare; expected " ++ kinds
-misuse_text (UnknownErrand word) =
+abbrev pub request_misuse_text : Misuse → List ℕ
+request_misuse_text NoErrand = codes "nothing to prepare; expected " ++ kinds
+request_misuse_text (UnknownErrand word) =
     characters_text word.now ++ (codes ": unknown kind; expected " ++ kinds)
-misuse_text (Unknown word) = characters_text word.now ++ no_option
-misuse_text (NoValue setting) =
-    setting_name setting ++ (codes ": no value; expected " ++ expected_value setting)
-misuse_text (Unsuited setting) = setting_name setting ++ no_option
-misuse_text (UnsuitedSwitch given) = switch_name given ++ no_option
-misuse_text (Missing setting) =
-    setting_name setting ++ (codes ": missing; expected " ++ expected_value setting)
-misuse_text (Repeated setting) = setting_name setting ++ codes ": given more than once; expected once"
-misuse_text Files =
+request_misuse_text (Unknown word) = characters_text word.now ++ no_option
+request_misuse_text (NoValue setting) =
+    asked_option_name setting ++ (codes ": no value; expected " ++ asked_value_expected setting)
+request_misuse_text (Unsuited setting) = asked_option_name setting ++ no_option
+request_misuse_text (UnsuitedSwitch given) = switch_name given ++ no_option
+request_misuse_text (Missing setting) =
+    asked_option_name setting ++ (codes ": missing; expected " ++ asked_value_expected setting)
+request_misuse_text (Repeated setting) = asked_option_name setting ++ codes ": given more than once; expected once"
+request_misuse_text Files =
     codes "wrong number of files; expected PREPARED and SIGNATURE for complete, none for prepare"
-misuse_text Memory = codes "out of memory"
+request_misuse_text Memory = codes "out of memory"

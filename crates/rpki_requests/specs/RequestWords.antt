@@ -42,28 +42,28 @@ AsksHelp words =
     Contains (words_before words) (codes "--help") ⊎ Contains (words_before words) (codes "-h")
 
 -- the name of an option that takes a value
-abbrev pub setting_name : Setting → List ℕ
-setting_name Issuer = codes "--issuer"
-setting_name Key = codes "--key"
-setting_name Serial = codes "--serial"
-setting_name From = codes "--from"
-setting_name Until = codes "--until"
-setting_name Ipv4 = codes "--ipv4"
-setting_name Ipv6 = codes "--ipv6"
-setting_name AsNumbers = codes "--as"
-setting_name Repository = codes "--repository"
-setting_name Manifest = codes "--manifest"
-setting_name Notify = codes "--notify"
-setting_name Object = codes "--object"
-setting_name IssuerUri = codes "--issuer-uri"
-setting_name CrlUri = codes "--crl-uri"
-setting_name Crl = codes "--crl"
-setting_name Previous = codes "--previous"
-setting_name Number = codes "--number"
-setting_name Revoke = codes "--revoke"
-setting_name NextUpdate = codes "--next-update"
-setting_name At = codes "--at"
-setting_name Out = codes "--out"
+abbrev pub asked_option_name : Setting → List ℕ
+asked_option_name Issuer = codes "--issuer"
+asked_option_name Key = codes "--key"
+asked_option_name Serial = codes "--serial"
+asked_option_name From = codes "--from"
+asked_option_name Until = codes "--until"
+asked_option_name Ipv4 = codes "--ipv4"
+asked_option_name Ipv6 = codes "--ipv6"
+asked_option_name AsNumbers = codes "--as"
+asked_option_name Repository = codes "--repository"
+asked_option_name Manifest = codes "--manifest"
+asked_option_name Notify = codes "--notify"
+asked_option_name Object = codes "--object"
+asked_option_name IssuerUri = codes "--issuer-uri"
+asked_option_name CrlUri = codes "--crl-uri"
+asked_option_name Crl = codes "--crl"
+asked_option_name Previous = codes "--previous"
+asked_option_name Number = codes "--number"
+asked_option_name Revoke = codes "--revoke"
+asked_option_name NextUpdate = codes "--next-update"
+asked_option_name At = codes "--at"
+asked_option_name Out = codes "--out"
 
 -- the name of one that takes none
 abbrev pub switch_name : Switch → List ℕ
@@ -73,20 +73,20 @@ switch_name Pem = codes "--pem"
 switch_name Force = codes "--force"
 
 -- an option with its value
-pub record GivenFields : Type 0 where
+pub record OptionFields : Type 0 where
   pub setting : Setting
   pub value : List ℕ
 
 -- what stands behind the errand
 pub data RequestPart : Type 0 where
   file : List ℕ → RequestPart
-  option : GivenFields → RequestPart
+  option : OptionFields → RequestPart
   switch : Switch → RequestPart
 
 -- the words are this part
 abbrev pub IsRequestPart : RequestPart → List (List ℕ) → Type 0
 IsRequestPart (file name) words = (words ≡ name ∷ []) × (IsOption name → ⊥)
-IsRequestPart (option g) words = GivesValue (setting_name g.setting) g.value words
+IsRequestPart (option g) words = GivesValue (asked_option_name g.setting) g.value words
 IsRequestPart (switch s) words = words ≡ switch_name s ∷ []
 
 -- ---- what they ask
@@ -96,7 +96,7 @@ IsRequestPart (switch s) words = words ≡ switch_name s ∷ []
 -- is completed is written in PEM, and whether a file that is there is overwritten
 pub record AskedFields : Type 0 where
   pub errand : Errand
-  pub given : List GivenFields
+  pub given : List OptionFields
   pub files : List (List ℕ)
   pub trims : Bool
   pub strict : Bool
@@ -117,23 +117,23 @@ only_errand errand =
     }
 
 -- with what a further part says
-abbrev pub with_part : AskedFields → RequestPart → AskedFields
-with_part asked (file name) = record asked { files = asked.files ++ name ∷ [] }
-with_part asked (option g) = record asked { given = asked.given ++ g ∷ [] }
-with_part asked (switch Trim) = record asked { trims = true }
-with_part asked (switch Lenient) = record asked { strict = false }
-with_part asked (switch Pem) = record asked { is_pem = true }
-with_part asked (switch Force) = record asked { overwrites = true }
+abbrev pub with_request_part : AskedFields → RequestPart → AskedFields
+with_request_part asked (file name) = record asked { files = asked.files ++ name ∷ [] }
+with_request_part asked (option g) = record asked { given = asked.given ++ g ∷ [] }
+with_request_part asked (switch Trim) = record asked { trims = true }
+with_request_part asked (switch Lenient) = record asked { strict = false }
+with_request_part asked (switch Pem) = record asked { is_pem = true }
+with_request_part asked (switch Force) = record asked { overwrites = true }
 
 -- ---- which options suit an errand
 
 -- the options are the same
 abbrev pub is_same : Setting → Setting → Bool
-is_same a b = bytes_eq (setting_name a) (setting_name b)
+is_same a b = bytes_eq (asked_option_name a) (asked_option_name b)
 
 -- the values that an option is given, in the order of the words
-abbrev pub values_of : Setting → List GivenFields → List (List ℕ)
-values_of setting given = map (λ g. g.value) (filter (λ g. is_same g.setting setting) given)
+abbrev pub given_values : Setting → List OptionFields → List (List ℕ)
+given_values setting given = map (λ g. g.value) (filter (λ g. is_same g.setting setting) given)
 
 -- how often certificates take an option that nothing else takes
 abbrev pub of_certificates : Demand → Errand → Demand
@@ -236,10 +236,10 @@ files_wanted Completion = 2
 files_wanted _ = 0
 
 -- what is asked suits its errand
-pub record Suits (asked : AskedFields) : Type 0 where
+pub record SuitsErrand (asked : AskedFields) : Type 0 where
   pub settings :
       (setting : Setting)
-      → Meets (demand setting asked.errand) (length (values_of setting asked.given))
+      → Meets (demand setting asked.errand) (length (given_values setting asked.given))
   pub trim : asked.trims ≡ true → takes Trim asked.errand ≡ true
   pub pem : asked.is_pem ≡ true → takes Pem asked.errand ≡ true
   pub files : length asked.files ≡ files_wanted asked.errand
@@ -253,5 +253,5 @@ pub record IsRequestLine (asked : AskedFields) (words : List (List ℕ)) : Type 
   pub words_are : words ≡ errand_words errand ++ rest
   pub parts : List RequestPart
   pub parts_are : AreInOrder IsRequestPart parts (words_before rest)
-  pub asks : asked ≡ fold with_part (only_errand errand) (parts ++ map file (words_behind rest))
-  pub suits : Suits asked
+  pub asks : asked ≡ fold with_request_part (only_errand errand) (parts ++ map file (words_behind rest))
+  pub suits : SuitsErrand asked

@@ -14,7 +14,7 @@ use Rattle.rpki_issuing.specs.declared.values.families.Family.TheVariants.{V4, V
 use Rattle.rpki_issuing.specs.declared.wanted.preparing.WantedError.{WantedError}
 use Rattle.rpki_requests.specs.OptionValues.{IsMomentSaid, SaysAtMostOnce, SaysOnce}
 use Rattle.rpki_requests.specs.RequestFiles.{IsPreviousOf, IsRevokedFile}
-use Rattle.rpki_requests.specs.RequestWords.{GivenFields, values_of}
+use Rattle.rpki_requests.specs.RequestWords.{OptionFields, given_values}
 use Rattle.rpki_requests.specs.declared.refusals.Refusal.{Refusal}
 use Rattle.rpki_requests.specs.declared.refusals.Refusal.TheVariants.{Value, NoKey, UnusedKey, Rejected}
 use Rattle.rpki_requests.specs.declared.refusals.Refusal.TheVariants.{NoAuthority, OtherCrl, OtherList}
@@ -33,33 +33,33 @@ IsValueOf setting Memory = Unit {0}
 IsValueOf setting _ = ⊥
 
 -- where a certificate is prepared, the option is given what it takes: one value, several or none
-abbrev pub HasValue : List GivenFields → Setting → Type 0
-HasValue given Serial = (n : ℕ) × SaysOnce IsSerialText (values_of Serial given) n
-HasValue given From = (m : Moment) × SaysOnce IsMomentSaid (values_of From given) m
-HasValue given Until = (m : Moment) × SaysOnce IsMomentSaid (values_of Until given) m
-HasValue given Ipv4 = (r : Resources) × AreListed (IsAddressesText V4) r (values_of Ipv4 given)
-HasValue given Ipv6 = (r : Resources) × AreListed (IsAddressesText V6) r (values_of Ipv6 given)
-HasValue given AsNumbers = (r : Resources) × AreListed IsAsText r (values_of AsNumbers given)
-HasValue given Repository =
-    (uri : Option (List ℕ)) × SaysAtMostOnce IsRsyncText (values_of Repository given) uri
-HasValue given Manifest =
-    (uri : Option (List ℕ)) × SaysAtMostOnce IsRsyncText (values_of Manifest given) uri
-HasValue given Object =
-    (uri : Option (List ℕ)) × SaysAtMostOnce IsRsyncText (values_of Object given) uri
-HasValue given Notify =
-    (uri : Option (List ℕ)) × SaysAtMostOnce IsHttpsText (values_of Notify given) uri
-HasValue given IssuerUri =
-    (uri : Option (List ℕ)) × SaysAtMostOnce IsRsyncText (values_of IssuerUri given) uri
-HasValue given CrlUri =
-    (uri : Option (List ℕ)) × SaysAtMostOnce IsRsyncText (values_of CrlUri given) uri
-HasValue given _ = Unit {0}
+abbrev pub HasOptionValue : List OptionFields → Setting → Type 0
+HasOptionValue given Serial = (n : ℕ) × SaysOnce IsSerialText (given_values Serial given) n
+HasOptionValue given From = (m : Moment) × SaysOnce IsMomentSaid (given_values From given) m
+HasOptionValue given Until = (m : Moment) × SaysOnce IsMomentSaid (given_values Until given) m
+HasOptionValue given Ipv4 = (r : Resources) × AreListed (IsAddressesText V4) r (given_values Ipv4 given)
+HasOptionValue given Ipv6 = (r : Resources) × AreListed (IsAddressesText V6) r (given_values Ipv6 given)
+HasOptionValue given AsNumbers = (r : Resources) × AreListed IsAsText r (given_values AsNumbers given)
+HasOptionValue given Repository =
+    (uri : Option (List ℕ)) × SaysAtMostOnce IsRsyncText (given_values Repository given) uri
+HasOptionValue given Manifest =
+    (uri : Option (List ℕ)) × SaysAtMostOnce IsRsyncText (given_values Manifest given) uri
+HasOptionValue given Object =
+    (uri : Option (List ℕ)) × SaysAtMostOnce IsRsyncText (given_values Object given) uri
+HasOptionValue given Notify =
+    (uri : Option (List ℕ)) × SaysAtMostOnce IsHttpsText (given_values Notify given) uri
+HasOptionValue given IssuerUri =
+    (uri : Option (List ℕ)) × SaysAtMostOnce IsRsyncText (given_values IssuerUri given) uri
+HasOptionValue given CrlUri =
+    (uri : Option (List ℕ)) × SaysAtMostOnce IsRsyncText (given_values CrlUri given) uri
+HasOptionValue given _ = Unit {0}
 
 -- where a list is prepared, so it is of a list's options
-abbrev pub HasListValue : List GivenFields → Setting → Type 0
+abbrev pub HasListValue : List OptionFields → Setting → Type 0
 HasListValue given Number =
-    (n : Option ℕ) × SaysAtMostOnce IsSerialText (values_of Number given) n
-HasListValue given NextUpdate = (m : Moment) × SaysOnce IsMomentSaid (values_of NextUpdate given) m
-HasListValue given Serial = (ns : List ℕ) × AllZip IsSerialText ns (values_of Serial given)
+    (n : Option ℕ) × SaysAtMostOnce IsSerialText (given_values Number given) n
+HasListValue given NextUpdate = (m : Moment) × SaysOnce IsMomentSaid (given_values NextUpdate given) m
+HasListValue given Serial = (ns : List ℕ) × AllZip IsSerialText ns (given_values Serial given)
 HasListValue given _ = Unit {0}
 
 -- the option of which it is said has none; or memory ran out
@@ -69,8 +69,8 @@ IsUnsaid Has Memory = Unit {0}
 IsUnsaid Has _ = ⊥
 
 -- so it is where a certificate is prepared
-abbrev pub IsOption : List GivenFields → Refusal → Type 0
-IsOption given = IsUnsaid (HasValue given)
+abbrev pub IsOptionRefusal : List OptionFields → Refusal → Type 0
+IsOptionRefusal given = IsUnsaid (HasOptionValue given)
 
 -- ---- the key
 
@@ -122,7 +122,7 @@ IsOtherFile issuer files why =
     ⊎ ((place : ℕ) × (why ≡ OtherCertificate place) × IsFirstOther issuer files place)
 
 -- it speaks of an option of the list that is wanted, or of what is revoked
-abbrev pub IsWantedFault : List GivenFields → List (List ℕ) → TbsFields → Refusal → Type 0
+abbrev pub IsWantedFault : List OptionFields → List (List ℕ) → TbsFields → Refusal → Type 0
 IsWantedFault given files issuer why =
     IsUnsaid (HasListValue given) why ⊎ IsOtherFile issuer files why
 

@@ -1,13 +1,13 @@
 //! What the values of options are called, and which values an option takes.
 ghost use Rattle.std.specs.Prelude.{◌≡◌};
-ghost use Rattle.rpki_requests.specs.ExpectedValues.{expected_value, value_kind};
+ghost use Rattle.rpki_requests.specs.ExpectedValues.{asked_value_expected, asked_value_kind};
 
 use crate::words::Setting;
 
 impl Setting {
     // What a value of the option is called.
     pub(crate) fn value_kind(self) -> &'static str
-        ensures { result.now ≡ value_kind self }
+        ensures { result.now ≡ asked_value_kind self }
     {
         match self {
             Setting::Issuer
@@ -33,7 +33,7 @@ impl Setting {
 
     // Which values it takes.
     pub(crate) fn expected_value(self) -> &'static str
-        ensures { result.now ≡ expected_value self }
+        ensures { result.now ≡ asked_value_expected self }
     {
         match self {
             Setting::Issuer

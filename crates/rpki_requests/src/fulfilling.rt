@@ -6,10 +6,10 @@ ghost use Rattle.rpki_cert.specs.Verification.{ResourceFields};
 ghost use Rattle.rpki_cert.specs.declared.inspect.Kind.{Kind as kinds};
 ghost use Rattle.rpki_issuing.specs.Acceptance.{IsAnsweringList};
 ghost use Rattle.rpki_requests.specs.Fulfilment.{AsksFields, Completes, CompletesAs, CompletesBelow, CompletesListBelow, Fulfils, GivesToSign, IsAcceptedCertificate, IsAcceptedMade, IsAcceptedOf, Prepares, PreparesBelow, PreparesList, PreparesListBelow, context_of};
-ghost use Rattle.rpki_requests.specs.RequestFiles.{IsCompletedAs, IsIssuerOf, IsOnlyIssuer, IsSoAsked};
+ghost use Rattle.rpki_requests.specs.RequestFiles.{IsCompletedAs, IsRequestIssuer, IsOnlyIssuer, IsSoAsked};
 ghost use Rattle.rpki_requests.specs.RequestWords.Views.{asked_fields};
 ghost use Rattle.rpki_requests.specs.Refusals.{AnswersOnly, IsPathless, TellsPath};
-ghost use Rattle.rpki_requests.specs.RefusedErrands.{IsFieldsFault, IsListFault, IsMadeListFault, IsSoOf, IsSoOfCertificate, IsSoOfCompletion, IsSoOfEither, IsSoOfListed, IsSoOfMade, IsSoOfPrepared, name_place};
+ghost use Rattle.rpki_requests.specs.RefusedErrands.{IsFieldsFault, IsListErrandFault, IsMadeListFault, IsSoOf, IsSoOfCertificate, IsSoOfCompletion, IsSoOfEither, IsSoOfListed, IsSoOfMade, IsSoOfPrepared, name_place};
 ghost use Rattle.rpki_requests.specs.ToldRefusals.{IsOfPath};
 ghost use Rattle.rpki_requests.specs.declared.refusals.Refusal.TheVariants.{Memory, OtherName, Unfit};
 ghost use Rattle.rpki_requests.specs.declared.words.Errand.TheVariants.{Completion};
@@ -201,12 +201,12 @@ fn issuer_asked(
     at: Time,
 ) -> Result<Option<ResourceCert>, Refusal>
     ensures issuer { let x = context_of (asked_fields order.now) at in
-        IfOk result (IsIssuerOf x inputs.now.issuers inputs.now.lists) }
+        IfOk result (IsRequestIssuer x inputs.now.issuers inputs.now.lists) }
     ensures only { let x = context_of (asked_fields order.now) at in
         IfOk result (IsOnlyIssuer x inputs.now.issuers inputs.now.lists) }
     ensures none { let x = context_of (asked_fields order.now) at in
         IfErr result (λ why. why ≢ Memory → (issuer : Option ResourceFields)
-        → IsIssuerOf x inputs.now.issuers inputs.now.lists issuer → ⊥) }
+        → IsRequestIssuer x inputs.now.issuers inputs.now.lists issuer → ⊥) }
     ensures told { let x = context_of (asked_fields order.now) at in
         IfErr result (TellsPath x inputs.now.issuers inputs.now.lists) }
     ensures of_path { IfErr result IsOfPath }
@@ -264,7 +264,7 @@ fn list_prepared_below(
         → PreparesListBelow asked inputs.now at issuer.now.cert.fields octets → ⊥) }
     ensures pathless { IfErr result IsPathless }
     ensures so { let asked = asked_fields order.now in
-        IfErr result (IsListFault asked inputs.now at issuer.now.cert.fields) }
+        IfErr result (IsListErrandFault asked inputs.now at issuer.now.cert.fields) }
 {
     let list = list_asked(alloc, order, inputs, issuer, at)?;
     let octets = prepare_list_octets(alloc, &list, issuer, order.strict, at);

@@ -6,7 +6,7 @@ ghost use Rattle.rpki_files.specs.Contents.{IsList};
 ghost use Rattle.rpki_files.specs.Files.{contents};
 ghost use Rattle.rpki_cert.specs.SaidKinds.{SaysAuthority};
 ghost use Rattle.rpki_requests.specs.Refusals.{TellsPath};
-ghost use Rattle.rpki_requests.specs.RequestFiles.{IsIssuerOf, IsNoAuthority, IsNoListAt, IsOnlyIssuer, IsOnlyPathIssuer, IsPathIssuer};
+ghost use Rattle.rpki_requests.specs.RequestFiles.{IsRequestIssuer, IsNoAuthority, IsNoListAt, IsOnlyIssuer, IsOnlyPathIssuer, IsPathIssuer};
 ghost use Rattle.rpki_requests.specs.ToldRefusals.{IsOfPath};
 ghost use Rattle.rpki_requests.specs.declared.refusals.Refusal.TheVariants.{Memory, NoAuthority};
 
@@ -106,12 +106,12 @@ pub(crate) fn issuer_of(
     at: Time,
 ) -> Result<Option<ResourceCert>, Refusal>
     ensures issuer { let x = context IsSignedByRsa at strict in
-        IfOk result (IsIssuerOf x (contents files.now) (contents lists.now)) }
+        IfOk result (IsRequestIssuer x (contents files.now) (contents lists.now)) }
     ensures only { let x = context IsSignedByRsa at strict in
         IfOk result (IsOnlyIssuer x (contents files.now) (contents lists.now)) }
     ensures none { let x = context IsSignedByRsa at strict in
         IfErr result (λ why. why ≢ Memory → (issuer : Option ResourceFields)
-        → IsIssuerOf x (contents files.now) (contents lists.now) issuer → ⊥) }
+        → IsRequestIssuer x (contents files.now) (contents lists.now) issuer → ⊥) }
     ensures told { let x = context IsSignedByRsa at strict in
         IfErr result (TellsPath x (contents files.now) (contents lists.now)) }
     ensures of_path { IfErr result IsOfPath }

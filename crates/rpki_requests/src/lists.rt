@@ -4,14 +4,14 @@ ghost use Rattle.std.specs.Prelude.{◌≡◌, ◌↔◌, ◌≤◌, ◌++◌, �
 ghost use Rattle.rpki_cert.specs.Certificates.{CertFields, IsCertificate};
 ghost use Rattle.rpki_crl.specs.Lists.{CrlFields, IsCertificateList, IsTbsCertList};
 ghost use Rattle.rpki_files.specs.Files.{contents};
-ghost use Rattle.rpki_issuing.specs.OnlyValues.{Finds};
+ghost use Rattle.rpki_issuing.specs.OnlyValues.{FindsOnly};
 ghost use Rattle.rpki_issuing.specs.ValueTexts.{IsSerialText};
 ghost use Rattle.rpki_requests.specs.Fulfilment.{AsksList};
 ghost use Rattle.rpki_requests.specs.OptionValues.{GivesEntries, GivesList, given_alone, revoked_at};
 ghost use Rattle.rpki_requests.specs.RefusedErrands.{IsAskedListFault};
 ghost use Rattle.rpki_requests.specs.Refusals.{AnswersOnly, AnswersOnlyBy};
 ghost use Rattle.rpki_requests.specs.RequestFiles.{IsOwnListIn, IsPreviousOf, IsRevokedFile};
-ghost use Rattle.rpki_requests.specs.RequestWords.{values_of};
+ghost use Rattle.rpki_requests.specs.RequestWords.{given_values};
 ghost use Rattle.rpki_requests.specs.ToldRefusals.{IsOtherFile, IsOtherList, IsValueOf, IsWantedFault};
 ghost use Rattle.rpki_requests.specs.declared.refusals.Refusal.TheVariants.{OtherList};
 ghost use Rattle.rpki_requests.specs.RequestWords.Views.{asked_fields};
@@ -60,7 +60,7 @@ fn file_alone<'f, 'n>(files: &'f [Object<'n>]) -> Result<Option<&'f Object<'n>>,
 
 // The list that the file is, if it is one of the issuer.
 fn own_list<'f>(file: &'f Object<'_>, issuer: &ResourceCert, strict: bool) -> Option<&'f Crl>
-    ensures { Finds (IsOwnListIn issuer.now.cert.fields file.now.octets)
+    ensures { FindsOnly (IsOwnListIn issuer.now.cert.fields file.now.octets)
         (option_map (λ list. list.now.list) result) }
 {
     // Called for what it ensures alone.
@@ -106,7 +106,7 @@ fn names_key(cert: &TbsCert, issuer: &TbsCert) -> bool
 
 // The serial number of the certificate that the file is, if that names the issuer's key.
 fn serial_of(file: &Object<'_>, issuer: &TbsCert) -> Option<Serial>
-    ensures { Finds (λ serial. IsRevokedFile issuer.now serial file.now.octets) result }
+    ensures { FindsOnly (λ serial. IsRevokedFile issuer.now serial file.now.octets) result }
 {
     // Called for what it ensures alone.
     rpki_cert::laws::unambiguous();
@@ -161,7 +161,7 @@ fn serials_said(alloc: Global, texts: &[&[u8]]) -> Result<Vec<Serial>, Refusal>
 
 // The serial numbers that options give.
 fn serials_given(alloc: Global, order: &Order<'_>) -> Result<Vec<Serial>, Refusal>
-    ensures { let texts = values_of Setting.Serial (asked_fields order.now).given in
+    ensures { let texts = given_values Setting.Serial (asked_fields order.now).given in
         AnswersOnlyBy (IsValueOf Setting.Serial) (λ v. v.items)
         (λ serials. AllZip IsSerialText serials texts) result }
 {
@@ -294,7 +294,7 @@ pub(crate) fn list_to_sign(
     alloc: Global,
     octets: &Bytes,
 ) -> Result<Option<TbsCertList<RevokedCertificates>>, AllocError>
-    ensures { IfOk result (λ found. Finds (λ f. IsTbsCertList f octets.now) found) }
+    ensures { IfOk result (λ found. FindsOnly (λ f. IsTbsCertList f octets.now) found) }
 {
     // Called for what it ensures alone.
     rpki_crl::laws::unambiguous();

@@ -3,8 +3,8 @@ ghost use Rattle.std.specs.Prelude.{◌≡◌, ◌≢◌, ◌≤◌, ◌⊎◌, 
 ghost use Rattle.rpki_issuing.specs.BlockTexts.{AreListed};
 ghost use Rattle.rpki_requests.specs.OptionValues.{GivesNumbers, GivesPlaces, GivesWanted, IsMomentSaid, SaysAtMostOnce, SaysOnce, given_alone};
 ghost use Rattle.rpki_requests.specs.Refusals.{AnswersOnly};
-ghost use Rattle.rpki_requests.specs.ToldRefusals.{IsOption, IsValueOf};
-ghost use Rattle.rpki_requests.specs.RequestWords.{values_of};
+ghost use Rattle.rpki_requests.specs.ToldRefusals.{IsOptionRefusal, IsValueOf};
+ghost use Rattle.rpki_requests.specs.RequestWords.{given_values};
 ghost use Rattle.rpki_requests.specs.RequestWords.Views.{asked_fields};
 ghost use Rattle.rpki_requests.specs.declared.refusals.Refusal.TheVariants.{Memory};
 
@@ -24,9 +24,9 @@ fn value_of<'a>(
     order: &Order<'a>,
     setting: Setting,
 ) -> Result<Option<&'a [u8]>, Refusal>
-    ensures alone { let texts = values_of setting (asked_fields order.now).given in
+    ensures alone { let texts = given_values setting (asked_fields order.now).given in
         IfOk result (λ text. texts ≡ given_alone (option_map (λ t. t.now) text)) }
-    ensures several { let texts = values_of setting (asked_fields order.now).given in
+    ensures several { let texts = given_values setting (asked_fields order.now).given in
         IfErr result (λ why. why ≢ Memory → 2 ≤ length texts) }
     ensures told { IfErr result (IsValueOf setting) }
 {
@@ -46,7 +46,7 @@ pub(crate) fn at_most_once<T: Textual>(
     order: &Order<'_>,
     setting: Setting,
 ) -> Result<Option<T>, Refusal>
-    ensures { let texts = values_of setting (asked_fields order.now).given in
+    ensures { let texts = given_values setting (asked_fields order.now).given in
         AnswersOnly (IsValueOf setting) (SaysAtMostOnce T.is_text texts) result }
 {
     let Some(text) = value_of(alloc, order, setting)? else {
@@ -60,7 +60,7 @@ pub(crate) fn at_most_once<T: Textual>(
 
 // What the one value of an option says.
 fn once<T: Textual>(alloc: Global, order: &Order<'_>, setting: Setting) -> Result<T, Refusal>
-    ensures { let texts = values_of setting (asked_fields order.now).given in
+    ensures { let texts = given_values setting (asked_fields order.now).given in
         AnswersOnly (IsValueOf setting) (SaysOnce T.is_text texts) result }
 {
     match at_most_once::<T>(alloc, order, setting)? {
@@ -79,7 +79,7 @@ pub fn named_moment(
     order: &Order<'_>,
     setting: Setting,
 ) -> Result<Option<Time>, Refusal>
-    ensures { let texts = values_of setting (asked_fields order.now).given in
+    ensures { let texts = given_values setting (asked_fields order.now).given in
         AnswersOnly (IsValueOf setting) (SaysAtMostOnce IsMomentSaid texts) result }
 {
     let Some(text) = value_of(alloc, order, setting)? else {
@@ -93,7 +93,7 @@ pub fn named_moment(
 
 // The moment that an option names.
 pub(crate) fn moment(alloc: Global, order: &Order<'_>, setting: Setting) -> Result<Time, Refusal>
-    ensures { let texts = values_of setting (asked_fields order.now).given in
+    ensures { let texts = given_values setting (asked_fields order.now).given in
         AnswersOnly (IsValueOf setting) (SaysOnce IsMomentSaid texts) result }
 {
     match named_moment(alloc, order, setting) {
@@ -109,7 +109,7 @@ fn listed_of<B: Bound, T: BlockText<B>>(
     order: &Order<'_>,
     setting: Setting,
 ) -> Result<Resources<B>, Refusal>
-    ensures { let texts = values_of setting (asked_fields order.now).given in
+    ensures { let texts = given_values setting (asked_fields order.now).given in
         AnswersOnly (IsValueOf setting) (λ r. AreListed T.is_text r texts) result }
 {
     let texts = order.values_of(alloc, setting)?;
@@ -147,7 +147,7 @@ pub(crate) fn both<A: Drop, B: Drop>(
 // What is listed of each kind of numbers.
 fn numbers(alloc: Global, order: &Order<'_>) -> Result<Numbers, Refusal>
     ensures { let given = (asked_fields order.now).given in
-        AnswersOnly (IsOption given) (GivesNumbers given) result }
+        AnswersOnly (IsOptionRefusal given) (GivesNumbers given) result }
 {
     let v4 = listed_of::<_, V4Texts>(alloc, order, Setting::Ipv4);
     let v6 = listed_of::<_, V6Texts>(alloc, order, Setting::Ipv6);
@@ -166,7 +166,7 @@ fn numbers(alloc: Global, order: &Order<'_>) -> Result<Numbers, Refusal>
 // The URIs.
 fn places(alloc: Global, order: &Order<'_>) -> Result<Places, Refusal>
     ensures { let given = (asked_fields order.now).given in
-        AnswersOnly (IsOption given) (GivesPlaces given) result }
+        AnswersOnly (IsOptionRefusal given) (GivesPlaces given) result }
 {
     let repository = at_most_once::<Rsync>(alloc, order, Setting::Repository);
     let manifest = at_most_once::<Rsync>(alloc, order, Setting::Manifest);
@@ -205,7 +205,7 @@ fn places(alloc: Global, order: &Order<'_>) -> Result<Places, Refusal>
 /// Returns the first option whose value isn't accepted, and `Memory`.
 pub(crate) fn wanted(alloc: Global, order: &Order<'_>) -> Result<Wanted, Refusal>
     ensures { let given = (asked_fields order.now).given in
-        AnswersOnly (IsOption given) (GivesWanted given) result }
+        AnswersOnly (IsOptionRefusal given) (GivesWanted given) result }
 {
     let serial = match once::<Serial>(alloc, order, Setting::Serial) {
         Ok(serial) => serial,

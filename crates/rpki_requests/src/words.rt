@@ -3,8 +3,8 @@ ghost use Rattle.std.specs.Prelude.{◌≡◌, ◌≢◌, ◌↔◌, ℕ, List, 
 ghost use Rattle.std.specs.Fmt.{WritesOnOk};
 ghost use Rattle.rpki_text.specs.CommandLines.Views.{word_octets};
 ghost use Rattle.rpki_text.specs.WordParts.{AddsPart, AddsParts, AreInOrder, BeginsNoPart, IsFirstWrong, Joins};
-ghost use Rattle.rpki_requests.specs.RequestMisuses.{HasWrongCount, IsMisuse, IsNoErrand, IsReason, IsWrongCount, IsWrongFirst, misuse_text};
-ghost use Rattle.rpki_requests.specs.RequestWords.{AskedFields, AsksHelp, BeginsRequest, IsRequestLine, IsRequestPart, Meets, RequestPart, Suits, demand, errand_words, file, files_wanted, is_same, of_authorities, of_certificates, of_issued, of_lists, only_errand, option, setting_name, switch, switch_name, takes, values_of, with_part};
+ghost use Rattle.rpki_requests.specs.RequestMisuses.{HasWrongCount, IsRequestMisuse, IsNoErrand, IsErrandReason, IsWrongCount, IsWrongRequestStart, request_misuse_text};
+ghost use Rattle.rpki_requests.specs.RequestWords.{AskedFields, AsksHelp, BeginsRequest, IsRequestLine, IsRequestPart, Meets, RequestPart, SuitsErrand, demand, errand_words, file, files_wanted, is_same, of_authorities, of_certificates, of_issued, of_lists, only_errand, option, asked_option_name, switch, switch_name, takes, given_values, with_request_part};
 ghost use Rattle.rpki_requests.specs.RequestWords.Views.{asked_fields, given_fields};
 
 use rpki_text::Characters;
@@ -153,7 +153,7 @@ pub enum Misuse<'a> {
 impl Setting {
     /// Returns the option's name.
     pub fn name(self) -> &'static str
-        ensures { result.now ≡ setting_name self }
+        ensures { result.now ≡ asked_option_name self }
     {
         match self {
             Setting::Issuer => "--issuer",
@@ -199,7 +199,7 @@ impl Switch {
 const KINDS: &str = "ca, ee, detached, router, anchor or list";
 
 impl fmt::Display for Misuse<'_> {
-    ghost output = { λ misuse. Some (misuse_text misuse) };
+    ghost output = { λ misuse. Some (request_misuse_text misuse) };
 
     fn fmt<W: fmt::Write>(&self, f: &mut fmt::Formatter<W>) -> fmt::Result {
         match self {
@@ -329,8 +329,8 @@ fn errand_of(words: &[Vec<u8>]) -> Result<(Errand, &[Vec<u8>]), Misuse<'_>>
 
 // The option that takes a value and has this name.
 fn setting_of(word: &[u8]) -> Option<Setting>
-    ensures named { IfSome result (λ setting. word.now ≡ setting_name setting) }
-    ensures unknown { IfNone result ((setting : Setting) → word.now ≡ setting_name setting → ⊥) }
+    ensures named { IfSome result (λ setting. word.now ≡ asked_option_name setting) }
+    ensures unknown { IfNone result ((setting : Setting) → word.now ≡ asked_option_name setting → ⊥) }
 {
     for setting in SETTINGS {
         if is(word, setting.name()) {
@@ -342,9 +342,9 @@ fn setting_of(word: &[u8]) -> Option<Setting>
 
 // The option and its value that a word gives with `=` between them.
 fn joined<'a>(word: &'a [u8]) -> Option<Given<'a>>
-    ensures joined { IfSome result (λ g. Joins (setting_name g.setting) g.value.now word.now) }
+    ensures joined { IfSome result (λ g. Joins (asked_option_name g.setting) g.value.now word.now) }
     ensures unknown { IfNone result
-        ((setting : Setting) (value : List ℕ) → Joins (setting_name setting) value word.now → ⊥) }
+        ((setting : Setting) (value : List ℕ) → Joins (asked_option_name setting) value word.now → ⊥) }
 {
     let Some(place) = place_of_equals(word) else {
         return None;
@@ -396,7 +396,7 @@ fn new_asked<'a>(alloc: Global, errand: Errand) -> Order<'a>
 // Adds an option with its value.
 fn add_given<'a>(asked: &mut Order<'a>, given: Given<'a>) -> Result<(), Misuse<'a>>
     ensures added { OnOk result (asked_fields asked.new
-        ≡ with_part (asked_fields asked.old) (option (given_fields given.entry))) }
+        ≡ with_request_part (asked_fields asked.old) (option (given_fields given.entry))) }
     ensures memory { IfErr result (λ e. e ≡ Misuse.Memory) }
 {
     match asked.given.push(given) {
@@ -408,7 +408,7 @@ fn add_given<'a>(asked: &mut Order<'a>, given: Given<'a>) -> Result<(), Misuse<'
 // Adds a file.
 fn add_file<'a>(asked: &mut Order<'a>, name: &'a [u8]) -> Result<(), Misuse<'a>>
     ensures added { OnOk result (asked_fields asked.new
-        ≡ with_part (asked_fields asked.old) (file name.now)) }
+        ≡ with_request_part (asked_fields asked.old) (file name.now)) }
     ensures memory { IfErr result (λ e. e ≡ Misuse.Memory) }
 {
     match asked.files.push(name) {
@@ -419,7 +419,7 @@ fn add_file<'a>(asked: &mut Order<'a>, name: &'a [u8]) -> Result<(), Misuse<'a>>
 
 // Adds what an option without a value says.
 fn add_switch(asked: &mut Order<'_>, given: Switch)
-    ensures { asked_fields asked.new ≡ with_part (asked_fields asked.old) (switch given) }
+    ensures { asked_fields asked.new ≡ with_request_part (asked_fields asked.old) (switch given) }
 {
     match given {
         Switch::Trim => asked.trims = true,
@@ -431,13 +431,13 @@ fn add_switch(asked: &mut Order<'_>, given: Switch)
 
 // Adds the file or the option that a word is by itself.
 fn add_word<'a>(asked: &mut Order<'a>, word: &'a [u8]) -> Result<(), Misuse<'a>>
-    requires { (setting : Setting) → word.now ≡ setting_name setting → ⊥ }
-    ensures added { let adds = AddsPart IsRequestPart with_part (word.now ∷ []) in
+    requires { (setting : Setting) → word.now ≡ asked_option_name setting → ⊥ }
+    ensures added { let adds = AddsPart IsRequestPart with_request_part (word.now ∷ []) in
         OnOk result (adds (asked_fields asked.old) (asked_fields asked.new)) }
     ensures unknown { IfErr result
         (λ e. e ≢ Misuse.Memory → BeginsNoPart IsRequestPart (word.now ∷ [])) }
     ensures told { IfErr result (λ e. e ≢ Misuse.Memory
-        → (rest : List (List ℕ)) → IsWrongFirst e (word.now ∷ rest)) }
+        → (rest : List (List ℕ)) → IsWrongRequestStart e (word.now ∷ rest)) }
 {
     if !is_option(word) {
         return add_file(asked, word);
@@ -456,12 +456,12 @@ fn add_word<'a>(asked: &mut Order<'a>, word: &'a [u8]) -> Result<(), Misuse<'a>>
 
 // Adds what the words before `--` say.
 fn add_words<'a>(asked: &mut Order<'a>, words: &'a [Vec<u8>]) -> Result<(), Misuse<'a>>
-    ensures added { let adds = AddsParts IsRequestPart with_part (word_octets words.now) in
+    ensures added { let adds = AddsParts IsRequestPart with_request_part (word_octets words.now) in
         OnOk result (adds (asked_fields asked.old) (asked_fields asked.new)) }
     ensures unknown { IfErr result (λ e. e ≢ Misuse.Memory → (parts : List RequestPart)
         → AreInOrder IsRequestPart parts (word_octets words.now) → ⊥) }
     ensures told { IfErr result
-        (λ e. e ≢ Misuse.Memory → IsFirstWrong IsRequestPart IsWrongFirst e (word_octets words.now)) }
+        (λ e. e ≢ Misuse.Memory → IsFirstWrong IsRequestPart IsWrongRequestStart e (word_octets words.now)) }
 {
     // The option whose value is the next word.
     let mut awaiting = None;
@@ -486,7 +486,7 @@ fn add_words<'a>(asked: &mut Order<'a>, words: &'a [Vec<u8>]) -> Result<(), Misu
 // Adds the files that the words behind `--` are.
 fn add_files<'a>(asked: &mut Order<'a>, words: &'a [Vec<u8>]) -> Result<(), Misuse<'a>>
     ensures added { OnOk result (asked_fields asked.new
-        ≡ fold with_part (asked_fields asked.old) (map file (word_octets words.now))) }
+        ≡ fold with_request_part (asked_fields asked.old) (map file (word_octets words.now))) }
     ensures memory { IfErr result (λ e. e ≡ Misuse.Memory) }
 {
     for word in words {
@@ -625,7 +625,7 @@ impl<'a> Order<'a> {
     /// Returns an error only if memory runs out.
     pub fn values_of(&self, alloc: Global, setting: Setting) -> Result<Vec<&'a [u8]>, AllocError>
         ensures { IfOk result (λ v. map (λ value. value.now) v.items
-            ≡ values_of setting (asked_fields self.now).given) }
+            ≡ given_values setting (asked_fields self.now).given) }
     {
         values_among(alloc, &self.given, setting)
     }
@@ -652,9 +652,9 @@ fn misuse_by(often: Demand, times: usize, setting: Setting) -> Option<Misuse<'st
 fn misuse_of_settings(asked: &Order<'_>) -> Option<Misuse<'static>>
     ensures told { IfSome result (λ e. HasWrongCount e (asked_fields asked.now)) }
     ensures wrong { let a = asked_fields asked.now in MatchOption result
-        ((setting : Setting) → Meets (demand setting a.errand) (length (values_of setting a.given)))
+        ((setting : Setting) → Meets (demand setting a.errand) (length (given_values setting a.given)))
         (λ _. ((setting : Setting) → Meets (demand setting a.errand)
-        (length (values_of setting a.given))) → ⊥) }
+        (length (given_values setting a.given))) → ⊥) }
 {
     for setting in SETTINGS {
         let often = demand_of(setting, asked.errand);
@@ -668,9 +668,9 @@ fn misuse_of_settings(asked: &Order<'_>) -> Option<Misuse<'static>>
 // What doesn't suit the errand, if anything doesn't.
 #[tactic(auto, using(crate::proofs::WrongRequests::reason_of))]
 fn misuse_of(asked: &Order<'_>) -> Option<Misuse<'static>>
-    ensures told { IfSome result (λ e. IsReason e (asked_fields asked.now)) }
-    ensures wrong { MatchOption result (Suits (asked_fields asked.now))
-        (λ _. Suits (asked_fields asked.now) → ⊥) }
+    ensures told { IfSome result (λ e. IsErrandReason e (asked_fields asked.now)) }
+    ensures wrong { MatchOption result (SuitsErrand (asked_fields asked.now))
+        (λ _. SuitsErrand (asked_fields asked.now) → ⊥) }
 {
     if let Some(misuse) = misuse_of_settings(asked) {
         return Some(misuse);
@@ -740,7 +740,7 @@ pub fn read_request<'a>(alloc: Global, words: &'a [Vec<u8>]) -> Result<Order<'a>
         → IsRequestLine other (word_octets words.now) → other ≡ asked_fields asked) }
     ensures rejected { IfErr result (λ e. e ≢ Misuse.Memory → (asked : AskedFields)
         → IsRequestLine asked (word_octets words.now) → ⊥) }
-    ensures told { IfErr result (λ e. e ≢ Misuse.Memory → IsMisuse e (word_octets words.now)) }
+    ensures told { IfErr result (λ e. e ≢ Misuse.Memory → IsRequestMisuse e (word_octets words.now)) }
 {
     let (errand, rest) = errand_of(words)?;
     let mut asked = new_asked(alloc, errand);

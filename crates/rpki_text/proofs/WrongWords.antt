@@ -10,12 +10,12 @@ use Rattle.rpki_text.specs.declared.command_line.arguments.Misuse.{Misuse}
 use Rattle.rpki_text.specs.declared.command_line.arguments.Misuse.TheVariants.{Unknown, NoValue, WrongValue}
 use Rattle.rpki_text.specs.declared.command_line.arguments.Setting.{Setting}
 use Rattle.rpki_text.specs.declared.command_line.arguments.Setting.TheVariants.{At, MaxSize, Only}
-use Rattle.rpki_text.specs.CommandLines.{IsFormatName, IsNumberText, IsPart, LinePart, lenient, json, quiet, all}
+use Rattle.rpki_text.specs.CommandLines.{IsFormatName, IsCountText, IsPart, LinePart, lenient, json, quiet, all}
 use Rattle.rpki_text.specs.CommandLines.{no_names, trust_first, no_crl, strict_exit, help, AreParts, RequestFields}
 use Rattle.rpki_text.specs.CommandLines.{setting_name, with_part}
 use Rattle.rpki_text.specs.CommandLines.Steps.{IsOptionName, IsSetPart, IsSwitch}
 use Rattle.rpki_text.specs.CommandLines.Views.{word_octets}
-use Rattle.rpki_text.specs.Misuses.{BeginsWith, IsUnknownOption, IsWrongFirst}
+use Rattle.rpki_text.specs.Misuses.{BeginsWithOption, IsUnknownOption, IsWrongFirst}
 use Rattle.rpki_text.specs.Misuses.Steps.{IsBound, NamesFormat, TellsValue, TellsWord}
 use Rattle.rpki_text.specs.WordParts.{BeginsNoPart, IsFirstWrong, IsOption, Joins}
 use Rattle.rpki_text.proofs.CommandParts.{line_grammar, line_clear, no_option}
@@ -32,7 +32,7 @@ unknown_option word is_option unnamed unjoined no_switch =
     (is_option, (λ part is. no_option word is_option unnamed unjoined no_switch part (word ∷ []) [] [] is refl), unnamed, unjoined)
 
 -- an option that bounds a walk, and a value that is no number
-pub no_number : (setting : Setting) (value : List ℕ) → IsBound setting → ((n : ℕ) → IsNumberText n value → ⊥) →
+pub no_number : (setting : Setting) (value : List ℕ) → IsBound setting → ((n : ℕ) → IsCountText n value → ⊥) →
     (part : LinePart) → IsSetPart setting value part → ⊥
 no_number setting value (inl is) none part set =
     let its = subst (λ (s : Setting). IsSetPart s value part) is set in
@@ -42,7 +42,7 @@ no_number setting value (inr is) none part set =
     none its.0 its.2
 
 -- the one of a file's size, and a value that is no number
-pub no_size : (value : List ℕ) → ((n : ℕ) → IsNumberText n value → ⊥) → (part : LinePart) → IsSetPart MaxSize value part → ⊥
+pub no_size : (value : List ℕ) → ((n : ℕ) → IsCountText n value → ⊥) → (part : LinePart) → IsSetPart MaxSize value part → ⊥
 no_size value none part set = none set.0 set.2
 
 -- one that names a format, and a value that is none
@@ -123,7 +123,7 @@ no_unknown word unknown = no_option word unknown.0 unknown.2 unknown.3 (λ part 
 module _ (parts others : List LinePart) (before behind words : List (List ℕ)) (parts_are : AreParts parts before)
     (words_are : words ≡ before ++ behind) (are : AreParts others words) where
   -- those behind the parts begin with an option and what isn't its value
-  no_setting : (setting : Setting) (value : List ℕ) → BeginsWith setting value behind →
+  no_setting : (setting : Setting) (value : List ℕ) → BeginsWithOption setting value behind →
       ((part : LinePart) → IsSetPart setting value part → ⊥) → ⊥
   no_setting setting value (front, rest, inl gives, is) none =
       none_behind line_grammar line_clear parts others before (value ∷ []) rest words (setting_name setting) parts_are

@@ -13,17 +13,17 @@ use Rattle.rpki_text.specs.declared.certificate.Findings.{Findings}
 -- ---- what inspection answers
 
 -- nothing where the profile of the kind is met, else the first fault
-abbrev pub IsAnswer : Kind → Bool → CertFields → Option InspectionError → Type 0
-IsAnswer kind strict c None = MeetsProfile kind strict c
-IsAnswer kind strict c (Some fault) = IsFirstFault kind strict c fault
+abbrev pub IsProfileAnswer : Kind → Bool → CertFields → Option InspectionError → Type 0
+IsProfileAnswer kind strict c None = MeetsProfile kind strict c
+IsProfileAnswer kind strict c (Some fault) = IsFirstFault kind strict c fault
 
 -- the answers for the five kinds
 pub record AreAnswers (strict : Bool) (c : CertFields) (a : Answers) : Type 0 where
-  pub anchor : IsAnswer Anchor strict c a.anchor
-  pub authority : IsAnswer Authority strict c a.authority
-  pub end_entity : IsAnswer EndEntity strict c a.end_entity
-  pub detached : IsAnswer Detached strict c a.detached
-  pub router : IsAnswer Router strict c a.router
+  pub anchor : IsProfileAnswer Anchor strict c a.anchor
+  pub authority : IsProfileAnswer Authority strict c a.authority
+  pub end_entity : IsProfileAnswer EndEntity strict c a.end_entity
+  pub detached : IsProfileAnswer Detached strict c a.detached
+  pub router : IsProfileAnswer Router strict c a.router
 
 -- the answer of a kind's profile
 abbrev pub answer_for : Kind → Answers → Option InspectionError

@@ -40,8 +40,8 @@ setting_name ShortOutput = codes "-o"
 setting_name Only = codes "--only"
 
 -- the text is a number below 2^64 in decimal digits
-abbrev pub IsNumberText : ℕ → List ℕ → Type 0
-IsNumberText n text = IsNumeral 10 text × (digits_value 10 text ≡ n) × (n < 2 ^ 64)
+abbrev pub IsCountText : ℕ → List ℕ → Type 0
+IsCountText n text = IsNumeral 10 text × (digits_value 10 text ≡ n) × (n < 2 ^ 64)
 
 -- the text is the format's name
 abbrev pub IsFormatName : Format → List ℕ → Type 0
@@ -66,11 +66,11 @@ IsPart (folder name) words = GivesValue (setting_name In) name words
 IsPart (at_moment m) words =
     (text : List ℕ) × GivesValue (setting_name At) text words × IsMoment m × IsMomentText m text
 IsPart (depth n) words =
-    (text : List ℕ) × GivesValue (setting_name Depth) text words × IsNumberText n text
+    (text : List ℕ) × GivesValue (setting_name Depth) text words × IsCountText n text
 IsPart (steps n) words =
-    (text : List ℕ) × GivesValue (setting_name StepCount) text words × IsNumberText n text
+    (text : List ℕ) × GivesValue (setting_name StepCount) text words × IsCountText n text
 IsPart (max_size n) words =
-    (text : List ℕ) × GivesValue (setting_name MaxSize) text words × IsNumberText n text
+    (text : List ℕ) × GivesValue (setting_name MaxSize) text words × IsCountText n text
 IsPart (output f) words =
     (text : List ℕ)
     × (GivesValue (setting_name Output) text words

@@ -26,14 +26,14 @@ IsUnknownOption word =
     × ((setting : Setting) (value : List ℕ) → Joins (setting_name setting) value word → ⊥)
 
 -- the words begin with this option and this value, as the next word or behind `=`
-abbrev pub BeginsWith : Setting → List ℕ → List (List ℕ) → Type 0
-BeginsWith setting value words =
+abbrev pub BeginsWithOption : Setting → List ℕ → List (List ℕ) → Type 0
+BeginsWithOption setting value words =
     (front : List (List ℕ)) × (rest : List (List ℕ)) × GivesValue (setting_name setting) value front
     × (words ≡ front ++ rest)
 
 -- the option and this value, as two words, are a part
-abbrev pub Takes : Setting → List ℕ → Type 0
-Takes setting value = (part : LinePart) × IsPart part (setting_name setting ∷ value ∷ [])
+abbrev pub TakesValue : Setting → List ℕ → Type 0
+TakesValue setting value = (part : LinePart) × IsPart part (setting_name setting ∷ value ∷ [])
 
 -- the words begin with what is told: with an option that there isn't, with one whose value is
 -- missing, or with one and a value that it doesn't take
@@ -42,7 +42,7 @@ IsWrongFirst (Unknown word) words =
     (rest : List (List ℕ)) × (words ≡ word.now ∷ rest) × IsUnknownOption word.now
 IsWrongFirst (NoValue setting) words = words ≡ setting_name setting ∷ []
 IsWrongFirst (WrongValue setting value) words =
-    BeginsWith setting value.now words × (Takes setting value.now → ⊥)
+    BeginsWithOption setting value.now words × (TakesValue setting value.now → ⊥)
 IsWrongFirst _ words = ⊥
 
 -- ---- what is asked

@@ -3,7 +3,7 @@ use Rattle.std.specs.Option.{option_map}
 use Rattle.std.specs.Prelude.{Some, slice_get}
 use Rattle.std.proofs.Common.{◌≡◌, ◌<◌, ℕ, zero, suc, List, [], ◌∷◌, length, map, refl, ap, ◌∙◌, arith}
 use Rattle.std.proofs.lemmas.Option.{get_or_from_slice_get, slice_get-map}
-use Rattle.rpki_folder.specs.Folders.{octets_at}
+use Rattle.rpki_folder.specs.Folders.{string_at}
 use Rattle.rpki_files.specs.Files.{FileFields, contents}
 
 -- by the reference there
@@ -13,7 +13,7 @@ mapped_at now xs k x is = slice_get-map now xs k ∙ ap (option_map now) is
 
 -- its octets
 pub octets_there : (certs : List FileFields) (place : ℕ) (file : FileFields) → slice_get certs place ≡ Some file →
-    octets_at (contents certs) place ≡ file.octets
+    string_at (contents certs) place ≡ file.octets
 octets_there certs place file is = get_or_from_slice_get (contents certs) place file.octets []
     (slice_get-map (λ (f : FileFields). f.octets) certs place ∙ ap (option_map (λ (f : FileFields). f.octets)) is)
 

@@ -3,7 +3,7 @@ use Rattle.std.specs.Option.{option_map}
 use Rattle.std.specs.Prelude.{Any, Option, Some, None, slice_get}
 use Rattle.std.proofs.Common.{◌≡◌, ◌↔◌, ℕ, List, map, refl, sym, ap, subst, ◌∙◌}
 use Rattle.std.proofs.lemmas.Option.{slice_get-map, slice_get-get_or, slice_get_within, get_or_from_slice_get}
-use Rattle.rpki_verdicts.specs.GivenLocators.{IsFirst}
+use Rattle.rpki_verdicts.specs.GivenLocators.{IsFirstThat}
 
 -- one of them
 pub any_there : {X : Type 0} (P : X → Type 0) (xs : List X) (k : ℕ) (x : X) → slice_get xs k ≡ Some x → P x → Any P xs
@@ -27,7 +27,7 @@ module _ {X Y : Type 0} (P : X → Type 0) (Q : Y → Type 0) (f : X → Y) (xs 
       let is : slice_get (map f xs) h.0 ≡ Some h.1 = slice_get-get_or (map f xs) h.0 h.1 h.2 ∙ ap (λ (y : Y). Some y) h.3 in
       any_there P xs h.0 (image h.0 h.1 is).0 (image h.0 h.1 is).1 (held h.0 h.1 is h.4)
 
-  pub first_image : (o : Option ℕ) → IsFirst P xs o → IsFirst Q (map f xs) o
+  pub first_image : (o : Option ℕ) → IsFirstThat P xs o → IsFirstThat Q (map f xs) o
   first_image None none = λ any. none (any_image any)
   first_image (Some place) h = (
     f h.0,

@@ -13,7 +13,7 @@ use Rattle.rpki_files.specs.Files.{FileFields}
 use Rattle.rpki_der.proofs.Formats.{one_meant}
 use Rattle.rpki_files.specs.LocatorFiles.{IsReadAs}
 use Rattle.rpki_verdicts.specs.GivenLocators.{LocatorFields, locator_files, locator_octets, IsRead, HasKeyRead}
-use Rattle.rpki_verdicts.specs.GivenLocators.{HasNumbersIf, IsLocated, IsFirst}
+use Rattle.rpki_verdicts.specs.GivenLocators.{HasNumbersIf, IsLocated, IsFirstThat}
 use Rattle.rpki_verdicts.proofs.FirstItems.{any_there, first_image}
 use Rattle.rpki_verdicts.proofs.ReadLocators.{read_at}
 
@@ -38,8 +38,8 @@ module _ (one_certificate : IsUnambiguous IsCertificate) (one_locator : IsOneLoc
 
   module _ (locators : List LocatorFields) (read : All (IsRead strict) locators) where
     -- the first that was read with its key is the first that is the trust anchor's locator
-    pub first_locator : (o : Option ℕ) → IsFirst (HasKeyRead cert.fields.key) locators o →
-        IsFirst (IsLocatorOf strict anchor) (locator_octets locators) o
+    pub first_locator : (o : Option ℕ) → IsFirstThat (HasKeyRead cert.fields.key) locators o →
+        IsFirstThat (IsLocatorOf strict anchor) (locator_octets locators) o
     first_locator o h =
         let by_file = λ (file : FileFields). IsLocatorOf strict anchor file.octets in
         first_image by_file (IsLocatorOf strict anchor) (λ (file : FileFields). file.octets) (locator_files locators)
@@ -49,29 +49,29 @@ module _ (one_certificate : IsUnambiguous IsCertificate) (one_locator : IsOneLoc
 
 -- of octets that begin with no certificate there is no locator
 pub none_of_other : (strict : Bool) (anchor : List ℕ) (files : List (List ℕ)) → (BeginsWithCertificate anchor → ⊥) →
-    IsFirst (IsLocatorOf strict anchor) files None
+    IsFirstThat (IsLocatorOf strict anchor) files None
 none_of_other strict anchor files none = λ any. let h = any.4 in none (h.begins.cert, h.begins.begins)
 
 -- a locator that is found is one of the files
 located : (strict : Bool) (anchor : List ℕ) (files : List (List ℕ)) (place : ℕ) →
-    IsFirst (IsLocatorOf strict anchor) files (Some place) → IsLocated strict files anchor
+    IsFirstThat (IsLocatorOf strict anchor) files (Some place) → IsLocated strict files anchor
 located strict anchor [] place h = tt
 located strict anchor (file ∷ files) place h = any_there (IsLocatorOf strict anchor) (file ∷ files) place h.0 h.1 h.2
 
 -- where none is found and some are given, the trust anchor is of none
 not_located : (strict : Bool) (anchor : List ℕ) (files : List (List ℕ)) → files ≢ [] →
-    IsFirst (IsLocatorOf strict anchor) files None → IsLocated strict files anchor → ⊥
+    IsFirstThat (IsLocatorOf strict anchor) files None → IsLocated strict files anchor → ⊥
 not_located strict anchor [] some none h = some refl
 not_located strict anchor (file ∷ files) some none h = none h
 
 -- by whether one is found
 pub found_located : (strict : Bool) (anchor : List ℕ) (files : List (List ℕ)) (o : Option ℕ) →
-    IsFirst (IsLocatorOf strict anchor) files o → is_none o ≡ false → IsLocated strict files anchor
+    IsFirstThat (IsLocatorOf strict anchor) files o → is_none o ≡ false → IsLocated strict files anchor
 found_located strict anchor files None h some = absurd (true≢false some)
 found_located strict anchor files (Some place) h some = located strict anchor files place h
 
 pub never_located : (strict : Bool) (anchor : List ℕ) (files : List (List ℕ)) (o : Option ℕ) → files ≢ [] →
-    IsFirst (IsLocatorOf strict anchor) files o → is_none o ≡ true → IsLocated strict files anchor → ⊥
+    IsFirstThat (IsLocatorOf strict anchor) files o → is_none o ≡ true → IsLocated strict files anchor → ⊥
 never_located strict anchor files None some h none = not_located strict anchor files some h
 never_located strict anchor files (Some place) some h none = absurd (false≢true none)
 

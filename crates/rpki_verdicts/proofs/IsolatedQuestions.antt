@@ -4,7 +4,7 @@ use Rattle.std.proofs.Common.{◌≡◌, ℕ, List, subst}
 use Rattle.rpki_cert.specs.Verification.{Context}
 use Rattle.rpki_files.specs.Files.{FileFields, contents}
 use Rattle.rpki_folder.specs.FirstPlaces.{IsFirstIn}
-use Rattle.rpki_folder.specs.Folders.{octets_at}
+use Rattle.rpki_folder.specs.Folders.{string_at}
 use Rattle.rpki_folder.specs.Walks.{TellsFrom}
 use Rattle.rpki_folder.specs.declared.walk_error.WalkError.{WalkError}
 use Rattle.rpki_isolation.specs.ToldWalks.{BeginAlike, Walked}
@@ -35,7 +35,7 @@ module _ (x : Context) (q : TreeFields) (l : LocatorFields) (tree : Tree) (is : 
   }
 
   -- the octets of its trust anchor
-  pub anchor_octets : octets_at (contents (certs_of tree)) tree.anchor ≡ is.anchor.octets
+  pub anchor_octets : string_at (contents (certs_of tree)) tree.anchor ≡ is.anchor.octets
   anchor_octets = octets_there (certs_of tree) tree.anchor is.anchor is.stands
 
 -- a locator is read in one way
@@ -45,8 +45,8 @@ one_locator l t u here there = cc (here, there)
 -- the trust anchors of the two trees begin with one certificate, if what stands at their places does
 pub begin_alike : (x : Context) (q : TreeFields) (files : List FileFields) (l : LocatorFields) (one other : Tree)
     (w : IsTreeOf x q l one) (v : IsTreeOf x (about q files) l other)
-    → BeginAlike (octets_at (contents (certs_of one)) one.anchor)
-    (octets_at (contents (certs_of other)) other.anchor) → BeginAlike w.anchor.octets v.anchor.octets
+    → BeginAlike (string_at (contents (certs_of one)) one.anchor)
+    (string_at (contents (certs_of other)) other.anchor) → BeginAlike w.anchor.octets v.anchor.octets
 begin_alike x q files l one other w v alike =
     subst (λ (o : List ℕ). BeginAlike w.anchor.octets o) (anchor_octets x (about q files) l other v)
-    (subst (λ (o : List ℕ). BeginAlike o (octets_at (contents (certs_of other)) other.anchor)) (anchor_octets x q l one w) alike)
+    (subst (λ (o : List ℕ). BeginAlike o (string_at (contents (certs_of other)) other.anchor)) (anchor_octets x q l one w) alike)

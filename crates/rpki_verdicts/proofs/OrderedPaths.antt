@@ -13,8 +13,8 @@ use Rattle.std.proofs.lemmas.List.Sorted.{IsPermutation-refl, IsPermutation-sym,
 use Rattle.rpki_cert.specs.Certificates.{CertFields, IsCertificate}
 use Rattle.rpki_der.specs.Encoding.{Means}
 use Rattle.rpki_files.specs.Files.{FileFields}
-use Rattle.rpki_verdicts.specs.ShownPaths.{AreInOrder, AreNamed, AreShown, all_of, IsNamedBy, IsNamedIn, IsRank}
-use Rattle.rpki_verdicts.specs.ShownPaths.{IsShownPath, Precedes, Rank, is_of, place_of, rank_order}
+use Rattle.rpki_verdicts.specs.ShownPaths.{ArePathsInOrder, NameIssuersAbove, AreShown, all_of, NamesIssuerAt, IsNamedIn, IsRank}
+use Rattle.rpki_verdicts.specs.ShownPaths.{IsShownPath, Precedes, Rank, is_issuer_file, place_of, rank_order}
 use Rattle.rpki_verdicts.specs.ShownPaths.Steps.{IsRanked, rank_of, ranked_order}
 use Rattle.rpki_verdicts.proofs.PathRanks.{Later, later_of_sorted, not_before_itself, rank_total}
 use Rattle.rpki_folder.specs.declared.find.FoundPath.{FoundPath}
@@ -44,23 +44,24 @@ module _ (one : IsOneMeant) (certs : List FileFields) (tree : Tree) where
   one_of_file None a b m n = m ∙ sym n
   one_of_file (Some file) a b m n = one_named file.octets a b m n
 
-  one_by : (place : ℕ) (a b : Option ℕ) → IsNamedBy certs place a → IsNamedBy certs place b → a ≡ b
+  one_by : (place : ℕ) (a b : Option ℕ) → NamesIssuerAt certs place a → NamesIssuerAt certs place b → a ≡ b
   one_by place a b m n = one_of_file (slice_get certs place) a b m n
 
   abbrev Counts : ℕ → List ℕ → Bool → ℕ → Type 0
-  Counts issuer up t n = MatchBool t ((k : ℕ) × AreNamed certs tree issuer up k × (n ≡ k + 1)) (n ≡ 0)
+  Counts issuer up t n = MatchBool t ((k : ℕ) × NameIssuersAbove certs tree issuer up k × (n ≡ k + 1)) (n ≡ 0)
 
-  one_more : (issuer : ℕ) (up : List ℕ) → ((n m : ℕ) → AreNamed certs tree issuer up n → AreNamed certs tree issuer up m → n ≡ m)
+  one_more : (issuer : ℕ) (up : List ℕ) →
+      ((n m : ℕ) → NameIssuersAbove certs tree issuer up n → NameIssuersAbove certs tree issuer up m → n ≡ m)
       → (t : Bool) (n m : ℕ) → Counts issuer up t n → Counts issuer up t m → n ≡ m
   one_more issuer up one_above true n m a b = a.2 ∙ ap (λ (k : ℕ). k + 1) (one_above a.0 b.0 a.1 b.1) ∙ sym b.2
   one_more issuer up one_above false n m a b = a ∙ sym b
 
-  one_count : (place : ℕ) (up : List ℕ) (n m : ℕ) → AreNamed certs tree place up n → AreNamed certs tree place up m → n ≡ m
+  one_count : (place : ℕ) (up : List ℕ) (n m : ℕ) → NameIssuersAbove certs tree place up n → NameIssuersAbove certs tree place up m → n ≡ m
   one_count place [] n m a b =
-      a.2 ∙ ap (λ (o : Option ℕ). if is_of tree o tree.anchor then 1 else 0) (one_by place a.0 b.0 a.1 b.1) ∙ sym b.2
+      a.2 ∙ ap (λ (o : Option ℕ). if is_issuer_file tree o tree.anchor then 1 else 0) (one_by place a.0 b.0 a.1 b.1) ∙ sym b.2
   one_count place (issuer ∷ up) n m a b =
-      one_more issuer up (λ k l. one_count issuer up k l) (is_of tree b.0 issuer) n m
-      (subst (λ (o : Option ℕ). Counts issuer up (is_of tree o issuer) n) (one_by place a.0 b.0 a.1 b.1) a.2)
+      one_more issuer up (λ k l. one_count issuer up k l) (is_issuer_file tree b.0 issuer) n m
+      (subst (λ (o : Option ℕ). Counts issuer up (is_issuer_file tree o issuer) n) (one_by place a.0 b.0 a.1 b.1) a.2)
       b.2
 
   module _ (place : ℕ) where
@@ -92,7 +93,7 @@ module _ (one : IsOneMeant) (certs : List FileFields) (tree : Tree) where
     none_among r (s ∷ rs) a all none = (none_before r s a all.0 none.0, none_among r rs a all.1 none.1)
 
     pub in_order : (rs : List RankedPath) → AllByRecursion (IsRanked certs tree place) rs
-        → Later (λ r s. is_lt (ranked_order certs r s)) rs → AreInOrder certs tree place (map (λ it. it.path.now) rs)
+        → Later (λ r s. is_lt (ranked_order certs r s)) rs → ArePathsInOrder certs tree place (map (λ it. it.path.now) rs)
     in_order [] all up = tt
     in_order (r ∷ rs) all up = (none_among r rs all.0 all.1 up.0, in_order rs all.1 up.1)
 
@@ -104,7 +105,7 @@ module _ (one : IsOneMeant) (certs : List FileFields) (tree : Tree) where
     -- ---- the first of them is the one that is shown
 
     pub first_shown : (path : FoundPath) (more paths : List FoundPath) → IsPermutation paths (path ∷ more)
-        → AreInOrder certs tree place (path ∷ more) → IsShownPath certs tree place paths path
+        → ArePathsInOrder certs tree place (path ∷ more) → IsShownPath certs tree place paths path
     first_shown path more paths moved order =
         let back = IsPermutation-sym paths (path ∷ more) moved in
         let here : Contains (path ∷ more) path = (0, omega arith, refl) in record {
@@ -122,8 +123,8 @@ module _ (one : IsOneMeant) (certs : List FileFields) (tree : Tree) where
         ap (λ (l : List (Bor FoundPath)). shown.shown.now ∷ map (λ path. path.now) l) none ∙ ap (λ (p : FoundPath). p ∷ []) first
         ∙ ap (λ (l : List FoundPath). paths.first ∷ l) (sym alone) in
         let moved = subst (λ (l : List FoundPath). IsPermutation (paths_in paths) l) (sym all) (IsPermutation-refl (paths_in paths)) in
-        let order : AreInOrder certs tree place (all_of shown) =
-        subst (λ (l : List (Bor FoundPath)). AreInOrder certs tree place (shown.shown.now ∷ map (λ path. path.now) l))
+        let order : ArePathsInOrder certs tree place (all_of shown) =
+        subst (λ (l : List (Bor FoundPath)). ArePathsInOrder certs tree place (shown.shown.now ∷ map (λ path. path.now) l))
         (sym none) (tt, tt) in record {
           all = moved;
           in_order = order;
@@ -145,8 +146,8 @@ module _ (one : IsOneMeant) (certs : List FileFields) (tree : Tree) where
         let kept = recursion_from_All (IsRanked certs tree place) ordered
         (All-permutation (IsRanked certs tree place) ranked ordered moves
         (All-from_recursion (IsRanked certs tree place) ranked numbers)) in
-        let order : AreInOrder certs tree place (all_of shown) =
-        subst (λ (l : List FoundPath). AreInOrder certs tree place l) all
+        let order : ArePathsInOrder certs tree place (all_of shown) =
+        subst (λ (l : List FoundPath). ArePathsInOrder certs tree place l) all
         (in_order ordered kept
         (later_of_sorted (λ r s. is_lt (ranked_order certs r s)) (ranks_by rank_total (rank_of certs)) ordered
         up)) in record {

@@ -8,7 +8,7 @@ use Rattle.std.proofs.lemmas.Option.{slice_get-map, get_or_from_slice_get}
 use Rattle.rpki_path.specs.Asking.{RevocationChecks}
 use Rattle.rpki_cert.specs.Certificates.{CertFields, IsCertificate}
 use Rattle.rpki_der.specs.Encoding.{Means}
-use Rattle.rpki_folder.specs.Folders.{octets_at, cas_at}
+use Rattle.rpki_folder.specs.Folders.{string_at, cas_at}
 use Rattle.rpki_path.specs.GivenPaths.{path_to}
 use Rattle.rpki_path.specs.declared.judging.Judged.{Judged}
 use Rattle.rpki_path.specs.Judging.{IsAcceptedWith, IsRouterIfAny}
@@ -40,11 +40,11 @@ no_certificate c octets m is =
 -- the file at a place has these octets
 abbrev IsThere : List FileFields → ℕ → Type 0
 IsThere certs place =
-    (file : FileFields) × (slice_get certs place ≡ Some file) × (file.octets ≡ octets_at (contents certs) place)
+    (file : FileFields) × (slice_get certs place ≡ Some file) × (file.octets ≡ string_at (contents certs) place)
 
 -- a place at which a certificate stands is one
 there : (certs : List FileFields) (place : ℕ) (c : CertFields) →
-    Means IsCertificate c (octets_at (contents certs) place) → IsThere certs place
+    Means IsCertificate c (string_at (contents certs) place) → IsThere certs place
 there [] place c begins = absurd (no_certificate c [] begins refl)
 there (f ∷ fs) zero c begins = (f, refl, refl)
 there (f ∷ fs) (suc k) c begins = there fs k c begins
@@ -53,25 +53,25 @@ module _ (certs : List FileFields) where
   -- so the files at places where certificates stand have their octets
   octets_are : (places : List ℕ) (ms : List Member) (more : List Candidate) →
       AllZip IsMember ms (cas_at (contents certs) places ++ more) →
-      contents (files_at certs places) ≡ map (octets_at (contents certs)) places
+      contents (files_at certs places) ≡ map (string_at (contents certs)) places
   octets_are [] ms more z = refl
   octets_are (k ∷ ks) [] more z = absurd z
   octets_are (k ∷ ks) (m ∷ ms) more z =
       let is = there certs k m.cert z.0.begins in
       ap (λ (o : Option FileFields). contents (cons_option o (files_at certs ks))) is.1
       ∙ ap (λ (octets : List ℕ). octets ∷ contents (files_at certs ks)) is.2
-      ∙ ap (λ (l : List (List ℕ)). octets_at (contents certs) k ∷ l) (octets_are ks ms more z.1)
+      ∙ ap (λ (l : List (List ℕ)). string_at (contents certs) k ∷ l) (octets_are ks ms more z.1)
 
   -- the CAs there are those of these octets
-  cas_are : (places : List ℕ) → cas_at (contents certs) places ≡ map (candidate Authority) (map (octets_at (contents certs)) places)
+  cas_are : (places : List ℕ) → cas_at (contents certs) places ≡ map (candidate Authority) (map (string_at (contents certs)) places)
   cas_are [] = refl
-  cas_are (k ∷ ks) = ap (λ (l : List Candidate). candidate Authority (octets_at (contents certs) k) ∷ l) (cas_are ks)
+  cas_are (k ∷ ks) = ap (λ (l : List Candidate). candidate Authority (string_at (contents certs) k) ∷ l) (cas_are ks)
 
   -- the files of a path
   path_octets : (anchor file : FileFields) (places : List ℕ) (ms : List Member) (more : List Candidate) →
       AllZip IsMember ms (cas_at (contents certs) places ++ more) →
       contents (anchor ∷ (files_at certs places ++ file ∷ [])) ≡ anchor.octets ∷
-      (map (octets_at (contents certs)) places ++ file.octets ∷ [])
+      (map (string_at (contents certs)) places ++ file.octets ∷ [])
   path_octets anchor file places ms more z =
       ap (λ (l : List (List ℕ)). anchor.octets ∷ l)
       (map-append (λ (f : FileFields). f.octets) (files_at certs places) (file ∷ []) ∙
@@ -103,7 +103,7 @@ router_below x asked r octets (Some c) h = (h.0, record { meets = h.1.meets; che
 
 module _ (x : Context) (asked : RevocationChecks) (t : NamedTal) (anchor file : FileFields) (certs : List FileFields) (above : List ℕ) where
   abbrev Octets : List (List ℕ)
-  Octets = map (octets_at (contents certs)) above
+  Octets = map (string_at (contents certs)) above
 
   abbrev Files : List FileFields
   Files = anchor ∷ (files_at certs above ++ file ∷ [])
@@ -191,7 +191,7 @@ module _ (x : Context) (asked : RevocationChecks) (t : NamedTal) (anchor file : 
   pub reached_files : slice_get certs 0 ≡ Some file →
       IsReached x asked (at_anchor t anchor.octets) (contents certs) above 0 → IsValidAmong x asked (contents Files)
   reached_files first h =
-      let same : octets_at (contents certs) 0 ≡ file.octets = get_or_from_slice_get (contents certs) 0 file.octets []
+      let same : string_at (contents certs) 0 ≡ file.octets = get_or_from_slice_get (contents certs) 0 file.octets []
       (slice_get-map (λ (f : FileFields). f.octets) certs 0 ∙ ap (option_map (λ (f : FileFields). f.octets))
       first) in
       of_kind h.0 (subst (λ (o : List ℕ). BeginsWithKind h.0 o) same h.2) h.1

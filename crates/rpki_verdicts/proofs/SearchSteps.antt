@@ -23,13 +23,13 @@ use Rattle.rpki_path.specs.declared.path_fault.PathFault.{PathFault}
 use Rattle.rpki_cert.specs.Certificates.{CertFields, IsCertificate}
 use Rattle.rpki_cert.specs.Verification.{Context}
 use Rattle.rpki_folder.specs.Walks.{Root, Covers, IsAcceptedAs, IsLookedAt, IsReached, IsRight, IsRightOf, IsTold}
-use Rattle.rpki_folder.specs.Walks.{Tells, Told, at_anchor, members_at}
+use Rattle.rpki_folder.specs.Walks.{TellsWithin, Told, at_anchor, members_at}
 use Rattle.rpki_folder.specs.declared.walk_error.WalkError.{WalkError}
 use Rattle.rpki_folder.proofs.KeptLineSteps.{told_so}
 use Rattle.rpki_folder.proofs.KeptPaths.{first_told}
 use Rattle.rpki_folder.proofs.SearchSteps.{told_let_in}
-use Rattle.rpki_folder.specs.FirstPlaces.{IsFirstIn, first_of}
-use Rattle.rpki_folder.specs.Folders.{octets_at}
+use Rattle.rpki_folder.specs.FirstPlaces.{IsFirstIn, first_place_of}
+use Rattle.rpki_folder.specs.Folders.{string_at}
 use Rattle.rpki_files.specs.Contents.{BeginsWithCertificate}
 use Rattle.rpki_files.specs.Files.{FileFields, contents}
 use Rattle.rpki_verdicts.specs.Searches.{DeniesFirst, DoesNotReach, HasNoValidIn, HasNoValidPath, IsAcceptedIn}
@@ -92,9 +92,9 @@ told_reached x asked root certs ts right above place h =
     let t = h.1 in
     let is : IsRight x asked root certs t = subst (λ (u : Told). IsRight x asked root certs u) h.3
     (All-from_recursion (IsRight x asked root certs) ts right h.0 t h.2) in
-    reached_by x asked root (members_at root certs above) (octets_at certs place) t.verdict h.4.2
-    (subst (λ (p : ℕ). IsRightOf x asked root (members_at root certs above) (octets_at certs p) t.verdict) h.4.1
-    (subst (λ (l : List ℕ). IsRightOf x asked root (members_at root certs l) (octets_at certs t.place) t.verdict) h.4.0 is))
+    reached_by x asked root (members_at root certs above) (string_at certs place) t.verdict h.4.2
+    (subst (λ (p : ℕ). IsRightOf x asked root (members_at root certs above) (string_at certs p) t.verdict) h.4.1
+    (subst (λ (l : List ℕ). IsRightOf x asked root (members_at root certs l) (string_at certs t.place) t.verdict) h.4.0 is))
 
 module _ (ts : List Told) (place : ℕ) where
   -- its line accepts it below these
@@ -145,7 +145,7 @@ module _ (law : IsUnambiguous IsCertificate) (x : Context) (q : TreeFields) (l :
   low = slice_get_within (certs_of tree) 0 file is.first_is
 
   -- no certificate stands before that of the file
-  first_place : first_of tree.firsts 0 ≡ 0
+  first_place : first_place_of tree.firsts 0 ≡ 0
   first_place =
       let some : 0 < length tree_certs = let few = low in omega (arith, few, length-map (certs_of tree) (λ (f : FileFields). f.octets)) in
       first_zero law tree_certs tree.firsts is.grown.firsts_are some
@@ -163,7 +163,7 @@ module _ (law : IsUnambiguous IsCertificate) (x : Context) (q : TreeFields) (l :
   abbrev admits : List ℕ → ℕ → Type 0
   admits = IsLookedAt q.names (IsFirstIn tree.firsts) top tree_certs
 
-  tells : Tells {E = WalkError} x asked admits (at_anchor is.grown.locator is.grown.anchor.octets) tree_certs []
+  tells : TellsWithin {E = WalkError} x asked admits (at_anchor is.grown.locator is.grown.anchor.octets) tree_certs []
       q.depth q.steps (Ok tree.ended) is.grown.told
   tells =
       let begins : Means IsCertificate top is.grown.anchor.octets = subst (λ (o : List ℕ). Means IsCertificate top o)
@@ -206,9 +206,9 @@ module _ (law : IsUnambiguous IsCertificate) (x : Context) (q : TreeFields) (l :
   invalid_by e = record {
     is = is;
     none = λ above covers leads.
-        let firsts = map (first_of tree.firsts) above in
+        let firsts = map (first_place_of tree.firsts) above in
         let covers_them : Covers tree.ended q.depth (length firsts + 1) =
-        subst (λ (n : ℕ). Covers tree.ended q.depth (n + 1)) (sym (length-map above (first_of tree.firsts)))
+        subst (λ (n : ℕ). Covers tree.ended q.depth (n + 1)) (sym (length-map above (first_place_of tree.firsts)))
         covers in
         let looked = looked_first law tree_certs tree.firsts is.grown.firsts_are x asked is.grown.locator
         is.grown.anchor.octets above 0 leads.0 q.names top first_place leads.1 in

@@ -9,20 +9,20 @@ use Rattle.rpki_keys.specs.Locators.{NamedTal}
 use Rattle.rpki_path.specs.AskedLists.{by_named_lists}
 use Rattle.rpki_path.specs.Asking.{RevocationChecks}
 use Rattle.rpki_path.specs.LocatedPaths.{BeginsWithKey}
-use Rattle.rpki_folder.specs.Folders.{FolderFields, octets_at}
+use Rattle.rpki_folder.specs.Folders.{FolderFields, string_at}
 use Rattle.rpki_folder.specs.FoundAnchors.{AreWrongAnchors, HasNoValid, IsWrongAnchor}
 use Rattle.rpki_folder.specs.Walks.{IsWhyNone}
 use Rattle.rpki_folder.specs.declared.anchors.WrongCandidate.{WrongCandidate}
 use Rattle.rpki_files.specs.Files.{FileFields, contents}
 use Rattle.rpki_verdicts.specs.GivenLocators.{LocatorFields}
 use Rattle.rpki_verdicts.specs.Trees.{HasNoAnchor, IsFolderOf, IsWrongOf, TreeFields}
-use Rattle.rpki_verdicts.specs.Trees.Steps.{IsToldOf}
+use Rattle.rpki_verdicts.specs.Trees.Steps.{IsCandidateTold}
 use Rattle.rpki_verdicts.specs.declared.unordered.WrongAnchor.{WrongAnchor}
 use Rattle.rpki_verdicts.proofs.FilesAt.{octets_there}
 
 module _ (certs : List FileFields) where
   -- what is told of a candidate at a place
-  any_told : (place : ℕ) (cs : List WrongCandidate) (ws : List WrongAnchor) → AllZip (IsToldOf certs) cs ws →
+  any_told : (place : ℕ) (cs : List WrongCandidate) (ws : List WrongAnchor) → AllZip (IsCandidateTold certs) cs ws →
       (k : ℕ) (d : WrongCandidate) → k < length cs → (get_or cs k d).place ≡ place → Any (λ w. w.place ≡ place) ws
   any_told place [] ws told k d low is = absurd (omega (arith, low))
   any_told place (c ∷ cs) [] told k d low is = absurd told
@@ -32,7 +32,7 @@ module _ (certs : List FileFields) where
       let within = a.2 in
       (suc a.0, a.1, omega (arith, within), a.3, a.4)
 
-  all_stand : (cs : List WrongCandidate) (ws : List WrongAnchor) → AllZip (IsToldOf certs) cs ws →
+  all_stand : (cs : List WrongCandidate) (ws : List WrongAnchor) → AllZip (IsCandidateTold certs) cs ws →
       AllByRecursion (λ w. slice_get certs w.place ≡ Some w.file.now) ws
   all_stand [] [] told = tt
   all_stand [] (w ∷ ws) told = absurd told
@@ -41,7 +41,7 @@ module _ (certs : List FileFields) where
 
   module _ (x : Context) (q : TreeFields) (t : NamedTal) (asked : RevocationChecks) where
     is_wrong : (c : WrongCandidate) (w : WrongAnchor) →
-        IsWrongAnchor x asked q.names t (octets_at (contents certs) c.place) c.error → IsToldOf certs c w →
+        IsWrongAnchor x asked q.names t (string_at (contents certs) c.place) c.error → IsCandidateTold certs c w →
         IsWrongOf x asked q.names t w.file.now w.fault
     is_wrong c w wrong told =
         let same = octets_there certs c.place w.file.now told.stands in
@@ -53,8 +53,8 @@ module _ (certs : List FileFields) where
         }
 
     all_wrong : (cs : List WrongCandidate) (ws : List WrongAnchor) →
-        AllByRecursion (λ c. IsWrongAnchor x asked q.names t (octets_at (contents certs) c.place) c.error) cs →
-        AllZip (IsToldOf certs) cs ws → AllByRecursion (λ w. IsWrongOf x asked q.names t w.file.now w.fault) ws
+        AllByRecursion (λ c. IsWrongAnchor x asked q.names t (string_at (contents certs) c.place) c.error) cs →
+        AllZip (IsCandidateTold certs) cs ws → AllByRecursion (λ w. IsWrongOf x asked q.names t w.file.now w.fault) ws
     all_wrong [] [] each told = tt
     all_wrong [] (w ∷ ws) each told = absurd told
     all_wrong (c ∷ cs) [] each told = absurd told
@@ -65,7 +65,7 @@ module _ (certs : List FileFields) where
       IsFolderOf q.files certs folder → l.read ≡ Ok t
       → (cs : List WrongCandidate) → AreWrongAnchors x (by_named_lists q.names x folder.lists) q.names t folder.certs
       (length folder.certs) cs → HasNoValid x (by_named_lists q.names x folder.lists) q.names t folder.certs
-      → (ws : List WrongAnchor) → AllZip (IsToldOf certs) cs ws → HasNoAnchor x q l ws
+      → (ws : List WrongAnchor) → AllZip (IsCandidateTold certs) cs ws → HasNoAnchor x q l ws
   none_found x q l t folder of read cs are none ws told =
       let asked = by_named_lists q.names x folder.lists in
       let wrong : AreWrongAnchors x asked q.names t (contents certs) (length (contents certs)) cs =

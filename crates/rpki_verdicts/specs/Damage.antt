@@ -31,13 +31,13 @@ abbrev pub is_named_apart : List ℕ → Bool
 is_named_apart name = is_list_name name || is_object_name name
 
 -- another one that is neither, has no such name, and doesn't look like a locator
-abbrev pub IsOther : FileFields → Type 0
-IsOther file =
+abbrev pub IsUnknownFile : FileFields → Type 0
+IsUnknownFile file =
     IsNeither file × IsTrue (not (is_named_apart file.name) && not (looks_like_locator file.octets))
 
 -- so many of the files are such
-abbrev pub AreCounted : (FileFields → Type 0) → List FileFields → ℕ → Type 0
-AreCounted Is [] n = n ≡ 0
-AreCounted Is (file ∷ files) n =
-    ((Is file → ⊥) × AreCounted Is files n)
-    ⊎ ((more : ℕ) × Is file × AreCounted Is files more × (n ≡ more + 1))
+abbrev pub AreSoMany : (FileFields → Type 0) → List FileFields → ℕ → Type 0
+AreSoMany Is [] n = n ≡ 0
+AreSoMany Is (file ∷ files) n =
+    ((Is file → ⊥) × AreSoMany Is files n)
+    ⊎ ((more : ℕ) × Is file × AreSoMany Is files more × (n ≡ more + 1))

@@ -55,8 +55,8 @@ HasNumbersIf [] anchor = Unit {0}
 HasNumbersIf (file ∷ files) anchor = BeginsWithNumbers anchor
 
 -- the first of which this holds stands at this place; or it holds of none
-abbrev pub IsFirst : {X : Type 0} → (X → Type 0) → List X → Option ℕ → Type 0
-IsFirst Holds xs None = Any Holds xs → ⊥
-IsFirst {X} Holds xs (Some place) =
+abbrev pub IsFirstThat : {X : Type 0} → (X → Type 0) → List X → Option ℕ → Type 0
+IsFirstThat Holds xs None = Any Holds xs → ⊥
+IsFirstThat {X} Holds xs (Some place) =
     (x : X) × (slice_get xs place ≡ Some x) × Holds x
     × ((k : ℕ) → k < place → (earlier : X) → slice_get xs k ≡ Some earlier → Holds earlier → ⊥)

@@ -8,7 +8,7 @@ use Rattle.rpki_folder.specs.FirstPlaces.{IsFirstIn}
 use Rattle.rpki_folder.specs.Folders.{FolderFields}
 use Rattle.rpki_folder.specs.Strangers.{AddsOnly}
 use Rattle.rpki_isolation.specs.PathShares.{HasEnoughOn}
-use Rattle.rpki_isolation.specs.ToldWalks.{IsAcceptedBelow, IsToldOf}
+use Rattle.rpki_isolation.specs.ToldWalks.{IsToldAccepted, HasToldVerdict}
 use Rattle.rpki_parts.specs.Keys.{KeyFields}
 use Rattle.rpki_path.specs.Paths.{Path}
 use Rattle.rpki_path.specs.declared.judging.Judged.{Judged}
@@ -40,13 +40,13 @@ pub record AreWithAndWithout (x : Context) (q : TreeFields) (files : List FileFi
 abbrev pub IsVerdictIn : (x : Context) (q : TreeFields) (l : LocatorFields) (tree : Tree)
     → IsTreeOf x q l tree → Path → CertFields → Result Judged PathFault → Type 0
 IsVerdictIn x q l tree is p c verdict =
-    IsToldOf is.anchor.octets (contents (certs_of tree)) is.told p c verdict
+    HasToldVerdict is.anchor.octets (contents (certs_of tree)) is.told p c verdict
 
 -- one of these accepts it
 abbrev pub IsAcceptedIn : (x : Context) (q : TreeFields) (l : LocatorFields) (tree : Tree)
     → IsTreeOf x q l tree → Path → CertFields → Type 0
 IsAcceptedIn x q l tree is p c =
-    IsAcceptedBelow is.anchor.octets (contents (certs_of tree)) is.told p c
+    IsToldAccepted is.anchor.octets (contents (certs_of tree)) is.told p c
 
 -- the path's CAs have enough steps for their children, within the depth
 abbrev pub HasEnoughIn : (x : Context) (q : TreeFields) (l : LocatorFields) (tree : Tree)

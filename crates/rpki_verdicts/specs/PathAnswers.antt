@@ -18,7 +18,7 @@ use Rattle.rpki_path.specs.LocatedPaths.{BeginsWithNoNumber}
 use Rattle.rpki_path.specs.NameChains.{BeginChained, IsUnchained, strings_below}
 use Rattle.rpki_files.specs.Contents.{BeginsWithCertificate}
 use Rattle.rpki_files.specs.FaultRules.{rule_of}
-use Rattle.rpki_verdicts.specs.Reasons.{ReasonFields, reason, IsReason, key_reason, locator_reason, name_reason}
+use Rattle.rpki_verdicts.specs.Reasons.{ReasonFields, reason, IsPathReason, key_reason, locator_reason, name_reason}
 use Rattle.rpki_verdicts.specs.Reasons.{resources_reason, tal_reason}
 use Rattle.rpki_files.specs.LocatorFiles.{AreLocator}
 use Rattle.rpki_verdicts.specs.GivenLocators.{HasNumbersIf, IsLocated}
@@ -60,7 +60,7 @@ reason_of fault = reason fault.step.now fault.name.now (rule_of fault.rule)
 pub record IsReasonAt (files : List (List ℕ)) (error : PathFault) (fault : Fault) : Type 0 where
   pub octets : List ℕ
   pub octets_are : slice_get files fault.index ≡ Some octets
-  pub reason_is : IsReason error octets (reason_of fault)
+  pub reason_is : IsPathReason error octets (reason_of fault)
 
 -- the file at the fault's place is no locator, and why
 pub record IsNoLocator (strict : Bool) (files : List (List ℕ)) (fault : Fault) : Type 0 where
@@ -101,7 +101,7 @@ pub record IsOtherName (g : PathStrings) (names : Bool) (fault : Fault) : Type 0
   pub reason_is : reason_of fault ≡ name_reason fault.index
 
 -- the path is valid, but its names don't chain
-pub record HasOtherName (x : Context) (asked : RevocationChecks) (d : Demands)
+pub record HasUnchainedNames (x : Context) (asked : RevocationChecks) (d : Demands)
     (g : PathStrings) (fault : Fault) : Type 0 where
   pub judged : Judged
   pub accepted : IsAcceptedWith x asked g judged
@@ -126,7 +126,7 @@ abbrev pub IsFaultIn : Context → RevocationChecks → Demands → List (List �
 IsFaultIn x asked d files g fault =
     (HasOtherKey x d g fault ⊎ HasNoNumbers d g fault)
     ⊎ (IsWrong x asked files g fault
-    ⊎ (HasOtherName x asked d g fault ⊎ EndsInBadKey x asked d files g fault))
+    ⊎ (HasUnchainedNames x asked d g fault ⊎ EndsInBadKey x asked d files g fault))
 
 -- the verdict on the path of these files: what its last member holds, or where and why it is wrong
 abbrev pub IsVerdictOn : Context → RevocationChecks → Demands → List (List ℕ) → PathStrings

@@ -10,7 +10,7 @@ use Rattle.rpki_path.specs.GivenPaths.{PathStrings, anchor_alone, HasLast}
 use Rattle.rpki_path.specs.LocatedPaths.{IsLocatorOf}
 use Rattle.rpki_files.specs.Contents.{IsList}
 use Rattle.rpki_files.specs.Files.{FileFields, contents}
-use Rattle.rpki_verdicts.specs.GivenLocators.{LocatorFields, IsFirst, locator_octets}
+use Rattle.rpki_verdicts.specs.GivenLocators.{LocatorFields, IsFirstThat, locator_octets}
 
 -- what is asked: the files of the path, those given as lists and as locators, whether names have to
 -- chain, whether they are read strictly, and the moment
@@ -36,7 +36,7 @@ demands_of question = record { locators = locator_octets question.locators; name
 abbrev pub IsPlaceOfLocator : QuestionFields → Option ℕ → Type 0
 IsPlaceOfLocator question o =
     (anchor : List ℕ) (more : List (List ℕ)) → contents question.members ≡ anchor ∷ more
-    → IsFirst (IsLocatorOf question.strict anchor) (locator_octets question.locators) o
+    → IsFirstThat (IsLocatorOf question.strict anchor) (locator_octets question.locators) o
 
 -- the locator at a place
 abbrev pub locator_at : List LocatorFields → Option ℕ → Option LocatorFields

@@ -24,16 +24,16 @@ abbrev pub reason : List ℕ → List ℕ → RuleFields → ReasonFields
 reason step name its_rule = record { step = step; name = name; rule = its_rule }
 
 -- of a fault of the member with these octets
-abbrev pub IsReason : PathFault → List ℕ → ReasonFields → Type 0
-IsReason (path.Decode e) octets r =
+abbrev pub IsPathReason : PathFault → List ℕ → ReasonFields → Type 0
+IsPathReason (path.Decode e) octets r =
     (its_rule : RuleFields) × IsReadingRule e octets its_rule
     × (r ≡ reason (codes "reading") (decode_error_name e) its_rule)
-IsReason (path.Inspect e) octets r =
+IsPathReason (path.Inspect e) octets r =
     (its_rule : RuleFields) × IsProfileRule e octets its_rule
     × (r ≡ reason (codes "profile") (inspection_error_name e) its_rule)
-IsReason (path.Verify e) octets r = r ≡ reason (codes "verification") (verification_error_name e) (verification_rule e)
-IsReason (path.Revocation e) octets r = r ≡ reason (codes "revocation") (revocation_error_name e) (revocation_rule e)
-IsReason path.Memory octets r = r ≡ reason (codes "memory") (path_fault_name path.Memory) no_memory
+IsPathReason (path.Verify e) octets r = r ≡ reason (codes "verification") (verification_error_name e) (verification_rule e)
+IsPathReason (path.Revocation e) octets r = r ≡ reason (codes "revocation") (revocation_error_name e) (revocation_rule e)
+IsPathReason path.Memory octets r = r ≡ reason (codes "memory") (path_fault_name path.Memory) no_memory
 
 -- the name that it has
 abbrev pub error_name : PathFault → List ℕ

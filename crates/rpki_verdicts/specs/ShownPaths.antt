@@ -18,7 +18,7 @@ use Rattle.rpki_cert.specs.Verification.{ResourceFields}
 use Rattle.rpki_der.specs.Encoding.{Means}
 use Rattle.rpki_files.specs.Contents.{BeginsWithCertificate}
 use Rattle.rpki_files.specs.Files.{FileFields}
-use Rattle.rpki_folder.specs.FirstPlaces.{first_from, first_of}
+use Rattle.rpki_folder.specs.FirstPlaces.{first_from, first_place_of}
 use Rattle.rpki_folder.specs.KeptLines.{paths_in}
 use Rattle.rpki_folder.specs.declared.find.FoundPath.{FoundPath}
 use Rattle.rpki_folder.specs.declared.lines.AcceptedPaths.{AcceptedPaths}
@@ -70,25 +70,25 @@ IsNamedIn certs octets named =
     ⊎ ((BeginsWithCertificate octets → ⊥) × (named ≡ None))
 
 -- that of the certificate at a place
-abbrev pub IsNamedBy : List FileFields → ℕ → Option ℕ → Type 0
-IsNamedBy certs place named =
+abbrev pub NamesIssuerAt : List FileFields → ℕ → Option ℕ → Type 0
+NamesIssuerAt certs place named =
     MatchOption (slice_get certs place) (named ≡ None) (λ file. IsNamedIn certs file.octets named)
 
 -- the file at the place, where there is one, is that of this issuer, or a copy of it
-abbrev pub is_of : Tree → Option ℕ → ℕ → Bool
-is_of tree None issuer = false
-is_of tree (Some named) issuer = first_of tree.firsts named == first_of tree.firsts issuer
+abbrev pub is_issuer_file : Tree → Option ℕ → ℕ → Bool
+is_issuer_file tree None issuer = false
+is_issuer_file tree (Some named) issuer = first_place_of tree.firsts named == first_place_of tree.firsts issuer
 
 -- So many certificates, from the bottom up, name the file of the one above: that at a place, below the
 -- CAs at these places, which stand from the bottom up, and the trust anchor
-abbrev pub AreNamed : List FileFields → Tree → ℕ → List ℕ → ℕ → Type 0
-AreNamed certs tree place [] n =
-    (named : Option ℕ) × IsNamedBy certs place named
-    × (n ≡ if is_of tree named tree.anchor then 1 else 0)
-AreNamed certs tree place (issuer ∷ above) n =
-    (named : Option ℕ) × IsNamedBy certs place named
-    × MatchBool (is_of tree named issuer)
-    ((m : ℕ) × AreNamed certs tree issuer above m × (n ≡ m + 1)) (n ≡ 0)
+abbrev pub NameIssuersAbove : List FileFields → Tree → ℕ → List ℕ → ℕ → Type 0
+NameIssuersAbove certs tree place [] n =
+    (named : Option ℕ) × NamesIssuerAt certs place named
+    × (n ≡ if is_issuer_file tree named tree.anchor then 1 else 0)
+NameIssuersAbove certs tree place (issuer ∷ above) n =
+    (named : Option ℕ) × NamesIssuerAt certs place named
+    × MatchBool (is_issuer_file tree named issuer)
+    ((m : ℕ) × NameIssuersAbove certs tree issuer above m × (n ≡ m + 1)) (n ≡ 0)
 
 -- ---- the rule
 
@@ -99,11 +99,11 @@ pub record Rank : Type 0 where
   pub cas : List (List ℕ)
 
 -- the octets of the file at a place, and of those at some places
-abbrev pub octets_of : List FileFields → ℕ → List ℕ
-octets_of certs place = unwrap_or (option_map (λ file. file.octets) (slice_get certs place)) []
+abbrev pub file_octets_at : List FileFields → ℕ → List ℕ
+file_octets_at certs place = unwrap_or (option_map (λ file. file.octets) (slice_get certs place)) []
 
 abbrev pub octets_along : List FileFields → List ℕ → List (List ℕ)
-octets_along certs places = map (octets_of certs) places
+octets_along certs places = map (file_octets_at certs) places
 
 -- how two paths stand: the one with more certificates named goes before, then the one with fewer CAs,
 -- then the one with the lesser octets. The octets behind a certificate decide nothing: no certificate's
@@ -116,7 +116,7 @@ rank_order r s =
 -- the rank of a path to the certificate at a place, in the tree over these files of certificates
 pub record IsRank (certs : List FileFields) (tree : Tree) (place : ℕ) (path : FoundPath)
     (rank : Rank) : Type 0 where
-  pub named_are : AreNamed certs tree place (reverse path.above.items) rank.named
+  pub named_are : NameIssuersAbove certs tree place (reverse path.above.items) rank.named
   pub cas_are : rank.cas ≡ octets_along certs path.above.items
 
 -- a path goes before another one
@@ -137,11 +137,11 @@ pub record IsShownPath (certs : List FileFields) (tree : Tree) (place : ℕ) (pa
 -- ---- what is shown
 
 -- none goes before one that stands in front of it
-abbrev pub AreInOrder : List FileFields → Tree → ℕ → List FoundPath → Type 0
-AreInOrder certs tree place [] = Unit {0}
-AreInOrder certs tree place (path ∷ more) =
+abbrev pub ArePathsInOrder : List FileFields → Tree → ℕ → List FoundPath → Type 0
+ArePathsInOrder certs tree place [] = Unit {0}
+ArePathsInOrder certs tree place (path ∷ more) =
     AllByRecursion (λ other. Precedes certs tree place other path → ⊥) more
-    × AreInOrder certs tree place more
+    × ArePathsInOrder certs tree place more
 
 -- the shown path, and the others behind it
 abbrev pub all_of : ShownPaths → List FoundPath
@@ -152,7 +152,7 @@ all_of shown = shown.shown.now ∷ map (λ path. path.now) shown.others.items
 pub record AreShown (certs : List FileFields) (tree : Tree) (place : ℕ) (paths : AcceptedPaths)
     (shown : ShownPaths) : Type 0 where
   pub all : IsPermutation (paths_in paths) (all_of shown)
-  pub in_order : AreInOrder certs tree place (all_of shown)
+  pub in_order : ArePathsInOrder certs tree place (all_of shown)
   pub is_shown : IsShownPath certs tree place (paths_in paths) shown.shown.now
   pub more_is : shown.more ≡ paths.more
 

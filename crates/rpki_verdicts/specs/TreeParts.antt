@@ -12,7 +12,7 @@ use Rattle.rpki_folder.specs.declared.bounds.Ended.TheVariants.{Whole}
 use Rattle.rpki_folder.specs.declared.lines.Line.{Line}
 use Rattle.rpki_folder.specs.declared.lines.Line.TheVariants as line
 use Rattle.rpki_keys.specs.Locators.{NamedTal}
-use Rattle.rpki_verdicts.specs.Damage.{AreCounted, IsBrokenList, IsOther}
+use Rattle.rpki_verdicts.specs.Damage.{AreSoMany, IsBrokenList, IsUnknownFile}
 use Rattle.rpki_verdicts.specs.GivenLocators.{LocatorFields, HasKeyRead}
 use Rattle.rpki_verdicts.specs.Trees.{TreeFields, AreCertificatesOf, IsTreeAnswer, is_anchor_at, line_at}
 use Rattle.rpki_verdicts.specs.declared.parts.TreePart.{TreePart}
@@ -50,8 +50,8 @@ pub record AreTreesOf (x : Context) (q : TreeFields) (trees : Trees) : Type 0 wh
   pub root_is : trees.root.now ≡ q.root
   pub locators_are : AreFirstOfKeys [] q.locators (map (λ part. part.locator.now) trees.parts.items)
   pub parts_are : All (IsPartOf x q) trees.parts.items
-  pub broken_lists_are : AreCounted IsBrokenList q.files trees.broken_lists
-  pub others_are : AreCounted IsOther q.files trees.others
+  pub broken_lists_are : AreSoMany IsBrokenList q.files trees.broken_lists
+  pub others_are : AreSoMany IsUnknownFile q.files trees.others
 
 -- ---- what they say of a certificate
 
@@ -92,13 +92,13 @@ shown_part parts place =
 -- ---- all together
 
 -- how the walk of a part ended, where there was one
-abbrev pub ended_of : TreeAnswer → Ended
-ended_of (NoAnchor wrong) = Whole
-ended_of (Walked tree) = tree.ended
+abbrev pub part_ended : TreeAnswer → Ended
+part_ended (NoAnchor wrong) = Whole
+part_ended (Walked tree) = tree.ended
 
 -- how all walks ended together
 abbrev pub worst_end : List TreePart → Ended
-worst_end parts = fold (λ ended part. worse ended (ended_of part.answer)) Whole parts
+worst_end parts = fold (λ ended part. worse ended (part_ended part.answer)) Whole parts
 
 -- those that have the key of a locator and are wrong as its trust anchor, where none is valid
 abbrev pub wrong_in : TreeAnswer → List WrongAnchor

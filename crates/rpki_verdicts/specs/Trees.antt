@@ -4,7 +4,7 @@ use Rattle.std.specs.List.{AllByRecursion}
 use Rattle.std.specs.Prelude.{◌≡◌, ◌==◌, ◌⊎◌, ℕ, List, [], ◌∷◌, length, map, slice_get, Any, Option, Some, Ok, Bool}
 use Rattle.rpki_path.specs.Asking.{RevocationChecks}
 use Rattle.rpki_path.specs.AskedLists.{by_named_lists}
-use Rattle.rpki_folder.specs.FirstPlaces.{AreFirstsIn, IsFirstIn, first_of}
+use Rattle.rpki_folder.specs.FirstPlaces.{AreFirstsIn, IsFirstIn, first_place_of}
 use Rattle.rpki_folder.specs.Folders.{FolderFields}
 use Rattle.rpki_folder.specs.FoundAnchors.{HasNoValid, IsAnchorAt}
 use Rattle.rpki_folder.specs.KeptLines.{AreLines}
@@ -22,7 +22,7 @@ use Rattle.rpki_folder.specs.declared.walk_error.WalkError.{WalkError}
 use Rattle.rpki_folder.specs.declared.walk_error.WalkError.TheVariants.{Anchor, OtherName, Memory}
 use Rattle.rpki_folder.specs.Walks.{Told, TellsFrom, IsWhyNone}
 use Rattle.rpki_files.specs.Contents.{BeginsWithCertificate}
-use Rattle.rpki_verdicts.specs.Reasons.{IsReason, locator_reason, name_reason, resources_reason}
+use Rattle.rpki_verdicts.specs.Reasons.{IsPathReason, locator_reason, name_reason, resources_reason}
 use Rattle.rpki_files.specs.Files.{FileFields, contents}
 use Rattle.rpki_verdicts.specs.GivenLocators.{LocatorFields}
 use Rattle.rpki_verdicts.specs.PathAnswers.{reason_of}
@@ -85,7 +85,7 @@ pub record IsFolderOf (files certs : List FileFields) (folder : FolderFields) : 
 abbrev pub IsAnchorReason : List ℕ → WalkError → Fault → Type 0
 IsAnchorReason octets (Anchor OtherKey) fault = reason_of fault ≡ locator_reason
 IsAnchorReason octets (Anchor NoResources) fault = reason_of fault ≡ resources_reason
-IsAnchorReason octets (Anchor (path e)) fault = IsReason e.fault octets (reason_of fault)
+IsAnchorReason octets (Anchor (path e)) fault = IsPathReason e.fault octets (reason_of fault)
 IsAnchorReason octets OtherName fault = reason_of fault ≡ name_reason 0
 IsAnchorReason octets Memory fault = ⊥
 
@@ -106,15 +106,15 @@ certs_of tree = map (λ file. file.now) tree.certs.items
 -- The line of the certificate at a place is that of its first place: a copy, whatever is behind it,
 -- has no verdict of its own
 abbrev pub line_at : Tree → ℕ → Option Line
-line_at tree place = slice_get tree.lines (first_of tree.firsts place)
+line_at tree place = slice_get tree.lines (first_place_of tree.firsts place)
 
 -- the limits that were reached at the certificate at a place are those of its first place
 abbrev pub reached_in : Tree → ℕ → Reached
-reached_in tree place = reached_at tree.limits (first_of tree.firsts place)
+reached_in tree place = reached_at tree.limits (first_place_of tree.firsts place)
 
 -- the certificate at the place is the trust anchor, or a copy of it
 abbrev pub is_anchor_at : Tree → ℕ → Bool
-is_anchor_at tree place = first_of tree.firsts place == first_of tree.firsts tree.anchor
+is_anchor_at tree place = first_place_of tree.firsts place == first_place_of tree.firsts tree.anchor
 
 -- The tree of the files below the trust anchor of a locator, which is a valid one of those that have
 -- its key; a walk down from it over all certificates among them, each at its first place alone, with
@@ -141,7 +141,7 @@ pub record IsTreeOf (x : Context) (q : TreeFields) (l : LocatorFields) (tree : T
   pub limited_are : AreLimitedFrom x (by_named_lists q.names x lists) q.names
       (IsFirstIn tree.firsts) locator anchor.octets (contents (certs_of tree)) q.depth q.steps
       limited
-  pub limits_are : IsTableOf (first_of tree.firsts tree.anchor) (length (certs_of tree)) limited tree.limits
+  pub limits_are : IsTableOf (first_place_of tree.firsts tree.anchor) (length (certs_of tree)) limited tree.limits
 
 -- none of the certificates among the files is a valid trust anchor of the locator: these have its
 -- key, each with what is wrong with it

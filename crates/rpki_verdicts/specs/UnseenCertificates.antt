@@ -9,7 +9,7 @@ use Rattle.std.specs.Cmp.Lexicographic.{slice_cmp}
 use Rattle.std.specs.Ordering.{nat_cmp}
 use Rattle.rpki_files.specs.Files.{FileFields}
 use Rattle.rpki_folder.specs.Folders.{NamesSigner}
-use Rattle.rpki_folder.specs.LimitTables.{both, least, nothing}
+use Rattle.rpki_folder.specs.LimitTables.{both_reached, least, nothing}
 use Rattle.rpki_folder.specs.declared.bounds.Limit.{Limit}
 use Rattle.rpki_folder.specs.declared.limits.Reached.{Reached}
 use Rattle.rpki_folder.specs.declared.lines.Line.{Line}
@@ -66,7 +66,7 @@ reached_by place (Walked tree) = reached_in tree place
 
 abbrev pub limit_at : Trees → ℕ → Option Limit
 limit_at trees place =
-    least (fold (λ reached part. both reached (reached_by place part.answer)) nothing trees.parts.items)
+    least (fold (λ reached part. both_reached reached (reached_by place part.answer)) nothing trees.parts.items)
 
 -- how it stands as an issuer, the least number best: a trust anchor or accepted CA at which a walk
 -- reached a limit on each path; one below which it looked; rejected; accepted and no CA; or neither. So
@@ -101,14 +101,14 @@ StandsBetter trees None place = Unit {0}
 StandsBetter trees (Some before) place = standing trees place < standing trees before
 
 -- the place that is kept for a key
-abbrev pub issuer_in : Issuers → List ℕ → Option ℕ
-issuer_in issuers key = get (slice_cmp nat_cmp) issuers.places key
+abbrev pub place_by_key : Issuers → List ℕ → Option ℕ
+place_by_key issuers key = get (slice_cmp nat_cmp) issuers.places key
 
 -- each key has its issuer among all certificates, where there is one; and each URI the file that it
 -- names, by its name below the directory that is named
-pub record AreIssuers (trees : Trees) (issuers : Issuers) : Type 0 where
+pub record AreTreeIssuers (trees : Trees) (issuers : Issuers) : Type 0 where
   pub by_key : (key : List ℕ)
-      → IsIssuerAmong trees (length (files_of trees)) key (issuer_in issuers key)
+      → IsIssuerAmong trees (length (files_of trees)) key (place_by_key issuers key)
   pub by_uri : AreNamedFiles (placed_of trees) issuers
 
 -- the issuer of a file: that of the key which it names as its signer's

@@ -1,6 +1,6 @@
 //! Files among others that damage a cache.
 ghost use Rattle.std.specs.Prelude.{◌≡◌, ◌↔◌, IsTrue};
-ghost use Rattle.rpki_verdicts.specs.Damage.{AreCounted, IsBrokenList, IsNeither, IsOther, is_list_name, is_named_apart, is_object_name};
+ghost use Rattle.rpki_verdicts.specs.Damage.{AreSoMany, IsBrokenList, IsNeither, IsUnknownFile, is_list_name, is_named_apart, is_object_name};
 
 use rpki_files::{BareObject, Front, looks_like_locator};
 
@@ -52,7 +52,7 @@ fn is_broken_list(file: &BareObject<'_>) -> bool
 // Whether a file is another one that is neither, isn't named as a signed object, and doesn't look
 // like a TAL.
 fn is_other(file: &BareObject<'_>) -> bool
-    ensures { IsTrue result ↔ IsOther file.now }
+    ensures { IsTrue result ↔ IsUnknownFile file.now }
 {
     is_neither(file)
         && !is_named_apart(file.name())
@@ -61,7 +61,7 @@ fn is_other(file: &BareObject<'_>) -> bool
 
 /// Returns how many files have the name of a CRL and are none.
 pub fn count_broken_lists(files: &[BareObject<'_>]) -> usize
-    ensures { AreCounted IsBrokenList files.now result }
+    ensures { AreSoMany IsBrokenList files.now result }
 {
     let mut count = 0;
     for file in files {
@@ -75,7 +75,7 @@ pub fn count_broken_lists(files: &[BareObject<'_>]) -> usize
 /// Returns how many others are neither certificates nor CRLs, and are neither named as signed objects
 /// nor look like TALs.
 pub fn count_others(files: &[BareObject<'_>]) -> usize
-    ensures { AreCounted IsOther files.now result }
+    ensures { AreSoMany IsUnknownFile files.now result }
 {
     let mut count = 0;
     for file in files {

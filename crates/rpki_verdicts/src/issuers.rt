@@ -9,7 +9,7 @@ ghost use Rattle.rpki_folder.specs.FirstPlaces.{first_from};
 ghost use Rattle.rpki_verdicts.specs.Searches.{HasKeyNamed};
 ghost use Rattle.rpki_verdicts.specs.ShownPaths.{AreNamedFiles, name_below, place_of, placed, uri_of};
 ghost use Rattle.rpki_verdicts.specs.TreeParts.{files_of};
-ghost use Rattle.rpki_verdicts.specs.UnseenCertificates.{AreIssuers, IsIssuerAmong, IsUnseen, StandsBetter, below_accepted, error_above, error_at, error_by, error_in, is_ca, is_looked_at, is_looked_below, is_rejected_at, issuer_in, limit_at, paths_by, reached_by, standing, standing_of, why_unseen};
+ghost use Rattle.rpki_verdicts.specs.UnseenCertificates.{AreTreeIssuers, IsIssuerAmong, IsUnseen, StandsBetter, below_accepted, error_above, error_at, error_by, error_in, is_ca, is_looked_at, is_looked_below, is_rejected_at, place_by_key, limit_at, paths_by, reached_by, standing, standing_of, why_unseen};
 
 use crate::parts::{Trees, is_told};
 use crate::reasons::name_of;
@@ -175,7 +175,7 @@ fn places_by_uri(
 ///
 /// Returns an error only if memory runs out.
 pub fn issuers_of(alloc: Global, trees: &Trees<'_, '_>) -> Result<Issuers, AllocError>
-    ensures { IfOk result (AreIssuers trees.now) }
+    ensures { IfOk result (AreTreeIssuers trees.now) }
 {
     let places = places_by_key(alloc, trees)?;
     let files = places_by_uri(alloc, trees.root, &trees.certs)?;
@@ -185,7 +185,7 @@ pub fn issuers_of(alloc: Global, trees: &Trees<'_, '_>) -> Result<Issuers, Alloc
 impl Issuers {
     // The place of the key's issuer.
     fn get(&self, key: &KeyIdentifier) -> Option<usize>
-        ensures { result ≡ issuer_in self.now key.now }
+        ensures { result ≡ place_by_key self.now key.now }
     {
         match self.places.get(key.as_octets()) {
             Some(place) => Some(*place),
@@ -414,7 +414,7 @@ impl<'q, 'n> Trees<'q, 'n> {
     }
     /// Returns why there is no verdict on the certificate of a file.
     pub fn unseen(&self, issuers: &Issuers, file: &BareObject<'_>) -> Unseen
-        requires { AreIssuers self.now issuers.now }
+        requires { AreTreeIssuers self.now issuers.now }
         ensures { IsUnseen self.now file.now result }
     {
         match signer_of(file) {

@@ -1,6 +1,6 @@
 //! Files that are given as TALs of the trust anchor.
 ghost use Rattle.std.specs.Prelude.{◌≡◌, ◌↔◌, Any, Ok, Err, IfOk, IfErr, IfNone, IfSome, IsTrue};
-ghost use Rattle.rpki_verdicts.specs.GivenLocators.{HasKeyRead, HasLocator, HasTalRead, IsAnchorOf, IsFirst, IsRead};
+ghost use Rattle.rpki_verdicts.specs.GivenLocators.{HasKeyRead, HasLocator, HasTalRead, IsAnchorOf, IsFirstThat, IsRead};
 
 use rpki_cert::laws;
 use rpki_files::{BareObject, read_locator};
@@ -127,7 +127,7 @@ pub(crate) fn locator_of<'q>(
 
 /// Returns the index of the first TAL with this key.
 pub fn place_of_key(locators: &[GivenLocator<'_>], key: &PublicKey) -> Option<usize>
-    ensures { IsFirst (HasKeyRead key.now) locators.now result }
+    ensures { IsFirstThat (HasKeyRead key.now) locators.now result }
 {
     for (place, locator) in locators.iter().enumerate() {
         if locator.has_key(key) {

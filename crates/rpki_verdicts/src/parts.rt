@@ -6,7 +6,7 @@ ghost use Rattle.rpki_keys.specs.Locators.{NamedTal};
 ghost use Rattle.rpki_keys.specs.RsaSignatures.{IsSignedByRsa};
 ghost use Rattle.rpki_cert.specs.Verification.{context};
 ghost use Rattle.rpki_verdicts.specs.Trees.{IsFolderOf, asked_of};
-ghost use Rattle.rpki_verdicts.specs.TreeParts.{AreAllAccepted, AreDamaged, AreFirstOfKeys, AreTreesOf, IsOfNewKey, IsPartOf, IsWholeWalk, are_anchors, are_told, ended_of, first_telling, is_told, line_rank, rank, shown_part, unseen_rank, worst_end, wrong_at, wrong_in};
+ghost use Rattle.rpki_verdicts.specs.TreeParts.{AreAllAccepted, AreDamaged, AreFirstOfKeys, AreTreesOf, IsOfNewKey, IsPartOf, IsWholeWalk, are_anchors, are_told, part_ended, first_telling, is_told, line_rank, rank, shown_part, unseen_rank, worst_end, wrong_at, wrong_in};
 
 use crate::damage::{count_broken_lists, count_others};
 use crate::locators::{GivenLocator, tal_of_key};
@@ -201,7 +201,7 @@ impl<'q, 'n> TreePart<'q, 'n> {
     }
     // How its walk ended, where there was one.
     fn ended(&self) -> Ended
-        ensures { result ≡ ended_of self.now.answer }
+        ensures { result ≡ part_ended self.now.answer }
     {
         match &self.answer {
             TreeAnswer::NoAnchor(_) => Ended::Whole,

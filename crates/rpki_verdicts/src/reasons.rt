@@ -1,7 +1,7 @@
 //! Why a path is rejected: the step of an error, its name, and what it means.
 ghost use Rattle.std.specs.Prelude.{◌≡◌};
 ghost use Rattle.rpki_files.specs.FaultRules.{rule_of};
-ghost use Rattle.rpki_verdicts.specs.Reasons.{IsReason, error_name, reason};
+ghost use Rattle.rpki_verdicts.specs.Reasons.{IsPathReason, error_name, reason};
 
 use bytes::Bytes;
 use rpki_files::rules::{
@@ -26,7 +26,7 @@ pub fn name_of(fault: &PathFault) -> &'static str
 /// certificate is at the start of these bytes.
 pub fn of_path(fault: &PathFault, octets: &Bytes) -> (&'static str, &'static str, Rule)
     ensures { let answer = reason result.0.now result.1.now (rule_of result.2) in
-        IsReason fault.now octets.now answer }
+        IsPathReason fault.now octets.now answer }
 {
     match fault {
         PathFault::Decode(fault) => ("reading", fault.name(), of_reading(fault, octets)),

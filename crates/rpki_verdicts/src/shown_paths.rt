@@ -6,9 +6,9 @@ ghost use Rattle.std.specs.Ordering.{nat_cmp};
 ghost use Rattle.std.specs.Prelude.{◌≡◌, ◌≤◌, ◌<◌, ◌+◌, ◌↔◌, ◌∷◌, length, map, reverse, IfOk, IsTrue};
 ghost use Rattle.rpki_blocks.specs.Sets.{AreIn};
 ghost use Rattle.rpki_folder.specs.KeptLines.{paths_in};
-ghost use Rattle.rpki_verdicts.specs.ShownPaths.{AreNamed, AreSame, AreShown, HoldSame, IsNamedBy, is_of, octets_along, octets_of, placed_of};
+ghost use Rattle.rpki_verdicts.specs.ShownPaths.{NameIssuersAbove, AreSame, AreShown, HoldSame, NamesIssuerAt, is_issuer_file, octets_along, file_octets_at, placed_of};
 ghost use Rattle.rpki_verdicts.specs.ShownPaths.Steps.{IsRanked, ranked_order};
-ghost use Rattle.rpki_verdicts.specs.UnseenCertificates.{AreIssuers};
+ghost use Rattle.rpki_verdicts.specs.UnseenCertificates.{AreTreeIssuers};
 
 use crate::issuers::Issuers;
 use crate::parts::Trees;
@@ -53,7 +53,7 @@ fn paths_of<'t>(alloc: Global, ranked: &[RankedPath<'t>]) -> Result<Vec<&'t Foun
 impl<'q, 'n> Tree<'q, 'n> {
     // Whether the file at a place, if there is one, is that of this issuer, or a copy of it.
     fn is_of(&self, named: Option<usize>, issuer: usize) -> bool
-        ensures { result ≡ is_of self.now named issuer }
+        ensures { result ≡ is_issuer_file self.now named issuer }
     {
         match named {
             Some(place) => self.firsts.first_of(place) == self.firsts.first_of(issuer),
@@ -70,8 +70,8 @@ impl<'q, 'n> Trees<'q, 'n> {
         issuers: &Issuers,
         place: usize,
     ) -> Result<Option<usize>, AllocError>
-        requires { AreIssuers self.now issuers.now }
-        ensures { IfOk result (IsNamedBy (placed_of self.now) place) }
+        requires { AreTreeIssuers self.now issuers.now }
+        ensures { IfOk result (NamesIssuerAt (placed_of self.now) place) }
     {
         let Some(file) = self.certs.get(place) else {
             return Ok(None);
@@ -94,9 +94,9 @@ impl<'q, 'n> Trees<'q, 'n> {
         place: usize,
         above: &[usize],
     ) -> Result<usize, AllocError>
-        requires { AreIssuers self.now issuers.now }
+        requires { AreTreeIssuers self.now issuers.now }
         ensures named { let up = reverse above.now in
-            IfOk result (AreNamed (placed_of self.now) tree.now place up) }
+            IfOk result (NameIssuersAbove (placed_of self.now) tree.now place up) }
         ensures few { IfOk result (λ n. n ≤ length above.now + 1) }
     {
         let named = self.named_by(alloc, issuers, place)?;
@@ -119,7 +119,7 @@ impl<'q, 'n> Trees<'q, 'n> {
         place: usize,
         path: &'t FoundPath,
     ) -> Result<RankedPath<'t>, AllocError>
-        requires { AreIssuers self.now issuers.now }
+        requires { AreTreeIssuers self.now issuers.now }
         ensures path { IfOk result (λ ranked. ranked.path.now ≡ path.now) }
         ensures ranked { IfOk result (IsRanked (placed_of self.now) tree.now place) }
     {
@@ -136,7 +136,7 @@ impl<'q, 'n> Trees<'q, 'n> {
         place: usize,
         paths: &'t AcceptedPaths,
     ) -> Result<Vec<RankedPath<'t>>, AllocError>
-        requires { AreIssuers self.now issuers.now }
+        requires { AreTreeIssuers self.now issuers.now }
         ensures paths { IfOk result (λ all.
             map (λ it. it.path.now) all.items ≡ paths_in paths.now) }
         ensures ranked { IfOk result (λ all.
@@ -152,7 +152,7 @@ impl<'q, 'n> Trees<'q, 'n> {
 
     // The octets of the file at a place.
     fn octets_of(&self, place: usize) -> &[u8]
-        ensures { result.now ≡ octets_of (placed_of self.now) place }
+        ensures { result.now ≡ file_octets_at (placed_of self.now) place }
     {
         match self.certs.get(place) {
             Some(file) => file.octets().as_slice(),
@@ -218,7 +218,7 @@ impl<'q, 'n> Trees<'q, 'n> {
         place: usize,
         paths: &'t AcceptedPaths,
     ) -> Result<ShownPaths<'t>, AllocError>
-        requires { AreIssuers self.now issuers.now }
+        requires { AreTreeIssuers self.now issuers.now }
         ensures { IfOk result (AreShown (placed_of self.now) tree.now place paths.now) }
     {
         laws::unambiguous();

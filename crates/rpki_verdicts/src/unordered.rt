@@ -18,7 +18,7 @@ ghost use Rattle.rpki_files.specs.Contents.{IsList};
 ghost use Rattle.rpki_files.specs.Files.{FileFields};
 ghost use Rattle.rpki_verdicts.specs.GivenLocators.{LocatorFields};
 ghost use Rattle.rpki_verdicts.specs.Trees.{asked_of, IsAnchorReason, IsFolderOf, IsTreeAnswer, is_anchor_at, line_at, reached_in};
-ghost use Rattle.rpki_verdicts.specs.Trees.Steps.{IsToldOf};
+ghost use Rattle.rpki_verdicts.specs.Trees.Steps.{IsCandidateTold};
 
 use crate::locators::GivenLocator;
 use crate::path::{Fault, no_resources, other_key, other_name, with_table};
@@ -264,7 +264,7 @@ fn told_of<'q, 'n>(
     candidate: &WrongCandidate,
 ) -> Result<WrongAnchor<'q, 'n>, AllocError>
     requires { candidate.now.place < length certs.now }
-    ensures { IfOk result (IsToldOf (map (λ f. f.now) certs.now) candidate.now) }
+    ensures { IfOk result (IsCandidateTold (map (λ f. f.now) certs.now) candidate.now) }
 {
     let place = candidate.place;
     let file = certs[place];
@@ -280,7 +280,7 @@ fn told_of_each<'q, 'n>(
 ) -> Result<Vec<WrongAnchor<'q, 'n>>, AllocError>
     requires { AllByRecursion (λ candidate. candidate.place < length certs.now) candidates.now }
     ensures { IfOk result (λ wrong.
-        AllZip (IsToldOf (map (λ f. f.now) certs.now)) candidates.now wrong.items) }
+        AllZip (IsCandidateTold (map (λ f. f.now) certs.now)) candidates.now wrong.items) }
 {
     let mut wrong = Vec::new(alloc);
     for candidate in candidates {

@@ -10,18 +10,18 @@ use Rattle.rpki_answers.specs.TreeDocuments.{PrintsRow, PrintsRows, rendered}
 use Rattle.rpki_answers.specs.declared.tree_rows.Row.{Row}
 
 -- new is old with these documents behind it
-abbrev pub Appends : Format → List (List Node) → List ℕ → List ℕ → Type 0
-Appends format documents old new = new ≡ old ++ flat_map (rendered format) documents
+abbrev pub AppendsDocuments : Format → List (List Node) → List ℕ → List ℕ → Type 0
+AppendsDocuments format documents old new = new ≡ old ++ flat_map (rendered format) documents
 
 -- with that of a row
 abbrev pub AppendsRow : Format → Bool → List FileFields → Row → List ℕ → List ℕ → Type 0
 AppendsRow format only certs row old new =
-    (documents : List (List Node)) × PrintsRow only certs row documents × Appends format documents old new
+    (documents : List (List Node)) × PrintsRow only certs row documents × AppendsDocuments format documents old new
 
 -- with those of rows
 abbrev pub AppendsRows : Format → Bool → List FileFields → List Row → List ℕ → List ℕ → Type 0
 AppendsRows format only certs rows old new =
-    (documents : List (List Node)) × PrintsRows only certs rows documents × Appends format documents old new
+    (documents : List (List Node)) × PrintsRows only certs rows documents × AppendsDocuments format documents old new
 
 -- new is old with an object for each of these documents behind it
 abbrev pub AddsDocuments : List (List Node) → List Part → List Part → Type 0

@@ -3,7 +3,7 @@ ghost use Rattle.std.specs.Prelude.{◌≡◌, false, map, IfOk, string_bytes};
 ghost use Rattle.std.specs.List.{AllByRecursion, flat_map};
 ghost use Rattle.serde_json.specs.View.{view};
 ghost use Rattle.serde_json.specs.Written.{has_float};
-ghost use Rattle.rpki_answers.specs.JsonTexts.{json_line, json_lines, value_text, values_text};
+ghost use Rattle.rpki_answers.specs.JsonTexts.{json_line, json_lines, json_value_text, values_text};
 ghost use Rattle.rpki_document.specs.Documents.{array_of};
 ghost use Rattle.rpki_text.specs.Pages.{Appends};
 
@@ -34,7 +34,7 @@ fn line_of(alloc: Global, value: &Value) -> Result<String, AllocError>
 /// Writes a value in a format of JSON.
 pub fn value_text(alloc: Global, value: &Value, format: Format) -> Result<String, AllocError>
     ensures { has_float (view value.now) ≡ false
-        → IfOk result (λ text. string_bytes text ≡ value_text format (view value.now)) }
+        → IfOk result (λ text. string_bytes text ≡ json_value_text format (view value.now)) }
 {
     match format {
         Format::JsonLines => line_of(alloc, value),
@@ -45,7 +45,7 @@ pub fn value_text(alloc: Global, value: &Value, format: Format) -> Result<String
 // Appends the text of each value.
 fn append_each(page: &mut Page, values: &[Value], format: Format)
     ensures { AllByRecursion (λ value. has_float (view value) ≡ false) values.now
-        → Appends page.old (flat_map (λ value. value_text format (view value)) values.now) page.new }
+        → Appends page.old (flat_map (λ value. json_value_text format (view value)) values.now) page.new }
 {
     for value in values {
         let text = value_text(page.alloc(), value, format);
@@ -57,7 +57,7 @@ fn append_each(page: &mut Page, values: &[Value], format: Format)
 fn each_text(alloc: Global, values: Vec<Value>, format: Format) -> Result<String, AllocError>
     ensures { AllByRecursion (λ value. has_float (view value) ≡ false) values.items
         → IfOk result (λ text.
-        string_bytes text ≡ flat_map (value_text format) (map view values.items)) }
+        string_bytes text ≡ flat_map (json_value_text format) (map view values.items)) }
 {
     let mut page = Page::new(alloc);
     append_each(&mut page, &values, format);

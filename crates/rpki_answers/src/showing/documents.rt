@@ -9,7 +9,7 @@ ghost use Rattle.rpki_cert.specs.Certificates.{IsCertificate};
 ghost use Rattle.rpki_files.specs.Contents.{BeginsBefore, BeginsWithEither};
 ghost use Rattle.rpki_files.specs.FaultRules.{rule_of, tal_rule};
 ghost use Rattle.rpki_text.specs.KeyTexts.{IsLocatorKey};
-ghost use Rattle.rpki_answers.specs.ShownFiles.{IsFileDocument, IsSaid, IsShownBefore, IsShownUnsigned, IsSubject, behind_nodes, fault_nodes, file_nodes, found_nodes, hash_line, left_line, name_line, no_tal_nodes, place_nodes, rule_nodes, shows_stop, stop_nodes, tal_key_nodes, tal_nodes, unread_nodes, uri_line, where_line, whole_list_nodes};
+ghost use Rattle.rpki_answers.specs.ShownFiles.{IsFileDocument, IsSaidOfFile, IsShownBefore, IsShownUnsigned, IsSubject, behind_nodes, fault_nodes, file_nodes, found_nodes, hash_line, left_line, name_line, no_tal_nodes, place_nodes, rule_nodes, shows_stop, stop_nodes, tal_key_nodes, tal_nodes, unread_nodes, uri_line, where_line, whole_list_nodes};
 
 use crate::details::add_sort;
 use crate::showing::Options;
@@ -358,7 +358,7 @@ fn add_said<'p>(
     options: &Options,
 ) -> Result<(), AllocError>
     requires { IsSubject options.now.strict object.now.octets subject.now }
-    ensures { let Is = IsSaid options.now object.now subject.now in
+    ensures { let Is = IsSaidOfFile options.now object.now subject.now in
         OnOk result (AddsSome Is parts.old.items parts.new.items) }
 {
     match subject {

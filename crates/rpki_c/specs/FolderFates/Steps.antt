@@ -9,8 +9,8 @@ use Rattle.rpki_crl.specs.Lists.{CrlState}
 use Rattle.rpki_path.specs.Asking.{RevocationChecks}
 use Rattle.rpki_path.specs.NameChains.{IsSelfNamed}
 use Rattle.rpki_path.specs.declared.located.LocatedError.TheVariants.{OtherKey, NoResources, Path as path}
-use Rattle.rpki_folder.specs.FirstPlaces.{IsFirstIn, first_of}
-use Rattle.rpki_folder.specs.Folders.{FolderFields, octets_at, BeginsNoCertificate}
+use Rattle.rpki_folder.specs.FirstPlaces.{IsFirstIn, first_place_of}
+use Rattle.rpki_folder.specs.Folders.{FolderFields, string_at, BeginsNoCertificate}
 use Rattle.rpki_folder.specs.KeptLines.{AreLines}
 use Rattle.rpki_folder.specs.Walks.{Root, LeadsTo, Told, IsRight, IsLetIn, IsShort, IsTooDeep, IsComplete, IsLookedAt}
 use Rattle.rpki_folder.specs.declared.anchors.WrongCandidate.{WrongCandidate}
@@ -51,8 +51,8 @@ pub record AreSorted (strings : List (List ℕ)) (f : FolderFields) (added : Lis
   pub ascend : (place other d e : ℕ) → place < other → other < length f.certs
       → slice_index_or origins place d < slice_index_or origins other e
   pub came_from : (place d : ℕ) → place < length f.certs
-      → octets_at strings (slice_index_or origins place d) ≡ octets_at f.certs place
-  pub begins : (i : ℕ) (d : Added) → i < length strings → IsAddedAs (octets_at strings i) (slice_index_or added i d)
+      → string_at strings (slice_index_or origins place d) ≡ string_at f.certs place
+  pub begins : (i : ℕ) (d : Added) → i < length strings → IsAddedAs (string_at strings i) (slice_index_or added i d)
   pub placed : (i place : ℕ) (d : Added) → i < length strings → slice_index_or added i d ≡ Certificate place
       → (place < length f.certs) × ((e : ℕ) → slice_index_or origins place e ≡ i)
   pub lists_are : AreListsAmong strings f.lists
@@ -80,8 +80,8 @@ kept_fate origin (Rejected step fault) = rejected step fault
 -- of the certificate at a place of the folder: that of its first place, or the trust anchor's
 abbrev pub cert_fate : WalkLines → ℕ → Fate
 cert_fate w place =
-    let first = first_of w.firsts.now place in
-    if first == first_of w.firsts.now w.anchor then anchor else
+    let first = first_place_of w.firsts.now place in
+    if first == first_place_of w.firsts.now w.anchor then anchor else
     kept_fate (origin_of w.sorted.now) (slice_index_or w.kept.now first Unseen)
 
 -- of what was added
@@ -96,7 +96,7 @@ fate_at w place = added_fate w (slice_index_or w.sorted.now.added.items place Ne
 
 -- the limits that were reached at the certificate at a place of the folder: those at its first place
 abbrev pub cert_reached : WalkLines → ℕ → Reached
-cert_reached w place = reached_there w.limits.now (first_of w.firsts.now place)
+cert_reached w place = reached_there w.limits.now (first_place_of w.firsts.now place)
 
 -- at what was added
 abbrev pub added_reached : WalkLines → Added → Reached
@@ -105,8 +105,8 @@ added_reached w list_added = nothing
 added_reached w Neither = nothing
 
 -- at the string at a place
-abbrev pub reached_at : WalkLines → ℕ → Reached
-reached_at w place = added_reached w (slice_index_or w.sorted.now.added.items place Neither)
+abbrev pub line_reached_at : WalkLines → ℕ → Reached
+line_reached_at w place = added_reached w (slice_index_or w.sorted.now.added.items place Neither)
 
 -- the lines that are kept of a walk below a trust anchor, which ended so, and reached limits at these
 -- CAs

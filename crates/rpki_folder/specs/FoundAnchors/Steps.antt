@@ -8,7 +8,7 @@ use Rattle.rpki_keys.specs.Locators.{NamedTal}
 use Rattle.rpki_path.specs.Asking.{RevocationChecks}
 use Rattle.rpki_path.specs.LocatedPaths.{BeginsWithKey}
 use Rattle.rpki_path.specs.NameChains.{IsSelfNamed}
-use Rattle.rpki_folder.specs.Folders.{octets_at}
+use Rattle.rpki_folder.specs.Folders.{string_at}
 use Rattle.rpki_folder.specs.FoundAnchors.{AreWrongAnchors, IsValidAt, IsWrongAnchor, anchor_order}
 use Rattle.rpki_folder.specs.Walks.{LeadsTo, at_anchor}
 use Rattle.rpki_folder.specs.declared.anchors.FoundAnchor.{FoundAnchor}
@@ -26,23 +26,23 @@ IsTried x asked names t octets (Valid r) =
 IsTried x asked names t octets (Wrong error) = IsWrongAnchor x asked names t octets error
 
 -- what is kept of what was found before, once this was found of the certificate at a place
-abbrev pub IsKept : FoundAnchor → ℕ → Tried → FoundAnchor → Type 0
-IsKept old place OtherKey new = new ≡ old
-IsKept (found.Valid k r) place (Wrong error) new = new ≡ found.Valid k r
-IsKept (found.Wrong wrong) place (Wrong error) new =
+abbrev pub IsKeptFound : FoundAnchor → ℕ → Tried → FoundAnchor → Type 0
+IsKeptFound old place OtherKey new = new ≡ old
+IsKeptFound (found.Valid k r) place (Wrong error) new = new ≡ found.Valid k r
+IsKeptFound (found.Wrong wrong) place (Wrong error) new =
     (more : Vec WrongCandidate) × (new ≡ found.Wrong more)
     × (more.items ≡ wrong.items ++ record { place = place; error = error } ∷ [])
-IsKept (found.Valid k s) place (Valid r) new =
+IsKeptFound (found.Valid k s) place (Valid r) new =
     ((anchor_order s.cert r.cert ≡ Less) × (new ≡ found.Valid place r))
     ⊎ ((anchor_order s.cert r.cert ≡ Less → ⊥) × (new ≡ found.Valid k s))
-IsKept (found.Wrong wrong) place (Valid r) new = new ≡ found.Valid place r
+IsKeptFound (found.Wrong wrong) place (Valid r) new = new ≡ found.Valid place r
 
 -- of the first n certificates this is a valid trust anchor, and no valid one is greater; or none is
 -- valid, and this is wrong with those that have the locator's key
 abbrev pub IsFoundAmong : Context → RevocationChecks → Bool → NamedTal → List (List ℕ) → ℕ
     → FoundAnchor → Type 0
 IsFoundAmong x asked names t certs n (found.Valid place r) =
-    LeadsTo x asked (at_anchor t (octets_at certs place)) [] r
+    LeadsTo x asked (at_anchor t (string_at certs place)) [] r
     × IsValidAt x asked names t certs place r.cert
     × ((k : ℕ) (c : CertFields) → k < n → IsValidAt x asked names t certs k c
     → anchor_order r.cert c ≡ Less → ⊥)

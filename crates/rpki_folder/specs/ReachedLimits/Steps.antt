@@ -6,7 +6,7 @@ use Rattle.rpki_cert.specs.Verification.{Context, ResourceFields}
 use Rattle.rpki_path.specs.Asking.{RevocationChecks}
 use Rattle.rpki_folder.specs.Walks.{Root, members_at, LeadsTo}
 use Rattle.rpki_folder.specs.Walks.Steps.{down_to}
-use Rattle.rpki_folder.specs.ReachedLimits.{IsDeepAt, IsShortAt, IsNeed, IsNumber, LimitedCa, IsDeepTold}
+use Rattle.rpki_folder.specs.ReachedLimits.{IsDeepAt, IsShortAt, IsNeed, IsToldNumber, LimitedCa, IsDeepTold}
 use Rattle.rpki_folder.specs.ReachedLimits.{IsShortTold, end_of}
 use Rattle.rpki_folder.specs.LimitTables.{nothing, reached_more}
 use Rattle.rpki_folder.specs.declared.bounds.Ended.{Ended}
@@ -51,7 +51,7 @@ IsLimitOf x asked admits root certs above depth share base factor between Depth 
 IsLimitOf x asked admits root certs above depth share base factor between (steps told) =
     IsShortAt x asked admits root certs above share depth between
     × ((need : ℕ) × IsNeed x asked admits root certs above depth between need
-    × IsNumber told (base + factor * need))
+    × IsToldNumber told (base + factor * need))
 
 -- what is told is a limit at a CA below those at the places above
 abbrev pub IsLimitBelow : Context → RevocationChecks → (List ℕ → ℕ → Type 0) → Root

@@ -24,8 +24,8 @@ use Rattle.rpki_folder.specs.declared.walk.Below.{Below}
 use Rattle.rpki_folder.specs.declared.walk.Ca.{Ca}
 use Rattle.rpki_folder.specs.declared.children.Claim.{Claim}
 use Rattle.rpki_folder.specs.declared.children.Claim.TheVariants.{OtherName, Child, Other}
-use Rattle.rpki_folder.specs.Folders.{octets_at, IsOnce}
-use Rattle.rpki_folder.specs.Walks.{Root, members_at, LeadsTo, Told, told, demand_as, StandsAt, IsNamedUnder}
+use Rattle.rpki_folder.specs.Folders.{string_at, IsOnce}
+use Rattle.rpki_folder.specs.Walks.{Root, members_at, LeadsTo, Told, told_at, demand_as, StandsAt, IsNamedUnder}
 use Rattle.rpki_folder.specs.Walks.{IsChildOf, IsRight, IsLetIn, AreFew, IsShort, IsTooDeep, IsComplete}
 use Rattle.rpki_folder.specs.Walks.{IsCompleteInShares, IsJudgedInShares, IsEnough}
 
@@ -137,7 +137,7 @@ abbrev pub IsToldOf : Context → RevocationChecks → ResourceFields → List (
 IsToldOf x asked issuer certs above P t =
     (t.above ≡ above) × P t.place
     × ((next : Option ResourceFields)
-    × IsOutcome x asked issuer (octets_at certs t.place) t.verdict next)
+    × IsOutcome x asked issuer (string_at certs t.place) t.verdict next)
 
 -- the places of CAs
 abbrev pub places_of : List Ca → List ℕ
@@ -149,8 +149,8 @@ abbrev pub HasVerdict : Context → RevocationChecks → ResourceFields → List
     → List Ca → List Told → ℕ → Type 0
 HasVerdict x asked issuer certs above cas ts place =
     (verdict : Result Judged PathFault) × (next : Option ResourceFields)
-    × IsOutcome x asked issuer (octets_at certs place) verdict next
-    × Contains ts (told above place verdict)
+    × IsOutcome x asked issuer (string_at certs place) verdict next
+    × Contains ts (told_at above place verdict)
     × ((holder : ResourceFields) → next ≡ Some holder → Contains (places_of cas) place)
 
 -- what was told of the children at these places; and the CAs that are accepted among them
@@ -160,7 +160,7 @@ pub record AreJudged (x : Context) (asked : RevocationChecks) (issuer : Resource
       → HasVerdict x asked issuer certs above cas ts place
   pub only : (ca : Ca) → Contains cas ca → Contains places ca.place
       × ((verdict : Result Judged PathFault)
-      × IsOutcome x asked issuer (octets_at certs ca.place) verdict (Some ca.holder))
+      × IsOutcome x asked issuer (string_at certs ca.place) verdict (Some ca.holder))
   pub once : IsOnce (places_of cas)
 
 -- ---- below CAs

@@ -1,7 +1,7 @@
 //! Blocks of addresses as texts.
 ghost use Rattle.std.specs.Prelude.{◌≡◌, ◌*◌, ◌+◌, ◌<◌, ◌^◌, IfSome};
-ghost use Rattle.rpki_issuing.specs.BlockTexts.{IsAddressText, IsAddressesText, IsPrefix, IsRange, bits_of as bits_in, size_of};
-ghost use Rattle.rpki_issuing.specs.OnlyValues.{Finds};
+ghost use Rattle.rpki_issuing.specs.BlockTexts.{IsAddressText, IsAddressesText, IsPrefix, IsAddressRange, address_bits as bits_in, size_of};
+ghost use Rattle.rpki_issuing.specs.OnlyValues.{FindsOnly};
 
 use crate::values::listing::BlockText;
 use crate::values::systems::{number, parted};
@@ -17,7 +17,7 @@ pub enum Family {
 
 // The address that a text says.
 fn address(family: Family, text: &[u8]) -> Option<u128>
-    ensures one { Finds (λ n. IsAddressText family n text.now) result }
+    ensures one { FindsOnly (λ n. IsAddressText family n text.now) result }
     ensures small { IfSome result (λ n. n < 2 ^ bits_in family) }
 {
     match family {
@@ -66,7 +66,7 @@ fn last_of(family: Family, address: u128) -> Addr
 
 // The addresses of a prefix, by the texts of its address and of the number of its bits.
 fn prefix(family: Family, before: &[u8], behind: &[u8]) -> Option<IpBlock>
-    ensures { Finds (λ b. IsPrefix family before.now behind.now b) result }
+    ensures { FindsOnly (λ b. IsPrefix family before.now behind.now b) result }
 {
     let address = address(family, before)?;
     let count = number(behind)?;
@@ -85,7 +85,7 @@ fn prefix(family: Family, before: &[u8], behind: &[u8]) -> Option<IpBlock>
 
 // The addresses from one to another, by their texts.
 fn range(family: Family, before: &[u8], behind: &[u8]) -> Option<IpBlock>
-    ensures { Finds (λ b. IsRange family before.now behind.now b) result }
+    ensures { FindsOnly (λ b. IsAddressRange family before.now behind.now b) result }
 {
     let first = address(family, before)?;
     let last = address(family, behind)?;
@@ -98,7 +98,7 @@ fn range(family: Family, before: &[u8], behind: &[u8]) -> Option<IpBlock>
 /// Parses addresses: a prefix, as `192.0.2.0/24`, whose other bits are 0, or a range, as
 /// `192.0.2.1-192.0.2.9`. Returns `None` if the text has another form.
 pub fn addresses(family: Family, text: &[u8]) -> Option<IpBlock>
-    ensures { Finds (λ b. IsAddressesText family b text.now) result }
+    ensures { FindsOnly (λ b. IsAddressesText family b text.now) result }
 {
     if let Some(parts) = parted(b'/', text) {
         return prefix(family, parts.0, parts.1);

@@ -3,7 +3,7 @@ ghost use Rattle.std.specs.Prelude.{◌≡◌, ◌↔◌, ℕ, List, IsTrue, IfO
 ghost use Rattle.std.specs.List.{AllZip};
 ghost use Rattle.rpki_blocks.specs.Sets.{Block as Span};
 ghost use Rattle.rpki_issuing.specs.BlockTexts.{AreListed, inherit_texts};
-ghost use Rattle.rpki_issuing.specs.OnlyValues.{Finds};
+ghost use Rattle.rpki_issuing.specs.OnlyValues.{FindsOnly};
 
 use rpki_blocks::{Block, BlocksBuilder, Bound, Resources, laws};
 use std::alloc::{AllocError, Global};
@@ -14,7 +14,7 @@ pub trait BlockText<B: Bound> {
 
     /// Parses a text. Returns its one block, or `None` if it has none.
     fn block(text: &[u8]) -> Option<Block<B>>
-        ensures { Finds (λ b. is_text b text.now) result };
+        ensures { FindsOnly (λ b. is_text b text.now) result };
 }
 
 // Whether the texts say that the issuer's numbers are meant.
@@ -33,7 +33,7 @@ fn blocks_of<B: Bound, T: BlockText<B>>(
     texts: &[&[u8]],
 ) -> Result<Option<BlocksBuilder<B>>, AllocError>
     ensures { IfOk result (λ found.
-        Finds (λ bs. AllZip T.is_text bs (map (λ t. t.now) texts.now)) found) }
+        FindsOnly (λ bs. AllZip T.is_text bs (map (λ t. t.now) texts.now)) found) }
 {
     let mut blocks = BlocksBuilder::new(alloc);
     for text in texts {
@@ -56,7 +56,7 @@ pub fn listed<B: Bound, T: BlockText<B>>(
     texts: &[&[u8]],
 ) -> Result<Option<Resources<B>>, AllocError>
     ensures { IfOk result (λ found.
-        Finds (λ r. AreListed T.is_text r (map (λ t. t.now) texts.now)) found) }
+        FindsOnly (λ r. AreListed T.is_text r (map (λ t. t.now) texts.now)) found) }
 {
     if inherits(texts) {
         return Ok(Some(Resources::inherit()));

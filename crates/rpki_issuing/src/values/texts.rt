@@ -1,7 +1,7 @@
 //! Values and their texts.
 ghost use Rattle.std.specs.Prelude.{◌≡◌, ◌⊎◌, ℕ, List, Ok, IfOk, MatchOption};
 ghost use Rattle.hex.specs.Hex.{decode_of};
-ghost use Rattle.rpki_issuing.specs.OnlyValues.{Finds};
+ghost use Rattle.rpki_issuing.specs.OnlyValues.{FindsOnly};
 ghost use Rattle.rpki_issuing.specs.ValueTexts.{IsAllowedSerial};
 
 use bytes::Bytes;
@@ -20,7 +20,7 @@ pub trait Textual: Drop + Sized {
     ///
     /// Returns an error if memory runs out.
     fn from_text(alloc: Global, text: &[u8]) -> Result<Option<Self>, AllocError>
-        ensures { IfOk result (λ found. Finds (λ v. is_text v text.now) found) };
+        ensures { IfOk result (λ found. FindsOnly (λ v. is_text v text.now) found) };
 }
 
 impl Textual for Rsync {
@@ -57,7 +57,7 @@ const LIMIT: [u8; 20] = [128, 0, 0, 0, 0, 0, 0, 0, 0, 0, 0, 0, 0, 0, 0, 0, 0, 0,
 /// Returns the serial number with these bytes, the most significant one first, or `None` if no
 /// certificate may have it: it has to be positive and below 2^159 (RFC 5280 4.1.2.2).
 pub fn serial_of(octets: &[u8]) -> Option<Serial>
-    ensures { Finds (λ n. IsAllowedSerial n octets.now) result }
+    ensures { FindsOnly (λ n. IsAllowedSerial n octets.now) result }
 {
     let serial = Serial::from_slice(octets)?;
     let Some(limit) = Serial::from_slice(&LIMIT) else {

@@ -1,7 +1,7 @@
 //! The fields and the name of an issuer, and whether a CRL is its own.
 ghost use Rattle.std.specs.Prelude.{◌≡◌, ◌↔◌, option_map, IsTrue};
 ghost use Rattle.rpki_issuing.specs.AskedFields.{issuer_name};
-ghost use Rattle.rpki_issuing.specs.Issuers.{IsNamed, IsOwnList, fields_above};
+ghost use Rattle.rpki_issuing.specs.Issuers.{HasIssuerName, IsOwnList, fields_above};
 
 use rpki_cert::{ResourceCert, TbsCert};
 use rpki_crl::Crl;
@@ -33,7 +33,7 @@ fn name_above<'a>(tbs: &'a TbsCert, issuer: Option<&'a ResourceCert>) -> &'a Nam
 /// Returns whether the certificate's issuer name is the issuer's subject, or its own subject if
 /// there is no issuer (RFC 6487 4.4).
 pub fn is_named(tbs: &TbsCert, issuer: Option<&ResourceCert>) -> bool
-    ensures { IsTrue result ↔ IsNamed (option_map (λ r. r.now) issuer.entry) tbs.now }
+    ensures { IsTrue result ↔ HasIssuerName (option_map (λ r. r.now) issuer.entry) tbs.now }
 {
     let name = name_above(tbs, issuer);
     tbs.issuer().as_bytes() == name.as_bytes()

@@ -4,7 +4,7 @@ ghost use Rattle.rpki_cert.specs.Certificates.{IsCertificate, encoding};
 ghost use Rattle.rpki_cert.specs.Verification.{context};
 ghost use Rattle.rpki_crl.specs.Revocation.{revocation_checks};
 ghost use Rattle.rpki_issuing.specs.Acceptance.{AskedIn, IsAcceptedBelow, IsUnrevokedIn};
-ghost use Rattle.rpki_issuing.specs.Readiness.{signed_with, unsigned, IsReady, IsSignatureOf};
+ghost use Rattle.rpki_issuing.specs.Readiness.{signed_with, unsigned_certificate, IsReady, IsSignatureOf};
 ghost use Rattle.rpki_issuing.specs.Roles.{GetsNumbers, IsValidAs};
 ghost use Rattle.rpki_issuing.specs.declared.issuing_error.IssuingError.TheVariants.{TooLong};
 ghost use Rattle.rpki_keys.specs.RsaSignatures.{IsSignedByRsa};
@@ -134,10 +134,10 @@ fn octets_to_sign<R: RevocationSource>(
     ensures octets { IfOk result (λ octets. octets ≡ encoding prepared.now) }
     ensures unrevoked { let x = context IsSignedByRsa at strict in
         let above = option_map (λ above. above.now) issuer.entry in
-        IsOk result → IsUnrevokedIn (R.asks asked.now x) above (unsigned prepared.now) }
+        IsOk result → IsUnrevokedIn (R.asks asked.now x) above (unsigned_certificate prepared.now) }
     ensures told { let x = context IsSignedByRsa at strict in
         let above = option_map (λ above. above.now) issuer.entry in
-        IfErr result (IsListedFault (R.asks asked.now x) above (unsigned prepared.now)) }
+        IfErr result (IsListedFault (R.asks asked.now x) above (unsigned_certificate prepared.now)) }
 {
     match ask(prepared.as_cert(), issuer, asked, strict, at) {
         Ok(()) => Ok(Bytes::copy_from_slice(alloc, prepared.octets())?),

@@ -2,10 +2,10 @@
 use Rattle.std.specs.Prelude.{map}
 use Rattle.rpki_requests.specs.declared.words.Order.{Order}
 use Rattle.rpki_requests.specs.declared.words.Given.{Given}
-use Rattle.rpki_requests.specs.RequestWords.{AskedFields, GivenFields}
+use Rattle.rpki_requests.specs.RequestWords.{AskedFields, OptionFields}
 
 -- an option with its value
-abbrev pub given_fields : Given → GivenFields
+abbrev pub given_fields : Given → OptionFields
 given_fields g = record { setting = g.setting; value = g.value.now }
 
 -- what is asked

@@ -6,7 +6,7 @@ use Rattle.rpki_text.specs.declared.command_line.arguments.Format.{Format}
 use Rattle.rpki_text.specs.declared.command_line.arguments.Setting.{Setting}
 use Rattle.rpki_text.specs.declared.command_line.arguments.Setting.TheVariants.{Crl, Tal, In, Depth, StepCount, At}
 use Rattle.rpki_text.specs.declared.command_line.arguments.Setting.TheVariants.{MaxSize, Output, ShortOutput, Only}
-use Rattle.rpki_text.specs.CommandLines.{IsFormatName, IsNumberText, LinePart, list, locator, folder, depth, steps}
+use Rattle.rpki_text.specs.CommandLines.{IsFormatName, IsCountText, LinePart, list, locator, folder, depth, steps}
 use Rattle.rpki_text.specs.CommandLines.{at_moment, max_size, output, lenient, json, quiet, all, no_names}
 use Rattle.rpki_text.specs.CommandLines.{trust_first, no_crl, strict_exit, only_rejected, help, RequestFields}
 use Rattle.rpki_text.specs.CommandLines.{setting_name, with_part}
@@ -23,9 +23,9 @@ IsSetPart Crl value part = part ≡ list value
 IsSetPart Tal value part = part ≡ locator value
 IsSetPart In value part = part ≡ folder value
 IsSetPart At value part = (m : Moment) × (part ≡ at_moment m) × IsMoment m × IsMomentText m value
-IsSetPart Depth value part = (n : ℕ) × (part ≡ depth n) × IsNumberText n value
-IsSetPart StepCount value part = (n : ℕ) × (part ≡ steps n) × IsNumberText n value
-IsSetPart MaxSize value part = (n : ℕ) × (part ≡ max_size n) × IsNumberText n value
+IsSetPart Depth value part = (n : ℕ) × (part ≡ depth n) × IsCountText n value
+IsSetPart StepCount value part = (n : ℕ) × (part ≡ steps n) × IsCountText n value
+IsSetPart MaxSize value part = (n : ℕ) × (part ≡ max_size n) × IsCountText n value
 IsSetPart Output value part = (f : Format) × (part ≡ output f) × IsFormatName f value
 IsSetPart ShortOutput value part = (f : Format) × (part ≡ output f) × IsFormatName f value
 IsSetPart Only value part = (part ≡ only_rejected) × (value ≡ codes "rejected")

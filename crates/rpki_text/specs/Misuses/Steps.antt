@@ -3,7 +3,7 @@ use Rattle.std.specs.Prelude.{◌≡◌, ◌⊎◌, ℕ, List, ◌∷◌}
 use Rattle.rpki_text.specs.declared.command_line.arguments.Misuse.{Misuse}
 use Rattle.rpki_text.specs.declared.command_line.arguments.Setting.{Setting}
 use Rattle.rpki_text.specs.declared.command_line.arguments.Setting.TheVariants.{Depth, StepCount, Output, ShortOutput}
-use Rattle.rpki_text.specs.Misuses.{BeginsWith, IsWrongFirst}
+use Rattle.rpki_text.specs.Misuses.{BeginsWithOption, IsWrongFirst}
 
 -- the option bounds a walk, by a number
 abbrev pub IsBound : Setting → Type 0
@@ -16,7 +16,7 @@ NamesFormat setting = (setting ≡ Output) ⊎ (setting ≡ ShortOutput)
 -- words that begin with this option and this value are wrong there, as is told
 abbrev pub TellsValue : Misuse → Setting → List ℕ → Type 0
 TellsValue misuse setting value =
-    (words : List (List ℕ)) → BeginsWith setting value words → IsWrongFirst misuse words
+    (words : List (List ℕ)) → BeginsWithOption setting value words → IsWrongFirst misuse words
 
 -- words that begin with this one are wrong there, as is told
 abbrev pub TellsWord : Misuse → List ℕ → Type 0

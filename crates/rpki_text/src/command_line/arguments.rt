@@ -2,7 +2,7 @@
 ghost use Rattle.std.specs.Prelude.{◌≡◌, ◌≢◌, ◌↔◌, ℕ, List, [], ◌∷◌, ◌++◌, false, map, codes, Some, IsTrue, IfSome, IfNone, MatchOption, OnOk, IfOk, IfErr};
 ghost use Rattle.std.specs.Bool.{OnTrue, OnFalse};
 ghost use Rattle.std.specs.Fmt.{WritesOnOk};
-ghost use Rattle.rpki_text.specs.CommandLines.{IsFormatName, IsTaskName, IsNumberText, IsPart, LinePart, RequestFields, only_task, setting_name, with_files, with_part, AsksNoPath, AsksNoTree, AsksSearch, AsksTree, LeavesNothingOut, NamesInput, ReadsInput, SaysAnchor, SaysLists, Suits, SuitsFolders, IsCommandLine};
+ghost use Rattle.rpki_text.specs.CommandLines.{IsFormatName, IsTaskName, IsCountText, IsPart, LinePart, RequestFields, only_task, setting_name, with_files, with_part, AsksNoPath, AsksNoTree, AsksSearch, AsksTree, LeavesNothingOut, NamesInput, ReadsInput, SaysAnchor, SaysLists, Suits, SuitsFolders, IsCommandLine};
 ghost use Rattle.rpki_text.specs.CommandLines.Views.{word_octets, fields_of};
 ghost use Rattle.rpki_text.specs.WordParts.{AddsPart, AddsParts, IsFirstWrong, IsOption, Joins, words_before, words_behind};
 ghost use Rattle.rpki_text.specs.Misuses.{IsExtra, IsLeftOutBy, IsMisuse, IsOfTree, IsReason, IsWrongFirst};
@@ -299,8 +299,8 @@ fn joined<'a>(word: &'a [u8]) -> Option<(Setting, &'a [u8])>
 
 // The number below 2^64 that a text of decimal digits is.
 fn number_of(text: &[u8]) -> Option<u64>
-    ensures { MatchOption result ((n : ℕ) → IsNumberText n text.now → ⊥)
-        (λ n. IsNumberText n text.now) }
+    ensures { MatchOption result ((n : ℕ) → IsCountText n text.now → ⊥)
+        (λ n. IsCountText n text.now) }
 {
     let Ok(digits) = str::from_utf8(text) else {
         return None;
@@ -313,7 +313,7 @@ fn number_of(text: &[u8]) -> Option<u64>
 
 // The number that the value of an option says.
 fn count_of<'a>(setting: Setting, text: &'a [u8]) -> Result<usize, Misuse<'a>>
-    ensures number { IfOk result (λ n. IsNumberText n text.now) }
+    ensures number { IfOk result (λ n. IsCountText n text.now) }
     ensures told { IfErr result (λ e. IsBound setting → TellsValue e setting text.now) }
 {
     match number_of(text) {

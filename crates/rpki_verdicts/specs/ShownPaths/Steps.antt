@@ -2,13 +2,13 @@
 use Rattle.std.specs.declared.cmp.Ordering.{Ordering}
 use Rattle.std.specs.Prelude.{ℕ, List, reverse}
 use Rattle.rpki_files.specs.Files.{FileFields}
-use Rattle.rpki_verdicts.specs.ShownPaths.{AreNamed, Rank, octets_along, rank_order}
+use Rattle.rpki_verdicts.specs.ShownPaths.{NameIssuersAbove, Rank, octets_along, rank_order}
 use Rattle.rpki_verdicts.specs.declared.shown_paths.RankedPath.{RankedPath}
 use Rattle.rpki_verdicts.specs.declared.unordered.Tree.{Tree}
 
 -- the number is that of the path's named certificates
 abbrev pub IsRanked : List FileFields → Tree → ℕ → RankedPath → Type 0
-IsRanked certs tree place r = AreNamed certs tree place (reverse r.path.now.above.items) r.named
+IsRanked certs tree place r = NameIssuersAbove certs tree place (reverse r.path.now.above.items) r.named
 
 -- its rank
 abbrev pub rank_of : List FileFields → RankedPath → Rank

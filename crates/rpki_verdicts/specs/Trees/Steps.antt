@@ -6,7 +6,7 @@ use Rattle.rpki_verdicts.specs.Trees.{IsAnchorReason}
 use Rattle.rpki_verdicts.specs.declared.unordered.WrongAnchor.{WrongAnchor}
 
 -- what is told of a candidate: its place, the file there, and what is wrong with that
-pub record IsToldOf (certs : List FileFields) (candidate : WrongCandidate) (w : WrongAnchor)
+pub record IsCandidateTold (certs : List FileFields) (candidate : WrongCandidate) (w : WrongAnchor)
     : Type 0 where
   pub place_is : w.place ≡ candidate.place
   pub stands : slice_get certs candidate.place ≡ Some w.file.now

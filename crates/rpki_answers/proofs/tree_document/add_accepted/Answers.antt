@@ -1,7 +1,7 @@
 use Rattle.std.proofs.Common.{◌∷◌, ◌++◌, append_assoc, refl}
 use Rattle.rpki_document.proofs.Built.{ended_some, ended_with}
 use Rattle.rpki_document.specs.Documents.{aside, document_of}
-use Rattle.rpki_answers.specs.TreeDocuments.{IsAccepted, above_node, accepted_head, more_nodes}
+use Rattle.rpki_answers.specs.TreeDocuments.{AreAcceptedNodes, above_node, accepted_head, more_nodes}
 use Rattle.rpki_answers.proofs.tree_document.add_accepted.Goals as goal
 
 pub returns : goal.returns
@@ -12,7 +12,7 @@ returns c =
     let last = c.add_more.result in
     let held = c.in_ok-add_held.ensures in
     let several = c.in_ok-add_paths.ensures in
-    ended_some last (IsAccepted c.args.name.now tree paths c.args.kind)
+    ended_some last (AreAcceptedNodes c.args.name.now tree paths c.args.kind)
     (accepted_head c.args.name.now tree above c.args.kind ∷ above_node tree above ∷ aside (document_of held.0) ∷
     (several.0 ++ more_nodes paths.more))
     c.args.parts.now.items c.add_more.new.parts.items

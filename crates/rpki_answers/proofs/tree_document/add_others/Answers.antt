@@ -4,7 +4,7 @@ use Rattle.std.proofs.lemmas.List.{map-append, take_more}
 use Rattle.rpki_document.specs.Building.{Adds}
 use Rattle.rpki_document.specs.Documents.{Node}
 use Rattle.rpki_document.proofs.Built.{then_added}
-use Rattle.rpki_answers.specs.TreeDocuments.{AreOthers, IsOther, also_node}
+use Rattle.rpki_answers.specs.TreeDocuments.{AreOtherPaths, IsOtherPath, also_node}
 use Rattle.rpki_folder.specs.declared.find.FoundPath.{FoundPath}
 use Rattle.rpki_answers.proofs.tree_document.add_others.Goals as goal
 
@@ -32,7 +32,7 @@ loop-path-preserved c =
     (_ ∷ []) ∙ ap (λ (p : Bor FoundPath). now (take i others) ++ p.now ∷ []) (sym c.path-item.is) in
     let one : Adds (node ∷ []) l.parts.items c.add_path.new.parts.items = rw c.deref.ensures.value at c.in_ok-add_path.ensures in (
       so_far.0 ++ node ∷ [],
-      subst (λ (paths : List FoundPath). AreOthers tree shown paths (so_far.0 ++ node ∷ [])) (sym more)
-          (one_more (IsOther tree shown) (now (take i others)) so_far.0 path.now node so_far.1 (same, c.hold_same.ensures, refl)),
+      subst (λ (paths : List FoundPath). AreOtherPaths tree shown paths (so_far.0 ++ node ∷ [])) (sym more)
+          (one_more (IsOtherPath tree shown) (now (take i others)) so_far.0 path.now node so_far.1 (same, c.hold_same.ensures, refl)),
       then_added c.args.parts.now.items l.parts.items c.add_path.new.parts.items so_far.0 (node ∷ []) so_far.2 one,
     )

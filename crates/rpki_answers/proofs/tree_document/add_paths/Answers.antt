@@ -2,7 +2,7 @@ use Rattle.std.specs.Prelude.{codes}
 use Rattle.std.proofs.Common.{rules, ◌≡◌, ◌≢◌, Bor, List, [], ◌∷◌, length, map, refl, arith}
 use Rattle.rpki_document.specs.Documents.{Node, document_of, each}
 use Rattle.rpki_document.proofs.Built.{ended_some, ended_with, none_added}
-use Rattle.rpki_answers.specs.TreeDocuments.{AreAll, AreOthers, ArePaths, shown_node}
+use Rattle.rpki_answers.specs.TreeDocuments.{AreAll, AreOtherPaths, ArePathNodes, shown_node}
 use Rattle.rpki_folder.specs.declared.find.FoundPath.{FoundPath}
 use Rattle.rpki_verdicts.specs.declared.unordered.Tree.{Tree}
 use Rattle.rpki_answers.proofs.tree_document.add_paths.Goals as goal
@@ -13,7 +13,7 @@ none tree shown [] is = refl
 none tree shown (path ∷ others) is = absurd (omega (arith, is))
 
 several : (tree : Tree) (shown : FoundPath) (others : List (Bor FoundPath)) (nodes : List Node) → length others ≢ 0 →
-    AreOthers tree shown (map (λ path. path.now) others) nodes
+    AreOtherPaths tree shown (map (λ path. path.now) others) nodes
     → AreAll tree shown (map (λ path. path.now) others)
     (each (codes "paths") (document_of (shown_node tree shown.above.items ∷ nodes)) ∷ [])
 several tree shown [] nodes some are = absurd (some refl)
@@ -21,7 +21,7 @@ several tree shown (path ∷ others) nodes some are = (nodes, are, refl)
 
 pub returns-then-is_empty : goal.returns-then-is_empty
 returns-then-is_empty c =
-    none_added (ArePaths c.args.tree.now c.args.paths.now) c.args.parts.now.items
+    none_added (ArePathNodes c.args.tree.now c.args.paths.now) c.args.parts.now.items
     (none c.args.tree.now c.args.paths.now.shown.now c.args.paths.now.others.items (search rules))
 
 pub returns : goal.returns
@@ -30,9 +30,9 @@ returns c =
     let shown = c.args.paths.now.shown.now in
     let others = c.args.paths.now.others.items in
     let added = c.in_ok-add_others.ensures in
-    let are : AreOthers tree shown (map (λ path. path.now) others) added.0 = rw c.deref-2.ensures.value at added.1 in
+    let are : AreOtherPaths tree shown (map (λ path. path.now) others) added.0 = rw c.deref-2.ensures.value at added.1 in
     let some : length others ≢ 0 = search rules in
-    ended_some c.add_each.result (ArePaths tree c.args.paths.now)
+    ended_some c.add_each.result (ArePathNodes tree c.args.paths.now)
     (each (codes "paths") (document_of (shown_node tree shown.above.items ∷ added.0)) ∷ [])
     c.args.parts.now.items c.add_each.new.parts.items (several tree shown others added.0 some are)
     (ended_with c.add_each.result _ _ _ c.add_each.ensures

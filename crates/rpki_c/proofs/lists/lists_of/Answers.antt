@@ -2,7 +2,7 @@ use Rattle.std.specs.Prelude.{Contains, MatchOption}
 use Rattle.std.proofs.Common.{◌≡◌, ◌<◌, ℕ, List, [], length, get_or, sym, subst, ◌∙◌, arith}
 use Rattle.std.proofs.lemmas.List.{get_or_default}
 use Rattle.rpki_der.specs.Place.{Rejects}
-use Rattle.rpki_c.specs.Verdicts.{AreNoList, IsForeign, IsGiven}
+use Rattle.rpki_c.specs.Verdicts.{AreNoList, IsForeign, IsListGiven}
 use Rattle.rpki_c.proofs.CallersLists.{one_more}
 use Rattle.rpki_c.proofs.lists.lists_of.Goals as goal
 
@@ -28,7 +28,7 @@ loop-octets-preserved c =
     let IsKey = Contains c.args.keys.now in
     let item : c.octets-item.result ≡ get_or strings l.octets-index [] = c.octets-item.is ∙
     get_or_default strings l.octets-index c.octets-item.result [] c.loop-octets-test.true in
-    let own = subst (λ (octets : List ℕ). MatchOption c.in-Ok.list (IsForeign IsKey octets) (IsGiven octets)) item
+    let own = subst (λ (octets : List ℕ). MatchOption c.in-Ok.list (IsForeign IsKey octets) (IsListGiven octets)) item
     c.in-Ok.ensures.list in
     record {
       naming = one_more (IsForeign IsKey) strings l.octets-index c.loop-octets-test.true l.lists.items

@@ -1,6 +1,7 @@
 use Rattle.rpki_der.specs.Tags.{SEQUENCE}
 use Rattle.rpki_folder.specs.Folders.{BeginsNoCertificate}
-use Rattle.rpki_c.specs.CertificateSpans.{HasTag, StandsNone}
+use Rattle.rpki_c.specs.CertificateSpans.{StandsNone}
+use Rattle.rpki_files.specs.StopPlaces.{HasTag}
 use Rattle.rpki_c.proofs.CertificateWalks.{err_then, key_stood, no_key}
 use Rattle.rpki_c.proofs.spans.key_span.Goals as goal
 

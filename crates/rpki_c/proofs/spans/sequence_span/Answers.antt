@@ -1,6 +1,7 @@
 use Rattle.std.proofs.Common.{◌≡◌, Err, rules}
 use Rattle.rpki_der.specs.Tags.{SEQUENCE}
-use Rattle.rpki_c.specs.CertificateSpans.{HasTag, StandsNone}
+use Rattle.rpki_c.specs.CertificateSpans.{StandsNone}
+use Rattle.rpki_files.specs.StopPlaces.{HasTag}
 use Rattle.rpki_c.proofs.CertificateWalks.{err_so, no_value, span_between, value_behind, value_stood}
 use Rattle.rpki_c.proofs.spans.sequence_span.Goals as goal
 

@@ -3,7 +3,7 @@ use Rattle.std.proofs.lemmas.Bool.{false≢true}
 use Rattle.std.proofs.lemmas.List.{length-map}
 use Rattle.std.proofs.lemmas.List.Sorted.{Contains-permutation, IsPermutation-sym}
 use Rattle.rpki_crl.specs.SerialTables.{serials_of}
-use Rattle.rpki_c.specs.ListTables.{serials_in, serial_of}
+use Rattle.rpki_c.specs.ListTables.{serials_in, entry_serial}
 use Rattle.rpki_crl.proofs.Halvings.{go_up, go_down, not_there, there}
 use Rattle.rpki_c.proofs.tables.has.Goals as goal
 
@@ -12,10 +12,10 @@ loop-low-init c = record {
   inside = c.places_of-low.ensures.inside;
   between = λ up. record {
     order = c.places_of-low.ensures.order;
-    inside = omega (arith, c.places_of-low.ensures.inside, length-map c.args.table.now serial_of);
+    inside = omega (arith, c.places_of-low.ensures.inside, length-map c.args.table.now entry_serial);
     before = c.places_of-low.ensures.before up;
     after = λ i from low. c.places_of-low.ensures.after up i from
-        (omega (arith, low, length-map c.args.table.now serial_of));
+        (omega (arith, low, length-map c.args.table.now entry_serial));
   };
 }
 
@@ -37,7 +37,7 @@ pub returns-in-Equal : goal.returns-in-Equal
 returns-in-Equal c = λ entries is.
     let xs = serials_in c.args.table.now in
     let found = there xs c.args.serial
-    _ (omega (arith, c.loop-low.invariant.inside, length-map c.args.table.now serial_of))
+    _ (omega (arith, c.loop-low.invariant.inside, length-map c.args.table.now entry_serial))
     c.in-Equal.ensures in (
       (λ yes. Contains-permutation xs (serials_of entries) c.args.serial
           (IsPermutation-sym (serials_of entries) xs is.serials_are) found),

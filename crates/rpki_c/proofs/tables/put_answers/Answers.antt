@@ -2,7 +2,7 @@ use Rattle.std.proofs.Common.{◌≢◌, ◌∙◌, ℕ, ◌+◌, ◌<◌, List,
 use Rattle.std.proofs.lemmas.List.{get_or-set_other, get_or-set_same, length-set}
 use Rattle.rpki_crl.specs.RevokedEntries.{Entry, IsRevoked}
 use Rattle.rpki_c.specs.Contents.{IsFlag, serial_in}
-use Rattle.rpki_c.specs.ListTables.{IsTableOf}
+use Rattle.rpki_c.specs.ListTables.{IsSerialTable}
 use Rattle.rpki_c.proofs.tables.put_answers.Goals as goal
 
 pub loop-at-preserved : goal.loop-at-preserved
@@ -13,7 +13,7 @@ loop-at-preserved c =
     let room : l.at < length l.answers = omega (arith, l.invariant.long) in
     record {
       long = length-set l.answers l.at one ∙ l.invariant.long;
-      told = λ (entries : List Entry) (is : IsTableOf entries c.args.table.now) (i : ℕ) (low : i < l.at + 1).
+      told = λ (entries : List Entry) (is : IsSerialTable entries c.args.table.now) (i : ℕ) (low : i < l.at + 1).
           let here : IsFlag (IsRevoked (serial_in serials l.at) entries) (get_or (set l.answers l.at one) l.at 0) =
           subst (λ (n : ℕ). IsFlag (IsRevoked (serial_in serials l.at) entries) n)
           (sym (get_or-set_same l.answers l.at one 0 room))

@@ -1,5 +1,5 @@
 use Rattle.rpki_issuing.specs.ValueTexts.{IsHttpsText, IsRsyncText}
-use Rattle.rpki_c.specs.WantedQuestions.{GivesPlaces, IsUriGiven}
+use Rattle.rpki_c.specs.WantedQuestions.{GivesWantedUris, IsUriGiven}
 use Rattle.rpki_c.proofs.WantedValues.{Pair, both_given, when_err, when_ok}
 use Rattle.rpki_c.proofs.values.places.Goals as goal
 
@@ -57,7 +57,7 @@ returns-in-Err c =
     c.rsync_of-list.ensures in
     let all = both_given w (Pair (Pair R M) (Pair O N)) (Pair I L) c.both-below.result c.both-above.result
     c.both-all.result c.both-all.ensures.both c.both-all.ensures.refused below above in
-    when_err w (Pair (Pair (Pair R M) (Pair O N)) (Pair I L)) (GivesPlaces w.uris)
+    when_err w (Pair (Pair (Pair R M) (Pair O N)) (Pair I L)) (GivesWantedUris w.uris)
     (λ p h. (
       (((p.repository, p.manifest), (p.object, p.notify)), (p.issuer, p.list)),
       (((h.repository_is, h.manifest_is), (h.object_is, h.notify_is)), (h.issuer_is, h.list_is)),

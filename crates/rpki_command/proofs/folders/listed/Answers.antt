@@ -1,11 +1,11 @@
 use Rattle.std.specs.Prelude.{Option, Some, None, Result, Ok, Err, IfOk, MatchOption, option_map}
 use Rattle.std.proofs.Common.{ℕ, List, inr, rules}
 use Rattle.rpki_text.specs.CommandLines.Views.{word_octets}
-use Rattle.rpki_command.specs.ListedFolders.{IsNoFolder, Lists, holds, listing_of}
+use Rattle.rpki_command.specs.ListedFolders.{IsNoFolder, ListsFolder, holds, listing_of}
 use Rattle.rpki_command.proofs.folders.listed.Goals as goal
 
 -- what listing gives of a name
-by_listing : {X E : Type 0} (names_of : X → List (List ℕ)) (lists : Lists) (name : List ℕ) (r : Result (Option X) E) →
+by_listing : {X E : Type 0} (names_of : X → List (List ℕ)) (lists : ListsFolder) (name : List ℕ) (r : Result (Option X) E) →
     IfOk r (λ names. lists name (listing_of (option_map names_of names))) →
     IfOk r (λ listed. MatchOption listed (IsNoFolder lists name) (λ given. lists name (holds (names_of given))))
 by_listing names_of lists name (Ok None) its = inr its

@@ -1,6 +1,6 @@
 use Rattle.std.proofs.Common.{refl, inl, inr, rules}
 use Rattle.std.proofs.lemmas.Result.{IfOk-weaker}
-use Rattle.rpki_requests.specs.RequestMisuses.{misuse_text}
+use Rattle.rpki_requests.specs.RequestMisuses.{request_misuse_text}
 use Rattle.rpki_requests.specs.RequestWords.Views.{asked_fields}
 use Rattle.rpki_text.specs.CommandLines.Views.{word_octets}
 use Rattle.rpki_command.specs.AboutTexts.{topic_of}
@@ -14,7 +14,7 @@ returns-in_ok-say-in-Err-clause-ended g c =
     let ended = c.silent.ensures in
     let told = c.in_ok-say-in-Err.ensures in
     let misuse = c.in-Err.misuse in
-    let message = misuse_message (topic_of (word_octets c.args.words.now)) (misuse_text misuse) in (
+    let message = misuse_message (topic_of (word_octets c.args.words.now)) (request_misuse_text misuse) in (
       only_said message,
       rw ended.outcome (inl (
         c.in-Err.ensures.rejected told.memory,

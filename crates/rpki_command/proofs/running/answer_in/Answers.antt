@@ -6,7 +6,7 @@ use Rattle.rpki_text.specs.CommandLines.Views.{fields_of, word_octets}
 use Rattle.rpki_text.specs.declared.command_line.arguments.Task.TheVariants.{Tree}
 use Rattle.rpki_command.specs.ListedFolders.{AreFilesOf}
 use Rattle.rpki_command.specs.Runs.{IsAnswerBy, IsAnswerIn}
-use Rattle.rpki_command.specs.SoughtPaths.{IsSearch}
+use Rattle.rpki_command.specs.SoughtPaths.{IsPathSearch}
 use Rattle.rpki_command.proofs.EndedRuns.{so_said}
 use Rattle.rpki_command.proofs.WrittenTexts.{appends_both}
 use Rattle.rpki_command.proofs.running.answer_in.Goals as goal
@@ -37,7 +37,7 @@ returns-clause-answer g c =
       names_are = among;
       sought = sought;
       of_search = of_search;
-      search = subst (λ (q : RequestFields). IsSearch reads q c.args.now sought of_search) same search;
+      search = subst (λ (q : RequestFields). IsPathSearch reads q c.args.now sought of_search) same search;
       of_files = said;
       answer = subst (λ (q : RequestFields). IsAnswerBy reads q c.args.now sought e.outcome text said) same h;
       said_is = refl;

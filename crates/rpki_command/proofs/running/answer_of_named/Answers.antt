@@ -4,7 +4,7 @@ use Rattle.std.proofs.Common.{◌≡◌, refl, subst}
 use Rattle.rpki_text.specs.CommandLines.{RequestFields}
 use Rattle.rpki_text.specs.CommandLines.Views.{fields_of, word_octets}
 use Rattle.rpki_command.specs.ListedFolders.{roots_of}
-use Rattle.rpki_command.specs.Runs.{IsAnswer, IsAnswerOfNamed}
+use Rattle.rpki_command.specs.Runs.{IsRunAnswer, IsAnswerOfNamed}
 use Rattle.rpki_command.proofs.EndedRuns.{so_said}
 use Rattle.rpki_command.proofs.running.answer_of_named.Goals as goal
 
@@ -20,7 +20,7 @@ returns-clause-answer g c =
     let roots : word_octets c.in_ok-roots.roots.items ≡ roots_of r.files = rw c.deref.ensures.value at c.in_ok-roots.ensures in
     let same : whole ≡ record r { files = names; folders = roots_of r.files } =
     rw (c.deref-2.ensures.value, c.deref-3.ensures.value, roots) at c.in_ok-request.ensures in
-    so_said (λ e text said. IsAnswer reads whole c.args.now e.outcome text said)
+    so_said (λ e text said. IsRunAnswer reads whole c.args.now e.outcome text said)
     (λ e text said. IsAnswerOfNamed reads lists r c.args.now e.outcome text said)
     (λ e text. OnOk e.written (Appends (g.O.Write.contents c.args.out.now) (g.O.Write.contents c.answer.new.out) text))
     (contents c.args.err.now) (contents c.file_names.new.err) (contents c.answer.new.err) of_folders.0 c.answer.result of_folders.2
@@ -29,7 +29,7 @@ returns-clause-answer g c =
       of_folders = of_folders.0;
       of_files = said;
       names_are = of_folders.1;
-      answer = subst (λ (q : RequestFields). IsAnswer reads q c.args.now e.outcome text said) same h;
+      answer = subst (λ (q : RequestFields). IsRunAnswer reads q c.args.now e.outcome text said) same h;
       said_is = refl;
     })
     c.answer.ensures.answer

@@ -2,7 +2,7 @@ use Rattle.std.proofs.Common.{◌≡◌, ◌++◌, ◌∷◌, [], List, Err, ap,
 use Rattle.std.proofs.lemmas.Bool.{false≢true}
 use Rattle.rpki_der.specs.Extensions.{IsExtension}
 use Rattle.rpki_der.specs.Place.{Place}
-use Rattle.rpki_files.specs.StopPlaces.{AreWellPlaced, MayStand, Passes, StopsAtExtension, StopsInExtensions, kind_of}
+use Rattle.rpki_files.specs.StopPlaces.{AreWellPlaced, MayStand, Passes, StopsAtExtension, StopsInExtensions, extension_kind}
 use Rattle.rpki_files.specs.declared.kinds.Kind.{Kind}
 use Rattle.rpki_files.proofs.KindsSeen.{kinds_more, placed_more}
 use Rattle.rpki_files.proofs.StopWalks.{at_end, goes_on, not_at_end, passed, passed_all, stays}
@@ -30,7 +30,7 @@ loop-rest-preserved c =
       goes_on (AreWellPlaced is_list xs) (IsExtension x) (AreWellPlaced is_list (xs ++ x ∷ [])) c.args.inside.now
           c.loop-rest.rest c.keep_next.new.rest (λ a b are is. placed_more is_list xs x a b may are is) so_far.1
           next.2,
-      next.3 ∙ ap (λ (k : List Kind). k ++ kind_of is_list x ∷ []) so_far.2 ∙ kinds_more is_list xs x,
+      next.3 ∙ ap (λ (k : List Kind). k ++ extension_kind is_list x ∷ []) so_far.2 ∙ kinds_more is_list xs x,
     )
 
 pub returns-in_err-keep_next-clause-stop : goal.returns-in_err-keep_next-clause-stop

@@ -3,7 +3,7 @@ use Rattle.rpki_der.specs.Extensions.{Extension, IsExtension}
 use Rattle.rpki_der.specs.Extensions.Views.{extension_view}
 use Rattle.rpki_der.specs.Place.{remaining}
 use Rattle.rpki_der.proofs.ExtensionReads.{extension_shrinks}
-use Rattle.rpki_files.specs.StopPlaces.{IsMisplaced, IsNext, MayStandAs, Passes, StopsAtExtension, kind_of}
+use Rattle.rpki_files.specs.StopPlaces.{IsMisplaced, IsNextKind, MayStandAs, Passes, StopsAtExtension, extension_kind}
 use Rattle.rpki_files.specs.declared.expected.Part.TheVariants as part
 use Rattle.rpki_files.specs.declared.kinds.Kind.{Kind}
 use Rattle.rpki_files.proofs.StopWalks.{errs_so, holds_anyway, stops_for, took, values_so}
@@ -15,7 +15,7 @@ returns-in-Ok-clause-stop c =
     let kinds = c.args.kinds.now in
     let x = extension_view (c.in-Ok.identifier, c.in-Ok.critical, c.in-Ok.content) in
     let new = c.take_extension.new.cursor in
-    errs_so (λ stop from. (from ≡ c.at-octet.result) × IsMisplaced is_list kinds (kind_of is_list x) x.critical
+    errs_so (λ stop from. (from ≡ c.at-octet.result) × IsMisplaced is_list kinds (extension_kind is_list x) x.critical
     x.content stop) (StopsAtExtension is_list kinds c.args.rest.now) c.placed.result c.placed.ensures.stop
     (λ stop from s. inr (x, remaining new, c.in-Ok.ensures.answers.encoded, s.0 ∙ c.at-octet.ensures.octet, s.1))
 
@@ -29,8 +29,8 @@ returns-in-Ok-clause-read c =
     let begins = c.in-Ok.ensures.answers.encoded in
     let passes = took (IsExtension x) old new begins.text c.at-octet.ensures.order c.at-octet.ensures.within
     c.at-behind.ensures.order c.in-Ok.ensures.answers.keeps begins.encoded begins.parts in
-    values_so (λ kind. (kind ≡ kind_of is_list x) × MayStandAs is_list kinds kind x.critical x.content)
-    (λ kind. (y : Extension) × IsNext is_list kinds y kind × Passes (IsExtension y) old new) c.placed.result
+    values_so (λ kind. (kind ≡ extension_kind is_list x) × MayStandAs is_list kinds kind x.critical x.content)
+    (λ kind. (y : Extension) × IsNextKind is_list kinds y kind × Passes (IsExtension y) old new) c.placed.result
     c.placed.ensures.read
     (λ kind s. (x, (subst (λ (k : Kind). MayStandAs is_list kinds k x.critical x.content) s.0 s.1, s.0), passes))
 

@@ -1,6 +1,6 @@
 use Rattle.std.proofs.Common.{◌≡◌, Err, inl, inr, rules}
 use Rattle.rpki_der.specs.Tags.{SEQUENCE}
-use Rattle.rpki_files.specs.StopPlaces.{HasTag, Opens, StopsAt, StopsBefore, StopsInside, whole}
+use Rattle.rpki_files.specs.StopPlaces.{HasTag, Opens, StopsAt, StopsBefore, StopsInside, whole_place}
 use Rattle.rpki_files.specs.declared.expected.Part.TheVariants as part
 use Rattle.rpki_files.proofs.StopWalks.{errs_so, passed, values_so}
 use Rattle.rpki_files.proofs.places.signature_at.Goals as goal
@@ -17,7 +17,7 @@ returns-clause-stop c =
     let octets = c.args.octets.now in
     let outer = c.in_ok-outer.outer in
     let next = c.opened.new.cursor in
-    let opens : Opens SEQUENCE (whole octets) outer next = rw (← c.new-file.ensures.whole) c.in_ok-outer.ensures.read in
+    let opens : Opens SEQUENCE (whole_place octets) outer next = rw (← c.new-file.ensures.whole) c.in_ok-outer.ensures.read in
     errs_so (StopsInside c.args.is_list outer) (StopsAt c.args.is_list octets) c.inside.result c.inside.ensures.stop
     (λ stop octet s. inr (outer, next, opens, s))
 
@@ -26,6 +26,6 @@ returns-clause-read c =
     let octets = c.args.octets.now in
     let outer = c.in_ok-outer.outer in
     let next = c.opened.new.cursor in
-    let opens : Opens SEQUENCE (whole octets) outer next = rw (← c.new-file.ensures.whole) c.in_ok-outer.ensures.read in
+    let opens : Opens SEQUENCE (whole_place octets) outer next = rw (← c.new-file.ensures.whole) c.in_ok-outer.ensures.read in
     values_so (StopsInside c.args.is_list outer part.Signature) (StopsAt c.args.is_list octets part.Signature)
     c.inside.result c.inside.ensures.read (λ octet s. inr (outer, next, opens, s))

@@ -1,4 +1,4 @@
-use Rattle.rpki_folder.specs.FirstPlaces.{first_of}
+use Rattle.rpki_folder.specs.FirstPlaces.{first_place_of}
 use Rattle.rpki_isolation.proofs.FirstPlaces.{first_itself, first_once, stands_first}
 use Rattle.rpki_isolation.proofs.laws.admitted_once.Goals as goal
 
@@ -15,7 +15,7 @@ pub returns-clause-firsts : goal.returns-clause-firsts
 returns-clause-firsts g c = λ verifier keys certs table are.
     let law = c.unambiguous.ensures.certificate in (
       (λ cert others place stands above. (
-        first_of table place,
+        first_place_of table place,
         stands_first law certs table are cert place stands,
         first_itself law certs table are cert place stands,
       )),

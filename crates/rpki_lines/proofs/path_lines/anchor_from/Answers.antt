@@ -1,5 +1,5 @@
 use Rattle.std.proofs.Common.{◌∷◌, ◌++◌, []}
-use Rattle.rpki_lines.specs.InputLines.{IsLine, at_moment, strictness, anchor}
+use Rattle.rpki_lines.specs.InputLines.{IsInputLine, at_moment, strictness, anchor}
 use Rattle.rpki_lines.proofs.InputLines.{bad_third, behind_line, if_ok, no_third}
 use Rattle.rpki_path.proofs.LongerPaths.{zip_more}
 use Rattle.rpki_lines.proofs.path_lines.anchor_from.Goals as goal
@@ -18,5 +18,5 @@ returns c = λ before is.
     let line = c.in-Some.line.now in
     if_ok c.members_from.result (λ input read. behind_line before line c.in-Some.rest.now c.args.text.now input c.in-Some.ensures.line read)
     (c.members_from.ensures (before ++ line ∷ [])
-    (zip_more IsLine (at_moment c.args.now ∷ strictness c.args.strict ∷ []) before (anchor c.in-Some-2.anchor)
+    (zip_more IsInputLine (at_moment c.args.now ∷ strictness c.args.strict ∷ []) before (anchor c.in-Some-2.anchor)
     line is tells))

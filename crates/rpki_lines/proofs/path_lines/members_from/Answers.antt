@@ -1,6 +1,6 @@
 use Rattle.std.specs.List.{AllZip}
 use Rattle.std.proofs.Common.{◌≡◌, ◌∷◌, ◌++◌, [], ℕ, List, Some, None, length, map, refl, sym, subst, rules}
-use Rattle.rpki_lines.specs.InputLines.{IsLine, authority, end_entity}
+use Rattle.rpki_lines.specs.InputLines.{IsInputLine, authority, end_entity}
 use Rattle.rpki_lines.specs.declared.path_lines.Member.TheVariants.{Authority, Last}
 use Rattle.rpki_lines.proofs.InputLines.{none_left, some_left}
 use Rattle.rpki_lines.proofs.MemberLines.{Heads, authority_more, authority_encoded, bad_member, ended, ended_by_leaf, line_after_leaf}
@@ -12,12 +12,12 @@ loop-line-preserved c =
     let octets = c.in-Some-Authority.octets in
     let line = c.in-Some.line.now in
     let found : c.in_ok-octets.field-0 ≡ Some (Authority octets) = search rules in
-    let is : IsLine (authority octets) line = rw found at c.in_ok-octets.ensures.some in
+    let is : IsInputLine (authority octets) line = rw found at c.in_ok-octets.ensures.some in
     record {
       kept = so_far.kept;
       lines = so_far.lines ++ line ∷ [];
       encoded =
-          subst (λ (cas : List (List ℕ)). AllZip IsLine (map authority cas) (so_far.lines ++ line ∷ []))
+          subst (λ (cas : List (List ℕ)). AllZip IsInputLine (map authority cas) (so_far.lines ++ line ∷ []))
           (sym c.in_ok-push-in-Some-Authority.ensures.items)
           (authority_encoded c.loop-line.cas.items so_far.lines so_far.encoded octets line is);
       so_far = authority_more so_far.lines c.args.text.now c.loop-line.rest.now so_far.so_far line
@@ -30,7 +30,7 @@ returns-then-not-is_empty c = λ before is.
     let leaf = c.in-Some-Last.leaf in
     let line = c.in-Some.line.now in
     let found : c.in_ok-octets.field-0 ≡ Some (Last leaf) = search rules in
-    let tells : IsLine (end_entity leaf) line = rw found at c.in_ok-octets.ensures.some in
+    let tells : IsInputLine (end_entity leaf) line = rw found at c.in_ok-octets.ensures.some in
     let many : c.len.result ≡ length c.loop-line.cas.items = search rules in
     rw many
     (line_after_leaf c.args.now c.args.strict c.args.anchor before is c.loop-line.cas.items so_far.lines
@@ -44,7 +44,7 @@ returns-in-Some-Last c = λ before is.
     let leaf = c.in-Some-Last.leaf in
     let line = c.in-Some.line.now in
     let found : c.in_ok-octets.field-0 ≡ Some (Last leaf) = search rules in
-    let tells : IsLine (end_entity leaf) line = rw found at c.in_ok-octets.ensures.some in
+    let tells : IsInputLine (end_entity leaf) line = rw found at c.in_ok-octets.ensures.some in
     let heads = subst (λ (anchor : List ℕ). Heads c.args.now c.args.strict anchor before) (sym so_far.kept) is in
     ended_by_leaf c.args.now c.args.strict c.loop-line.anchor before heads c.loop-line.cas.items so_far.lines
     so_far.encoded c.args.text.now c.loop-line.rest.now so_far.so_far leaf line c.in-Some.others.now

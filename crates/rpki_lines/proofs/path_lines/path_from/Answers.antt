@@ -1,5 +1,5 @@
 use Rattle.std.proofs.Common.{◌∷◌, ◌++◌, []}
-use Rattle.rpki_lines.specs.InputLines.{IsLine, at_moment, strictness}
+use Rattle.rpki_lines.specs.InputLines.{IsInputLine, at_moment, strictness}
 use Rattle.rpki_lines.proofs.InputLines.{bad_second, behind_line, if_ok, no_second}
 use Rattle.rpki_path.proofs.LongerPaths.{zip_more}
 use Rattle.rpki_lines.proofs.path_lines.path_from.Goals as goal
@@ -17,5 +17,5 @@ returns c = λ before is.
     let line = c.in-Some.line.now in
     if_ok c.anchor_from.result (λ input read. behind_line before line c.in-Some.rest.now c.args.text.now input c.in-Some.ensures.line read)
     (c.anchor_from.ensures (before ++ line ∷ [])
-    (zip_more IsLine (at_moment c.args.now ∷ []) before (strictness c.in-Some-strictness_from.strict) line is
+    (zip_more IsInputLine (at_moment c.args.now ∷ []) before (strictness c.in-Some-strictness_from.strict) line is
     c.in-Some-strictness_from.ensures.some))

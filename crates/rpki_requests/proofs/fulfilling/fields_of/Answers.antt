@@ -11,7 +11,7 @@ use Rattle.rpki_requests.specs.RequestWords.Views.{asked_fields}
 use Rattle.rpki_requests.proofs.OneFields.{Says, asks_only, asks_none}
 use Rattle.rpki_requests.proofs.OnlyAnswers.{both_only, may_be, when_ok, when_err}
 use Rattle.rpki_requests.specs.RefusedErrands.{HasNoName, IsFieldsFault}
-use Rattle.rpki_requests.specs.ToldRefusals.{IsKeyFault, IsOption}
+use Rattle.rpki_requests.specs.ToldRefusals.{IsKeyFault, IsOptionRefusal}
 use Rattle.rpki_requests.proofs.fulfilling.fields_of.Goals as goal
 
 pub returns-in-Some : goal.returns-in-Some
@@ -20,7 +20,7 @@ returns-in-Some c =
     let keys = contents c.args.keys.now in
     let issuer = option_map (λ (r : Bor ResourceFields). r.now) c.args.issuer in
     let MayBe = IsFieldsFault c.args.kind asked.given keys in
-    let first = may_be (IsOption asked.given) MayBe (GivesWanted asked.given) c.wanted-wanted.result
+    let first = may_be (IsOptionRefusal asked.given) MayBe (GivesWanted asked.given) c.wanted-wanted.result
     (λ why h. inl h) c.wanted-wanted.ensures in
     let second = may_be (IsKeyFault keys) MayBe (IsKeyFile keys) c.subject_key-key.result (λ why h. inr (inl h))
     c.subject_key-key.ensures in
@@ -39,7 +39,7 @@ returns-in-None c =
     let keys = contents c.args.keys.now in
     let issuer = option_map (λ (r : Bor ResourceFields). r.now) c.args.issuer in
     let MayBe = IsFieldsFault c.args.kind asked.given keys in
-    let first = may_be (IsOption asked.given) MayBe (GivesWanted asked.given) c.wanted-wanted.result
+    let first = may_be (IsOptionRefusal asked.given) MayBe (GivesWanted asked.given) c.wanted-wanted.result
     (λ why h. inl h) c.wanted-wanted.ensures in
     let second = may_be (IsKeyFault keys) MayBe (IsKeyFile keys) c.subject_key-key.result (λ why h. inr (inl h))
     c.subject_key-key.ensures in
@@ -63,7 +63,7 @@ returns-in-Err c =
     let asked = asked_fields c.args.order.now in
     let keys = contents c.args.keys.now in
     let MayBe = IsFieldsFault c.args.kind asked.given keys in
-    let first = may_be (IsOption asked.given) MayBe (GivesWanted asked.given) c.wanted-wanted.result
+    let first = may_be (IsOptionRefusal asked.given) MayBe (GivesWanted asked.given) c.wanted-wanted.result
     (λ why h. inl h) c.wanted-wanted.ensures in
     let second = may_be (IsKeyFault keys) MayBe (IsKeyFile keys) c.subject_key-key.result (λ why h. inr (inl h))
     c.subject_key-key.ensures in

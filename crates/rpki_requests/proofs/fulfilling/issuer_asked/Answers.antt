@@ -4,7 +4,7 @@ use Rattle.rpki_cert.specs.Verification.{ResourceFields}
 use Rattle.rpki_files.specs.Files.{contents}
 use Rattle.rpki_requests.specs.Fulfilment.{context_of}
 use Rattle.rpki_requests.specs.Refusals.{TellsPath}
-use Rattle.rpki_requests.specs.RequestFiles.{IsIssuerOf, IsOnlyIssuer}
+use Rattle.rpki_requests.specs.RequestFiles.{IsRequestIssuer, IsOnlyIssuer}
 use Rattle.rpki_requests.specs.RequestWords.Views.{asked_fields}
 use Rattle.rpki_requests.specs.declared.refusals.Refusal.TheVariants.{Memory}
 use Rattle.rpki_requests.proofs.fulfilling.issuer_asked.Goals as goal
@@ -14,8 +14,8 @@ returns-clause-issuer c =
     let x = context_of (asked_fields c.args.order.now) c.args.at in
     let issuers : contents c.inputs.inside.issuers.now ≡ c.args.inputs.now.issuers = search rules in
     let lists : contents c.inputs.inside.lists.now ≡ c.args.inputs.now.lists = search rules in
-    subst (λ (l : List (List ℕ)). IfOk c.issuer_of.result (IsIssuerOf x c.args.inputs.now.issuers l)) lists
-    (subst (λ (f : List (List ℕ)). IfOk c.issuer_of.result (IsIssuerOf x f (contents c.inputs.inside.lists.now)))
+    subst (λ (l : List (List ℕ)). IfOk c.issuer_of.result (IsRequestIssuer x c.args.inputs.now.issuers l)) lists
+    (subst (λ (f : List (List ℕ)). IfOk c.issuer_of.result (IsRequestIssuer x f (contents c.inputs.inside.lists.now)))
     issuers c.issuer_of.ensures.issuer)
 
 pub returns-clause-only : goal.returns-clause-only
@@ -33,9 +33,9 @@ returns-clause-none c =
     let issuers : contents c.inputs.inside.issuers.now ≡ c.args.inputs.now.issuers = search rules in
     let lists : contents c.inputs.inside.lists.now ≡ c.args.inputs.now.lists = search rules in
     subst (λ (l : List (List ℕ)). IfErr c.issuer_of.result (λ why. why ≢ Memory → (issuer : Option ResourceFields) →
-    IsIssuerOf x c.args.inputs.now.issuers l issuer → ⊥)) lists
+    IsRequestIssuer x c.args.inputs.now.issuers l issuer → ⊥)) lists
     (subst (λ (f : List (List ℕ)). IfErr c.issuer_of.result (λ why. why ≢ Memory →
-    (issuer : Option ResourceFields) → IsIssuerOf x f (contents c.inputs.inside.lists.now) issuer →
+    (issuer : Option ResourceFields) → IsRequestIssuer x f (contents c.inputs.inside.lists.now) issuer →
     ⊥)) issuers c.issuer_of.ensures.none)
 
 pub returns-clause-told : goal.returns-clause-told

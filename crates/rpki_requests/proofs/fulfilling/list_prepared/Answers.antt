@@ -2,7 +2,7 @@ use Rattle.std.specs.Prelude.{Err, Some, None, Option}
 use Rattle.std.proofs.Common.{◌≡◌, inl, inr, refl, rules, subst}
 use Rattle.rpki_cert.specs.Verification.{ResourceFields}
 use Rattle.rpki_requests.specs.Fulfilment.{PreparesList, context_of}
-use Rattle.rpki_requests.specs.RequestFiles.{AreOneIssuer, IsIssuerOf}
+use Rattle.rpki_requests.specs.RequestFiles.{AreOneIssuer, IsRequestIssuer}
 use Rattle.rpki_requests.specs.RequestWords.Views.{asked_fields}
 use Rattle.rpki_requests.proofs.AskedLists.{list_prepares_moved, none_to_sign}
 use Rattle.rpki_requests.proofs.fulfilling.list_prepared.Goals as goal
@@ -38,7 +38,7 @@ pub returns-in_default-clause-so : goal.returns-in_default-clause-so
 returns-in_default-clause-so c =
     let x = context_of (asked_fields c.args.order.now) c.args.at in
     let inputs = c.args.inputs.now in
-    let none = subst (λ (o : Option ResourceFields). IsIssuerOf x inputs.issuers inputs.lists o) c.in_default.is
+    let none = subst (λ (o : Option ResourceFields). IsRequestIssuer x inputs.issuers inputs.lists o) c.in_default.is
     c.in_ok-issuer.ensures.issuer in
     inr (record { issuer = None; issuer_is = none; is_so = refl })
 
@@ -46,7 +46,7 @@ pub returns-in_err-octets-clause-so : goal.returns-in_err-octets-clause-so
 returns-in_err-octets-clause-so c =
     let x = context_of (asked_fields c.args.order.now) c.args.at in
     let inputs = c.args.inputs.now in
-    let one = subst (λ (o : Option ResourceFields). IsIssuerOf x inputs.issuers inputs.lists o) c.in-Some.is
+    let one = subst (λ (o : Option ResourceFields). IsRequestIssuer x inputs.issuers inputs.lists o) c.in-Some.is
     c.in_ok-issuer.ensures.issuer in
     let same : c.from_residual-in_err-octets.result ≡ Err c.in_err-octets.field-0.0 = search rules in
     rw same (inr (record { issuer = Some c.in-Some.issuer; issuer_is = one; is_so = c.in_err-octets.ensures.so }))

@@ -1,6 +1,6 @@
 use Rattle.std.specs.Prelude.{Err, Some, map}
 use Rattle.std.proofs.Common.{◌≡◌, rules}
-use Rattle.rpki_requests.specs.RequestWords.{values_of}
+use Rattle.rpki_requests.specs.RequestWords.{given_values}
 use Rattle.rpki_requests.specs.RequestWords.Views.{given_fields}
 use Rattle.rpki_requests.proofs.GivenWants.{once_ok}
 use Rattle.rpki_requests.proofs.values.once.Goals as goal
@@ -12,5 +12,5 @@ returns-in_err-value g c =
 
 pub returns-in-Some : goal.returns-in-Some
 returns-in-Some g c =
-    once_ok g.T.Textual.is_text (values_of c.args.setting (map given_fields c.args.order.now.given.items))
+    once_ok g.T.Textual.is_text (given_values c.args.setting (map given_fields c.args.order.now.given.items))
     c.in-Some.value (rw c.in-Some.is at c.in_ok-value.ensures)

@@ -1,6 +1,6 @@
 use Rattle.std.specs.Prelude.{map}
 use Rattle.std.proofs.Common.{◌<◌, length, arith, below_more}
-use Rattle.rpki_requests.specs.RequestWords.{Meets, demand, values_of}
+use Rattle.rpki_requests.specs.RequestWords.{Meets, demand, given_values}
 use Rattle.rpki_requests.specs.RequestWords.Views.{given_fields}
 use Rattle.rpki_requests.proofs.GivenValues.{counted, met, unmet}
 use Rattle.rpki_requests.proofs.Settings.{of_each}
@@ -28,5 +28,5 @@ loop-setting-preserved c =
 pub returns-clause-wrong : goal.returns-clause-wrong
 returns-clause-wrong c =
     of_each (λ setting. Meets (demand setting c.args.asked.now.errand)
-    (length (values_of setting (map given_fields c.args.asked.now.given.items))))
+    (length (given_values setting (map given_fields c.args.asked.now.given.items))))
     (λ k low. let before : k < c.loop-setting.setting-index = omega arith in c.loop-setting.invariant k before)

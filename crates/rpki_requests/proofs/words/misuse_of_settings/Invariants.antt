@@ -1,7 +1,7 @@
 use Rattle.std.specs.Prelude.{map}
 use Rattle.std.proofs.Common.{◌<◌, ℕ, get_or, length}
 use Rattle.rpki_requests.specs.declared.words.Setting.TheVariants.{Issuer}
-use Rattle.rpki_requests.specs.RequestWords.{Meets, demand, values_of}
+use Rattle.rpki_requests.specs.RequestWords.{Meets, demand, given_values}
 use Rattle.rpki_requests.specs.RequestWords.Views.{given_fields}
 use Rattle.rpki_requests.proofs.Settings.{settings}
 use Rattle.rpki_requests.proofs.words.misuse_of_settings.Given as goal
@@ -10,4 +10,4 @@ use Rattle.rpki_requests.proofs.words.misuse_of_settings.Given as goal
 abbrev pub invariant-loop-setting : goal.invariant-loop-setting
 invariant-loop-setting l = (k : ℕ) → k < l.setting-index →
     Meets (demand (get_or settings k Issuer) l.asked.errand)
-    (length (values_of (get_or settings k Issuer) (map given_fields l.asked.given.items)))
+    (length (given_values (get_or settings k Issuer) (map given_fields l.asked.given.items)))

@@ -1,7 +1,7 @@
 use Rattle.std.proofs.Common.{◌+◌, ℕ, List, arith, take, sym, subst}
 use Rattle.rpki_files.specs.Files.{FileFields}
 use Rattle.rpki_path.proofs.LatestLists.{gone_over}
-use Rattle.rpki_verdicts.specs.Damage.{AreCounted, IsBrokenList}
+use Rattle.rpki_verdicts.specs.Damage.{AreSoMany, IsBrokenList}
 use Rattle.rpki_verdicts.proofs.CountedFiles.{all_counted, none_counted, one_counted}
 use Rattle.rpki_verdicts.proofs.damage.count_broken_lists.Goals as goal
 use Rattle.rpki_verdicts.proofs.damage.count_broken_lists.Goals.{then-is_broken_list, else-is_broken_list}
@@ -15,16 +15,16 @@ loop-file-preserved c =
     elim c.if-is_broken_list.branch [
       | then-is_broken_list w ↦ record {
         counted =
-            subst (λ (n : ℕ). AreCounted IsBrokenList (take (i + 1) files) n) (sym w.count-is)
-            (subst (λ (l : List FileFields). AreCounted IsBrokenList l (c.loop-file.count + 1)) seen
+            subst (λ (n : ℕ). AreSoMany IsBrokenList (take (i + 1) files) n) (sym w.count-is)
+            (subst (λ (l : List FileFields). AreSoMany IsBrokenList l (c.loop-file.count + 1)) seen
             (one_counted IsBrokenList (take i files) file c.loop-file.count c.is_broken_list.result
             c.is_broken_list.ensures c.loop-file.invariant.counted w.if-is_broken_list.true));
         few = omega (arith, w.count-is, c.loop-file.invariant.few);
       }
       | else-is_broken_list w ↦ record {
         counted =
-            subst (λ (n : ℕ). AreCounted IsBrokenList (take (i + 1) files) n) (sym w.count-is)
-            (subst (λ (l : List FileFields). AreCounted IsBrokenList l c.loop-file.count) seen
+            subst (λ (n : ℕ). AreSoMany IsBrokenList (take (i + 1) files) n) (sym w.count-is)
+            (subst (λ (l : List FileFields). AreSoMany IsBrokenList l c.loop-file.count) seen
             (none_counted IsBrokenList (take i files) file c.loop-file.count c.is_broken_list.result
             c.is_broken_list.ensures c.loop-file.invariant.counted w.if-is_broken_list.false));
         few = omega (arith, w.count-is, c.loop-file.invariant.few);

@@ -7,17 +7,17 @@ use Rattle.rpki_cert.specs.Verification.{context}
 use Rattle.rpki_keys.specs.RsaSignatures.{IsSignedByRsa}
 use Rattle.rpki_path.specs.AskedLists.{by_named_lists}
 use Rattle.rpki_folder.specs.FirstPlaces.{AreFirstsIn, IsFirstIn}
-use Rattle.rpki_folder.specs.Folders.{octets_at}
+use Rattle.rpki_folder.specs.Folders.{string_at}
 use Rattle.rpki_folder.specs.FoundAnchors.{IsAnchorAt}
 use Rattle.rpki_folder.specs.LimitTables.{IsTableOf}
 use Rattle.rpki_folder.specs.ReachedLimits.{AreLimited, AreLimitedFrom}
-use Rattle.rpki_folder.specs.Walks.{IsLookedAt, Tells, TellsFrom, at_anchor}
+use Rattle.rpki_folder.specs.Walks.{IsLookedAt, TellsWithin, TellsFrom, at_anchor}
 use Rattle.rpki_folder.specs.declared.anchors.WrongCandidate.{WrongCandidate}
 use Rattle.rpki_folder.specs.declared.walk_error.WalkError.{WalkError}
 use Rattle.rpki_folder.proofs.AnchorSteps.{anchor_is}
 use Rattle.rpki_files.specs.Files.{FileFields}
 use Rattle.rpki_verdicts.specs.Trees.{asked_of}
-use Rattle.rpki_verdicts.specs.Trees.Steps.{IsToldOf}
+use Rattle.rpki_verdicts.specs.Trees.Steps.{IsCandidateTold}
 use Rattle.rpki_verdicts.proofs.FilesAt.{file_there, octets_there}
 use Rattle.rpki_verdicts.proofs.WrongFiles.{none_found}
 use Rattle.rpki_verdicts.proofs.unordered.grown.Goals as goal
@@ -30,9 +30,9 @@ returns-in_ok-wrong-in-Wrong c = λ l read.
     let candidates = c.in-Wrong.candidates.items in
     let found = rw c.in-Wrong.is at c.in_ok-candidates.ensures in
     let ws = c.in_ok-wrong-in-Wrong.field-0.items in
-    let of_certs = subst (λ (l : List _). AllZip (IsToldOf (map (λ f. f.now) l)) c.deref-in-Wrong.result.now ws)
+    let of_certs = subst (λ (l : List _). AllZip (IsCandidateTold (map (λ f. f.now) l)) c.deref-in-Wrong.result.now ws)
     c.deref.ensures.value c.in_ok-wrong-in-Wrong.ensures in
-    let told = subst (λ (cs : List WrongCandidate). AllZip (IsToldOf files) cs ws) c.deref-in-Wrong.ensures.value of_certs in
+    let told = subst (λ (cs : List WrongCandidate). AllZip (IsCandidateTold files) cs ws) c.deref-in-Wrong.ensures.value of_certs in
     none_found files x (asked_of q) l c.args.tal.now c.args.folder.now c.requires read candidates found.0 found.1 ws told
 
 pub returns-in_ok-walk-in-Valid : goal.returns-in_ok-walk-in-Valid
@@ -46,12 +46,12 @@ returns-in_ok-walk-in-Valid c = λ l read.
     let place = c.in-Valid.anchor in
     let issuer = c.in-Valid.issuer in
     let found = rw c.in-Valid.is at c.in_ok-candidates.ensures in
-    let octets = octets_at folder.certs place in
+    let octets = string_at folder.certs place in
     let same_certs = c.requires.octets_are in
     let inside = found.1.valid.inside in
     let low : place < length files = omega (arith, inside, ap length same_certs, length-map files (λ (f : FileFields). f.octets)) in
     let file = file_there files place low in
-    let same : octets ≡ file.0.octets = ap (λ (o : List (List ℕ)). octets_at o place) same_certs ∙ octets_there files place file.0 file.1 in
+    let same : octets ≡ file.0.octets = ap (λ (o : List (List ℕ)). string_at o place) same_certs ∙ octets_there files place file.0 file.1 in
     let root = at_anchor t octets in
     let firsts = c.in_ok-firsts-in-Valid.firsts in
     let told = c.in_ok-walk-in-Valid.ensures.tells in
@@ -63,7 +63,7 @@ returns-in_ok-walk-in-Valid c = λ l read.
     let law = c.unambiguous.ensures.certificate in
     let from : TellsFrom {E = WalkError} x asked q.names (IsFirstIn firsts) t octets folder.certs q.depth q.steps (Ok walk.ended) told.0 =
     λ top begins.
-    subst (λ (d : CertFields). Tells {E = WalkError} x asked (IsLookedAt q.names (IsFirstIn firsts) d folder.certs)
+    subst (λ (d : CertFields). TellsWithin {E = WalkError} x asked (IsLookedAt q.names (IsFirstIn firsts) d folder.certs)
     root folder.certs [] q.depth q.steps (Ok walk.ended) told.0)
     (anchor_is x asked t octets issuer found.0 law top begins)
     (record {

@@ -4,7 +4,7 @@ use Rattle.std.proofs.lemmas.List.{take_all}
 use Rattle.std.proofs.lemmas.List.Elements.{All-from_recursion}
 use Rattle.rpki_folder.specs.declared.anchors.WrongCandidate.{WrongCandidate}
 use Rattle.rpki_path.proofs.LatestLists.{gone_over}
-use Rattle.rpki_verdicts.specs.Trees.Steps.{IsToldOf}
+use Rattle.rpki_verdicts.specs.Trees.Steps.{IsCandidateTold}
 use Rattle.rpki_verdicts.specs.declared.unordered.WrongAnchor.{WrongAnchor}
 use Rattle.rpki_verdicts.proofs.unordered.told_of_each.Goals as goal
 
@@ -25,7 +25,7 @@ told_of-requires c =
 
 pub loop-candidate-preserved : goal.loop-candidate-preserved
 loop-candidate-preserved c =
-    let R = IsToldOf (map (λ f. f.now) c.args.certs.now) in
+    let R = IsCandidateTold (map (λ f. f.now) c.args.certs.now) in
     let candidates = c.args.candidates.now in
     let i = c.loop-candidate.candidate-index in
     let one = c.candidate-item.result in
@@ -37,7 +37,7 @@ loop-candidate-preserved c =
 
 pub returns : goal.returns
 returns c =
-    let R = IsToldOf (map (λ f. f.now) c.args.certs.now) in
+    let R = IsCandidateTold (map (λ f. f.now) c.args.certs.now) in
     subst (λ (cs : List WrongCandidate). AllZip R cs c.loop-candidate.wrong.items)
     (take_all c.loop-candidate.candidate-index c.args.candidates.now c.loop-candidate-test.false)
     c.loop-candidate.invariant

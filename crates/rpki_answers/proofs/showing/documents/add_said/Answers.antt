@@ -2,7 +2,7 @@ use Rattle.std.proofs.Common.{refl}
 use Rattle.std.proofs.lemmas.Result.{IfOk-weaker}
 use Rattle.rpki_document.proofs.Built.{ended_some}
 use Rattle.rpki_answers.specs.declared.showing.subjects.Subject.TheVariants.{List, Unread}
-use Rattle.rpki_answers.specs.ShownFiles.{IsSaid, no_tal_nodes, tal_nodes, unread_nodes, whole_list_nodes}
+use Rattle.rpki_answers.specs.ShownFiles.{IsSaidOfFile, no_tal_nodes, tal_nodes, unread_nodes, whole_list_nodes}
 use Rattle.rpki_answers.proofs.showing.documents.add_said.Goals as goal
 
 pub add_whole_certificate-requires : goal.add_whole_certificate-requires
@@ -15,7 +15,7 @@ pub returns-in-List : goal.returns-in-List
 returns-in-List c =
     let o = c.args.options.now in
     let list = c.in-List.list in
-    rw c.in-List.is (ended_some c.add_whole_list.result (IsSaid o c.args.object.now (List list c.in-List.left))
+    rw c.in-List.is (ended_some c.add_whole_list.result (IsSaidOfFile o c.args.object.now (List list c.in-List.left))
     (whole_list_nodes o list.now.list.fields c.in-List.left) c.args.parts.now.items c.add_whole_list.new.parts.items refl
     c.add_whole_list.ensures)
 
@@ -46,5 +46,5 @@ pub returns-in-Unread : goal.returns-in-Unread
 returns-in-Unread c =
     let o = c.args.options.now in
     let it = c.in-Unread.it in
-    rw c.in-Unread.is (ended_some c.add_unread.result (IsSaid o c.args.object.now (Unread it)) (unread_nodes o.all it)
+    rw c.in-Unread.is (ended_some c.add_unread.result (IsSaidOfFile o c.args.object.now (Unread it)) (unread_nodes o.all it)
     c.args.parts.now.items c.add_unread.new.parts.items refl c.add_unread.ensures)

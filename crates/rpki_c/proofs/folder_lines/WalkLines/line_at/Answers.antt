@@ -1,12 +1,12 @@
 use Rattle.std.proofs.Common.{◌≡◌, ◌∙◌, ℕ, ◌<◌, List, length, get_or, sym, ap, subst}
 use Rattle.std.proofs.lemmas.List.{get_or_read}
-use Rattle.rpki_folder.specs.Folders.{octets_at}
+use Rattle.rpki_folder.specs.Folders.{string_at}
 use Rattle.rpki_folder.specs.declared.folder.Added.{Added}
 use Rattle.rpki_folder.specs.declared.folder.Added.TheVariants.{Certificate, Neither}
 use Rattle.rpki_c.specs.FolderFates.{Fate}
-use Rattle.rpki_c.specs.FolderFates.Steps.{added_fate, added_reached, cert_fate, fate_at, origin_of, reached_at}
+use Rattle.rpki_c.specs.FolderFates.Steps.{added_fate, added_reached, cert_fate, fate_at, origin_of, line_reached_at}
 use Rattle.rpki_c.specs.FolderLimits.{TellsReached}
-use Rattle.rpki_c.specs.FolderTelling.{IsLineOf}
+use Rattle.rpki_c.specs.FolderTelling.{IsFateLine}
 use Rattle.rpki_folder.specs.declared.limits.Reached.{Reached}
 use Rattle.rpki_c.proofs.HeldLines.{line_with}
 use Rattle.rpki_c.proofs.SortedMore.{filed_at}
@@ -37,15 +37,16 @@ returns-in_ok-line-in-Certificate-clause-line c =
     c.in-Certificate.is in
     let filed = filed_at s c.requires.sorted place at c.requires.inside read in
     let fate : cert_fate w at ≡ fate_at w place = sym (ap (λ (a : Added). added_fate w a) read) in
-    let reached : c.reached.result ≡ reached_at w place = c.reached.ensures ∙
+    let reached : c.reached.result ≡ line_reached_at w place = c.reached.ensures ∙
     sym (ap (λ (a : Added). added_reached w a) read) in
     let ranges = c.cert_line.new.ranges in
     let line = c.in_ok-line-in-Certificate.line in
     let told = c.with_limits.result in
-    line_with c.args.asks_key top (octets_at s.strings.now place) ranges (fate_at w place) (reached_at w place) line
+    line_with c.args.asks_key top (string_at s.strings.now place) ranges (fate_at w place) (line_reached_at w place)
+    line
     told
-    (subst (λ (f : Fate). IsLineOf c.args.asks_key top (octets_at s.strings.now place) f ranges line) fate
-    (subst (λ (o : List ℕ). IsLineOf c.args.asks_key top o (cert_fate w at) ranges line) filed.1
+    (subst (λ (f : Fate). IsFateLine c.args.asks_key top (string_at s.strings.now place) f ranges line) fate
+    (subst (λ (o : List ℕ). IsFateLine c.args.asks_key top o (cert_fate w at) ranges line) filed.1
     c.in_ok-line-in-Certificate.ensures.line))
     c.with_limits.ensures.line
     (subst (λ (r : Reached). TellsReached r told) reached c.with_limits.ensures.limits)

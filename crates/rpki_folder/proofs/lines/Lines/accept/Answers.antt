@@ -3,7 +3,7 @@ use Rattle.std.proofs.Common.{◌∙◌, ◌<◌, ◌∷◌, ◌++◌, List, [],
 use Rattle.std.proofs.Math.ListN.{set}
 use Rattle.std.proofs.lemmas.List.{length-set}
 use Rattle.rpki_folder.specs.KeptLines.{AreLines, IsLine}
-use Rattle.rpki_folder.specs.Walks.{Told, told}
+use Rattle.rpki_folder.specs.Walks.{Told, told_at}
 use Rattle.rpki_folder.specs.declared.lines.Line.{Line}
 use Rattle.rpki_folder.proofs.KeptLineSteps.{err_gives, line_again, line_set, ok_gives}
 use Rattle.rpki_folder.proofs.lines.Lines.accept.Goals as goal
@@ -21,7 +21,7 @@ returns c =
     (kept ts old place c.index_mut.result.now low) in
     record {
       ok = λ ts old.
-          let t = told c.args.above.now place (Ok c.args.accepted.now) in
+          let t = told_at c.args.above.now place (Ok c.args.accepted.now) in
           ok_gives (IsLine (ts ++ t ∷ []) place new) (AreLines (ts ++ t ∷ []) (set lines place new)) c.accept.result
           (line_set ts t lines new low (kept ts old)) (c.accept.ensures.ok ts place (here ts old));
       count = length-set lines place new ∙ ap length c.self.view_is;

@@ -2,7 +2,7 @@ use Rattle.std.proofs.Common.{◌≡◌, ◌<◌, List, [], ◌∷◌, ◌++◌,
 use Rattle.std.proofs.lemmas.Bool.{false≢true}
 use Rattle.std.proofs.lemmas.List.{length-set}
 use Rattle.rpki_folder.specs.KeptLines.{IsLine, AreLines}
-use Rattle.rpki_folder.specs.Walks.{told}
+use Rattle.rpki_folder.specs.Walks.{told_at}
 use Rattle.rpki_folder.specs.declared.lines.Line.{Line}
 use Rattle.rpki_folder.proofs.KeptLineSteps.{line_set, line_kept, kept_line, new_line, at_place}
 use Rattle.rpki_folder.proofs.lines.Lines.reject.Goals as goal
@@ -14,7 +14,7 @@ returns-then-stays c = record {
       let place = c.args.place in
       let above = c.args.above.now in
       let fault = c.args.fault in
-      let t = told above place (Err fault) in
+      let t = told_at above place (Err fault) in
       line_kept ts t lines old (λ d low h.
       let at : get_or lines place d ≡ c.index.result.now = at_place c.self.inside.lines.items lines place
       c.index.result.now c.self.view_is c.index.ensures low d in
@@ -31,7 +31,7 @@ returns c = record {
       let place = c.args.place in
       let above = c.args.above.now in
       let fault = c.args.fault in
-      let t = told above place (Err fault) in
+      let t = told_at above place (Err fault) in
       let low : place < length lines = subst (λ (l : List Line). place < length l) (sym c.self.view_is) c.requires in
       let kept : AreLines ts lines = subst (λ (l : List Line). AreLines ts l) (sym c.self.view_is) old in
       let now = c.index.result.now in

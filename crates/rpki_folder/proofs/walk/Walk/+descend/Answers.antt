@@ -16,7 +16,7 @@ use Rattle.rpki_folder.specs.Folders.{IsOnce}
 use Rattle.rpki_folder.specs.IssuerTables.{IsKeptOf}
 use Rattle.rpki_folder.specs.Walks.{Told, TellsBelow, StandsAt, IsLastOf, IsLookedAt, IsChildOf}
 use Rattle.rpki_folder.specs.declared.issuers.Issuer.{Issuer}
-use Rattle.rpki_folder.specs.ReachedLimits.{IsNumber}
+use Rattle.rpki_folder.specs.ReachedLimits.{IsToldNumber}
 use Rattle.rpki_folder.specs.ReachedLimits.Steps.{CostIs, KeepsBelow, KeepsBelowEach}
 use Rattle.rpki_folder.specs.Walks.Steps.{AreJudged, WalksBelowEach}
 use Rattle.rpki_folder.proofs.KeptIssuers.{kept_at}
@@ -358,7 +358,7 @@ descend-returns-then-len-share-clause-limits g t c =
     keeps_short x asked looks certs above c.args.depth c.args.share law issuer children kids.1
     c.args.trail.now.limits c.reach-then-len-share.new.self.limits low short
     c.needed.result
-    (λ base factor cost. subst (λ (n : ℕ). IsNumber c.needed.result (base + factor * n)) one
+    (λ base factor cost. subst (λ (n : ℕ). IsToldNumber c.needed.result (base + factor * n)) one
     (c.needed.ensures base factor cost)) c.reach-then-len-share.ensures.counted
 
 pub descend-judge_children-requires : goal.descend-judge_children-requires

@@ -3,7 +3,7 @@ use Rattle.std.specs.declared.alloc.AllocError.{AllocError}
 use Rattle.std.proofs.Common.{◌≡◌, ◌+◌, ◌*◌, List, ◌++◌, take}
 use Rattle.rpki_cert.specs.Verification.{context}
 use Rattle.rpki_path.specs.AskedLists.{by_named_lists}
-use Rattle.rpki_folder.specs.IssuerTables.{AreKept}
+use Rattle.rpki_folder.specs.IssuerTables.{AreIssuersKept}
 use Rattle.rpki_folder.specs.Walks.{Told, IsLookedAt}
 use Rattle.rpki_folder.specs.Walks.Steps.{WalksBelowEach}
 use Rattle.rpki_folder.specs.ReachedLimits.Steps.{KeepsBelowEach}
@@ -21,7 +21,7 @@ invariant-each_below-loop-ca g l =
     let x = context (g.V.Verifier.verifies w.verifier.now) w.at w.strict in
     let above = l.fn.trail.above.items in
     (l.trail.above.items ≡ above)
-    × AreKept w.names x w.folder.now l.issuers
+    × AreIssuersKept w.names x w.folder.now l.issuers
     × ((v : _) (ts : List Told) → g.W.Visitor.became v ts l.fn.visitor →
     (more : List Told) × g.W.Visitor.became v (ts ++ more) l.visitor
     × WalksBelowEach {E = AllocError} x (by_named_lists w.names x w.folder.now.lists)

@@ -4,7 +4,7 @@ use Rattle.rpki_cert.specs.Certificates.{CertFields}
 use Rattle.rpki_cert.specs.Verification.{Context, context}
 use Rattle.rpki_path.specs.Asking.{RevocationChecks}
 use Rattle.rpki_path.specs.AskedLists.{by_named_lists}
-use Rattle.rpki_folder.specs.Walks.{Root, at_anchor, Told, Tells, IsShort, IsTooDeep, IsComplete}
+use Rattle.rpki_folder.specs.Walks.{Root, at_anchor, Told, TellsWithin, IsShort, IsTooDeep, IsComplete}
 use Rattle.rpki_folder.specs.Walks.{IsCompleteInShares, IsJudgedInShares, IsEnough, IsLookedAt}
 use Rattle.rpki_folder.specs.LimitTables.{HasReached}
 use Rattle.rpki_folder.specs.ReachedLimits.{AreLimited, ended_of}
@@ -44,7 +44,7 @@ returns-in_err-walked-clause-tells g c =
           let is = anchor_is x asked c.args.tal.now c.args.anchor.now c.in_ok-issuer.issuer leads
           c.unambiguous.ensures.certificate top begins in
           subst (λ (d : CertFields).
-          Tells x asked (IsLookedAt w.names (g.A.Admission.admits w.admission.now) d certs) root certs []
+          TellsWithin x asked (IsLookedAt w.names (g.A.Admission.admits w.admission.now) d certs) root certs []
           w.bounds.depth w.bounds.steps (ended_of c.from_residual-in_err-walked.result) b.0) is
           (record {
             right = t.right;
@@ -80,10 +80,10 @@ returns-in_err-walked-clause-tells g c =
 
 under : {E : Type 0} (x : Context) (asked : RevocationChecks) (looked : CertFields → List ℕ → ℕ → Type 0)
     (root : Root) (certs : List (List ℕ)) (depth steps : ℕ) (result : Result Ended E) (ts : List Told)
-    (one other : CertFields) → one ≡ other → Tells x asked (looked one) root certs [] depth steps result ts →
-    Tells x asked (looked other) root certs [] depth steps result ts
+    (one other : CertFields) → one ≡ other → TellsWithin x asked (looked one) root certs [] depth steps result ts →
+    TellsWithin x asked (looked other) root certs [] depth steps result ts
 under x asked looked root certs depth steps result ts one other is t =
-    subst (λ (d : CertFields). Tells x asked (looked d) root certs [] depth steps result ts) is t
+    subst (λ (d : CertFields). TellsWithin x asked (looked d) root certs [] depth steps result ts) is t
 
 pub returns-clause-tells : goal.returns-clause-tells
 returns-clause-tells g c =

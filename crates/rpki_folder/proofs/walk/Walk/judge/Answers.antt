@@ -5,7 +5,7 @@ use Rattle.rpki_parts.specs.Keys.{KeyFields}
 use Rattle.rpki_parts.specs.SignedDatas.{SignedFields}
 use Rattle.rpki_cert.specs.Certificates.{TbsFields, CertFields, IsCertificate}
 use Rattle.rpki_cert.specs.Verification.{IsSignedBy}
-use Rattle.rpki_folder.specs.Folders.{octets_at}
+use Rattle.rpki_folder.specs.Folders.{string_at}
 use Rattle.rpki_folder.specs.Walks.{StandsAt}
 use Rattle.rpki_folder.proofs.StepAnswers.{octets_here}
 use Rattle.rpki_folder.proofs.walk.Walk.judge.Goals as goal
@@ -16,7 +16,7 @@ new-known-requires g c =
     let verifies = g.V.Verifier.verifies w.verifier.now in
     let certs = w.folder.now.certs in
     let place = c.args.place in
-    let here : c.index-certs-place.result ≡ octets_at certs place = octets_here certs c.certs.result.now place
+    let here : c.index-certs-place.result ≡ string_at certs place = octets_here certs c.certs.result.now place
     c.index-certs-place.result c.certs.ensures c.index-certs-place.is c.requires.place in
     let cert = c.in_ok-cert.cert in
     let stands : StandsAt certs place cert = subst (λ (o : List ℕ). Means IsCertificate cert o) here

@@ -9,8 +9,8 @@ use Rattle.rpki_cert.specs.Certificates.{CertFields, IsCertificate}
 use Rattle.rpki_cert.specs.Verification.{context, ResourceFields, IsSignedBy}
 use Rattle.rpki_path.specs.AskedLists.{by_named_lists}
 use Rattle.rpki_folder.specs.declared.walk.Ca.{Ca}
-use Rattle.rpki_folder.specs.Folders.{octets_at}
-use Rattle.rpki_folder.specs.Walks.{Told, told}
+use Rattle.rpki_folder.specs.Folders.{string_at}
+use Rattle.rpki_folder.specs.Walks.{Told, told_at}
 use Rattle.rpki_folder.specs.Walks.Steps.{IsOutcome, AreJudged, IsToldOf}
 use Rattle.rpki_folder.proofs.Descent.{all_append, if_err}
 use Rattle.rpki_folder.proofs.OnceLists.{once_apart}
@@ -48,7 +48,7 @@ judge-requires g c =
       place = c.requires.inside place at;
       kept = c.requires.kept;
       signed = λ d stands.
-          let same = one_meant IsCertificate c.unambiguous.ensures.certificate child.cert d (octets_at certs place)
+          let same = one_meant IsCertificate c.unambiguous.ensures.certificate child.cert d (string_at certs place)
           child.stands stands in (
             (λ yes. subst (λ (e : CertFields). IsSignedBy verifies issuer.fields.key e.signed_data) same
                 child.signed),
@@ -70,9 +70,9 @@ loop-place-preserved-in_default g c = λ v ts heard.
     let cas = c.loop-place.cas.items in
     let i = c.loop-place.invariant v ts heard in
     let o = c.in_ok-next.ensures.ok v (ts ++ i.0) i.1 in
-    let item = told above place o.0 in
-    let outcome : IsOutcome x asked issuer (octets_at certs place) o.0 None =
-    subst (λ (n : Option ResourceFields). IsOutcome x asked issuer (octets_at certs place) o.0 n)
+    let item = told_at above place o.0 in
+    let outcome : IsOutcome x asked issuer (string_at certs place) o.0 None =
+    subst (λ (n : Option ResourceFields). IsOutcome x asked issuer (string_at certs place) o.0 n)
     c.in_default.is o.2 in
     let count : length (i.0 ++ item ∷ []) ≡ length i.0 + 1 = length-append i.0 (item ∷ []) in (
       i.0 ++ item ∷ [],
@@ -101,9 +101,9 @@ loop-place-preserved g c = λ v ts heard.
     let one : Ca = record { place = place; holder = holder } in
     let i = c.loop-place.invariant v ts heard in
     let o = c.in_ok-next.ensures.ok v (ts ++ i.0) i.1 in
-    let item = told above place o.0 in
-    let outcome : IsOutcome x asked issuer (octets_at certs place) o.0 (Some holder) =
-    subst (λ (n : Option ResourceFields). IsOutcome x asked issuer (octets_at certs place) o.0 n) c.in-Some.is
+    let item = told_at above place o.0 in
+    let outcome : IsOutcome x asked issuer (string_at certs place) o.0 (Some holder) =
+    subst (λ (n : Option ResourceFields). IsOutcome x asked issuer (string_at certs place) o.0 n) c.in-Some.is
     o.2 in
     let count : length (i.0 ++ item ∷ []) ≡ length i.0 + 1 = length-append i.0 (item ∷ []) in (
       i.0 ++ item ∷ [],
@@ -132,7 +132,7 @@ returns-in_err-push g c = λ v ts heard.
     let place = get_or children index 0 in
     let i = c.loop-place.invariant v ts heard in
     let o = c.in_ok-next.ensures.ok v (ts ++ i.0) i.1 in
-    let item = told above place o.0 in
+    let item = told_at above place o.0 in
     let count : length (i.0 ++ item ∷ []) ≡ length i.0 + 1 = length-append i.0 (item ∷ []) in (
       i.0 ++ item ∷ [],
       subst (λ (l : List Told). g.W.Visitor.became v l c.judge.new.visitor) (append_assoc ts i.0 (item ∷ [])) o.1,

@@ -5,7 +5,7 @@ use Rattle.rpki_cert.specs.declared.inspect.Kind.TheVariants.{Authority, EndEnti
 use Rattle.rpki_cert.specs.Verification.{ResourceFields}
 use Rattle.rpki_path.specs.declared.judging.Judged.{Judged}
 use Rattle.rpki_path.specs.declared.path_fault.PathFault.{PathFault}
-use Rattle.rpki_folder.specs.Folders.{octets_at}
+use Rattle.rpki_folder.specs.Folders.{string_at}
 use Rattle.rpki_cert.specs.SaidKinds.{SaysKind, BeginsWithKind}
 use Rattle.rpki_folder.specs.Walks.Steps.{GoesOn, Hands}
 use Rattle.rpki_folder.proofs.StepAnswers.{octets_here}
@@ -25,13 +25,13 @@ where_ok (Err e) h f = tt
 pub returns-in-Authority-clause-ok : goal.returns-in-Authority-clause-ok
 returns-in-Authority-clause-ok g c = λ v ts heard.
     let certs = c.args.self.now.folder.now.certs in
-    let octets : c.index-certs-place.result ≡ octets_at certs c.args.place =
+    let octets : c.index-certs-place.result ≡ string_at certs c.args.place =
     octets_here certs c.certs.result.now c.args.place c.index-certs-place.result c.certs.ensures
     c.index-certs-place.is c.requires.place in
     let said = c.said.ensures in
     let kind : SaysKind Authority said.0.fields = subst (λ (k : Kind). SaysKind k said.0.fields) c.in-Authority.is
     said.2.kind_is in
-    let says : BeginsWithKind Authority (octets_at certs c.args.place) =
+    let says : BeginsWithKind Authority (string_at certs c.args.place) =
     subst (λ (o : List ℕ). BeginsWithKind Authority o) octets (said.0, said.1, kind) in
     where_ok c.tell_member.result (c.tell_member.ensures.ok v ts heard) (λ next h.
     (h.0, h.1, record { kind = Authority; says = says; answer = h.2; goes_on = goes_on_below h.0 next h.3 }))
@@ -39,13 +39,13 @@ returns-in-Authority-clause-ok g c = λ v ts heard.
 pub returns-in_ok-tell_member-in-EndEntity-clause-ok : goal.returns-in_ok-tell_member-in-EndEntity-clause-ok
 returns-in_ok-tell_member-in-EndEntity-clause-ok g c = λ v ts heard.
     let certs = c.args.self.now.folder.now.certs in
-    let octets : c.index-certs-place.result ≡ octets_at certs c.args.place =
+    let octets : c.index-certs-place.result ≡ string_at certs c.args.place =
     octets_here certs c.certs.result.now c.args.place c.index-certs-place.result c.certs.ensures
     c.index-certs-place.is c.requires.place in
     let said = c.said.ensures in
     let kind : SaysKind EndEntity said.0.fields = subst (λ (k : Kind). SaysKind k said.0.fields) c.in-EndEntity.is
     said.2.kind_is in
-    let says : BeginsWithKind EndEntity (octets_at certs c.args.place) =
+    let says : BeginsWithKind EndEntity (string_at certs c.args.place) =
     subst (λ (o : List ℕ). BeginsWithKind EndEntity o) octets (said.0, said.1, kind) in
     let h = c.in_ok-tell_member-in-EndEntity.ensures.ok v ts heard in
     (h.0, h.1, record { kind = EndEntity; says = says; answer = h.2; goes_on = λ e. absurd (cc e) })
@@ -53,13 +53,13 @@ returns-in_ok-tell_member-in-EndEntity-clause-ok g c = λ v ts heard.
 pub returns-in_ok-tell_member-in-Detached-clause-ok : goal.returns-in_ok-tell_member-in-Detached-clause-ok
 returns-in_ok-tell_member-in-Detached-clause-ok g c = λ v ts heard.
     let certs = c.args.self.now.folder.now.certs in
-    let octets : c.index-certs-place.result ≡ octets_at certs c.args.place =
+    let octets : c.index-certs-place.result ≡ string_at certs c.args.place =
     octets_here certs c.certs.result.now c.args.place c.index-certs-place.result c.certs.ensures
     c.index-certs-place.is c.requires.place in
     let said = c.said.ensures in
     let kind : SaysKind Detached said.0.fields = subst (λ (k : Kind). SaysKind k said.0.fields) c.in-Detached.is
     said.2.kind_is in
-    let says : BeginsWithKind Detached (octets_at certs c.args.place) =
+    let says : BeginsWithKind Detached (string_at certs c.args.place) =
     subst (λ (o : List ℕ). BeginsWithKind Detached o) octets (said.0, said.1, kind) in
     let h = c.in_ok-tell_member-in-Detached.ensures.ok v ts heard in
     (h.0, h.1, record { kind = Detached; says = says; answer = h.2; goes_on = λ e. absurd (cc e) })
@@ -67,13 +67,13 @@ returns-in_ok-tell_member-in-Detached-clause-ok g c = λ v ts heard.
 pub returns-in_ok-tell_router-in-Router-clause-ok : goal.returns-in_ok-tell_router-in-Router-clause-ok
 returns-in_ok-tell_router-in-Router-clause-ok g c = λ v ts heard.
     let certs = c.args.self.now.folder.now.certs in
-    let octets : c.index-certs-place.result ≡ octets_at certs c.args.place =
+    let octets : c.index-certs-place.result ≡ string_at certs c.args.place =
     octets_here certs c.certs.result.now c.args.place c.index-certs-place.result c.certs.ensures
     c.index-certs-place.is c.requires.place in
     let said = c.said.ensures in
     let kind : SaysKind Router said.0.fields = subst (λ (k : Kind). SaysKind k said.0.fields) c.in-Router.is
     said.2.kind_is in
-    let says : BeginsWithKind Router (octets_at certs c.args.place) =
+    let says : BeginsWithKind Router (string_at certs c.args.place) =
     subst (λ (o : List ℕ). BeginsWithKind Router o) octets (said.0, said.1, kind) in
     let h = c.in_ok-tell_router-in-Router.ensures.ok v ts heard in
     (h.0, h.1, record { kind = Router; says = says; answer = h.2; goes_on = λ e. absurd (cc e) })

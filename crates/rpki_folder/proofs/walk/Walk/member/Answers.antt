@@ -6,7 +6,7 @@ use Rattle.rpki_crl.specs.Revocation.{revocation_checks}
 use Rattle.rpki_path.specs.AskedLists.{by_named_lists}
 use Rattle.rpki_path.specs.declared.path_fault.PathFault.TheVariants.{Revocation}
 use Rattle.rpki_path.specs.Paths.Steps.{kind_of}
-use Rattle.rpki_folder.specs.Folders.{octets_at}
+use Rattle.rpki_folder.specs.Folders.{string_at}
 use Rattle.rpki_folder.specs.IssuerLists.{IsAnswered}
 use Rattle.rpki_folder.proofs.IssuersList.{as_all}
 use Rattle.rpki_folder.proofs.UnaskedSteps.{names_issuer, not_revoked, is_revoked}
@@ -17,7 +17,7 @@ returns-in_err-member-2-clause-fault g c =
     let w = c.args.self.now in
     let x = context (g.V.Verifier.verifies w.verifier.now) w.at w.strict in
     let lists = w.folder.now.lists in
-    let octets = octets_at w.folder.now.certs c.args.place in
+    let octets = string_at w.folder.now.certs c.args.place in
     let issuer = c.args.issuer.now in
     let kind = kind_of c.args.role in
     let member = c.in_ok-member.member in
@@ -37,7 +37,7 @@ returns-clause-ok g c =
     let w = c.args.self.now in
     let x = context (g.V.Verifier.verifies w.verifier.now) w.at w.strict in
     let lists = w.folder.now.lists in
-    let octets = octets_at w.folder.now.certs c.args.place in
+    let octets = string_at w.folder.now.certs c.args.place in
     let issuer = c.args.issuer.now in
     let kind = kind_of c.args.role in
     let member = c.in_ok-member.member in

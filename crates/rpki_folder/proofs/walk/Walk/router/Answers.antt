@@ -4,7 +4,7 @@ use Rattle.rpki_cert.specs.Verification.{context, IsVerified}
 use Rattle.rpki_crl.specs.Revocation.{revocation_checks}
 use Rattle.rpki_path.specs.AskedLists.{by_named_lists}
 use Rattle.rpki_path.specs.declared.path_fault.PathFault.TheVariants.{Revocation}
-use Rattle.rpki_folder.specs.Folders.{octets_at}
+use Rattle.rpki_folder.specs.Folders.{string_at}
 use Rattle.rpki_folder.proofs.IssuersList.{as_all}
 use Rattle.rpki_folder.proofs.UnaskedSteps.{router_names_issuer, router_not_revoked, router_is_revoked}
 use Rattle.rpki_folder.proofs.walk.Walk.router.Goals as goal
@@ -14,7 +14,7 @@ returns-in_err-cert-2-clause-fault g c =
     let w = c.args.self.now in
     let x = context (g.V.Verifier.verifies w.verifier.now) w.at w.strict in
     let lists = w.folder.now.lists in
-    let octets = octets_at w.folder.now.certs c.args.place in
+    let octets = string_at w.folder.now.certs c.args.place in
     let issuer = c.args.issuer.now in
     let cert = c.in_ok-cert.cert in
     let e = c.in_err-cert-2.field-0.0 in
@@ -32,7 +32,7 @@ returns-clause-ok g c =
     let w = c.args.self.now in
     let x = context (g.V.Verifier.verifies w.verifier.now) w.at w.strict in
     let lists = w.folder.now.lists in
-    let octets = octets_at w.folder.now.certs c.args.place in
+    let octets = string_at w.folder.now.certs c.args.place in
     let issuer = c.args.issuer.now in
     let cert = c.in_ok-cert.cert in
     let below = router_names_issuer x (by_named_lists w.names x lists) issuer octets cert c.in_ok-cert.ensures.ok in

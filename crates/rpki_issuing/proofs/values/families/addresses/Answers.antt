@@ -1,5 +1,6 @@
 use Rattle.std.proofs.Common.{ℕ, List, inl, inr, subst}
-use Rattle.rpki_issuing.specs.BlockTexts.{slash, hyphen, IsPrefix, IsRange, IsAddressesText}
+use Rattle.rpki_issuing.specs.BlockTexts.{hyphen, IsPrefix, IsAddressRange, IsAddressesText}
+use Rattle.rpki_parts.specs.Uris.{slash}
 use Rattle.rpki_issuing.proofs.OnlyParts.{carried, one_parting, parted_has}
 use Rattle.rpki_issuing.proofs.values.families.addresses.Goals as goal
 
@@ -28,7 +29,7 @@ returns-in-Some-parted c =
     let before = c.in-Some-parted.parts.0.now in
     let behind = c.in-Some-parted.parts.1.now in
     let parted = c.in-Some-parted.ensures.some in
-    carried (λ b. IsRange family before behind b) (λ b. IsAddressesText family b text)
+    carried (λ b. IsAddressRange family before behind b) (λ b. IsAddressesText family b text)
     (λ b r. inr (record {
       unprefixed = c.in_default.ensures.none;
       before = before;
@@ -41,7 +42,7 @@ returns-in-Some-parted c =
       | inl p ↦ absurd (parted_has slash text p.before p.behind p.parted c.in_default.ensures.none)
       | inr r ↦
           let same = one_parting hyphen text r.before r.behind before behind r.parted parted in
-          subst (λ (y : List ℕ). IsRange family before y b) same.1
-          (subst (λ (x : List ℕ). IsRange family x r.behind b) same.0 r.range)
+          subst (λ (y : List ℕ). IsAddressRange family before y b) same.1
+          (subst (λ (x : List ℕ). IsAddressRange family x r.behind b) same.0 r.range)
     ])
     c.range.result c.range.ensures

@@ -7,7 +7,7 @@ use Rattle.rpki_keys.specs.RsaSignatures.{IsSignedByRsa}
 use Rattle.rpki_issuing.specs.Acceptance.{IsUnrevokedIn}
 use Rattle.rpki_issuing.specs.IssuingRules.{RuleCheck, issuing_rules}
 use Rattle.rpki_issuing.specs.PreparedOctets.{IsListedFault}
-use Rattle.rpki_issuing.specs.Readiness.{unsigned}
+use Rattle.rpki_issuing.specs.Readiness.{unsigned_certificate}
 use Rattle.rpki_issuing.proofs.SameRoles.{role_ready, on_ok, on_err}
 use Rattle.rpki_issuing.proofs.ToldFaults.{unprepared, listed, refused_listed}
 use Rattle.rpki_issuing.proofs.wanted.preparing.prepare_octets.Goals as goal
@@ -43,14 +43,15 @@ returns-clause-prepared g c =
     let above = option_map (λ (r : Bor ResourceFields). r.now) c.args.issuer in
     let fields = c.in_ok-prepared.ensures.fields in
     let made = c.octets_to_sign-octets in
-    on_ok _ _ (IsUnrevokedIn asked above (unsigned c.in_ok-prepared.prepared)) made.result made.ensures.octets
+    on_ok _ _ (IsUnrevokedIn asked above (unsigned_certificate c.in_ok-prepared.prepared)) made.result
+    made.ensures.octets
     made.ensures.unrevoked
     (λ octets same free. record {
       role = c.in-Some.role;
       role_is = c.in-Some.ensures;
       rules = rw c.in_default-2.is at c.in_ok-rule.ensures;
       ready = c.in_ok-prepared.ensures.ready;
-      unrevoked = subst (λ (f : TbsFields). IsUnrevokedIn asked above (unsigned f)) fields free;
+      unrevoked = subst (λ (f : TbsFields). IsUnrevokedIn asked above (unsigned_certificate f)) fields free;
       octets_are = same ∙ ap (λ (f : TbsFields). encoding f) fields;
     })
 
@@ -61,8 +62,9 @@ returns-clause-refused g c =
     let above = option_map (λ (r : Bor ResourceFields). r.now) c.args.issuer in
     let made = c.octets_to_sign-octets in
     on_err _ _ made.result made.ensures.told
-    (λ e told apart octets p. refused_listed asked above (unsigned c.args.tbs.now) e apart
-    (subst (λ (f : TbsFields). IsListedFault asked above (unsigned f) e) c.in_ok-prepared.ensures.fields told)
+    (λ e told apart octets p. refused_listed asked above (unsigned_certificate c.args.tbs.now) e apart
+    (subst (λ (f : TbsFields). IsListedFault asked above (unsigned_certificate f) e) c.in_ok-prepared.ensures.fields
+    told)
     p.unrevoked)
 
 pub returns-clause-told : goal.returns-clause-told
@@ -73,5 +75,5 @@ returns-clause-told g c =
     let made = c.octets_to_sign-octets in
     on_err _ _ made.result made.ensures.told
     (λ e told. listed c.args.kind above c.args.path.now asked c.args.at c.args.strict c.args.tbs.now e
-    (subst (λ (f : TbsFields). IsListedFault asked above (unsigned f) e) c.in_ok-prepared.ensures.fields
+    (subst (λ (f : TbsFields). IsListedFault asked above (unsigned_certificate f) e) c.in_ok-prepared.ensures.fields
     told))

@@ -2,7 +2,7 @@ use Rattle.std.specs.Prelude.{fold}
 use Rattle.std.proofs.Common.{◌≡◌, ◌∙◌, ◌+◌, ◌<◌, ◌++◌, ◌∷◌, [], ℕ, List, get_or, length, take, sym, ap, subst}
 use Rattle.std.proofs.lemmas.List.{take_more}
 use Rattle.std.proofs.lemmas.List.Sums.{fold-append}
-use Rattle.rpki_folder.specs.LimitTables.{both, nothing}
+use Rattle.rpki_folder.specs.LimitTables.{both_reached, nothing}
 use Rattle.rpki_folder.specs.declared.limits.Reached.{Reached}
 use Rattle.rpki_verdicts.specs.UnseenCertificates.{reached_by}
 use Rattle.rpki_verdicts.specs.declared.parts.TreePart.{TreePart}
@@ -16,10 +16,10 @@ loop-part-preserved c =
     let i = c.loop-part.part-index in
     let part = c.part-item.result in
     let all = c.deref-part-items.ensures.value in
-    let f : Reached → TreePart → Reached = λ reached p. both reached (reached_by place p.answer) in
+    let f : Reached → TreePart → Reached = λ reached p. both_reached reached (reached_by place p.answer) in
     let low : i < length parts = subst (λ (l : List TreePart). i < length l) all c.loop-part-test.true in
     let there : part ≡ get_or parts i part = subst (λ (l : List TreePart). part ≡ get_or l i part) all c.part-item.is in
     c.and-reached.ensures
-    ∙ ap (λ (r : Reached). both r c.reached_by.result) c.loop-part.invariant
-    ∙ ap (λ (r : Reached). both (fold f nothing (take i parts)) r) c.reached_by.ensures
+    ∙ ap (λ (r : Reached). both_reached r c.reached_by.result) c.loop-part.invariant
+    ∙ ap (λ (r : Reached). both_reached (fold f nothing (take i parts)) r) c.reached_by.ensures
     ∙ sym (fold_more f nothing parts i part low there)

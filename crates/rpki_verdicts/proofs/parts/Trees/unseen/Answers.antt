@@ -1,6 +1,6 @@
 use Rattle.std.specs.Prelude.{None}
 use Rattle.std.proofs.Common.{◌∙◌, sym}
-use Rattle.rpki_verdicts.specs.UnseenCertificates.{issuer_in}
+use Rattle.rpki_verdicts.specs.UnseenCertificates.{place_by_key}
 use Rattle.rpki_verdicts.proofs.IssuersByKey.{issuer_of}
 use Rattle.rpki_verdicts.proofs.parts.Trees.unseen.Goals as goal
 
@@ -10,8 +10,8 @@ returns-in-Some c =
     let file = c.args.file.now in
     let key = c.in-Some.key in
     let names = (c.signer_of.ensures key).1 c.in-Some.is in (
-      issuer_in c.args.issuers.now key,
-      issuer_of trees file key (issuer_in c.args.issuers.now key) names
+      place_by_key c.args.issuers.now key,
+      issuer_of trees file key (place_by_key c.args.issuers.now key) names
           (λ other others. let both = sym c.in-Some.is ∙ (c.signer_of.ensures other).0 others in cc) (c.requires.by_key key),
       rw c.get.ensures at c.why_unseen.ensures,
     )
