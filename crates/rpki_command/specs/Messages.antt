@@ -38,8 +38,8 @@ SaysLineMisuse words said =
 -- which is so, and is the first word that is wrong, or why what they ask doesn't suit it
 abbrev pub SaysRequestMisuse : List (List ℕ) → List ℕ → Type 0
 SaysRequestMisuse words said =
-    (misuse : requests.Misuse) × request.IsMisuse misuse words
-    × (said ≡ misuse_message (topic_of words) (request.misuse_text misuse))
+    (misuse : requests.Misuse) × request.IsRequestMisuse misuse words
+    × (said ≡ misuse_message (topic_of words) (request.request_misuse_text misuse))
 
 -- the command by which an errand is asked
 abbrev pub topic_asked : Errand → Topic
