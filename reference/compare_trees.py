@@ -140,6 +140,8 @@ def fixed():
 # ---- random files
 
 def damaged(rng, octets):
+    if not octets:
+        return rng.randbytes(1)
     place = rng.randrange(len(octets))
     return rng.choice([
         octets[:place], octets + rng.randbytes(rng.randrange(1, 5)), b'',

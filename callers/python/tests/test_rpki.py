@@ -129,6 +129,20 @@ class Certificates(unittest.TestCase):
         router = certificate((TOP / "tests" / "files" / "router.cer").read_bytes())
         self.assertEqual((router["type"], router["profiles"]["router"]), ("router_key", "OK"))
 
+    def test_kind_by_basic_constraints(self) -> None:
+        """Whether it is a CA is told by Basic Constraints, and not by the key usage."""
+        given = octets("first.cer")
+        fields = (("is_authority", "type", "ee_cert"), ("key_usage", "key_usage", "ee"))
+        for field, member, value in fields:
+            read = raw.certificate(given)
+            setattr(read, field, 1 - getattr(read, field))
+            with mock.patch.object(raw, "certificate", return_value=read):
+                it, shown = Certificate(given), certificate(given)
+            self.assertEqual(it.is_authority, field != "is_authority")
+            self.assertEqual(it.signs_certificates, field != "key_usage")
+            usual = {"type": "ca_cert", "key_usage": "ca"}
+            self.assertEqual({it: shown[it] for it in usual}, usual | {member: value})
+
     def test_inherited_and_missing_resources(self) -> None:
         inherits, misses = Certificate(octets("second.cer")), Certificate(octets("object.cer"))
         self.assertEqual([inherits.ipv4, inherits.ipv6, inherits.as_numbers], [INHERIT] * 3)
@@ -355,6 +369,11 @@ class Library(unittest.TestCase):
                 done = subprocess.run(command, env=environment, capture_output=True)
                 self.assertIn("ImportError", done.stderr.decode())
                 self.assertIn(said, done.stderr.decode())
+        # one of an older or a newer interface
+        for other in (raw.ABI - 1, raw.ABI + 1):
+            with mock.patch.object(raw, "ABI", other):
+                with self.assertRaisesRegex(ImportError, "isn't of the version of this package: "):
+                    raw._load()
 
 
 class Paths(unittest.TestCase):
@@ -788,7 +807,7 @@ class Folders(unittest.TestCase):
         """Files of tests/anchors, of which reference/anchors.py says."""
         return [(TOP / "tests" / "anchors" / it).read_bytes() for it in names]
 
-    def test_anchors(self) -> None:
+    def test_candidates(self) -> None:
         """What has the TAL's key hides no valid trust anchor, and no older one takes its place."""
         (tal,) = self.anchors("ta.tal")
         anchor, older, expired, unsigned = self.anchors("ta.cer", "older.cer", "expired.cer", "unsigned.cer")
@@ -878,6 +897,56 @@ class Folders(unittest.TestCase):
             for other in ("1", 1.0, True):
                 with self.assertRaisesRegex(TypeError, f"^{none}: expected a number, not "):
                     self.judge(given, **cast("dict[str, Any]", {none: other}))
+
+    def files(self, *names: str) -> tuple[list[bytes], dict[str, Any]]:
+        """Files of tests/files, the trust anchor first, and how they are judged."""
+        given = [(TOP / "tests" / "files" / it).read_bytes() for it in ("ta.cer", "ta.crl", *names)]
+        key = base64.encodebytes(Certificate(given[0]).public_key)
+        at = datetime(2025, 6, 1, tzinfo=timezone.utc)
+        return given, {"locator": f"{SITE}/ta.cer\n\n".encode() + key, "at": at}
+
+    def test_strictness(self) -> None:
+        """tests/verdicts says what is odd in the last file: a name of UTF-8."""
+        given, asked = self.files("ca1.cer", "ca1.crl", "odd_name_utf8.cer")
+        for strict, is_valid in ((True, False), (False, True)):
+            lines = judge_folder(given, strict=strict, **asked).lines
+            self.assertTrue(lines[0].is_valid and lines[2].is_valid)
+            self.assertEqual(lines[4].is_valid, is_valid)
+        # strictness is the default
+        fault = judge_folder(given, **asked).lines[4].fault
+        assert fault is not None
+        self.assertEqual((type(fault), fault.name), (rpki.InspectionFault, "Subject"))
+
+    def test_what_each_holds(self) -> None:
+        """A line has the ranges of its own certificate, also with too little room for one kind at
+        first."""
+        given, asked = self.files("ca1.cer", "ca1.crl", "ca2.cer", "ca2.crl", "ee.cer")
+        whole = judge_folder(given, **asked)
+        path: list[bytes] = []
+        # each CA holds other addresses of both families, and other AS numbers
+        for place in (0, 2, 4):
+            path.append(given[place])
+            held = validate(path, last=Kind.AUTHORITY, lists=None, at=asked["at"])
+            self.assertTrue(held.ipv4 and held.ipv6 and held.as_numbers)
+            self.assertEqual(whole.lines[place].held, held if place else None)
+        self.assertEqual(whole.lines[6].held, held)
+        real = raw.room_for
+        for rooms in ((0, 999, 999), (999, 0, 999), (999, 999, 0)):
+            with mock.patch.object(raw, "room_for", side_effect=[real(*rooms), real(999, 999, 999)]):
+                self.assertEqual(judge_folder(given, **asked), whole)
+
+    def test_anchors_without_resources(self) -> None:
+        """The files of tests/files/bare, of which make.py there says: the anchor's place is told."""
+        folder = TOP / "tests" / "files" / "bare"
+        files = [folder / "ca.cer", folder / "ta_no_systems.cer"]
+        at = datetime(2025, 6, 1, tzinfo=timezone.utc)
+        with self.assertRaises(rpki.LocatorFault) as caught:
+            judge_folder(files, locator=folder / "ta.tal", at=at)
+        self.assertEqual((caught.exception.name, caught.exception.member), ("NoResources", 1))
+        locator = (folder / "ta.tal").read_bytes()
+        with self.assertRaises(rpki.LocatorFault) as caught:
+            validate(files[1:], last=Kind.AUTHORITY, lists=None, locator=locator, at=at)
+        self.assertEqual((caught.exception.name, caught.exception.member), ("NoResources", 0))
 
     def test_anchors(self) -> None:
         given = [*self.members, *self.lists]
@@ -1032,6 +1101,17 @@ class Issuing(unittest.TestCase):
                 "ipv4, ipv6 or as_numbers",
                 {"ipv4": None, "ipv6": None, "as_numbers": None},
             ),
+            # a UTCTime can have the year 1950
+            (
+                "Unwritable",
+                "ipv4, ipv6 or as_numbers",
+                {
+                    "ipv4": None,
+                    "ipv6": None,
+                    "as_numbers": None,
+                    "not_before": datetime(1950, 1, 1, tzinfo=timezone.utc),
+                },
+            ),
         ]
         for name, argument, changes in wrong:
             wanted = self.ca(**changes)
@@ -1069,13 +1149,17 @@ class Issuing(unittest.TestCase):
             {"as_numbers": [range(0, 10, 2)]},
             {"ipv4": [(back[1], ipaddress.ip_address("2001:db8::1"))]},
             {"as_numbers": []},
-            {"uris": {"crl": "http://rpki.example.net/"}},
             {"uris": {"list": f"{SITE}/anchor/anchor.crl"}},
             {"not_after": datetime(2026, 1, 1)},
         ]
         for changes in wrong:
             (argument,) = changes
             with self.assertRaisesRegex(ValueError, f"^{argument}"):
+                self.prepared(Kind.AUTHORITY, "ca", [anchor], **self.ca(**changes))
+        # the name of the URI is told
+        for name in ("crl", "notify", "ca_issuer"):
+            changes = {"uris": {**self.places, **self.above, name: "http://rpki.example.net/"}}
+            with self.assertRaisesRegex(ValueError, f"^uris\\['{name}'\\]: expected a URI"):
                 self.prepared(Kind.AUTHORITY, "ca", [anchor], **self.ca(**changes))
         without: list[bytes] = []
         for issuers, kind in ((without, Kind.AUTHORITY), ([anchor], Kind.TRUST_ANCHOR)):
@@ -1139,6 +1223,23 @@ class Issuing(unittest.TestCase):
         self.refuses("OtherName", 1, self.list_prepared, issuers, **updates)
         self.assertTrue(self.prepared(Kind.AUTHORITY, "ca", issuers, chain_names=False, **asked))
         self.assertTrue(self.list_prepared(issuers, chain_names=False, **updates))
+
+    def test_strictness_of_issuers(self) -> None:
+        """Below a name of UTF-8, of which tests/verdicts says, something is issued if it may be one."""
+        folder = TOP / "tests" / "files"
+        issuers: Any = [folder / it for it in ("ta.cer", "ca1.cer", "odd_name_utf8.cer")]
+        at = datetime(2025, 6, 1, tzinfo=timezone.utc)
+        asked: dict[str, Any] = {"at": at, "uris": self.above, "ipv4": INHERIT}
+        asked |= {"not_before": at, "not_after": at + timedelta(days=9)}
+        updates: dict[str, Any] = {"at": at, "next_update": at + timedelta(days=9)}
+        self.refuses("Subject", 2, self.prepared, Kind.DETACHED, "ee", issuers, **asked)
+        self.refuses("Subject", 2, self.list_prepared, issuers, **updates)
+        self.assertTrue(self.prepared(Kind.DETACHED, "ee", issuers, strict=False, **asked))
+        prepared = self.list_prepared(issuers, strict=False, **updates)
+        # the issuer's path comes before the signature
+        signed: dict[str, Any] = {"issuers": issuers, "prepared": prepared, "signature": b"", "at": at}
+        self.refuses("Subject", 2, complete_list, **signed)
+        self.refuses("BadSignature", "signature", complete_list, strict=False, **signed)
 
     def test_files_are_read_once(self) -> None:
         anchor = self.anchor
