@@ -1,7 +1,8 @@
 //! Tests the crate over the files of examples/, whose contents examples/make.sh says.
 use gonxebhula::{
-    ipv4_prefixes, ipv6_prefixes, Anchor, Certificate, Fault, FaultCode, FaultKind, Folder, Judged,
-    Kind, LimitedCa, Line, Moment, Path, Place, Resources, Revocation, RevocationList, Uri,
+    ipv4_prefixes, ipv6_prefixes, Anchor, Certificate, Fault, FaultCode, FaultKind, Folder,
+    Holdings, Judged, Kind, LimitedCa, Line, Moment, Path, Place, Resources, Revocation,
+    RevocationList, Uri,
 };
 use std::net::{IpAddr, Ipv4Addr, Ipv6Addr};
 use std::time::{Duration, SystemTime, UNIX_EPOCH};
@@ -17,6 +18,35 @@ fn at(parts: [u16; 6]) -> Moment {
 fn octets(name: &str) -> Vec<u8> {
     let folder = concat!(env!("CARGO_MANIFEST_DIR"), "/../../examples");
     std::fs::read(format!("{folder}/{name}")).unwrap()
+}
+
+/// A file of tests/files, of which make.py there and tests/verdicts say.
+fn odd(name: &str) -> Vec<u8> {
+    let folder = concat!(env!("CARGO_MANIFEST_DIR"), "/../../tests/files");
+    std::fs::read(format!("{folder}/{name}")).unwrap()
+}
+
+/// The TAL of a trust anchor of tests/files.
+fn locator_of(anchor: &[u8]) -> Vec<u8> {
+    const DIGITS: &[u8] = b"ABCDEFGHIJKLMNOPQRSTUVWXYZabcdefghijklmnopqrstuvwxyz0123456789+/";
+    let mut file = b"rsync://rpki.example.net/repo/ta.cer\n\n".to_vec();
+    for three in Certificate::read(anchor)
+        .unwrap()
+        .public_key()
+        .unwrap()
+        .chunks(3)
+    {
+        let bits = (0..3).fold(0, |bits, at| {
+            bits << 8 | usize::from(*three.get(at).unwrap_or(&0))
+        });
+        let digit = |at: usize| match at <= three.len() {
+            true => DIGITS[bits >> (18 - 6 * at) & 63],
+            false => b'=',
+        };
+        file.extend((0..4).map(digit));
+    }
+    file.push(b'\n');
+    file
 }
 
 fn number(last: u8) -> [u8; 20] {
@@ -54,6 +84,38 @@ fn certificates_are_read() {
         "rsync://rpki.example.net/repo/first/first.mft"
     );
     assert_eq!(it.uri(Uri::SignedObject).unwrap(), None);
+    assert_eq!(anchor.authority_key_identifier(), None);
+    assert!(it.signs_certificates());
+    let object = Certificate::read(&octets("object.cer")).unwrap();
+    assert!(!object.is_authority() && !object.signs_certificates());
+    // a CA by Basic Constraints, whose key usage is an end entity's: 03 02 07 80 for 03 02 01 06
+    let mut other = octets("first.cer");
+    let usage = other.windows(4).position(|it| it == [3, 2, 1, 6]).unwrap();
+    other[usage..usage + 4].copy_from_slice(&[3, 2, 7, 0x80]);
+    let other = Certificate::read(&other).unwrap();
+    assert!(other.is_authority() && !other.signs_certificates());
+    let trims = Certificate::read(&odd("trim.cer")).unwrap();
+    assert!(trims.trims_resources());
+}
+
+/// Strictness is of names here: one of the file is a UTF8String.
+#[test]
+fn strings_of_names_are_checked() {
+    let members = ["ta.cer", "ca1.cer", "odd_name_utf8.cer"].map(odd);
+    let it = Certificate::read(&members[2]).unwrap();
+    let fault = it.inspect(Kind::Authority, true).unwrap_err();
+    assert_eq!(fault.code(), FaultCode::InspectionSubject);
+    assert!(it.inspect(Kind::Authority, false).is_ok());
+    let asked = Revocation::NotAsked;
+    let path = Path::new(&members, Kind::Authority, asked, Anchor::AsGiven);
+    rejected(&path, NOON, "Subject", Some(Place::Member(2)));
+    assert!(path.lenient().validate(at(NOON)).is_ok());
+    let mut strings = members.to_vec();
+    strings.extend(["ta.crl", "ca1.crl"].map(odd));
+    let locator = locator_of(&members[0]);
+    let folder = Folder::new(&strings, &locator);
+    let valid = |it: Folder<'_>| it.judge(at(NOON)).unwrap().lines[2].is_valid();
+    assert!(!valid(folder.clone()) && valid(folder.lenient()));
 }
 
 #[test]
@@ -95,6 +157,8 @@ fn lists_are_read() {
         [false, true, false, true]
     );
     assert!(it.contains_each(&[]).unwrap().is_empty());
+    assert_eq!(it.this_update().to_string(), "2026-01-01T00:00:00Z");
+    assert_eq!(it.next_update().to_string(), "2036-01-01T00:00:00Z");
 }
 
 #[test]
@@ -152,6 +216,10 @@ fn where_reading_stops_is_told() {
     let path = Path::new(&members[..2], Kind::Authority, asked, Anchor::AsGiven);
     let fault = path.validate(at(NOON)).unwrap_err();
     assert_eq!(fault.place(), Some(Place::List(1)));
+    assert_eq!(
+        fault.to_string(),
+        format!("list 1: {} ({})", fault.sentence(), fault.name())
+    );
     assert_eq!(stop(fault), (8, "the version".to_owned()));
 }
 
@@ -244,6 +312,13 @@ fn locators_are_asked() {
     assert_eq!(fault.kind(), FaultKind::Locator);
     let path = to(&members[..1], b"\n");
     rejected(&path, NOON, "NoUri", None);
+    // a TAL without a byte is one, and not none
+    let fault = to(&members[..1], b"").validate(at(NOON)).unwrap_err();
+    assert_eq!((fault.kind(), fault.place()), (FaultKind::Locator, None));
+    let folder = ["ta.tal", "ta_no_systems.cer"].map(|name| odd(&format!("bare/{name}")));
+    let path = to(&folder[1..], &folder[0]);
+    let fault = rejected(&path, NOON, "NoResources", Some(Place::Member(0)));
+    assert_eq!(fault.kind(), FaultKind::Locator);
 }
 
 fn judged(names: &[&str], ask: impl Fn(Folder<'_>) -> Folder<'_>) -> Judged {
@@ -321,6 +396,58 @@ fn folders_are_judged() {
     assert!(without.is_whole && !without.lines[1].is_valid());
 }
 
+/// Each holds other addresses of both families, and other AS numbers.
+#[test]
+fn a_line_has_what_its_certificate_holds() {
+    let names = [
+        "ta.cer", "ta.crl", "ca1.cer", "ca1.crl", "ca2.cer", "ca2.crl",
+    ];
+    let strings = names.map(odd);
+    let locator = locator_of(&strings[0]);
+    let it = Folder::new(&strings, &locator).judge(at(NOON)).unwrap();
+    let mut members = vec![&strings[0]];
+    for place in [2, 4] {
+        members.push(&strings[place]);
+        let (asked, anchor) = (Revocation::NotAsked, Anchor::AsGiven);
+        let path = Path::new(members.iter().copied(), Kind::Authority, asked, anchor);
+        let wanted = path.validate(at(NOON)).unwrap();
+        assert!(wanted.ipv4.len() > 1 && wanted.ipv6.len() > 1 && wanted.as_numbers.len() > 1);
+        match &it.lines[place] {
+            Line::Accepted { held, .. } => assert_eq!(*held, wanted),
+            other => panic!("{other:?}"),
+        }
+    }
+}
+
+/// The keys of tests/files/keyed, of which make.py there says.
+#[test]
+fn keys_of_folders_are_checked() {
+    let names = [
+        "ta.cer",
+        "ta.crl",
+        "ca_1024.cer",
+        "ca_2048.cer",
+        "router.cer",
+    ];
+    let strings = names.map(|name| odd(&format!("keyed/{name}")));
+    let locator = odd("keyed/ta.tal");
+    let folder = Folder::new(&strings, &locator);
+    let judged = |folder: Folder<'_>| folder.judge(at(NOON)).unwrap().lines;
+    let valid = |lines: &[Line]| lines.iter().map(Line::is_valid).collect::<Vec<_>>();
+    let lines = judged(folder.clone());
+    assert_eq!(valid(&lines), [true, false, false, true, true]);
+    match &lines[2] {
+        Line::Rejected { fault, .. } => assert_eq!(fault.code(), FaultCode::BadKey),
+        other => panic!("{other:?}"),
+    }
+    match &lines[4] {
+        Line::Accepted { kind, .. } => assert_eq!(*kind, Kind::Router),
+        other => panic!("{other:?}"),
+    }
+    let lines = judged(folder.with_any_key());
+    assert_eq!(valid(&lines), [true, false, true, true, true]);
+}
+
 /// The names of tests/files/named, of which make.py there says.
 #[test]
 fn names_of_folders_are_asked() {
@@ -367,6 +494,14 @@ fn anchors_of_folders_are_asked() {
         assert_eq!((fault.name().as_str(), fault.place()), (name, None));
         assert_eq!(fault.kind(), FaultKind::Locator);
     }
+    // the anchor of tests/files/bare lists no AS numbers and no addresses
+    let strings = ["ca.cer", "ta_no_systems.cer"].map(|name| odd(&format!("bare/{name}")));
+    let locator = odd("bare/ta.tal");
+    let fault = Folder::new(&strings, &locator).judge(at(NOON)).unwrap_err();
+    assert_eq!(
+        (fault.name().as_str(), fault.place()),
+        ("NoResources", Some(Place::Member(1)))
+    );
 }
 
 #[test]
@@ -377,6 +512,16 @@ fn wrong_calls_are_told() {
         (
             1,
             Kind::EndEntity,
+            "there are too few certificates: one of this kind has an issuer (BadCall)",
+        ),
+        (
+            1,
+            Kind::Detached,
+            "there are too few certificates: one of this kind has an issuer (BadCall)",
+        ),
+        (
+            1,
+            Kind::Router,
             "there are too few certificates: one of this kind has an issuer (BadCall)",
         ),
         (
@@ -419,6 +564,46 @@ fn moments_are_those_of_the_calendar() {
     }
     assert!(Moment::now() > at([2024, 1, 1, 0, 0, 0]));
     assert_eq!("2026-06-01".parse(), Ok(at([2026, 6, 1, 0, 0, 0])));
+    // the seconds before 1970 as `date -u -d .. +%s` has them
+    for (text, seconds) in [
+        ("1969-12-31T23:59:59Z", -1),
+        ("1900-03-01T00:00:00Z", -2_203_891_200),
+        ("1950-01-01T00:00:00Z", -631_152_000),
+        ("0000-01-01T00:00:00Z", -62_167_219_200),
+    ] {
+        let moment: Moment = text.parse().unwrap();
+        assert_eq!(moment.timestamp(), seconds, "{text}");
+        let distance = Duration::from_secs(seconds.unsigned_abs());
+        assert_eq!(SystemTime::from(moment), UNIX_EPOCH - distance);
+    }
+    let days = [31, 28, 31, 30, 31, 30, 31, 31, 30, 31, 30, 31];
+    for (month, days) in (1..).zip(days) {
+        assert!(Moment::new(2026, month, days, 0, 0, 0).is_some());
+        assert_eq!(Moment::new(2026, month, days + 1, 0, 0, 0), None);
+    }
+}
+
+/// Each day from 1970 to 2400 is the one behind the day before, by another way of counting.
+#[test]
+fn days_follow_each_other() {
+    let (mut year, mut month, mut day) = (1970, 1, 1);
+    let mut before = None;
+    for days in 0..157_000_u64 {
+        let seconds = days * 86_400 + days * 7_919 % 86_400;
+        let moment = Moment::from_timestamp(seconds).unwrap();
+        assert_eq!(moment.date(), (year, month, day));
+        assert_eq!(moment.timestamp(), seconds as i64);
+        assert!(before < Some(moment));
+        before = Some(moment);
+        if Moment::new(year, month, day + 1, 0, 0, 0).is_some() {
+            day += 1;
+        } else {
+            (month, day) = (month + 1, 1);
+        }
+        if month > 12 {
+            (year, month) = (year + 1, 1);
+        }
+    }
 }
 
 #[test]
@@ -495,6 +680,36 @@ fn what_is_held_can_be_asked() {
     }
     assert!(held.contains_as(64500) && held.contains_as(64510));
     assert!(!held.contains_as(64499) && !held.contains_as(64509) && !held.contains_as(u32::MAX));
+    // of a prefix the address is any one of it, and a range may begin and end within
+    let mut held = Holdings::default();
+    let (four, six) = (Ipv4Addr::from(0x0a01_0203), Ipv6Addr::from(0x0203));
+    held.ipv4 = vec![
+        (Ipv4Addr::from(0), Ipv4Addr::from(0xff)),
+        (four, Ipv4Addr::from(0x0a01_ffff)),
+    ];
+    held.ipv6 = vec![(six, six), (Ipv6Addr::from(0x0301), Ipv6Addr::from(0xffff))];
+    for (text, length, wanted) in [
+        ("10.1.2.3", 32, true),
+        ("10.1.3.9", 24, true),
+        ("10.1.2.9", 24, false),
+        ("10.1.2.2", 32, false),
+        ("0.0.0.77", 24, true),
+        ("::203", 128, true),
+        ("::202", 128, false),
+        ("::203", 127, false),
+        ("::304", 126, true),
+        ("::301", 126, false),
+    ] {
+        let address = address(text);
+        assert_eq!(
+            held.contains_prefix(address, length),
+            wanted,
+            "{text}/{length}"
+        );
+        if length == 32 || length == 128 {
+            assert_eq!(held.contains(address), wanted, "{text}");
+        }
+    }
 }
 
 #[test]
@@ -648,6 +863,35 @@ fn values_are_made_and_compared() {
     assert_eq!(fault.kind(), FaultKind::Decode);
     for number in [120, 132] {
         assert_eq!(FaultCode::of(number).is_some(), number == 120);
+    }
+    // by all bytes, and not by what is read of them
+    let longer = [&octets[..], b"0"].concat();
+    assert_ne!(it, Certificate::read(&longer).unwrap());
+    let list = self::octets("revoked.crl");
+    let read = |octets: &[u8]| RevocationList::read(octets).unwrap();
+    assert_eq!(read(&list), read(&list));
+    assert_ne!(read(&list), read(&[&list[..], b"0"].concat()));
+}
+
+#[test]
+fn codes_have_no_part() {
+    for (name, number, code) in [
+        ("bad_no_ski.cer", 121, FaultCode::DecodeMissing),
+        ("bad_no_resources.cer", 131, FaultCode::DecodeMissing),
+        (
+            "bad_key_usage_not_critical.cer",
+            183,
+            FaultCode::DecodeNotCritical,
+        ),
+        ("bad_no_policy.cer", 209, FaultCode::DecodeWrongResources),
+        (
+            "bad_unknown_critical.cer",
+            107,
+            FaultCode::DecodeUnexpectedCritical,
+        ),
+    ] {
+        let fault = Certificate::read(&odd(name)).unwrap_err();
+        assert_eq!((fault.number(), fault.code()), (number, code), "{name}");
     }
 }
 

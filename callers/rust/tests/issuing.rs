@@ -1,10 +1,10 @@
 //! Issues certificates with keys of openssl, where that is there.
 use gonxebhula::{
-    Anchor, Certificate, Entry, Fault, FaultKind, Issuer, Kind, Moment, Path, Place, Resources,
-    Revocation, RevocationList, Uri, Wanted, WantedList,
+    Anchor, Certificate, Entry, Fault, FaultCode, FaultKind, Folder, Issuer, Kind, Line, Moment,
+    Path, Place, Resources, Revocation, RevocationList, Uri, Wanted, WantedList,
 };
 use std::io::Write;
-use std::net::Ipv4Addr;
+use std::net::{Ipv4Addr, Ipv6Addr};
 use std::ops::RangeInclusive;
 use std::path::PathBuf;
 use std::process::{Command, Stdio};
@@ -49,6 +49,11 @@ impl Key {
         std::fs::write(&file, &pem).unwrap();
         let public = openssl(&["pkey", "-pubout", "-outform", "DER"], &pem);
         Key { file, public }
+    }
+
+    fn locator(&self) -> Vec<u8> {
+        let digits = openssl(&["base64"], &self.public);
+        [&b"rsync://rpki.example.net/repo/ta.cer\n\n"[..], &digits].concat()
     }
 
     fn sign(&self, octets: &[u8]) -> Vec<u8> {
@@ -181,12 +186,21 @@ fn what_is_wrong_is_refused_before_it_is_signed() {
         FaultKind::Inspection,
         Some(Place::Issued),
     );
-    let mut wrong = good.clone();
-    wrong.uris = &[(Uri::Crl, "http://rpki.example.net/")];
-    let uri = Some(Place::Uri(Uri::Crl));
-    refused(&issuer, &wrong, "BadUri", FaultKind::Issuing, uri);
-    let fault = issuer.prepare(&wrong).unwrap_err();
-    assert!(fault.to_string().starts_with("the URI Crl: "), "{fault}");
+    for (which, text) in [
+        (Uri::CaIssuer, "the URI CaIssuer: "),
+        (Uri::Crl, "the URI Crl: "),
+        (Uri::Repository, "the URI Repository: "),
+        (Uri::Manifest, "the URI Manifest: "),
+        (Uri::SignedObject, "the URI SignedObject: "),
+        (Uri::Notify, "the URI Notify: "),
+    ] {
+        let uris = [(which, "http://rpki.example.net/")];
+        let wrong = wanted(Kind::Authority, &key, &uris, 1);
+        let uri = Some(Place::Uri(which));
+        refused(&issuer, &wrong, "BadUri", FaultKind::Issuing, uri);
+        let fault = issuer.prepare(&wrong).unwrap_err();
+        assert!(fault.to_string().starts_with(text), "{fault}");
+    }
     let mut wrong = good.clone();
     wrong.key = b"";
     let issued = Some(Place::Issued);
@@ -196,7 +210,9 @@ fn what_is_wrong_is_refused_before_it_is_signed() {
         assert_eq!((fault.kind(), fault.place()), (FaultKind::BadCall, None));
         assert!(fault.sentence().starts_with(text), "{fault}");
     };
-    for serial_number in [[0; 20], [255; 20]] {
+    let mut high = [0; 20];
+    high[0] = 0x80;
+    for serial_number in [[0; 20], [255; 20], high] {
         let mut wrong = good.clone();
         wrong.serial_number = serial_number;
         bad_call(&wrong, "serial_number: expected a number above 0");
@@ -241,6 +257,147 @@ fn what_is_wrong_is_refused_before_it_is_signed() {
     let listed = Issuer::new([&anchor], asked, Anchor::AsGiven, now());
     let fault = listed.prepare(&good).unwrap_err();
     assert_eq!(fault.place(), Some(Place::List(0)));
+    // the TAL of the issuer's path
+    let below = |file| {
+        Issuer::new(
+            [&anchor],
+            Revocation::NotAsked,
+            Anchor::Located(file),
+            now(),
+        )
+    };
+    let [own, other] = [&above, &key].map(Key::locator);
+    assert!(below(&own).prepare(&good).is_ok());
+    let fault = below(&other).prepare(&good).unwrap_err();
+    is_fault(fault, "OtherKey", FaultKind::Locator, member(0));
+    let fault = below(b"\n").prepare(&good).unwrap_err();
+    is_fault(fault, "NoUri", FaultKind::Locator, None);
+}
+
+/// Of URIs of one kind the last one counts, each kind is written, and resources are trimmed where
+/// that is wanted.
+#[test]
+fn what_is_wanted_is_written() {
+    if !is_there() {
+        return;
+    }
+    let (above, below) = (Key::new("writing"), Key::new("written"));
+    let anchor = anchor(&above);
+    let issuer = issuer_of([&anchor], now());
+    let mut uris = vec![(Uri::Crl, "rsync://rpki.example.net/repo/first.crl")];
+    uris.extend(URIS);
+    uris.push((Uri::Notify, "https://rpki.example.net/notify.xml"));
+    let mut it = wanted(Kind::Authority, &below, &uris, 1);
+    let overclaimed = (Ipv4Addr::new(11, 0, 0, 0), Ipv4Addr::new(11, 0, 0, 0));
+    it.ipv4 = Resources::Listed(vec![overclaimed]);
+    let fault = issuer.prepare(&it).unwrap_err();
+    assert_eq!(fault.code(), FaultCode::VerificationOverclaimV4);
+    it.trims_resources = true;
+    let made = |kind, it: &Wanted<'_>| {
+        let octets = issuer.prepare(it).unwrap();
+        let signature = above.sign(&octets);
+        issuer.complete(kind, &octets, &signature).unwrap()
+    };
+    let it = made(Kind::Authority, &it);
+    assert!(it.trims_resources());
+    for (which, uri) in &uris[1..] {
+        assert_eq!(it.uri(*which).unwrap().as_deref(), Some(*uri));
+    }
+    // a directory has an end entity without an object
+    let mut ee = wanted(Kind::Detached, &below, &URIS[2..], 1);
+    ee.as_numbers = Resources::Missing;
+    let ee = made(Kind::Detached, &ee);
+    let octets = issuer.prepare_list(&list_wanted(None, &[])).unwrap();
+    let list = issuer.complete_list(&octets, &above.sign(&octets)).unwrap();
+    let strings = [anchor.as_bytes(), ee.as_bytes(), list.as_bytes()];
+    let locator = above.locator();
+    let judged = Folder::new(strings, &locator).judge(now()).unwrap();
+    match &judged.lines[1] {
+        Line::Accepted { kind, .. } => assert_eq!(*kind, Kind::Detached),
+        other => panic!("{other:?}"),
+    }
+}
+
+/// More ranges of one kind than are guessed at first, each of one number.
+#[test]
+fn each_kind_has_room() {
+    if !is_there() {
+        return;
+    }
+    let key = Key::new("many");
+    let issuer = Issuer::of_anchor(now());
+    let four = |at: u32| (Ipv4Addr::from(2 * at), Ipv4Addr::from(2 * at));
+    let six = |at: u32| {
+        let first = u128::from(at) << 64;
+        (Ipv6Addr::from(first), Ipv6Addr::from(first + 5))
+    };
+    for counts in [[100, 1, 1], [1, 100, 1], [1, 1, 100]] {
+        let mut it = wanted(Kind::TrustAnchor, &key, &URIS[..2], 0);
+        it.ipv4 = Resources::Listed((0..counts[0]).map(four).collect());
+        it.ipv6 = Resources::Listed((0..counts[1]).map(six).collect());
+        it.as_numbers = Resources::Listed((0..counts[2]).map(|at| 2 * at..=2 * at).collect());
+        let octets = issuer.prepare(&it).unwrap();
+        let signature = key.sign(&octets);
+        let made = issuer
+            .complete(Kind::TrustAnchor, &octets, &signature)
+            .unwrap();
+        assert_eq!(made.ipv4().unwrap(), it.ipv4);
+        assert_eq!(made.ipv6().unwrap(), it.ipv6);
+        assert_eq!(made.as_numbers().unwrap(), it.as_numbers);
+        let (asked, anchor) = (Revocation::NotAsked, Anchor::AsGiven);
+        let path = Path::new([&made], Kind::Authority, asked, anchor);
+        let held = path.validate(now()).unwrap();
+        assert_eq!(Resources::Listed(held.ipv4), it.ipv4);
+        assert_eq!(Resources::Listed(held.ipv6), it.ipv6);
+        assert_eq!(Resources::Listed(held.as_numbers), it.as_numbers);
+    }
+    // and more octets, and a number of two octets
+    let anchor = anchor(&key);
+    let issuer = issuer_of([&anchor], now());
+    let entry = |at: u16| {
+        let mut number = [1; 20];
+        number[..2].copy_from_slice(&at.to_be_bytes());
+        Entry::new(number, now())
+    };
+    let entries: Vec<_> = (0..300).map(entry).collect();
+    let mut list = list_wanted(None, &entries);
+    list.number = Some(serial(255));
+    let octets = issuer.prepare_list(&list).unwrap();
+    assert!(octets.len() > 4096);
+    let made = issuer.complete_list(&octets, &key.sign(&octets)).unwrap();
+    assert_eq!(made.entries().unwrap(), entries);
+    let table = made.table().unwrap();
+    assert!(entries.iter().all(|it| table.contains(&it.serial_number)));
+    assert!(!table.contains(&serial(1)));
+}
+
+/// Strictness is of names here: one of the last certificate is a UTF8String (tests/verdicts).
+#[test]
+fn strings_of_issuers_are_checked() {
+    if !is_there() {
+        return;
+    }
+    let folder = concat!(env!("CARGO_MANIFEST_DIR"), "/../../tests/files");
+    let path = ["ta.cer", "ca1.cer", "odd_name_utf8.cer"]
+        .map(|name| std::fs::read(format!("{folder}/{name}")).unwrap());
+    let now = day(2025, 6);
+    let key = Key::new("strict");
+    let mut wanted = wanted(Kind::Detached, &key, &URIS[2..], 0);
+    (wanted.not_before, wanted.not_after) = (now, day(2025, 7));
+    wanted.ipv4 = Resources::Inherited;
+    wanted.as_numbers = Resources::Missing;
+    let list = WantedList::new(now, day(2025, 7));
+    let strict = issuer_of(&path, now);
+    for fault in [
+        strict.prepare(&wanted).unwrap_err(),
+        strict.prepare_list(&list).unwrap_err(),
+    ] {
+        let place = Some(Place::Member(2));
+        is_fault(fault, "Subject", FaultKind::Inspection, place);
+    }
+    let lenient = issuer_of(&path, now).lenient();
+    assert!(lenient.prepare(&wanted).is_ok());
+    assert!(lenient.prepare_list(&list).is_ok());
 }
 
 /// Nothing is issued below a CA whose name doesn't chain, of which tests/files/make.py says.
@@ -334,6 +491,16 @@ fn lists_are_issued() {
     let old = early_issuer
         .complete(Kind::Authority, &octets, &above.sign(&octets))
         .unwrap();
+    // a certificate counts by its issuer's name and its issuer's key
+    let name = anchor.subject_text().unwrap();
+    let key = anchor.subject_key_identifier();
+    for part in [&name.as_bytes()[3..], &key[..]] {
+        let mut foreign = old.as_bytes().to_vec();
+        let at = foreign.windows(part.len()).position(|it| it == part);
+        foreign[at.unwrap()] ^= 1;
+        let foreign = Certificate::read(&foreign).unwrap();
+        assert_eq!(second.expired([&foreign]).unwrap(), []);
+    }
     let given = [old, ca.clone()];
     assert_eq!(second.expired(&given).unwrap(), [entry(7, early)]);
     let mut next = list_wanted(Some(&second), &[]);
@@ -341,8 +508,26 @@ fn lists_are_issued() {
     let third = made(&next);
     assert_eq!(third.number(), serial(3));
     assert_eq!(third.entries().unwrap(), [entry(5, now())]);
+    // with new entries, and a number of its own
+    let new = [entry(9, now())];
+    (next.revoked, next.number) = (&new, Some(serial(200)));
+    let third = made(&next);
+    assert_eq!(third.number(), serial(200));
+    let entries = [entry(5, now()), entry(9, now())];
+    assert_eq!(third.entries().unwrap(), entries);
+    next.revoked = &[];
+    next.number = None;
     next.expired = &given[1..];
     assert_eq!(made(&next).entries(), second.entries());
+    // behind 255 comes 256
+    let mut high = list_wanted(Some(&second), &[]);
+    high.number = Some(serial(255));
+    let high = made(&high);
+    let mut next = list_wanted(Some(&high), &[]);
+    next.expired = &given;
+    let mut number = serial(0);
+    number[18] = 1;
+    assert_eq!(made(&next).number(), number);
     // that list was issued before the end
     let mut first = list_wanted(None, &revoked);
     first.this_update = day(2026, 4);
