@@ -926,6 +926,26 @@ def try_out():
           done.stderr)
 
 
+def try_two_disks(force):
+    """Files of two file systems are two, also by one number."""
+    disks = [Path('disk1'), Path('disk2')]
+    try:
+        for disk in disks:
+            disk.mkdir()
+            subprocess.run(['mount', '-t', 'tmpfs', '-o', 'size=64k', 'tmpfs', disk], check=True)
+        files = [disks[0] / 'anchor.cer', disks[1] / 'made.tbs']
+        shutil.copy('anchor.cer', files[0])
+        files[1].write_bytes(b'before')
+        are_alike = files[0].stat().st_ino == files[1].stat().st_ino
+        done = force(str(files[1]), issuer=str(files[0]))
+        check(f'an output with the number of an input on another disk: {done.returncode}',
+              are_alike and done.returncode == 0 and files[1].read_bytes() != b'before',
+              done.stderr)
+    finally:
+        for disk in disks:
+            subprocess.run(['umount', disk], check=False)
+
+
 def try_force(octets, is_written, fails):
     """A file that is there is replaced as a whole or stays, and one that is read is never replaced."""
     def force(out, **changes):
@@ -963,6 +983,7 @@ def try_force(octets, is_written, fails):
             check('no part of it is left', os.listdir('disk') == ['made.tbs'])
         finally:
             subprocess.run(['umount', 'disk'], check=True)
+        try_two_disks(force)
     else:
         print('left out: no file system may be mounted')
     # a link stays, and the mode of the file behind it; the file's other names keep the old octets
@@ -972,6 +993,11 @@ def try_force(octets, is_written, fails):
     is_written('--force through a link', force('to'), octets)
     check('the link, the mode and the other name stay', os.readlink('to') == 'made.tbs'
           and old.stat().st_mode & 0o777 == 0o600 and Path('other').read_bytes() == b'before')
+    # a link that leads nowhere stays, and the file to which it leads is made
+    os.symlink('later', 'early')
+    done = force('early')
+    check('--force through a link to nowhere', done.returncode == 0 and not done.stderr
+          and os.readlink('early') == 'later' and Path('later').read_bytes() == octets, done.stderr)
     # what a run left that a signal ended is in nobody's way
     Path('.rpki-0').write_bytes(b'left')
     is_written('--force beside a .rpki-0', force('made.tbs'), octets)

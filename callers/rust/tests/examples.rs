@@ -291,7 +291,8 @@ fn paths_are_rejected() {
         let behind = [&lists[1][..], more].concat();
         let asked = Revocation::by_lists([&lists[0], &behind]);
         let path = Path::new(&members[..3], Kind::Authority, asked, Anchor::AsGiven);
-        rejected(&path, NOON, "Trailing", Some(Place::List(1)));
+        let fault = rejected(&path, NOON, "Trailing", Some(Place::List(1)));
+        assert_eq!((fault.octet(), fault.field()), (None, None));
     }
     let other = [&members[0], &members[1], &tampered];
     let asked = Revocation::NotAsked;
@@ -892,6 +893,10 @@ fn codes_have_no_part() {
     ] {
         let fault = Certificate::read(&odd(name)).unwrap_err();
         assert_eq!((fault.number(), fault.code()), (number, code), "{name}");
+        if code == FaultCode::DecodeMissing {
+            assert_eq!(fault.field(), Some("the extensions"));
+            assert_eq!(fault.found(), None);
+        }
     }
 }
 
