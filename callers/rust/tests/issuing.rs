@@ -329,7 +329,10 @@ fn each_kind_has_room() {
     let four = |at: u32| (Ipv4Addr::from(2 * at), Ipv4Addr::from(2 * at));
     let six = |at: u32| {
         let first = u128::from(at) << 64;
-        (Ipv6Addr::from(first), Ipv6Addr::from(first + 5))
+        (
+            Ipv6Addr::from(first),
+            Ipv6Addr::from(first + u128::from(at % 2)),
+        )
     };
     for counts in [[100, 1, 1], [1, 100, 1], [1, 1, 100]] {
         let mut it = wanted(Kind::TrustAnchor, &key, &URIS[..2], 0);
