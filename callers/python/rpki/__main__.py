@@ -133,7 +133,7 @@ def certificate(octets: bytes) -> Item:
         "valid_until": seconds(it.not_after),
         "ski": identifier(it.subject_key_identifier),
         "key_usage": "ca" if it.signs_certificates else "ee",
-        "overclaim": "trim" if it.trims_resources else "refuse",
+        "overclaim": "trim" if it.trims_resources else "reject",
         "subordinate_resources": systems(it.as_numbers) + blocks(it.ipv4, 4) + blocks(it.ipv6, 6),
         "profiles": profiles,
     }

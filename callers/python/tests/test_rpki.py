@@ -9,6 +9,7 @@ import copy
 import functools
 import io
 import ipaddress
+import json
 import os
 import pickle
 import random
@@ -51,6 +52,7 @@ prepare_list: Any = functools.partial(rpki.prepare_list, **unchecked)
 complete_list: Any = functools.partial(rpki.complete_list, **unchecked)
 
 TOP = Path(__file__).resolve().parents[3]
+COMMAND = TOP / "crates" / "rpki_command" / "out" / "rpki_command"
 BEGIN, END = datetime(2026, 1, 1, tzinfo=timezone.utc), datetime(2036, 1, 1, tzinfo=timezone.utc)
 SITE = "rsync://rpki.example.net/repo"
 
@@ -128,6 +130,18 @@ class Certificates(unittest.TestCase):
         self.assertEqual(shown["subordinate_resources"], list(inherits))
         router = certificate((TOP / "tests" / "files" / "router.cer").read_bytes())
         self.assertEqual((router["type"], router["profiles"]["router"]), ("router_key", "OK"))
+
+    @unittest.skipUnless(COMMAND.exists(), "the command isn't built")
+    def test_shown_as_by_the_command(self) -> None:
+        """What `python3 -m rpki` prints of a certificate and `rpki show -j` too is alike."""
+        names = ["ta", "ca1", "ca2", "ee", "router", "trim", "odd_inherit_v4", "odd_only_as"]
+        for name in names:
+            file = TOP / "tests" / "files" / f"{name}.cer"
+            done = subprocess.run([COMMAND, "show", "-j", file], check=True, capture_output=True)
+            wanted, shown = json.loads(done.stdout), certificate(file.read_bytes())
+            both = wanted.keys() & shown.keys()
+            self.assertLessEqual(shown.keys() - both, {"profiles"})
+            self.assertEqual({it: shown[it] for it in both}, {it: wanted[it] for it in both})
 
     def test_kind_by_basic_constraints(self) -> None:
         """Whether it is a CA is told by Basic Constraints, and not by the key usage."""

@@ -647,6 +647,8 @@ fn there_are_no_other_moments() {
     ] {
         assert!(text.parse::<Moment>().is_err(), "{text}");
     }
+    let why = "2026-02-30".parse::<Moment>().unwrap_err().to_string();
+    assert!(why.starts_with("not a time of UTC"), "{why}");
 }
 
 #[test]
