@@ -926,6 +926,35 @@ def try_out():
           done.stderr)
 
 
+def try_shut(fails, stays):
+    """What may not be written is neither made nor replaced: asked as nobody, if root asks."""
+    how = {'user': 65534, 'group': 65534, 'extra_groups': []} if os.geteuid() == 0 else {}
+
+    def force(out):
+        words = words_of(WANTED['ca'] | {'at': AT, 'out': out})
+        return subprocess.run([program, 'prepare', 'ca', *words, '--force'], check=False,
+                              stdin=subprocess.DEVNULL, capture_output=True, **how)
+    try:
+        can_run = force('-').returncode == 0
+    except OSError:
+        can_run = False
+    if not can_run:
+        print('left out: what may not be written: nobody may not run the program')
+        return
+    for folder, mode, of_file in (('shut', 0o500, 0o600), ('open', 0o700, 0o400)):
+        place = Path(folder, 'made.tbs')
+        place.parent.mkdir()
+        place.write_bytes(b'before')
+        place.chmod(of_file)
+        place.parent.chmod(mode)
+        if how:
+            os.chown(place, 65534, 65534)
+            os.chown(place.parent, 65534, 65534)
+        fails(f'{place} may not be written', force(str(place)), f'rpki: {place}: permission denied')
+        stays(f'{place} may not be written', file=place)
+        place.parent.chmod(0o700)
+
+
 def try_two_disks(force):
     """Files of two file systems are two, also by one number."""
     disks = [Path('disk1'), Path('disk2')]
@@ -997,7 +1026,8 @@ def try_force(octets, is_written, fails):
     os.symlink('later', 'early')
     done = force('early')
     check('--force through a link to nowhere', done.returncode == 0 and not done.stderr
-          and os.readlink('early') == 'later' and Path('later').read_bytes() == octets, done.stderr)
+          and os.path.islink('early') and os.readlink('early') == 'later'
+          and Path('later').exists() and Path('later').read_bytes() == octets, done.stderr)
     # what a run left that a signal ended is in nobody's way
     Path('.rpki-0').write_bytes(b'left')
     is_written('--force beside a .rpki-0', force('made.tbs'), octets)
@@ -1012,16 +1042,7 @@ def try_force(octets, is_written, fails):
     Path('taken/made.tbs').write_bytes(b'before')
     fails('no name beside it', force('taken/made.tbs'), 'too many files .rpki-N')
     check('no name beside it: the old file stays', Path('taken/made.tbs').read_bytes() == b'before')
-    if os.geteuid() != 0:
-        Path('shut').mkdir()
-        Path('shut/made.tbs').write_bytes(b'before')
-        Path('shut').chmod(0o500)
-        fails('a folder that is shut', force('shut/made.tbs'), 'rpki: shut/made.tbs: permission denied')
-        stays('a folder that is shut', file='shut/made.tbs')
-        old.chmod(0o400)
-        fails('a file that is shut', force('made.tbs'), 'rpki: made.tbs: permission denied')
-        stays('a file that is shut', octets)
-        old.chmod(0o600)
+    try_shut(fails, stays)
     # an output that is an input, by its name, by other names of it, by links
     held = Path('anchor.cer').read_bytes()
     os.symlink('anchor.cer', 'same.cer')
