@@ -542,8 +542,9 @@ class Paths(unittest.TestCase):
         self.assertEqual(Certificate(paths[1]).octets, self.members[1])
         with self.assertRaises(FileNotFoundError):
             Certificate(Path("none.cer"))
-        with self.assertRaisesRegex(TypeError, "^octets: the file is open in text mode"):
-            Certificate(cast(Any, io.StringIO("text")))
+        for text in (io.StringIO("text"), mock.Mock(**{"read.return_value": "text"})):
+            with self.assertRaisesRegex(TypeError, "^octets: the file is open in text mode"):
+                Certificate(cast(Any, text))
         wrong: list[tuple[str, Any, dict[str, Any]]] = [
             (r"^members\[1\]: expected bytes or a Path, not str; ", [paths[0], "a.cer"], {}),
             (r"^members: expected a list, not str; ", "a.cer", {}),
