@@ -9,7 +9,7 @@ use Rattle.rpki_parts.specs.NameTexts.{is_visible}
 use Rattle.rpki_der.specs.Texts.{hexadecimal}
 use Rattle.serde_json.specs.Data.{Data}
 use Rattle.serde_json.specs.Written.{compact_text, outline}
-use Rattle.rpki_text.specs.Pages.{line_feed}
+use Rattle.rpki_document.specs.Texts.{line_feed}
 use Rattle.rpki_document.specs.Documents.{array_of}
 use Rattle.rpki_text.specs.declared.command_line.arguments.Format.{Format}
 use Rattle.rpki_text.specs.declared.command_line.arguments.Format.TheVariants.{Json, JsonLines}

@@ -32,7 +32,7 @@ use Rattle.rpki_keys.specs.TalErrors.{tal_error_name}
 use Rattle.rpki_keys.specs.declared.tal.tal_error.TalError.{TalError}
 use Rattle.rpki_parts.specs.Keys.{KeyFields, key_identifier}
 use Rattle.rpki_text.specs.KeyTexts.{IsLocatorKey, locator_key_text}
-use Rattle.rpki_text.specs.Pages.{line_feed}
+use Rattle.rpki_document.specs.Texts.{line_feed}
 use Rattle.rpki_text.specs.declared.command_line.arguments.Format.{Format}
 use Rattle.rpki_text.specs.declared.keys.KeyAnswer.{KeyAnswer}
 use Rattle.rpki_answers.specs.JsonTexts.{values_text}

@@ -16,7 +16,7 @@ use Rattle.rpki_keys.specs.declared.form.KeyForm.TheVariants.{RsaKey, EvenModulu
 use Rattle.rpki_parts.specs.Keys.{KeyFields}
 use Rattle.rpki_text.specs.BlockLines.{family_address_text, family_text}
 use Rattle.rpki_text.specs.KeyTexts.{point_text}
-use Rattle.rpki_text.specs.Pages.{colons_text}
+use Rattle.rpki_document.specs.Texts.{colons_text}
 use Rattle.rpki_text.specs.Periods.{state_text}
 use Rattle.rpki_text.specs.declared.blocks.Family.{Family}
 use Rattle.rpki_text.specs.declared.blocks.Family.TheVariants.{V4, V6}

@@ -12,10 +12,11 @@ ghost use Rattle.rpki_answers.specs.ToldValues.{addresses_node, algorithm_word, 
 use rpki_blocks::{Addr, AsBlock, AsBlocks, AsResources, IpBlock, IpBlocks, IpResources};
 use rpki_cert::{Kind, TbsCert};
 use rpki_der::Time;
-use rpki_document::{Leaf, Part, Piece, add_further, add_inside, add_kept, add_line, add_told};
+use rpki_document::{
+    Colons, Leaf, Part, Piece, add_further, add_inside, add_kept, add_line, add_told,
+};
 use rpki_keys::KeyForm;
 use rpki_parts::{KeyIdentifier, Name, PublicKey, PublicKeyFormat};
-use rpki_text::Colons;
 use rpki_text::blocks::Family;
 use rpki_text::keys::KeyAnswer;
 use rpki_text::moments::Period;

@@ -7,7 +7,7 @@ use Rattle.std.specs.Str.{IsUtf8}
 use Rattle.std.specs.declared.io.ErrorKind.{ErrorKind}
 use Rattle.std.specs.declared.io.ErrorKind.TheVariants.{AlreadyExists, IsADirectory, NotFound, PermissionDenied}
 use Rattle.rpki_answers.specs.UnreadNames.{is_closed_name}
-use Rattle.rpki_text.specs.Pages.{characters_text}
+use Rattle.rpki_document.specs.Texts.{characters_text}
 use Rattle.rpki_command.specs.Outputs.{is_among}
 use Rattle.rpki_command.specs.ReadFiles.{ReadsFile}
 use Rattle.rpki_command.specs.declared.files.Unread.{Unread}

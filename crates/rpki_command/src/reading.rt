@@ -9,8 +9,8 @@ ghost use Rattle.rpki_verdicts.specs.GivenLocators.{LocatorFields, IsRead, locat
 use crate::files::{FileSource, Unread};
 use anyhow::{Result, anyhow};
 use rpki_answers::is_closed_name;
+use rpki_document::Characters;
 use rpki_files::{BareObject, Object, read_bare_object, read_object};
-use rpki_text::Characters;
 use rpki_text::command_line::Request;
 use rpki_verdicts::GivenLocator;
 use std::alloc::{AllocError, Global};

@@ -35,7 +35,8 @@ two_visible o small = (digit_is_visible (o / 16) (omega arith), (digit_is_visibl
 escaped_visible : (o : ℕ) → o < 256 → AreVisible (escaped o)
 escaped_visible o small = (refl, (refl, two_visible o small))
 
-abbrev text_by : Bool → ℕ → List ℕ
+-- the text of an octet, by whether it stands for itself
+abbrev pub text_by : Bool → ℕ → List ℕ
 text_by plain o = if plain then o ∷ [] else escaped o
 
 visible_by : (plain : Bool) (o : ℕ) → (plain ≡ true → IsTrue (is_visible o)) → o < 256 → AreVisible (text_by plain o)
@@ -48,13 +49,15 @@ stands_visible o e = grind (arith, nat_tests)
 inner_visible_one : (o : ℕ) → (stands o && not (separates o)) ≡ true → IsTrue (is_visible o)
 inner_visible_one o e = grind (arith, nat_tests)
 
-characters_visible : (os : List ℕ) → AreOctets os → AreVisible (characters_text os)
+-- octets as characters are visible
+pub characters_visible : (os : List ℕ) → AreOctets os → AreVisible (characters_text os)
 characters_visible [] are = tt
 characters_visible (o ∷ os) are =
     both_visible (character_text o) (characters_text os) (visible_by (stands o) o (stands_visible o) are.0)
     (characters_visible os are.1)
 
-inner_visible : (os : List ℕ) → AreOctets os → AreVisible (inner_text os)
+-- those of a text behind which more follows are, too
+pub inner_visible : (os : List ℕ) → AreOctets os → AreVisible (inner_text os)
 inner_visible [] are = tt
 inner_visible (o ∷ os) are =
     both_visible (inner_character_text o) (inner_text os)
@@ -128,7 +131,8 @@ unseparated_by true o is small = (is refl, tt)
 unseparated_by false o is small =
     (refl, (refl, (digit_separates_nothing (o / 16) (omega arith), (digit_separates_nothing (o % 16) (omega arith), tt))))
 
-inner_separates_nothing : (o : ℕ) → (stands o && not (separates o)) ≡ true → IsTrue (not (separates o))
+-- what stands for itself there is no separator
+pub inner_separates_nothing : (o : ℕ) → (stands o && not (separates o)) ≡ true → IsTrue (not (separates o))
 inner_separates_nothing o e = grind (arith, nat_tests)
 
 -- a text behind which more follows in its line has no separator

@@ -14,4 +14,5 @@ pub use building::{
     add_aside, add_each, add_further, add_head, add_inside, add_kept, add_line, add_told,
     add_unsaid,
 };
+pub use leaves::{Characters, Colons};
 pub use parts::{Leaf, Part, Piece};

@@ -32,7 +32,7 @@ use Rattle.rpki_requests.specs.declared.refusals.Refusal.TheVariants.{OtherCerti
 use Rattle.rpki_requests.specs.declared.refusals.Refusal.TheVariants.{OtherName, Unfit, Memory}
 use Rattle.rpki_requests.specs.declared.words.Setting.{Setting}
 use Rattle.rpki_requests.specs.declared.words.Setting.TheVariants.{Issuer, Key, Crl, Previous, Revoke}
-use Rattle.rpki_text.specs.Pages.{characters_text}
+use Rattle.rpki_document.specs.Texts.{characters_text}
 
 -- ---- when one comes
 

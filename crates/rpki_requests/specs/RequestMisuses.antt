@@ -1,7 +1,7 @@
 -- What is told of words that ask for nothing to be prepared or completed: something that is wrong
 -- with them, of the first word that is wrong, or of what they ask; and what is said of it (own).
 use Rattle.std.specs.Prelude.{◌≡◌, ◌≢◌, ◌≤◌, ◌⊎◌, ℕ, List, [], ◌∷◌, ◌++◌, length, map, fold, true, false, codes}
-use Rattle.rpki_text.specs.Pages.{characters_text}
+use Rattle.rpki_document.specs.Texts.{characters_text}
 use Rattle.rpki_text.specs.WordParts.{AreInOrder, IsFirstWrong, IsOption, Joins, words_before, words_behind}
 use Rattle.rpki_requests.specs.ExpectedValues.{asked_value_expected}
 use Rattle.rpki_requests.specs.RequestWords.{AskedFields, IsRequestPart, RequestPart, demand, errand_words, file}

@@ -11,11 +11,11 @@ ghost use Rattle.rpki_requests.specs.declared.refusals.Refusal.TheVariants.{Memo
 use crate::words::{Order, Setting};
 use rpki_cert::ValidationError;
 use rpki_crl::RevocationError;
+use rpki_document::Characters;
 use rpki_files::rules::{Rule, of_inspection, of_key, of_name, of_revocation, of_verification};
 use rpki_issuing::wanted::{IssuingRule, WantedError};
 use rpki_issuing::{IssuingError, ListError, NextListError};
 use rpki_parts::PublicKeyFormat;
-use rpki_text::Characters;
 use rpki_verdicts::Fault;
 use std::alloc::{AllocError, Global};
 use std::fmt;

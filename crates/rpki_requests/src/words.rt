@@ -7,7 +7,7 @@ ghost use Rattle.rpki_requests.specs.RequestMisuses.{HasWrongCount, IsRequestMis
 ghost use Rattle.rpki_requests.specs.RequestWords.{AskedFields, AsksHelp, BeginsRequest, IsRequestLine, IsRequestPart, Meets, RequestPart, SuitsErrand, demand, errand_words, file, files_wanted, is_same, of_authorities, of_certificates, of_issued, of_lists, only_errand, option, asked_option_name, switch, switch_name, takes, given_values, with_request_part};
 ghost use Rattle.rpki_requests.specs.RequestWords.Views.{asked_fields, given_fields};
 
-use rpki_text::Characters;
+use rpki_document::Characters;
 use rpki_text::command_line::parts::{around_dashes, is, is_option, place_of_equals};
 use std::alloc::{AllocError, Global};
 use std::fmt;

@@ -1,6 +1,6 @@
 -- Whether one of the values with one identifier octet passes a test.
 use Rattle.std.specs.List.{list_any}
-use Rattle.std.proofs.Common.{◌≡◌, ◌||◌, ℕ, Bool, false, List, Some, None, ap, ◌∙◌}
+use Rattle.std.proofs.Common.{◌≡◌, ◌||◌, ℕ, Bool, false, List, Some, None, ap}
 use Rattle.rpki_der.specs.Values.Reading.{value_at}
 use Rattle.rpki_parts.specs.NameTexts.Reading.{values_in}
 use Rattle.rpki_parts.proofs.NameTexts.{no_values, one_value}

@@ -1,7 +1,7 @@
 -- A walk over extensions that gathers what they say.
 use Rattle.std.specs.List.{flat_map}
-use Rattle.std.proofs.Common.{◌≡◌, ℕ, List, [], ◌∷◌, ◌++◌, map, Some, None, sym, ap, ◌∙◌, append_assoc, arith}
-use Rattle.std.proofs.lemmas.List.{append-nil, map-append}
+use Rattle.std.proofs.Common.{◌≡◌, ℕ, List, [], ◌++◌, Some, None, sym, ap, ◌∙◌, append_assoc, arith}
+use Rattle.std.proofs.lemmas.List.{append-nil}
 use Rattle.rpki_ext.specs.CertificateExtensions.{ExtensionFields}
 use Rattle.rpki_der.specs.Extensions.{Extension, IsExtension, extension_format}
 use Rattle.rpki_der.specs.Sequences.{AreEncodings}
@@ -10,8 +10,7 @@ use Rattle.rpki_der.specs.Sequences.Reading.{Shrinks}
 use Rattle.rpki_der.specs.Values.Reading.{value_at}
 use Rattle.rpki_der.proofs.ValueReads.{value_shorter}
 use Rattle.rpki_parts.proofs.NameTexts.{no_values, one_value}
-use Rattle.rpki_text.specs.Facts.{FactFields, fact_view, facts_in, facts_of}
-use Rattle.rpki_text.specs.declared.notes.fact.Fact.{Fact}
+use Rattle.rpki_text.specs.Facts.{FactFields, facts_in, facts_of}
 use Rattle.rpki_text.proofs.Walks.{first_is, none_there}
 
 module _ (f : ExtensionFields) where
@@ -41,16 +40,6 @@ module _ (f : ExtensionFields) where
     all_gathered none xs are =
         let l = so_far xs are in
         sym (l.2 ∙ ap (λ (ys : List Extension). facts ++ facts_of f ys) (none_there octets none l.0 l.1) ∙ append-nil facts)
-
--- ---- one fact
-
--- it is put behind the others
-pub fact_put : (old new : List Fact) (fact : Fact) → new ≡ old ++ fact ∷ [] → map fact_view new ≡ map fact_view old ++ fact_view fact ∷ []
-fact_put old new fact is = ap (map fact_view) is ∙ map-append fact_view old (fact ∷ [])
-
--- nothing is said
-pub none_put : (facts : List FactFields) (said : List FactFields) → said ≡ [] → facts ≡ facts ++ said
-none_put facts said e = sym (append-nil facts) ∙ ap (λ (s : List FactFields). facts ++ s) (sym e)
 
 -- ---- values with one identifier octet, each of which says something
 

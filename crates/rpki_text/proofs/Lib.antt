@@ -1,7 +1,6 @@
 -- Lemmas of the proofs about texts for a person.
 
 -- ---- certificates and lists as text
-mod CharacterTexts
 mod CountedValues
 mod DigitPlaces
 mod KindAnswers

@@ -6,7 +6,6 @@ use Rattle.rpki_cert.specs.Certificates.{CertFields, IsCertificate, certificate_
 use Rattle.rpki_cert.specs.Certificates.{tbs_content_format, version_format}
 use Rattle.rpki_der.specs.Encoding.{Begins, Means}
 use Rattle.rpki_der.specs.Extensions.{Extension}
-use Rattle.rpki_der.specs.Tags.{SEQUENCE}
 use Rattle.rpki_der.specs.Values.{IsEnc}
 use Rattle.rpki_der.specs.Skipping.{levels}
 use Rattle.rpki_der.proofs.FormatLaws.{one_meaning}
@@ -17,7 +16,6 @@ use Rattle.rpki_parts.specs.Validities.{validity_format}
 use Rattle.rpki_parts.proofs.NameReads.{name_sequence}
 use Rattle.rpki_parts.proofs.SignedFormats.{signed_parts}
 use Rattle.rpki_cert.proofs.CertificateFormats.{certificate_lawful}
-use Rattle.rpki_files.specs.PolicyPresence.{StandBefore, tags_before}
 use Rattle.rpki_text.specs.Notes.{AreNotes, AreThose, Breaks, HaveExtensions, IsNoteOf, every_note}
 use Rattle.rpki_text.specs.declared.notes.note.Note.{Note}
 

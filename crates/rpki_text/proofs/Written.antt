@@ -1,5 +1,4 @@
 -- The content of an extension that was written.
-use Rattle.std.specs.List.{concat}
 use Rattle.std.specs.Prelude.{Result, Ok, Err, IfOk, IsOk, OnOk}
 use Rattle.std.specs.declared.alloc.AllocError.{AllocError}
 use Rattle.std.proofs.Common.{◌≡◌, ◌<◌, ◌^◌, ◌++◌, ℕ, List, [], length, Option, Some, None, true, refl, sym, ap}
@@ -11,18 +10,16 @@ use Rattle.rpki_der.specs.Extensions.{Extension, IsExtension, content_of_some, e
 use Rattle.rpki_blocks.specs.declared.overclaim.Overclaim.{Overclaim}
 use Rattle.rpki_blocks.specs.declared.overclaim.Overclaim.TheVariants.{Refuse, Trim}
 use Rattle.rpki_blocks.specs.Overclaims.{as_identifier, ip_identifier}
-use Rattle.rpki_der.specs.Primitives.{IsOid, bool_or_false}
+use Rattle.rpki_der.specs.Primitives.{IsOid}
 use Rattle.rpki_der.specs.declared.error.EncodeError.{EncodeError}
 use Rattle.rpki_blocks.specs.ResourceExtensions.{critical}
-use Rattle.rpki_der.specs.Tags.{OBJECT_IDENTIFIER, OCTET_STRING, SEQUENCE}
 use Rattle.rpki_blocks.specs.Unions.{text_of}
-use Rattle.rpki_der.specs.Values.{AreOctets, enc, length_octets}
+use Rattle.rpki_der.specs.Values.{AreOctets}
 use Rattle.rpki_der.specs.Writers.{Writes}
 use Rattle.rpki_der.proofs.ExtensionReads.{extension_reads, extension_shrinks}
 use Rattle.rpki_der.proofs.ExtensionWritten.{extension_encoded, extension_inside_octets}
 use Rattle.rpki_der.proofs.IdentifierReads.{oid_takes}
-use Rattle.rpki_der.proofs.Octets.{AreOctets-parts, some_is}
-use Rattle.rpki_der.proofs.ValueWritten.{flag_made, identifier_made, made, pieces_short}
+use Rattle.rpki_der.proofs.Octets.{some_is}
 use Rattle.rpki_text.specs.FaultSearch.{IsContentOf, IsExtensionOf, IsExtensionOrNone}
 
 -- ---- the content of what is an extension

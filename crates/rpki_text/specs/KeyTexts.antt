@@ -1,13 +1,13 @@
 -- What is said of a key.
 use Rattle.std.specs.Fmt.{decimal}
-use Rattle.std.specs.Prelude.{◌≡◌, ◌↔◌, ℕ, Bool, IsTrue, if◌then◌else◌, List, [], ◌++◌, codes, Option, Some, None}
+use Rattle.std.specs.Prelude.{◌≡◌, ◌↔◌, ℕ, IsTrue, if◌then◌else◌, List, [], ◌++◌, codes, Option, Some, None}
 use Rattle.rpki_keys.specs.declared.form.KeyForm.{KeyForm}
 use Rattle.rpki_keys.specs.declared.form.KeyForm.TheVariants.{RsaKey, EvenModulus, NoRsaKey, Point, OffCurve, CompressedPoint, NoPoint}
 use Rattle.rpki_keys.specs.KeyForms.{IsKeyForm, IsUsableKey}
 use Rattle.rpki_parts.specs.Keys.{KeyFields}
 use Rattle.rpki_parts.specs.declared.key.PublicKeyFormat.{PublicKeyFormat}
 use Rattle.rpki_parts.specs.declared.key.PublicKeyFormat.TheVariants.{Rsa, EcdsaP256}
-use Rattle.rpki_text.specs.Pages.{colons_text}
+use Rattle.rpki_document.specs.Texts.{colons_text}
 use Rattle.rpki_text.specs.declared.keys.KeyAnswer.{KeyAnswer}
 
 -- what is found of a key: its form, and whether the RPKI uses it

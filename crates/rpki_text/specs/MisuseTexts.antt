@@ -1,6 +1,6 @@
 -- What is said of words that are no command line (own).
 use Rattle.std.specs.Prelude.{ℕ, List, ◌++◌, codes}
-use Rattle.rpki_text.specs.Pages.{characters_text}
+use Rattle.rpki_document.specs.Texts.{characters_text}
 use Rattle.rpki_text.specs.CommandLines.{setting_name}
 use Rattle.rpki_text.specs.declared.command_line.arguments.Misuse.{Misuse}
 use Rattle.rpki_text.specs.declared.command_line.arguments.Misuse.TheVariants.{NoTask, UnknownTask, Unknown, NoValue}

@@ -2,7 +2,7 @@
 ghost use Rattle.std.specs.Prelude.{Some};
 ghost use Rattle.rpki_text.specs.IdentifierTexts.{identifier_text};
 
-use crate::lines::write_colons;
+use rpki_document::Colons;
 use rpki_parts::Dotted;
 use std::fmt;
 
@@ -18,7 +18,10 @@ impl fmt::Display for Identifier<'_> {
     fn fmt<W: fmt::Write>(&self, f: &mut fmt::Formatter<W>) -> fmt::Result {
         match Dotted::of(self.0) {
             Some(dotted) => write!(f, "{dotted}"),
-            None => write_colons(f, self.0),
+            None => {
+                let octets = Colons(self.0);
+                write!(f, "{octets}")
+            }
         }
     }
 }

@@ -5,14 +5,13 @@
 pub mod blocks;
 pub mod certificate;
 pub mod command_line;
+mod counts;
 mod identifiers;
 pub mod keys;
-pub mod laws;
-mod lines;
 pub mod moments;
 pub mod notes;
 mod page;
 
+pub use counts::Count;
 pub use identifiers::Identifier;
-pub use lines::{Characters, Colons, Count, FileName, InnerName};
 pub use page::Page;

@@ -2,7 +2,7 @@
 ghost use Rattle.std.specs.Prelude.{◌≡◌, ◌++◌, Some, flat_map, IfOk, string_bytes};
 ghost use Rattle.std.specs.Fmt.{WritesOnOk};
 ghost use Rattle.rpki_answers.specs.JsonTexts.{unit_text, ascii_character, in_ascii};
-ghost use Rattle.rpki_text.specs.Pages.{line_feed};
+ghost use Rattle.rpki_document.specs.Texts.{line_feed};
 
 use std::alloc::{AllocError, Global};
 use std::fmt;

@@ -11,8 +11,9 @@ ghost use Rattle.rpki_text.specs.MisuseTexts.{expected_value, misuse_text, value
 ghost use Rattle.rpki_text.specs.CommandLines.Steps.{AddsSet, IsSwitch, IsOptionName};
 
 use crate::command_line::parts::{around_dashes, is, is_option, place_of_equals};
-use crate::{Characters, moments};
+use crate::moments;
 use rpki_der::Time;
+use rpki_document::Characters;
 use std::alloc::Global;
 use std::fmt;
 

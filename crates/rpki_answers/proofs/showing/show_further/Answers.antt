@@ -1,6 +1,6 @@
 use Rattle.std.proofs.Common.{◌∙◌, ◌++◌, ℕ, List, ap, append_assoc, refl}
 use Rattle.std.proofs.lemmas.Result.{on_ok_weaker}
-use Rattle.rpki_text.specs.Pages.{line_feed}
+use Rattle.rpki_document.specs.Texts.{line_feed}
 use Rattle.rpki_answers.proofs.showing.show_further.Goals as goal
 
 pub returns-clause-text : goal.returns-clause-text

@@ -1,7 +1,7 @@
 use Rattle.std.proofs.Common.{◌∙◌, ap, ◌++◌, List, ℕ}
 use Rattle.std.proofs.lemmas.Result.{IfOk-weaker}
 use Rattle.rpki_answers.specs.JsonTexts.{in_ascii, json_line}
-use Rattle.rpki_text.specs.Pages.{line_feed}
+use Rattle.rpki_document.specs.Texts.{line_feed}
 use Rattle.rpki_answers.proofs.as_json.texts.line_of.Goals as goal
 
 pub returns : goal.returns

@@ -3,7 +3,7 @@ use Rattle.std.proofs.lemmas.Result.{IfOk-weaker}
 use Rattle.json.specs.Layout.{pretty}
 use Rattle.serde_json.proofs.Texts.{tokens_from_order}
 use Rattle.rpki_answers.specs.JsonTexts.{in_ascii, json_lines}
-use Rattle.rpki_text.specs.Pages.{line_feed}
+use Rattle.rpki_document.specs.Texts.{line_feed}
 use Rattle.rpki_answers.proofs.as_json.texts.lines_of.Goals as goal
 
 pub returns : goal.returns
