@@ -1,22 +1,16 @@
-use Rattle.std.specs.Prelude.{true, option_map, IfErr, IfOk}
-use Rattle.std.proofs.Common.{◌≡◌, ◌≢◌, inl, inr, refl, Bor, List, length, sym, ap, subst, ◌∙◌}
-use Rattle.std.proofs.lemmas.Bool.{false≢true}
-use Rattle.std.proofs.lemmas.Bool.Decides.{Decides-eqb}
-use Rattle.std.proofs.lemmas.List.{length-map}
+-- The checks are those of nobody or of the lists that are given, and the answer by them is the answer.
+use Rattle.std.specs.Prelude.{option_map}
+use Rattle.std.proofs.Common.{◌∙◌, true, Bor, List, ap, inl, refl}
 use Rattle.std.proofs.lemmas.Result.{err_from_is_err_and}
 use Rattle.rpki_cert.specs.Verification.{ResourceFields}
 use Rattle.rpki_crl.specs.Lists.{CrlState}
 use Rattle.rpki_files.specs.Files.{contents}
-use Rattle.rpki_issuing.proofs.SameRoles.{on_ok, on_err}
 use Rattle.rpki_path.specs.AskedLists.{GivenFields, by_named_lists}
-use Rattle.rpki_path.specs.Asking.{RevocationChecks}
-use Rattle.rpki_requests.specs.Fulfilment.{CompletesAs, IsAcceptedMade}
+use Rattle.rpki_path.specs.Asking.{RevocationChecks, nobody}
+use Rattle.rpki_requests.specs.Fulfilment.{CompletesAs, IsAcceptedMade, context_of}
 use Rattle.rpki_requests.specs.RefusedErrands.{IsSoOfEither}
-use Rattle.rpki_requests.specs.declared.fulfilling.Made.{Made}
-use Rattle.rpki_requests.specs.declared.refusals.Refusal.TheVariants.{Memory}
-use Rattle.rpki_requests.specs.Fulfilment.{context_of}
 use Rattle.rpki_requests.specs.RequestWords.Views.{asked_fields}
-use Rattle.rpki_requests.proofs.AskedSources.{so_nobody, none_nobody, so_read, none_read}
+use Rattle.rpki_requests.proofs.AskedSources.{asks_lists, asks_nobody, none_asked, ok_asked, why_asked}
 use Rattle.rpki_requests.proofs.fulfilling.made_asking.Goals as goal
 
 abbrev given_of : List CrlState → GivenFields
@@ -24,148 +18,95 @@ given_of lists = record { lists = lists; names = true }
 
 pub returns-then-is_empty-clause-completed : goal.returns-then-is_empty-clause-completed
 returns-then-is_empty-clause-completed c =
-    let lists = c.args.lists.now in
     let x = context_of (asked_fields c.args.order.now) c.args.at in
-    let empty : length (contents lists) ≡ 0 = length-map lists (λ file. file.octets) ∙
-    (Decides-eqb (length lists) 0).0 (sym c.is_empty.ensures ∙ c.if-is_empty.true) in
-    let answer = c.made_below in
-    on_ok _ _ (Unit {0}) answer.result answer.ensures.completed (λ ok. tt)
-    (λ given h unit. so_nobody x (contents lists) empty
-    (λ (checks : RevocationChecks). CompletesAs (asked_fields c.args.order.now) c.args.path.now checks
+    ok_asked x (contents c.args.lists.now) nobody
+    (asks_nobody x c.args.lists.now c.is_empty.result c.is_empty.ensures c.if-is_empty.true)
+    (λ made (checks : RevocationChecks). CompletesAs (asked_fields c.args.order.now) c.args.path.now checks
     c.args.at (option_map (λ (r : Bor ResourceFields). r.now) c.args.issuer) c.args.prepared.now
-    c.args.signature.now given) h)
+    c.args.signature.now made)
+    c.made_below.result c.made_below.ensures.completed
 
 pub returns-clause-completed : goal.returns-clause-completed
 returns-clause-completed c =
-    let lists = c.args.lists.now in
     let x = context_of (asked_fields c.args.order.now) c.args.at in
-    let read = c.in_ok-read.read.items in
-    let some : length (contents lists) ≡ 0 →
-    ⊥ = λ none. false≢true
-    (sym c.if-is_empty.false ∙ c.is_empty.ensures ∙ (Decides-eqb (length lists) 0).1
-    (sym (length-map lists (λ file. file.octets)) ∙ none)) in
-    let given : c.with_names-given.result ≡ given_of read =
-    c.with_names-given.ensures ∙ ap (λ (ls : List CrlState). given_of ls) c.deref.ensures.value in
-    let answer = c.made_below-made in
-    let made = subst (λ (g : GivenFields).
-    IfOk answer.result
-    (λ given. CompletesAs (asked_fields c.args.order.now) c.args.path.now (by_named_lists g.names x g.lists)
+    let given = c.with_names-given.result in
+    ok_asked x (contents c.args.lists.now) (by_named_lists given.names x given.lists)
+    (asks_lists x c.unambiguous.ensures.certificate c.unambiguous-2.ensures.list c.args.lists.now
+    c.is_empty.result c.is_empty.ensures c.if-is_empty.false c.in_ok-read.read.items c.in_ok-read.ensures given
+    (c.with_names-given.ensures ∙ ap given_of c.deref.ensures.value))
+    (λ made (checks : RevocationChecks). CompletesAs (asked_fields c.args.order.now) c.args.path.now checks
     c.args.at (option_map (λ (r : Bor ResourceFields). r.now) c.args.issuer) c.args.prepared.now
-    c.args.signature.now given)) given answer.ensures.completed in
-    on_ok _ _ (Unit {0}) answer.result made (λ ok. tt)
-    (λ given h unit. so_read x (contents lists) read some c.in_ok-read.ensures
-    (λ (checks : RevocationChecks). CompletesAs (asked_fields c.args.order.now) c.args.path.now checks
-    c.args.at (option_map (λ (r : Bor ResourceFields). r.now) c.args.issuer) c.args.prepared.now
-    c.args.signature.now given) h)
+    c.args.signature.now made)
+    c.made_below-made.result c.made_below-made.ensures.completed
 
 pub returns-then-is_empty-clause-accepted : goal.returns-then-is_empty-clause-accepted
 returns-then-is_empty-clause-accepted c =
-    let lists = c.args.lists.now in
     let x = context_of (asked_fields c.args.order.now) c.args.at in
-    let empty : length (contents lists) ≡ 0 = length-map lists (λ file. file.octets) ∙
-    (Decides-eqb (length lists) 0).0 (sym c.is_empty.ensures ∙ c.if-is_empty.true) in
-    let answer = c.made_below in
-    on_ok _ _ (Unit {0}) answer.result answer.ensures.accepted (λ ok. tt)
-    (λ given h unit. so_nobody x (contents lists) empty
-    (λ (checks : RevocationChecks). IsAcceptedMade x checks
-    (option_map (λ (r : Bor ResourceFields). r.now) c.args.issuer) given) h)
+    ok_asked x (contents c.args.lists.now) nobody
+    (asks_nobody x c.args.lists.now c.is_empty.result c.is_empty.ensures c.if-is_empty.true)
+    (λ made (checks : RevocationChecks). IsAcceptedMade x checks (option_map (λ (r : Bor ResourceFields). r.now) c.args.issuer)
+    made)
+    c.made_below.result c.made_below.ensures.accepted
 
 pub returns-clause-accepted : goal.returns-clause-accepted
 returns-clause-accepted c =
-    let lists = c.args.lists.now in
     let x = context_of (asked_fields c.args.order.now) c.args.at in
-    let read = c.in_ok-read.read.items in
-    let some : length (contents lists) ≡ 0 →
-    ⊥ = λ none. false≢true
-    (sym c.if-is_empty.false ∙ c.is_empty.ensures ∙ (Decides-eqb (length lists) 0).1
-    (sym (length-map lists (λ file. file.octets)) ∙ none)) in
-    let given : c.with_names-given.result ≡ given_of read =
-    c.with_names-given.ensures ∙ ap (λ (ls : List CrlState). given_of ls) c.deref.ensures.value in
-    let answer = c.made_below-made in
-    let made = subst (λ (g : GivenFields).
-    IfOk answer.result
-    (λ given. IsAcceptedMade x (by_named_lists g.names x g.lists)
-    (option_map (λ (r : Bor ResourceFields). r.now) c.args.issuer) given)) given answer.ensures.accepted in
-    on_ok _ _ (Unit {0}) answer.result made (λ ok. tt)
-    (λ given h unit. so_read x (contents lists) read some c.in_ok-read.ensures
-    (λ (checks : RevocationChecks). IsAcceptedMade x checks
-    (option_map (λ (r : Bor ResourceFields). r.now) c.args.issuer) given) h)
+    let given = c.with_names-given.result in
+    ok_asked x (contents c.args.lists.now) (by_named_lists given.names x given.lists)
+    (asks_lists x c.unambiguous.ensures.certificate c.unambiguous-2.ensures.list c.args.lists.now
+    c.is_empty.result c.is_empty.ensures c.if-is_empty.false c.in_ok-read.read.items c.in_ok-read.ensures given
+    (c.with_names-given.ensures ∙ ap given_of c.deref.ensures.value))
+    (λ made (checks : RevocationChecks). IsAcceptedMade x checks (option_map (λ (r : Bor ResourceFields). r.now) c.args.issuer)
+    made)
+    c.made_below-made.result c.made_below-made.ensures.accepted
 
 pub returns-then-is_empty-clause-refused : goal.returns-then-is_empty-clause-refused
 returns-then-is_empty-clause-refused c =
-    let lists = c.args.lists.now in
     let x = context_of (asked_fields c.args.order.now) c.args.at in
-    let empty : length (contents lists) ≡ 0 = length-map lists (λ file. file.octets) ∙
-    (Decides-eqb (length lists) 0).0 (sym c.is_empty.ensures ∙ c.if-is_empty.true) in
-    let answer = c.made_below in
-    on_err _ _ answer.result answer.ensures.refused
-    (λ why none not given. none_nobody x (contents lists) empty
-    (λ (checks : RevocationChecks). CompletesAs (asked_fields c.args.order.now) c.args.path.now checks
+    none_asked x (contents c.args.lists.now) nobody
+    (asks_nobody x c.args.lists.now c.is_empty.result c.is_empty.ensures c.if-is_empty.true)
+    (λ made (checks : RevocationChecks). CompletesAs (asked_fields c.args.order.now) c.args.path.now checks
     c.args.at (option_map (λ (r : Bor ResourceFields). r.now) c.args.issuer) c.args.prepared.now
-    c.args.signature.now given) (none not given))
+    c.args.signature.now made)
+    c.made_below.result c.made_below.ensures.refused
 
 pub returns-clause-refused : goal.returns-clause-refused
 returns-clause-refused c =
-    let lists = c.args.lists.now in
     let x = context_of (asked_fields c.args.order.now) c.args.at in
-    let read = c.in_ok-read.read.items in
-    let some : length (contents lists) ≡ 0 →
-    ⊥ = λ none. false≢true
-    (sym c.if-is_empty.false ∙ c.is_empty.ensures ∙ (Decides-eqb (length lists) 0).1
-    (sym (length-map lists (λ file. file.octets)) ∙ none)) in
-    let given : c.with_names-given.result ≡ given_of read =
-    c.with_names-given.ensures ∙ ap (λ (ls : List CrlState). given_of ls) c.deref.ensures.value in
-    let answer = c.made_below-made in
-    let refused = subst (λ (g : GivenFields). IfErr answer.result (λ why. why ≢ Memory → (given : Made) →
-    CompletesAs (asked_fields c.args.order.now) c.args.path.now (by_named_lists g.names x g.lists) c.args.at
-    (option_map (λ (r : Bor ResourceFields). r.now) c.args.issuer) c.args.prepared.now c.args.signature.now
-    given → ⊥)) given answer.ensures.refused in
-    on_err _ _ answer.result refused
-    (λ why none not given. none_read x c.unambiguous.ensures.certificate c.unambiguous-2.ensures.list
-    (contents lists) read some c.in_ok-read.ensures
-    (λ (checks : RevocationChecks). CompletesAs (asked_fields c.args.order.now) c.args.path.now checks
+    let given = c.with_names-given.result in
+    none_asked x (contents c.args.lists.now) (by_named_lists given.names x given.lists)
+    (asks_lists x c.unambiguous.ensures.certificate c.unambiguous-2.ensures.list c.args.lists.now
+    c.is_empty.result c.is_empty.ensures c.if-is_empty.false c.in_ok-read.read.items c.in_ok-read.ensures given
+    (c.with_names-given.ensures ∙ ap given_of c.deref.ensures.value))
+    (λ made (checks : RevocationChecks). CompletesAs (asked_fields c.args.order.now) c.args.path.now checks
     c.args.at (option_map (λ (r : Bor ResourceFields). r.now) c.args.issuer) c.args.prepared.now
-    c.args.signature.now given) (none not given))
+    c.args.signature.now made)
+    c.made_below-made.result c.made_below-made.ensures.refused
 
 pub returns-then-is_empty-clause-so : goal.returns-then-is_empty-clause-so
 returns-then-is_empty-clause-so c =
-    let lists = c.args.lists.now in
     let x = context_of (asked_fields c.args.order.now) c.args.at in
-    let empty : length (contents lists) ≡ 0 = length-map lists (λ file. file.octets) ∙
-    (Decides-eqb (length lists) 0).0 (sym c.is_empty.ensures ∙ c.if-is_empty.true) in
-    let answer = c.made_below in
-    on_err _ _ answer.result answer.ensures.so
-    (λ why so. inr
-    (so_nobody x (contents lists) empty
-    (λ (checks : RevocationChecks). IsSoOfEither (asked_fields c.args.order.now) c.args.path.now checks
+    why_asked x (contents c.args.lists.now) nobody
+    (asks_nobody x c.args.lists.now c.is_empty.result c.is_empty.ensures c.if-is_empty.true)
+    (λ why (checks : RevocationChecks). IsSoOfEither (asked_fields c.args.order.now) c.args.path.now checks
     c.args.at (option_map (λ (r : Bor ResourceFields). r.now) c.args.issuer) c.args.prepared.now
-    c.args.signature.now why) so))
+    c.args.signature.now why)
+    c.made_below.result c.made_below.ensures.so
+
+pub returns-clause-so : goal.returns-clause-so
+returns-clause-so c =
+    let x = context_of (asked_fields c.args.order.now) c.args.at in
+    let given = c.with_names-given.result in
+    why_asked x (contents c.args.lists.now) (by_named_lists given.names x given.lists)
+    (asks_lists x c.unambiguous.ensures.certificate c.unambiguous-2.ensures.list c.args.lists.now
+    c.is_empty.result c.is_empty.ensures c.if-is_empty.false c.in_ok-read.read.items c.in_ok-read.ensures given
+    (c.with_names-given.ensures ∙ ap given_of c.deref.ensures.value))
+    (λ why (checks : RevocationChecks). IsSoOfEither (asked_fields c.args.order.now) c.args.path.now checks
+    c.args.at (option_map (λ (r : Bor ResourceFields). r.now) c.args.issuer) c.args.prepared.now
+    c.args.signature.now why)
+    c.made_below-made.result c.made_below-made.ensures.so
 
 pub returns-in_err-read-clause-so : goal.returns-in_err-read-clause-so
 returns-in_err-read-clause-so c =
     let gives = err_from_is_err_and c.from_residual.result c.from_residual.ensures.1 in
     rw (gives.1, gives.2) (inl refl)
-
-pub returns-clause-so : goal.returns-clause-so
-returns-clause-so c =
-    let lists = c.args.lists.now in
-    let x = context_of (asked_fields c.args.order.now) c.args.at in
-    let read = c.in_ok-read.read.items in
-    let some : length (contents lists) ≡ 0 →
-    ⊥ = λ none. false≢true
-    (sym c.if-is_empty.false ∙ c.is_empty.ensures ∙ (Decides-eqb (length lists) 0).1
-    (sym (length-map lists (λ file. file.octets)) ∙ none)) in
-    let given : c.with_names-given.result ≡ given_of read =
-    c.with_names-given.ensures ∙ ap (λ (ls : List CrlState). given_of ls) c.deref.ensures.value in
-    let answer = c.made_below-made in
-    let so = subst (λ (g : GivenFields).
-    IfErr answer.result
-    (λ why. IsSoOfEither (asked_fields c.args.order.now) c.args.path.now (by_named_lists g.names x g.lists)
-    c.args.at (option_map (λ (r : Bor ResourceFields). r.now) c.args.issuer) c.args.prepared.now
-    c.args.signature.now why)) given answer.ensures.so in
-    on_err _ _ answer.result so
-    (λ why so. inr
-    (so_read x (contents lists) read some c.in_ok-read.ensures
-    (λ (checks : RevocationChecks). IsSoOfEither (asked_fields c.args.order.now) c.args.path.now checks
-    c.args.at (option_map (λ (r : Bor ResourceFields). r.now) c.args.issuer) c.args.prepared.now
-    c.args.signature.now why) so))

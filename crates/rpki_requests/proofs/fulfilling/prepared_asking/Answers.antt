@@ -1,21 +1,16 @@
-use Rattle.std.specs.Prelude.{true, option_map, IfErr, IfOk}
-use Rattle.std.proofs.Common.{◌≡◌, ◌≢◌, inl, inr, refl, ℕ, Bor, List, length, sym, ap, subst, ◌∙◌}
-use Rattle.std.proofs.lemmas.Bool.{false≢true}
-use Rattle.std.proofs.lemmas.Bool.Decides.{Decides-eqb}
-use Rattle.std.proofs.lemmas.List.{length-map}
+-- The checks are those of nobody or of the lists that are given, and the answer by them is the answer.
+use Rattle.std.specs.Prelude.{option_map}
+use Rattle.std.proofs.Common.{◌∙◌, true, Bor, List, ap, inl, refl}
 use Rattle.std.proofs.lemmas.Result.{err_from_is_err_and}
 use Rattle.rpki_cert.specs.Verification.{ResourceFields}
 use Rattle.rpki_crl.specs.Lists.{CrlState}
 use Rattle.rpki_files.specs.Files.{contents}
-use Rattle.rpki_issuing.proofs.SameRoles.{on_ok, on_err}
 use Rattle.rpki_path.specs.AskedLists.{GivenFields, by_named_lists}
-use Rattle.rpki_path.specs.Asking.{RevocationChecks}
-use Rattle.rpki_requests.specs.Fulfilment.{PreparesBelow}
+use Rattle.rpki_path.specs.Asking.{RevocationChecks, nobody}
+use Rattle.rpki_requests.specs.Fulfilment.{PreparesBelow, context_of}
 use Rattle.rpki_requests.specs.RefusedErrands.{IsSoOfCertificate}
-use Rattle.rpki_requests.specs.declared.refusals.Refusal.TheVariants.{Memory}
-use Rattle.rpki_requests.specs.Fulfilment.{context_of}
 use Rattle.rpki_requests.specs.RequestWords.Views.{asked_fields}
-use Rattle.rpki_requests.proofs.AskedSources.{so_nobody, none_nobody, so_read, none_read}
+use Rattle.rpki_requests.proofs.AskedSources.{asks_lists, asks_nobody, none_asked, ok_asked, why_asked}
 use Rattle.rpki_requests.proofs.fulfilling.prepared_asking.Goals as goal
 
 abbrev given_of : List CrlState → GivenFields
@@ -23,116 +18,56 @@ given_of lists = record { lists = lists; names = true }
 
 pub returns-then-is_empty-clause-prepared : goal.returns-then-is_empty-clause-prepared
 returns-then-is_empty-clause-prepared c =
-    let lists = c.args.lists.now in
     let x = context_of (asked_fields c.args.order.now) c.args.at in
-    let empty : length (contents lists) ≡ 0 = length-map lists (λ file. file.octets) ∙
-    (Decides-eqb (length lists) 0).0 (sym c.is_empty.ensures ∙ c.if-is_empty.true) in
-    let answer = c.prepared_below in
-    on_ok _ _ (Unit {0}) answer.result answer.ensures.prepared (λ ok. tt)
-    (λ octets h unit. so_nobody x (contents lists) empty
-    (λ (checks : RevocationChecks). PreparesBelow c.args.kind (asked_fields c.args.order.now)
-    (contents c.args.keys.now) c.args.path.now checks c.args.at
-    (option_map (λ (r : Bor ResourceFields). r.now) c.args.issuer) octets) h)
+    ok_asked x _ _
+    (asks_nobody x c.args.lists.now c.is_empty.result c.is_empty.ensures c.if-is_empty.true)
+    _ c.prepared_below.result c.prepared_below.ensures.prepared
 
 pub returns-clause-prepared : goal.returns-clause-prepared
 returns-clause-prepared c =
-    let lists = c.args.lists.now in
     let x = context_of (asked_fields c.args.order.now) c.args.at in
-    let read = c.in_ok-read.read.items in
-    let some : length (contents lists) ≡ 0 →
-    ⊥ = λ none. false≢true
-    (sym c.if-is_empty.false ∙ c.is_empty.ensures ∙ (Decides-eqb (length lists) 0).1
-    (sym (length-map lists (λ file. file.octets)) ∙ none)) in
-    let given : c.with_names-given.result ≡ given_of read =
-    c.with_names-given.ensures ∙ ap (λ (ls : List CrlState). given_of ls) c.deref.ensures.value in
-    let answer = c.prepared_below-octets in
-    let made = subst (λ (g : GivenFields).
-    IfOk answer.result
-    (λ octets. PreparesBelow c.args.kind (asked_fields c.args.order.now) (contents c.args.keys.now)
-    c.args.path.now (by_named_lists g.names x g.lists) c.args.at
-    (option_map (λ (r : Bor ResourceFields). r.now) c.args.issuer) octets)) given answer.ensures.prepared in
-    on_ok _ _ (Unit {0}) answer.result made (λ ok. tt)
-    (λ octets h unit. so_read x (contents lists) read some c.in_ok-read.ensures
-    (λ (checks : RevocationChecks). PreparesBelow c.args.kind (asked_fields c.args.order.now)
-    (contents c.args.keys.now) c.args.path.now checks c.args.at
-    (option_map (λ (r : Bor ResourceFields). r.now) c.args.issuer) octets) h)
+    let given = c.with_names-given.result in
+    ok_asked x _ _
+    (asks_lists x c.unambiguous.ensures.certificate c.unambiguous-2.ensures.list c.args.lists.now
+    c.is_empty.result c.is_empty.ensures c.if-is_empty.false c.in_ok-read.read.items c.in_ok-read.ensures given
+    (c.with_names-given.ensures ∙ ap given_of c.deref.ensures.value))
+    _ c.prepared_below-octets.result c.prepared_below-octets.ensures.prepared
 
 pub returns-then-is_empty-clause-refused : goal.returns-then-is_empty-clause-refused
 returns-then-is_empty-clause-refused c =
-    let lists = c.args.lists.now in
     let x = context_of (asked_fields c.args.order.now) c.args.at in
-    let empty : length (contents lists) ≡ 0 = length-map lists (λ file. file.octets) ∙
-    (Decides-eqb (length lists) 0).0 (sym c.is_empty.ensures ∙ c.if-is_empty.true) in
-    let answer = c.prepared_below in
-    on_err _ _ answer.result answer.ensures.refused
-    (λ why none not octets. none_nobody x (contents lists) empty
-    (λ (checks : RevocationChecks). PreparesBelow c.args.kind (asked_fields c.args.order.now)
-    (contents c.args.keys.now) c.args.path.now checks c.args.at
-    (option_map (λ (r : Bor ResourceFields). r.now) c.args.issuer) octets) (none not octets))
+    none_asked x _ _
+    (asks_nobody x c.args.lists.now c.is_empty.result c.is_empty.ensures c.if-is_empty.true)
+    _ c.prepared_below.result c.prepared_below.ensures.refused
 
 pub returns-clause-refused : goal.returns-clause-refused
 returns-clause-refused c =
-    let lists = c.args.lists.now in
     let x = context_of (asked_fields c.args.order.now) c.args.at in
-    let read = c.in_ok-read.read.items in
-    let some : length (contents lists) ≡ 0 →
-    ⊥ = λ none. false≢true
-    (sym c.if-is_empty.false ∙ c.is_empty.ensures ∙ (Decides-eqb (length lists) 0).1
-    (sym (length-map lists (λ file. file.octets)) ∙ none)) in
-    let given : c.with_names-given.result ≡ given_of read =
-    c.with_names-given.ensures ∙ ap (λ (ls : List CrlState). given_of ls) c.deref.ensures.value in
-    let answer = c.prepared_below-octets in
-    let refused = subst (λ (g : GivenFields). IfErr answer.result (λ why. why ≢ Memory → (octets : List ℕ) →
-    PreparesBelow c.args.kind (asked_fields c.args.order.now) (contents c.args.keys.now) c.args.path.now
-    (by_named_lists g.names x g.lists) c.args.at
-    (option_map (λ (r : Bor ResourceFields). r.now) c.args.issuer) octets →
-    ⊥)) given answer.ensures.refused in
-    on_err _ _ answer.result refused
-    (λ why none not octets. none_read x c.unambiguous.ensures.certificate c.unambiguous-2.ensures.list
-    (contents lists) read some c.in_ok-read.ensures
-    (λ (checks : RevocationChecks). PreparesBelow c.args.kind (asked_fields c.args.order.now)
-    (contents c.args.keys.now) c.args.path.now checks c.args.at
-    (option_map (λ (r : Bor ResourceFields). r.now) c.args.issuer) octets) (none not octets))
+    let given = c.with_names-given.result in
+    none_asked x _ _
+    (asks_lists x c.unambiguous.ensures.certificate c.unambiguous-2.ensures.list c.args.lists.now
+    c.is_empty.result c.is_empty.ensures c.if-is_empty.false c.in_ok-read.read.items c.in_ok-read.ensures given
+    (c.with_names-given.ensures ∙ ap given_of c.deref.ensures.value))
+    _ c.prepared_below-octets.result c.prepared_below-octets.ensures.refused
 
 pub returns-then-is_empty-clause-so : goal.returns-then-is_empty-clause-so
 returns-then-is_empty-clause-so c =
-    let lists = c.args.lists.now in
     let x = context_of (asked_fields c.args.order.now) c.args.at in
-    let empty : length (contents lists) ≡ 0 = length-map lists (λ file. file.octets) ∙
-    (Decides-eqb (length lists) 0).0 (sym c.is_empty.ensures ∙ c.if-is_empty.true) in
-    let answer = c.prepared_below in
-    on_err _ _ answer.result answer.ensures.so
-    (λ why so. inr
-    (so_nobody x (contents lists) empty
-    (λ (checks : RevocationChecks). IsSoOfCertificate c.args.kind (asked_fields c.args.order.now)
-    (contents c.args.keys.now) c.args.path.now checks c.args.at
-    (option_map (λ (r : Bor ResourceFields). r.now) c.args.issuer) why) so))
+    why_asked x _ _
+    (asks_nobody x c.args.lists.now c.is_empty.result c.is_empty.ensures c.if-is_empty.true)
+    _ c.prepared_below.result c.prepared_below.ensures.so
+
+pub returns-clause-so : goal.returns-clause-so
+returns-clause-so c =
+    let x = context_of (asked_fields c.args.order.now) c.args.at in
+    let given = c.with_names-given.result in
+    why_asked x _ _
+    (asks_lists x c.unambiguous.ensures.certificate c.unambiguous-2.ensures.list c.args.lists.now
+    c.is_empty.result c.is_empty.ensures c.if-is_empty.false c.in_ok-read.read.items c.in_ok-read.ensures given
+    (c.with_names-given.ensures ∙ ap given_of c.deref.ensures.value))
+    _ c.prepared_below-octets.result c.prepared_below-octets.ensures.so
 
 pub returns-in_err-read-clause-so : goal.returns-in_err-read-clause-so
 returns-in_err-read-clause-so c =
     let gives = err_from_is_err_and c.from_residual.result c.from_residual.ensures.1 in
     rw (gives.1, gives.2) (inl refl)
-
-pub returns-clause-so : goal.returns-clause-so
-returns-clause-so c =
-    let lists = c.args.lists.now in
-    let x = context_of (asked_fields c.args.order.now) c.args.at in
-    let read = c.in_ok-read.read.items in
-    let some : length (contents lists) ≡ 0 →
-    ⊥ = λ none. false≢true
-    (sym c.if-is_empty.false ∙ c.is_empty.ensures ∙ (Decides-eqb (length lists) 0).1
-    (sym (length-map lists (λ file. file.octets)) ∙ none)) in
-    let given : c.with_names-given.result ≡ given_of read =
-    c.with_names-given.ensures ∙ ap (λ (ls : List CrlState). given_of ls) c.deref.ensures.value in
-    let answer = c.prepared_below-octets in
-    let so = subst (λ (g : GivenFields).
-    IfErr answer.result
-    (λ why. IsSoOfCertificate c.args.kind (asked_fields c.args.order.now) (contents c.args.keys.now)
-    c.args.path.now (by_named_lists g.names x g.lists) c.args.at
-    (option_map (λ (r : Bor ResourceFields). r.now) c.args.issuer) why)) given answer.ensures.so in
-    on_err _ _ answer.result so
-    (λ why so. inr
-    (so_read x (contents lists) read some c.in_ok-read.ensures
-    (λ (checks : RevocationChecks). IsSoOfCertificate c.args.kind (asked_fields c.args.order.now)
-    (contents c.args.keys.now) c.args.path.now checks c.args.at
-    (option_map (λ (r : Bor ResourceFields). r.now) c.args.issuer) why) so))
