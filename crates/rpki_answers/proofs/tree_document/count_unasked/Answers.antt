@@ -1,5 +1,4 @@
-use Rattle.std.specs.Prelude.{Option}
-use Rattle.std.proofs.Common.{◌∙◌, ℕ, List, take, sym, ap}
+use Rattle.std.proofs.Common.{◌∙◌, ℕ, List, sym, ap}
 use Rattle.rpki_answers.specs.TreeDocuments.{with_unasked}
 use Rattle.rpki_answers.proofs.TreeRowsInOrder.{unasked_next}
 use Rattle.rpki_answers.proofs.tree_document.count_unasked.Goals as goal

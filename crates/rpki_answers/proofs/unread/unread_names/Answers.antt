@@ -1,4 +1,4 @@
-use Rattle.std.proofs.Common.{◌≡◌, ◌∙◌, ◌+◌, ◌++◌, Bor, ℕ, List, drop, map, ap}
+use Rattle.std.proofs.Common.{◌∙◌, ◌+◌, ◌++◌, Bor, ℕ, List, drop, map, ap}
 use Rattle.std.proofs.lemmas.List.{drop_more}
 use Rattle.rpki_answers.specs.UnreadNames.{unread_names}
 use Rattle.rpki_answers.proofs.unread.unread_names.Goals as goal
