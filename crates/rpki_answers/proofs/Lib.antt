@@ -2,6 +2,7 @@
 mod AppendedTexts
 mod FlaggedItems
 mod PartsOfEach
+mod PrintedAs
 mod PushedItems
 mod ShownFiles
 mod GrownLists

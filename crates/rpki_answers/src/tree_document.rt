@@ -5,13 +5,14 @@ ghost use Rattle.std.specs.Prelude.{◌≡◌, ◌++◌, ◌∷◌, [], Some, co
 ghost use Rattle.rpki_document.specs.Building.{Adds, AddsSome, nodes_of, spans_of};
 ghost use Rattle.rpki_document.specs.Documents.{count, further, inner, keep, say, show, tell, text};
 ghost use Rattle.rpki_answers.specs.TreeDocuments.{AreOtherPaths, ArePathNodes, AreSaid, AreAcceptedNodes, IsRowDocument, above_node, above_nodes, also_line, also_node, more_line, more_nodes, same_spans, shown_node, accepted_head, anchor_head, below_spans, count_line, count_lines, count_of, counts_node, damage_nodes, end_nodes, ended_word, error_node, errors_node, errors_of, file_first, file_last, has_error, has_word, index_node, issuer_spans, left_line, left_nodes, left_words, limit_nodes, limit_spans, limited_spans, name_of, no_anchor_head, no_locator_nodes, rejected_head, rejected_row, rejected_spans, row_head, searched_line, limited_line, whole_line, tal_head, tal_node, tals_node, tree_asked, tree_unchecked, unasked_of, unread_node, unseen_row, with_error, with_unasked};
+ghost use Rattle.rpki_answers.specs.TreeDocuments.Steps.{AreHeldAside, PrintsSome};
 ghost use Rattle.rpki_verdicts.specs.Trees.{asked_of};
 
 use crate::told::kind_leaf;
 use crate::tree_rows::{Row, Said, Word, unseen_word};
 use crate::verdict_document::{
     add_fault, add_held, add_not_locators, add_time, add_unchecked, add_unchecked_names,
-    add_unjudged,
+    add_unjudged, some_held,
 };
 use rpki_cert::Kind;
 use rpki_document::{
@@ -21,6 +22,8 @@ use rpki_document::{
 use rpki_files::BareObject;
 use rpki_folder::{Ended, FoundPath, Limit};
 use rpki_parts::KeyIdentifier;
+use rpki_path::Judged;
+use rpki_text::command_line::Format;
 use rpki_verdicts::{
     Fault, ShownPaths, Tree, TreeAnswer, TreePart, TreeQuestion, Trees, Unseen, hold_same,
 };
@@ -508,6 +511,40 @@ fn add_more(parts: &mut Vec<Part<'_>>, alloc: Global, more: usize) -> Result<(),
     }
 }
 
+// What is held, in no line.
+fn add_held_aside(
+    parts: &mut Vec<Part<'_>>,
+    alloc: Global,
+    judged: &Judged,
+) -> Result<(), AllocError>
+    ensures { let Are = AreHeldAside judged.now.holder judged.now.router in
+        OnOk result (AddsSome Are parts.old.items parts.new.items) }
+{
+    let mut held = Vec::new(alloc);
+    add_held(&mut held, alloc, judged)?;
+    add_aside(parts, held)
+}
+
+// Adds what the certificate holds, unless it is text that is printed: no line of a text says it, and
+// its parts are many if a CA holds many blocks.
+fn add_held_in(
+    parts: &mut Vec<Part<'_>>,
+    alloc: Global,
+    judged: &Judged,
+    format: Format,
+) -> Result<(), AllocError>
+    ensures { let Are = PrintsSome format (AreHeldAside judged.now.holder judged.now.router) in
+        OnOk result (AddsSome Are parts.old.items parts.new.items) }
+{
+    match format {
+        Format::Text => {
+            some_held(judged);
+            Ok(())
+        }
+        Format::Json | Format::JsonLines => add_held_aside(parts, alloc, judged),
+    }
+}
+
 fn add_accepted<'p>(
     parts: &mut Vec<Part<'p>>,
     alloc: Global,
@@ -515,16 +552,15 @@ fn add_accepted<'p>(
     tree: &Tree<'p, '_>,
     paths: &ShownPaths<'_>,
     kind: Kind,
+    format: Format,
 ) -> Result<(), AllocError>
-    ensures { let Are = AreAcceptedNodes name.now tree.now paths.now kind in
+    ensures { let Are = PrintsSome format (AreAcceptedNodes name.now tree.now paths.now kind) in
         OnOk result (AddsSome Are parts.old.items parts.new.items) }
 {
     let shown = paths.shown;
     add_accepted_head(parts, alloc, name, tree, &shown.above, kind)?;
     add_above(parts, alloc, tree, &shown.above)?;
-    let mut held = Vec::new(alloc);
-    add_held(&mut held, alloc, &shown.judged)?;
-    add_aside(parts, held)?;
+    add_held_in(parts, alloc, &shown.judged, format)?;
     add_paths(parts, alloc, tree, paths)?;
     add_more(parts, alloc, paths.more)
 }
@@ -536,12 +572,15 @@ fn add_said<'p>(
     certs: &[&'p BareObject<'_>],
     name: &'p str,
     said: &Said<'_, 'p, '_>,
+    format: Format,
 ) -> Result<(), AllocError>
     ensures { let Are = AreSaid (map (λ f. f.now) certs.now) name.now said.now in
-        OnOk result (AddsSome Are parts.old.items parts.new.items) }
+        OnOk result (AddsSome (PrintsSome format Are) parts.old.items parts.new.items) }
 {
     match said {
-        Said::Accepted(tree, paths, kind) => add_accepted(parts, alloc, name, *tree, paths, *kind),
+        Said::Accepted(tree, paths, kind) => {
+            add_accepted(parts, alloc, name, *tree, paths, *kind, format)
+        }
         Said::Rejected(fault) => add_rejected(parts, alloc, name, fault),
         Said::Unseen(why, error) => add_unseen(parts, alloc, certs, name, *why, *error),
         Said::Anchor => add_plain(parts, alloc, Word::Anchor, name),
@@ -611,17 +650,18 @@ fn add_limit(
     add_further(parts, pieces)
 }
 
-/// Makes the document of a row.
+/// Makes the document of a row, to be printed in a format.
 pub fn row_document<'p>(
     alloc: Global,
     certs: &[&'p BareObject<'_>],
     row: &Row<'_, 'p, '_>,
+    format: Format,
 ) -> Result<Vec<Part<'p>>, AllocError>
-    ensures { let files = map (λ f. f.now) certs.now in
-        IfOk result (λ parts. IsRowDocument files row.now (nodes_of parts.items)) }
+    ensures { let Is = IsRowDocument (map (λ f. f.now) certs.now) row.now in
+        IfOk result (λ parts. PrintsSome format Is (nodes_of parts.items)) }
 {
     let mut parts = Vec::new(alloc);
-    add_said(&mut parts, alloc, certs, row.file.name(), &row.said)?;
+    add_said(&mut parts, alloc, certs, row.file.name(), &row.said, format)?;
     add_limit(&mut parts, alloc, row.limit)?;
     add_left(&mut parts, alloc, row.left)?;
     Ok(parts)

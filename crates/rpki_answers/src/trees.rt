@@ -142,7 +142,7 @@ fn append_row<'p>(
         (string_bytes out.old) (string_bytes out.new)) }
 {
     if is_printed(row, options.only_rejected) {
-        let parts = row_document(alloc, certs, row)?;
+        let parts = row_document(alloc, certs, row, options.format)?;
         return append(out, alloc, &parts, options.format);
     }
     Ok(())
@@ -178,7 +178,7 @@ fn add_row<'p>(
         OnOk result (AddsRow only_rejected its row.now files.old.items files.new.items) }
 {
     if is_printed(row, only_rejected) {
-        let parts = row_document(alloc, certs, row)?;
+        let parts = row_document(alloc, certs, row, Format::Json)?;
         return add_inside(files, "", parts);
     }
     Ok(())

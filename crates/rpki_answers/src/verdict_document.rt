@@ -573,6 +573,25 @@ pub(crate) fn add_held(
     }
 }
 
+// That there are parts of what is held by a router's certificate and by the CA above it.
+fn some_below(cert: &Cert, holder: &ResourceCert)
+    ensures { (held : _) × AreHeld holder.now (Some cert.now) held }
+{
+    let fields = cert.as_tbs();
+    let key = fields.subject_public_key_info();
+    let _found = answer_of(key);
+}
+
+/// Says that there are parts of what is held, where none are made.
+pub(crate) fn some_held(judged: &Judged)
+    ensures { (held : _) × AreHeld judged.now.holder judged.now.router held }
+{
+    match &judged.router {
+        Some(cert) => some_below(cert, &judged.holder),
+        None => {}
+    }
+}
+
 fn revocation_leaf(lists: &[Object<'_>]) -> Leaf<'static>
     ensures { leaf_view result ≡ revocation_told lists.now }
 {

@@ -1,13 +1,30 @@
 -- What the functions that print rows do to a text, and to the parts of a document.
 use Rattle.std.specs.List.{flat_map}
-use Rattle.std.specs.Prelude.{◌≡◌, ℕ, Bool, List, [], ◌++◌, map}
+use Rattle.std.specs.Prelude.{◌≡◌, ℕ, Bool, List, [], ◌++◌, ◌∷◌, map, Option}
+use Rattle.rpki_cert.specs.Certificates.{CertFields}
+use Rattle.rpki_cert.specs.Verification.{ResourceFields}
 use Rattle.rpki_document.specs.Building.{Adds}
-use Rattle.rpki_document.specs.Documents.{Node, inside, document_of}
+use Rattle.rpki_document.specs.Documents.{Node, aside, inside, document_of, document_text}
 use Rattle.rpki_document.specs.declared.parts.Part.{Part}
 use Rattle.rpki_files.specs.Files.{FileFields}
 use Rattle.rpki_text.specs.declared.command_line.arguments.Format.{Format}
+use Rattle.rpki_text.specs.declared.command_line.arguments.Format.TheVariants.{Text}
 use Rattle.rpki_answers.specs.TreeDocuments.{PrintsRow, PrintsRows, rendered}
+use Rattle.rpki_answers.specs.Verdicts.{AreHeld}
 use Rattle.rpki_answers.specs.declared.tree_rows.Row.{Row}
+
+-- these parts are printed in a format as those are: JSON has no others, a text may lack what no line says
+abbrev pub PrintsAs : Format → List Node → List Node → Type 0
+PrintsAs Text nodes whole = document_text (document_of nodes) ≡ document_text (document_of whole)
+PrintsAs format nodes whole = nodes ≡ whole
+
+-- as parts of which this holds
+abbrev pub PrintsSome : Format → (List Node → Type 0) → List Node → Type 0
+PrintsSome format Hold nodes = (whole : List Node) × Hold whole × PrintsAs format nodes whole
+
+-- what is held, for a program alone
+abbrev pub AreHeldAside : ResourceFields → Option CertFields → List Node → Type 0
+AreHeldAside holder router nodes = (held : List Node) × AreHeld holder router held × (nodes ≡ aside (document_of held) ∷ [])
 
 -- new is old with these documents behind it
 abbrev pub AppendsDocuments : Format → List (List Node) → List ℕ → List ℕ → Type 0
