@@ -49,7 +49,7 @@ def faults():
 def parts():
     """The section of each part of a certificate."""
     entries = table('rpki_files/specs/FaultTable.antt').split('part_table =')[1].split('[]')[0]
-    return dict(re.findall(r'part ' + STRING + ' ' + STRING, entries))
+    return dict(re.findall(r'\bsection_part ' + STRING + r'\s+' + STRING, entries))
 
 
 @functools.cache
@@ -68,8 +68,8 @@ def expected():
     part in the definition."""
     fields, kinds = (table(f'rpki_files/specs/{it}.antt') for it in ('PartTexts', 'KnownKinds'))
     found = {}
-    for part, name, wanted in re.findall(r'^(?:field|part)_text (?:field|part)\.(\w+) =\s+told ' + STRING + ' ' +
-                                         STRING, fields, re.M):
+    for part, name, wanted in re.findall(r'^(?:field_text field|part_description part)\.(\w+) =\s+part_words ' +
+                                         STRING + r'\s+' + STRING, fields, re.M):
         found.setdefault(name, {})[part] = wanted
     names = dict(re.findall(r'^kind_name known\.(\w+) = codes ' + STRING, kinds, re.M))
     for kind, wanted in re.findall(r'^kind_wanted known\.(\w+) =\s+codes ' + STRING, kinds, re.M):
@@ -79,7 +79,7 @@ def expected():
 
 @functools.cache
 def sorts():
-    found = re.findall(r'^description sort\.(\w+) =\n\s+described ' + r'\s+'.join([STRING] * 4),
+    found = re.findall(r'^sort_description sort\.(\w+) =\n\s+described ' + r'\s+'.join([STRING] * 4),
                        table('rpki_files/specs/SortTexts.antt'), re.M)
     return {name: Sort(called, advice, Rule(says, section)) for name, called, says, section, advice in found}
 
