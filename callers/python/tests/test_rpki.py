@@ -1375,6 +1375,30 @@ class Issuing(unittest.TestCase):
                 said = openssl("crl", "-crlnumber", "-noout", given=it.octets)
                 self.assertEqual(int(said.partition(b"=")[2], 16), it.number)
 
+    def test_ranges_that_many_hold(self) -> None:
+        """The library writes the ranges of a CA once, however many certificates inherit them."""
+        many = [ipaddress.IPv4Network((10 << 24 | at << 9, 24)) for at in range(40)]
+        anchor = self.anchor
+        path = [anchor, self.made(Kind.AUTHORITY, "ca", "anchor", [anchor], **self.ca(ipv4=many))]
+        given = list(path)
+        for number, ipv4 in enumerate([INHERIT, INHERIT, many[:3], INHERIT, INHERIT], 1):
+            wanted: dict[str, Any] = {"uris": self.above, "serial_number": number, "ipv4": ipv4}
+            given.append(self.made(Kind.DETACHED, "ee", "ca", path, **wanted))
+        lists = [self.listed("anchor", [anchor]), self.listed("ca", path)]
+        tal = b"rsync://rpki.example.net/repo/anchor.cer\n\n" + base64.b64encode(public("anchor"))
+        strings = raw.strings_of([*given, *(it.octets for it in lists)])
+        now = raw.Time(2026, 6, 1, 0, 0, 0, 0)
+        asked = raw.folder_question(strings, tal, now, True, (32, 0), False, False)
+        walk, lines, room = raw.judge_folder(asked)
+        self.assertEqual((walk.fault, walk.v4), (0, 43))
+        held = [raw.held_of(it, room)[0] for it in lines[1 : len(given)]]
+        counts = [len(it) for it in held]
+        self.assertEqual(counts, [40, 40, 40, 3, 40, 40])
+        for ranges in held:
+            for it, network in zip(ranges, many):
+                ends = network.network_address.packed, network.broadcast_address.packed
+                self.assertEqual((bytes(it.min)[:4], bytes(it.max)[:4]), ends)
+
     def test_lists_that_are_refused(self) -> None:
         anchor = self.anchor
         below = self.made(Kind.AUTHORITY, "ca", "anchor", [anchor], **self.ca())

@@ -33,7 +33,7 @@ part_stays old more at count part h =
     )
 
 -- nothing was added
-goes_on : {A : Type 0} (xs : List A) → KeepsItems xs xs
+pub goes_on : {A : Type 0} (xs : List A) → KeepsItems xs xs
 goes_on xs = ([], sym (append-nil xs))
 
 pub not_grown : (r : Ranges) → HaveGrown r r

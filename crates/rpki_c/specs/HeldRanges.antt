@@ -1,4 +1,4 @@
--- Ranges that several certificates hold, those of one behind those of another (own).
+-- Ranges that several certificates hold, those of one behind those of another, or at one place (own).
 use Rattle.std.specs.Prelude.{◌≡◌, ◌++◌, List, map}
 use Rattle.rpki_cert.specs.Verification.{ResourceFields}
 use Rattle.rpki_c.specs.Writing.{as_struct, ip_struct, IsPartAt}
