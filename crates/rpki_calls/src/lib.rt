@@ -5,7 +5,6 @@
 
 mod asking;
 mod blocks;
-mod copies;
 mod decoding;
 mod ends;
 mod extensions;
@@ -27,8 +26,7 @@ use std::process::ExitCode;
 
 // What the call of this path answered.
 fn told(alloc: Global, path: &str) -> Option<Told> {
-    copies::told(alloc, path)
-        .or(ends::told(alloc, path))
+    ends::told(alloc, path)
         .or(blocks::told(alloc, path))
         .or(parts::told(alloc, path))
         .or(extensions::told(alloc, path))

@@ -8,9 +8,6 @@ use anyhow::Context;
 use rpki::repository::cert::Cert;
 use std::{env, fs};
 
-#[cfg(test)]
-mod tests;
-
 fn main(rt: HostRuntime) -> anyhow::Result<()> {
     let name = env::args(&rt)?.nth(1).context("no file is named")?;
     let octets = fs::read(&rt, name)?;

@@ -1,18 +1,17 @@
-//! Folders: loops of keys, bounds that are met, and what is kept of verdicts.
+//! Folders: loops of keys, bounds that are met, and what is kept of verdicts. Verdicts themselves are
+//! test vectors.
 
 use crate::checks::{check, check_count, check_text};
 use crate::counting::Counting;
-use crate::located::{OF_ANCHOR, OF_OTHER, locator};
+use crate::located::locator;
 use crate::{anchors, lists, samples};
 use bytes::Bytes;
-use rpki_cert::{Cert, Said};
-use rpki_crl::RevocationError;
 use rpki_folder::{
-    Added, AllAdmitted, Bounds, Ended, Firsts, Folder, Found, FoundAnchor, Limit, LimitTable, Line,
-    Lines, Reached, Walk, WalkError, Walked,
+    Added, Admission, AllAdmitted, Bounds, Ended, Firsts, Folder, Limit, LimitTable, Line, Lines,
+    Reached, Walk, Walked,
 };
 use rpki_parts::{StandIn, Verifier};
-use rpki_path::{Member, PathFault};
+use rpki_path::Member;
 use std::alloc::Global;
 use std::cell::Cell;
 use std::process::Abort;
@@ -48,38 +47,32 @@ fn fill(rt: &impl Abort, alloc: Global, folder: &mut Folder, authorities: usize)
     add(rt, folder, list_octets(rt, alloc), Added::List);
 }
 
-// A walk in 2024, to this depth and of so many steps.
-fn walk<'w, V: Verifier>(
+// Walks down from the anchor in 2024, to this depth and so many steps, and returns how the walk
+// ended, with the lines.
+fn walked<A: Admission, V: Verifier>(
     rt: &impl Abort,
     alloc: Global,
-    folder: &'w Folder,
-    bounds: Bounds,
-    verifier: &'w V,
-) -> Walk<'w, AllAdmitted, V> {
-    Walk {
+    folder: &Folder,
+    admission: &A,
+    bounds: (usize, usize),
+    verifier: &V,
+) -> (Walked, Lines) {
+    let mut lines = Lines::new(alloc, folder.certs().len()).expect(rt, "memory");
+    let tal = locator(rt, alloc);
+    let anchor = anchors::octets(rt, alloc);
+    let walk = Walk {
         alloc,
         folder,
-        admission: &AllAdmitted,
-        bounds,
+        admission,
+        bounds: Bounds {
+            depth: bounds.0,
+            steps: bounds.1,
+        },
         names: false,
         strict: true,
         at: anchors::now(rt),
         verifier,
-    }
-}
-
-// Walks down from the anchor, and returns how the walk ended, with the lines.
-fn walked(
-    rt: &impl Abort,
-    alloc: Global,
-    folder: &Folder,
-    depth: usize,
-    steps: usize,
-) -> (Walked, Lines) {
-    let mut lines = Lines::new(alloc, folder.certs().len()).expect(rt, "memory");
-    let tal = locator(rt, alloc, OF_ANCHOR);
-    let anchor = anchors::octets(rt, alloc);
-    let walk = walk(rt, alloc, folder, Bounds { depth, steps }, &StandIn);
+    };
     let walked = walk.from_anchor(&tal, &Member::of(&anchor), &mut lines);
     let walked = walked.expect(rt, "an anchor");
     drop(tal);
@@ -108,15 +101,16 @@ fn is_limited(limits: &LimitTable, folder: &Folder) -> bool {
 }
 
 // That a walk through the folder, to this depth and of so many steps, ends so and has these lines.
-fn check_walk(
+fn check_walk<A: Admission>(
     rt: &impl Abort,
     alloc: Global,
     folder: &Folder,
+    admission: &A,
     bounds: (usize, usize),
     how: Ended,
     wanted: &[(usize, &str)],
 ) {
-    let (walked, lines) = walked(rt, alloc, folder, bounds.0, bounds.1);
+    let (walked, lines) = walked(rt, alloc, folder, admission, bounds, &StandIn);
     check(rt, walked.ended == how, "how the walk ended");
     check(
         rt,
@@ -140,7 +134,7 @@ fn check_limited(
     bounds: (usize, usize),
     limit: Limit,
 ) {
-    let (walked, lines) = walked(rt, alloc, folder, bounds.0, bounds.1);
+    let (walked, lines) = walked(rt, alloc, folder, &AllAdmitted, bounds, &StandIn);
     let reached = walked.limits.at_start();
     check_count(rt, reached.paths, 1);
     check(rt, reached.least() == Some(limit), "which limit");
@@ -165,6 +159,7 @@ fn no_path_goes_in_a_circle(rt: HostRuntime) {
         &rt,
         alloc,
         &folder,
+        &AllAdmitted,
         (3, 1),
         Ended::Whole,
         &[(0, "accepted")],
@@ -181,6 +176,7 @@ fn a_walk_ends_at_the_depth(rt: HostRuntime) {
         &rt,
         alloc,
         &folder,
+        &AllAdmitted,
         (0, 100),
         Ended::TooDeep,
         &[(0, "unseen")],
@@ -207,6 +203,7 @@ fn a_walk_ends_with_the_steps(rt: HostRuntime) {
         &rt,
         alloc,
         &folder,
+        &AllAdmitted,
         (20, 39),
         Ended::OutOfSteps,
         &[(0, "unseen")],
@@ -218,184 +215,11 @@ fn a_walk_ends_with_the_steps(rt: HostRuntime) {
         &rt,
         alloc,
         &folder,
+        &AllAdmitted,
         (20, 40),
         Ended::Whole,
         &[(0, "accepted")],
     );
-    drop(folder);
-}
-
-// Adds an end entity that was read before.
-fn add_read(rt: &impl Abort, alloc: Global, folder: &mut Folder) {
-    let octets = end_entity(rt, alloc);
-    let shared = octets.clone().expect(rt, "memory");
-    let cert = Cert::decode_shared(alloc, shared).expect(rt, "a certificate");
-    let said = Said::of(&cert);
-    drop(cert);
-    check_count(rt, folder.add_cert(octets, said).expect(rt, "memory"), 0);
-}
-
-#[test]
-fn the_order_of_a_folder_does_not_matter(rt: HostRuntime) {
-    let alloc = rt.alloc();
-    let mut folder = Folder::new(alloc);
-    add(
-        &rt,
-        &mut folder,
-        Bytes::from_static(b"\x30\x00"),
-        Added::Neither,
-    );
-    add(&rt, &mut folder, list_octets(&rt, alloc), Added::List);
-    add_read(&rt, alloc, &mut folder);
-    let wanted = [(0, "accepted"), (0, "none")];
-    check_walk(&rt, alloc, &folder, (3, 100), Ended::Whole, &wanted);
-    drop(folder);
-}
-
-fn lacks_list(lines: &Lines) -> bool {
-    matches!(
-        lines.as_slice().get(0),
-        Some(Line::Rejected(_, PathFault::Revocation(RevocationError::NoCrl)))
-    )
-}
-
-#[test]
-fn without_a_list_nothing_is_accepted(rt: HostRuntime) {
-    let alloc = rt.alloc();
-    let mut folder = Folder::new(alloc);
-    add(
-        &rt,
-        &mut folder,
-        end_entity(&rt, alloc),
-        Added::Certificate(0),
-    );
-    check_walk(
-        &rt,
-        alloc,
-        &folder,
-        (3, 100),
-        Ended::Whole,
-        &[(1, "Revocation")],
-    );
-    let (walked, lines) = walked(&rt, alloc, &folder, 3, 100);
-    check(&rt, lacks_list(&lines), "no list");
-    drop(walked);
-    drop(lines);
-    drop(folder);
-}
-
-// Below the trust anchor of this locator, what is found of the first certificate.
-fn found(rt: &impl Abort, alloc: Global, folder: &Folder, file: &[u8]) -> Result<Found, WalkError> {
-    let tal = locator(rt, alloc, file);
-    let anchor = anchors::octets(rt, alloc);
-    let bounds = Bounds { depth: 3, steps: 9 };
-    let walk = walk(rt, alloc, folder, bounds, &StandIn);
-    let found = walk.find(&tal, &Member::of(&anchor), 0);
-    drop(tal);
-    found
-}
-
-// Whether a path was found, and its end entity is right below the trust anchor.
-fn is_found(rt: &impl Abort, alloc: Global, folder: &Folder) -> bool {
-    let answer = found(rt, alloc, folder, OF_ANCHOR).expect(rt, "an anchor");
-    let is_found = match &answer {
-        Found::NotFound(how) => {
-            check(rt, *how == Ended::Whole, "a whole walk");
-            false
-        }
-        Found::Valid(path) => path.above.is_empty(),
-    };
-    drop(answer);
-    is_found
-}
-
-#[test]
-fn a_path_is_found(rt: HostRuntime) {
-    let alloc = rt.alloc();
-    let mut folder = Folder::new(alloc);
-    add(
-        &rt,
-        &mut folder,
-        end_entity(&rt, alloc),
-        Added::Certificate(0),
-    );
-    check(
-        &rt,
-        !is_found(&rt, alloc, &folder),
-        "no path without a list",
-    );
-    add(&rt, &mut folder, list_octets(&rt, alloc), Added::List);
-    check(&rt, is_found(&rt, alloc, &folder), "a path");
-    drop(folder);
-}
-
-#[test]
-fn an_anchor_of_another_key_begins_no_walk(rt: HostRuntime) {
-    let alloc = rt.alloc();
-    let folder = Folder::new(alloc);
-    let Err(error) = found(&rt, alloc, &folder, OF_OTHER) else {
-        rt.abort()
-    };
-    check(&rt, !error.is_memory(), "another key");
-    drop(error);
-    drop(folder);
-}
-
-// Checks that the folder has this trust anchor; or none, and so many wrong candidates.
-fn check_found_anchor(
-    rt: &impl Abort,
-    alloc: Global,
-    folder: &Folder,
-    file: &[u8],
-    wanted: Result<usize, usize>,
-) {
-    let tal = locator(rt, alloc, file);
-    let bounds = Bounds { depth: 0, steps: 0 };
-    let walk = walk(rt, alloc, folder, bounds, &StandIn);
-    match walk.find_anchor(&tal).expect(rt, "memory") {
-        FoundAnchor::Valid(place, holder) => {
-            drop(holder);
-            check(rt, wanted == Ok(place), "the place of the anchor");
-        }
-        FoundAnchor::Wrong(candidates) => {
-            check(rt, wanted == Err(candidates.len()), "wrong candidates");
-            drop(candidates);
-        }
-    }
-    drop(tal);
-}
-
-// A CA of the anchor's key is no trust anchor, wherever it stands; nor is a certificate of another
-// key a candidate.
-#[test]
-fn a_ca_of_the_anchors_key_hides_no_anchor(rt: HostRuntime) {
-    let alloc = rt.alloc();
-    let mut folder = Folder::new(alloc);
-    check_found_anchor(&rt, alloc, &folder, OF_ANCHOR, Err(0));
-    let anchor = anchors::octets(&rt, alloc);
-    for (octets, wanted) in [
-        (end_entity(&rt, alloc), Err(0)),
-        (authority(&rt, alloc), Err(1)),
-        (anchor, Ok(2)),
-        (authority(&rt, alloc), Ok(2)),
-    ] {
-        folder.add(octets).expect(&rt, "memory");
-        check_found_anchor(&rt, alloc, &folder, OF_ANCHOR, wanted);
-        check_found_anchor(&rt, alloc, &folder, OF_OTHER, Err(0));
-    }
-    drop(folder);
-}
-
-// Two certificates of one key stand side by side: two are told, and none below them, as that key is
-// the anchor's.
-#[test]
-fn renewals_that_lie_side_by_side_are_both_judged(rt: HostRuntime) {
-    let alloc = rt.alloc();
-    let mut folder = Folder::new(alloc);
-    fill(&rt, alloc, &mut folder, 2);
-    check_walk(&rt, alloc, &folder, (2, 1), Ended::OutOfSteps, &[]);
-    let wanted = [(0, "accepted"), (0, "accepted")];
-    check_walk(&rt, alloc, &folder, (2, 2), Ended::Whole, &wanted);
     drop(folder);
 }
 
@@ -404,18 +228,6 @@ fn longer(rt: &impl Abort, alloc: Global, octets: &[u8]) -> Bytes {
     let mut more = Vec::from_slice(alloc, octets).expect(rt, "memory");
     more.push(0).expect(rt, "memory");
     Bytes::from_vec(more).expect(rt, "memory")
-}
-
-// What is behind a list may be one that revokes.
-#[test]
-fn a_list_with_octets_behind_is_none(rt: HostRuntime) {
-    let alloc = rt.alloc();
-    let mut folder = Folder::new(alloc);
-    let list = list_octets(&rt, alloc);
-    let more = longer(&rt, alloc, &list);
-    add(&rt, &mut folder, more, Added::Neither);
-    add(&rt, &mut folder, list, Added::List);
-    drop(folder);
 }
 
 // Each certificate is admitted at its first place, whatever is behind it.
@@ -438,48 +250,21 @@ fn a_copy_takes_no_step(rt: HostRuntime) {
     for (place, first) in [0, 0, 2].iter().enumerate() {
         check_count(&rt, firsts.first_of(place), *first);
     }
-    let mut lines = Lines::new(alloc, 3).expect(&rt, "memory");
-    let tal = locator(&rt, alloc, OF_ANCHOR);
-    let anchor = anchors::octets(&rt, alloc);
-    let walk = Walk {
-        alloc,
-        folder: &folder,
-        admission: &firsts,
-        bounds: Bounds { depth: 3, steps: 2 },
-        names: false,
-        strict: true,
-        at: anchors::now(&rt),
-        verifier: &StandIn,
-    };
-    let walked = walk.from_anchor(&tal, &Member::of(&anchor), &mut lines);
-    let walked = walked.expect(&rt, "an anchor");
-    assert!(rt; walked.ended == Ended::Whole);
-    drop(walked);
-    assert!(rt; line(&lines, 0) == (0, "accepted"));
-    assert!(rt; line(&lines, 1) == (0, "unseen"));
-    assert!(rt; line(&lines, 2) == (0, "accepted"));
-    drop(lines);
-    drop(tal);
+    let wanted = [(0, "accepted"), (0, "unseen"), (0, "accepted")];
+    check_walk(&rt, alloc, &folder, &firsts, (3, 2), Ended::Whole, &wanted);
     drop(firsts);
     drop(folder);
 }
 
 // How many signatures are verified in a walk through the folder.
 fn verified(rt: &impl Abort, alloc: Global, folder: &Folder) -> usize {
-    let mut lines = Lines::new(alloc, folder.certs().len()).expect(rt, "memory");
-    let tal = locator(rt, alloc, OF_ANCHOR);
-    let anchor = anchors::octets(rt, alloc);
     let verifier = Counting {
         calls: Cell::new(0),
     };
-    let bounds = Bounds { depth: 3, steps: 9 };
-    let walk = walk(rt, alloc, folder, bounds, &verifier);
-    let walked = walk.from_anchor(&tal, &Member::of(&anchor), &mut lines);
-    let walked = walked.expect(rt, "an anchor");
+    let (walked, lines) = walked(rt, alloc, folder, &AllAdmitted, (3, 9), &verifier);
     check(rt, walked.ended == Ended::Whole, "a whole walk");
     drop(walked);
     drop(lines);
-    drop(tal);
     verifier.calls.get()
 }
 

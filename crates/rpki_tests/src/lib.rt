@@ -17,8 +17,6 @@ mod decoding;
 #[cfg(test)]
 mod devices;
 #[cfg(test)]
-mod elsewhere;
-#[cfg(test)]
 mod errors;
 #[cfg(test)]
 mod faults;
@@ -29,25 +27,11 @@ mod given_lists;
 #[cfg(test)]
 mod issuing;
 #[cfg(test)]
-mod judging;
-#[cfg(test)]
 mod lists;
 #[cfg(test)]
 mod located;
 #[cfg(test)]
-mod memory;
-#[cfg(test)]
 mod name_texts;
-#[cfg(test)]
-mod names;
-#[cfg(test)]
-mod paths;
-#[cfg(test)]
-mod real_signatures;
-#[cfg(test)]
-mod routers;
 pub mod samples;
-#[cfg(test)]
-mod shared;
 #[cfg(test)]
 mod texts;

@@ -1,6 +1,6 @@
-//! Revocation lists that are made, and entries that are added to them.
+//! Revocation lists that are made.
 
-use crate::checks::{check_count, check_hash};
+use crate::checks::check_hash;
 use crate::samples;
 use rpki_crl::{Crl, CrlEntry, TbsCertList};
 use rpki_der::Serial;
@@ -53,19 +53,4 @@ fn a_list_is_made(rt: HostRuntime) {
     let made = made.expect(&rt, "a list");
     assert_made(&rt, alloc, &made);
     drop(made);
-}
-
-// Revokes one number more.
-fn revoke(rt: &impl Abort, entries: &mut Vec<CrlEntry>, number: u64) {
-    let since = samples::day(2020).expect(rt, "a day");
-    let entry = CrlEntry::new(Serial::from(number), since);
-    entries.push(entry).expect(rt, "memory");
-}
-
-#[test]
-fn entries_are_added_in_place(rt: HostRuntime) {
-    let mut data = data(&rt, rt.alloc());
-    revoke(&rt, data.revoked_certs_mut(), 43);
-    check_count(&rt, data.revoked_certs().len(), 3);
-    drop(data);
 }

@@ -6,9 +6,9 @@ mod digits;
 mod signers;
 
 pub use data::{
-    anchor, anchor_octets, authority_octets, bare, day, end_entity, end_entity_octets, inherit_all,
-    router, rsa, set_authority, set_issuer, set_places, set_router, signed, uri, valid_anchor,
-    written,
+    anchor, anchor_octets, authority, authority_octets, bare, day, end_entity, end_entity_octets,
+    inherit_all, router, rsa, set_authority, set_issuer, set_places, set_router, signed, uri,
+    valid_anchor, written,
 };
 pub use digits::{
     ANCHOR, ANCHOR_DATA, END_ENTITY, ROUTER, ROUTER_DATA, contains, has_digits, has_hash, octets,

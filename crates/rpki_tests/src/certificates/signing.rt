@@ -1,21 +1,13 @@
-//! Certificates are signed, by the stand-in and by signers of a caller's own.
+//! Signers of a caller's own: what they refuse with, and how often they are asked.
 
-use crate::checks::{check, check_count, check_hash, check_octets, check_text};
+use crate::checks::{check, check_count, check_octets, check_text};
 use crate::samples::{self, Refusal, Refusing};
 use bytes::Bytes;
-use rpki_cert::{Cert, TbsCert, round_trip};
-use rpki_parts::{RpkiSignatureAlgorithm, Signature, Signer, SigningError, StandIn};
+use rpki_cert::{Cert, TbsCert};
+use rpki_parts::{RpkiSignatureAlgorithm, Signature, Signer, SigningError};
 use std::alloc::Global;
 use std::cell::{Cell, RefCell};
 use std::process::Abort;
-
-#[test]
-fn a_router_is_made(rt: HostRuntime) {
-    let alloc = rt.alloc();
-    let tbs = samples::router(alloc).expect(&rt, "memory");
-    let router = samples::signed(alloc, tbs).expect(&rt, "memory");
-    check_hash(&rt, alloc, &router, samples::ROUTER);
-}
 
 // What the refused call answered; 0 for a certificate.
 fn answered(made: Result<Cert, SigningError<u32>>) -> (u32, &'static str) {
@@ -110,25 +102,4 @@ fn what_is_kept_is_signed_once(rt: HostRuntime) {
         &signer,
         samples::anchor(alloc).expect(&rt, "memory"),
     );
-}
-
-// The certificate of this data, with the issuer's IPv4 addresses, read again from its own octets.
-fn read_again(rt: &impl Abort, alloc: Global, mut tbs: TbsCert) -> Cert {
-    tbs.set_v4_resources_inherit();
-    let made = tbs
-        .into_cert(alloc, &StandIn, &samples::rsa(b"abc"))
-        .expect(rt, "a certificate");
-    let again = round_trip::read_again(alloc, &made).expect(rt, "memory");
-    drop(made);
-    again
-}
-
-#[test]
-fn a_made_certificate_is_read_again(rt: HostRuntime) {
-    let alloc = rt.alloc();
-    let tbs = samples::end_entity(alloc).expect(&rt, "memory");
-    let cert = read_again(&rt, alloc, tbs);
-    let octets = cert.to_captured(alloc).expect(&rt, "memory");
-    check_hash(&rt, alloc, &octets, samples::END_ENTITY);
-    drop(cert);
 }
