@@ -8,32 +8,22 @@ use bytes::Bytes;
 use rpki_cert::{Cert, KeyUsage, ResourceCert, Said, TbsCert};
 use rpki_crl::Crl;
 use rpki_folder::{
-    Accepted, Added, AllAdmitted, Bounds, Ended, Firsts, Folder, Found, FoundAnchor, Line, Lines,
-    Visitor, Walk, Walked,
+    Accepted, AllAdmitted, Bounds, Ended, Firsts, Folder, Found, FoundAnchor, Line, Lines, Visitor,
+    Walk, Walked,
 };
 use rpki_keys::tal::Tal;
 use rpki_parts::StandIn;
 use rpki_path::{Member, PathFault};
 use rpki_tests::samples::{self, rsa, shared};
-use std::alloc::{AllocError, Global};
-
-// ---- what is added
-
-// A list's octets.
-fn list_octets(alloc: Global) -> Option<Bytes> {
-    let list = list_by(alloc, b"abc")?;
-    let octets = list.to_captured(alloc).ok();
-    drop(list);
-    octets
-}
+use std::alloc::Global;
 
 // The data of an end entity of this serial below the key that the bits are.
 fn leaf(alloc: Global, serial: u64, bits: &'static [u8]) -> Option<TbsCert> {
     let mut tbs = samples::bare(alloc, serial, rsa(b"b"), KeyUsage::Ee)?;
-    let set = samples::set_issuer(alloc, &mut tbs);
+    samples::set_issuer(alloc, &mut tbs);
     tbs.set_as_resources_inherit();
     tbs.set_authority_key_identifier(Some(rsa(bits).key_identifier()));
-    set.and(Some(tbs))
+    Some(tbs)
 }
 
 // An end entity's octets.
@@ -46,23 +36,7 @@ fn end_entity(alloc: Global, serial: u64, bits: &'static [u8]) -> Option<Bytes> 
     octets
 }
 
-// Whether the folder has so many certificates, of which each names the anchor's key as the one that
-// signs it, and so many lists.
-fn has(folder: &Folder, certs: usize, lists: usize) -> bool {
-    let named = folder.signed_by(&rsa(b"abc").key_identifier());
-    folder.certs().len() == certs && named.len() == certs && folder.lists().len() == lists
-}
-
-fn empty(alloc: Global) -> Option<Told> {
-    begin(alloc);
-    let folder = Folder::new(alloc);
-    let stands = has(&folder, 0, 0);
-    drop(folder);
-    end(alloc);
-    Some(Told::standing("ok", stands))
-}
-
-// What was answered, and whether the folder is what it has to be.
+// What was answered, and whether what stands afterwards is what has to stand.
 type Outcome = Option<(&'static str, bool)>;
 
 // Lets what was changed go, and then marks the end: after an error a folder may keep room that it
@@ -74,158 +48,74 @@ fn ended_without<T: Drop>(alloc: Global, changed: T, outcome: Outcome) -> Option
     Some(Told::standing(answer, stands))
 }
 
-// Puts four certificates and a list into a folder, so that the next one wants more room.
-fn begun(alloc: Global, folder: &mut Folder) -> Option<()> {
-    for serial in 9..13u64 {
-        folder.add(end_entity(alloc, serial, b"abc")?).ok()?;
-    }
-    folder.add_list(list_by(alloc, b"abc")?).ok()
+// ---- what is added
+
+// Adds these octets, if there are any.
+fn put(folder: &mut Folder, octets: Option<Bytes>) -> Option<()> {
+    let added = folder.add(octets?).ok();
+    added.and(Some(()))
 }
 
-// Whether a folder that had so many certificates and lists is what it has to be after this answer.
-fn is_added(
-    folder: &Folder,
-    answer: &Result<Added, AllocError>,
-    certs: usize,
-    lists: usize,
-) -> bool {
-    match answer {
-        Ok(Added::Certificate(place)) => *place == certs
-            && has(folder, certs.saturating_add(1), lists),
-        Ok(Added::List) => has(folder, certs, lists.saturating_add(1)),
-        Ok(Added::Neither) => has(folder, certs, lists),
-        Err(_) => has(folder, certs, lists),
-    }
-}
-
-fn add(alloc: Global, folder: &mut Folder, octets: Bytes, wanted: Added) -> Outcome {
-    let (certs, lists) = (folder.certs().len(), folder.lists().len());
-    begin(alloc);
-    let answer = folder.add(octets);
-    let is_wanted = match &answer {
-        Ok(added) => *added == wanted,
-        Err(_) => true,
-    };
-    let stands = is_wanted && is_added(folder, &answer, certs, lists);
-    Some((name_of(&answer), stands))
-}
-
-// To a folder with certificates and a list.
-fn add_beside(alloc: Global, folder: &mut Folder, octets: Bytes, wanted: Added) -> Outcome {
-    begun(alloc, folder)?;
-    add(alloc, folder, octets, wanted)
+fn put_list(folder: &mut Folder, list: Option<Crl>) -> Option<()> {
+    folder.add_list(list?).ok()
 }
 
 // A certificate that was read.
-fn add_read(alloc: Global, folder: &mut Folder, octets: Bytes) -> Outcome {
-    begun(alloc, folder)?;
-    let shared = octets.clone().ok()?;
-    let cert = Cert::decode_shared(alloc, shared).ok()?;
+fn add_read(alloc: Global, folder: &mut Folder) -> Outcome {
+    let octets = end_entity(alloc, 13, b"abc")?;
+    let cert = Cert::decode_shared(alloc, octets.clone().ok()?).ok()?;
     let said = Said::of(&cert);
     drop(cert);
     begin(alloc);
     let answer = folder.add_cert(octets, said);
-    let stands = match &answer {
-        Ok(place) => *place == 4 && has(folder, 5, 1),
-        Err(_) => has(folder, 4, 1),
-    };
-    Some((name_of(&answer), stands))
+    Some((name_of(&answer), true))
 }
 
-fn read_first(alloc: Global, folder: &Folder) -> Outcome {
-    let filed = folder.certs().first()?;
+fn add_list(alloc: Global, folder: &mut Folder) -> Outcome {
+    let list = list_by(alloc, b"abc")?;
     begin(alloc);
-    let answer = filed.cert(alloc);
-    let key = rsa(b"b").key_identifier();
-    let stands = match &answer {
-        Ok(cert) => cert.as_tbs().subject_key_identifier() == key,
-        Err(_) => true,
-    };
-    let name = name_of(&answer);
-    drop(answer);
-    Some((name, stands))
+    let answer = folder.add_list(list);
+    Some((name_of(&answer), true))
 }
 
-// The certificate of a folder, read again.
-fn read_again(alloc: Global) -> Option<Told> {
-    let octets = end_entity(alloc, 13, b"abc")?;
+fn added(alloc: Global, is_list: bool) -> Option<Told> {
     let mut folder = Folder::new(alloc);
-    let outcome = match folder.add(octets) {
-        Ok(_) => read_first(alloc, &folder),
-        Err(_) => None,
+    let outcome = if is_list {
+        add_list(alloc, &mut folder)
+    } else {
+        add_read(alloc, &mut folder)
     };
     ended_without(alloc, folder, outcome)
 }
 
-// The first places of four certificates.
-fn first_places(alloc: Global, folder: &mut Folder) -> Option<Told> {
-    begun(alloc, folder)?;
-    called!(alloc, Firsts::of(alloc, folder), firsts => firsts.first_of(3) == 3)
+// The certificate of a folder, read again.
+fn first_read(alloc: Global, folder: &Folder) -> Option<Told> {
+    let filed = folder.certs().first()?;
+    let key = rsa(b"b").key_identifier();
+    called!(
+        alloc,
+        filed.cert(alloc),
+        cert => cert.as_tbs().subject_key_identifier() == key
+    )
 }
 
-fn firsts_of(alloc: Global) -> Option<Told> {
+fn of_folder(alloc: Global, path: &str, folder: &mut Folder) -> Option<Told> {
+    let filled = put(folder, end_entity(alloc, 13, b"abc"));
+    let told = match path {
+        "rpki_folder::Filed::cert" => first_read(alloc, folder),
+        _ => called!(alloc, Firsts::of(alloc, folder), firsts => firsts.first_of(0) == 0),
+    };
+    filled.and(told)
+}
+
+fn filed(alloc: Global, path: &str) -> Option<Told> {
     let mut folder = Folder::new(alloc);
-    let told = first_places(alloc, &mut folder);
+    let told = of_folder(alloc, path, &mut folder);
     drop(folder);
     told
 }
 
-fn add_list(alloc: Global, folder: &mut Folder, list: Crl) -> Outcome {
-    begin(alloc);
-    let answer = folder.add_list(list);
-    let stands = match &answer {
-        Ok(()) => has(folder, 0, 1),
-        Err(_) => has(folder, 0, 0),
-    };
-    Some((name_of(&answer), stands))
-}
-
-// The octets that the call of this path adds.
-fn octets_of(alloc: Global, path: &str) -> Option<Bytes> {
-    match path {
-        "rpki_folder::Folder::add" => end_entity(alloc, 9, b"abc"),
-        "rpki_folder::Folder::add/list" => list_octets(alloc),
-        "rpki_folder::Folder::add/neither" => shared(alloc, "3000"),
-        _ => end_entity(alloc, 13, b"abc"),
-    }
-}
-
-fn add_octets(alloc: Global, path: &str, folder: &mut Folder, octets: Bytes) -> Outcome {
-    match path {
-        "rpki_folder::Folder::add" => add(alloc, folder, octets, Added::Certificate(0)),
-        "rpki_folder::Folder::add/beside" => {
-            add_beside(alloc, folder, octets, Added::Certificate(4))
-        }
-        "rpki_folder::Folder::add/list" => add_beside(alloc, folder, octets, Added::List),
-        "rpki_folder::Folder::add/neither" => add_beside(alloc, folder, octets, Added::Neither),
-        "rpki_folder::Folder::add_cert" => add_read(alloc, folder, octets),
-        _ => {
-            drop(octets);
-            None
-        }
-    }
-}
-
-// What the call of this path adds to the folder.
-fn adding(alloc: Global, path: &str, folder: &mut Folder) -> Outcome {
-    if path == "rpki_folder::Folder::add_list" {
-        add_list(alloc, folder, list_by(alloc, b"abc")?)
-    } else {
-        add_octets(alloc, path, folder, octets_of(alloc, path)?)
-    }
-}
-
-fn added(alloc: Global, path: &str) -> Option<Told> {
-    let mut folder = Folder::new(alloc);
-    let outcome = adding(alloc, path, &mut folder);
-    ended_without(alloc, folder, outcome)
-}
-
 // ---- lines
-
-fn lines_made(alloc: Global) -> Option<Told> {
-    called!(alloc, Lines::new(alloc, 9), lines => lines.as_slice().len() == 9)
-}
 
 // How many CAs stand above an accepted certificate; 8 where it was rejected below the trust anchor,
 // and 9 where nothing was told.
@@ -272,20 +162,27 @@ fn locator(alloc: Global) -> Option<Tal> {
     Tal::read_named(alloc, name, LOCATOR, true).ok()
 }
 
+fn authority_octets(alloc: Global) -> Option<Bytes> {
+    samples::signed(alloc, authority(alloc)?)
+}
+
 // An authority, an end entity below it, one below the anchor, one there that its list revokes, and
 // the anchor.
 fn fill(alloc: Global, folder: &mut Folder) -> Option<()> {
-    folder.add(samples::signed(alloc, authority(alloc)?)?).ok()?;
-    for (serial, bits) in [
-        (9, b"a".as_slice()),
-        (9, b"abc".as_slice()),
-        (5, b"abc".as_slice()),
-    ] {
-        folder.add(end_entity(alloc, serial, bits)?).ok()?;
-    }
-    folder.add(shared(alloc, ANCHOR)?).ok()?;
-    folder.add_list(list_by(alloc, b"abc")?).ok()?;
-    folder.add_list(list_by(alloc, b"a")?).ok()
+    let first = put(folder, authority_octets(alloc));
+    let second = put(folder, end_entity(alloc, 9, b"a"));
+    let third = put(folder, end_entity(alloc, 9, b"abc"));
+    let fourth = put(folder, end_entity(alloc, 5, b"abc"));
+    let last = put(folder, shared(alloc, ANCHOR));
+    let list = put_list(folder, list_by(alloc, b"abc"));
+    let other = put_list(folder, list_by(alloc, b"a"));
+    first
+        .and(second)
+        .and(third)
+        .and(fourth)
+        .and(last)
+        .and(list)
+        .and(other)
 }
 
 // Whether the lines are those of the whole folder, or, where memory ran out, some of them.
@@ -321,26 +218,6 @@ fn is_anchor(found: &FoundAnchor) -> bool {
 
 fn anchor_found(alloc: Global, walk: &Down<'_>, tal: &Tal) -> Option<Told> {
     called!(alloc, walk.find_anchor(tal), found => is_anchor(found))
-}
-
-fn walk_from(
-    alloc: Global,
-    walk: &Down<'_>,
-    tal: &Tal,
-    anchor: &Member<'_>,
-    lines: &mut Lines,
-) -> Outcome {
-    begin(alloc);
-    let answer = walk.from_anchor(tal, anchor, lines);
-    let outcome = ended_with(&answer, lines);
-    drop(answer);
-    outcome
-}
-
-fn walked_from(alloc: Global, walk: &Down<'_>, tal: &Tal, anchor: &Member<'_>) -> Option<Told> {
-    let mut lines = Lines::new(alloc, 5).ok()?;
-    let outcome = walk_from(alloc, walk, tal, anchor, &mut lines);
-    ended_without(alloc, lines, outcome)
 }
 
 fn walk_below(alloc: Global, walk: &Down<'_>, issuer: &ResourceCert, lines: &mut Lines) -> Outcome {
@@ -393,7 +270,6 @@ fn down(alloc: Global, path: &str, folder: &Folder, tal: &Tal) -> Option<Told> {
     match path {
         "rpki_folder::Walk::trust_anchor" => anchor_taken(alloc, &walk, tal, &anchor),
         "rpki_folder::Walk::find_anchor" => anchor_found(alloc, &walk, tal),
-        "rpki_folder::Walk::from_anchor" => walked_from(alloc, &walk, tal, &anchor),
         "rpki_folder::Walk::below" => walked(alloc, &walk, tal, &anchor),
         "rpki_folder::Walk::find" => found(alloc, &walk, tal, &anchor),
         _ => None,
@@ -417,12 +293,10 @@ fn of_walk(alloc: Global, path: &str) -> Option<Told> {
 /// The calls of `rpki_folder`.
 pub fn told(alloc: Global, path: &str) -> Option<Told> {
     match path {
-        "rpki_folder::Filed::cert" => read_again(alloc),
-        "rpki_folder::Firsts::of" => firsts_of(alloc),
-        "rpki_folder::Folder::new" => empty(alloc),
-        "rpki_folder::Lines::new" => lines_made(alloc),
+        "rpki_folder::Filed::cert" | "rpki_folder::Firsts::of" => filed(alloc, path),
         "rpki_folder::Lines::tell" => line_told(alloc),
-        _ if path.starts_with("rpki_folder::Folder::add") => added(alloc, path),
+        "rpki_folder::Folder::add_cert" => added(alloc, false),
+        "rpki_folder::Folder::add_list" => added(alloc, true),
         _ if path.starts_with("rpki_folder::Walk::") => of_walk(alloc, path),
         _ => None,
     }

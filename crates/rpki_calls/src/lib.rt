@@ -15,7 +15,6 @@ mod lists;
 mod making;
 mod parts;
 mod paths;
-mod setting;
 mod stores;
 mod validating;
 
@@ -31,7 +30,6 @@ fn told(alloc: Global, path: &str) -> Option<Told> {
         .or(parts::told(alloc, path))
         .or(extensions::told(alloc, path))
         .or(making::told(alloc, path))
-        .or(setting::told(alloc, path))
         .or(validating::told(alloc, path))
         .or(lists::told(alloc, path))
         .or(stores::told(alloc, path))

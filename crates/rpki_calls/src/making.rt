@@ -15,14 +15,10 @@ use std::alloc::Global;
 /// The data of an authority with the key `a` under the anchor, which lists AS5 to AS20.
 pub fn authority(alloc: Global) -> Option<TbsCert> {
     let mut tbs = samples::bare(alloc, 13, rsa(b"a"), KeyUsage::Ca)?;
-    let set = set_authority(alloc, &mut tbs);
-    set.and(Some(tbs))
-}
-
-fn set_authority(alloc: Global, tbs: &mut TbsCert) -> Option<()> {
-    samples::set_authority(alloc, tbs)?;
+    samples::set_authority(alloc, &mut tbs);
     let numbers = AsBlock::from((Asn::from(5), Asn::from(20)));
-    tbs.as_resources_from_iter(alloc, [numbers]).ok()
+    let set = tbs.as_resources_from_iter(alloc, [numbers]).ok();
+    set.and(Some(tbs))
 }
 
 // Whether the set has the numbers that both it and the anchor list, and no others around them.

@@ -1,6 +1,6 @@
-//! Entries, lists that are made, tables of serials, and lists under their URIs.
+//! Entries, lists that are made, and lists under their URIs.
 
-use crate::asking::{Told, begin, called, end, ended, read, vector, written_digits};
+use crate::asking::{Told, begin, called, read, vector, written_digits};
 use bytes::Bytes;
 use rpki_crl::{
     Crl, CrlEntry, CrlStore, InvalidExtension, RevokedCertificates, TbsCertList, round_trip,
@@ -23,15 +23,6 @@ fn entry_written(alloc: Global) -> Option<Told> {
         &out,
         "301202010c170d3139303530313030303030305a",
     )
-}
-
-fn empty(alloc: Global) -> Option<Told> {
-    begin(alloc);
-    let entries = RevokedCertificates::empty(alloc);
-    let stands = !entries.contains(Serial::from(12u64));
-    drop(entries);
-    end(alloc);
-    Some(Told::standing("ok", stands))
 }
 
 fn revoked(alloc: Global) -> Option<RevokedCertificates> {
@@ -138,10 +129,6 @@ pub fn list_by(alloc: Global, bits: &'static [u8]) -> Option<Crl> {
     made.ok()
 }
 
-fn list(alloc: Global) -> Option<Crl> {
-    list_by(alloc, b"abc")
-}
-
 // Whether the list answers as it was made, and from a table of its serials or not: a walk looks at
 // all eight entries to tell that one isn't there, a table at four at most.
 fn is_list(list: &Crl, is_cached: bool) -> bool {
@@ -150,35 +137,7 @@ fn is_list(list: &Crl, is_cached: bool) -> bool {
     has && !is_in && if is_cached { looks <= 4 } else { looks == 8 }
 }
 
-fn cached(alloc: Global) -> Option<Told> {
-    let mut list = list(alloc)?;
-    begin(alloc);
-    let answer = ended(alloc, list.cache_serials(alloc));
-    let stands = is_list(&list, answer == "ok");
-    drop(list);
-    Some(Told::standing(answer, stands))
-}
-
 const UNDER: &str = "rsync://example.com/m/x.crl";
-
-// The answer to a push, and whether the pair that was handed back is the one that was pushed.
-fn pushed(alloc: Global, store: &mut CrlStore) -> Option<(&'static str, bool)> {
-    let (under, list) = uri(alloc, UNDER).zip(list(alloc))?;
-    begin(alloc);
-    match store.push(under, list) {
-        Ok(()) => {
-            end(alloc);
-            Some(("ok", true))
-        }
-        Err((under, list)) => {
-            let is_same = under.as_bytes() == UNDER.as_bytes() && is_list(&list, false);
-            drop(under);
-            drop(list);
-            end(alloc);
-            Some(("pair", is_same))
-        }
-    }
-}
 
 // Whether the store has the list under this URI, with a table.
 fn has_list(store: &CrlStore, under: &Rsync) -> bool {
@@ -186,36 +145,6 @@ fn has_list(store: &CrlStore, under: &Rsync) -> bool {
         Some(list) => is_list(list, true),
         None => false,
     }
-}
-
-// Whether the store has the list exactly where the push was answered so.
-fn is_stored(alloc: Global, store: &CrlStore, answer: &str, is_cached: bool) -> Option<bool> {
-    let under = uri(alloc, UNDER)?;
-    Some(match store.get(&under) {
-        Some(list) => answer == "ok" && is_list(list, is_cached),
-        None => answer == "pair",
-    })
-}
-
-fn pushed_to(alloc: Global, store: &mut CrlStore, is_cached: bool) -> Option<Told> {
-    let (answer, is_same) = pushed(alloc, store)?;
-    let is_stored = is_stored(alloc, store, answer, is_cached)?;
-    Some(Told::standing(answer, is_same && is_stored))
-}
-
-fn pushed_plain(alloc: Global) -> Option<Told> {
-    let mut store = CrlStore::new(alloc);
-    let told = pushed_to(alloc, &mut store, false);
-    drop(store);
-    told
-}
-
-fn pushed_cached(alloc: Global) -> Option<Told> {
-    let mut store = CrlStore::new(alloc);
-    store.enable_serial_caching();
-    let told = pushed_to(alloc, &mut store, true);
-    drop(store);
-    told
 }
 
 fn store_copied(alloc: Global) -> Option<Told> {
@@ -227,7 +156,7 @@ fn store_copied(alloc: Global) -> Option<Told> {
 }
 
 fn copied_with_list(alloc: Global, store: &mut CrlStore) -> Option<Told> {
-    let (under, list) = uri(alloc, UNDER).zip(list(alloc))?;
+    let (under, list) = uri(alloc, UNDER).zip(list_by(alloc, b"abc"))?;
     store.push(under, list).ok()?;
     let under = uri(alloc, UNDER)?;
     called!(alloc, store.try_clone(alloc), copy => has_list(copy, &under))
@@ -236,7 +165,6 @@ fn copied_with_list(alloc: Global, store: &mut CrlStore) -> Option<Told> {
 fn of_entries(alloc: Global, path: &str) -> Option<Told> {
     match path {
         "rpki_crl::CrlEntry::encode" => entry_written(alloc),
-        "rpki_crl::RevokedCertificates::empty" => empty(alloc),
         "rpki_crl::RevokedCertificates::take_from" => sequence_read(alloc),
         "rpki_crl::RevokedCertificates::encode_ref" => sequence_written(alloc),
         "rpki_crl::RevokedCertificates::try_clone" => sequence_copied(alloc),
@@ -246,6 +174,7 @@ fn of_entries(alloc: Global, path: &str) -> Option<Told> {
 
 fn of_lists(alloc: Global, path: &str) -> Option<Told> {
     match path {
+        "rpki_crl::CrlStore::try_clone" => store_copied(alloc),
         "rpki_crl::InvalidExtension::try_clone" => extension_copied(alloc),
         "rpki_crl::TbsCertList::to_revoked" => collected(alloc),
         "rpki_crl::TbsCertList::into_crl" => made(alloc),
@@ -253,19 +182,7 @@ fn of_lists(alloc: Global, path: &str) -> Option<Told> {
     }
 }
 
-fn of_stores(alloc: Global, path: &str) -> Option<Told> {
-    match path {
-        "rpki_crl::Crl::cache_serials" => cached(alloc),
-        "rpki_crl::CrlStore::push" => pushed_plain(alloc),
-        "rpki_crl::CrlStore::push/cached" => pushed_cached(alloc),
-        "rpki_crl::CrlStore::try_clone" => store_copied(alloc),
-        _ => None,
-    }
-}
-
 /// The calls of entries, of lists that are made, and of stores.
 pub fn told(alloc: Global, path: &str) -> Option<Told> {
-    of_entries(alloc, path)
-        .or(of_lists(alloc, path))
-        .or(of_stores(alloc, path))
+    of_entries(alloc, path).or(of_lists(alloc, path))
 }

@@ -2,7 +2,8 @@
 //! it stands, which takes longer than most tests. A table that is gone through gives the check a
 //! name, so that a failure tells where.
 
-use crate::samples::has_hash;
+use crate::samples;
+use sha1::Sha1;
 use std::alloc::Global;
 use std::fmt::Display;
 use std::process::Abort;
@@ -30,7 +31,8 @@ pub(crate) fn check_octets(rt: &impl Abort, found: &[u8], wanted: &[u8]) {
 
 /// Checks that octets have the SHA-1 hash that these digits are.
 pub(crate) fn check_hash(rt: &impl Abort, alloc: Global, octets: &[u8], hash: &str) {
-    check(rt, has_hash(alloc, octets, hash), hash);
+    let wanted = samples::octets(alloc, hash).expect(rt, "digits");
+    check_octets(rt, Sha1::digest(octets).as_slice(), wanted.as_slice());
 }
 
 /// Checks that a number is this one.

@@ -46,7 +46,7 @@ fn below(
     usage: KeyUsage,
 ) -> TbsCert {
     let mut tbs = samples::bare(alloc, 13, rsa(key), usage).expect(rt, "memory");
-    samples::set_issuer(alloc, &mut tbs).expect(rt, "memory");
+    samples::set_issuer(alloc, &mut tbs);
     tbs.set_authority_key_identifier(Some(rsa(issuer).key_identifier()));
     samples::inherit_all(&mut tbs);
     tbs
@@ -65,7 +65,7 @@ fn signed(rt: &impl Abort, alloc: Global, tbs: TbsCert, issuer: &'static [u8]) -
 fn authority(rt: &impl Abort, alloc: Global, key: &'static [u8], issuer: &'static [u8]) -> Bytes {
     let mut tbs = below(rt, alloc, key, issuer, KeyUsage::Ca);
     tbs.set_basic_ca(Some(true));
-    samples::set_places(alloc, &mut tbs).expect(rt, "memory");
+    samples::set_places(alloc, &mut tbs);
     signed(rt, alloc, tbs, issuer)
 }
 

@@ -2,7 +2,8 @@
 
 use crate::anchors::{anchor, now};
 use crate::checks::{check, check_count};
-use crate::samples::{self, Refusal, Refusing};
+use crate::samples;
+use crate::signers::{Refusal, Refusing};
 use rpki_cert::{IssueCaError, ResourceCert, issue_ca};
 use rpki_parts::{SigningError, StandIn};
 use std::alloc::Global;

@@ -34,4 +34,6 @@ mod located;
 mod name_texts;
 pub mod samples;
 #[cfg(test)]
+mod signers;
+#[cfg(test)]
 mod texts;

@@ -1,7 +1,8 @@
 //! Signers of a caller's own: what they refuse with, and how often they are asked.
 
 use crate::checks::{check, check_count, check_octets, check_text};
-use crate::samples::{self, Refusal, Refusing};
+use crate::samples;
+use crate::signers::{Refusal, Refusing};
 use bytes::Bytes;
 use rpki_cert::{Cert, TbsCert};
 use rpki_parts::{RpkiSignatureAlgorithm, Signature, Signer, SigningError};

@@ -1,5 +1,4 @@
-//! Keys, URIs, and the data of three certificates that another program made too. What may run out
-//! of memory gives none where it does.
+//! Keys, URIs, and the data of certificates. What may run out of memory gives none where it does.
 
 use bytes::Bytes;
 use rpki_blocks::{Addr, AsBlock, Asn, IpBlock};
@@ -23,19 +22,24 @@ pub fn day(year: i32) -> Option<Time> {
     Time::utc(year, 5, 1, 0, 0, 0)
 }
 
-// The name of the key `abc`, and ten years.
-fn issuer_and_validity(alloc: Global) -> Option<(Name, Validity)> {
-    let validity = Validity::new(day(2019)?, day(2029)?);
+// The name of the key `abc`.
+fn issuer(alloc: Global) -> Option<Name> {
     let key = rsa(b"abc");
-    let issuer = key.to_subject_name(alloc).ok();
+    let name = key.to_subject_name(alloc).ok();
     drop(key);
-    Some((issuer?, validity))
+    name
+}
+
+// Ten years.
+fn validity() -> Option<Validity> {
+    let (since, until) = day(2019).zip(day(2029))?;
+    Some(Validity::new(since, until))
 }
 
 /// Makes certificate data for ten years, named after its key, with nothing that may be left out.
 /// The issuer is named after the key `abc`.
 pub fn bare(alloc: Global, serial: u64, key: PublicKey, usage: KeyUsage) -> Option<TbsCert> {
-    let Some((issuer, validity)) = issuer_and_validity(alloc) else {
+    let Some((issuer, validity)) = issuer(alloc).zip(validity()) else {
         drop(key);
         return None;
     };
@@ -45,39 +49,34 @@ pub fn bare(alloc: Global, serial: u64, key: PublicKey, usage: KeyUsage) -> Opti
 }
 
 /// Sets where a CA publishes.
-pub fn set_places(alloc: Global, tbs: &mut TbsCert) -> Option<()> {
-    tbs.set_ca_repository(Some(uri(alloc, "rsync://example.com/m/p")?));
-    tbs.set_rpki_manifest(Some(uri(alloc, "rsync://example.com/m/p/mft.mft")?));
-    Some(())
+pub fn set_places(alloc: Global, tbs: &mut TbsCert) {
+    tbs.set_ca_repository(uri(alloc, "rsync://example.com/m/p"));
+    tbs.set_rpki_manifest(uri(alloc, "rsync://example.com/m/p/mft.mft"));
 }
 
 fn set_all_resources(alloc: Global, tbs: &mut TbsCert) -> Option<()> {
     let all = IpBlock::from((Addr::from(0), Addr::from(u128::MAX)));
     let numbers = AsBlock::from((Asn::MIN, Asn::MAX));
-    tbs.v4_resources_from_iter(alloc, [all]).ok()?;
-    tbs.v6_resources_from_iter(alloc, [all]).ok()?;
-    tbs.as_resources_from_iter(alloc, [numbers]).ok()
-}
-
-fn set_anchor(alloc: Global, tbs: &mut TbsCert) -> Option<()> {
-    tbs.set_basic_ca(Some(true));
-    set_places(alloc, tbs)?;
-    set_all_resources(alloc, tbs)
+    let v4 = tbs.v4_resources_from_iter(alloc, [all]).ok();
+    let v6 = tbs.v6_resources_from_iter(alloc, [all]).ok();
+    let asns = tbs.as_resources_from_iter(alloc, [numbers]).ok();
+    v4.and(v6).and(asns)
 }
 
 /// Makes the data of a trust anchor with the key `abc`, serial 12 and all resources.
 pub fn anchor(alloc: Global) -> Option<TbsCert> {
     let mut tbs = bare(alloc, 12, rsa(b"abc"), KeyUsage::Ca)?;
-    let set = set_anchor(alloc, &mut tbs);
+    tbs.set_basic_ca(Some(true));
+    set_places(alloc, &mut tbs);
+    let set = set_all_resources(alloc, &mut tbs);
     set.and(Some(tbs))
 }
 
 /// Sets what names the issuer.
-pub fn set_issuer(alloc: Global, tbs: &mut TbsCert) -> Option<()> {
+pub fn set_issuer(alloc: Global, tbs: &mut TbsCert) {
     tbs.set_authority_key_identifier(Some(rsa(b"abc").key_identifier()));
-    tbs.set_crl_uri(Some(uri(alloc, "rsync://example.com/m/p/x.crl")?));
-    tbs.set_ca_issuer(Some(uri(alloc, "rsync://example.com/m/ta.cer")?));
-    Some(())
+    tbs.set_crl_uri(uri(alloc, "rsync://example.com/m/p/x.crl"));
+    tbs.set_ca_issuer(uri(alloc, "rsync://example.com/m/ta.cer"));
 }
 
 /// Sets resources of each kind to the issuer's.
@@ -92,15 +91,15 @@ pub fn inherit_all(tbs: &mut TbsCert) {
 pub fn end_entity(alloc: Global) -> Option<TbsCert> {
     let mut tbs = bare(alloc, 9, rsa(b"a"), KeyUsage::Ee)?;
     inherit_all(&mut tbs);
-    let set = set_issuer(alloc, &mut tbs);
-    set.and(Some(tbs))
+    set_issuer(alloc, &mut tbs);
+    Some(tbs)
 }
 
 /// Sets what an authority has under the trust anchor, but for resources.
-pub fn set_authority(alloc: Global, tbs: &mut TbsCert) -> Option<()> {
+pub fn set_authority(alloc: Global, tbs: &mut TbsCert) {
     tbs.set_basic_ca(Some(true));
-    set_issuer(alloc, tbs)?;
-    set_places(alloc, tbs)
+    set_issuer(alloc, tbs);
+    set_places(alloc, tbs);
 }
 
 /// Makes the data of an authority under the trust anchor, with the anchor's key, serial 13 and
@@ -108,28 +107,18 @@ pub fn set_authority(alloc: Global, tbs: &mut TbsCert) -> Option<()> {
 pub fn authority(alloc: Global) -> Option<TbsCert> {
     let mut tbs = bare(alloc, 13, rsa(b"abc"), KeyUsage::Ca)?;
     inherit_all(&mut tbs);
-    let set = set_authority(alloc, &mut tbs);
-    set.and(Some(tbs))
-}
-
-/// Sets what only a router has.
-pub fn set_router(alloc: Global, tbs: &mut TbsCert) -> Option<()> {
-    let purposes = ExtendedKeyUsage::create_router(alloc).ok()?;
-    tbs.set_extended_key_usage(Some(purposes));
-    let number = AsBlock::from((Asn::from(50), Asn::from(50)));
-    tbs.as_resources_from_iter(alloc, [number]).ok()
-}
-
-fn set_issued_router(alloc: Global, tbs: &mut TbsCert) -> Option<()> {
-    set_issuer(alloc, tbs)?;
-    set_router(alloc, tbs)
+    set_authority(alloc, &mut tbs);
+    Some(tbs)
 }
 
 /// Makes the data of a router under the trust anchor, with the key `a`, serial 10 and AS number 50.
 pub fn router(alloc: Global) -> Option<TbsCert> {
     let key = PublicKey::new(PublicKeyFormat::EcdsaP256, Bytes::from_static(b"a"));
     let mut tbs = bare(alloc, 10, key, KeyUsage::Ee)?;
-    let set = set_issued_router(alloc, &mut tbs);
+    set_issuer(alloc, &mut tbs);
+    tbs.set_extended_key_usage(ExtendedKeyUsage::create_router(alloc).ok());
+    let number = AsBlock::from((Asn::from(50), Asn::from(50)));
+    let set = tbs.as_resources_from_iter(alloc, [number]).ok();
     set.and(Some(tbs))
 }
 
@@ -158,19 +147,15 @@ pub fn end_entity_octets(alloc: Global) -> Option<Bytes> {
 
 /// Reads these octets as a trust anchor that is valid at the moment.
 pub fn valid_anchor(alloc: Global, octets: Bytes, now: Time) -> Option<ResourceCert> {
-    let cert = Cert::decode_shared(alloc, octets).ok()?;
-    match TalInfo::from_name(String::new(alloc)).into_rc(alloc) {
-        Ok(tal) => cert.validate_ta_at(alloc, tal, true, now, &StandIn).ok(),
-        Err(_) => {
-            drop(cert);
-            None
-        }
-    }
+    let cert = Cert::decode_shared(alloc, octets).ok();
+    let tal = TalInfo::from_name(String::new(alloc)).into_rc(alloc).ok();
+    let (cert, tal) = cert.zip(tal)?;
+    cert.validate_ta_at(alloc, tal, true, now, &StandIn).ok()
 }
 
 /// Writes the octets of the data.
 pub fn written(alloc: Global, tbs: &TbsCert) -> Option<Vec<u8>> {
     let mut out = Vec::new(alloc);
-    tbs.encode_ref(alloc, &mut out).ok()?;
-    Some(out)
+    let written = tbs.encode_ref(alloc, &mut out).ok();
+    written.and(Some(out))
 }
