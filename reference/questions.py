@@ -98,8 +98,6 @@ def make_question(rng):
         words.append(f'subject={f.subject.hex()}')
     if ref.INHERIT not in (f.v4, f.v6, f.asn):
         words.append(f'set-by={rng.choice(["setter", "iterator", "builder"])}')
-    if chance(rng, 0.3):
-        words.append('again=yes')
     return it.kind, f'make {" ".join(words)}'
 
 

@@ -19,8 +19,7 @@
 //! - `shared certificate HEX`, `shared list HEX`: whether `decode_shared` answers as `decode`.
 //! - `make NAME=VALUE ..`: a certificate of fields, which have the names that answers give them,
 //!   and moments as `YYYYMMDDhhmmss`. `signer=` is a public key; `set-by=` (`setter`, `iterator`,
-//!   `builder`) says how resources are set; `again=yes` first sets each field to another value
-//!   and back.
+//!   `builder`) says how resources are set.
 //! - `inspect HEX`, `inspect KIND HEX`: the first fault of a certificate, strictly and leniently,
 //!   as each of the kinds `ta`, `ca`, `ee`, `detached`, `router`, or as one of them.
 //! - `verify ta MODE YYYYMMDDhhmmss HEX`, `verify validity MODE YYYYMMDDhhmmss HEX`: a certificate

@@ -10,28 +10,20 @@ use rpki_der::{Cursor, DecodeError, Serial};
 use rpki_parts::{Https, KeyIdentifier, Name, PublicKey, Rsync, SigningError, StandIn, Validity};
 use std::alloc::{AllocError, Global};
 
+// The URI of this name; none where its word is absent, or no URI.
 fn rsync(words: &Words<'_>, out: &mut Answer, name: &str) -> Option<Rsync> {
-    let word = words.named(name);
-    if word == "none" {
-        return None;
-    }
-    Rsync::from_bytes(shared_characters(out, word)).ok()
+    Rsync::from_bytes(shared_characters(out, words.named(name))).ok()
 }
 
 fn https(words: &Words<'_>, out: &mut Answer, name: &str) -> Option<Https> {
-    let word = words.named(name);
-    if word == "none" {
-        return None;
-    }
-    Https::from_bytes(shared_characters(out, word)).ok()
+    Https::from_bytes(shared_characters(out, words.named(name))).ok()
 }
 
 fn key_identifier(words: &Words<'_>, out: &mut Answer) -> Option<KeyIdentifier> {
-    let word = words.named("authority-key-identifier");
-    if word == "none" {
+    if !words.has("authority-key-identifier") {
         return None;
     }
-    let found = octets(out, word);
+    let found = octets(out, words.named("authority-key-identifier"));
     let mut id = [0u8; 20];
     if found.len() == id.len() {
         id.copy_from_slice(&found);
@@ -57,13 +49,14 @@ fn serial(words: &Words<'_>, out: &mut Answer) -> Result<Serial, DecodeError> {
 }
 
 fn validity(words: &Words<'_>) -> Result<Validity, DecodeError> {
-    let before = moment(words.named("not-before")).ok_or(DecodeError::BadValue)?;
-    let after = moment(words.named("not-after")).ok_or(DecodeError::BadValue)?;
-    Ok(Validity::new(before, after))
+    match moment(words.named("not-before")).zip(moment(words.named("not-after"))) {
+        Some((before, after)) => Ok(Validity::new(before, after)),
+        None => Err(DecodeError::BadValue),
+    }
 }
 
 fn subject(words: &Words<'_>, out: &mut Answer) -> Result<Option<Name>, DecodeError> {
-    if words.named("subject") == "none" {
+    if !words.has("subject") {
         return Ok(None);
     }
     Ok(Some(name(words, out, "subject")?))
@@ -98,8 +91,7 @@ fn names(words: &Words<'_>, out: &mut Answer) -> Result<(Option<Name>, Name), De
 }
 
 fn begun(words: &Words<'_>, out: &mut Answer) -> Result<TbsCert, DecodeError> {
-    let serial = serial(words, out)?;
-    let validity = validity(words)?;
+    let (serial, validity) = both(serial(words, out), validity(words))?;
     let (names, key) = both(names(words, out), key(words, out, "key"))?;
     new_cert(words, out.alloc(), serial, validity, names, key)
 }
@@ -108,71 +100,6 @@ fn done(out: &mut Answer, answer: Result<(), AllocError>) {
     if answer.is_err() {
         out.fail();
     }
-}
-
-// Sets the key to another and back.
-fn key_again(alloc: Global, data: &mut TbsCert, other: &PublicKey) -> Result<(), AllocError> {
-    let key = data.subject_public_key_info().try_clone(alloc);
-    let (key, other) = both(key, other.try_clone(alloc))?;
-    data.set_subject_public_key(other);
-    data.set_subject_public_key(key);
-    Ok(())
-}
-
-fn names_copied(alloc: Global, data: &TbsCert) -> Result<(Name, Name), AllocError> {
-    both(
-        data.issuer().try_clone(alloc),
-        data.subject().try_clone(alloc),
-    )
-}
-
-// Sets the issuer to the subject and back.
-fn issuer_again(alloc: Global, data: &mut TbsCert) -> Result<(), AllocError> {
-    let (issuer, subject) = names_copied(alloc, data)?;
-    data.set_issuer(subject);
-    data.set_issuer(issuer);
-    Ok(())
-}
-
-// Sets the subject to the issuer and back.
-fn subject_again(alloc: Global, data: &mut TbsCert) -> Result<(), AllocError> {
-    let (issuer, subject) = names_copied(alloc, data)?;
-    data.set_subject(issuer);
-    data.set_subject(subject);
-    Ok(())
-}
-
-// Sets what is no reference to other values, and back where it is not set later.
-fn plain_again(data: &mut TbsCert) {
-    let validity = data.validity();
-    let usage = data.key_usage();
-    let mode = data.overclaim();
-    let serial = data.serial_number();
-    data.set_serial_number(7u64);
-    data.set_key_usage(KeyUsage::Ee);
-    data.set_overclaim(Overclaim::Refuse);
-    data.set_basic_ca(Some(false));
-    data.set_validity(validity);
-    data.set_serial_number(serial);
-    data.set_key_usage(usage);
-    data.set_overclaim(mode);
-}
-
-fn inherit_all(data: &mut TbsCert) {
-    data.set_v4_resources_inherit();
-    data.set_v6_resources_inherit();
-    data.set_as_resources_inherit();
-}
-
-fn set_again(out: &mut Answer, data: &mut TbsCert, other: &PublicKey) {
-    let answer = key_again(out.alloc(), data, other);
-    done(out, answer);
-    let answer = issuer_again(out.alloc(), data);
-    done(out, answer);
-    let answer = subject_again(out.alloc(), data);
-    done(out, answer);
-    plain_again(data);
-    inherit_all(data);
 }
 
 fn router(out: &mut Answer) -> Option<ExtendedKeyUsage> {
@@ -192,20 +119,18 @@ fn purposes_of(words: &Words<'_>, out: &mut Answer) -> Option<ExtendedKeyUsage> 
 }
 
 fn set_purposes(words: &Words<'_>, out: &mut Answer, data: &mut TbsCert) {
-    let word = words.named("extended-key-usage");
-    if word == "router" {
-        data.set_extended_key_usage(router(out));
-    } else if word != "none" {
-        data.set_extended_key_usage(purposes_of(words, out));
+    match words.named("extended-key-usage") {
+        "none" => {}
+        "router" => data.set_extended_key_usage(router(out)),
+        _ => data.set_extended_key_usage(purposes_of(words, out)),
     }
 }
 
 fn set_plain(words: &Words<'_>, out: &mut Answer, data: &mut TbsCert) {
-    let basic = words.named("basic-ca");
-    data.set_basic_ca(if basic == "none" {
-        None
-    } else {
-        Some(basic == "yes")
+    data.set_basic_ca(match words.named("basic-ca") {
+        "none" => None,
+        "yes" => Some(true),
+        _ => Some(false),
     });
     data.set_authority_key_identifier(key_identifier(words, out));
 }
@@ -274,13 +199,10 @@ fn set_listed(words: &Words<'_>, out: &mut Answer, data: &mut TbsCert) {
 }
 
 fn set_resources(words: &Words<'_>, out: &mut Answer, data: &mut TbsCert) {
-    let way = words.named("set-by");
-    if way == "iterator" {
-        set_iterated(words, out, data);
-    } else if way == "builder" {
-        set_built(words, out, data);
-    } else {
-        set_listed(words, out, data);
+    match words.named("set-by") {
+        "iterator" => set_iterated(words, out, data),
+        "builder" => set_built(words, out, data),
+        _ => set_listed(words, out, data),
     }
 }
 
@@ -304,19 +226,12 @@ fn finished<T: Form>(out: &mut Answer, made: Result<T, SigningError<()>>) {
     }
 }
 
-fn set_all(words: &Words<'_>, out: &mut Answer, data: &mut TbsCert, signer: &PublicKey) {
-    if words.named("again") == "yes" {
-        set_again(out, data, signer);
-    }
-    set_plain(words, out, data);
-    set_purposes(words, out, data);
-    set_uris(words, out, data);
-    set_resources(words, out, data);
-}
-
 fn signed(words: &Words<'_>, out: &mut Answer, data: TbsCert, signer: &PublicKey) {
     let mut data = data;
-    set_all(words, out, &mut data, signer);
+    set_plain(words, out, &mut data);
+    set_purposes(words, out, &mut data);
+    set_uris(words, out, &mut data);
+    set_resources(words, out, &mut data);
     out.text("ok");
     fields(out, &data);
     finished(out, data.into_cert(out.alloc(), &StandIn, signer));

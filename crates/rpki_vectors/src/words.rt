@@ -59,6 +59,11 @@ impl<'a> Words<'a> {
         "none"
     }
 
+    /// Returns whether a word begins with `NAME=`, and `none` isn't behind it.
+    pub fn has(&self, name: &str) -> bool {
+        self.named(name) != "none"
+    }
+
     /// Returns the octets of a word in hexadecimal; `-` for none.
     pub fn octets(&self, out: &mut Answer, place: usize) -> Vec<u8> {
         octets(out, self.at(place))
