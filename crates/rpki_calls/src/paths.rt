@@ -22,14 +22,10 @@ const YES: &[u8] = b"yes\n";
 const ACCEPTED: &[u8] = b"stand-in signatures\naccepted\nv4 none\nv6 none\nas 3-3\n";
 
 // What the line program is asked about the path of the anchor and the two authorities.
-fn question(alloc: Global) -> Option<Vec<u8>> {
-    let mut text = Vec::from_slice(alloc, b"at 20240101000000\nstrict\n").ok()?;
-    for (kind, digits) in [("ta ", NUMBERS), ("ca ", FIRST), ("ca ", SECOND)] {
-        text.extend_from_slice(kind.as_bytes()).ok()?;
-        text.extend_from_slice(digits.as_bytes()).ok()?;
-        text.push(b'\n').ok()?;
-    }
-    Some(text)
+fn question(alloc: Global) -> Option<String> {
+    let [ta, first, second] = [NUMBERS, FIRST, SECOND];
+    let text = format!(in alloc; "at 20240101000000\nstrict\nta {ta}\nca {first}\nca {second}\n");
+    text.ok()
 }
 
 // Room for what is printed, so that the writer itself asks for nothing.
@@ -67,49 +63,52 @@ fn ended_with(alloc: Global, input: &[u8], wanted: &[u8]) -> Option<Told> {
 
 fn path_program(alloc: Global) -> Option<Told> {
     let input = question(alloc)?;
-    ended_with(alloc, &input, ACCEPTED)
+    let told = ended_with(alloc, input.as_bytes(), ACCEPTED);
+    drop(input);
+    told
 }
 
 fn list_program(alloc: Global) -> Option<Told> {
     ended_with(alloc, REVOKED, YES)
 }
 
+fn router_octets(alloc: Global) -> Option<Bytes> {
+    signed(alloc, router(alloc)?)
+}
+
 fn router_validated(alloc: Global, issuer: &ResourceCert, now: Time) -> Option<Told> {
-    let octets = signed(alloc, router(alloc)?)?;
+    let octets = router_octets(alloc)?;
     called!(
         alloc,
         validate_router(alloc, &octets, issuer, None, true, now, &StandIn)
     )
 }
 
-fn judged_of(alloc: Global, members: &[Member<'_>], last: Kind, now: Time) -> Option<Told> {
-    let path = GivenPath::of(members, last)?;
+fn judged_of(alloc: Global, members: &[Member<'_>], last: Kind) -> Option<Told> {
+    let (now, path) = new_year().zip(GivenPath::of(members, last))?;
     called!(
         alloc,
         judge(alloc, &path, &NobodyAsked, true, now, &StandIn)
     )
 }
 
-fn judged_as(alloc: Global, strings: &[Bytes], last: Kind, now: Time) -> Option<Told> {
+fn judged_as(alloc: Global, strings: &[Bytes], last: Kind) -> Option<Told> {
     let members = Member::of_each(alloc, strings).ok()?;
-    let told = judged_of(alloc, &members, last, now);
+    let told = judged_of(alloc, &members, last);
     drop(members);
     told
 }
 
 fn path_judged(alloc: Global) -> Option<Told> {
-    let now = new_year()?;
     let authorities = shared(alloc, FIRST).zip(shared(alloc, SECOND));
     let (anchor, (first, second)) = shared(alloc, NUMBERS).zip(authorities)?;
-    judged_as(alloc, &[anchor, first, second], Kind::Authority, now)
+    judged_as(alloc, &[anchor, first, second], Kind::Authority)
 }
 
 // The path of an anchor and a router below it.
 fn router_judged(alloc: Global) -> Option<Told> {
-    let now = new_year()?;
-    let router = signed(alloc, router(alloc)?);
-    let (anchor, router) = shared(alloc, ANCHOR).zip(router)?;
-    judged_as(alloc, &[anchor, router], Kind::Router, now)
+    let (anchor, router) = shared(alloc, ANCHOR).zip(router_octets(alloc))?;
+    judged_as(alloc, &[anchor, router], Kind::Router)
 }
 
 // ---- step by step
@@ -147,7 +146,7 @@ fn member_step(alloc: Global, issuer: &ResourceCert, now: Time) -> Option<Told> 
 }
 
 fn router_step(alloc: Global, issuer: &ResourceCert, now: Time) -> Option<Told> {
-    let octets = signed(alloc, router(alloc)?)?;
+    let octets = router_octets(alloc)?;
     let steps = steps(alloc, now);
     called!(
         alloc,

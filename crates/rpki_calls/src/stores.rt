@@ -5,7 +5,7 @@ use bytes::Bytes;
 use rpki_crl::{
     Crl, CrlEntry, CrlStore, InvalidExtension, RevokedCertificates, TbsCertList, round_trip,
 };
-use rpki_der::{Cursor, Oid, Serial};
+use rpki_der::{Cursor, Oid, Serial, Time};
 use rpki_parts::{RpkiSignatureAlgorithm, Rsync, StandIn};
 use rpki_tests::samples::{day, rsa, shared, uri};
 use std::alloc::Global;
@@ -66,26 +66,29 @@ fn extension_copied(alloc: Global) -> Option<Told> {
 }
 
 // Entries of the serials 1 to 8.
-fn eight(alloc: Global) -> Option<Vec<CrlEntry>> {
-    let since = day(2019)?;
-    let mut entries = Vec::new(alloc);
-    for serial in 1..9u64 {
-        entries
-            .push(CrlEntry::new(Serial::from(serial), since))
-            .ok()?;
-    }
-    Some(entries)
+fn eight(alloc: Global, since: Time) -> Option<Vec<CrlEntry>> {
+    let entry = |number: u64| CrlEntry::new(Serial::from(number), since);
+    let entries = [
+        entry(1),
+        entry(2),
+        entry(3),
+        entry(4),
+        entry(5),
+        entry(6),
+        entry(7),
+        entry(8),
+    ];
+    Vec::from_slice(alloc, &entries).ok()
 }
 
 // The data of a list with these entries, of the key that the bits are.
 fn data_of(alloc: Global, bits: &'static [u8]) -> Option<TbsCertList<Vec<CrlEntry>>> {
-    let since = day(2019)?;
-    let until = day(2029)?;
+    let (since, until) = day(2019).zip(day(2029))?;
     let identifier = rsa(bits).key_identifier();
     let number = Serial::from(12u64);
     let algorithm = RpkiSignatureAlgorithm::default();
     let issuer = rsa(bits).to_subject_name(alloc).ok();
-    let (issuer, entries) = issuer.zip(eight(alloc))?;
+    let (issuer, entries) = issuer.zip(eight(alloc, since))?;
     Some(TbsCertList::new(algorithm, issuer, since, until, entries, identifier, number))
 }
 

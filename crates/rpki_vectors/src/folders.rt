@@ -106,10 +106,10 @@ fn below<V: Verifier>(
 }
 
 fn answered<V: Verifier>(words: &Words<'_>, out: &mut Answer, verifier: &V) -> Option<()> {
-    let anchor = named(out, words.at(6), "ta")?;
-    let tal = locator_of(words, out, 5)?;
+    let (anchor, tal) = named(out, words.at(6), "ta").zip(locator_of(words, out, 5))?;
     let is_fit = below(words, out, &tal, &anchor, verifier);
     drop(tal);
+    drop(anchor);
     is_fit
 }
 

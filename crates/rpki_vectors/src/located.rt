@@ -81,10 +81,10 @@ fn below(words: &Words<'_>, out: &mut Answer, tal: &Tal, anchor: &Bytes, now: Ti
 
 fn answered(words: &Words<'_>, out: &mut Answer) -> Option<()> {
     let now = moment(words.at(1))?;
-    let anchor = named(out, words.at(5), "ta")?;
-    let tal = locator_of(words, out, 4)?;
+    let (anchor, tal) = named(out, words.at(5), "ta").zip(locator_of(words, out, 4))?;
     let is_fit = below(words, out, &tal, &anchor, now);
     drop(tal);
+    drop(anchor);
     is_fit
 }
 

@@ -81,8 +81,7 @@ fn answered<V: Verifier>(
     now: Time,
     verifier: &V,
 ) -> Option<()> {
-    let tal = tal(out)?;
-    let anchor = named(out, words.at(3), "ta")?;
+    let (tal, anchor) = tal(out).zip(named(out, words.at(3), "ta"))?;
     let cas = authorities(out, words, 4);
     let leaf = leaf(out, words);
     let strict = mode == "strict";

@@ -9,26 +9,31 @@ use rpki_der::Time;
 use rpki_parts::{Rsync, StandIn, Verifier};
 use rpki_path::validate_path_with;
 
-// Stores the list `URI:LIST`, both in hexadecimal.
-fn store_pair(out: &mut Answer, store: &mut CrlStore, pair: &str) -> Option<()> {
-    let (uri, list) = pair.split_once(':')?;
-    let uri = Rsync::from_bytes(bytes(out, uri)).ok()?;
-    let list = octets(out, list);
-    let pushed = match Crl::decode(out.alloc(), &list) {
-        Ok(crl) => store.push(uri, crl),
+// The list of these digits.
+fn list_of(out: &mut Answer, digits: &str) -> Option<Crl> {
+    let list = octets(out, digits);
+    match Crl::decode(out.alloc(), &list) {
+        Ok(crl) => Some(crl),
         Err(error) => {
             if error.is_memory() {
                 out.fail();
             }
             drop(error);
-            drop(uri);
-            return None;
+            None
         }
-    };
-    if let Err(pair) = pushed {
-        drop(pair);
+    }
+}
+
+// Stores the list `URI:LIST`, both in hexadecimal.
+fn store_pair(out: &mut Answer, store: &mut CrlStore, pair: &str) -> Option<()> {
+    let (uri, list) = pair.split_once(':')?;
+    let uri = Rsync::from_bytes(bytes(out, uri)).ok();
+    let (uri, list) = uri.zip(list_of(out, list))?;
+    let pushed = store.push(uri, list);
+    if pushed.is_err() {
         out.fail();
     }
+    drop(pushed);
     Some(())
 }
 
@@ -66,8 +71,7 @@ fn asked<V: Verifier>(
     verifier: &V,
 ) -> Option<()> {
     let alloc = out.alloc();
-    let tal = tal(out)?;
-    let store = store_of(out, words.at(3), is_cached)?;
+    let (tal, store) = tal(out).zip(store_of(out, words.at(3), is_cached))?;
     let cas = authorities(out, words, 5);
     let leaf = leaf(out, words);
     let strict = words.is(2, "strict");
@@ -80,19 +84,21 @@ fn asked<V: Verifier>(
 }
 
 fn answered<V: Verifier>(out: &mut Answer, words: &Words<'_>, verifier: &V) -> Option<()> {
-    let now = moment(words.at(1))?;
-    let anchor = named(out, words.at(4), "ta")?;
+    let (now, anchor) = moment(words.at(1)).zip(named(out, words.at(4), "ta"))?;
     let mut plain = out.beside();
-    let is_fit = asked(&mut plain, words, &anchor, now, false, verifier);
-    out.follow(&plain);
-    is_fit?;
     let mut cached = out.beside();
-    let is_fit = asked(&mut cached, words, &anchor, now, true, verifier);
+    let is_fit = asked(&mut plain, words, &anchor, now, false, verifier);
+    let is_fit = is_fit.and(asked(&mut cached, words, &anchor, now, true, verifier));
+    drop(anchor);
+    out.follow(&plain);
     out.follow(&cached);
-    is_fit?;
-    out.text(plain.line());
-    out.field("cached").compared(&plain, &cached);
-    Some(())
+    if is_fit.is_some() {
+        out.text(plain.line());
+        out.field("cached").compared(&plain, &cached);
+    }
+    drop(plain);
+    drop(cached);
+    is_fit
 }
 
 /// Tells what the path of the words behind the fourth answers, by a verifier, where the lists of a

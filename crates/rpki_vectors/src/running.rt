@@ -70,9 +70,10 @@ fn is_answered<R: AllocGlobal + Print>(
         return Ok(true);
     }
     let (file, name) = place;
-    println!(rt; "{file}: {name}")?;
-    println!(rt; "  wanted   {answer}")?;
-    println!(rt; "  answered {}", given.line())?;
+    println!(rt;
+        "{file}: {name}\n  wanted   {answer}\n  answered {}",
+        given.line()
+    )?;
     Ok(false)
 }
 

@@ -2,6 +2,7 @@
 use crate::answer::Answer;
 use crate::show::{Show, Twin, found};
 use crate::words::{Words, shared_characters};
+use bytes::Bytes;
 use rpki_der::Piece;
 use rpki_parts::{BadUri, Https, Rsync, UriError};
 use std::alloc::{AllocError, Global};
@@ -61,74 +62,105 @@ impl Twin for Https {
     }
 }
 
-fn of_octets<T: Twin>(out: &mut Answer, answer: Result<T, BadUri>) {
+/// A URI of either scheme.
+trait AnyUri: Twin {
+    // The URI of these octets.
+    fn of_octets(octets: Bytes) -> Result<Self, BadUri>;
+
+    // The URI of this piece.
+    fn of_piece(piece: Piece) -> Result<Self, BadUri>;
+
+    // The URI of this text.
+    fn of_text(alloc: Global, text: &str) -> Result<Self, UriError>;
+
+    // Appends how two of them compare.
+    fn compare(out: &mut Answer, one: &Self, other: &Self);
+}
+
+impl AnyUri for Rsync {
+    fn of_octets(octets: Bytes) -> Result<Rsync, BadUri> {
+        Rsync::from_bytes(octets)
+    }
+
+    fn of_piece(piece: Piece) -> Result<Rsync, BadUri> {
+        Rsync::from_piece(piece)
+    }
+
+    fn of_text(alloc: Global, text: &str) -> Result<Rsync, UriError> {
+        Rsync::from_text(alloc, text)
+    }
+
+    fn compare(out: &mut Answer, one: &Rsync, other: &Rsync) {
+        out.field("equal").yes(one == other);
+        out.field("identical").yes(one.is_identical_to(other));
+        out.field("second-is-parent").yes(one.parent_is(other));
+        out.field("first-is-parent").yes(other.parent_is(one));
+    }
+}
+
+impl AnyUri for Https {
+    fn of_octets(octets: Bytes) -> Result<Https, BadUri> {
+        Https::from_bytes(octets)
+    }
+
+    fn of_piece(piece: Piece) -> Result<Https, BadUri> {
+        Https::from_piece(piece)
+    }
+
+    fn of_text(alloc: Global, text: &str) -> Result<Https, UriError> {
+        Https::from_text(alloc, text)
+    }
+
+    fn compare(out: &mut Answer, one: &Https, other: &Https) {
+        out.field("equal").yes(one == other);
+    }
+}
+
+fn found_or_bad<T: AnyUri>(out: &mut Answer, answer: Result<T, BadUri>) {
     match answer {
-        Ok(uri) => found(out, &uri),
+        Ok(uri) => {
+            found(out, &uri);
+            drop(uri);
+        }
         Err(_) => out.text("refused BadUri"),
     }
 }
 
-fn of_text<T: Twin>(out: &mut Answer, answer: Result<T, UriError>) {
+fn found_or_why<T: AnyUri>(out: &mut Answer, answer: Result<T, UriError>) {
     match answer {
-        Ok(uri) => found(out, &uri),
+        Ok(uri) => {
+            found(out, &uri);
+            drop(uri);
+        }
         Err(error) => out.refused_as(error.name()),
     }
 }
 
 // Reads the URI from text, where the octets are text.
-fn rsync_text(out: &mut Answer, first: &Answer, octets: &[u8]) {
+fn text_read<T: AnyUri>(out: &mut Answer, first: &Answer, octets: &[u8]) {
     if let Ok(text) = str::from_utf8(octets) {
         let mut other = out.beside();
-        of_text(&mut other, Rsync::from_text(out.alloc(), text));
-        out.field("text").compared(first, &other);
-    }
-}
-
-fn https_text(out: &mut Answer, first: &Answer, octets: &[u8]) {
-    if let Ok(text) = str::from_utf8(octets) {
-        let mut other = out.beside();
-        of_text(&mut other, Https::from_text(out.alloc(), text));
+        found_or_why(&mut other, T::of_text(out.alloc(), text));
         out.field("text").compared(first, &other);
     }
 }
 
 // Reads the URI from a piece.
-fn rsync_piece(words: &Words<'_>, out: &mut Answer, first: &Answer) {
+fn piece_read<T: AnyUri>(words: &Words<'_>, out: &mut Answer, first: &Answer) {
     let mut other = out.beside();
     let piece = Piece::from(shared_characters(out, words.at(1)));
-    of_octets(&mut other, Rsync::from_piece(piece));
+    found_or_bad(&mut other, T::of_piece(piece));
     out.field("piece").compared(first, &other);
 }
 
-fn https_piece(words: &Words<'_>, out: &mut Answer, first: &Answer) {
-    let mut other = out.beside();
-    let piece = Piece::from(shared_characters(out, words.at(1)));
-    of_octets(&mut other, Https::from_piece(piece));
-    out.field("piece").compared(first, &other);
-}
-
-fn rsync_read(words: &Words<'_>, out: &mut Answer) {
+fn read<T: AnyUri>(words: &Words<'_>, out: &mut Answer) {
     let mut first = out.beside();
-    of_octets(
-        &mut first,
-        Rsync::from_bytes(shared_characters(out, words.at(1))),
-    );
+    let octets = shared_characters(out, words.at(1));
+    found_or_bad(&mut first, T::of_octets(octets));
     out.add(&first);
-    rsync_piece(words, out, &first);
+    piece_read::<T>(words, out, &first);
     let octets = words.characters(out, 1);
-    rsync_text(out, &first, &octets);
-}
-
-fn https_read(words: &Words<'_>, out: &mut Answer) {
-    let mut first = out.beside();
-    of_octets(
-        &mut first,
-        Https::from_bytes(shared_characters(out, words.at(1))),
-    );
-    out.add(&first);
-    https_piece(words, out, &first);
-    let octets = words.characters(out, 1);
-    https_text(out, &first, &octets);
+    text_read::<T>(out, &first, &octets);
 }
 
 fn parent_found(out: &mut Answer, found: Result<Option<Rsync>, AllocError>) {
@@ -157,8 +189,8 @@ fn parent_of(out: &mut Answer, answer: Result<Rsync, BadUri>) {
 /// Answers a question of a URI or a parent. Returns whether the question is of one.
 pub fn uri(words: &Words<'_>, out: &mut Answer) -> bool {
     match words.at(0) {
-        "rsync" => rsync_read(words, out),
-        "https" => https_read(words, out),
+        "rsync" => read::<Rsync>(words, out),
+        "https" => read::<Https>(words, out),
         "parent" => {
             let octets = shared_characters(out, words.at(1));
             parent_of(out, Rsync::from_bytes(octets));
@@ -168,36 +200,25 @@ pub fn uri(words: &Words<'_>, out: &mut Answer) -> bool {
     true
 }
 
-fn rsync_pair(out: &mut Answer, one: Result<Rsync, BadUri>, other: Result<Rsync, BadUri>) {
-    match (one, other) {
-        (Ok(a), Ok(b)) => {
+fn pair<T: AnyUri>(words: &Words<'_>, out: &mut Answer) {
+    let one = T::of_octets(shared_characters(out, words.at(2)));
+    let other = T::of_octets(shared_characters(out, words.at(3)));
+    match one.ok().zip(other.ok()) {
+        Some((a, b)) => {
             out.text("ok");
-            out.field("equal").yes(a == b);
-            out.field("identical").yes(a.is_identical_to(&b));
-            out.field("second-is-parent").yes(a.parent_is(&b));
-            out.field("first-is-parent").yes(b.parent_is(&a));
+            T::compare(out, &a, &b);
+            drop(a);
+            drop(b);
         }
-        _ => out.text("none"),
-    }
-}
-
-fn https_pair(out: &mut Answer, one: Result<Https, BadUri>, other: Result<Https, BadUri>) {
-    match (one, other) {
-        (Ok(a), Ok(b)) => {
-            out.text("ok");
-            out.field("equal").yes(a == b);
-        }
-        _ => out.text("none"),
+        None => out.text("none"),
     }
 }
 
 /// Compares two URIs.
 pub fn compare(words: &Words<'_>, out: &mut Answer) {
-    let one = shared_characters(out, words.at(2));
-    let other = shared_characters(out, words.at(3));
     if words.is(1, "rsync") {
-        rsync_pair(out, Rsync::from_bytes(one), Rsync::from_bytes(other));
+        pair::<Rsync>(words, out);
     } else {
-        https_pair(out, Https::from_bytes(one), Https::from_bytes(other));
+        pair::<Https>(words, out);
     }
 }

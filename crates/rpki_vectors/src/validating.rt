@@ -202,8 +202,7 @@ fn anchor(
     words: &Words<'_>,
     terms: &Terms,
 ) -> Option<Result<ResourceCert, ValidationError>> {
-    let tal = tal(out)?;
-    let cert = decoded(out, words, 4).ok()?;
+    let (tal, cert) = tal(out).zip(decoded(out, words, 4).ok())?;
     Some(cert.validate_ta_at(out.alloc(), tal, terms.strict, terms.now, &StandIn))
 }
 

@@ -81,9 +81,12 @@ fn with_identifier(words: &Words<'_>, out: &mut Answer, id: &Oid) {
 
 fn identified(words: &Words<'_>, out: &mut Answer) {
     let content = words.bytes(out, 2);
-    match Oid::new(content) {
-        Ok(id) => with_identifier(words, out, &id),
-        Err(_) => out.text("unfit"),
+    match Oid::new(content).ok() {
+        Some(id) => {
+            with_identifier(words, out, &id);
+            drop(id);
+        }
+        None => out.text("unfit"),
     }
 }
 
