@@ -302,19 +302,23 @@ def rank_of_path(found, place, above):
     return (-count_named(found, place, above), len(above), [found.rows[it].file.octets for it in above[1:]])
 
 
-def kept(found, valid, told):
-    """Those of the valid paths that are kept: all, or as many as can be, whose files' names are told."""
+def kept(found, place, valid, told):
+    """Those of the valid paths that are kept: all, or as many as can be, whose files' names are told. The named
+    one is kept in any case."""
     if len(valid) <= KEPT:
         return valid
     names = [it.get('above') for it in told.get('paths', [])]
     some = [it for it in valid if names_at(found, it.above) in names]
-    return some if len(some) == KEPT else valid[:KEPT]
+    whole = [it for it in valid if count_named(found, place, it.above) == len(it.above)]
+    if len(some) == KEPT and all(it in some for it in whole):
+        return some
+    return (whole + [it for it in valid if it not in whole])[:KEPT]
 
 
 def accepted(found, some, place, told):
     """By the valid paths, in the order of their ranks."""
     valid = [it for it in some if it.accepted]
-    its = sorted(kept(found, valid, told), key=lambda it: rank_of_path(found, place, it.above))
+    its = sorted(kept(found, place, valid, told), key=lambda it: rank_of_path(found, place, it.above))
     return Said('accepted', tuple(its), len(valid) - len(its))
 
 

@@ -10,7 +10,12 @@ mod FoundLocators
 mod GivenKinds
 mod IsolatedQuestions
 mod IssuersByKey
+mod KeptFirsts
 pub mod MappedItems
+mod NamedChoice
+mod NamedPlaces
+mod NamedShown
+mod NamedSteps
 pub mod OneVerdict
 mod OrderedPaths
 mod PartByPart

@@ -13,11 +13,12 @@ use Rattle.std.proofs.lemmas.List.Sorted.{IsPermutation-refl, IsPermutation-sym,
 use Rattle.rpki_cert.specs.Certificates.{CertFields, IsCertificate}
 use Rattle.rpki_der.specs.Encoding.{Means}
 use Rattle.rpki_files.specs.Files.{FileFields}
-use Rattle.rpki_verdicts.specs.ShownPaths.{ArePathsInOrder, NameIssuersAbove, AreShown, all_of, NamesIssuerAt, IsNamedIn, IsRank}
-use Rattle.rpki_verdicts.specs.ShownPaths.{IsShownPath, Precedes, Rank, is_issuer_file, place_of, rank_order}
+use Rattle.rpki_verdicts.specs.ShownPaths.{ArePathsInOrder, NameIssuersAbove, AreShown, all_of, choice_of, NamesIssuerAt, IsNamedIn, IsRank}
+use Rattle.rpki_verdicts.specs.ShownPaths.{IsShownPath, Precedes, Rank, is_issuer_file, named_in, place_of, rank_order}
 use Rattle.rpki_verdicts.specs.ShownPaths.Steps.{IsRanked, rank_of, ranked_order}
 use Rattle.rpki_verdicts.proofs.PathRanks.{Later, later_of_sorted, not_before_itself, rank_total}
 use Rattle.rpki_folder.specs.declared.find.FoundPath.{FoundPath}
+use Rattle.rpki_folder.specs.declared.firsts.Firsts.{Firsts}
 use Rattle.rpki_verdicts.specs.declared.shown_paths.RankedPath.{RankedPath}
 use Rattle.rpki_verdicts.specs.declared.shown_paths.ShownPaths.{ShownPaths}
 use Rattle.rpki_folder.specs.declared.lines.AcceptedPaths.{AcceptedPaths}
@@ -28,9 +29,9 @@ use Rattle.rpki_folder.specs.KeptLines.{paths_in}
 abbrev pub IsOneMeant : Type 0
 IsOneMeant = (c d : CertFields) (octets : List ℕ) → Means IsCertificate c octets → Means IsCertificate d octets → c ≡ d
 
-module _ (one : IsOneMeant) (certs : List FileFields) (tree : Tree) where
-  -- ---- a path has one rank
+-- ---- a path has one rank
 
+module _ (one : IsOneMeant) (certs : List FileFields) where
   one_named : (octets : List ℕ) (a b : Option ℕ) → IsNamedIn certs octets a → IsNamedIn certs octets b → a ≡ b
   one_named octets a b (inl m) (inl n) =
       m.2 ∙ ap (λ (c : CertFields). place_of certs c.fields.extensions.ca_issuer) (one m.0 n.0 octets m.1 n.1) ∙ sym n.2
@@ -44,30 +45,35 @@ module _ (one : IsOneMeant) (certs : List FileFields) (tree : Tree) where
   one_of_file None a b m n = m ∙ sym n
   one_of_file (Some file) a b m n = one_named file.octets a b m n
 
-  one_by : (place : ℕ) (a b : Option ℕ) → NamesIssuerAt certs place a → NamesIssuerAt certs place b → a ≡ b
+  pub one_by : (place : ℕ) (a b : Option ℕ) → NamesIssuerAt certs place a → NamesIssuerAt certs place b → a ≡ b
   one_by place a b m n = one_of_file (slice_get certs place) a b m n
 
-  abbrev Counts : ℕ → List ℕ → Bool → ℕ → Type 0
-  Counts issuer up t n = MatchBool t ((k : ℕ) × NameIssuersAbove certs tree issuer up k × (n ≡ k + 1)) (n ≡ 0)
+  module _ (firsts : Firsts) (anchor : ℕ) where
+    abbrev Named : ℕ → List ℕ → ℕ → Type 0
+    Named place up n = NameIssuersAbove certs firsts anchor place up n
 
-  one_more : (issuer : ℕ) (up : List ℕ) →
-      ((n m : ℕ) → NameIssuersAbove certs tree issuer up n → NameIssuersAbove certs tree issuer up m → n ≡ m)
-      → (t : Bool) (n m : ℕ) → Counts issuer up t n → Counts issuer up t m → n ≡ m
-  one_more issuer up one_above true n m a b = a.2 ∙ ap (λ (k : ℕ). k + 1) (one_above a.0 b.0 a.1 b.1) ∙ sym b.2
-  one_more issuer up one_above false n m a b = a ∙ sym b
+    abbrev Counts : ℕ → List ℕ → Bool → ℕ → Type 0
+    Counts issuer up t n = MatchBool t ((k : ℕ) × Named issuer up k × (n ≡ k + 1)) (n ≡ 0)
 
-  one_count : (place : ℕ) (up : List ℕ) (n m : ℕ) → NameIssuersAbove certs tree place up n → NameIssuersAbove certs tree place up m → n ≡ m
-  one_count place [] n m a b =
-      a.2 ∙ ap (λ (o : Option ℕ). if is_issuer_file tree o tree.anchor then 1 else 0) (one_by place a.0 b.0 a.1 b.1) ∙ sym b.2
-  one_count place (issuer ∷ up) n m a b =
-      one_more issuer up (λ k l. one_count issuer up k l) (is_issuer_file tree b.0 issuer) n m
-      (subst (λ (o : Option ℕ). Counts issuer up (is_issuer_file tree o issuer) n) (one_by place a.0 b.0 a.1 b.1) a.2)
-      b.2
+    one_more : (issuer : ℕ) (up : List ℕ) → ((n m : ℕ) → Named issuer up n → Named issuer up m → n ≡ m)
+        → (t : Bool) (n m : ℕ) → Counts issuer up t n → Counts issuer up t m → n ≡ m
+    one_more issuer up one_above true n m a b = a.2 ∙ ap (λ (k : ℕ). k + 1) (one_above a.0 b.0 a.1 b.1) ∙ sym b.2
+    one_more issuer up one_above false n m a b = a ∙ sym b
 
+    pub one_count : (place : ℕ) (up : List ℕ) (n m : ℕ) → Named place up n → Named place up m → n ≡ m
+    one_count place [] n m a b =
+        a.2 ∙ ap (λ (o : Option ℕ). if is_issuer_file firsts o anchor then 1 else 0) (one_by place a.0 b.0 a.1 b.1) ∙ sym b.2
+    one_count place (issuer ∷ up) n m a b =
+        one_more issuer up (λ k l. one_count issuer up k l) (is_issuer_file firsts b.0 issuer) n m
+        (subst (λ (o : Option ℕ). Counts issuer up (is_issuer_file firsts o issuer) n) (one_by place a.0 b.0 a.1 b.1) a.2)
+        b.2
+
+module _ (one : IsOneMeant) (certs : List FileFields) (tree : Tree) where
   module _ (place : ℕ) where
     one_rank_of : (path : FoundPath) (r s : Rank) → IsRank certs tree place path r → IsRank certs tree place path s → r ≡ s
     one_rank_of path r s a b =
-        let named = one_count place (reverse path.above.items) r.named s.named a.named_are b.named_are in
+        let named = one_count one certs tree.firsts tree.anchor place (reverse path.above.items) r.named s.named a.named_are
+        b.named_are in
         let cas = a.cas_are ∙ sym b.cas_are in
         λ i. record { named = named i; cas = cas i }
 
@@ -116,30 +122,34 @@ module _ (one : IsOneMeant) (certs : List FileFields) (tree : Tree) where
         }
 
     -- a path alone
-    pub only_shown : (paths : AcceptedPaths) (shown : ShownPaths) → paths.others.items ≡ [] → shown.shown.now ≡ paths.first
-        → shown.others.items ≡ [] → shown.more ≡ paths.more → AreShown certs tree place paths shown
-    only_shown paths shown alone first none more =
-        let all : all_of shown ≡ paths_in paths =
+    pub only_shown : (paths : AcceptedPaths) (shown : ShownPaths) → paths.others.items ≡ [] → named_in tree place ≡ None
+        → shown.shown.now ≡ paths.first → shown.others.items ≡ [] → shown.more ≡ paths.more
+        → AreShown certs tree place paths shown
+    only_shown paths shown alone no_named first none more =
+        let choice : List FoundPath = choice_of (paths_in paths) (named_in tree place) in
+        let kept : paths_in paths ≡ choice = ap (λ (o : Option FoundPath). choice_of (paths_in paths) o) (sym no_named) in
+        let all : all_of shown ≡ choice =
         ap (λ (l : List (Bor FoundPath)). shown.shown.now ∷ map (λ path. path.now) l) none ∙ ap (λ (p : FoundPath). p ∷ []) first
-        ∙ ap (λ (l : List FoundPath). paths.first ∷ l) (sym alone) in
-        let moved = subst (λ (l : List FoundPath). IsPermutation (paths_in paths) l) (sym all) (IsPermutation-refl (paths_in paths)) in
+        ∙ ap (λ (l : List FoundPath). paths.first ∷ l) (sym alone) ∙ kept in
+        let moved = subst (λ (l : List FoundPath). IsPermutation choice l) (sym all) (IsPermutation-refl choice) in
         let order : ArePathsInOrder certs tree place (all_of shown) =
         subst (λ (l : List (Bor FoundPath)). ArePathsInOrder certs tree place (shown.shown.now ∷ map (λ path. path.now) l))
         (sym none) (tt, tt) in record {
           all = moved;
           in_order = order;
-          is_shown = first_shown shown.shown.now (map (λ path. path.now) shown.others.items) (paths_in paths) moved order;
+          is_shown = first_shown shown.shown.now (map (λ path. path.now) shown.others.items)
+              (choice_of (paths_in paths) (named_in tree place)) moved order;
           more_is = more;
         }
 
     -- several, which were put in order
     pub several_shown : (paths : AcceptedPaths) (shown : ShownPaths) (ranked ordered : List RankedPath)
-        → map (λ it. it.path.now) ranked ≡ paths_in paths → IsPermutation ranked ordered
+        → map (λ it. it.path.now) ranked ≡ choice_of (paths_in paths) (named_in tree place) → IsPermutation ranked ordered
         → AllByRecursion (IsRanked certs tree place) ranked → IsSorted (ranked_order certs) ordered
         → map (λ it. it.path.now) ordered ≡ all_of shown → shown.more ≡ paths.more → AreShown certs tree place paths shown
     several_shown paths shown ranked ordered are moves numbers up all more =
         let paths_of : List RankedPath → List FoundPath = λ rs. map (λ it. it.path.now) rs in
-        let moved : IsPermutation (paths_in paths) (all_of shown) =
+        let moved : IsPermutation (choice_of (paths_in paths) (named_in tree place)) (all_of shown) =
         subst (λ (l : List FoundPath). IsPermutation l (all_of shown)) are
         (subst (λ (l : List FoundPath). IsPermutation (paths_of ranked) l) all
         (IsPermutation-map (λ (it : RankedPath). it.path.now) ranked ordered moves)) in
@@ -153,6 +163,7 @@ module _ (one : IsOneMeant) (certs : List FileFields) (tree : Tree) where
         up)) in record {
           all = moved;
           in_order = order;
-          is_shown = first_shown shown.shown.now (map (λ path. path.now) shown.others.items) (paths_in paths) moved order;
+          is_shown = first_shown shown.shown.now (map (λ path. path.now) shown.others.items)
+              (choice_of (paths_in paths) (named_in tree place)) moved order;
           more_is = more;
         }

@@ -9,5 +9,7 @@ pub mod Damage
 pub mod TreeParts
 pub mod Searches
 pub mod ShownPaths
+pub mod ShownTrees
 pub mod UnseenCertificates
 pub mod IsolatedTrees
+pub mod NamedPaths

@@ -1,5 +1,6 @@
 -- Which of the valid paths to a certificate is shown (own): a rule of the paths that are kept, whatever
--- order they were found in. Which ones are kept depends on that order if there are more than eight.
+-- order they were found in. Which ones are kept depends on that order if there are more than eight, but
+-- for the named path.
 use Rattle.std.specs.BTreeMap.{get}
 use Rattle.std.specs.Cmp.Lexicographic.{slice_cmp}
 use Rattle.std.specs.List.{AllByRecursion, starts_with}
@@ -9,8 +10,8 @@ use Rattle.std.specs.Option.{option_map}
 use Rattle.std.specs.Ordering.{nat_cmp, ordering_then}
 use Rattle.std.specs.declared.cmp.Ordering.{Ordering}
 use Rattle.std.specs.declared.cmp.Ordering.TheVariants.{Less}
-use Rattle.std.specs.Prelude.{◌≡◌, ◌==◌, ◌⊎◌, ◌+◌, ◌↔◌, ℕ, Bool, false, if◌then◌else◌, All, Any, Contains, List, []}
-use Rattle.std.specs.Prelude.{◌∷◌, ◌++◌, codes, drop, length, map, nat_eq, reverse, slice_get, unwrap_or, MatchOption}
+use Rattle.std.specs.Prelude.{◌≡◌, ◌==◌, ◌⊎◌, ◌+◌, ◌-◌, ◌↔◌, ℕ, Bool, false, if◌then◌else◌, All, Any, Contains, List, []}
+use Rattle.std.specs.Prelude.{◌∷◌, ◌++◌, codes, drop, length, map, nat_eq, reverse, slice_get, take, unwrap_or, MatchOption}
 use Rattle.std.specs.Prelude.{Option, None, Some}
 use Rattle.rpki_blocks.specs.Sets.{AreIn, Block}
 use Rattle.rpki_cert.specs.Certificates.{CertFields, IsCertificate}
@@ -19,10 +20,11 @@ use Rattle.rpki_der.specs.Encoding.{Means}
 use Rattle.rpki_files.specs.Contents.{BeginsWithCertificate}
 use Rattle.rpki_files.specs.Files.{FileFields}
 use Rattle.rpki_folder.specs.FirstPlaces.{first_from, first_place_of}
-use Rattle.rpki_folder.specs.KeptLines.{paths_in}
+use Rattle.rpki_folder.specs.KeptLines.{has_path, most_paths, paths_in}
 use Rattle.rpki_folder.specs.declared.find.FoundPath.{FoundPath}
+use Rattle.rpki_folder.specs.declared.firsts.Firsts.{Firsts}
 use Rattle.rpki_folder.specs.declared.lines.AcceptedPaths.{AcceptedPaths}
-use Rattle.rpki_verdicts.specs.declared.issuers.Issuers.{Issuers}
+use Rattle.rpki_verdicts.specs.declared.issuers.NamedFiles.{NamedFiles}
 use Rattle.rpki_verdicts.specs.declared.parts.Trees.{Trees}
 use Rattle.rpki_verdicts.specs.declared.shown_paths.ShownPaths.{ShownPaths}
 use Rattle.rpki_verdicts.specs.declared.unordered.Tree.{Tree}
@@ -42,6 +44,10 @@ placed root file = record { name = name_below root file.name; octets = file.octe
 abbrev pub placed_of : Trees → List FileFields
 placed_of trees = map (λ file. placed trees.root.now file.now) trees.certs.items
 
+-- those of a tree
+abbrev pub placed_in : List ℕ → Tree → List FileFields
+placed_in root tree = map (λ file. placed root file.now) tree.certs.items
+
 -- the URI that names a file, in a cache that is laid out by URI: what follows `rsync://` is the whole
 -- name of the file. Were an end of the name enough, a directory of a stranger's could imitate it
 abbrev pub uri_of : FileFields → List ℕ
@@ -52,9 +58,9 @@ abbrev pub place_by : List FileFields → List ℕ → Option ℕ
 place_by certs uri = first_from 0 (map uri_of certs) uri
 
 -- the table has these places
-abbrev pub AreNamedFiles : List FileFields → Issuers → Type 0
-AreNamedFiles certs issuers =
-    (uri : List ℕ) → get (slice_cmp nat_cmp) issuers.files uri ≡ place_by certs uri
+abbrev pub AreNamedFiles : List FileFields → NamedFiles → Type 0
+AreNamedFiles certs files =
+    (uri : List ℕ) → get (slice_cmp nat_cmp) files.places uri ≡ place_by certs uri
 
 -- that of a URI, where there is one
 abbrev pub place_of : List FileFields → Option (List ℕ) → Option ℕ
@@ -75,20 +81,26 @@ NamesIssuerAt certs place named =
     MatchOption (slice_get certs place) (named ≡ None) (λ file. IsNamedIn certs file.octets named)
 
 -- the file at the place, where there is one, is that of this issuer, or a copy of it
-abbrev pub is_issuer_file : Tree → Option ℕ → ℕ → Bool
-is_issuer_file tree None issuer = false
-is_issuer_file tree (Some named) issuer = first_place_of tree.firsts named == first_place_of tree.firsts issuer
+abbrev pub is_issuer_file : Firsts → Option ℕ → ℕ → Bool
+is_issuer_file firsts None issuer = false
+is_issuer_file firsts (Some named) issuer = first_place_of firsts named == first_place_of firsts issuer
 
 -- So many certificates, from the bottom up, name the file of the one above: that at a place, below the
 -- CAs at these places, which stand from the bottom up, and the trust anchor
-abbrev pub NameIssuersAbove : List FileFields → Tree → ℕ → List ℕ → ℕ → Type 0
-NameIssuersAbove certs tree place [] n =
+abbrev pub NameIssuersAbove : List FileFields → Firsts → ℕ → ℕ → List ℕ → ℕ → Type 0
+NameIssuersAbove certs firsts anchor place [] n =
     (named : Option ℕ) × NamesIssuerAt certs place named
-    × (n ≡ if is_issuer_file tree named tree.anchor then 1 else 0)
-NameIssuersAbove certs tree place (issuer ∷ above) n =
+    × (n ≡ if is_issuer_file firsts named anchor then 1 else 0)
+NameIssuersAbove certs firsts anchor place (issuer ∷ above) n =
     (named : Option ℕ) × NamesIssuerAt certs place named
-    × MatchBool (is_issuer_file tree named issuer)
-    ((m : ℕ) × NameIssuersAbove certs tree issuer above m × (n ≡ m + 1)) (n ≡ 0)
+    × MatchBool (is_issuer_file firsts named issuer)
+    ((m : ℕ) × NameIssuersAbove certs firsts anchor issuer above m × (n ≡ m + 1)) (n ≡ 0)
+
+-- the path by these CAs, which stand from the top down, is named: each of its certificates names the file of
+-- the one above
+abbrev pub IsNamedPath : List FileFields → Firsts → ℕ → ℕ → List ℕ → Type 0
+IsNamedPath certs firsts anchor place above =
+    NameIssuersAbove certs firsts anchor place (reverse above) (length above + 1)
 
 -- ---- the rule
 
@@ -116,7 +128,7 @@ rank_order r s =
 -- the rank of a path to the certificate at a place, in the tree over these files of certificates
 pub record IsRank (certs : List FileFields) (tree : Tree) (place : ℕ) (path : FoundPath)
     (rank : Rank) : Type 0 where
-  pub named_are : NameIssuersAbove certs tree place (reverse path.above.items) rank.named
+  pub named_are : NameIssuersAbove certs tree.firsts tree.anchor place (reverse path.above.items) rank.named
   pub cas_are : rank.cas ≡ octets_along certs path.above.items
 
 -- a path goes before another one
@@ -127,6 +139,18 @@ pub record Precedes (certs : List FileFields) (tree : Tree) (place : ℕ) (path 
   pub rank_is : IsRank certs tree place path rank
   pub other_is : IsRank certs tree place other other_rank
   pub before : rank_order rank other_rank ≡ Less
+
+-- the named path that is kept beside the line of the certificate at a place, which is that of its first
+-- place
+abbrev pub named_in : Tree → ℕ → Option FoundPath
+named_in tree place = get nat_cmp tree.named (first_place_of tree.firsts place)
+
+-- the paths among which one is shown: those of a line; but the named path in the place of the last, if that is
+-- kept beside the line, which doesn't have it
+abbrev pub choice_of : List FoundPath → Option FoundPath → List FoundPath
+choice_of paths None = paths
+choice_of paths (Some named) =
+    if has_path paths named.above.items then paths else take (most_paths - 1) paths ++ named ∷ []
 
 -- of these paths it is the one that is shown: none goes before it
 pub record IsShownPath (certs : List FileFields) (tree : Tree) (place : ℕ) (paths : List FoundPath)
@@ -147,13 +171,15 @@ ArePathsInOrder certs tree place (path ∷ more) =
 abbrev pub all_of : ShownPaths → List FoundPath
 all_of shown = shown.shown.now ∷ map (λ path. path.now) shown.others.items
 
--- of the paths that are kept to the certificate at a place one is shown; all are there, in the order of
--- the rule, and it is counted how many aren't kept
+-- Of the paths that are kept to the certificate at a place one is shown; all are there, in the order of
+-- the rule, and it is counted how many aren't there. Where the named path takes the place of another one,
+-- these are as many
 pub record AreShown (certs : List FileFields) (tree : Tree) (place : ℕ) (paths : AcceptedPaths)
     (shown : ShownPaths) : Type 0 where
-  pub all : IsPermutation (paths_in paths) (all_of shown)
+  pub all : IsPermutation (choice_of (paths_in paths) (named_in tree place)) (all_of shown)
   pub in_order : ArePathsInOrder certs tree place (all_of shown)
-  pub is_shown : IsShownPath certs tree place (paths_in paths) shown.shown.now
+  pub is_shown : IsShownPath certs tree place (choice_of (paths_in paths) (named_in tree place))
+      shown.shown.now
   pub more_is : shown.more ≡ paths.more
 
 -- ---- resources

@@ -25,8 +25,10 @@ use Rattle.rpki_files.specs.Contents.{BeginsWithCertificate}
 use Rattle.rpki_verdicts.specs.Reasons.{IsPathReason, locator_reason, name_reason, resources_reason}
 use Rattle.rpki_files.specs.Files.{FileFields, contents}
 use Rattle.rpki_verdicts.specs.GivenLocators.{LocatorFields}
+use Rattle.rpki_verdicts.specs.NamedPaths.{AreNamedPaths}
 use Rattle.rpki_verdicts.specs.PathAnswers.{reason_of}
 use Rattle.rpki_verdicts.specs.PathFiles.{AreListsOf}
+use Rattle.rpki_verdicts.specs.ShownPaths.{placed_in}
 use Rattle.rpki_verdicts.specs.declared.path.Fault.{Fault}
 use Rattle.rpki_verdicts.specs.declared.unordered.Tree.{Tree}
 use Rattle.rpki_verdicts.specs.declared.unordered.TreeAnswer.{TreeAnswer}
@@ -119,7 +121,8 @@ is_anchor_at tree place = first_place_of tree.firsts place == first_place_of tre
 -- The tree of the files below the trust anchor of a locator, which is a valid one of those that have
 -- its key; a walk down from it over all certificates among them, each at its first place alone, with
 -- all lists among them, and with names if they are asked, told verdicts that are right and complete;
--- and the line of each place is kept of these, and the limits that it reached at each place.
+-- and the line of each place is kept of these, the named paths beside the lines, and the limits that it
+-- reached at each place.
 pub record IsTreeOf (x : Context) (q : TreeFields) (l : LocatorFields) (tree : Tree) : Type 0 where
   pub certs_are : AreCertificatesOf q.files (certs_of tree)
   pub lists : List CrlState
@@ -137,6 +140,7 @@ pub record IsTreeOf (x : Context) (q : TreeFields) (l : LocatorFields) (tree : T
       (Ok tree.ended) told
   pub count_is : length tree.lines ≡ length (certs_of tree)
   pub lines_are : AreLines told tree.lines
+  pub named_are : AreNamedPaths (placed_in q.root tree) tree.firsts tree.anchor told tree.lines tree.named
   pub limited : List LimitedCa
   pub limited_are : AreLimitedFrom x (by_named_lists q.names x lists) q.names
       (IsFirstIn tree.firsts) locator anchor.octets (contents (certs_of tree)) q.depth q.steps

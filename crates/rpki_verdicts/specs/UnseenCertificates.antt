@@ -109,7 +109,7 @@ place_by_key issuers key = get (slice_cmp nat_cmp) issuers.places key
 pub record AreTreeIssuers (trees : Trees) (issuers : Issuers) : Type 0 where
   pub by_key : (key : List ℕ)
       → IsIssuerAmong trees (length (files_of trees)) key (place_by_key issuers key)
-  pub by_uri : AreNamedFiles (placed_of trees) issuers
+  pub by_uri : AreNamedFiles (placed_of trees) issuers.files
 
 -- the issuer of a file: that of the key which it names as its signer's
 abbrev pub IsIssuerOf : Trees → FileFields → Option ℕ → Type 0

@@ -7,7 +7,7 @@ ghost use Rattle.std.specs.Ordering.{nat_cmp};
 ghost use Rattle.rpki_files.specs.Files.{FileFields};
 ghost use Rattle.rpki_folder.specs.FirstPlaces.{first_from};
 ghost use Rattle.rpki_verdicts.specs.Searches.{HasKeyNamed};
-ghost use Rattle.rpki_verdicts.specs.ShownPaths.{AreNamedFiles, name_below, place_of, placed, uri_of};
+ghost use Rattle.rpki_verdicts.specs.ShownPaths.{AreNamedFiles, IsNamedIn, name_below, place_of, placed, uri_of};
 ghost use Rattle.rpki_verdicts.specs.TreeParts.{files_of};
 ghost use Rattle.rpki_verdicts.specs.UnseenCertificates.{AreTreeIssuers, IsIssuerAmong, IsUnseen, StandsBetter, below_accepted, error_above, error_at, error_by, error_in, is_ca, is_looked_at, is_looked_below, is_rejected_at, place_by_key, limit_at, paths_by, reached_by, standing, standing_of, why_unseen};
 
@@ -33,7 +33,13 @@ use std::collections::BTreeMap;
 #[derive(Drop)]
 pub struct Issuers {
     places: BTreeMap<[u8; 20], usize>,
-    files: BTreeMap<Bytes, usize>,
+    pub(crate) files: NamedFiles,
+}
+
+/// The files of certificates, by the URIs that name them: for each the first place of such a file.
+#[derive(Drop)]
+pub(crate) struct NamedFiles {
+    places: BTreeMap<Bytes, usize>,
 }
 
 /// Why there is no verdict on a certificate. A place is that of its issuer: of the certificate whose
@@ -178,7 +184,7 @@ pub fn issuers_of(alloc: Global, trees: &Trees<'_, '_>) -> Result<Issuers, Alloc
     ensures { IfOk result (AreTreeIssuers trees.now) }
 {
     let places = places_by_key(alloc, trees)?;
-    let files = places_by_uri(alloc, trees.root, &trees.certs)?;
+    let files = NamedFiles::of(alloc, trees.root, &trees.certs)?;
     Ok(Issuers { places, files })
 }
 
@@ -192,24 +198,35 @@ impl Issuers {
             None => None,
         }
     }
+}
+
+impl NamedFiles {
+    /// Finds the first place of each of these files by its URI, in a cache that is laid out by URI
+    /// below that directory.
+    pub(crate) fn of(
+        alloc: Global,
+        root: &[u8],
+        certs: &[&BareObject<'_>],
+    ) -> Result<NamedFiles, AllocError>
+        ensures { IfOk result (AreNamedFiles (map (λ f. placed root.now f.now) certs.now)) }
+    {
+        let places = places_by_uri(alloc, root, certs)?;
+        Ok(NamedFiles { places })
+    }
 
     // The first place of a file that a URI names, if there is one.
     fn place_by(&self, alloc: Global, uri: &Rsync) -> Result<Option<usize>, AllocError>
-        ensures { IfOk result (λ place. place ≡ get (slice_cmp nat_cmp) self.now.files uri.now) }
+        ensures { IfOk result (λ place. place ≡ get (slice_cmp nat_cmp) self.now.places uri.now) }
     {
         let key = Bytes::copy_from_slice(alloc, uri.as_bytes())?;
-        let place = self.files.get(&key).copied();
+        let place = self.places.get(&key).copied();
         drop(key);
         Ok(place)
     }
 
-    /// Returns the first place of the file that a URI names, if there is a URI and such a file: the
-    /// file's name below the directory that is named is what follows `rsync://` in the URI.
-    pub(crate) fn place_of(
-        &self,
-        alloc: Global,
-        uri: Option<&Rsync>,
-    ) -> Result<Option<usize>, AllocError>
+    // The first place of the file that a URI names, if there is a URI and such a file: the file's name
+    // below the directory that is named is what follows `rsync://` in the URI.
+    fn place_of(&self, alloc: Global, uri: Option<&Rsync>) -> Result<Option<usize>, AllocError>
         ensures { (certs : List FileFields) → AreNamedFiles certs self.now
             → IfOk result (λ place.
             place ≡ place_of certs (option_map (λ u. u.now) uri.entry)) }
@@ -218,6 +235,24 @@ impl Issuers {
             Some(uri) => self.place_by(alloc, uri),
             None => Ok(None),
         }
+    }
+
+    /// Returns the first place of the file that the certificate with which a file starts names as its
+    /// issuer's, if there is one.
+    pub(crate) fn named_in(
+        &self,
+        alloc: Global,
+        file: &BareObject<'_>,
+    ) -> Result<Option<usize>, AllocError>
+        ensures { (certs : List FileFields) → AreNamedFiles certs self.now
+            → IfOk result (IsNamedIn certs file.now.octets) }
+    {
+        let Some(cert) = file.certificate(alloc)? else {
+            return Ok(None);
+        };
+        let named = self.place_of(alloc, cert.as_tbs().ca_issuer());
+        drop(cert);
+        named
     }
 }
 

@@ -13,9 +13,11 @@ ghost use Rattle.rpki_path.specs.declared.path_fault.PathFault.{PathFault};
 ghost use Rattle.rpki_verdicts.specs.GivenLocators.{LocatorFields};
 ghost use Rattle.rpki_verdicts.specs.IsolatedTrees.{AreWithAndWithout, HasEnoughIn, IsAcceptedIn, IsVerdictIn, about, folder_of};
 ghost use Rattle.rpki_verdicts.specs.ShownPaths.{ShowByRanks};
+ghost use Rattle.rpki_verdicts.specs.ShownTrees.{ShowsNamed};
 ghost use Rattle.rpki_verdicts.specs.Trees.{TreeFields};
 ghost use Rattle.rpki_verdicts.specs.declared.unordered.Tree.{Tree};
 
+use rpki_cert::laws;
 use rpki_folder::Firsts;
 use rpki_keys::RsaVerifier;
 
@@ -84,3 +86,13 @@ pub fn isolated_trees()
 pub fn shown_by_ranks()
     ensures { ShowByRanks }
 {}
+
+/// States that nobody hides the named path to a certificate. Take a tree, and a path on which each
+/// certificate, from the bottom up to the trust anchor, names the file of the one above. If the tree's walk
+/// accepted a certificate by that path, it is the path that is shown, whatever else is among the files. The
+/// walk does so if the path is valid and within its limits ([`rpki_folder::laws::nothing_is_lost`]).
+pub fn named_is_shown()
+    ensures { (q : TreeFields) → ShowsNamed (context IsSignedByRsa q.at q.strict) q }
+{
+    laws::unambiguous();
+}

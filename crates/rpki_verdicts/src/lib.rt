@@ -7,6 +7,7 @@ mod damage;
 mod issuers;
 pub mod laws;
 mod locators;
+mod named_paths;
 mod parts;
 mod path;
 pub mod reasons;

@@ -3,14 +3,15 @@ ghost use Rattle.std.specs.Cmp.Lexicographic.{slice_cmp};
 ghost use Rattle.std.specs.List.{AllByRecursion};
 ghost use Rattle.std.specs.List.Sorted.{IsPermutation, IsSorted};
 ghost use Rattle.std.specs.Ordering.{nat_cmp};
-ghost use Rattle.std.specs.Prelude.{◌≡◌, ◌≤◌, ◌<◌, ◌+◌, ◌↔◌, ◌∷◌, length, map, reverse, IfOk, IsTrue};
+ghost use Rattle.std.specs.Prelude.{◌≡◌, [], None, ◌≤◌, ◌<◌, ◌+◌, ◌↔◌, ◌∷◌, length, map, reverse, IfOk, IsTrue};
 ghost use Rattle.rpki_blocks.specs.Sets.{AreIn};
 ghost use Rattle.rpki_folder.specs.KeptLines.{paths_in};
-ghost use Rattle.rpki_verdicts.specs.ShownPaths.{NameIssuersAbove, AreSame, AreShown, HoldSame, NamesIssuerAt, is_issuer_file, octets_along, file_octets_at, placed_of};
+ghost use Rattle.rpki_verdicts.specs.ShownPaths.{NameIssuersAbove, AreSame, AreShown, HoldSame, NamesIssuerAt, choice_of, named_in, octets_along, file_octets_at, placed_of};
 ghost use Rattle.rpki_verdicts.specs.ShownPaths.Steps.{IsRanked, ranked_order};
 ghost use Rattle.rpki_verdicts.specs.UnseenCertificates.{AreTreeIssuers};
 
 use crate::issuers::Issuers;
+use crate::named_paths::{has_path, is_of};
 use crate::parts::Trees;
 use crate::unordered::Tree;
 use rpki_blocks::{AsBlocks, IpBlocks};
@@ -19,6 +20,9 @@ use rpki_files::BareObject;
 use rpki_folder::{AcceptedPaths, FoundPath};
 use std::alloc::{AllocError, Global};
 use std::cmp::Ordering;
+
+// How many paths are shown at most.
+const MOST_PATHS: usize = 8;
 
 /// The valid paths to an accepted certificate that are kept, as they are shown.
 #[derive(Drop)]
@@ -38,6 +42,17 @@ struct RankedPath<'t> {
     named: usize,
 }
 
+// Whether one path is kept, and no named one beside it.
+fn is_alone(tree: &Tree<'_, '_>, place: usize, paths: &AcceptedPaths) -> bool
+    ensures { IsTrue result
+        → (paths.now.others.items ≡ []) × (named_in tree.now place ≡ None) }
+{
+    if !paths.others.is_empty() {
+        return false;
+    }
+    tree.named_path(place).is_none()
+}
+
 // The paths of those behind the first.
 fn paths_of<'t>(alloc: Global, ranked: &[RankedPath<'t>]) -> Result<Vec<&'t FoundPath>, AllocError>
     ensures { IfOk result (λ paths.
@@ -48,18 +63,6 @@ fn paths_of<'t>(alloc: Global, ranked: &[RankedPath<'t>]) -> Result<Vec<&'t Foun
         paths.push(it.path)?;
     }
     Ok(paths)
-}
-
-impl<'q, 'n> Tree<'q, 'n> {
-    // Whether the file at a place, if there is one, is that of this issuer, or a copy of it.
-    fn is_of(&self, named: Option<usize>, issuer: usize) -> bool
-        ensures { result ≡ is_issuer_file self.now named issuer }
-    {
-        match named {
-            Some(place) => self.firsts.first_of(place) == self.firsts.first_of(issuer),
-            None => false,
-        }
-    }
 }
 
 impl<'q, 'n> Trees<'q, 'n> {
@@ -76,12 +79,7 @@ impl<'q, 'n> Trees<'q, 'n> {
         let Some(file) = self.certs.get(place) else {
             return Ok(None);
         };
-        let Some(cert) = file.certificate(alloc)? else {
-            return Ok(None);
-        };
-        let named = issuers.place_of(alloc, cert.as_tbs().ca_issuer());
-        drop(cert);
-        named
+        issuers.files.named_in(alloc, *file)
     }
 
     // How many certificates name the file of the one above, from that at a place up, below the CAs at
@@ -96,14 +94,14 @@ impl<'q, 'n> Trees<'q, 'n> {
     ) -> Result<usize, AllocError>
         requires { AreTreeIssuers self.now issuers.now }
         ensures named { let up = reverse above.now in
-            IfOk result (NameIssuersAbove (placed_of self.now) tree.now place up) }
+            IfOk result (NameIssuersAbove (placed_of self.now) tree.now.firsts tree.now.anchor place up) }
         ensures few { IfOk result (λ n. n ≤ length above.now + 1) }
     {
         let named = self.named_by(alloc, issuers, place)?;
         let Some((issuer, above)) = above.split_last() else {
-            return Ok(usize::from(tree.is_of(named, tree.anchor)));
+            return Ok(usize::from(is_of(&tree.firsts, named, tree.anchor)));
         };
-        if !tree.is_of(named, *issuer) {
+        if !is_of(&tree.firsts, named, *issuer) {
             return Ok(0);
         }
         let count = self.count_named(alloc, issuers, tree, *issuer, above)?;
@@ -127,7 +125,7 @@ impl<'q, 'n> Trees<'q, 'n> {
         Ok(RankedPath { path, named })
     }
 
-    // All paths that are kept, with these numbers.
+    // All paths that a line keeps, with these numbers.
     fn all_ranked<'t>(
         &self,
         alloc: Global,
@@ -147,6 +145,35 @@ impl<'q, 'n> Trees<'q, 'n> {
         for path in &paths.others {
             all.push(self.ranked(alloc, issuers, tree, place, path)?)?;
         }
+        Ok(all)
+    }
+
+    // The paths among which one is shown, with these numbers: those that a line keeps; but the named path
+    // in the place of the last, if that is kept beside the line and the line doesn't have it.
+    fn ranked_choice<'t>(
+        &self,
+        alloc: Global,
+        issuers: &Issuers,
+        tree: &'t Tree<'_, '_>,
+        place: usize,
+        paths: &'t AcceptedPaths,
+    ) -> Result<Vec<RankedPath<'t>>, AllocError>
+        requires { AreTreeIssuers self.now issuers.now }
+        ensures paths { IfOk result (λ all.
+            map (λ it. it.path.now) all.items ≡ choice_of (paths_in paths.now) (named_in tree.now place)) }
+        ensures ranked { IfOk result (λ all.
+            AllByRecursion (IsRanked (placed_of self.now) tree.now place) all.items) }
+    {
+        let mut all = self.all_ranked(alloc, issuers, tree, place, paths)?;
+        let Some(path) = tree.named_path(place) else {
+            return Ok(all);
+        };
+        if has_path(paths, &path.above) {
+            return Ok(all);
+        }
+        let named = self.ranked(alloc, issuers, tree, place, path)?;
+        all.truncate(MOST_PATHS - 1);
+        all.push(named)?;
         Ok(all)
     }
 
@@ -205,7 +232,8 @@ impl<'q, 'n> Trees<'q, 'n> {
     /// certificate above by their caIssuers URI: `rsync://` and that file's name below the directory
     /// that is named, as in a cache that is laid out by URI, or the name of a copy. Then it is the
     /// shortest path, and then the one whose CAs' bytes are least (own). So which one it is doesn't
-    /// depend on the order of the paths.
+    /// depend on the order of the paths, and a path all of whose certificates are named is shown
+    /// however many other paths there are ([`crate::laws::named_is_shown`]).
     ///
     /// # Errors
     ///
@@ -214,7 +242,7 @@ impl<'q, 'n> Trees<'q, 'n> {
         &self,
         alloc: Global,
         issuers: &Issuers,
-        tree: &Tree<'_, '_>,
+        tree: &'t Tree<'_, '_>,
         place: usize,
         paths: &'t AcceptedPaths,
     ) -> Result<ShownPaths<'t>, AllocError>
@@ -223,7 +251,7 @@ impl<'q, 'n> Trees<'q, 'n> {
     {
         laws::unambiguous();
         let more = paths.more;
-        if paths.others.is_empty() {
+        if is_alone(tree, place, paths) {
             let others = Vec::new(alloc);
             let shown = &paths.first;
             return Ok(ShownPaths {
@@ -232,7 +260,7 @@ impl<'q, 'n> Trees<'q, 'n> {
                 more,
             });
         }
-        let ranked = self.sorted(self.all_ranked(alloc, issuers, tree, place, paths)?)?;
+        let ranked = self.sorted(self.ranked_choice(alloc, issuers, tree, place, paths)?)?;
         let Some((first, behind)) = ranked.split_first() else {
             unreachable!();
         };

@@ -6,7 +6,6 @@ ghost use Rattle.rpki_path.specs.AskedLists.{by_named_lists};
 ghost use Rattle.rpki_folder.specs.FirstPlaces.{IsFirstIn};
 ghost use Rattle.rpki_folder.specs.Folders.{with_cert, with_list};
 ghost use Rattle.rpki_folder.specs.FoundAnchors.{IsFound};
-ghost use Rattle.rpki_folder.specs.KeptLines.{BecameLines};
 ghost use Rattle.rpki_crl.specs.Lists.{CrlState, IsCertificateList};
 ghost use Rattle.rpki_keys.specs.RsaSignatures.{IsSignedByRsa};
 ghost use Rattle.rpki_folder.specs.LimitTables.{HasReached};
@@ -17,10 +16,13 @@ ghost use Rattle.rpki_folder.specs.Walks.{IsLookedAt, LeadsTo, Root, Told, Tells
 ghost use Rattle.rpki_files.specs.Contents.{IsList};
 ghost use Rattle.rpki_files.specs.Files.{FileFields};
 ghost use Rattle.rpki_verdicts.specs.GivenLocators.{LocatorFields};
+ghost use Rattle.rpki_verdicts.specs.NamedPaths.Steps.{BecameNamed};
+ghost use Rattle.rpki_verdicts.specs.ShownPaths.{named_in};
 ghost use Rattle.rpki_verdicts.specs.Trees.{asked_of, IsAnchorReason, IsFolderOf, IsTreeAnswer, is_anchor_at, line_at, reached_in};
 ghost use Rattle.rpki_verdicts.specs.Trees.Steps.{IsCandidateTold};
 
 use crate::locators::GivenLocator;
+use crate::named_paths::NamedLines;
 use crate::path::{Fault, no_resources, other_key, other_name, with_table};
 use crate::reasons::of_path;
 use rpki_cert::{ResourceCert, Said, laws};
@@ -28,13 +30,14 @@ use rpki_crl::Crl;
 use rpki_der::Time;
 use rpki_files::{BareObject, Front};
 use rpki_folder::{
-    Admission, AllAdmitted, Bounds, Ended, Firsts, Folder, FoundAnchor, LimitTable, Line, Lines,
-    Reached, Walk, WalkError, Walked, WrongCandidate,
+    Admission, AllAdmitted, Bounds, Ended, Firsts, Folder, FoundAnchor, FoundPath, LimitTable,
+    Line, Lines, Reached, Walk, WalkError, Walked, WrongCandidate,
 };
 use rpki_keys::RsaVerifier;
 use rpki_keys::tal::Tal;
 use rpki_path::LocatedError;
 use std::alloc::{AllocError, Global};
+use std::collections::BTreeMap;
 
 /// A question about files in any order: the files, the TALs, the directory that is named, whether
 /// names are checked, the mode, the validation time, the most certificates of a path below the trust
@@ -64,6 +67,8 @@ pub struct Tree<'q, 'n> {
     pub(crate) firsts: Firsts,
     // The line of each certificate at its first place, with what its verdicts came to.
     pub(crate) lines: Lines,
+    // The named path to each certificate whose line has another one, by its first place.
+    pub(crate) named: BTreeMap<usize, FoundPath>,
     // The limits that were reached at each certificate, at its first place.
     pub(crate) limits: LimitTable,
     /// Whether every certificate was judged, or which limit was reached.
@@ -94,6 +99,15 @@ impl<'q, 'n> Tree<'q, 'n> {
         ensures { option_copied result ≡ line_at self.now place }
     {
         self.lines.as_slice().get(self.firsts.first_of(place))
+    }
+
+    /// Returns the named path that is kept beside the line of the certificate at a place. A copy has
+    /// that of the certificate's first place.
+    pub(crate) fn named_path(&self, place: usize) -> Option<&FoundPath>
+        ensures { option_copied result ≡ named_in self.now place }
+    {
+        let first = self.firsts.first_of(place);
+        self.named.get(&first)
     }
 
     /// Returns the limits that the walk reached at the certificate at a place. A copy has those of
@@ -289,7 +303,8 @@ fn told_of_each<'q, 'n>(
     Ok(wrong)
 }
 
-// Walks down from the trust anchor, through each certificate at its first place, and keeps the lines.
+// Walks down from the trust anchor, through each certificate at its first place, and keeps the lines
+// and the named paths.
 fn walked(
     alloc: Global,
     question: &TreeQuestion<'_, '_>,
@@ -297,12 +312,12 @@ fn walked(
     firsts: &Firsts,
     anchor: &ResourceCert,
     start: usize,
-    lines: &mut Lines,
+    lines: &mut NamedLines<'_, '_, '_>,
 ) -> Result<Walked, AllocError>
     ensures tells { let q = question.now in
         let x = context IsSignedByRsa q.at q.strict in
         let asked = by_named_lists q.names x folder.now.lists in
-        (told : List Told) × BecameLines lines.old told lines.new
+        (told : List Told) × BecameNamed lines.old told lines.new
         × TellsBelow x asked
         (IsLookedAt q.names (IsFirstIn firsts.now) anchor.now.cert folder.now.certs) anchor.now
         folder.now.certs [] q.depth q.steps (ended_of result) told }
@@ -343,17 +358,19 @@ pub(crate) fn grown<'q, 'n>(
         FoundAnchor::Valid(anchor, issuer) => {
             let firsts = Firsts::of(alloc, folder)?;
             let count = certs.len();
-            let mut lines = Lines::new(alloc, count)?;
             let start = firsts.first_of(anchor);
-            let walked = walked(alloc, question, folder, &firsts, &issuer, start, &mut lines);
+            let mut kept = NamedLines::new(alloc, question.root, &certs, &firsts, anchor)?;
+            let walked = walked(alloc, question, folder, &firsts, &issuer, start, &mut kept);
             drop(issuer);
             let walk = walked?;
             let Walked { ended, limits } = walk;
+            let (lines, named) = kept.into_parts();
             Ok(TreeAnswer::Walked(Tree {
                 certs,
                 anchor,
                 firsts,
                 lines,
+                named,
                 limits,
                 ended,
             }))

@@ -8,7 +8,8 @@ use Rattle.rpki_verdicts.specs.declared.unordered.Tree.{Tree}
 
 -- the number is that of the path's named certificates
 abbrev pub IsRanked : List FileFields → Tree → ℕ → RankedPath → Type 0
-IsRanked certs tree place r = NameIssuersAbove certs tree place (reverse r.path.now.above.items) r.named
+IsRanked certs tree place r =
+    NameIssuersAbove certs tree.firsts tree.anchor place (reverse r.path.now.above.items) r.named
 
 -- its rank
 abbrev pub rank_of : List FileFields → RankedPath → Rank

@@ -16,7 +16,12 @@ use Rattle.rpki_folder.specs.declared.anchors.WrongCandidate.{WrongCandidate}
 use Rattle.rpki_folder.specs.declared.walk_error.WalkError.{WalkError}
 use Rattle.rpki_folder.proofs.AnchorSteps.{anchor_is}
 use Rattle.rpki_files.specs.Files.{FileFields}
+use Rattle.rpki_folder.specs.KeptLines.{AreLines}
+use Rattle.rpki_folder.specs.declared.lines.Line.{Line}
+use Rattle.rpki_verdicts.specs.declared.named_paths.NameRule.{NameRule}
+use Rattle.rpki_verdicts.specs.declared.named_paths.NamedLines.{NamedLines}
 use Rattle.rpki_verdicts.specs.Trees.{asked_of}
+use Rattle.rpki_verdicts.proofs.NamedSteps.{kept_over}
 use Rattle.rpki_verdicts.specs.Trees.Steps.{IsCandidateTold}
 use Rattle.rpki_verdicts.proofs.FilesAt.{file_there, octets_there}
 use Rattle.rpki_verdicts.proofs.WrongFiles.{none_found}
@@ -84,8 +89,9 @@ returns-in_ok-walk-in-Valid c = λ l read.
     subst (λ (d : CertFields). AreLimited x asked (IsLookedAt q.names (IsFirstIn firsts) d folder.certs) root
     folder.certs q.depth q.steps cas) (anchor_is x asked t octets issuer found.0 law top begins)
     (reached.2 root found.0) in
-    let count : c.len-count.result ≡ length files = c.len-count.ensures ∙ c.args.certs.ok.0 ∙
-    sym (length-map c.args.certs.items (λ f. f.now)) in
+    let new = c.in_ok-kept-in-Valid.ensures in
+    let after : NamedLines = c.walked-walked.new.lines in
+    let parts = c.into_parts-lines in
     record {
       certs_are = c.requires.certs_are;
       lists = folder.lists;
@@ -101,8 +107,16 @@ returns-in_ok-walk-in-Valid c = λ l read.
           file.0.octets o q.depth q.steps (Ok walk.ended) told.0) same_certs
           (subst (λ (o : List ℕ). TellsFrom {E = WalkError} x asked q.names (IsFirstIn firsts) t o folder.certs
           q.depth q.steps (Ok walk.ended) told.0) same from);
-      count_is = told.1.0 ∙ c.in_ok-lines-in-Valid.ensures.count ∙ count;
-      lines_are = told.1.1 c.in_ok-lines-in-Valid.ensures.nothing;
+      count_is = ap (λ (ls : List Line). length ls) parts.ensures.lines ∙ told.1.lines_are.0 ∙ new.count
+          ∙ ap length c.deref-in-Valid.ensures.value ∙ sym (length-map c.args.certs.items (λ f. f.now));
+      lines_are = subst (λ (ls : List Line). AreLines told.0 ls) (sym parts.ensures.lines) (told.1.lines_are.1 new.lines);
+      named_are = kept_over after.rule q.root.now c.args.certs.items firsts place
+          (ap (λ (r : NameRule). r.root.now) told.1.rule_is ∙ new.root)
+          (ap (λ (r : NameRule). r.certs.now) told.1.rule_is ∙ new.certs ∙ c.deref-in-Valid.ensures.value)
+          (ap (λ (r : NameRule). r.firsts.now) told.1.rule_is ∙ new.firsts)
+          (ap (λ (r : NameRule). r.anchor) told.1.rule_is ∙ new.anchor) told.0 after.lines parts.result.0
+          after.paths parts.result.1 parts.ensures.lines parts.ensures.paths
+          (told.1.paths_are new.right new.lines new.kept);
       limited = cas;
       limited_are = subst (λ (o : List (List ℕ)). AreLimitedFrom x asked q.names (IsFirstIn firsts) t file.0.octets o
           q.depth q.steps cas) same_certs
