@@ -86,10 +86,10 @@ import enum
 import io
 import ipaddress
 import os
-from collections.abc import Iterable, Iterator, Mapping, Sequence
+from collections.abc import Callable, Iterable, Iterator, Mapping, Sequence
 from dataclasses import dataclass
 from datetime import datetime, timezone
-from functools import cached_property
+from functools import cache, cached_property
 from typing import BinaryIO, Generic, TypeVar, Union, cast
 
 from . import _library as raw
@@ -985,11 +985,23 @@ def _resources(held: raw.Held) -> Resources:
     return Resources(_ipv4(held[0]), _ipv6(held[1]), _as_numbers(held[2]))
 
 
-def _line(it: raw.Line, room: raw.Room) -> Line:
+def _held_in(room: raw.Room) -> Callable[[raw.Line], Resources]:
+    """Returns what returns the resources of a line: ranges that several lines have are made once."""
+    ipv4 = cache(lambda at, count: _ipv4(room.v4[at : at + count]))
+    ipv6 = cache(lambda at, count: _ipv6(room.v6[at : at + count]))
+    as_numbers = cache(lambda at, count: _as_numbers(room.asn[at : at + count]))
+
+    def held(line: raw.Line) -> Resources:
+        v4, v6, asn = raw.held_parts(line)
+        return Resources(ipv4(*v4), ipv6(*v6), as_numbers(*asn))
+
+    return held
+
+
+def _line(it: raw.Line, held: Callable[[raw.Line], Resources]) -> Line:
     state = State(it.what)
     if state is State.ACCEPTED:
-        held = _resources(raw.held_of(it, room))
-        return Line(state, it.step, it.issuer, kind=Kind(it.kind), held=held)
+        return Line(state, it.step, it.issuer, kind=Kind(it.kind), held=held(it))
     if state is State.REJECTED:
         return Line(state, it.step, None, _fault(it.fault), Kind(it.kind))
     return Line(state)
@@ -1051,7 +1063,8 @@ def judge_folder(
     is_anchors = 100 <= walk.fault <= 600 or walk.fault == FaultCode.NO_RESOURCES
     place = walk.anchor if is_anchors else None
     _raise(walk.fault, place)
-    told = tuple(_line(it, room) for it in lines)
+    held = _held_in(room)
+    told = tuple(_line(it, held) for it in lines)
     return Folder(told, walk.anchor, walk.ended == raw.WHOLE, tuple(_limited(lines)))
 
 

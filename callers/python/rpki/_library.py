@@ -490,14 +490,13 @@ def judge_folder(asked: FolderQuestion) -> tuple[Walk, list[Line], Room]:
     return out, list(lines), room
 
 
-def held_of(line: Line, room: Room) -> Held:
-    """The ranges that the certificate of a line holds."""
+Part = tuple[int, int]
+
+
+def held_parts(line: Line) -> tuple[Part, Part, Part]:
+    """Of the ranges of each kind: where those are that the certificate of a line holds, and how many."""
     it = line.held
-    return (
-        room.v4[it.v4_at : it.v4_at + it.v4],
-        room.v6[it.v6_at : it.v6_at + it.v6],
-        room.asn[it.asn_at : it.asn_at + it.asn],
-    )
+    return (it.v4_at, it.v4), (it.v6_at, it.v6), (it.asn_at, it.asn)
 
 
 def ip_range(first: bytes, last: bytes) -> IpRange:

@@ -1391,7 +1391,8 @@ class Issuing(unittest.TestCase):
         asked = raw.folder_question(strings, tal, now, True, (32, 0), False, False)
         walk, lines, room = raw.judge_folder(asked)
         self.assertEqual((walk.fault, walk.v4), (0, 43))
-        held = [raw.held_of(it, room)[0] for it in lines[1 : len(given)]]
+        parts = [raw.held_parts(it)[0] for it in lines[1 : len(given)]]
+        held = [room.v4[at : at + count] for at, count in parts]
         counts = [len(it) for it in held]
         self.assertEqual(counts, [40, 40, 40, 3, 40, 40])
         for ranges in held:
