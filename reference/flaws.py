@@ -132,9 +132,10 @@ def is_list(octets):
         return False
 
 
-def found_at(octets, place):
-    """What is found at a place; None where nothing is told."""
-    listed, rest = is_list(octets), octets[place.octet:]
+def found_at(octets, place, listed=None):
+    """What is found at a place of a certificate or a list, which octets look like if it isn't said; None
+    where nothing is told."""
+    listed, rest = is_list(octets) if listed is None else listed, octets[place.octet:]
     if not rest:
         return 'nothing: the file ends there'
     if rest[0] not in openings(place.field, listed):

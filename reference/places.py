@@ -196,11 +196,12 @@ def take_signature(cursor):
     cursor.finish()
 
 
-def read_whole(cursor):
-    """A Certificate, or a CertificateList (RFC 5280 4.1, 5.1); anything may stand behind it."""
+def read_whole(cursor, is_list=None):
+    """A Certificate, or a CertificateList (RFC 5280 4.1, 5.1), which it looks like if it isn't said;
+    anything may stand behind it."""
     outer = component('the outer SEQUENCE', Cursor.take_sequence, cursor)
     tbs = component('the to-be-signed part', Cursor.take_sequence, outer)
-    if begins_list(tbs):
+    if begins_list(tbs) if is_list is None else is_list:
         algorithm = components(TBS_CERT_LIST, tbs)['the signature algorithm']
         revoked_certificates(tbs)
         extensions(OfList(), tbs)
@@ -214,10 +215,10 @@ def read_whole(cursor):
     component('the signature', take_signature, outer)
 
 
-def place_of(octets):
+def place_of(octets, is_list=None):
     """Where reading stops; None where octets begin with a certificate or a list."""
     try:
-        read_whole(Cursor(octets))
+        read_whole(Cursor(octets), is_list)
     except Stops as stop:
         return stop.place
     return None

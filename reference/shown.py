@@ -150,12 +150,14 @@ def expected_at(octets, place, is_list):
 
 def unread(octets, told):
     """What is found of octets that begin with neither a certificate nor a CRL, if this is told of them."""
-    sort, place = sorts.sort_of(octets), places.place_of(octets)
+    sort = sorts.sort_of(octets)
     is_list = is_told_as_list(octets, sort)
+    place = places.place_of(octets, is_list)
     reading = reading_of(told.get('fault', ''))
     error = told['fault'] if reading and is_true(octets, place, reading, is_list) else 'bad value'
     rule = texts.sorts()[sort].rule if sort else rule_of(octets, reading_of(error), is_list)
-    return Unread(sort, error, place, expected_at(octets, place, is_list), flaws.found_at(octets, place), rule)
+    found = flaws.found_at(octets, place, is_list)
+    return Unread(sort, error, place, expected_at(octets, place, is_list), found, rule)
 
 
 # ---- periods
