@@ -825,7 +825,8 @@ enum rpki_fate {
 /* Says which of the ranges in a struct rpki_room a certificate holds. */
 struct rpki_held {
     uint64_t v4, v6, asn;          /* count its ranges of each kind */
-    uint64_t v4_at, v6_at, asn_at; /* count those before them in the room */
+    uint64_t v4_at, v6_at, asn_at; /* count those before them in the room;
+                                      certificates that hold the same may share them */
 };
 
 /* Numbers the limits that a walk reaches at a CA, as bits. None of the CA's children is validated on

@@ -582,7 +582,7 @@ fn some_below(cert: &Cert, holder: &ResourceCert)
     let _found = answer_of(key);
 }
 
-/// Says that there are parts of what is held, where none are made.
+/// States that what a certificate holds has parts, also if none are made.
 pub(crate) fn some_held(judged: &Judged)
     ensures { (held : _) × AreHeld judged.now.holder judged.now.router held }
 {

@@ -1,4 +1,4 @@
-//! Where a walk judges a certificate below an issuer, and reports the verdict.
+//! Judges a certificate below an issuer, and reports the verdict.
 ghost use Rattle.std.specs.Prelude.{◌≢◌, ◌↔◌, ◌+◌, ◌++◌, ◌∷◌, [], ◌<◌, List, length, Result, Ok, Err, IfOk, IfErr, OnOk, OnErr, IsTrue};
 ghost use Rattle.rpki_ext.specs.Kinds.{Means};
 ghost use Rattle.rpki_cert.specs.Certificates.{CertFields, IsCertificate};

@@ -1,4 +1,4 @@
-//! The locator of the trust anchor.
+//! The TAL of the trust anchor.
 
 use rpki_keys::tal::Tal;
 use std::alloc::Global;
@@ -8,7 +8,7 @@ use std::process::Abort;
 // of rsaEncryption with NULL.
 const OF_ANCHOR: &[u8] = b"rsync://example.com/ta.cer\n\nMBUwDQYJKoZIhvcNAQEBBQADBABhYmM=\n";
 
-/// The locator of the anchor's key.
+/// Returns the TAL of the anchor's key.
 pub(crate) fn locator(rt: &impl Abort, alloc: Global) -> Tal {
     let name = String::from_str(alloc, "example").expect(rt, "memory");
     Tal::read_named(alloc, name, OF_ANCHOR, true).expect(rt, "a locator")

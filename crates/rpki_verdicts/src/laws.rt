@@ -90,7 +90,7 @@ pub fn shown_by_ranks()
 /// States that nobody hides the named path to a certificate. Take a tree, and a path on which each
 /// certificate, from the bottom up to the trust anchor, names the file of the one above. If the tree's walk
 /// accepted a certificate by that path, it is the path that is shown, whatever else is among the files. The
-/// walk does so if the path is valid and within its limits ([`rpki_folder::laws::nothing_is_lost`]).
+/// walk does so if the path is valid, is no circle, and is within the walk's limits.
 pub fn named_is_shown()
     ensures { (q : TreeFields) → ShowsNamed (context IsSignedByRsa q.at q.strict) q }
 {

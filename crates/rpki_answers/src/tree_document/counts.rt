@@ -228,7 +228,7 @@ fn count_unasked(alloc: Global, rows: &[Row<'_, '_, '_>]) -> Result<usize, Alloc
     Ok(keys.len())
 }
 
-/// What damages a cache.
+/// Adds what damages a cache.
 pub fn add_damage(
     parts: &mut Vec<Part<'_>>,
     alloc: Global,

@@ -1,4 +1,4 @@
-//! What is said behind the rows, and where a file given as a TAL is none.
+//! The lines behind those of the files, and the answer if a file given as a TAL is none.
 ghost use Rattle.std.specs.Prelude.{◌≡◌, ◌∷◌, [], map, IfOk, OnOk};
 ghost use Rattle.rpki_document.specs.Building.{Adds, nodes_of};
 ghost use Rattle.rpki_answers.specs.TreeDocuments.{end_nodes, no_locator_nodes, searched_line, limited_line, whole_line, tree_asked, tree_unchecked, unread_node};

@@ -1,4 +1,4 @@
-//! The rows of certificates that are rejected, or on which there is no verdict.
+//! The rows of certificates that are rejected or have no verdict.
 ghost use Rattle.std.specs.Prelude.{◌∷◌, [], Some, map, option_map, OnOk};
 ghost use Rattle.rpki_document.specs.Building.{Adds};
 ghost use Rattle.rpki_answers.specs.TreeDocuments.{file_first, index_node, issuer_spans, limited_spans, rejected_head, rejected_row, rejected_spans, row_head, unseen_row};

@@ -1,4 +1,4 @@
-//! Signers of a caller's own: what they refuse with, and how often they are asked.
+//! Signers of a caller's own: their errors, and how often they are called.
 
 use crate::checks::{check, check_count, check_octets, check_text};
 use crate::samples;
