@@ -24,13 +24,13 @@ const OPTIONS: [&str; 3] = ["--no-names", "--any-key", "--lenient"];
 fn print(held: &Holdings) -> io::Result<()> {
     let mut out = io::stdout().lock();
     writeln!(out, "accepted; held are")?;
-    for (min, max) in &held.ipv4 {
+    for (min, max) in held.ipv4.iter() {
         writeln!(out, "  {min}-{max}")?;
     }
-    for (min, max) in &held.ipv6 {
+    for (min, max) in held.ipv6.iter() {
         writeln!(out, "  {min}-{max}")?;
     }
-    for numbers in &held.as_numbers {
+    for numbers in held.as_numbers.iter() {
         writeln!(out, "  AS{}-AS{}", numbers.start(), numbers.end())?;
     }
     out.flush()

@@ -1,5 +1,10 @@
 //! Certificates and revocation lists in any order.
-use crate::{check_library, slices, sys, Fault, Holdings, Kind, Moment};
+use crate::{as_numbers, ipv4, ipv6};
+use crate::{
+    check_library, slices, sys, AsRanges, Fault, Holdings, Ipv4Ranges, Ipv6Ranges, Kind, Moment,
+};
+use std::collections::HashMap;
+use std::sync::Arc;
 
 /// The result for one string of a directory.
 #[derive(Clone, Debug, PartialEq, Eq, Hash)]
@@ -46,7 +51,7 @@ impl Line {
         matches!(self, Line::Anchor | Line::Accepted { .. })
     }
 
-    fn of(it: &sys::Line, held: &sys::Held) -> Line {
+    fn of(it: &sys::Line, held: &mut SharedRanges<'_>) -> Line {
         let step = it.step as usize;
         match it.what {
             sys::ANCHOR => Line::Anchor,
@@ -54,7 +59,7 @@ impl Line {
                 step,
                 issuer: it.issuer as usize,
                 kind: kind_of(it.kind),
-                held: Holdings::of(held.of(&it.held)),
+                held: held.of(&it.held),
             },
             sys::REJECTED => Line::Rejected {
                 step,
@@ -66,6 +71,53 @@ impl Line {
             _ => Line::Unseen,
         }
     }
+}
+
+// The ranges that lines hold, by their place and number: those that several lines share are made once.
+struct SharedRanges<'a> {
+    held: &'a sys::Held,
+    ipv4: HashMap<(u64, u64), Arc<Ipv4Ranges>>,
+    ipv6: HashMap<(u64, u64), Arc<Ipv6Ranges>>,
+    as_numbers: HashMap<(u64, u64), Arc<AsRanges>>,
+}
+
+impl<'a> SharedRanges<'a> {
+    fn new(held: &'a sys::Held) -> SharedRanges<'a> {
+        SharedRanges {
+            held,
+            ipv4: HashMap::new(),
+            ipv6: HashMap::new(),
+            as_numbers: HashMap::new(),
+        }
+    }
+
+    fn of(&mut self, it: &sys::HeldPlaces) -> Holdings {
+        let held = self.held;
+        Holdings {
+            ipv4: shared(&mut self.ipv4, &held.v4, (it.v4_at, it.v4), ipv4),
+            ipv6: shared(&mut self.ipv6, &held.v6, (it.v6_at, it.v6), ipv6),
+            as_numbers: shared(
+                &mut self.as_numbers,
+                &held.asn,
+                (it.asn_at, it.asn),
+                as_numbers,
+            ),
+        }
+    }
+}
+
+// The ranges at a place, so many, which are made if they weren't yet.
+fn shared<R, T>(
+    made: &mut HashMap<(u64, u64), Arc<T>>,
+    all: &[R],
+    (at, count): (u64, u64),
+    make: fn(&[R]) -> T,
+) -> Arc<T> {
+    let part = &all[at as usize..(at + count) as usize];
+    Arc::clone(
+        made.entry((at, count))
+            .or_insert_with(|| Arc::new(make(part))),
+    )
 }
 
 // A kind below a trust anchor.
@@ -235,11 +287,44 @@ impl<'a> Folder<'a> {
         };
         let of_anchor = |(number, anchor)| Fault::of_anchor(number, anchor);
         let (walk, lines, held) = sys::judge_folder(&question).map_err(of_anchor)?;
+        let mut ranges = SharedRanges::new(&held);
         Ok(Judged {
-            lines: lines.iter().map(|it| Line::of(it, &held)).collect(),
+            lines: lines.iter().map(|it| Line::of(it, &mut ranges)).collect(),
             anchor: walk.anchor as usize,
             is_whole: walk.ended == sys::WHOLE,
             limited: lines.iter().enumerate().filter_map(LimitedCa::of).collect(),
         })
+    }
+}
+
+#[cfg(test)]
+mod tests {
+    use super::SharedRanges;
+    use crate::sys::{AsRange, Held, HeldPlaces};
+    use std::sync::Arc;
+
+    #[test]
+    fn ranges_at_one_place_are_made_once() {
+        let of = |number| AsRange {
+            min: number,
+            max: number + 1,
+        };
+        let held = Held {
+            asn: vec![of(1), of(7)],
+            ..Held::default()
+        };
+        let places = |asn_at, asn| HeldPlaces {
+            asn_at,
+            asn,
+            ..HeldPlaces::default()
+        };
+        let mut ranges = SharedRanges::new(&held);
+        let one = ranges.of(&places(0, 2));
+        let other = ranges.of(&places(0, 2));
+        assert!(Arc::ptr_eq(&one.as_numbers, &other.as_numbers));
+        assert_eq!(*one.as_numbers, [1..=2, 7..=8]);
+        assert_eq!(*ranges.of(&places(1, 1)).as_numbers, [7..=8]);
+        assert_eq!(*ranges.of(&places(0, 1)).as_numbers, [1..=2]);
+        assert!(one.ipv4.is_empty() && one.ipv6.is_empty());
     }
 }

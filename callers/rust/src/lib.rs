@@ -16,7 +16,7 @@
 //!     let path = Path::new(&members, Kind::Authority, asked, anchor);
 //!     match path.validate(Moment::now()) {
 //!         Ok(held) => {
-//!             for (min, max) in held.ipv4 {
+//!             for (min, max) in held.ipv4.iter() {
 //!                 println!("{min} to {max}");
 //!             }
 //!         }
@@ -73,7 +73,7 @@ pub use moment::{Moment, NoMoment};
 use std::collections::HashSet;
 use std::net::{IpAddr, Ipv4Addr, Ipv6Addr};
 use std::ops::RangeInclusive;
-use std::sync::Once;
+use std::sync::{Arc, Once};
 
 /// Panics if the library has another interface than this crate.
 fn check_library() {
@@ -170,25 +170,25 @@ impl<T> Resources<T> {
     }
 }
 
-/// The numbers that a path holds.
+/// The numbers that a path holds. Certificates of one directory that hold the same share the ranges.
 #[derive(Clone, Debug, Default, PartialEq, Eq, Hash)]
 #[cfg_attr(feature = "serde", derive(serde::Serialize, serde::Deserialize))]
 #[non_exhaustive]
 pub struct Holdings {
     /// IPv4 addresses.
-    pub ipv4: Ipv4Ranges,
+    pub ipv4: Arc<Ipv4Ranges>,
     /// IPv6 addresses.
-    pub ipv6: Ipv6Ranges,
+    pub ipv6: Arc<Ipv6Ranges>,
     /// AS numbers.
-    pub as_numbers: AsRanges,
+    pub as_numbers: Arc<AsRanges>,
 }
 
 impl Holdings {
     fn of(held: sys::Held) -> Holdings {
         Holdings {
-            ipv4: ipv4(held.v4),
-            ipv6: ipv6(held.v6),
-            as_numbers: as_numbers(held.asn),
+            ipv4: Arc::new(ipv4(&held.v4)),
+            ipv6: Arc::new(ipv6(&held.v6)),
+            as_numbers: Arc::new(as_numbers(&held.asn)),
         }
     }
 
@@ -313,19 +313,19 @@ fn covers<T: Ord>(ranges: &[(T, T)], first: &T, last: &T) -> bool {
     behind > 0 && *last <= ranges[behind - 1].1
 }
 
-fn ipv4(ranges: Vec<sys::IpRange>) -> Ipv4Ranges {
+fn ipv4(ranges: &[sys::IpRange]) -> Ipv4Ranges {
     let first_four = |it: [u8; 16]| Ipv4Addr::new(it[0], it[1], it[2], it[3]);
-    let both = |it: sys::IpRange| (first_four(it.min), first_four(it.max));
-    ranges.into_iter().map(both).collect()
+    let both = |it: &sys::IpRange| (first_four(it.min), first_four(it.max));
+    ranges.iter().map(both).collect()
 }
 
-fn ipv6(ranges: Vec<sys::IpRange>) -> Ipv6Ranges {
-    let both = |it: sys::IpRange| (it.min.into(), it.max.into());
-    ranges.into_iter().map(both).collect()
+fn ipv6(ranges: &[sys::IpRange]) -> Ipv6Ranges {
+    let both = |it: &sys::IpRange| (it.min.into(), it.max.into());
+    ranges.iter().map(both).collect()
 }
 
-fn as_numbers(ranges: Vec<sys::AsRange>) -> AsRanges {
-    ranges.into_iter().map(|it| it.min..=it.max).collect()
+fn as_numbers(ranges: &[sys::AsRange]) -> AsRanges {
+    ranges.iter().map(|it| it.min..=it.max).collect()
 }
 
 /// A resource certificate, read from DER.
@@ -410,18 +410,22 @@ impl Certificate {
 
     /// Returns its IPv4 addresses.
     pub fn ipv4(&self) -> Result<Resources<Ipv4Ranges>, Fault> {
-        Resources::of(self.read.v4, || sys::addresses(&self.octets, 4).map(ipv4))
+        Resources::of(self.read.v4, || {
+            sys::addresses(&self.octets, 4).map(|it| ipv4(&it))
+        })
     }
 
     /// Returns its IPv6 addresses.
     pub fn ipv6(&self) -> Result<Resources<Ipv6Ranges>, Fault> {
-        Resources::of(self.read.v6, || sys::addresses(&self.octets, 6).map(ipv6))
+        Resources::of(self.read.v6, || {
+            sys::addresses(&self.octets, 6).map(|it| ipv6(&it))
+        })
     }
 
     /// Returns its AS numbers.
     pub fn as_numbers(&self) -> Result<Resources<AsRanges>, Fault> {
         Resources::of(self.read.asn, || {
-            sys::as_numbers(&self.octets).map(as_numbers)
+            sys::as_numbers(&self.octets).map(|it| as_numbers(&it))
         })
     }
 

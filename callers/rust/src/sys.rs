@@ -657,16 +657,6 @@ impl Held {
         is_whole
     }
 
-    /// The ranges of a line.
-    pub fn of(&self, it: &HeldPlaces) -> Held {
-        let part = |at: u64, count: u64| at as usize..(at + count) as usize;
-        Held {
-            v4: self.v4[part(it.v4_at, it.v4)].to_vec(),
-            v6: self.v6[part(it.v6_at, it.v6)].to_vec(),
-            asn: self.asn[part(it.asn_at, it.asn)].to_vec(),
-        }
-    }
-
     fn room(&mut self) -> Room {
         Room {
             v4: self.v4.as_mut_ptr(),

@@ -5,6 +5,7 @@ use gonxebhula::{
     RevocationList, Uri,
 };
 use std::net::{IpAddr, Ipv4Addr, Ipv6Addr};
+use std::sync::Arc;
 use std::time::{Duration, SystemTime, UNIX_EPOCH};
 
 const NOON: [u16; 6] = [2026, 6, 1, 12, 0, 0];
@@ -231,7 +232,7 @@ fn a_path_is_accepted() {
     let path = Path::new(&members, Kind::EndEntity, asked, located);
     let held = path.validate(at(NOON)).unwrap();
     let (min, max) = (Ipv4Addr::new(10, 1, 2, 0), Ipv4Addr::new(10, 1, 2, 255));
-    assert_eq!(held.ipv4, [(min, max)]);
+    assert_eq!(*held.ipv4, [(min, max)]);
     assert!(held.ipv6.is_empty() && held.as_numbers.is_empty());
     // certificates and lists that were read, and slices
     let certificates: Vec<_> = members
@@ -686,11 +687,14 @@ fn what_is_held_can_be_asked() {
     // of a prefix the address is any one of it, and a range may begin and end within
     let mut held = Holdings::default();
     let (four, six) = (Ipv4Addr::from(0x0a01_0203), Ipv6Addr::from(0x0203));
-    held.ipv4 = vec![
+    held.ipv4 = Arc::new(vec![
         (Ipv4Addr::from(0), Ipv4Addr::from(0xff)),
         (four, Ipv4Addr::from(0x0a01_ffff)),
-    ];
-    held.ipv6 = vec![(six, six), (Ipv6Addr::from(0x0301), Ipv6Addr::from(0xffff))];
+    ]);
+    held.ipv6 = Arc::new(vec![
+        (six, six),
+        (Ipv6Addr::from(0x0301), Ipv6Addr::from(0xffff)),
+    ]);
     for (text, length, wanted) in [
         ("10.1.2.3", 32, true),
         ("10.1.3.9", 24, true),

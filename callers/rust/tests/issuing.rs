@@ -135,8 +135,8 @@ fn certificates_are_issued() {
     let path = Path::new([&anchor, &it], Kind::Authority, asked, Anchor::AsGiven);
     let held = path.validate(now()).unwrap();
     let range = (Ipv4Addr::new(10, 1, 0, 0), Ipv4Addr::new(10, 7, 255, 255));
-    assert_eq!(held.ipv4, [range]);
-    assert_eq!(held.as_numbers, [64500..=64503]);
+    assert_eq!(*held.ipv4, [range]);
+    assert_eq!(*held.as_numbers, [64500..=64503]);
     for (which, uri) in URIS {
         assert_eq!(it.uri(which).unwrap().as_deref(), Some(uri));
     }
@@ -350,9 +350,9 @@ fn each_kind_has_room() {
         let (asked, anchor) = (Revocation::NotAsked, Anchor::AsGiven);
         let path = Path::new([&made], Kind::Authority, asked, anchor);
         let held = path.validate(now()).unwrap();
-        assert_eq!(Resources::Listed(held.ipv4), it.ipv4);
-        assert_eq!(Resources::Listed(held.ipv6), it.ipv6);
-        assert_eq!(Resources::Listed(held.as_numbers), it.as_numbers);
+        assert_eq!(Resources::Listed(held.ipv4.to_vec()), it.ipv4);
+        assert_eq!(Resources::Listed(held.ipv6.to_vec()), it.ipv6);
+        assert_eq!(Resources::Listed(held.as_numbers.to_vec()), it.as_numbers);
     }
     // and more octets, and a number of two octets
     let anchor = anchor(&key);
