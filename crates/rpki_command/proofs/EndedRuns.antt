@@ -13,13 +13,13 @@ use Rattle.rpki_files.specs.Files.{contents}
 use Rattle.rpki_verdicts.specs.GivenLocators.{locator_files}
 use Rattle.rpki_verdicts.specs.PathFiles.{Demands}
 use Rattle.rpki_command.specs.AboutTexts.{about_text, topic_of}
-use Rattle.rpki_text.specs.CommandLines.{RequestFields, with_files, IsCommandLine}
+use Rattle.rpki_text.specs.CommandLines.{RequestFields, IsCommandLine}
 use Rattle.rpki_answers.specs.Outcomes.{AsksOfFiles, IsOutcomeOf, demands_by, run_status}
 use Rattle.rpki_command.specs.ListedFolders.{ListsFolder, roots_of}
 use Rattle.rpki_command.specs.ReadFiles.{ReadsFile}
 use Rattle.rpki_command.specs.Moments.{IsMomentBy}
 use Rattle.rpki_command.specs.SoughtPaths.{with_sought}
-use Rattle.rpki_command.specs.Runs.{IsRunAnswer, IsAnswerAmong, IsAnswerBy, IsAnswerIn, IsAnswerOf, IsAnswerOfNamed, LineEnds, TaskEnds}
+use Rattle.rpki_command.specs.Runs.{IsRunAnswer, IsAnswerAmong, IsAnswerBy, IsAnswerIn, IsAnswerOf, IsAnswerOfNamed, LineEnds, TaskEnds, with_files_below}
 use Rattle.rpki_text.specs.declared.command_line.arguments.Task.{Task}
 use Rattle.rpki_text.specs.declared.command_line.arguments.Task.TheVariants.{Show, Validate, Tree, Help, Version}
 use Rattle.rpki_command.proofs.WrittenTexts.{appends_both}
@@ -55,7 +55,7 @@ module _ (reads : ReadsFile) (lists : ListsFolder) (r : RequestFields) (now : Mo
 
   never_misuse : (folders : List (List ℕ)) (said : List ℕ) → IsAnswerAmong folders reads lists r now WrongUse text said → ⊥
   never_misuse [] said h = by_files (record r { files = h.names; folders = roots_of r.files }) h.of_files h.answer
-  never_misuse (folder ∷ folders) said h = by_sought (with_files r h.names) h.of_files h.sought h.answer
+  never_misuse (folder ∷ folders) said h = by_sought (with_files_below r h.names) h.of_files h.sought h.answer
 
 module _ (reads : ReadsFile) (lists : ListsFolder) (tells : Moment → Type 0) (words : List (List ℕ)) (r : RequestFields)
     (line : IsCommandLine r words) where

@@ -68,6 +68,10 @@ IsAnswerBy reads r now (Some sought) outcome text said =
     (found : Outcome) × IsRunAnswer reads (with_sought r sought) now found text said
     × MatchBool sought.are_all_read (outcome ≡ found) (outcome ≡ Unread)
 
+-- the same request with these files behind its own, below the folder that it names, if it names one alone
+abbrev pub with_files_below : RequestFields → List (List ℕ) → RequestFields
+with_files_below r names = record (with_files r names) { folders = roots_of r.folders }
+
 -- the answer where a path is sought in folders: among the request's file and those that stand for
 -- the folders' names
 pub record IsAnswerIn (reads : ReadsFile) (lists : ListsFolder) (r : RequestFields) (now : Moment)
@@ -77,9 +81,9 @@ pub record IsAnswerIn (reads : ReadsFile) (lists : ListsFolder) (r : RequestFiel
   pub names_are : AreFilesOf lists Tree r.folders names of_folders
   pub sought : Option SoughtNames
   pub of_search : List ℕ
-  pub search : IsPathSearch reads (with_files r names) now sought of_search
+  pub search : IsPathSearch reads (with_files_below r names) now sought of_search
   pub of_files : List ℕ
-  pub answer : IsAnswerBy reads (with_files r names) now sought outcome text of_files
+  pub answer : IsAnswerBy reads (with_files_below r names) now sought outcome text of_files
   pub said_is : said ≡ of_folders ++ of_search ++ of_files
 
 -- the answer of files, which are sought where the request has folders

@@ -335,25 +335,24 @@ pub fn roots_of(alloc: Global, names: &[&[u8]]) -> Result<Vec<Vec<u8>>, AllocErr
     Ok(roots)
 }
 
-/// Returns the request with these files in place of its own, below these directories.
+/// Returns the request below these directories.
 ///
 /// # Errors
 ///
 /// Returns an error only if memory runs out.
-pub fn with_named<'a>(
+pub fn with_roots<'a>(
     alloc: Global,
     request: Request<'a>,
-    names: &'a [Vec<u8>],
     roots: &'a [Vec<u8>],
 ) -> Result<Request<'a>, AllocError>
-    ensures { let r = fields_of request.entry in IfOk result (λ new. fields_of new
-        ≡ record r { files = word_octets names.now; folders = word_octets roots.now }) }
+    ensures { IfOk result (λ new.
+        fields_of new ≡ record (fields_of request.entry) { folders = word_octets roots.now }) }
 {
     let mut folders = Vec::new(alloc);
     for root in roots {
         folders.push(root.as_slice())?;
     }
-    let mut request = with_files(alloc, request, names)?;
+    let mut request = request;
     request.folders = folders;
     Ok(request)
 }

@@ -13,7 +13,9 @@ use crate::answering::{answer_objects, answer_tree, quieted};
 use crate::clock::{MomentSource, moment};
 use crate::ended::Ended;
 use crate::files::FileSource;
-use crate::folders::{file_names, opened, roots_of, with_further, with_named, with_path};
+use crate::folders::{
+    file_names, opened, roots_of, with_files, with_further, with_path, with_roots,
+};
 use crate::making::FileMaker;
 use crate::reading::{GivenFiles, read_given};
 use crate::requests::run_request;
@@ -184,7 +186,7 @@ fn answer_of_named<F: FileSource, O: Write, E: Write>(
 {
     let names = file_names(alloc, files, err, &request)?;
     let roots = roots_of(alloc, &request.files)?;
-    let request = with_named(alloc, request, &names, &roots)?;
+    let request = with_roots(alloc, with_files(alloc, request, &names)?, &roots)?;
     answer(alloc, files, out, err, &request, now)
 }
 
@@ -238,7 +240,8 @@ fn answer_in<F: FileSource, O: Write, E: Write>(
     ensures unwritten { OnErr result (out.new ≡ out.old) }
 {
     let names = opened(alloc, files, err, &request.folders)?;
-    let request = with_further(request, &names)?;
+    let roots = roots_of(alloc, &request.folders)?;
+    let request = with_roots(alloc, with_further(request, &names)?, &roots)?;
     let sought = names_sought(alloc, files, err, &request, now)?;
     answer_by(alloc, files, out, err, request, now, &sought)
 }

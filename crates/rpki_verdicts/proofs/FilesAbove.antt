@@ -10,8 +10,8 @@ use Rattle.rpki_der.specs.Values.{IsUnambiguous}
 use Rattle.rpki_der.proofs.Formats.{one_meant}
 use Rattle.rpki_files.specs.Files.{FileFields}
 use Rattle.rpki_verdicts.specs.Searches.{AreAbove, no_more, no_issuer, accepted, at_top, named, HasKeyNamed}
-use Rattle.rpki_verdicts.specs.Searches.{HasNoIssuer, HaveNoneKeyed, IsFirstKeyed, IsIssuerAt, above_by, files_at}
-use Rattle.rpki_verdicts.specs.Trees.{certs_of, line_at}
+use Rattle.rpki_verdicts.specs.Searches.{HasNoIssuer, HaveNoneKeyed, IsFirstKeyed, IsAcceptedAt, IsIssuerAt, IsShownAbove, files_at}
+use Rattle.rpki_verdicts.specs.Trees.{certs_of}
 use Rattle.rpki_verdicts.proofs.SearchSteps.{file_there}
 use Rattle.rpki_verdicts.specs.declared.unordered.Tree.{Tree}
 
@@ -63,11 +63,12 @@ module _ (tree : Tree) (file : FileFields) where
           let same : key ≡ k = cc in
           subst (λ (l : List ℕ). HaveNoneKeyed tree l false) same others
 
-  -- ---- the files
+-- ---- the files
 
+module _ (certs : List FileFields) (tree : Tree) (file : FileFields) where
   -- what stands above the file was added
   abbrev pub Adds : ℕ → List FileFields → Bool → List FileFields → Type 0
-  Adds most old reach new = (above : List FileFields) × AreAbove tree most file above reach × (new ≡ old ++ above)
+  Adds most old reach new = (above : List FileFields) × AreAbove certs tree most file above reach × (new ≡ old ++ above)
 
   pub adds_none : (old : List FileFields) → Adds 0 old false old
   adds_none old = ([], no_more file, sym (append-nil old))
@@ -77,31 +78,31 @@ module _ (tree : Tree) (file : FileFields) where
     adds_no_issuer none = subst (λ (n : ℕ). Adds n old false old) more ([], no_issuer m file none, sym (append-nil old))
 
     -- the issuer behind others
-    module _ (place : ℕ) (has : HasIssuerAt place) (mid new : List FileFields)
+    module _ (place : ℕ) (has : HasIssuerAt tree file place) (mid new : List FileFields)
         (one : new ≡ mid ++ files_at (certs_of tree) (place ∷ [])) where
       behind : (over : List FileFields) → mid ≡ old ++ over → new ≡ old ++ (over ++ has.0 ∷ [])
       behind over so_far =
           one ∙ ap (λ (l : List FileFields). mid ++ l) (file_there (certs_of tree) place has.0 has.1.issuer_is)
           ∙ ap (λ (l : List FileFields). l ++ has.0 ∷ []) so_far ∙ append_assoc old over (has.0 ∷ [])
 
-      pub adds_accepted : (above : List ℕ) → above_by (line_at tree place) ≡ Some above →
+      pub adds_accepted : (above : List ℕ) → IsShownAbove certs tree place above →
           mid ≡ old ++ files_at (certs_of tree) (tree.anchor ∷ above) → Adds most old true new
       adds_accepted above line so_far =
           let over = files_at (certs_of tree) (tree.anchor ∷ above) in
           subst (λ (n : ℕ). Adds n old true new) more (over ++ has.0 ∷ [], accepted m file has.0 place above has.1 line, behind over so_far)
 
-      pub adds_top : place ≡ tree.anchor → above_by (line_at tree place) ≡ None → mid ≡ old → Adds most old true new
+      pub adds_top : place ≡ tree.anchor → (IsAcceptedAt tree place → ⊥) → mid ≡ old → Adds most old true new
       adds_top top line same =
           let is = subst (λ (n : ℕ). IsIssuerAt tree file n has.0) top has.1 in
-          let unled = subst (λ (n : ℕ). above_by (line_at tree n) ≡ None) top line in
+          let unled = subst (λ (n : ℕ). IsAcceptedAt tree n → ⊥) top line in
           subst (λ (n : ℕ). Adds n old true new) more (has.0 ∷ [], at_top m file has.0 is unled, behind [] (same ∙ sym (append-nil old)))
 
       pub adds_named : (there : FileFields) → slice_get (certs_of tree) place ≡ Some there →
-          above_by (line_at tree place) ≡ None → place ≢ tree.anchor → (over : List FileFields) (reach : Bool) →
-          AreAbove tree m there over reach → mid ≡ old ++ over → Adds most old reach new
+          (IsAcceptedAt tree place → ⊥) → place ≢ tree.anchor → (over : List FileFields) (reach : Bool) →
+          AreAbove certs tree m there over reach → mid ≡ old ++ over → Adds most old reach new
       adds_named there there_is line other over reach above so_far =
           let both : Some there ≡ Some has.0 = sym there_is ∙ has.1.issuer_is in
           let same : there ≡ has.0 = cc in
-          let are = subst (λ (f : FileFields). AreAbove tree m f over reach) same above in
+          let are = subst (λ (f : FileFields). AreAbove certs tree m f over reach) same above in
           subst (λ (n : ℕ). Adds n old reach new) more
           (over ++ has.0 ∷ [], named m file has.0 place over reach has.1 line other are, behind over so_far)

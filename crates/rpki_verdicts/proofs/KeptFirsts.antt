@@ -16,7 +16,7 @@ use Rattle.rpki_folder.specs.declared.lines.Line.TheVariants.{Unseen, Accepted, 
 use Rattle.rpki_folder.proofs.KeptLineSteps.{none_accepted}
 use Rattle.rpki_folder.proofs.KeptPaths.{first_told}
 use Rattle.rpki_verdicts.specs.NamedPaths.{HasFirst, HasSome}
-use Rattle.rpki_verdicts.proofs.SearchSteps.{line_kept}
+use Rattle.rpki_verdicts.proofs.ToldChoices.{line_kept}
 
 -- ---- what was told
 

@@ -25,6 +25,7 @@ mod ReachedFiles
 mod ReadLocators
 mod SearchSteps
 mod ShownRanks
+mod ToldChoices
 mod TreeAnchors
 mod UnrevokedFiles
 mod WrongFiles

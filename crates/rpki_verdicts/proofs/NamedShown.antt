@@ -25,7 +25,7 @@ use Rattle.rpki_der.specs.Values.{IsUnambiguous}
 use Rattle.rpki_files.specs.Contents.{BeginsWithCertificate}
 use Rattle.rpki_files.specs.Files.{FileFields, contents}
 use Rattle.rpki_folder.specs.FirstPlaces.{IsFirstIn, first_place_of}
-use Rattle.rpki_folder.specs.KeptLines.{AreFurther, IsToldBy, has_path, most_paths, paths_in}
+use Rattle.rpki_folder.specs.KeptLines.{IsToldBy, has_path, most_paths, paths_in}
 use Rattle.rpki_folder.specs.Walks.{AreAdmitted, EndsNoCircle, IsLetIn, IsLookedAt, IsTold, StandsAt, Told}
 use Rattle.rpki_folder.specs.declared.find.FoundPath.{FoundPath}
 use Rattle.rpki_folder.specs.declared.firsts.Firsts.{Firsts}
@@ -35,18 +35,17 @@ use Rattle.rpki_folder.proofs.Descent.{less-or-not}
 use Rattle.rpki_folder.proofs.FirstPaths.{stands_first}
 use Rattle.rpki_folder.proofs.KeptLineSteps.{told_so}
 use Rattle.rpki_verdicts.specs.GivenLocators.{LocatorFields}
-use Rattle.rpki_verdicts.specs.ShownPaths.{NameIssuersAbove, AreShown, NamesIssuerAt, IsNamedIn, IsNamedPath, IsRank, Precedes}
+use Rattle.rpki_verdicts.specs.ShownPaths.{NameIssuersAbove, NamesIssuerAt, IsNamedIn, IsNamedPath, IsRank, IsShownPath, Precedes}
 use Rattle.rpki_verdicts.specs.ShownPaths.{Rank, choice_of, is_issuer_file, named_in, octets_along, place_of, placed}
 use Rattle.rpki_verdicts.specs.ShownPaths.{placed_in, placed_of}
 use Rattle.rpki_verdicts.specs.ShownTrees.{ShowsNamed}
 use Rattle.rpki_verdicts.specs.TreeParts.{AreTreesOf, files_of}
 use Rattle.rpki_verdicts.specs.Trees.{AreCertificatesOf, IsTreeOf, TreeFields, certs_of}
 use Rattle.rpki_verdicts.specs.declared.parts.Trees.{Trees}
-use Rattle.rpki_verdicts.specs.declared.shown_paths.ShownPaths.{ShownPaths}
 use Rattle.rpki_verdicts.specs.declared.unordered.Tree.{Tree}
 use Rattle.rpki_verdicts.proofs.FilesAt.{octets_there}
 use Rattle.rpki_verdicts.proofs.OrderedPaths.{IsOneMeant, one_by}
-use Rattle.rpki_verdicts.proofs.SearchSteps.{line_kept}
+use Rattle.rpki_verdicts.proofs.ToldChoices.{shown_told as told_by}
 
 -- ---- counts
 
@@ -132,37 +131,6 @@ module _ (certs : List FileFields) (firsts : Firsts) (anchor : ℕ) where
         (subst (λ (p : ℕ). Named p others down.1.0) at down.1.1) (omega (arith, low, more, less)) free.1
         these.1 in
         ap (λ (p : ℕ). p ∷ others) at ∙ ap (λ (l : List ℕ). i ∷ l) rest
-
--- ---- what was told
-
-behind : (place : ℕ) (t : Told) (ts : List Told) (p : FoundPath) → IsToldBy ts place p → IsToldBy (t ∷ ts) place p
-behind place t ts p a = (suc a.0, a.1, (let low = a.2 in omega (arith, low)), a.3, a.4)
-
-all_behind : (place : ℕ) (t : Told) (ts : List Told) (ps : List FoundPath) → AllByRecursion (IsToldBy ts place) ps →
-    AllByRecursion (IsToldBy (t ∷ ts) place) ps
-all_behind place t ts [] h = tt
-all_behind place t ts (p ∷ ps) h = (behind place t ts p h.0, all_behind place t ts ps h.1)
-
-all_told : (place : ℕ) (before : List FoundPath) (ts : List Told) (ps : List FoundPath) (n : ℕ) →
-    AreFurther place before ts ps n → AllByRecursion (IsToldBy ts place) ps
-all_told place before [] ps n h = subst (λ (l : List FoundPath). AllByRecursion (IsToldBy [] place) l) (sym h.0) tt
-all_told place before (t ∷ ts) ps n (inl (old, h)) = all_behind place t ts ps (all_told place before ts ps n h)
-all_told place before (t ∷ ts) ps n (inr (inl (p, rest, new, by, low, h, is))) =
-    subst (λ (l : List FoundPath). AllByRecursion (IsToldBy (t ∷ ts) place) l) (sym is)
-    ((0, t, omega arith, refl, by), all_behind place t ts rest (all_told place (before ++ p ∷ []) ts rest n h))
-all_told place before (t ∷ ts) ps n (inr (inr (m, new, full, h, is))) = all_behind place t ts ps (all_told place before ts ps m h)
-
-taken : (P : FoundPath → Type 0) (n : ℕ) (ps : List FoundPath) → AllByRecursion P ps → AllByRecursion P (take n ps)
-taken P zero ps h = tt
-taken P (suc n) [] h = tt
-taken P (suc n) (p ∷ ps) h = (h.0, taken P n ps h.1)
-
-with_last : (P : FoundPath → Type 0) (ps : List FoundPath) (p : FoundPath) → AllByRecursion P ps → P p → AllByRecursion P (ps ++ p ∷ [])
-with_last P [] p h last = (last, tt)
-with_last P (q ∷ ps) p h last = (h.0, with_last P ps p h.1 last)
-
-of_contained : (P : FoundPath → Type 0) (ps : List FoundPath) (p : FoundPath) → AllByRecursion P ps → Contains ps p → P p
-of_contained P ps p h at = subst P at.2 (All-from_recursion P ps h at.0 p at.1)
 
 -- ---- a tree
 
@@ -253,18 +221,11 @@ module _ (law : IsUnambiguous IsCertificate) (meant : IsOneMeant) (x : Context) 
       (free_up above place told) (free_up other place these) in
       sym (reverse-reverse other) ∙ ap (λ (r : List ℕ). reverse r) back ∙ reverse-reverse above
 
-  module _ (place : ℕ) (above : List ℕ) (paths : AcceptedPaths) (shown : ShownPaths) (told : IsTold is.told above place)
+  module _ (place : ℕ) (above : List ℕ) (paths : AcceptedPaths) (shown : FoundPath) (told : IsTold is.told above place)
       (named : IsNamedPath files firsts tree.anchor place above) (line : slice_get tree.lines place ≡ Some (Accepted paths))
-      (are : AreShown files tree place paths shown) where
-    abbrev choice : List FoundPath
-    choice = choice_of (paths_in paths) (named_in tree place)
-
+      (is_shown : IsShownPath files tree place (choice_of (paths_in paths) (named_in tree place)) shown) where
     itself : first_place_of firsts place ≡ place
     itself = last_first [] above place (let_in above place told)
-
-    kept_told : AllByRecursion (IsToldBy is.told place) (paths_in paths)
-    kept_told = let k = line_kept is.told tree.lines place is.lines_are (Accepted paths) line in
-        all_told place [] is.told (paths_in paths) k.0 k.1
 
     -- one that may be shown has as many certificates named, if it goes not behind
     record Kept (ps : List FoundPath) : Type 0 where
@@ -280,63 +241,51 @@ module _ (law : IsUnambiguous IsCertificate) (meant : IsOneMeant) (x : Context) 
 
     by_has : (path : FoundPath) → IsToldBy is.told place path →
         IsNamedPath files firsts tree.anchor place path.above.items → (b : Bool) →
-        has_path (paths_in paths) path.above.items ≡ b
-        → AllByRecursion (IsToldBy is.told place)
-        (if b then paths_in paths else take (most_paths - 1) (paths_in paths) ++ path ∷ []) ×
+        has_path (paths_in paths) path.above.items ≡ b →
         Kept (if b then paths_in paths else take (most_paths - 1) (paths_in paths) ++ path ∷ [])
     by_has path its named true has =
-        let k = by_kept (paths_in paths) path.above.items has in (
-          kept_told,
-          record {
-            path = k.0;
-            kept = k.1;
-            is_told = subst (λ (a : List ℕ). IsTold is.told a place) (sym k.2) (told_so is.told place path its);
-            is_named = subst (λ (a : List ℕ). IsNamedPath files firsts tree.anchor place a) (sym k.2) named;
-          },
-        )
-    by_has path its named false lacks = (
-      with_last (IsToldBy is.told place) (take (most_paths - 1) (paths_in paths)) path
-          (taken (IsToldBy is.told place) (most_paths - 1) (paths_in paths) kept_told) its,
-      record {
-        path = path;
-        kept = Contains-push (take (most_paths - 1) (paths_in paths)) path;
-        is_told = told_so is.told place path its;
-        is_named = named;
-      },
-    )
+        let k = by_kept (paths_in paths) path.above.items has in
+        record {
+          path = k.0;
+          kept = k.1;
+          is_told = subst (λ (a : List ℕ). IsTold is.told a place) (sym k.2) (told_so is.told place path its);
+          is_named = subst (λ (a : List ℕ). IsNamedPath files firsts tree.anchor place a) (sym k.2) named;
+        }
+    by_has path its named false lacks = record {
+      path = path;
+      kept = Contains-push (take (most_paths - 1) (paths_in paths)) path;
+      is_told = told_so is.told place path its;
+      is_named = named;
+    }
 
-    choice_by : (o : Option FoundPath) → get nat_cmp tree.named place ≡ o →
-        AllByRecursion (IsToldBy is.told place) (choice_of (paths_in paths) o) × Kept (choice_of (paths_in paths) o)
-    choice_by None none = (
-      kept_told,
-      elim (is.named_are.all place above (slice_get_within tree.lines place (Accepted paths) line) told named) [
-        | inl has ↦
-            let same : paths ≡ has.0 = cc (line, has.1) in
-            let first : paths.first.above.items ≡ above = ap (λ (a : AcceptedPaths). a.first.above.items) same ∙ has.2 in
-            record {
-              path = paths.first;
-              kept = (0, omega arith, refl);
-              is_told = subst (λ (a : List ℕ). IsTold is.told a place) (sym first) told;
-              is_named = subst (λ (a : List ℕ). IsNamedPath files firsts tree.anchor place a) (sym first) named;
-            }
-        | inr some ↦ absurd (false≢true (ap is_some (sym none) ∙ some))
-      ],
-    )
+    choice_by : (o : Option FoundPath) → get nat_cmp tree.named place ≡ o → Kept (choice_of (paths_in paths) o)
+    choice_by None none =
+        elim (is.named_are.all place above (slice_get_within tree.lines place (Accepted paths) line) told named) [
+          | inl has ↦
+              let same : paths ≡ has.0 = cc (line, has.1) in
+              let first : paths.first.above.items ≡ above = ap (λ (a : AcceptedPaths). a.first.above.items) same ∙ has.2 in
+              record {
+                path = paths.first;
+                kept = (0, omega arith, refl);
+                is_told = subst (λ (a : List ℕ). IsTold is.told a place) (sym first) told;
+                is_named = subst (λ (a : List ℕ). IsNamedPath files firsts tree.anchor place a) (sym first) named;
+              }
+          | inr some ↦ absurd (false≢true (ap is_some (sym none) ∙ some))
+        ]
     choice_by (Some path) some =
         let o = is.named_are.only place path some in by_has path o.0 o.1 (has_path (paths_in paths) path.above.items) refl
 
-    choice_is : AllByRecursion (IsToldBy is.told place) choice × Kept choice
+    choice_is : Kept (choice_of (paths_in paths) (named_in tree place))
     choice_is = choice_by (named_in tree place) (ap (λ (p : ℕ). get nat_cmp tree.named p) (sym itself))
 
-    shown_told : IsTold is.told shown.shown.now.above.items place
-    shown_told = told_so is.told place shown.shown.now
-        (of_contained (IsToldBy is.told place) choice shown.shown.now choice_is.0 are.is_shown.kept)
+    shown_told : IsTold is.told shown.above.items place
+    shown_told = told_by x q l tree is place itself paths line shown is_shown.kept
 
     abbrev best : FoundPath
-    best = choice_is.1.path
+    best = choice_is.path
 
-    abbrev its_count : (n : ℕ) × NameIssuersAbove files firsts tree.anchor place (reverse shown.shown.now.above.items) n
-    its_count = some_count files firsts tree.anchor named_at place (reverse shown.shown.now.above.items)
+    abbrev its_count : (n : ℕ) × NameIssuersAbove files firsts tree.anchor place (reverse shown.above.items) n
+    its_count = some_count files firsts tree.anchor named_at place (reverse shown.above.items)
 
     ranked : (p : FoundPath) (n : ℕ) → NameIssuersAbove files firsts tree.anchor place (reverse p.above.items) n →
         IsRank files tree place p (record { named = n; cas = octets_along files p.above.items })
@@ -348,32 +297,32 @@ module _ (law : IsUnambiguous IsCertificate) (meant : IsOneMeant) (x : Context) 
         let less : nat_cmp its_count.0 (length best.above.items + 1) ≡ Less =
         sym (nat_cmp_is its_count.0 (length best.above.items + 1) Less low) in
         let best_rank : Rank = record { named = length best.above.items + 1; cas = octets_along files best.above.items } in
-        let shown_rank : Rank = record { named = its_count.0; cas = octets_along files shown.shown.now.above.items } in
-        let at = choice_is.1.kept in
-        subst (λ (p : FoundPath). Precedes files tree place p shown.shown.now → ⊥) at.2 (are.is_shown.first at.0 best at.1)
+        let shown_rank : Rank = record { named = its_count.0; cas = octets_along files shown.above.items } in
+        let at = choice_is.kept in
+        subst (λ (p : FoundPath). Precedes files tree place p shown → ⊥) at.2 (is_shown.first at.0 best at.1)
         (record {
           rank = best_rank;
           other_rank = shown_rank;
-          rank_is = ranked best (length best.above.items + 1) choice_is.1.is_named;
-          other_is = ranked shown.shown.now its_count.0 its_count.1;
+          rank_is = ranked best (length best.above.items + 1) choice_is.is_named;
+          other_is = ranked shown its_count.0 its_count.1;
           before = ap (λ (o : Ordering).
               ordering_then (ordering_then o (nat_cmp (length best_rank.cas) (length shown_rank.cas)))
               (slice_cmp (slice_cmp nat_cmp) best_rank.cas shown_rank.cas)) less;
         })
 
-    pub named_is_shown : shown.shown.now.above.items ≡ above
+    pub named_is_shown : shown.above.items ≡ above
     named_is_shown =
         let enough : length best.above.items + 1 ≤ its_count.0 =
         elim (less-or-not its_count.0 (length best.above.items + 1))
         [ inl low ↦ absurd (not_less low) | inr high ↦ high ] in
-        let at_best = same_path place best.above.items shown.shown.now.above.items its_count.0 choice_is.1.is_told
-        shown_told choice_is.1.is_named its_count.1 enough in
+        let at_best = same_path place best.above.items shown.above.items its_count.0 choice_is.is_told
+        shown_told choice_is.is_named its_count.1 enough in
         let reverse_long = length-reverse best.above.items in
         let one : best.above.items ≡ above = elim (less-or-not (length best.above.items) (length above)) [
-          | inl low ↦ sym (same_path place best.above.items above (length above + 1) choice_is.1.is_told told
-              choice_is.1.is_named named (omega (arith, low)))
-          | inr high ↦ same_path place above best.above.items (length best.above.items + 1) told choice_is.1.is_told
-              named choice_is.1.is_named (omega (arith, high))
+          | inl low ↦ sym (same_path place best.above.items above (length above + 1) choice_is.is_told told
+              choice_is.is_named named (omega (arith, low)))
+          | inr high ↦ same_path place above best.above.items (length best.above.items + 1) told choice_is.is_told
+              named choice_is.is_named (omega (arith, high))
         ] in
         at_best ∙ one
 
@@ -402,10 +351,11 @@ same_placed x q trees are l tree is =
     ∙ sym (placed_each q.root tree.certs.items)
 
 pub shows_named : IsUnambiguous IsCertificate → IsOneMeant → (x : Context) (q : TreeFields) → ShowsNamed x q
-shows_named law meant x q trees all l tree is place above paths shown told named line are =
+shows_named law meant x q trees all l tree is place above paths path told named line shown =
     let first = last_first law meant x q l tree is [] above place (let_in law meant x q l tree is above place told) in
     let same = same_placed x q trees all l tree is in
-    named_is_shown law meant x q l tree is place above paths shown told
+    named_is_shown law meant x q l tree is place above paths path told
     (subst (λ (cs : List FileFields). IsNamedPath cs tree.firsts tree.anchor place above) same named)
     (ap (λ (p : ℕ). slice_get tree.lines p) (sym first) ∙ line)
-    (subst (λ (cs : List FileFields). AreShown cs tree place paths shown) same are)
+    (subst (λ (cs : List FileFields). IsShownPath cs tree place (choice_of (paths_in paths) (named_in tree place)) path) same
+    shown)

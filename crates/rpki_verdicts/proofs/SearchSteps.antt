@@ -5,7 +5,7 @@ use Rattle.std.proofs.Common.{◌≡◌, ◌+◌, ◌<◌, ℕ, Bool, true, fals
 use Rattle.std.proofs.Common.{ap, subst, ◌∙◌, inl, inr, arith}
 use Rattle.std.proofs.lemmas.List.{append_assoc, length-map}
 use Rattle.std.proofs.lemmas.List.Elements.{All-contains, All-from_recursion}
-use Rattle.std.proofs.lemmas.Option.{slice_get_within, get_or_from_slice_get}
+use Rattle.std.proofs.lemmas.Option.{slice_get_within}
 use Rattle.rpki_der.specs.Encoding.{Means}
 use Rattle.rpki_der.specs.Values.{IsUnambiguous}
 use Rattle.rpki_path.specs.AskedLists.{by_named_lists}
@@ -16,7 +16,8 @@ use Rattle.rpki_cert.specs.declared.inspect.Kind.{Kind}
 use Rattle.rpki_path.specs.Paths.{Candidate}
 use Rattle.rpki_cert.specs.SaidKinds.{BeginsWithKind}
 use Rattle.rpki_path.specs.declared.judging.Judged.{Judged}
-use Rattle.rpki_folder.specs.KeptLines.{AreLines, IsLine, IsRejectedWithin}
+use Rattle.rpki_folder.specs.KeptLines.{IsLine, IsRejectedWithin}
+use Rattle.rpki_folder.specs.declared.lines.AcceptedPaths.{AcceptedPaths}
 use Rattle.rpki_folder.specs.declared.lines.Line.{Line}
 use Rattle.rpki_folder.specs.declared.lines.Line.TheVariants as line
 use Rattle.rpki_path.specs.declared.path_fault.PathFault.{PathFault}
@@ -25,8 +26,6 @@ use Rattle.rpki_cert.specs.Verification.{Context}
 use Rattle.rpki_folder.specs.Walks.{Root, Covers, IsAcceptedAs, IsLookedAt, IsReached, IsRight, IsRightOf, IsTold}
 use Rattle.rpki_folder.specs.Walks.{TellsWithin, Told, at_anchor, members_at}
 use Rattle.rpki_folder.specs.declared.walk_error.WalkError.{WalkError}
-use Rattle.rpki_folder.proofs.KeptLineSteps.{told_so}
-use Rattle.rpki_folder.proofs.KeptPaths.{first_told}
 use Rattle.rpki_folder.proofs.SearchSteps.{told_let_in}
 use Rattle.rpki_folder.specs.FirstPlaces.{IsFirstIn, first_place_of}
 use Rattle.rpki_folder.specs.Folders.{string_at}
@@ -35,13 +34,15 @@ use Rattle.rpki_files.specs.Files.{FileFields, contents}
 use Rattle.rpki_verdicts.specs.Searches.{DeniesFirst, DoesNotReach, HasNoValidIn, HasNoValidPath, IsAcceptedIn}
 use Rattle.rpki_verdicts.specs.Searches.{IsNamedAmong, IsNamedIn, IsSoughtPath, alone, no_anchor, valid, invalid}
 use Rattle.rpki_verdicts.specs.Searches.{IsTreeWith, IsUnanchored, IsValidAmong, IsValidPathTo, Leads, StandsAlone}
-use Rattle.rpki_verdicts.specs.Searches.{above_by, files_at, first_wrong}
+use Rattle.rpki_verdicts.specs.Searches.{IsAcceptedAt, IsShownAbove, files_at, first_wrong}
+use Rattle.rpki_verdicts.specs.ShownPaths.{placed_of}
 use Rattle.rpki_verdicts.specs.GivenLocators.{LocatorFields}
 use Rattle.rpki_verdicts.specs.TreeParts.{AreTreesOf, IsPartOf, worst_end, wrong_of}
 use Rattle.rpki_verdicts.specs.Trees.{AreCertificatesOf, IsTreeAnswer, IsTreeOf, TreeFields, certs_of, line_at}
 use Rattle.rpki_folder.proofs.FirstPaths.{first_zero, let_in_all, looked_first, reached_first}
 use Rattle.rpki_verdicts.proofs.FilesAt.{octets_there}
 use Rattle.rpki_verdicts.proofs.ReachedFiles.{reached_files}
+use Rattle.rpki_verdicts.proofs.ToldChoices.{line_kept, shown_told}
 use Rattle.rpki_verdicts.specs.declared.unordered.Tree.{Tree}
 use Rattle.rpki_verdicts.specs.declared.parts.Trees.{Trees}
 use Rattle.rpki_verdicts.specs.declared.unordered.TreeAnswer.{TreeAnswer}
@@ -97,39 +98,18 @@ told_reached x asked root certs ts right above place h =
     (subst (λ (l : List ℕ). IsRightOf x asked root (members_at root certs l) (string_at certs t.place) t.verdict) h.4.0 is))
 
 module _ (ts : List Told) (place : ℕ) where
-  -- its line accepts it below these
-  pub line_tells : (o : Option Line) (above : List ℕ) → above_by o ≡ Some above →
-      ((l : Line) → o ≡ Some l → IsLine ts place l) → IsTold ts above place
-  line_tells None above e kept = absurd cc
-  line_tells (Some line.Unseen) above e kept = absurd cc
-  line_tells (Some (line.Accepted paths)) above e kept =
-      let same : paths.first.above.items ≡ above = cc in
-      subst (λ (l : List ℕ). IsTold ts l place) same
-      (told_so ts place paths.first (first_told ts place paths (kept (line.Accepted paths) refl)))
-  line_tells (Some (line.Rejected n f)) above e kept = absurd cc
-
   never : (P : Told → Type 0) → AllByRecursion P ts → (above : List ℕ) (h : IsTold ts above place) → P h.1
   never P all above h = subst P h.3 (All-from_recursion P ts all h.0 h.1 h.2)
 
   -- its line doesn't accept it
-  pub line_denies : (o : Option Line) (l : Line) → o ≡ Some l → above_by o ≡ None →
-      ((l : Line) → o ≡ Some l → IsLine ts place l) → (above : List ℕ) → IsTold ts above place → ⊥
-  line_denies None l is e kept above h = absurd cc
-  line_denies (Some line.Unseen) l is e kept above h =
-      never (λ t. t.place ≡ place → ⊥) (kept line.Unseen refl) above h h.4.1
-  line_denies (Some (line.Accepted paths)) l is e kept above h = absurd cc
-  line_denies (Some (line.Rejected n f)) l is e kept above h =
-      (never (IsRejectedWithin place n) (kept (line.Rejected n f) refl).1 above h h.4.1).0 h.4.2
+  pub line_denies : (l : Line) → ((paths : AcceptedPaths) → l ≡ line.Accepted paths → ⊥) → IsLine ts place l → (above : List ℕ) → IsTold ts above place → ⊥
+  line_denies line.Unseen denies kept above h = never (λ t. t.place ≡ place → ⊥) kept above h h.4.1
+  line_denies (line.Accepted paths) denies kept above h = absurd (denies paths refl)
+  line_denies (line.Rejected n f) denies kept above h = (never (IsRejectedWithin place n) kept.1 above h h.4.1).0 h.4.2
 
 some_there : {X : Type 0} (xs : List X) → 0 < length xs → (x : X) × (slice_get xs 0 ≡ Some x)
 some_there [] low = absurd (omega (arith, low))
 some_there (x ∷ xs) low = (x, refl)
-
--- the line at a place is that of the verdicts
-pub line_kept : (ts : List Told) (lines : List Line) (place : ℕ) → AreLines ts lines → (l : Line) →
-    slice_get lines place ≡ Some l → IsLine ts place l
-line_kept ts lines place are l is =
-    subst (λ (m : Line). IsLine ts place m) (get_or_from_slice_get lines place l l is) (are place l (slice_get_within lines place l is))
 
 -- ---- the path
 
@@ -172,26 +152,27 @@ module _ (law : IsUnambiguous IsCertificate) (x : Context) (q : TreeFields) (l :
       is.grown.tells top begins
 
   -- the line of the file accepts it: a valid path leads to it
-  pub leads_by : (above : List ℕ) → above_by (line_at tree 0) ≡ Some above → Leads x q l tree is.grown above
-  leads_by above e =
-      let told = line_tells is.grown.told 0 (line_at tree 0) above e kept_first in (
+  pub leads_by : (certs : List FileFields) (above : List ℕ) → IsShownAbove certs tree 0 above → Leads x q l tree is.grown above
+  leads_by certs above e =
+      let told = subst (λ (a : List ℕ). IsTold is.grown.told a 0) e.above_is
+      (shown_told x q l tree is.grown 0 first_place e.accepted.paths (sym first_line_at ∙ e.accepted.line_is) e.path e.is_shown.kept) in (
         told_reached x asked (at_anchor is.grown.locator is.grown.anchor.octets) tree_certs is.grown.told tells.right above 0 told,
         let_in_all q.names top tree_certs tree.firsts [] (above ++ 0 ∷ []) (told_let_in admits 0 is.grown.told above tells.let_in told),
       )
 
-  pub valid_by : (above : List ℕ) (path : List FileFields) → above_by (line_at tree 0) ≡ Some above →
+  pub valid_by : (certs : List FileFields) (above : List ℕ) (path : List FileFields) → IsShownAbove certs tree 0 above →
       path ≡ files_at (certs_of tree) (tree.anchor ∷ above) ++ file ∷ [] → IsValidPathTo x q l file path
-  valid_by above path e path_is =
+  valid_by certs above path e path_is =
       let files = path_is ∙ ap (λ (o : Option FileFields). cons_option o (files_at (certs_of tree) above) ++ file ∷ []) is.grown.stands in
       record {
         tree = tree;
         is = is;
         above = above;
-        leads = leads_by above e;
+        leads = leads_by certs above e;
         path_is = files;
         is_valid = subst (λ (l : List FileFields). IsValidAmong x asked (contents l)) (sym files)
             (reached_files x asked is.grown.locator is.grown.anchor file (certs_of tree) above is.first_is
-            (leads_by above e).0);
+            (leads_by certs above e).0);
       }
 
   -- there is a line of the file
@@ -202,7 +183,7 @@ module _ (law : IsUnambiguous IsCertificate) (x : Context) (q : TreeFields) (l :
       (there.0, first_line_at ∙ there.1)
 
   -- it doesn't: none leads there, by whichever places
-  pub invalid_by : above_by (line_at tree 0) ≡ None → HasNoValidPath x q l file tree
+  pub invalid_by : (IsAcceptedAt tree 0 → ⊥) → HasNoValidPath x q l file tree
   invalid_by e = record {
     is = is;
     none = λ above covers leads.
@@ -214,8 +195,8 @@ module _ (law : IsUnambiguous IsCertificate) (x : Context) (q : TreeFields) (l :
         is.grown.anchor.octets above 0 leads.0 q.names top first_place leads.1 in
         let reached = reached_first law tree_certs tree.firsts is.grown.firsts_are x asked is.grown.locator
         is.grown.anchor.octets above 0 leads.0 in
-        line_denies is.grown.told 0 (line_at tree 0) first_line.0 first_line.1 e kept_first firsts
-        (tells.complete firsts 0 covers_them looked reached);
+        line_denies is.grown.told 0 first_line.0 (λ paths is. e (record { paths = paths; line_is = first_line.1 ∙ ap Some is }))
+        (kept_first first_line.0 first_line.1) firsts (tells.complete firsts 0 covers_them looked reached);
   }
 
 -- ---- a file alone
@@ -259,11 +240,11 @@ with_first x q l file more tree files_are begins grown = record {
 module _ (law : IsUnambiguous IsCertificate) (x : Context) (q : TreeFields) (file : FileFields)
     (more : List FileFields) (files_are : q.files ≡ file ∷ more) (begins : BeginsWithCertificate file.octets) where
   -- of one of them
-  valid_of : (l : LocatorFields) (answer : TreeAnswer) → IsTreeAnswer x q l answer → (path : List FileFields) →
-      IsAcceptedIn file path answer → IsValidPathTo x q l file path
-  valid_of l (NoAnchor wrong) is path h = absurd h
-  valid_of l (Walked tree) is path h =
-      valid_by law x q l file tree (with_first x q l file more tree files_are begins is) h.0 path h.1 h.2
+  valid_of : (l : LocatorFields) (answer : TreeAnswer) → IsTreeAnswer x q l answer → (certs path : List FileFields) →
+      IsAcceptedIn certs file path answer → IsValidPathTo x q l file path
+  valid_of l (NoAnchor wrong) is certs path h = absurd h
+  valid_of l (Walked tree) is certs path h =
+      valid_by law x q l file tree (with_first x q l file more tree files_are begins is) certs h.0 path h.1 h.2
 
   none_of : (l : LocatorFields) (answer : TreeAnswer) → IsTreeAnswer x q l answer → DeniesFirst answer → HasNoValidIn x q l file answer
   none_of l (NoAnchor wrong) is denies = tt
@@ -271,14 +252,16 @@ module _ (law : IsUnambiguous IsCertificate) (x : Context) (q : TreeFields) (fil
       invalid_by law x q l file tree (with_first x q l file more tree files_are begins is) denies
 
   module _ (trees : Trees) (are : AreTreesOf x q trees) (path : List FileFields) where
-    pub valid_among : Any (λ part. IsAcceptedIn file path part.answer) trees.parts.items → IsSoughtPath x q file path Whole
+    pub valid_among : Any (λ part. IsAcceptedIn (placed_of trees) file path part.answer) trees.parts.items →
+        IsSoughtPath x q file path Whole
     valid_among h =
         let part = h.1 in
         let is : IsPartOf x q part = All-contains (IsPartOf x q) trees.parts.items part are.parts_are (h.0, h.2, h.3) in
-        valid path trees are (h.0, part, h.2, h.3, valid_of part.locator.now part.answer is path h.4)
+        valid path trees are
+        (h.0, part, h.2, h.3, (valid_of part.locator.now part.answer is (placed_of trees) path h.4, h.4))
 
     module _ (denies : All (λ part. DeniesFirst part.answer) trees.parts.items) where
-      pub named_sought : IsNamedAmong trees.parts.items file path → (ended : Ended) →
+      pub named_sought : IsNamedAmong (placed_of trees) trees.parts.items file path → (ended : Ended) →
           ended ≡ worst_end trees.parts.items → IsSoughtPath x q file path ended
       named_sought named ended ended_is =
           subst (λ (e : Ended). IsSoughtPath x q file path e) (sym ended_is)
@@ -294,11 +277,12 @@ module _ (law : IsUnambiguous IsCertificate) (x : Context) (q : TreeFields) (fil
 -- ---- those that name one another, part by part
 
 -- an answer without a tree reaches nowhere
-pub unanchored_stops : (file : FileFields) (answer : TreeAnswer) → IsUnanchored answer → DoesNotReach file answer
-unanchored_stops file (NoAnchor wrong) none = tt
-unanchored_stops file (Walked tree) none = absurd none
+pub unanchored_stops : (certs : List FileFields) (file : FileFields) (answer : TreeAnswer) → IsUnanchored answer →
+    DoesNotReach certs file answer
+unanchored_stops certs file (NoAnchor wrong) none = tt
+unanchored_stops certs file (Walked tree) none = absurd none
 
-pub named_stops : (file : FileFields) (path : List FileFields) (answer : TreeAnswer) →
-    IsNamedIn answer file false path → DoesNotReach file answer
-named_stops file path (NoAnchor wrong) named = tt
-named_stops file path (Walked tree) named = (path, named)
+pub named_stops : (certs : List FileFields) (file : FileFields) (path : List FileFields) (answer : TreeAnswer) →
+    IsNamedIn certs answer file false path → DoesNotReach certs file answer
+named_stops certs file path (NoAnchor wrong) named = tt
+named_stops certs file path (Walked tree) named = (path, named)

@@ -1,7 +1,7 @@
 -- The path to one file that is sought among others, in no order (RFC 6487 7.2, RFC 8630 3; own: the
 -- bounds).
 use Rattle.std.specs.Prelude.{◌≡◌, ◌≢◌, ◌⊎◌, ◌+◌, ◌<◌, ℕ, Bool, true, false, All, Any, List, [], ◌∷◌, ◌++◌, length}
-use Rattle.std.specs.Prelude.{slice_get, filter_map, Option, Some, None, IsSome, IsTrue}
+use Rattle.std.specs.Prelude.{slice_get, filter_map, Some, IsTrue}
 use Rattle.rpki_path.specs.Asking.{RevocationChecks}
 use Rattle.rpki_path.specs.AskedLists.{by_named_lists}
 use Rattle.rpki_cert.specs.Certificates.{CertFields, IsCertificate}
@@ -12,7 +12,9 @@ use Rattle.rpki_folder.specs.Folders.{NamesSigner}
 use Rattle.rpki_path.specs.GivenPaths.{PathStrings}
 use Rattle.rpki_path.specs.declared.judging.Judged.{Judged}
 use Rattle.rpki_path.specs.Judging.{IsAcceptedWith}
-use Rattle.rpki_folder.specs.declared.lines.Line.{Line}
+use Rattle.rpki_folder.specs.KeptLines.{paths_in}
+use Rattle.rpki_folder.specs.declared.find.FoundPath.{FoundPath}
+use Rattle.rpki_folder.specs.declared.lines.AcceptedPaths.{AcceptedPaths}
 use Rattle.rpki_folder.specs.declared.lines.Line.TheVariants as line
 use Rattle.rpki_cert.specs.Verification.{Context}
 use Rattle.rpki_folder.specs.Walks.{AreAdmitted, Covers, IsLookedAt, IsReached, at_anchor}
@@ -20,6 +22,7 @@ use Rattle.rpki_files.specs.Contents.{BeginsWithCertificate, IsList}
 use Rattle.rpki_files.specs.Files.{FileFields, contents}
 use Rattle.rpki_verdicts.specs.GivenLocators.{LocatorFields, HasLocator}
 use Rattle.rpki_verdicts.specs.PathFiles.{IsGivenBy}
+use Rattle.rpki_verdicts.specs.ShownPaths.{IsShownPath, choice_of, named_in, placed_of}
 use Rattle.rpki_verdicts.specs.TreeParts.{AreTreesOf, worst_end, wrong_of}
 use Rattle.rpki_verdicts.specs.Trees.{IsTreeOf, TreeFields, certs_of, line_at}
 use Rattle.rpki_verdicts.specs.declared.parts.TreePart.{TreePart}
@@ -83,22 +86,33 @@ pub record HasNoValidPath (x : Context) (q : TreeFields) (l : LocatorFields) (fi
 
 -- ---- lines
 
--- the places of the CAs above a certificate, where its line accepts it
-abbrev pub above_by : Option Line → Option (List ℕ)
-above_by (Some (line.Accepted paths)) = Some paths.first.above.items
-above_by _ = None
+-- the line of the certificate at a place accepts it
+pub record IsAcceptedAt (tree : Tree) (place : ℕ) : Type 0 where
+  pub paths : AcceptedPaths
+  pub line_is : line_at tree place ≡ Some (line.Accepted paths)
 
--- the answer accepts the first certificate, which is that of the file, and this is the path to it
-abbrev pub IsAcceptedIn : FileFields → List FileFields → TreeAnswer → Type 0
-IsAcceptedIn file path (NoAnchor wrong) = ⊥
-IsAcceptedIn file path (Walked tree) =
-    (above : List ℕ) × (above_by (line_at tree 0) ≡ Some above)
+-- it accepts it, and these are the places of the CAs above it, on the path that is shown; the certificates of
+-- the trees are these files
+pub record IsShownAbove (certs : List FileFields) (tree : Tree) (place : ℕ) (above : List ℕ)
+    : Type 0 where
+  pub accepted : IsAcceptedAt tree place
+  pub path : FoundPath
+  pub is_shown : IsShownPath certs tree place
+      (choice_of (paths_in accepted.paths) (named_in tree place)) path
+  pub above_is : path.above.items ≡ above
+
+-- the answer accepts the first certificate, which is that of the file, and this is the path to it that is
+-- shown
+abbrev pub IsAcceptedIn : List FileFields → FileFields → List FileFields → TreeAnswer → Type 0
+IsAcceptedIn certs file path (NoAnchor wrong) = ⊥
+IsAcceptedIn certs file path (Walked tree) =
+    (above : List ℕ) × IsShownAbove certs tree 0 above
     × (path ≡ files_at (certs_of tree) (tree.anchor ∷ above) ++ file ∷ [])
 
 -- it doesn't accept it
 abbrev pub DeniesFirst : TreeAnswer → Type 0
 DeniesFirst (NoAnchor wrong) = Unit {0}
-DeniesFirst (Walked tree) = above_by (line_at tree 0) ≡ None
+DeniesFirst (Walked tree) = IsAcceptedAt tree 0 → ⊥
 
 -- ---- what stands above a file to which no valid path leads
 
@@ -112,7 +126,7 @@ pub record HasKeyNamed (key : List ℕ) (file : FileFields) : Type 0 where
 abbrev pub HasKeyAt : Tree → List ℕ → Bool → ℕ → Type 0
 HasKeyAt tree key accepted place =
     ((file : FileFields) × (slice_get (certs_of tree) place ≡ Some file) × HasKeyNamed key file)
-    × (IsTrue accepted → IsSome (above_by (line_at tree place)))
+    × (IsTrue accepted → IsAcceptedAt tree place)
 
 -- no certificate is such
 abbrev pub HaveNoneKeyed : Tree → List ℕ → Bool → Type 0
@@ -141,53 +155,54 @@ HasNoIssuer tree file =
 
 -- These files stand above a file, from the top down, at most so many beside those of a valid path:
 -- none, where there may be no more, or the file has no issuer; else the issuer is the last one.
--- Above that stand those of a valid path, where it is accepted; none, where it is the trust anchor;
--- and else what stands above it, likewise. Behind them stands whether they reach up to the trust
+-- Above that stand those of the path that is shown, where it is accepted; none, where it is the trust
+-- anchor; and else what stands above it, likewise. Behind them stands whether they reach up to the trust
 -- anchor.
-pub data AreAbove (tree : Tree) : ℕ → FileFields → List FileFields → Bool → Type 0 where
-  no_more : (file : FileFields) → AreAbove tree 0 file [] false
+pub data AreAbove (certs : List FileFields) (tree : Tree) : ℕ → FileFields → List FileFields → Bool → Type 0 where
+  no_more : (file : FileFields) → AreAbove certs tree 0 file [] false
   no_issuer : (most : ℕ) (file : FileFields) → HasNoIssuer tree file
-      → AreAbove tree (most + 1) file [] false
+      → AreAbove certs tree (most + 1) file [] false
   accepted : (most : ℕ) (file issuer : FileFields) (place : ℕ) (above : List ℕ)
-      → IsIssuerAt tree file place issuer → above_by (line_at tree place) ≡ Some above
-      → AreAbove tree (most + 1) file
+      → IsIssuerAt tree file place issuer → IsShownAbove certs tree place above
+      → AreAbove certs tree (most + 1) file
       (files_at (certs_of tree) (tree.anchor ∷ above) ++ issuer ∷ []) true
   at_top : (most : ℕ) (file issuer : FileFields) → IsIssuerAt tree file tree.anchor issuer
-      → above_by (line_at tree tree.anchor) ≡ None
-      → AreAbove tree (most + 1) file (issuer ∷ []) true
+      → (IsAcceptedAt tree tree.anchor → ⊥)
+      → AreAbove certs tree (most + 1) file (issuer ∷ []) true
   named : (most : ℕ) (file issuer : FileFields) (place : ℕ) (above : List FileFields)
       (reach : Bool) → IsIssuerAt tree file place issuer
-      → above_by (line_at tree place) ≡ None
-      → place ≢ tree.anchor → AreAbove tree most issuer above reach
-      → AreAbove tree (most + 1) file (above ++ issuer ∷ []) reach
+      → (IsAcceptedAt tree place → ⊥)
+      → place ≢ tree.anchor → AreAbove certs tree most issuer above reach
+      → AreAbove certs tree (most + 1) file (above ++ issuer ∷ []) reach
 
 -- how many are told at most
 abbrev pub most_above : ℕ
 most_above = 32
 
 -- the path is what stands above the file, which reaches up to the trust anchor or not, and that file
-abbrev pub IsNamedPath : Tree → FileFields → Bool → List FileFields → Type 0
-IsNamedPath tree file reach path =
-    (above : List FileFields) × AreAbove tree most_above file above reach
+abbrev pub IsNamedPath : List FileFields → Tree → FileFields → Bool → List FileFields → Type 0
+IsNamedPath certs tree file reach path =
+    (above : List FileFields) × AreAbove certs tree most_above file above reach
     × (path ≡ above ++ file ∷ [])
 
 -- the same of an answer that has a tree
-abbrev pub IsNamedIn : TreeAnswer → FileFields → Bool → List FileFields → Type 0
-IsNamedIn (NoAnchor wrong) file reach path = ⊥
-IsNamedIn (Walked tree) file reach path = IsNamedPath tree file reach path
+abbrev pub IsNamedIn : List FileFields → TreeAnswer → FileFields → Bool → List FileFields → Type 0
+IsNamedIn certs (NoAnchor wrong) file reach path = ⊥
+IsNamedIn certs (Walked tree) file reach path = IsNamedPath certs tree file reach path
 
 -- it has no tree, or what stands above the file there doesn't reach up to the trust anchor
-abbrev pub DoesNotReach : FileFields → TreeAnswer → Type 0
-DoesNotReach file (NoAnchor wrong) = Unit {0}
-DoesNotReach file (Walked tree) = (path : List FileFields) × IsNamedPath tree file false path
+abbrev pub DoesNotReach : List FileFields → FileFields → TreeAnswer → Type 0
+DoesNotReach certs file (NoAnchor wrong) = Unit {0}
+DoesNotReach certs file (Walked tree) =
+    (path : List FileFields) × IsNamedPath certs tree file false path
 
 -- the path is so in one of the parts: in one where it reaches up to the trust anchor; or in any,
 -- where it does so in none
-abbrev pub IsNamedAmong : List TreePart → FileFields → List FileFields → Type 0
-IsNamedAmong parts file path =
-    Any (λ part. IsNamedIn part.answer file true path) parts
-    ⊎ (Any (λ part. IsNamedIn part.answer file false path) parts
-    × All (λ part. DoesNotReach file part.answer) parts)
+abbrev pub IsNamedAmong : List FileFields → List TreePart → FileFields → List FileFields → Type 0
+IsNamedAmong certs parts file path =
+    Any (λ part. IsNamedIn certs part.answer file true path) parts
+    ⊎ (Any (λ part. IsNamedIn certs part.answer file false path) parts
+    × All (λ part. DoesNotReach certs file part.answer) parts)
 
 -- ---- the path that is sought
 
@@ -213,11 +228,19 @@ abbrev pub HasNoValidIn : Context → TreeFields → LocatorFields → FileField
 HasNoValidIn x q l file (NoAnchor wrong) = Unit {0}
 HasNoValidIn x q l file (Walked tree) = HasNoValidPath x q l file tree
 
+-- it is a valid path to the file, and the one by which the answer on the locator shows that it accepts
+-- the file
+abbrev pub IsShownTo : Context → TreeFields → Trees → TreePart → FileFields → List FileFields → Type 0
+IsShownTo x q trees part file path =
+    IsValidPathTo x q part.locator.now file path
+    × IsAcceptedIn (placed_of trees) file path part.answer
+
 -- The path that is sought to the first of the files: that one alone; where no locator has a valid
 -- trust anchor, below one that is wrong, or alone if there is none; a valid path from the trust
--- anchor of one of them, as of its certificates and lists; or, where there is none, the file below
--- those that name one another as signers, of which the verdict tells what is wrong. Beside it
--- stands how far a valid one was looked for: a bound can only have been met where none was found.
+-- anchor of one of them, as of its certificates and lists, and of several the one that is shown; or, where
+-- there is none, the file below those that name one another as signers, of which the verdict tells what is
+-- wrong. Beside it stands how far a valid one was looked for: a bound can only have been met where none was
+-- found.
 pub data IsSoughtPath (x : Context) (q : TreeFields) (file : FileFields)
     : List FileFields → Ended → Type 0 where
   alone : StandsAlone q file → IsSoughtPath x q file (file ∷ []) Whole
@@ -225,10 +248,10 @@ pub data IsSoughtPath (x : Context) (q : TreeFields) (file : FileFields)
       → All (λ part. IsUnanchored part.answer) trees.parts.items
       → IsSoughtPath x q file (first_wrong (wrong_of trees.parts.items) ++ file ∷ []) Whole
   valid : (path : List FileFields) (trees : Trees) → AreTreesOf x q trees
-      → Any (λ part. IsValidPathTo x q part.locator.now file path) trees.parts.items
+      → Any (λ part. IsShownTo x q trees part file path) trees.parts.items
       → IsSoughtPath x q file path Whole
   invalid : (path : List FileFields) (trees : Trees) → AreTreesOf x q trees
       → All (λ part. HasNoValidIn x q part.locator.now file part.answer)
       trees.parts.items
-      → IsNamedAmong trees.parts.items file path
+      → IsNamedAmong (placed_of trees) trees.parts.items file path
       → IsSoughtPath x q file path (worst_end trees.parts.items)

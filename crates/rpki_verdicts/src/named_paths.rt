@@ -150,8 +150,8 @@ impl<'w, 'q, 'n> NameRule<'w, 'q, 'n> {
     }
 }
 
-// Whether the line has a path.
-fn is_accepted(line: Option<&Line>) -> bool
+/// Returns whether the line has a path.
+pub(crate) fn is_accepted(line: Option<&Line>) -> bool
     ensures { IsTrue result ↔ HasSome (option_copied line.entry) }
 {
     match line {

@@ -5,11 +5,15 @@ ghost use Rattle.rpki_keys.specs.RsaSignatures.{IsSignedByRsa};
 ghost use Rattle.rpki_cert.specs.Verification.{context};
 ghost use Rattle.rpki_files.specs.Contents.{BeginsWithCertificate, IsList};
 ghost use Rattle.rpki_files.specs.Files.{FileFields};
-ghost use Rattle.rpki_verdicts.specs.Searches.{AreAbove, DeniesFirst, HasKeyAt, HasKeyNamed, HasNoIssuer, HaveNoneKeyed, IsAcceptedIn, IsFirstKeyed, IsIssuerAt, IsNamedAmong, IsNamedIn, IsNamedPath, IsSoughtPath, IsUnanchored, StandsAlone, above_by, files_at, first_wrong};
+ghost use Rattle.rpki_verdicts.specs.Searches.{AreAbove, DeniesFirst, HasKeyAt, HasKeyNamed, HasNoIssuer, HaveNoneKeyed, IsAcceptedAt, IsAcceptedIn, IsFirstKeyed, IsIssuerAt, IsNamedAmong, IsNamedIn, IsNamedPath, IsShownAbove, IsSoughtPath, IsUnanchored, StandsAlone, files_at, first_wrong};
+ghost use Rattle.rpki_verdicts.specs.ShownPaths.{placed_of};
 ghost use Rattle.rpki_verdicts.specs.TreeParts.{AreTreesOf, wrong_in, wrong_of};
 ghost use Rattle.rpki_verdicts.specs.Trees.{asked_of, certs_of, line_at};
+ghost use Rattle.rpki_verdicts.specs.UnseenCertificates.{AreTreeIssuers};
 
+use crate::issuers::{Issuers, issuers_of};
 use crate::locators::locator_of;
+use crate::named_paths::is_accepted;
 use crate::parts::{TreePart, Trees, judge_all};
 use crate::unordered::{Tree, TreeAnswer, TreeQuestion};
 use rpki_cert::laws;
@@ -134,16 +138,6 @@ fn push_at<'q, 'n>(
     Ok(())
 }
 
-// The places of the CAs above the certificate at a place, where that is accepted.
-fn above_at<'t>(tree: &'t Tree<'_, '_>, place: usize) -> Option<&'t [usize]>
-    ensures { option_map (λ above. above.now) result ≡ above_by (line_at tree.now place) }
-{
-    match tree.line(place) {
-        Some(Line::Accepted(paths)) => Some(paths.first.above.as_slice()),
-        Some(_) | None => None,
-    }
-}
-
 // Adds the files of the trust anchor and of the CAs at these places.
 fn push_down<'q, 'n>(
     path: &mut Vec<&'q BareObject<'n>>,
@@ -197,12 +191,19 @@ pub fn signer_of(file: &BareObject<'_>) -> Option<KeyIdentifier>
     }
 }
 
+// Whether the certificate at a place is accepted.
+fn is_accepted_at(tree: &Tree<'_, '_>, place: usize) -> bool
+    ensures { IsTrue result ↔ IsAcceptedAt tree.now place }
+{
+    is_accepted(tree.line(place))
+}
+
 // Whether the certificate at a place has the key, and is accepted, where that is asked.
 fn has_key_at(tree: &Tree<'_, '_>, key: &KeyIdentifier, accepted: bool, place: usize) -> bool
     requires { place < length tree.now.certs.items }
     ensures { IsTrue result ↔ HasKeyAt tree.now key.now accepted place }
 {
-    has_key(tree.certs[place], key) && (!accepted || above_at(tree, place).is_some())
+    has_key(tree.certs[place], key) && (!accepted || is_accepted_at(tree, place))
 }
 
 // The place of the first certificate that has the key, and is accepted, where that is asked.
@@ -235,39 +236,6 @@ fn issuer_of(tree: &Tree<'_, '_>, file: &BareObject<'_>) -> Option<usize>
     first_keyed(tree, &key, false)
 }
 
-// Adds what stands above a file to which no valid path leads, as it and those above it name their
-// signers: up to the trust anchor, or to one whose signer isn't there. Returns whether that is the
-// trust anchor.
-fn push_above<'q, 'n>(
-    path: &mut Vec<&'q BareObject<'n>>,
-    tree: &Tree<'q, 'n>,
-    file: &'q BareObject<'n>,
-    most: usize,
-) -> Result<bool, AllocError>
-    ensures { IfOk result (λ reach. (above : List FileFields)
-        × AreAbove tree.now most file.now above reach
-        × (map (λ f. f.now) path.new.items ≡ map (λ f. f.now) path.old.items ++ above)) }
-{
-    if most == 0 {
-        return Ok(false);
-    }
-    let Some(place) = issuer_of(tree, file) else {
-        return Ok(false);
-    };
-    if let Some(above) = above_at(tree, place) {
-        push_down(path, tree, above)?;
-        push_one(path, &tree.certs, place)?;
-        return Ok(true);
-    }
-    if place == tree.anchor {
-        push_one(path, &tree.certs, place)?;
-        return Ok(true);
-    }
-    let reach = push_above(path, tree, tree.certs[place], most - 1)?;
-    push_one(path, &tree.certs, place)?;
-    Ok(reach)
-}
-
 // A path to a file below those that name one another as signers, and whether these reach up to the
 // trust anchor.
 #[derive(Drop)]
@@ -276,95 +244,171 @@ struct Named<'q, 'n> {
     reach: bool,
 }
 
-// The file below what stands above it, where no valid path leads to it.
-fn path_named<'q, 'n>(
+// Where a path is searched: in the trees of the files, by the files that their certificates name.
+#[derive(Drop)]
+struct Search<'s, 'q, 'n> {
     alloc: Global,
-    tree: &Tree<'q, 'n>,
-    file: &'q BareObject<'n>,
-) -> Result<Named<'q, 'n>, AllocError>
-    ensures { IfOk result (λ named.
-        IsNamedPath tree.now file.now named.reach (map (λ f. f.now) named.path.items)) }
-{
-    let mut path = Vec::new(alloc);
-    let reach = push_above(&mut path, tree, file, MOST_ABOVE)?;
-    path.push(file)?;
-    Ok(Named { path, reach })
+    trees: &'s Trees<'q, 'n>,
+    issuers: &'s Issuers,
 }
 
-// The file below what is above it, in an answer that has a tree.
-fn named_in<'q, 'n>(
-    alloc: Global,
-    answer: &TreeAnswer<'q, 'n>,
-    file: &'q BareObject<'n>,
-) -> Result<Option<Named<'q, 'n>>, AllocError>
-    ensures { IfOk result (λ found. MatchOption found (IsUnanchored answer.now) (λ named.
-        IsNamedIn answer.now file.now named.reach (map (λ f. f.now) named.path.items))) }
-{
-    match answer {
-        TreeAnswer::NoAnchor(_) => Ok(None),
-        TreeAnswer::Walked(tree) => Ok(Some(path_named(alloc, tree, file)?)),
+impl<'s, 'q, 'n> Search<'s, 'q, 'n> {
+    // The places of the CAs above the certificate at a place, on the path that is shown, if it is
+    // accepted.
+    fn above_at<'t>(
+        &self,
+        tree: &'t Tree<'q, 'n>,
+        place: usize,
+    ) -> Result<Option<&'t [usize]>, AllocError>
+        requires { AreTreeIssuers self.now.trees.now self.now.issuers.now }
+        ensures { let certs = placed_of self.now.trees.now in
+            IfOk result (λ found. MatchOption found (IsAcceptedAt tree.now place → ⊥)
+            (λ above. IsShownAbove certs tree.now place above.now)) }
+    {
+        let Some(Line::Accepted(paths)) = tree.line(place) else {
+            return Ok(None);
+        };
+        let found = self
+            .trees
+            .shown_paths(self.alloc, self.issuers, tree, place, paths)?;
+        Ok(Some(found.shown.above.as_slice()))
     }
-}
 
-// The file below what is above it, in the first part where that reaches up to the trust anchor, or
-// else in the last one; none if no part has a tree.
-fn named_among<'q, 'n>(
-    alloc: Global,
-    parts: &[TreePart<'q, 'n>],
-    file: &'q BareObject<'n>,
-) -> Result<Option<Vec<&'q BareObject<'n>>>, AllocError>
-    ensures { IfOk result (λ found. MatchOption found
-        (All (λ part. IsUnanchored part.answer) parts.now)
-        (λ path. IsNamedAmong parts.now file.now (map (λ f. f.now) path.items))) }
-{
-    let mut kept = None;
-    for part in parts {
-        if let Some(named) = named_in(alloc, &part.answer, file)? {
-            let Named { path, reach } = named;
-            if reach {
-                drop(kept);
+    // Adds what stands above a file to which no valid path leads, as it and those above it name their
+    // signers: up to the trust anchor, or to one whose signer isn't there. Returns whether that is the
+    // trust anchor.
+    fn push_above(
+        &self,
+        path: &mut Vec<&'q BareObject<'n>>,
+        tree: &Tree<'q, 'n>,
+        file: &'q BareObject<'n>,
+        most: usize,
+    ) -> Result<bool, AllocError>
+        requires { AreTreeIssuers self.now.trees.now self.now.issuers.now }
+        ensures { let certs = placed_of self.now.trees.now in
+            IfOk result (λ reach. (above : List FileFields)
+            × AreAbove certs tree.now most file.now above reach
+            × (map (λ f. f.now) path.new.items ≡ map (λ f. f.now) path.old.items ++ above)) }
+    {
+        if most == 0 {
+            return Ok(false);
+        }
+        let Some(place) = issuer_of(tree, file) else {
+            return Ok(false);
+        };
+        if let Some(above) = self.above_at(tree, place)? {
+            push_down(path, tree, above)?;
+            push_one(path, &tree.certs, place)?;
+            return Ok(true);
+        }
+        if place == tree.anchor {
+            push_one(path, &tree.certs, place)?;
+            return Ok(true);
+        }
+        let reach = self.push_above(path, tree, tree.certs[place], most - 1)?;
+        push_one(path, &tree.certs, place)?;
+        Ok(reach)
+    }
+
+    // The file below what stands above it, where no valid path leads to it.
+    fn path_named(
+        &self,
+        tree: &Tree<'q, 'n>,
+        file: &'q BareObject<'n>,
+    ) -> Result<Named<'q, 'n>, AllocError>
+        requires { AreTreeIssuers self.now.trees.now self.now.issuers.now }
+        ensures { let certs = placed_of self.now.trees.now in IfOk result (λ named.
+            IsNamedPath certs tree.now file.now named.reach (map (λ f. f.now) named.path.items)) }
+    {
+        let mut path = Vec::new(self.alloc);
+        let reach = self.push_above(&mut path, tree, file, MOST_ABOVE)?;
+        path.push(file)?;
+        Ok(Named { path, reach })
+    }
+
+    // The file below what is above it, in an answer that has a tree.
+    fn named_in(
+        &self,
+        answer: &TreeAnswer<'q, 'n>,
+        file: &'q BareObject<'n>,
+    ) -> Result<Option<Named<'q, 'n>>, AllocError>
+        requires { AreTreeIssuers self.now.trees.now self.now.issuers.now }
+        ensures { let certs = placed_of self.now.trees.now in
+            IfOk result (λ found. MatchOption found (IsUnanchored answer.now) (λ named.
+            IsNamedIn certs answer.now file.now named.reach (map (λ f. f.now) named.path.items))) }
+    {
+        match answer {
+            TreeAnswer::NoAnchor(_) => Ok(None),
+            TreeAnswer::Walked(tree) => Ok(Some(self.path_named(tree, file)?)),
+        }
+    }
+
+    // The file below what is above it, in the first part where that reaches up to the trust anchor, or
+    // else in the last one; none if no part has a tree.
+    fn named_among(
+        &self,
+        parts: &[TreePart<'q, 'n>],
+        file: &'q BareObject<'n>,
+    ) -> Result<Option<Vec<&'q BareObject<'n>>>, AllocError>
+        requires { AreTreeIssuers self.now.trees.now self.now.issuers.now }
+        ensures { let certs = placed_of self.now.trees.now in IfOk result (λ found. MatchOption found
+            (All (λ part. IsUnanchored part.answer) parts.now)
+            (λ path. IsNamedAmong certs parts.now file.now (map (λ f. f.now) path.items))) }
+    {
+        let mut kept = None;
+        for part in parts {
+            if let Some(named) = self.named_in(&part.answer, file)? {
+                let Named { path, reach } = named;
+                if reach {
+                    drop(kept);
+                    return Ok(Some(path));
+                }
+                drop(mem::replace(&mut kept, Some(path)));
+            }
+        }
+        Ok(kept)
+    }
+
+    // The path that is shown to the first certificate of a tree, which is that of the file, where it is
+    // accepted.
+    fn accepted_in(
+        &self,
+        answer: &TreeAnswer<'q, 'n>,
+        file: &'q BareObject<'n>,
+    ) -> Result<Option<Vec<&'q BareObject<'n>>>, AllocError>
+        requires { AreTreeIssuers self.now.trees.now self.now.issuers.now }
+        ensures { let certs = placed_of self.now.trees.now in
+            IfOk result (λ found. MatchOption found (DeniesFirst answer.now)
+            (λ path. IsAcceptedIn certs file.now (map (λ f. f.now) path.items) answer.now)) }
+    {
+        match answer {
+            TreeAnswer::NoAnchor(_) => Ok(None),
+            TreeAnswer::Walked(tree) => match self.above_at(tree, 0)? {
+                Some(above) => Ok(Some(path_down(self.alloc, tree, above, file)?)),
+                None => Ok(None),
+            },
+        }
+    }
+
+    // The path that is shown to it in the first part that accepts it.
+    fn accepted_among(
+        &self,
+        parts: &[TreePart<'q, 'n>],
+        file: &'q BareObject<'n>,
+    ) -> Result<Option<Vec<&'q BareObject<'n>>>, AllocError>
+        requires { AreTreeIssuers self.now.trees.now self.now.issuers.now }
+        ensures { let certs = placed_of self.now.trees.now in IfOk result (λ found. MatchOption found
+            (All (λ part. DeniesFirst part.answer) parts.now)
+            (λ path. let files = map (λ f. f.now) path.items in
+            Any (λ part. IsAcceptedIn certs file.now files part.answer) parts.now)) }
+    {
+        for part in parts {
+            if let Some(path) = self.accepted_in(&part.answer, file)? {
                 return Ok(Some(path));
             }
-            drop(mem::replace(&mut kept, Some(path)));
         }
+        Ok(None)
     }
-    Ok(kept)
-}
-
-// The path to the first certificate of a tree, which is that of the file, where it is accepted.
-fn accepted_in<'q, 'n>(
-    alloc: Global,
-    answer: &TreeAnswer<'q, 'n>,
-    file: &'q BareObject<'n>,
-) -> Result<Option<Vec<&'q BareObject<'n>>>, AllocError>
-    ensures { IfOk result (λ found. MatchOption found (DeniesFirst answer.now)
-        (λ path. IsAcceptedIn file.now (map (λ f. f.now) path.items) answer.now)) }
-{
-    match answer {
-        TreeAnswer::NoAnchor(_) => Ok(None),
-        TreeAnswer::Walked(tree) => match above_at(tree, 0) {
-            Some(above) => Ok(Some(path_down(alloc, tree, above, file)?)),
-            None => Ok(None),
-        },
-    }
-}
-
-// The path to it in the first part that accepts it.
-fn accepted_among<'q, 'n>(
-    alloc: Global,
-    parts: &[TreePart<'q, 'n>],
-    file: &'q BareObject<'n>,
-) -> Result<Option<Vec<&'q BareObject<'n>>>, AllocError>
-    ensures { IfOk result (λ found. MatchOption found
-        (All (λ part. DeniesFirst part.answer) parts.now) (λ path. let files = map (λ f. f.now) path.items in
-        Any (λ part. IsAcceptedIn file.now files part.answer) parts.now)) }
-{
-    for part in parts {
-        if let Some(path) = accepted_in(alloc, &part.answer, file)? {
-            return Ok(Some(path));
-        }
-    }
-    Ok(None)
 }
 
 // The first of the certificates that are wrong as a locator's trust anchor, where none is valid.
@@ -423,10 +467,16 @@ fn path_by<'q, 'n>(
         IsSoughtPath x (asked_of question.now) file.now path sought.ended) }
 {
     laws::unambiguous();
-    if let Some(path) = accepted_among(alloc, &trees.parts, file)? {
+    let issuers = issuers_of(alloc, trees)?;
+    let search = Search {
+        alloc,
+        trees,
+        issuers: &issuers,
+    };
+    if let Some(path) = search.accepted_among(&trees.parts, file)? {
         return Ok(whole(path));
     }
-    match named_among(alloc, &trees.parts, file)? {
+    match search.named_among(&trees.parts, file)? {
         Some(path) => Ok(Sought {
             path,
             ended: trees.ended(),
@@ -436,7 +486,10 @@ fn path_by<'q, 'n>(
 }
 
 /// Searches the path from the trust anchor of one of the TALs ([`judge_all`]) to the first of the
-/// files, with real signatures and with the CRLs among the files, which may be in any order.
+/// files, with real signatures and with the CRLs among the files, which may be in any order. If
+/// several valid paths lead to the file, it is the one that [`Trees::shown_paths`] shows, below the
+/// first TAL that has one: neither the order of the files nor another CA's certificates hide the path
+/// that the certificates name ([`crate::laws::named_is_shown`]).
 ///
 /// If no valid path leads to the file, the result has files that end in it, for which
 /// [`crate::judge`] returns what is wrong: files that name one another as signers, a wrong trust

@@ -1,6 +1,6 @@
 use Rattle.std.specs.Io.KnownBytes.{Appends}
 use Rattle.std.specs.Prelude.{OnOk}
-use Rattle.std.proofs.Common.{◌≡◌, refl, subst}
+use Rattle.std.proofs.Common.{◌≡◌, ◌∙◌, ℕ, List, ap, refl, subst}
 use Rattle.rpki_text.specs.CommandLines.{RequestFields}
 use Rattle.rpki_text.specs.CommandLines.Views.{fields_of, word_octets}
 use Rattle.rpki_command.specs.ListedFolders.{roots_of}
@@ -18,8 +18,11 @@ returns-clause-answer g c =
     let whole = fields_of c.in_ok-request.request in
     let of_folders = c.in_ok-names.ensures in
     let roots : word_octets c.in_ok-roots.roots.items ≡ roots_of r.files = rw c.deref.ensures.value at c.in_ok-roots.ensures in
-    let same : whole ≡ record r { files = names; folders = roots_of r.files } =
-    rw (c.deref-2.ensures.value, c.deref-3.ensures.value, roots) at c.in_ok-request.ensures in
+    let below = word_octets c.deref-3.result.now in
+    let same : whole ≡ record r { files = names; folders = roots_of r.files } = c.in_ok-request.ensures
+    ∙ ap (λ (q : RequestFields). record q { folders = below }) c.in_ok-with_files.ensures
+    ∙ ap (λ (l : List _). record r { files = word_octets l; folders = below }) c.deref-2.ensures.value
+    ∙ ap (λ (f : List (List ℕ)). record r { files = names; folders = f }) (ap word_octets c.deref-3.ensures.value ∙ roots) in
     so_said (λ e text said. IsRunAnswer reads whole c.args.now e.outcome text said)
     (λ e text said. IsAnswerOfNamed reads lists r c.args.now e.outcome text said)
     (λ e text. OnOk e.written (Appends (g.O.Write.contents c.args.out.now) (g.O.Write.contents c.answer.new.out) text))

@@ -9,6 +9,9 @@ pub loop-place-preserved : goal.loop-place-preserved
 loop-place-preserved c =
     below_more _ _ c.loop-place.invariant (λ has. false≢true (sym c.if-has_key_at.false ∙ c.has_key_at.ensures.1 has))
 
+pub returns-then-has_key_at-clause-first : goal.returns-then-has_key_at-clause-first
+returns-then-has_key_at-clause-first c = (c.has_key_at.ensures.0 c.if-has_key_at.true, c.loop-place.invariant)
+
 pub returns-clause-first : goal.returns-clause-first
 returns-clause-first c = λ k has.
     let certs = c.args.tree.now.certs.items in

@@ -3,6 +3,7 @@ use Rattle.std.proofs.Common.{◌≡◌, ◌∷◌, [], ◌++◌, map}
 use Rattle.rpki_keys.specs.RsaSignatures.{IsSignedByRsa}
 use Rattle.rpki_cert.specs.Verification.{context}
 use Rattle.rpki_verdicts.specs.Searches.{DeniesFirst, IsAcceptedIn, IsNamedAmong, IsUnanchored, first_wrong}
+use Rattle.rpki_verdicts.specs.ShownPaths.{placed_of}
 use Rattle.rpki_verdicts.specs.TreeParts.{wrong_of}
 use Rattle.rpki_verdicts.specs.Trees.{asked_of}
 use Rattle.rpki_verdicts.proofs.SearchSteps.{named_sought, unanchored_sought, valid_among}
@@ -14,7 +15,7 @@ returns-in-Some c =
     let trees = c.args.trees.now in
     let file = c.args.file.now in
     let path = map (λ f. f.now) c.in-Some.path.items in
-    let its : Any (λ part. IsAcceptedIn file path part.answer) trees.parts.items =
+    let its : Any (λ part. IsAcceptedIn (placed_of trees) file path part.answer) trees.parts.items =
     rw (c.in-Some.is, c.deref.ensures.value) at c.in_ok-path.ensures in
     rw (c.whole.ensures.path, c.whole.ensures.ended)
     (valid_among c.unambiguous.ensures.certificate (context IsSignedByRsa q.at q.strict) (asked_of q) file
@@ -28,13 +29,13 @@ returns-in-Some-2 c =
     let path = map (λ f. f.now) c.in-Some-2.path.items in
     let denies : All (λ part. DeniesFirst part.answer) trees.parts.items = rw (c.in_default.is, c.deref.ensures.value)
     at c.in_ok-path.ensures in
-    let named : IsNamedAmong trees.parts.items file path = rw (c.in-Some-2.is, c.deref-2.ensures.value) at c.in_ok-path-2.ensures in
+    let named : IsNamedAmong (placed_of trees) trees.parts.items file path = rw (c.in-Some-2.is, c.deref-2.ensures.value) at c.in_ok-path-2.ensures in
     named_sought c.unambiguous.ensures.certificate (context IsSignedByRsa q.at q.strict) (asked_of q) file
     c.requires.first.0 c.requires.first.1 c.requires.certificate trees c.requires.trees path denies named
     c.ended.result c.ended.ensures
 
-pub returns-in_ok-path_without_anchor-in-None : goal.returns-in_ok-path_without_anchor-in-None
-returns-in_ok-path_without_anchor-in-None c =
+pub returns : goal.returns
+returns c =
     let q = c.args.question.now in
     let trees = c.args.trees.now in
     let file = c.args.file.now in

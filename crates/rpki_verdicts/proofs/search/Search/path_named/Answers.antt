@@ -1,6 +1,6 @@
 use Rattle.std.proofs.Common.{◌∷◌, [], ◌++◌, List, map, ap, ◌∙◌}
 use Rattle.std.proofs.lemmas.List.{map-append}
-use Rattle.rpki_verdicts.proofs.search.path_named.Goals as goal
+use Rattle.rpki_verdicts.proofs.search.Search.path_named.Goals as goal
 
 pub returns : goal.returns
 returns c =
