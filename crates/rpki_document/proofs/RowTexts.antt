@@ -2,9 +2,10 @@
 -- of such lines have one text.
 use Rattle.std.specs.List.{AllByRecursion, flat_map}
 use Rattle.std.specs.Fmt.{decimal}
-use Rattle.std.specs.Prelude.{IsTrue, ◌&&◌, not, Bool, true, false, if◌then◌else◌}
+use Rattle.std.specs.Prelude.{IsTrue, not, Bool, true, false, if◌then◌else◌}
 use Rattle.std.proofs.Common.{◌≡◌, ◌∙◌, ◌≢◌, ℕ, zero, suc, ◌+◌, ◌-◌, ◌^◌, ◌/◌, ◌%◌, ◌<◌, List, [], ◌∷◌, ◌++◌, length}
 use Rattle.std.proofs.Common.{replicate, refl, sym, ap, append_assoc, arith}
+use Rattle.std.proofs.lemmas.Bool.{and_parts}
 use Rattle.std.proofs.lemmas.Bool.Decides.{nat_tests}
 use Rattle.std.proofs.lemmas.Fmt.{decimal_by_steps}
 use Rattle.std.proofs.lemmas.List.{append-nil, append_cancel_left}
@@ -13,10 +14,11 @@ use Rattle.rpki_document.specs.Documents.{ToldValue, text, inner, printed, chara
 use Rattle.rpki_document.specs.Documents.{Span, say, tell, show, keep, Node, head, line, further, unsaid, inside}
 use Rattle.rpki_document.specs.Documents.{each, aside, Document, nothing, part, told_text, span_text, spans_text}
 use Rattle.rpki_document.specs.Documents.{node_text, document_text}
-use Rattle.rpki_document.specs.Texts.{AreVisible, IsUnseparated, is_visible, stands, separates, escaped, digit}
-use Rattle.rpki_document.specs.Texts.{two_digits, colons_text, character_text, characters_text, inner_character_text}
-use Rattle.rpki_document.specs.Texts.{inner_text, printed_character_text, printed_text, flag_text, pad}
-use Rattle.rpki_document.specs.Texts.{further_margin, line_feed}
+use Rattle.rpki_document.specs.Texts.{AreVisible, IsUnseparated, is_visible, stands, separates, escapes, escaped, digit}
+use Rattle.rpki_document.specs.Texts.{two_digits, colons_text, character_text, escaped_text, inner_text, flag_text}
+use Rattle.rpki_document.specs.Texts.{pad, further_margin, line_feed}
+use Rattle.rpki_document.specs.declared.leaves.Escape.{Escape}
+use Rattle.rpki_document.specs.declared.leaves.Escape.TheVariants.{Text, Inner, Printed}
 use Rattle.rpki_document.specs.Lines.{Row, labelled, under, row_text, node_rows, document_rows, AreOctets}
 use Rattle.rpki_document.specs.Lines.{BeginsPlain, IsToldValue, IsSpan, IsNode, IsMade, IsRow}
 
@@ -43,32 +45,15 @@ visible_by : (plain : Bool) (o : ℕ) → (plain ≡ true → IsTrue (is_visible
 visible_by true o is small = (is refl, tt)
 visible_by false o is small = escaped_visible o small
 
-stands_visible : (o : ℕ) → stands o ≡ true → IsTrue (is_visible o)
-stands_visible o e = grind (arith, nat_tests)
+stands_visible : (escape : Escape) (o : ℕ) → stands escape o ≡ true → IsTrue (is_visible o)
+stands_visible escape o e = (and_parts (is_visible o) (not (escapes escape o)) e).0
 
-inner_visible_one : (o : ℕ) → (stands o && not (separates o)) ≡ true → IsTrue (is_visible o)
-inner_visible_one o e = grind (arith, nat_tests)
-
--- octets as characters are visible
-pub characters_visible : (os : List ℕ) → AreOctets os → AreVisible (characters_text os)
-characters_visible [] are = tt
-characters_visible (o ∷ os) are =
-    both_visible (character_text o) (characters_text os) (visible_by (stands o) o (stands_visible o) are.0)
-    (characters_visible os are.1)
-
--- those of a text behind which more follows are, too
-pub inner_visible : (os : List ℕ) → AreOctets os → AreVisible (inner_text os)
-inner_visible [] are = tt
-inner_visible (o ∷ os) are =
-    both_visible (inner_character_text o) (inner_text os)
-    (visible_by (stands o && not (separates o)) o (inner_visible_one o) are.0)
-    (inner_visible os are.1)
-
-printed_visible : (os : List ℕ) → AreOctets os → AreVisible (printed_text os)
-printed_visible [] are = tt
-printed_visible (o ∷ os) are =
-    both_visible (printed_character_text o) (printed_text os) (visible_by (is_visible o) o (λ e. e) are.0)
-    (printed_visible os are.1)
+-- octets are visible as a text
+pub text_visible : (escape : Escape) (os : List ℕ) → AreOctets os → AreVisible (escaped_text escape os)
+text_visible escape [] are = tt
+text_visible escape (o ∷ os) are =
+    both_visible (character_text escape o) (escaped_text escape os)
+    (visible_by (stands escape o) o (stands_visible escape o) are.0) (text_visible escape os are.1)
 
 further_visible : (os : List ℕ) → AreOctets os → AreVisible (flat_map (λ more. 58 ∷ two_digits more) os)
 further_visible [] are = tt
@@ -92,18 +77,18 @@ flag_visible true = (refl, (refl, (refl, tt)))
 flag_visible false = (refl, (refl, tt))
 
 told_visible : (told : ToldValue) → IsToldValue told → AreVisible (told_text told)
-told_visible (text t) is = characters_visible t is
-told_visible (inner t) is = inner_visible t is
-told_visible (printed t) is = printed_visible t is
-told_visible (characters os) is = characters_visible os is
-told_visible (words said word) is = characters_visible said is
+told_visible (text t) is = text_visible Text t is
+told_visible (inner t) is = text_visible Inner t is
+told_visible (printed t) is = text_visible Printed t is
+told_visible (characters os) is = text_visible Text os is
+told_visible (words said word) is = text_visible Text said is
 told_visible (count n) is = decimal_visible n is
 told_visible (octets os) is = colons_visible os is
 told_visible (flag is_so) is = flag_visible is_so
-told_visible (dated said n) is = characters_visible said is
+told_visible (dated said n) is = text_visible Text said is
 
 span_visible : (s : Span) → IsSpan s → AreVisible (span_text s)
-span_visible (say said) is = characters_visible said is
+span_visible (say said) is = text_visible Text said is
 span_visible (tell key told) is = told_visible told is
 span_visible (show told) is = told_visible told is
 span_visible (keep key told) is = tt
@@ -132,15 +117,15 @@ unseparated_by false o is small =
     (refl, (refl, (digit_separates_nothing (o / 16) (omega arith), (digit_separates_nothing (o % 16) (omega arith), tt))))
 
 -- what stands for itself there is no separator
-pub inner_separates_nothing : (o : ℕ) → (stands o && not (separates o)) ≡ true → IsTrue (not (separates o))
+pub inner_separates_nothing : (o : ℕ) → stands Inner o ≡ true → IsTrue (not (separates o))
 inner_separates_nothing o e = grind (arith, nat_tests)
 
 -- a text behind which more follows in its line has no separator
 pub inner_unseparated : (os : List ℕ) → AreOctets os → IsUnseparated (inner_text os)
 inner_unseparated [] are = tt
 inner_unseparated (o ∷ os) are =
-    both_unseparated (inner_character_text o) (inner_text os)
-    (unseparated_by (stands o && not (separates o)) o (inner_separates_nothing o) are.0)
+    both_unseparated (character_text Inner o) (inner_text os)
+    (unseparated_by (stands Inner o) o (inner_separates_nothing o) are.0)
     (inner_unseparated os are.1)
 
 -- ---- the lines

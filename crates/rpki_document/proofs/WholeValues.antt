@@ -6,13 +6,11 @@ use Rattle.std.proofs.Common.{◌≡◌, ◌||◌, ℕ, List, [], ◌∷◌, ◌
 use Rattle.std.proofs.lemmas.Bool.{or_parts}
 use Rattle.serde_json.specs.Data.{Data, Members, no_members, member, put, number}
 use Rattle.serde_json.specs.Find.{of_integer}
-use Rattle.serde_json.specs.View.{items_of}
-use Rattle.serde_json.specs.Written.{has_float, items_have_float, members_have_float}
+use Rattle.serde_json.specs.Written.{has_float, members_have_float}
 use Rattle.rpki_document.specs.Documents.{ToldValue, text, inner, printed, characters, words, count, octets, flag, dated}
 use Rattle.rpki_document.specs.Documents.{Span, say, tell, show, keep, Node, head, line, further, unsaid, inside}
-use Rattle.rpki_document.specs.Documents.{each, aside, Document, nothing, part, Pair, put_all, told_json, span_items}
-use Rattle.rpki_document.specs.Documents.{span_members, node_items, node_members, document_items, document_members}
-use Rattle.rpki_document.specs.Documents.{document_json}
+use Rattle.rpki_document.specs.Documents.{each, aside, Document, nothing, part, Pair, put_all, list_of, told_json}
+use Rattle.rpki_document.specs.Documents.{span_members, node_members, document_members, document_json}
 
 -- ---- values, members, lists
 
@@ -45,17 +43,13 @@ all_whole : (pairs : List Pair) (ms : Members) → AreWhole pairs → members_ha
 all_whole [] ms are none = none
 all_whole (pair ∷ more) ms are none = all_whole more _ are.1 (put_whole pair.0 pair.1 ms are.0 none)
 
-items_whole : (ds : List Data) → AllByRecursion LacksFloat ds → items_have_float (items_of ds) ≡ false
+items_whole : (pairs : List Pair) → AreWhole pairs → LacksFloat (list_of pairs)
 items_whole [] are = refl
-items_whole (d ∷ ds) are = either_whole (has_float d) _ are.0 (items_whole ds are.1)
+items_whole (pair ∷ more) are = either_whole (has_float pair.1) _ are.0 (items_whole more are.1)
 
 both_pairs : (a b : List Pair) → AreWhole a → AreWhole b → AreWhole (a ++ b)
 both_pairs [] b p q = q
 both_pairs (pair ∷ a) b p q = (p.0, both_pairs a b p.1 q)
-
-both_items : (a b : List Data) → AllByRecursion LacksFloat a → AllByRecursion LacksFloat b → AllByRecursion LacksFloat (a ++ b)
-both_items [] b p q = q
-both_items (d ∷ a) b p q = (p.0, both_items a b p.1 q)
 
 -- ---- pieces
 
@@ -80,19 +74,9 @@ span_whole (tell key told) = (told_whole told, tt)
 span_whole (show told) = tt
 span_whole (keep key told) = (told_whole told, tt)
 
-span_items_whole : (s : Span) → AllByRecursion LacksFloat (span_items s)
-span_items_whole (say said) = tt
-span_items_whole (tell key told) = (told_whole told, tt)
-span_items_whole (show told) = tt
-span_items_whole (keep key told) = (told_whole told, tt)
-
 spans_whole : (spans : List Span) → AreWhole (flat_map span_members spans)
 spans_whole [] = tt
 spans_whole (s ∷ spans) = both_pairs (span_members s) _ (span_whole s) (spans_whole spans)
-
-spans_items_whole : (spans : List Span) → AllByRecursion LacksFloat (flat_map span_items spans)
-spans_items_whole [] = tt
-spans_items_whole (s ∷ spans) = both_items (span_items s) _ (span_items_whole s) (spans_items_whole spans)
 
 -- ---- parts
 
@@ -103,25 +87,12 @@ mutual
   node_whole (further spans) = spans_whole spans
   node_whole (unsaid spans) = spans_whole spans
   node_whole (inside key d) = (all_whole (document_members d) _ (members_whole d) refl, tt)
-  node_whole (each key d) = (items_whole (document_items d) (listed_whole d), tt)
+  node_whole (each key d) = (items_whole (document_members d) (members_whole d), tt)
   node_whole (aside d) = members_whole d
 
   members_whole : (d : Document) → AreWhole (document_members d)
   members_whole nothing = tt
   members_whole (part p d) = both_pairs (node_members p) (document_members d) (node_whole p) (members_whole d)
-
-  node_items_whole : (p : Node) → AllByRecursion LacksFloat (node_items p)
-  node_items_whole (head label spans) = spans_items_whole spans
-  node_items_whole (line label spans) = spans_items_whole spans
-  node_items_whole (further spans) = spans_items_whole spans
-  node_items_whole (unsaid spans) = spans_items_whole spans
-  node_items_whole (inside key d) = (all_whole (document_members d) _ (members_whole d) refl, tt)
-  node_items_whole (each key d) = (items_whole (document_items d) (listed_whole d), tt)
-  node_items_whole (aside d) = listed_whole d
-
-  listed_whole : (d : Document) → AllByRecursion LacksFloat (document_items d)
-  listed_whole nothing = tt
-  listed_whole (part p d) = both_items (node_items p) (document_items d) (node_items_whole p) (listed_whole d)
 
 -- the JSON of a document
 pub json_whole : (d : Document) → has_float (document_json d) ≡ false

@@ -1,7 +1,7 @@
 -- A document: what an answer says, once. Its text and its JSON are two readings of it (own).
 use Rattle.std.specs.Fmt.{decimal}
 use Rattle.std.specs.List.{flat_map}
-use Rattle.std.specs.Prelude.{ℕ, ℤ, Bool, List, [], ◌∷◌, ◌++◌}
+use Rattle.std.specs.Prelude.{ℕ, ℤ, Bool, List, [], ◌∷◌, ◌++◌, map}
 use Rattle.serde_json.specs.Data.{Data, boolean, number, unsigned, string, array, object, Members, no_members, put}
 use Rattle.serde_json.specs.Find.{of_integer}
 use Rattle.serde_json.specs.View.{items_of}
@@ -83,6 +83,10 @@ document_of (p ∷ ps) = part p (document_of ps)
 abbrev pub told_line : List ℕ → List ℕ → ToldValue → Node
 told_line label key told = line label (tell key told ∷ [])
 
+-- an object that is one line
+abbrev pub item_node : List ℕ → List Span → Node
+item_node label spans = inside [] (document_of (line label spans ∷ []))
+
 -- a value that is in no line, under a key
 abbrev pub kept_node : List ℕ → ToldValue → Node
 kept_node key told = unsaid (keep key told ∷ [])
@@ -131,18 +135,15 @@ object_of pairs = object (put_all pairs no_members)
 abbrev pub array_of : List Data → Data
 array_of values = array (items_of values)
 
+-- in a list names count for nothing
+abbrev pub list_of : List Pair → Data
+list_of pairs = array_of (map (λ pair. pair.1) pairs)
+
 abbrev pub span_members : Span → List Pair
 span_members (say said) = []
 span_members (tell key told) = (key, told_json told) ∷ []
 span_members (show told) = []
 span_members (keep key told) = (key, told_json told) ∷ []
-
--- in a list keys count for nothing
-abbrev pub span_items : Span → List Data
-span_items (say said) = []
-span_items (tell key told) = told_json told ∷ []
-span_items (show told) = []
-span_items (keep key told) = told_json told ∷ []
 
 abbrev mutual
   pub node_members : Node → List Pair
@@ -151,25 +152,12 @@ abbrev mutual
   node_members (further spans) = flat_map span_members spans
   node_members (unsaid spans) = flat_map span_members spans
   node_members (inside key d) = (key, object_of (document_members d)) ∷ []
-  node_members (each key d) = (key, array_of (document_items d)) ∷ []
+  node_members (each key d) = (key, list_of (document_members d)) ∷ []
   node_members (aside d) = document_members d
 
   pub document_members : Document → List Pair
   document_members nothing = []
   document_members (part p d) = node_members p ++ document_members d
-
-  pub node_items : Node → List Data
-  node_items (head label spans) = flat_map span_items spans
-  node_items (line label spans) = flat_map span_items spans
-  node_items (further spans) = flat_map span_items spans
-  node_items (unsaid spans) = flat_map span_items spans
-  node_items (inside key d) = object_of (document_members d) ∷ []
-  node_items (each key d) = array_of (document_items d) ∷ []
-  node_items (aside d) = document_items d
-
-  pub document_items : Document → List Data
-  document_items nothing = []
-  document_items (part p d) = node_items p ++ document_items d
 
 -- the JSON of a document
 abbrev pub document_json : Document → Data

@@ -1,7 +1,9 @@
 -- How values and lines are laid out: labels, and values from column 26 on (own).
 use Rattle.std.specs.List.{AllByRecursion, flat_map}
-use Rattle.std.specs.Prelude.{ℕ, ◌+◌, ◌-◌, ◌/◌, ◌%◌, ◌==◌, ◌&&◌, ◌||◌, nat_lt, not, Bool, IsTrue, if◌then◌else◌, List}
+use Rattle.std.specs.Prelude.{ℕ, ◌+◌, ◌-◌, ◌/◌, ◌%◌, ◌==◌, ◌&&◌, ◌||◌, nat_lt, not, Bool, false, IsTrue, if◌then◌else◌, List}
 use Rattle.std.specs.Prelude.{[], ◌∷◌, ◌++◌, length, replicate, codes}
+use Rattle.rpki_document.specs.declared.leaves.Escape.{Escape}
+use Rattle.rpki_document.specs.declared.leaves.Escape.TheVariants.{Text, Inner, Printed}
 
 -- ---- octets
 
@@ -26,38 +28,37 @@ is_visible octet = nat_lt 31 octet && nat_lt octet 127
 abbrev pub escaped : ℕ → List ℕ
 escaped octet = 92 ∷ 120 ∷ two_digits octet
 
--- one that stands for itself: a visible character but a backslash
-abbrev pub stands : ℕ → Bool
-stands octet = is_visible octet && not (octet == 92)
-
--- an octet: as it stands, or escaped
-abbrev pub character_text : ℕ → List ℕ
-character_text octet = if stands octet then octet ∷ [] else escaped octet
-
--- octets as characters
-abbrev pub characters_text : List ℕ → List ℕ
-characters_text octets = flat_map character_text octets
-
--- an octet of a text that has escapes of its own: its backslashes stand too
-abbrev pub printed_character_text : ℕ → List ℕ
-printed_character_text octet = if is_visible octet then octet ∷ [] else escaped octet
-
--- octets as such characters
-abbrev pub printed_text : List ℕ → List ℕ
-printed_text octets = flat_map printed_character_text octets
-
 -- what sets the parts of a line apart: a colon, a comma, `>`, an opening parenthesis
 abbrev pub separates : ℕ → Bool
 separates octet = octet == 58 || octet == 44 || octet == 62 || octet == 40
 
--- an octet of a text behind which more follows in its line: a separator is escaped too
-abbrev pub inner_character_text : ℕ → List ℕ
-inner_character_text octet =
-    if stands octet && not (separates octet) then octet ∷ [] else escaped octet
+-- a visible octet is escaped too: a backslash; and a separator, in a text behind which more follows in
+-- its line; but none in a text that has escapes of its own
+abbrev pub escapes : Escape → ℕ → Bool
+escapes Text octet = octet == 92
+escapes Inner octet = octet == 92 || separates octet
+escapes Printed octet = false
 
--- octets as such characters
+-- an octet stands for itself
+abbrev pub stands : Escape → ℕ → Bool
+stands escape octet = is_visible octet && not (escapes escape octet)
+
+-- an octet: as it stands, or escaped
+abbrev pub character_text : Escape → ℕ → List ℕ
+character_text escape octet = if stands escape octet then octet ∷ [] else escaped octet
+
+abbrev pub escaped_text : Escape → List ℕ → List ℕ
+escaped_text escape octets = flat_map (character_text escape) octets
+
+-- octets as characters; as such a text with more behind it; as one that has escapes of its own
+abbrev pub characters_text : List ℕ → List ℕ
+characters_text octets = escaped_text Text octets
+
 abbrev pub inner_text : List ℕ → List ℕ
-inner_text octets = flat_map inner_character_text octets
+inner_text octets = escaped_text Inner octets
+
+abbrev pub printed_text : List ℕ → List ℕ
+printed_text octets = escaped_text Printed octets
 
 -- a text of visible characters: it doesn't leave its line
 abbrev pub AreVisible : List ℕ → Type 0

@@ -1,13 +1,13 @@
--- The document that is built, and what is done to texts and to members of JSON.
+-- The document that is built, and what is done to texts and to values of JSON.
 use Rattle.std.specs.List.{flat_map}
-use Rattle.std.specs.Prelude.{◌≡◌, ℕ, List, ◌++◌, map, String, string_bytes}
-use Rattle.std.specs.declared.alloc.Global.{Global}
-use Rattle.serde_json.specs.Data.{Data}
+use Rattle.std.specs.Prelude.{◌≡◌, ℕ, List, ◌++◌, map, string_bytes}
+use Rattle.serde_json.specs.Data.{Data, Members, object}
 use Rattle.serde_json.specs.View.{view, members_view}
-use Rattle.serde_json.specs.declared.value.Value.{Value}
-use Rattle.rpki_document.specs.Documents.{ToldValue, Span, Node, Document, document_of, Pair, put_all, span_text}
-use Rattle.rpki_document.specs.Documents.{span_members, span_items, node_text, node_members, node_items}
+use Rattle.rpki_document.specs.Documents.{ToldValue, Span, Node, Document, document_of, Pair, put_all, array_of}
+use Rattle.rpki_document.specs.Documents.{span_text, span_members, node_text, node_members}
 use Rattle.rpki_document.specs.Documents as doc
+use Rattle.rpki_document.specs.declared.as_json.Gathered.{Gathered}
+use Rattle.rpki_document.specs.declared.as_json.Gathered.TheVariants.{Object, Array}
 use Rattle.rpki_document.specs.declared.parts.Leaf.{Leaf}
 use Rattle.rpki_document.specs.declared.parts.Leaf.TheVariants as leaf
 use Rattle.rpki_document.specs.declared.parts.Piece.{Piece}
@@ -57,28 +57,33 @@ pieces_text pieces = flat_map (λ p. span_text (piece_view p)) pieces
 abbrev pub pieces_members : List Piece → List Pair
 pieces_members pieces = flat_map (λ p. span_members (piece_view p)) pieces
 
-abbrev pub pieces_items : List Piece → List Data
-pieces_items pieces = flat_map (λ p. span_items (piece_view p)) pieces
-
 abbrev pub node_parts_text : List Part → List ℕ
 node_parts_text parts = flat_map (λ p. node_text (part_view p)) parts
 
 abbrev pub parts_members : List Part → List Pair
 parts_members parts = flat_map (λ p. node_members (part_view p)) parts
 
-abbrev pub parts_items : List Part → List Data
-parts_items parts = flat_map (λ p. node_items (part_view p)) parts
-
 -- ---- members and values of JSON
 
--- the members of an object in Rust, in the order of their names
-abbrev pub Entries : Type 0
-Entries = List (String Global × Value)
+-- an object that is being made, or a list
+pub data Making : Type 0 where
+  making_object : Members → Making
+  making_list : List Data → Making
 
--- new is old with these members put in
-abbrev pub Puts : List Pair → Entries → Entries → Type 0
-Puts pairs old new = members_view new ≡ put_all pairs (members_view old)
+-- with these members, of which a list takes the values
+abbrev pub with_pairs : List Pair → Making → Making
+with_pairs pairs (making_object ms) = making_object (put_all pairs ms)
+with_pairs pairs (making_list ds) = making_list (ds ++ map (λ pair. pair.1) pairs)
 
--- new is old with these values behind it
-abbrev pub Pushes : List Data → List Value → List Value → Type 0
-Pushes values old new = map view new ≡ map view old ++ values
+-- what is made
+abbrev pub made_json : Making → Data
+made_json (making_object ms) = object ms
+made_json (making_list ds) = array_of ds
+
+abbrev pub making_view : Gathered → Making
+making_view (Object members) = making_object (members_view members.entries)
+making_view (Array values) = making_list (map view values.items)
+
+-- new is old with these members
+abbrev pub Puts : List Pair → Gathered → Gathered → Type 0
+Puts pairs old new = making_view new ≡ with_pairs pairs (making_view old)

@@ -1,16 +1,16 @@
 //! Documents as text.
 ghost use Rattle.std.specs.Prelude.{◌≡◌, ◌++◌, map, string_bytes, IfOk, IfSome, OnOk};
 ghost use Rattle.rpki_document.specs.Documents.{document_text, node_text, span_text, spans_text};
-ghost use Rattle.rpki_document.specs.Texts.{further_margin, head_text, label_text, line_feed};
+ghost use Rattle.rpki_document.specs.Texts.{line_feed};
 ghost use Rattle.rpki_document.specs.Views.{document_view, part_view, node_parts_text, piece_view, pieces_text};
 
-use crate::leaves::{Characters, Heading, Label};
-use crate::parts::{Part, Piece};
+use crate::leaves::{Characters, Heading, Label, Margin};
+use crate::parts::{Added, Part, Parts, Piece};
 use std::alloc::{AllocError, Global};
 use std::fmt;
 
 // Appends the text of a value.
-fn append<T: fmt::Display>(out: &mut String, alloc: Global, value: &T) -> Result<(), AllocError>
+fn append<T: fmt::Display>(out: &mut String, alloc: Global, value: &T) -> Added
     ensures { IfSome (T.output value.now) (λ text.
         OnOk result (string_bytes out.new ≡ string_bytes out.old ++ text)) }
 {
@@ -18,7 +18,7 @@ fn append<T: fmt::Display>(out: &mut String, alloc: Global, value: &T) -> Result
     out.push_str(made.as_str())
 }
 
-fn write_piece(out: &mut String, alloc: Global, piece: &Piece<'_>) -> Result<(), AllocError>
+fn write_piece(out: &mut String, alloc: Global, piece: &Piece<'_>) -> Added
     ensures { OnOk result
         (string_bytes out.new ≡ string_bytes out.old ++ span_text (piece_view piece.now)) }
 {
@@ -30,7 +30,7 @@ fn write_piece(out: &mut String, alloc: Global, piece: &Piece<'_>) -> Result<(),
     }
 }
 
-fn write_pieces(out: &mut String, alloc: Global, pieces: &[Piece<'_>]) -> Result<(), AllocError>
+fn write_pieces(out: &mut String, alloc: Global, pieces: &[Piece<'_>]) -> Added
     ensures { OnOk result
         (string_bytes out.new ≡ string_bytes out.old ++ pieces_text pieces.now) }
 {
@@ -40,52 +40,30 @@ fn write_pieces(out: &mut String, alloc: Global, pieces: &[Piece<'_>]) -> Result
     Ok(())
 }
 
-fn write_head(
+// Writes a line that starts so.
+fn write_line<T: fmt::Display>(
     out: &mut String,
     alloc: Global,
-    label: &str,
+    start: &T,
     pieces: &[Piece<'_>],
-) -> Result<(), AllocError>
-    ensures { OnOk result (string_bytes out.new ≡ string_bytes out.old
-        ++ (head_text label.now ++ (spans_text (map piece_view pieces.now) ++ line_feed))) }
+) -> Added
+    ensures { IfSome (T.output start.now) (λ text. OnOk result (string_bytes out.new
+        ≡ string_bytes out.old ++ (text ++ (spans_text (map piece_view pieces.now) ++ line_feed)))) }
 {
-    append(out, alloc, &Heading(label))?;
-    write_pieces(out, alloc, pieces)?;
-    out.push_str("\n")
-}
-
-fn write_line(
-    out: &mut String,
-    alloc: Global,
-    label: &str,
-    pieces: &[Piece<'_>],
-) -> Result<(), AllocError>
-    ensures { OnOk result (string_bytes out.new ≡ string_bytes out.old
-        ++ (label_text label.now ++ (spans_text (map piece_view pieces.now) ++ line_feed))) }
-{
-    append(out, alloc, &Label(label))?;
-    write_pieces(out, alloc, pieces)?;
-    out.push_str("\n")
-}
-
-fn write_further(out: &mut String, alloc: Global, pieces: &[Piece<'_>]) -> Result<(), AllocError>
-    ensures { OnOk result (string_bytes out.new ≡ string_bytes out.old
-        ++ (further_margin ++ (spans_text (map piece_view pieces.now) ++ line_feed))) }
-{
-    out.push_str("                          ")?;
+    append(out, alloc, start)?;
     write_pieces(out, alloc, pieces)?;
     out.push_str("\n")
 }
 
 #[cycle(write)]
-fn write_part(out: &mut String, alloc: Global, it: &Part<'_>) -> Result<(), AllocError>
+fn write_part(out: &mut String, alloc: Global, it: &Part<'_>) -> Added
     ensures { OnOk result
         (string_bytes out.new ≡ string_bytes out.old ++ node_text (part_view it.now)) }
 {
     match it {
-        Part::Head(label, pieces) => write_head(out, alloc, *label, pieces.as_slice()),
-        Part::Line(label, pieces) => write_line(out, alloc, *label, pieces.as_slice()),
-        Part::Further(pieces) => write_further(out, alloc, pieces.as_slice()),
+        Part::Head(label, pieces) => write_line(out, alloc, &Heading(*label), pieces.as_slice()),
+        Part::Line(label, pieces) => write_line(out, alloc, &Label(*label), pieces.as_slice()),
+        Part::Further(pieces) => write_line(out, alloc, &Margin, pieces.as_slice()),
         Part::Unsaid(_) => Ok(()),
         Part::Aside(_) => Ok(()),
         Part::Inside(_, parts) => write_parts(out, alloc, parts),
@@ -94,7 +72,7 @@ fn write_part(out: &mut String, alloc: Global, it: &Part<'_>) -> Result<(), Allo
 }
 
 #[cycle(write)]
-fn write_parts(out: &mut String, alloc: Global, parts: &Vec<Part<'_>>) -> Result<(), AllocError>
+fn write_parts(out: &mut String, alloc: Global, parts: &Parts<'_>) -> Added
     ensures { OnOk result
         (string_bytes out.new ≡ string_bytes out.old ++ node_parts_text parts.now.items) }
 {
@@ -106,7 +84,7 @@ fn write_parts(out: &mut String, alloc: Global, parts: &Vec<Part<'_>>) -> Result
 
 /// Writes a document as text.
 #[tactic(auto, using(crate::proofs::Joined::text_of_parts))]
-pub fn text_of(alloc: Global, parts: &Vec<Part<'_>>) -> Result<String, AllocError>
+pub fn text_of(alloc: Global, parts: &Parts<'_>) -> Result<String, AllocError>
     ensures { IfOk result (λ text. string_bytes text ≡ document_text (document_view parts.now.items)) }
 {
     let mut out = String::new(alloc);

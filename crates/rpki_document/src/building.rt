@@ -1,18 +1,14 @@
 //! Documents that are being built.
 ghost use Rattle.std.specs.Prelude.{◌∷◌, [], OnOk};
-ghost use Rattle.rpki_document.specs.Documents.{aside, document_of, each, further, head, inside, kept_node, line, told_line, unsaid};
+ghost use Rattle.rpki_document.specs.Documents.{aside, document_of, each, further, head, inside, item_node, kept_node, line, told_line, unsaid};
 ghost use Rattle.rpki_document.specs.Building.{Adds, nodes_of, spans_of};
 ghost use Rattle.rpki_document.specs.Views.{leaf_view};
 
-use crate::parts::{Leaf, Part, Piece};
-use std::alloc::{AllocError, Global};
+use crate::parts::{Added, Leaf, Part, Parts, Piece};
+use std::alloc::Global;
 
 /// Adds the head of an answer.
-pub fn add_head<'a>(
-    parts: &mut Vec<Part<'a>>,
-    label: &'a str,
-    pieces: Vec<Piece<'a>>,
-) -> Result<(), AllocError>
+pub fn add_head<'a>(parts: &mut Parts<'a>, label: &'a str, pieces: Vec<Piece<'a>>) -> Added
     ensures { let its = head label.now (spans_of pieces.entry.items) in
         OnOk result (Adds (its ∷ []) parts.old.items parts.new.items) }
 {
@@ -21,11 +17,7 @@ pub fn add_head<'a>(
 }
 
 /// Adds a line.
-pub fn add_line<'a>(
-    parts: &mut Vec<Part<'a>>,
-    label: &'a str,
-    pieces: Vec<Piece<'a>>,
-) -> Result<(), AllocError>
+pub fn add_line<'a>(parts: &mut Parts<'a>, label: &'a str, pieces: Vec<Piece<'a>>) -> Added
     ensures { let its = line label.now (spans_of pieces.entry.items) in
         OnOk result (Adds (its ∷ []) parts.old.items parts.new.items) }
 {
@@ -34,7 +26,7 @@ pub fn add_line<'a>(
 }
 
 /// Adds a further line of the label above.
-pub fn add_further<'a>(parts: &mut Vec<Part<'a>>, pieces: Vec<Piece<'a>>) -> Result<(), AllocError>
+pub fn add_further<'a>(parts: &mut Parts<'a>, pieces: Vec<Piece<'a>>) -> Added
     ensures { let its = further (spans_of pieces.entry.items) in
         OnOk result (Adds (its ∷ []) parts.old.items parts.new.items) }
 {
@@ -43,7 +35,7 @@ pub fn add_further<'a>(parts: &mut Vec<Part<'a>>, pieces: Vec<Piece<'a>>) -> Res
 }
 
 /// Adds values that are in no line.
-pub fn add_unsaid<'a>(parts: &mut Vec<Part<'a>>, pieces: Vec<Piece<'a>>) -> Result<(), AllocError>
+pub fn add_unsaid<'a>(parts: &mut Parts<'a>, pieces: Vec<Piece<'a>>) -> Added
     ensures { let its = unsaid (spans_of pieces.entry.items) in
         OnOk result (Adds (its ∷ []) parts.old.items parts.new.items) }
 {
@@ -53,12 +45,12 @@ pub fn add_unsaid<'a>(parts: &mut Vec<Part<'a>>, pieces: Vec<Piece<'a>>) -> Resu
 
 /// Adds a line of one value, under a key.
 pub fn add_told<'a>(
-    parts: &mut Vec<Part<'a>>,
+    parts: &mut Parts<'a>,
     alloc: Global,
     label: &'a str,
     key: &'a str,
     leaf: Leaf<'a>,
-) -> Result<(), AllocError>
+) -> Added
     ensures { let its = told_line label.now key.now (leaf_view leaf.entry) in
         OnOk result (Adds (its ∷ []) parts.old.items parts.new.items) }
 {
@@ -67,12 +59,7 @@ pub fn add_told<'a>(
 }
 
 /// Adds a value that is in no line, under a key.
-pub fn add_kept<'a>(
-    parts: &mut Vec<Part<'a>>,
-    alloc: Global,
-    key: &'a str,
-    leaf: Leaf<'a>,
-) -> Result<(), AllocError>
+pub fn add_kept<'a>(parts: &mut Parts<'a>, alloc: Global, key: &'a str, leaf: Leaf<'a>) -> Added
     ensures { let its = kept_node key.now (leaf_view leaf.entry) in
         OnOk result (Adds (its ∷ []) parts.old.items parts.new.items) }
 {
@@ -81,11 +68,7 @@ pub fn add_kept<'a>(
 }
 
 /// Adds parts that are an object under a key.
-pub fn add_inside<'a>(
-    parts: &mut Vec<Part<'a>>,
-    key: &'a str,
-    inner: Vec<Part<'a>>,
-) -> Result<(), AllocError>
+pub fn add_inside<'a>(parts: &mut Parts<'a>, key: &'a str, inner: Parts<'a>) -> Added
     ensures { let its = inside key.now (document_of (nodes_of inner.entry.items)) in
         OnOk result (Adds (its ∷ []) parts.old.items parts.new.items) }
 {
@@ -93,12 +76,23 @@ pub fn add_inside<'a>(
     Ok(())
 }
 
+/// Adds an object that is one line, to a list.
+pub fn add_item<'a>(
+    parts: &mut Parts<'a>,
+    alloc: Global,
+    label: &'a str,
+    pieces: Vec<Piece<'a>>,
+) -> Added
+    ensures { let its = item_node label.now (spans_of pieces.entry.items) in
+        OnOk result (Adds (its ∷ []) parts.old.items parts.new.items) }
+{
+    let mut own = Vec::new(alloc);
+    add_line(&mut own, label, pieces)?;
+    add_inside(parts, "", own)
+}
+
 /// Adds parts that are a list under a key.
-pub fn add_each<'a>(
-    parts: &mut Vec<Part<'a>>,
-    key: &'a str,
-    inner: Vec<Part<'a>>,
-) -> Result<(), AllocError>
+pub fn add_each<'a>(parts: &mut Parts<'a>, key: &'a str, inner: Parts<'a>) -> Added
     ensures { let its = each key.now (document_of (nodes_of inner.entry.items)) in
         OnOk result (Adds (its ∷ []) parts.old.items parts.new.items) }
 {
@@ -107,7 +101,7 @@ pub fn add_each<'a>(
 }
 
 /// Adds parts that are in no line.
-pub fn add_aside<'a>(parts: &mut Vec<Part<'a>>, inner: Vec<Part<'a>>) -> Result<(), AllocError>
+pub fn add_aside<'a>(parts: &mut Parts<'a>, inner: Parts<'a>) -> Added
     ensures { let its = aside (document_of (nodes_of inner.entry.items)) in
         OnOk result (Adds (its ∷ []) parts.old.items parts.new.items) }
 {

@@ -2,7 +2,7 @@
 ghost use Rattle.std.specs.Prelude.{◌≡◌, Some, replicate};
 ghost use Rattle.std.specs.Fmt.{WritesOnOk};
 ghost use Rattle.rpki_document.specs.Documents.{told_text};
-ghost use Rattle.rpki_document.specs.Texts.{two_digits, colons_text, character_text, characters_text, escaped, flag_text, head_text, inner_character_text, inner_text, label_text, printed_character_text, printed_text, separates};
+ghost use Rattle.rpki_document.specs.Texts.{two_digits, colons_text, character_text, characters_text, escaped, escaped_text, escapes, flag_text, further_margin, head_text, label_text, separates};
 ghost use Rattle.rpki_document.specs.Views.{leaf_view};
 
 use crate::parts::Leaf;
@@ -37,66 +37,57 @@ fn write_escaped<W: fmt::Write>(f: &mut fmt::Formatter<W>, octet: u8) -> fmt::Re
     write_octet(f, octet)
 }
 
-fn write_character<W: fmt::Write>(f: &mut fmt::Formatter<W>, octet: u8) -> fmt::Result
-    ensures { WritesOnOk W.write_str_gives f.old result (character_text octet) f.new }
-{
-    if octet > 31 && octet < 127 && octet != b'\\' {
-        f.write_char(char::from(octet))
-    } else {
-        write_escaped(f, octet)
-    }
-}
-
-fn write_characters<W: fmt::Write>(f: &mut fmt::Formatter<W>, octets: &[u8]) -> fmt::Result
-    ensures { WritesOnOk W.write_str_gives f.old result (characters_text octets.now) f.new }
-{
-    for octet in octets {
-        write_character(f, *octet)?;
-    }
-    Ok(())
-}
-
 fn separates(octet: u8) -> bool
     ensures { result ≡ separates octet }
 {
     octet == b':' || octet == b',' || octet == b'>' || octet == b'('
 }
 
-fn write_inner_character<W: fmt::Write>(f: &mut fmt::Formatter<W>, octet: u8) -> fmt::Result
-    ensures { WritesOnOk W.write_str_gives f.old result (inner_character_text octet) f.new }
+// How a text is written in its line: alone there, with more behind it, or with escapes of its own.
+#[derive(Clone, Copy)]
+enum Escape {
+    Text,
+    Inner,
+    Printed,
+}
+
+impl Escape {
+    // Whether a visible octet is escaped too.
+    fn escapes(self, octet: u8) -> bool
+        ensures { result ≡ escapes self octet }
+    {
+        match self {
+            Escape::Text => octet == b'\\',
+            Escape::Inner => octet == b'\\' || separates(octet),
+            Escape::Printed => false,
+        }
+    }
+}
+
+fn write_character<W: fmt::Write>(
+    f: &mut fmt::Formatter<W>,
+    escape: Escape,
+    octet: u8,
+) -> fmt::Result
+    ensures { WritesOnOk W.write_str_gives f.old result (character_text escape octet) f.new }
 {
-    let is_plain = octet > 31 && octet < 127 && octet != b'\\';
-    if is_plain && !separates(octet) {
+    let is_visible = octet > 31 && octet < 127;
+    if is_visible && !escape.escapes(octet) {
         f.write_char(char::from(octet))
     } else {
         write_escaped(f, octet)
     }
 }
 
-fn write_inner<W: fmt::Write>(f: &mut fmt::Formatter<W>, octets: &[u8]) -> fmt::Result
-    ensures { WritesOnOk W.write_str_gives f.old result (inner_text octets.now) f.new }
+fn write_text<W: fmt::Write>(
+    f: &mut fmt::Formatter<W>,
+    escape: Escape,
+    octets: &[u8],
+) -> fmt::Result
+    ensures { WritesOnOk W.write_str_gives f.old result (escaped_text escape octets.now) f.new }
 {
     for octet in octets {
-        write_inner_character(f, *octet)?;
-    }
-    Ok(())
-}
-
-fn write_printed_character<W: fmt::Write>(f: &mut fmt::Formatter<W>, octet: u8) -> fmt::Result
-    ensures { WritesOnOk W.write_str_gives f.old result (printed_character_text octet) f.new }
-{
-    if octet > 31 && octet < 127 {
-        f.write_char(char::from(octet))
-    } else {
-        write_escaped(f, octet)
-    }
-}
-
-fn write_printed<W: fmt::Write>(f: &mut fmt::Formatter<W>, octets: &[u8]) -> fmt::Result
-    ensures { WritesOnOk W.write_str_gives f.old result (printed_text octets.now) f.new }
-{
-    for octet in octets {
-        write_printed_character(f, *octet)?;
+        write_character(f, escape, *octet)?;
     }
     Ok(())
 }
@@ -116,16 +107,16 @@ impl fmt::Display for Leaf<'_> {
 
     fn fmt<W: fmt::Write>(&self, f: &mut fmt::Formatter<W>) -> fmt::Result {
         match self {
-            Leaf::Text(text) => write_characters(f, text.as_bytes()),
-            Leaf::Inner(text) => write_inner(f, text.as_bytes()),
-            Leaf::Characters(octets) => write_characters(f, octets),
-            Leaf::Words(said, _) => write_characters(f, said.as_bytes()),
+            Leaf::Text(text) => write_text(f, Escape::Text, text.as_bytes()),
+            Leaf::Inner(text) => write_text(f, Escape::Inner, text.as_bytes()),
+            Leaf::Characters(octets) => write_text(f, Escape::Text, octets),
+            Leaf::Words(said, _) => write_text(f, Escape::Text, said.as_bytes()),
             Leaf::Count(n) => write!(f, "{n}"),
             Leaf::Octets(octets) => write_colons(f, octets),
             Leaf::Flag(is_so) => write_flag(f, *is_so),
-            Leaf::Own(text) => write_characters(f, text.as_bytes()),
-            Leaf::Printed(text) => write_printed(f, text.as_bytes()),
-            Leaf::Dated(said, _) => write_characters(f, said.as_bytes()),
+            Leaf::Own(text) => write_text(f, Escape::Text, text.as_bytes()),
+            Leaf::Printed(text) => write_text(f, Escape::Printed, text.as_bytes()),
+            Leaf::Dated(said, _) => write_text(f, Escape::Text, said.as_bytes()),
         }
     }
 }
@@ -138,7 +129,7 @@ impl fmt::Display for Characters<'_> {
     ghost output = { λ it. Some (characters_text it.0.now) };
 
     fn fmt<W: fmt::Write>(&self, f: &mut fmt::Formatter<W>) -> fmt::Result {
-        write_characters(f, self.0)
+        write_text(f, Escape::Text, self.0)
     }
 }
 
@@ -187,5 +178,17 @@ impl fmt::Display for Heading<'_> {
     fn fmt<W: fmt::Write>(&self, f: &mut fmt::Formatter<W>) -> fmt::Result {
         f.write_str(self.0)?;
         f.write_str(": ")
+    }
+}
+
+/// Where a further line of a label starts.
+#[derive(Drop)]
+pub struct Margin;
+
+impl fmt::Display for Margin {
+    ghost output = { λ _. Some further_margin };
+
+    fn fmt<W: fmt::Write>(&self, f: &mut fmt::Formatter<W>) -> fmt::Result {
+        f.write_str("                          ")
     }
 }

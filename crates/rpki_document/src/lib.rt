@@ -11,8 +11,8 @@ mod parts;
 pub use as_json::json_of;
 pub use as_text::text_of;
 pub use building::{
-    add_aside, add_each, add_further, add_head, add_inside, add_kept, add_line, add_told,
+    add_aside, add_each, add_further, add_head, add_inside, add_item, add_kept, add_line, add_told,
     add_unsaid,
 };
 pub use leaves::{Characters, Colons};
-pub use parts::{Leaf, Part, Piece};
+pub use parts::{Added, Leaf, Part, Parts, Piece};
