@@ -5,7 +5,7 @@ use Rattle.rpki_folder.specs.declared.bounds.Ended.{Ended}
 use Rattle.rpki_folder.specs.declared.bounds.Ended.TheVariants.{Whole, TooDeep, OutOfSteps}
 use Rattle.rpki_text.specs.Misuses.{IsMisuse}
 use Rattle.rpki_text.specs.MisuseTexts as line
-use Rattle.rpki_text.specs.Pages.{count_text}
+use Rattle.rpki_text.specs.Counts.{count_text}
 use Rattle.rpki_text.specs.declared.command_line.arguments.Misuse as arguments
 use Rattle.rpki_answers.specs.declared.outcomes.Outcome.{Outcome}
 use Rattle.rpki_answers.specs.declared.outcomes.Outcome.TheVariants.{Rejection, WrongUse}

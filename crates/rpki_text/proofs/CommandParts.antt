@@ -2,9 +2,9 @@
 use Rattle.std.specs.Prelude.{codes, Option, Some, None}
 use Rattle.std.specs.List.{before_first}
 use Rattle.std.specs.Str.{bytes_eq}
-use Rattle.std.proofs.Common.{◌≡◌, ◌⊎◌, ◌==◌, ◌<◌, ℕ, Bool, true, false, cond, inl, inr, List, [], ◌∷◌, ◌++◌, length}
-use Rattle.std.proofs.Common.{refl, sym, ap, ◌∙◌, subst, lit<, arith}
-use Rattle.std.proofs.lemmas.Bool.{eqb-true}
+use Rattle.std.proofs.Common.{◌≡◌, ◌⊎◌, ◌&&◌, ◌==◌, ◌<◌, ℕ, Bool, true, false, cond, inl, inr, List, [], ◌∷◌, ◌++◌, length}
+use Rattle.std.proofs.Common.{refl, sym, ap, ◌∙◌, subst, arith}
+use Rattle.std.proofs.lemmas.Bool.{and_parts, eqb-true, false≢true}
 use Rattle.std.proofs.lemmas.Slice.Eq.{bytes_eq-Decides}
 use Rattle.rpki_text.specs.declared.command_line.arguments.Format.{Format}
 use Rattle.rpki_text.specs.declared.command_line.arguments.Format.TheVariants.{Text, Json, JsonLines}
@@ -13,11 +13,11 @@ use Rattle.rpki_text.specs.declared.command_line.arguments.Setting.TheVariants.{
 use Rattle.rpki_text.specs.declared.command_line.arguments.Setting.TheVariants.{MaxSize, Output, ShortOutput, Only}
 use Rattle.rpki_text.specs.CommandLines.{IsFormatName, LinePart, file, list, locator, folder, depth, steps, at_moment}
 use Rattle.rpki_text.specs.CommandLines.{max_size, output, lenient, json, quiet, all, no_names, trust_first, no_crl}
-use Rattle.rpki_text.specs.CommandLines.{strict_exit, only_rejected, help, setting_name, IsPart}
+use Rattle.rpki_text.specs.CommandLines.{strict_exit, only_rejected, help, setting_name, IsPart, IsSwitch}
 use Rattle.rpki_text.specs.WordParts.{BeginsNoPart, IsOption, GivesValue, Joins}
 use Rattle.rpki_text.proofs.JoinedNames.{is_equals}
 use Rattle.rpki_text.proofs.PartsOfWords.{Sort, single, before, joining, Grammar, Shape, IsClear, alone_is, given_is}
-use Rattle.rpki_text.specs.CommandLines.Steps.{IsSetPart, IsSwitch, IsOptionName}
+use Rattle.rpki_text.specs.CommandLines.Steps.{IsSetPart, IsOptionName}
 use Rattle.rpki_text.proofs.OneMoment.{one_moment}
 
 -- ---- the first word
@@ -37,44 +37,34 @@ joining_or : Setting → Option (List ℕ) → LineSort → LineSort
 joining_or setting None sort = sort
 joining_or setting (Some value) sort = joining setting value
 
+-- the words that are an option by themselves, each with its sort
+abbrev alone_sorts : List (List ℕ × LineSort)
+alone_sorts =
+    (codes "--crl", before Crl) ∷ (codes "--tal", before Tal) ∷ (codes "--in", before In)
+    ∷ (codes "--depth", before Depth) ∷ (codes "--steps", before StepCount) ∷ (codes "--at", before At)
+    ∷ (codes "--max-size", before MaxSize) ∷ (codes "--output", before Output) ∷ (codes "-o", before ShortOutput)
+    ∷ (codes "--only", before Only) ∷ (codes "--lenient", single lenient) ∷ (codes "--json", single json)
+    ∷ (codes "-j", single json) ∷ (codes "--quiet", single quiet) ∷ (codes "-q", single quiet) ∷ (codes "--all", single all)
+    ∷ (codes "--no-names", single no_names) ∷ (codes "--trust-first", single trust_first) ∷ (codes "--no-crl", single no_crl)
+    ∷ (codes "--strict-exit", single strict_exit) ∷ (codes "--help", single help) ∷ (codes "-h", single help) ∷ []
+
+abbrev alone_or : List (List ℕ × LineSort) → List ℕ → LineSort → LineSort
+alone_or [] word sort = sort
+alone_or (entry ∷ more) word sort = cond (bytes_eq word entry.0) entry.1 (alone_or more word sort)
+
+-- the options that take a value
+abbrev settings : List Setting
+settings = Crl ∷ Tal ∷ In ∷ Depth ∷ StepCount ∷ At ∷ MaxSize ∷ Output ∷ ShortOutput ∷ Only ∷ []
+
+abbrev joined_or : List Setting → List ℕ → LineSort → LineSort
+joined_or [] word sort = sort
+joined_or (s ∷ more) word sort = joining_or s (stripped (setting_name s ++ codes "=") word) (joined_or more word sort)
+
 -- the sort of a word
 pub sort_of : List ℕ → LineSort
-sort_of word =
-    cond (bytes_eq word (codes "--crl")) (before Crl)
-    (cond (bytes_eq word (codes "--tal")) (before Tal)
-    (cond (bytes_eq word (codes "--in")) (before In)
-    (cond (bytes_eq word (codes "--depth")) (before Depth)
-    (cond (bytes_eq word (codes "--steps")) (before StepCount)
-    (cond (bytes_eq word (codes "--at")) (before At)
-    (cond (bytes_eq word (codes "--max-size")) (before MaxSize)
-    (cond (bytes_eq word (codes "--output")) (before Output)
-    (cond (bytes_eq word (codes "-o")) (before ShortOutput)
-    (cond (bytes_eq word (codes "--only")) (before Only)
-    (cond (bytes_eq word (codes "--lenient")) (single lenient)
-    (cond (bytes_eq word (codes "--json")) (single json)
-    (cond (bytes_eq word (codes "-j")) (single json)
-    (cond (bytes_eq word (codes "--quiet")) (single quiet)
-    (cond (bytes_eq word (codes "-q")) (single quiet)
-    (cond (bytes_eq word (codes "--all")) (single all)
-    (cond (bytes_eq word (codes "--no-names")) (single no_names)
-    (cond (bytes_eq word (codes "--trust-first")) (single trust_first)
-    (cond (bytes_eq word (codes "--no-crl")) (single no_crl)
-    (cond (bytes_eq word (codes "--strict-exit")) (single strict_exit)
-    (cond (bytes_eq word (codes "--help")) (single help)
-    (cond (bytes_eq word (codes "-h")) (single help)
-    (joining_or Crl (stripped (codes "--crl=") word)
-    (joining_or Tal (stripped (codes "--tal=") word)
-    (joining_or In (stripped (codes "--in=") word)
-    (joining_or Depth (stripped (codes "--depth=") word)
-    (joining_or StepCount (stripped (codes "--steps=") word)
-    (joining_or At (stripped (codes "--at=") word)
-    (joining_or MaxSize (stripped (codes "--max-size=") word)
-    (joining_or Output (stripped (codes "--output=") word)
-    (joining_or ShortOutput (stripped (codes "-o=") word)
-    (joining_or Only (stripped (codes "--only=") word)
-    (single (file word)))))))))))))))))))))))))))))))))
+sort_of word = alone_or alone_sorts word (joined_or settings word (single (file word)))
 
--- an option that takes a value
+-- an option that takes a value: by its name, joined to the value, and what stands before its first `=`
 named : (setting : Setting) → sort_of (setting_name setting) ≡ before setting
 unfolding sort_of
 named Crl = refl
@@ -88,32 +78,27 @@ named Output = refl
 named ShortOutput = refl
 named Only = refl
 
-joined : (setting : Setting) (value : List ℕ) → sort_of (setting_name setting ++ codes "=" ++ value) ≡ joining setting value
+joined_front : (setting : Setting) (value : List ℕ) →
+    (sort_of (setting_name setting ++ codes "=" ++ value) ≡ joining setting value)
+    × (before_first is_equals (setting_name setting ++ codes "=" ++ value) ≡ setting_name setting)
 unfolding sort_of stripped joining_or
-joined Crl value = refl
-joined Tal value = refl
-joined In value = refl
-joined Depth value = refl
-joined StepCount value = refl
-joined At value = refl
-joined MaxSize value = refl
-joined Output value = refl
-joined ShortOutput value = refl
-joined Only value = refl
+joined_front Crl value = (refl, refl)
+joined_front Tal value = (refl, refl)
+joined_front In value = (refl, refl)
+joined_front Depth value = (refl, refl)
+joined_front StepCount value = (refl, refl)
+joined_front At value = (refl, refl)
+joined_front MaxSize value = (refl, refl)
+joined_front Output value = (refl, refl)
+joined_front ShortOutput value = (refl, refl)
+joined_front Only value = (refl, refl)
 
--- what stands before its first `=` is its name
+joined : (setting : Setting) (value : List ℕ) → sort_of (setting_name setting ++ codes "=" ++ value) ≡ joining setting value
+joined setting value = (joined_front setting value).0
+
 pub front_is : (setting : Setting) (value : List ℕ) →
     before_first is_equals (setting_name setting ++ codes "=" ++ value) ≡ setting_name setting
-front_is Crl value = refl
-front_is Tal value = refl
-front_is In value = refl
-front_is Depth value = refl
-front_is StepCount value = refl
-front_is At value = refl
-front_is MaxSize value = refl
-front_is Output value = refl
-front_is ShortOutput value = refl
-front_is Only value = refl
+front_is setting value = (joined_front setting value).1
 
 -- a file isn't this option
 unlike : (word option : List ℕ) → (IsOption word → ⊥) → IsOption option → bytes_eq word option ≡ false
@@ -142,44 +127,52 @@ not_stripped c cs (w ∷ []) not_option = either_none (w == 45) _ refl
 not_stripped c cs (w ∷ v ∷ ws) not_option =
     none_if (w == 45) _ (λ same. let long : 1 < length (w ∷ v ∷ ws) = omega arith in not_option (eqb-true w 45 same, long))
 
+-- nor with an option and `=`
+not_joined : (setting : Setting) (word : List ℕ) → (IsOption word → ⊥) → stripped (setting_name setting ++ codes "=") word ≡ None
+not_joined Crl word not_option = not_stripped 45 (codes "crl=") word not_option
+not_joined Tal word not_option = not_stripped 45 (codes "tal=") word not_option
+not_joined In word not_option = not_stripped 45 (codes "in=") word not_option
+not_joined Depth word not_option = not_stripped 45 (codes "depth=") word not_option
+not_joined StepCount word not_option = not_stripped 45 (codes "steps=") word not_option
+not_joined At word not_option = not_stripped 45 (codes "at=") word not_option
+not_joined MaxSize word not_option = not_stripped 45 (codes "max-size=") word not_option
+not_joined Output word not_option = not_stripped 45 (codes "output=") word not_option
+not_joined ShortOutput word not_option = not_stripped 111 (codes "=") word not_option
+not_joined Only word not_option = not_stripped 45 (codes "only=") word not_option
+
+-- a hyphen and something behind it
+hyphened : List ℕ → Bool
+hyphened (c ∷ d ∷ more) = c == 45
+hyphened _ = false
+
+hyphened_is : (word : List ℕ) → hyphened word ≡ true → IsOption word
+unfolding hyphened
+hyphened_is [] is = absurd (false≢true is)
+hyphened_is (c ∷ []) is = absurd (false≢true is)
+hyphened_is (c ∷ d ∷ more) is = let long : 1 < length (c ∷ d ∷ more) = omega arith in (eqb-true c 45 is, long)
+
+abbrev all_hyphened : List (List ℕ × LineSort) → Bool
+all_hyphened [] = true
+all_hyphened (entry ∷ more) = hyphened entry.0 && all_hyphened more
+
+module _ (word : List ℕ) (not_option : IsOption word → ⊥) (sort : LineSort) where
+  none_alone : (entries : List (List ℕ × LineSort)) → all_hyphened entries ≡ true → alone_or entries word sort ≡ sort
+  none_alone [] are = refl
+  none_alone (entry ∷ more) are =
+      let parts = and_parts (hyphened entry.0) (all_hyphened more) are in
+      rw (unlike word entry.0 not_option (hyphened_is entry.0 parts.0)) (none_alone more parts.1)
+
+  none_joined : (some : List Setting) → joined_or some word sort ≡ sort
+  unfolding joining_or
+  none_joined [] = refl
+  none_joined (s ∷ more) = rw (not_joined s word not_option) (none_joined more)
+
 -- a file is a part by itself
 file_sort : (word : List ℕ) → (IsOption word → ⊥) → sort_of word ≡ single (file word)
-unfolding sort_of joining_or
+unfolding sort_of hyphened
 file_sort word not_option =
-    rw (
-      unlike word (codes "--crl") not_option (refl, lit< tt),
-      unlike word (codes "--tal") not_option (refl, lit< tt),
-      unlike word (codes "--in") not_option (refl, lit< tt),
-      unlike word (codes "--depth") not_option (refl, lit< tt),
-      unlike word (codes "--steps") not_option (refl, lit< tt),
-      unlike word (codes "--at") not_option (refl, lit< tt),
-      unlike word (codes "--max-size") not_option (refl, lit< tt),
-      unlike word (codes "--output") not_option (refl, lit< tt),
-      unlike word (codes "-o") not_option (refl, lit< tt),
-      unlike word (codes "--only") not_option (refl, lit< tt),
-      unlike word (codes "--lenient") not_option (refl, lit< tt),
-      unlike word (codes "--json") not_option (refl, lit< tt),
-      unlike word (codes "-j") not_option (refl, lit< tt),
-      unlike word (codes "--quiet") not_option (refl, lit< tt),
-      unlike word (codes "-q") not_option (refl, lit< tt),
-      unlike word (codes "--all") not_option (refl, lit< tt),
-      unlike word (codes "--no-names") not_option (refl, lit< tt),
-      unlike word (codes "--trust-first") not_option (refl, lit< tt),
-      unlike word (codes "--no-crl") not_option (refl, lit< tt),
-      unlike word (codes "--strict-exit") not_option (refl, lit< tt),
-      unlike word (codes "--help") not_option (refl, lit< tt),
-      unlike word (codes "-h") not_option (refl, lit< tt),
-      not_stripped 45 (codes "crl=") word not_option,
-      not_stripped 45 (codes "tal=") word not_option,
-      not_stripped 45 (codes "in=") word not_option,
-      not_stripped 45 (codes "depth=") word not_option,
-      not_stripped 45 (codes "steps=") word not_option,
-      not_stripped 45 (codes "at=") word not_option,
-      not_stripped 45 (codes "max-size=") word not_option,
-      not_stripped 45 (codes "output=") word not_option,
-      not_stripped 111 (codes "=") word not_option,
-      not_stripped 45 (codes "only=") word not_option,
-    ) refl
+    none_alone word not_option (joined_or settings word (single (file word))) alone_sorts refl
+    ∙ none_joined word not_option (single (file word)) settings
 
 -- ---- a part
 
@@ -231,6 +224,23 @@ given_format : (f : Format) (text : List ℕ) (words : List (List ℕ)) → IsFo
 given_format f text words is (inl h) = line_given Output text (output f) words (f, refl, is) h
 given_format f text words is (inr h) = line_given ShortOutput text (output f) words (f, refl, is) h
 
+-- an option that takes none
+switch_sort : (part : LinePart) (word : List ℕ) → IsSwitch part word → sort_of word ≡ single part
+unfolding sort_of
+switch_sort lenient word is = ap sort_of is
+switch_sort json word (inl is) = ap sort_of is
+switch_sort json word (inr is) = ap sort_of is
+switch_sort quiet word (inl is) = ap sort_of is
+switch_sort quiet word (inr is) = ap sort_of is
+switch_sort all word is = ap sort_of is
+switch_sort no_names word is = ap sort_of is
+switch_sort trust_first word is = ap sort_of is
+switch_sort no_crl word is = ap sort_of is
+switch_sort strict_exit word is = ap sort_of is
+switch_sort help word (inl is) = ap sort_of is
+switch_sort help word (inr is) = ap sort_of is
+switch_sort _ word is = absurd is
+
 -- the words of a part have its shape
 shape : (part : LinePart) (words : List (List ℕ)) → IsPart part words → Shape line_grammar part words
 unfolding sort_of
@@ -243,19 +253,8 @@ shape (depth n) words h = line_given Depth h.0 (depth n) words (n, refl, h.2) h.
 shape (steps n) words h = line_given StepCount h.0 (steps n) words (n, refl, h.2) h.1
 shape (max_size n) words h = line_given MaxSize h.0 (max_size n) words (n, refl, h.2) h.1
 shape (output f) words h = given_format f h.0 words h.2 h.1
-shape lenient words h = alone_is line_grammar lenient words (codes "--lenient") h refl
-shape json words (inl h) = alone_is line_grammar json words (codes "--json") h refl
-shape json words (inr h) = alone_is line_grammar json words (codes "-j") h refl
-shape quiet words (inl h) = alone_is line_grammar quiet words (codes "--quiet") h refl
-shape quiet words (inr h) = alone_is line_grammar quiet words (codes "-q") h refl
-shape all words h = alone_is line_grammar all words (codes "--all") h refl
-shape no_names words h = alone_is line_grammar no_names words (codes "--no-names") h refl
-shape trust_first words h = alone_is line_grammar trust_first words (codes "--trust-first") h refl
-shape no_crl words h = alone_is line_grammar no_crl words (codes "--no-crl") h refl
-shape strict_exit words h = alone_is line_grammar strict_exit words (codes "--strict-exit") h refl
 shape only_rejected words h = line_given Only (codes "rejected") only_rejected words (refl, refl) h
-shape help words (inl h) = alone_is line_grammar help words (codes "--help") h refl
-shape help words (inr h) = alone_is line_grammar help words (codes "-h") h refl
+shape part words h = alone_is line_grammar part words h.0 h.1 (switch_sort part h.0 h.2)
 
 -- an option with its value is a part
 set_is_part : (setting : Setting) (value : List ℕ) (part : LinePart) (words : List (List ℕ)) →
@@ -298,16 +297,8 @@ module _ (word : List ℕ) (is_option : IsOption word) (unnamed : (setting : Set
   no_option (max_size n) its behind rest is e = not_given MaxSize is.0 its behind rest is.1 e
   no_option (output f) its behind rest (text, inl is, named) e = not_given Output text its behind rest is e
   no_option (output f) its behind rest (text, inr is, named) e = not_given ShortOutput text its behind rest is e
-  no_option lenient its behind rest is e = no_switch lenient cc
-  no_option json its behind rest (inl is) e = no_switch json (inl cc)
-  no_option json its behind rest (inr is) e = no_switch json (inr cc)
-  no_option quiet its behind rest (inl is) e = no_switch quiet (inl cc)
-  no_option quiet its behind rest (inr is) e = no_switch quiet (inr cc)
-  no_option all its behind rest is e = no_switch all cc
-  no_option no_names its behind rest is e = no_switch no_names cc
-  no_option trust_first its behind rest is e = no_switch trust_first cc
-  no_option no_crl its behind rest is e = no_switch no_crl cc
-  no_option strict_exit its behind rest is e = no_switch strict_exit cc
   no_option only_rejected its behind rest is e = not_given Only (codes "rejected") its behind rest is e
-  no_option help its behind rest (inl is) e = no_switch help (inl cc)
-  no_option help its behind rest (inr is) e = no_switch help (inr cc)
+  no_option part its behind rest is e =
+      let its_is : its ≡ is.0 ∷ [] = is.1 in
+      let same : word ≡ is.0 = cc in
+      no_switch part (subst (λ (w : List ℕ). IsSwitch part w) (sym same) is.2)

@@ -10,10 +10,10 @@ use Rattle.rpki_text.specs.declared.command_line.arguments.Misuse.{Misuse}
 use Rattle.rpki_text.specs.declared.command_line.arguments.Misuse.TheVariants.{Unknown, NoValue, WrongValue}
 use Rattle.rpki_text.specs.declared.command_line.arguments.Setting.{Setting}
 use Rattle.rpki_text.specs.declared.command_line.arguments.Setting.TheVariants.{At, MaxSize, Only}
-use Rattle.rpki_text.specs.CommandLines.{IsFormatName, IsCountText, IsPart, LinePart, lenient, json, quiet, all}
-use Rattle.rpki_text.specs.CommandLines.{no_names, trust_first, no_crl, strict_exit, help, AreParts, RequestFields}
-use Rattle.rpki_text.specs.CommandLines.{setting_name, with_part}
-use Rattle.rpki_text.specs.CommandLines.Steps.{IsOptionName, IsSetPart, IsSwitch}
+use Rattle.rpki_text.specs.CommandLines.{IsFormatName, IsCountText, IsPart, IsSwitch, LinePart, file, list, locator}
+use Rattle.rpki_text.specs.CommandLines.{folder, at_moment, depth, steps, max_size, output, only_rejected, AreParts}
+use Rattle.rpki_text.specs.CommandLines.{RequestFields, setting_name, with_part}
+use Rattle.rpki_text.specs.CommandLines.Steps.{IsOptionName, IsSetPart}
 use Rattle.rpki_text.specs.CommandLines.Views.{word_octets}
 use Rattle.rpki_text.specs.Misuses.{BeginsWithOption, IsUnknownOption, IsWrongFirst}
 use Rattle.rpki_text.specs.Misuses.Steps.{IsBound, NamesFormat, TellsValue, TellsWord}
@@ -102,19 +102,17 @@ module _ {Z : Type 0} (words : List (Vec ℕ Z)) (i : ℕ) (word : Vec ℕ Z) (l
 
 -- an option that takes no value is a part by itself
 switch_part : (part : LinePart) (word : List ℕ) → IsSwitch part word → IsPart part (word ∷ [])
-switch_part lenient word is = ap (λ (w : List ℕ). w ∷ []) is
-switch_part json word (inl is) = inl (ap (λ (w : List ℕ). w ∷ []) is)
-switch_part json word (inr is) = inr (ap (λ (w : List ℕ). w ∷ []) is)
-switch_part quiet word (inl is) = inl (ap (λ (w : List ℕ). w ∷ []) is)
-switch_part quiet word (inr is) = inr (ap (λ (w : List ℕ). w ∷ []) is)
-switch_part all word is = ap (λ (w : List ℕ). w ∷ []) is
-switch_part no_names word is = ap (λ (w : List ℕ). w ∷ []) is
-switch_part trust_first word is = ap (λ (w : List ℕ). w ∷ []) is
-switch_part no_crl word is = ap (λ (w : List ℕ). w ∷ []) is
-switch_part strict_exit word is = ap (λ (w : List ℕ). w ∷ []) is
-switch_part help word (inl is) = inl (ap (λ (w : List ℕ). w ∷ []) is)
-switch_part help word (inr is) = inr (ap (λ (w : List ℕ). w ∷ []) is)
-switch_part _ word is = absurd is
+switch_part (file name) word is = absurd is
+switch_part (list name) word is = absurd is
+switch_part (locator name) word is = absurd is
+switch_part (folder name) word is = absurd is
+switch_part (at_moment m) word is = absurd is
+switch_part (depth n) word is = absurd is
+switch_part (steps n) word is = absurd is
+switch_part (max_size n) word is = absurd is
+switch_part (output f) word is = absurd is
+switch_part only_rejected word is = absurd is
+switch_part part word is = (word, refl, is)
 
 -- an option that there isn't begins no part
 no_unknown : (word : List ℕ) → IsUnknownOption word → BeginsNoPart IsPart (word ∷ [])

@@ -57,6 +57,19 @@ pub data LinePart : Type 0 where
   output : Format → LinePart
   lenient json quiet all no_names trust_first no_crl strict_exit only_rejected help : LinePart
 
+-- the word is this option, which takes no value
+abbrev pub IsSwitch : LinePart → List ℕ → Type 0
+IsSwitch lenient word = word ≡ codes "--lenient"
+IsSwitch json word = (word ≡ codes "--json") ⊎ (word ≡ codes "-j")
+IsSwitch quiet word = (word ≡ codes "--quiet") ⊎ (word ≡ codes "-q")
+IsSwitch all word = word ≡ codes "--all"
+IsSwitch no_names word = word ≡ codes "--no-names"
+IsSwitch trust_first word = word ≡ codes "--trust-first"
+IsSwitch no_crl word = word ≡ codes "--no-crl"
+IsSwitch strict_exit word = word ≡ codes "--strict-exit"
+IsSwitch help word = (word ≡ codes "--help") ⊎ (word ≡ codes "-h")
+IsSwitch _ word = ⊥
+
 -- the words are this part
 abbrev pub IsPart : LinePart → List (List ℕ) → Type 0
 IsPart (file name) words = (words ≡ name ∷ []) × (IsOption name → ⊥)
@@ -75,16 +88,8 @@ IsPart (output f) words =
     (text : List ℕ)
     × (GivesValue (setting_name Output) text words
     ⊎ GivesValue (setting_name ShortOutput) text words) × IsFormatName f text
-IsPart lenient words = words ≡ codes "--lenient" ∷ []
-IsPart json words = (words ≡ codes "--json" ∷ []) ⊎ (words ≡ codes "-j" ∷ [])
-IsPart quiet words = (words ≡ codes "--quiet" ∷ []) ⊎ (words ≡ codes "-q" ∷ [])
-IsPart all words = words ≡ codes "--all" ∷ []
-IsPart no_names words = words ≡ codes "--no-names" ∷ []
-IsPart trust_first words = words ≡ codes "--trust-first" ∷ []
-IsPart no_crl words = words ≡ codes "--no-crl" ∷ []
-IsPart strict_exit words = words ≡ codes "--strict-exit" ∷ []
 IsPart only_rejected words = GivesValue (setting_name Only) (codes "rejected") words
-IsPart help words = (words ≡ codes "--help" ∷ []) ⊎ (words ≡ codes "-h" ∷ [])
+IsPart part words = (word : List ℕ) × (words ≡ word ∷ []) × IsSwitch part word
 
 -- the words are these parts, in any order
 abbrev pub AreParts : List LinePart → List (List ℕ) → Type 0

@@ -2,7 +2,7 @@
 
 -- ---- certificates and lists as text
 pub mod MomentTexts
-pub mod Pages
+pub mod Counts
 pub mod IdentifierTexts
 pub mod Periods
 pub mod BlockLines

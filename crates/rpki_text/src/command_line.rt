@@ -4,5 +4,7 @@
 
 mod arguments;
 pub mod parts;
+mod suiting;
+mod words;
 
 pub use arguments::{Format, Misuse, Request, Setting, Task, read_words};

@@ -1,6 +1,6 @@
 //! Numbers with the name of what is counted.
 ghost use Rattle.std.specs.Prelude.{Some};
-ghost use Rattle.rpki_text.specs.Pages.{count_text};
+ghost use Rattle.rpki_text.specs.Counts.{count_text};
 
 use std::fmt;
 

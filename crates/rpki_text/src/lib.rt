@@ -10,8 +10,6 @@ mod identifiers;
 pub mod keys;
 pub mod moments;
 pub mod notes;
-mod page;
 
 pub use counts::Count;
 pub use identifiers::Identifier;
-pub use page::Page;

@@ -1,5 +1,5 @@
 -- What the functions that read a command line say of an option.
-use Rattle.std.specs.Prelude.{◌≡◌, ◌⊎◌, ℕ, List, codes}
+use Rattle.std.specs.Prelude.{◌≡◌, ℕ, List, codes}
 use Rattle.rpki_der.specs.Times.{Moment, IsMoment}
 use Rattle.rpki_text.specs.MomentTexts.{IsMomentText}
 use Rattle.rpki_text.specs.declared.command_line.arguments.Format.{Format}
@@ -7,9 +7,8 @@ use Rattle.rpki_text.specs.declared.command_line.arguments.Setting.{Setting}
 use Rattle.rpki_text.specs.declared.command_line.arguments.Setting.TheVariants.{Crl, Tal, In, Depth, StepCount, At}
 use Rattle.rpki_text.specs.declared.command_line.arguments.Setting.TheVariants.{MaxSize, Output, ShortOutput, Only}
 use Rattle.rpki_text.specs.CommandLines.{IsFormatName, IsCountText, LinePart, list, locator, folder, depth, steps}
-use Rattle.rpki_text.specs.CommandLines.{at_moment, max_size, output, lenient, json, quiet, all, no_names}
-use Rattle.rpki_text.specs.CommandLines.{trust_first, no_crl, strict_exit, only_rejected, help, RequestFields}
-use Rattle.rpki_text.specs.CommandLines.{setting_name, with_part}
+use Rattle.rpki_text.specs.CommandLines.{at_moment, max_size, output, only_rejected, RequestFields, setting_name}
+use Rattle.rpki_text.specs.CommandLines.{with_part}
 
 -- ---- options that take a value
 
@@ -34,18 +33,3 @@ IsSetPart Only value part = (part ≡ only_rejected) × (value ≡ codes "reject
 abbrev pub AddsSet : Setting → List ℕ → RequestFields → RequestFields → Type 0
 AddsSet setting value old new =
     (part : LinePart) × IsSetPart setting value part × (new ≡ with_part old part)
-
--- ---- options that take none
-
--- the word is this option, which takes no value
-abbrev pub IsSwitch : LinePart → List ℕ → Type 0
-IsSwitch lenient word = word ≡ codes "--lenient"
-IsSwitch json word = (word ≡ codes "--json") ⊎ (word ≡ codes "-j")
-IsSwitch quiet word = (word ≡ codes "--quiet") ⊎ (word ≡ codes "-q")
-IsSwitch all word = word ≡ codes "--all"
-IsSwitch no_names word = word ≡ codes "--no-names"
-IsSwitch trust_first word = word ≡ codes "--trust-first"
-IsSwitch no_crl word = word ≡ codes "--no-crl"
-IsSwitch strict_exit word = word ≡ codes "--strict-exit"
-IsSwitch help word = (word ≡ codes "--help") ⊎ (word ≡ codes "-h")
-IsSwitch _ word = ⊥

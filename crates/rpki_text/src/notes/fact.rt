@@ -1,4 +1,5 @@
 //! What a certificate has beside the fields that readers keep.
+use std::alloc::AllocError;
 
 /// The subject of a fact.
 #[derive(Clone, Copy, PartialEq, Eq)]
@@ -32,3 +33,9 @@ pub struct Fact<'a> {
     pub kind: FactKind,
     pub octets: &'a [u8],
 }
+
+/// The facts that are gathered so far.
+pub(crate) type Facts<'a> = Vec<Fact<'a>>;
+
+/// What a call that adds facts returns: an error only if memory runs out.
+pub(crate) type Put = Result<(), AllocError>;

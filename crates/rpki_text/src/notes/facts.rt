@@ -10,7 +10,7 @@ ghost use Rattle.rpki_text.specs.Facts.{AreFacts, fact_view, facts_in, facts_of,
 ghost use Rattle.rpki_text.specs.Qualifiers.{id_qt_cps};
 
 use crate::notes::contents::{content, next_extension};
-use crate::notes::fact::{Fact, FactKind};
+use crate::notes::fact::{Fact, FactKind, Facts, Put};
 use crate::notes::further::{put_access, put_fact, put_issuers, put_lists};
 use bytes::Bytes;
 use rpki_cert::{Cert, TbsCert};
@@ -55,7 +55,7 @@ fn statement_in<'a>(policies: &Cursor<'a>) -> Option<&'a [u8]>
 }
 
 // Adds the statement of practices, where there is one.
-fn put_statement<'a>(facts: &mut Vec<Fact<'a>>, policies: &Cursor<'a>) -> Result<(), AllocError>
+fn put_statement<'a>(facts: &mut Facts<'a>, policies: &Cursor<'a>) -> Put
     ensures { let more = statement_facts (statement_at (remaining policies.now)) in
         OnOk result (map fact_view facts.new.items ≡ map fact_view facts.old.items ++ more) }
 {
@@ -95,12 +95,7 @@ impl Source {
 }
 
 // Adds what the content of an extension of a known kind says.
-fn put_known<'a>(
-    facts: &mut Vec<Fact<'a>>,
-    tbs: &TbsCert,
-    source: Source,
-    content: &Cursor<'a>,
-) -> Result<(), AllocError>
+fn put_known<'a>(facts: &mut Facts<'a>, tbs: &TbsCert, source: Source, content: &Cursor<'a>) -> Put
     ensures { let more = known_facts tbs.now.extensions source (remaining content.now) in
         OnOk result (map fact_view facts.new.items ≡ map fact_view facts.old.items ++ more) }
 {
@@ -121,10 +116,10 @@ fn put_known<'a>(
 
 // Adds what an extension says.
 fn put_extension<'a>(
-    facts: &mut Vec<Fact<'a>>,
+    facts: &mut Facts<'a>,
     tbs: &TbsCert,
     extension: (&'a [u8], bool, Cursor<'a>),
-) -> Result<(), AllocError>
+) -> Put
     ensures { let more = facts_in tbs.now.extensions (extension_view extension.entry) in
         OnOk result (map fact_view facts.new.items ≡ map fact_view facts.old.items ++ more) }
 {
@@ -141,7 +136,7 @@ fn facts_among<'a>(
     alloc: Global,
     tbs: &TbsCert,
     elements: &Cursor<'a>,
-) -> Result<Vec<Fact<'a>>, AllocError>
+) -> Result<Facts<'a>, AllocError>
     ensures { (xs : List Extension) → AreEncodings IsExtension xs (remaining elements.now)
         → IfOk result (λ facts. map fact_view facts.items ≡ facts_of tbs.now.extensions xs) }
 {
@@ -154,11 +149,7 @@ fn facts_among<'a>(
 }
 
 // What the extensions say of the certificate that these octets begin with.
-fn facts_within<'a>(
-    alloc: Global,
-    octets: &'a Bytes,
-    cert: &Cert,
-) -> Result<Vec<Fact<'a>>, AllocError>
+fn facts_within<'a>(alloc: Global, octets: &'a Bytes, cert: &Cert) -> Result<Facts<'a>, AllocError>
     requires { Means IsCertificate cert.now octets.now }
     ensures { IfOk result (λ facts. AreFacts octets.now (map fact_view facts.items)) }
 {

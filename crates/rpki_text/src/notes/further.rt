@@ -8,17 +8,12 @@ ghost use Rattle.rpki_text.specs.Facts.{URI, access_facts, description_facts, de
 ghost use Rattle.rpki_text.specs.declared.notes.fact.FactKind.TheVariants.{FurtherIssuer, FurtherList};
 
 use crate::notes::contents::{URI, content};
-use crate::notes::fact::{Fact, FactKind};
+use crate::notes::fact::{Fact, FactKind, Facts, Put};
 use rpki_cert::TbsCert;
 use rpki_der::{Cursor, oid, tag};
-use std::alloc::AllocError;
 
 /// Adds a fact.
-pub(crate) fn put_fact<'a>(
-    facts: &mut Vec<Fact<'a>>,
-    kind: FactKind,
-    octets: &'a [u8],
-) -> Result<(), AllocError>
+pub(crate) fn put_fact<'a>(facts: &mut Facts<'a>, kind: FactKind, octets: &'a [u8]) -> Put
     ensures { OnOk result (map fact_view facts.new.items
         ≡ map fact_view facts.old.items ++ one_fact kind octets.now) }
 {
@@ -37,12 +32,7 @@ fn is_kept(kept: Option<&[u8]>, uri: &[u8]) -> bool
 }
 
 // Adds a URI, where it isn't the one that is kept.
-fn put_further<'a>(
-    facts: &mut Vec<Fact<'a>>,
-    kind: FactKind,
-    kept: Option<&[u8]>,
-    uri: &'a [u8],
-) -> Result<(), AllocError>
+fn put_further<'a>(facts: &mut Facts<'a>, kind: FactKind, kept: Option<&[u8]>, uri: &'a [u8]) -> Put
     ensures { let more = further_if kind (option_copied kept.entry) uri.now in
         OnOk result (map fact_view facts.new.items ≡ map fact_view facts.old.items ++ more) }
 {
@@ -55,11 +45,11 @@ fn put_further<'a>(
 
 // Adds the URIs among names that aren't kept.
 fn put_names<'a>(
-    facts: &mut Vec<Fact<'a>>,
+    facts: &mut Facts<'a>,
     kind: FactKind,
     kept: Option<&[u8]>,
     names: &Cursor<'a>,
-) -> Result<(), AllocError>
+) -> Put
     ensures { let more = further_names kind (option_copied kept.entry) (remaining names.now) in
         OnOk result (map fact_view facts.new.items ≡ map fact_view facts.old.items ++ more) }
 {
@@ -95,11 +85,7 @@ fn issuer_names<'a>(descriptions: &Cursor<'a>) -> Option<Cursor<'a>>
 }
 
 /// Adds the URIs of CRL Distribution Points that aren't kept (RFC 6487 4.8.6).
-pub(crate) fn put_lists<'a>(
-    facts: &mut Vec<Fact<'a>>,
-    kept: Option<&[u8]>,
-    points: &Cursor<'a>,
-) -> Result<(), AllocError>
+pub(crate) fn put_lists<'a>(facts: &mut Facts<'a>, kept: Option<&[u8]>, points: &Cursor<'a>) -> Put
     ensures { let names = point_names (remaining points.now) in
         let more = further_names_if FurtherList (option_copied kept.entry) names in
         OnOk result (map fact_view facts.new.items ≡ map fact_view facts.old.items ++ more) }
@@ -112,10 +98,10 @@ pub(crate) fn put_lists<'a>(
 
 /// Adds the URIs of Authority Information Access that aren't kept (RFC 6487 4.8.7).
 pub(crate) fn put_issuers<'a>(
-    facts: &mut Vec<Fact<'a>>,
+    facts: &mut Facts<'a>,
     kept: Option<&[u8]>,
     descriptions: &Cursor<'a>,
-) -> Result<(), AllocError>
+) -> Put
     ensures { let names = issuer_names (remaining descriptions.now) in
         let more = further_names_if FurtherIssuer (option_copied kept.entry) names in
         OnOk result (map fact_view facts.new.items ≡ map fact_view facts.old.items ++ more) }
@@ -149,11 +135,11 @@ fn kept_by<'a>(tbs: &'a TbsCert, method: &[u8]) -> Option<(FactKind, Option<&'a 
 
 // Adds the URI that stands first, where it isn't the one that is kept.
 fn put_first<'a>(
-    facts: &mut Vec<Fact<'a>>,
+    facts: &mut Facts<'a>,
     kind: FactKind,
     kept: Option<&[u8]>,
     location: &Cursor<'a>,
-) -> Result<(), AllocError>
+) -> Put
     ensures { let first = value_at URI (remaining location.now) in
         let more = further_at kind (option_copied kept.entry) first in
         OnOk result (map fact_view facts.new.items ≡ map fact_view facts.old.items ++ more) }
@@ -167,11 +153,11 @@ fn put_first<'a>(
 
 // Adds the location behind a method that is known, or an unknown method and its URI.
 fn put_location<'a>(
-    facts: &mut Vec<Fact<'a>>,
+    facts: &mut Facts<'a>,
     kept: Option<(FactKind, Option<&[u8]>)>,
     method: &'a [u8],
     location: &Cursor<'a>,
-) -> Result<(), AllocError>
+) -> Put
     ensures { let by = option_map kept_view kept.entry in
         let more = location_facts by method.now (remaining location.now) in
         OnOk result (map fact_view facts.new.items ≡ map fact_view facts.old.items ++ more) }
@@ -186,11 +172,7 @@ fn put_location<'a>(
 }
 
 // Adds what a description says: a method and a location.
-fn put_description<'a>(
-    facts: &mut Vec<Fact<'a>>,
-    tbs: &TbsCert,
-    description: &Cursor<'a>,
-) -> Result<(), AllocError>
+fn put_description<'a>(facts: &mut Facts<'a>, tbs: &TbsCert, description: &Cursor<'a>) -> Put
     ensures { let more = description_facts tbs.now.extensions.access (remaining description.now) in
         OnOk result (map fact_view facts.new.items ≡ map fact_view facts.old.items ++ more) }
 {
@@ -205,11 +187,7 @@ fn put_description<'a>(
 }
 
 // Adds what descriptions say, one after the other.
-fn put_descriptions<'a>(
-    facts: &mut Vec<Fact<'a>>,
-    tbs: &TbsCert,
-    descriptions: &Cursor<'a>,
-) -> Result<(), AllocError>
+fn put_descriptions<'a>(facts: &mut Facts<'a>, tbs: &TbsCert, descriptions: &Cursor<'a>) -> Put
     ensures { let access = tbs.now.extensions.access in
         let more = descriptions_facts access (remaining descriptions.now) in
         OnOk result (map fact_view facts.new.items ≡ map fact_view facts.old.items ++ more) }
@@ -223,11 +201,7 @@ fn put_descriptions<'a>(
 
 /// Adds the URIs of Subject Information Access that aren't kept, and its unknown methods (RFC 6487
 /// 4.8.8).
-pub(crate) fn put_access<'a>(
-    facts: &mut Vec<Fact<'a>>,
-    tbs: &TbsCert,
-    access: &Cursor<'a>,
-) -> Result<(), AllocError>
+pub(crate) fn put_access<'a>(facts: &mut Facts<'a>, tbs: &TbsCert, access: &Cursor<'a>) -> Put
     ensures { let descriptions = value_at SEQUENCE (remaining access.now) in
         let more = access_facts tbs.now.extensions.access descriptions in
         OnOk result (map fact_view facts.new.items ≡ map fact_view facts.old.items ++ more) }

@@ -1,7 +1,7 @@
 use Rattle.std.proofs.Common.{refl}
 use Rattle.rpki_text.specs.CommandLines.{output}
 use Rattle.rpki_text.proofs.WrongWords.{no_format, value_told}
-use Rattle.rpki_text.proofs.command_line.arguments.add_format.Goals as goal
+use Rattle.rpki_text.proofs.command_line.words.add_format.Goals as goal
 
 pub returns-in-Some-clause-added : goal.returns-in-Some-clause-added
 returns-in-Some-clause-added c =

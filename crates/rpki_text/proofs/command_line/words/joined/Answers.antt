@@ -2,7 +2,7 @@ use Rattle.std.proofs.Common.{◌≡◌, take, arith}
 use Rattle.rpki_text.specs.CommandLines.{setting_name}
 use Rattle.rpki_text.proofs.CommandParts.{front_is}
 use Rattle.rpki_text.proofs.JoinedNames.{name_before}
-use Rattle.rpki_text.proofs.command_line.arguments.joined.Goals as goal
+use Rattle.rpki_text.proofs.command_line.words.joined.Goals as goal
 
 pub returns-in-None-clause-unknown : goal.returns-in-None-clause-unknown
 returns-in-None-clause-unknown c = λ setting value joins.

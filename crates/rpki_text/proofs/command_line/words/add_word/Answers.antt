@@ -8,7 +8,7 @@ use Rattle.rpki_text.proofs.AddedParts.{file_added}
 use Rattle.rpki_text.proofs.CommandParts.{line_grammar, line_clear}
 use Rattle.rpki_text.proofs.WordByWord.{joined_added}
 use Rattle.rpki_text.proofs.WrongWords.{unknown_option, word_joined}
-use Rattle.rpki_text.proofs.command_line.arguments.add_word.Goals as goal
+use Rattle.rpki_text.proofs.command_line.words.add_word.Goals as goal
 
 pub returns-then-not-is_option-clause-added : goal.returns-then-not-is_option-clause-added
 returns-then-not-is_option-clause-added c =

@@ -3,7 +3,7 @@ use Rattle.rpki_text.specs.CommandLines.{with_part}
 use Rattle.rpki_text.specs.CommandLines.Views.{word_octets, fields_of}
 use Rattle.rpki_text.proofs.CommandParts.{line_grammar}
 use Rattle.rpki_text.proofs.WordByWord.{AreAdded}
-use Rattle.rpki_text.proofs.command_line.arguments.add_words.Given as goal
+use Rattle.rpki_text.proofs.command_line.words.add_words.Given as goal
 
 abbrev pub invariant-loop-word : goal.invariant-loop-word
 invariant-loop-word l =

@@ -3,7 +3,7 @@ use Rattle.std.proofs.lemmas.Bool.{false≢true}
 use Rattle.rpki_text.specs.CommandLines.{only_rejected}
 use Rattle.rpki_text.proofs.WrongWords.{not_only, value_told}
 use Rattle.rpki_text.specs.declared.command_line.arguments.Setting.TheVariants.{Only}
-use Rattle.rpki_text.proofs.command_line.arguments.add_only.Goals as goal
+use Rattle.rpki_text.proofs.command_line.words.add_only.Goals as goal
 
 pub returns-then-is-clause-added : goal.returns-then-is-clause-added
 returns-then-is-clause-added c = (only_rejected, (refl, c.is.ensures.0 c.if-is.true), refl)

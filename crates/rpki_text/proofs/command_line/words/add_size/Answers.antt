@@ -2,7 +2,7 @@ use Rattle.std.proofs.Common.{refl}
 use Rattle.rpki_text.specs.CommandLines.{max_size}
 use Rattle.rpki_text.proofs.WrongWords.{no_size, value_told}
 use Rattle.rpki_text.specs.declared.command_line.arguments.Setting.TheVariants.{MaxSize}
-use Rattle.rpki_text.proofs.command_line.arguments.add_size.Goals as goal
+use Rattle.rpki_text.proofs.command_line.words.add_size.Goals as goal
 
 pub returns-in-Some-clause-added : goal.returns-in-Some-clause-added
 returns-in-Some-clause-added c =

@@ -1,5 +1,5 @@
 use Rattle.rpki_text.proofs.WrongWords.{no_number, value_told}
-use Rattle.rpki_text.proofs.command_line.arguments.count_of.Goals as goal
+use Rattle.rpki_text.proofs.command_line.words.count_of.Goals as goal
 
 pub returns-in-None-clause-told : goal.returns-in-None-clause-told
 returns-in-None-clause-told c = λ takes.

@@ -6,10 +6,10 @@ use Rattle.rpki_text.specs.CommandLines.Views.{fields_of}
 use Rattle.rpki_text.proofs.CommandParts.{line_grammar, line_clear}
 use Rattle.rpki_text.proofs.WordByWord.{value_added, word_added, option_awaits, word_wrong, option_wrong}
 use Rattle.rpki_text.proofs.WrongWords.{value_wrong}
-use Rattle.rpki_text.proofs.command_line.arguments.add_words.Goals as goal
-use Rattle.rpki_text.proofs.command_line.arguments.add_words.Goals.{in-Some+in_ok-add_set}
-use Rattle.rpki_text.proofs.command_line.arguments.add_words.Goals.{in_default+in-Some-setting_of}
-use Rattle.rpki_text.proofs.command_line.arguments.add_words.Goals.{in_default+in_default-setting_of+in_ok-add_word}
+use Rattle.rpki_text.proofs.command_line.words.add_words.Goals as goal
+use Rattle.rpki_text.proofs.command_line.words.add_words.Goals.{in-Some+in_ok-add_set}
+use Rattle.rpki_text.proofs.command_line.words.add_words.Goals.{in_default+in-Some-setting_of}
+use Rattle.rpki_text.proofs.command_line.words.add_words.Goals.{in_default+in_default-setting_of+in_ok-add_word}
 
 pub returns-in_err-add_set-clause-told : goal.returns-in_err-add_set-clause-told
 returns-in_err-add_set-clause-told c =

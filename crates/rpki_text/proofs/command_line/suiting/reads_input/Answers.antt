@@ -1,7 +1,7 @@
 use Rattle.std.proofs.Common.{◌≡◌, Bor, List, ℕ, map, inl, inr, sym, subst, ◌∙◌}
 use Rattle.std.proofs.lemmas.Bool.{false≢true}
 use Rattle.rpki_text.specs.CommandLines.{NamesInput}
-use Rattle.rpki_text.proofs.command_line.arguments.reads_input.Goals as goal
+use Rattle.rpki_text.proofs.command_line.suiting.reads_input.Goals as goal
 
 -- of names that are the same
 same : (names others : List (Bor (List ℕ))) → names ≡ others →

@@ -1,6 +1,6 @@
 use Rattle.std.specs.Prelude.{codes}
 use Rattle.std.proofs.Common.{◌≡◌, ◌<◌, ℕ, map, slice_index_or}
-use Rattle.rpki_text.proofs.command_line.arguments.names_input.Given as goal
+use Rattle.rpki_text.proofs.command_line.suiting.names_input.Given as goal
 
 -- none of those so far is that of standard input
 abbrev pub invariant-loop-name : goal.invariant-loop-name

@@ -1,6 +1,6 @@
 use Rattle.std.proofs.lemmas.Fmt.{IsAscii-from_digits}
 use Rattle.std.proofs.lemmas.Str.{IsUtf8-from_ascii}
-use Rattle.rpki_text.proofs.command_line.arguments.number_of.Goals as goal
+use Rattle.rpki_text.proofs.command_line.words.number_of.Goals as goal
 
 pub returns-in_default : goal.returns-in_default
 returns-in_default c = λ n is.

@@ -5,7 +5,7 @@ use Rattle.rpki_text.specs.CommandLines.{list, locator, folder, depth, steps, at
 use Rattle.rpki_text.specs.CommandLines.Views.{fields_of}
 use Rattle.rpki_text.proofs.AddedParts.{value_pushed}
 use Rattle.rpki_text.proofs.WrongWords.{no_moment, value_told}
-use Rattle.rpki_text.proofs.command_line.arguments.add_set.Goals as goal
+use Rattle.rpki_text.proofs.command_line.words.add_set.Goals as goal
 
 pub returns-in-Crl-clause-added : goal.returns-in-Crl-clause-added
 returns-in-Crl-clause-added c =
