@@ -2,14 +2,14 @@
 use Rattle.std.proofs.Common.{◌≡◌, ◌+◌, ◌<◌, ◌≤◌, ℕ, suc, Bool, List, [], ◌∷◌, ◌++◌, length, take, get_or, refl, sym, ap, subst, ◌∙◌, arith}
 use Rattle.std.specs.List.{flat_map}
 use Rattle.std.proofs.lemmas.List.{length-take-le, take_more, take_all}
-use Rattle.rpki_document.specs.Building.{Adds, AddsSome}
+use Rattle.rpki_document.specs.Building.{Adds, AddsSome, nodes_of}
 use Rattle.rpki_document.specs.Documents.{Node}
 use Rattle.rpki_document.specs.declared.parts.Part.{Part}
 use Rattle.rpki_document.proofs.Built.{then_added}
 use Rattle.rpki_files.specs.Files.{FileFields}
 use Rattle.rpki_answers.specs.Verdicts.{AreCertificates, IsCertificateNode}
 use Rattle.rpki_answers.specs.VerdictTexts.{SaysOfEach}
-use Rattle.rpki_answers.proofs.AppendedTexts.{says_more}
+use Rattle.rpki_answers.proofs.GrownLists.{grown_more, grown_all}
 use Rattle.rpki_answers.proofs.PartsOfEach.{parts_more}
 
 module _ (Says : FileFields → List Node → Type 0) (files : List FileFields) where
@@ -18,19 +18,12 @@ module _ (Says : FileFields → List Node → Type 0) (files : List FileFields) 
       → i < length files → file ≡ get_or files i file → AddsSome (SaysOfEach Says (take i files)) old mid
       → AddsSome (Says file) mid new → AddsSome (SaysOfEach Says (take (i + 1) files)) old new
   added_more i file old mid new low there so_far one =
-      let more : take (i + 1) files ≡ take i files ++ file ∷ [] =
-      take_more files i file low ∙ ap (λ (y : FileFields). take i files ++ y ∷ []) (sym there) in (
-        so_far.0 ++ one.0,
-        subst (λ (l : List FileFields). SaysOfEach Says l (so_far.0 ++ one.0)) (sym more)
-            (says_more Says (take i files) so_far.0 file one.0 so_far.1 one.1),
-        then_added old mid new so_far.0 one.0 so_far.2 one.2,
-      )
+      grown_more Says files i file (nodes_of old) (nodes_of mid) (nodes_of new) low there so_far one
 
   -- of all
   pub added_all : (i : ℕ) (old new : List Part) → length files ≤ i
       → AddsSome (SaysOfEach Says (take i files)) old new → AddsSome (SaysOfEach Says files) old new
-  added_all i old new high all =
-      subst (λ (l : List FileFields). AddsSome (SaysOfEach Says l) old new) (take_all i files high) all
+  added_all i old new high all = grown_all Says files i (nodes_of old) (nodes_of new) high all
 
 -- the same where what is said is determined
 module _ {X : Type 0} (f : X → List Node) (xs : List X) (i : ℕ) where

@@ -1,10 +1,9 @@
 -- Lists that grow by what is said of each file, one after the other.
-use Rattle.std.proofs.Common.{◌≡◌, ◌∙◌, ◌+◌, ◌<◌, ◌≤◌, ℕ, List, [], ◌∷◌, ◌++◌, length, take, get_or, sym, ap, subst, append_assoc}
+use Rattle.std.proofs.Common.{◌≡◌, ◌∙◌, ◌+◌, ◌<◌, ◌≤◌, ℕ, List, [], ◌∷◌, ◌++◌, length, take, get_or, refl, sym, ap, subst, append_assoc}
 use Rattle.std.proofs.lemmas.List.{append-nil, take_more, take_all}
 use Rattle.rpki_files.specs.Files.{FileFields}
 use Rattle.rpki_answers.specs.ShownFiles.{Grows}
 use Rattle.rpki_answers.specs.VerdictTexts.{SaysOfEach}
-use Rattle.rpki_answers.proofs.AppendedTexts.{says_more}
 
 -- by something and more
 pub then_grown : {X : Type 0} (old mid new a b : List X) → mid ≡ old ++ a → new ≡ mid ++ b → new ≡ old ++ (a ++ b)
@@ -18,6 +17,21 @@ none_grown P old holds = ([], holds, sym (append-nil old))
 pub from_nothing : {X : Type 0} (P : List X → Type 0) (old new : List X) → old ≡ [] → Grows P old new → P new
 from_nothing {X} P old new none grown =
     subst P (sym (grown.2 ∙ ap (λ (l : List X). l ++ grown.0) none)) grown.1
+
+-- what is said of one file more
+says_more : {X : Type 0} (Says : FileFields → List X → Type 0) (files : List FileFields) (so_far : List X)
+    (file : FileFields) (text : List X) → SaysOfEach Says files so_far → Says file text →
+    SaysOfEach Says (files ++ file ∷ []) (so_far ++ text)
+says_more {X} Says [] so_far file text is says =
+    (text, [], says, refl, ap (λ (l : List X). l ++ text) is ∙ sym (append-nil text))
+says_more {X} Says (f ∷ fs) so_far file text is says = (
+  is.0,
+  is.1 ++ text,
+  is.2,
+  says_more Says fs is.1 file text is.3 says,
+  ap (λ (l : List X). l ++ text) is.4 ∙
+      append_assoc is.0 is.1 text,
+)
 
 module _ {X : Type 0} (Says : FileFields → List X → Type 0) (files : List FileFields) where
   -- by what is said of one file more

@@ -1,9 +1,7 @@
 -- Lemmas of the proofs about answers.
-mod AppendedTexts
 mod FlaggedItems
 mod PartsOfEach
 mod PrintedAs
-mod PushedItems
 mod ShownFiles
 mod GrownLists
 mod SingleOutcomes

@@ -7,7 +7,7 @@ use Rattle.rpki_cert.specs.declared.inspect.Kind.{Kind}
 use Rattle.rpki_cert.specs.declared.inspect.Kind.TheVariants.{Anchor, Authority, EndEntity, Detached, Router}
 use Rattle.rpki_der.specs.Times.{Moment}
 use Rattle.rpki_document.specs.Documents.{ToldValue, text, characters, words, count, printed, Span, say, tell, keep, Node}
-use Rattle.rpki_document.specs.Documents.{line, inside, each, document_of, told_line}
+use Rattle.rpki_document.specs.Documents.{line, inside, each, document_of, item_node, told_line}
 use Rattle.rpki_ext.specs.CertificateExtensions.{ExtensionFields}
 use Rattle.rpki_ext.specs.Inspection.{inspection_error_name}
 use Rattle.rpki_ext.specs.declared.inspection.InspectionError.{InspectionError}
@@ -163,14 +163,7 @@ fact_word fact.MethodUri = codes "method_uri"
 abbrev pub fact_told : FactKind → List ℕ → ToldValue
 fact_told fact.UnknownExtension octets = text (identifier_text octets)
 fact_told fact.UnknownMethod octets = text (identifier_text octets)
-fact_told fact.PracticeStatement octets = characters octets
-fact_told fact.FurtherList octets = characters octets
-fact_told fact.FurtherIssuer octets = characters octets
-fact_told fact.FurtherRepository octets = characters octets
-fact_told fact.FurtherManifest octets = characters octets
-fact_told fact.FurtherObject octets = characters octets
-fact_told fact.FurtherNotify octets = characters octets
-fact_told fact.MethodUri octets = characters octets
+fact_told _ octets = characters octets
 
 abbrev pub fact_node : Fact → Node
 fact_node f = inside [] (document_of (
@@ -178,11 +171,9 @@ fact_node f = inside [] (document_of (
 
 -- a note: its word, its sentence, and the section that the certificate breaks
 abbrev pub noted_line : List ℕ → List ℕ → List ℕ → Node
-noted_line name says section = inside [] (document_of (
-    line (codes "Note") (
+noted_line name says section = item_node (codes "Note") (
     keep (codes "note") (text name) ∷ tell (codes "why") (text says)
     ∷ say (codes " (") ∷ tell (codes "standard") (text section) ∷ say (codes ")") ∷ [])
-    ∷ []))
 
 abbrev pub note_line : Note → Node
 note_line note = noted_line (note_name note) (note_text note) (note_section note)

@@ -93,21 +93,14 @@ IsSubject strict octets (subject.Unread rejection) =
 
 -- whether `rpki show` shows it
 abbrev pub can_be_shown : Subject → Bool
-can_be_shown (subject.Certificate cert left) = true
-can_be_shown (subject.List list left) = true
-can_be_shown (subject.ToBeSigned whole) = true
-can_be_shown (subject.Locator tal) = true
 can_be_shown (subject.NotALocator error) = false
 can_be_shown (subject.Unread rejection) = false
+can_be_shown _ = true
 
 -- whether it is the to-be-signed part of a certificate or a CRL
 abbrev pub is_to_be_signed : Subject → Bool
-is_to_be_signed (subject.Certificate cert left) = false
-is_to_be_signed (subject.List list left) = false
 is_to_be_signed (subject.ToBeSigned whole) = true
-is_to_be_signed (subject.Locator tal) = false
-is_to_be_signed (subject.NotALocator error) = false
-is_to_be_signed (subject.Unread rejection) = false
+is_to_be_signed _ = false
 
 -- ---- its document
 

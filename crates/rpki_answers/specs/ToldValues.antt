@@ -9,7 +9,7 @@ use Rattle.rpki_der.specs.Texts.{serial_text, time_text}
 use Rattle.rpki_der.specs.Times.{Moment}
 use Rattle.rpki_der.specs.Timestamps.{timestamp}
 use Rattle.rpki_document.specs.Documents.{ToldValue, text, words, count, flag, dated, Span, say, tell, show, keep, Node}
-use Rattle.rpki_document.specs.Documents.{line, further, inside, document_of, kept_node, told_line}
+use Rattle.rpki_document.specs.Documents.{line, further, inside, document_of, item_node, kept_node, told_line}
 use Rattle.rpki_ext.specs.CertificateExtensions.{ExtensionFields}
 use Rattle.rpki_keys.specs.declared.form.KeyForm.{KeyForm}
 use Rattle.rpki_keys.specs.declared.form.KeyForm.TheVariants.{RsaKey, EvenModulus, NoRsaKey, Point, OffCurve, CompressedPoint, NoPoint}
@@ -144,8 +144,8 @@ set_nodes node label (b ∷ bs) = node (Some label) b ∷ map (node None) bs
 -- what a certificate lists of a kind: its set, or that the issuer's is meant, or nothing
 abbrev pub resource_nodes : (Option (List ℕ) → Block → Node) → List ℕ → List ℕ → Resources → List Node
 resource_nodes node label name missing = []
-resource_nodes node label name inherit = inside [] (document_of (
-    line label (say (codes "inherited") ∷ keep name (text (codes "inherit")) ∷ []) ∷ [])) ∷ []
+resource_nodes node label name inherit =
+    item_node label (say (codes "inherited") ∷ keep name (text (codes "inherit")) ∷ []) ∷ []
 resource_nodes node label name (blocks bs) = set_nodes node label bs
 
 -- what a certificate lists, under these labels

@@ -11,7 +11,7 @@ use Rattle.rpki_der.specs.Encoding.{Means}
 use Rattle.rpki_der.specs.Times.{Moment}
 use Rattle.rpki_document.specs.Documents.{ToldValue, text, inner, words, count, flag, Span, say, tell, show, keep, Node}
 use Rattle.rpki_document.specs.Documents.{head, line, unsaid, inside, each, document_of, document_json, document_text}
-use Rattle.rpki_document.specs.Documents.{kept_node, told_line}
+use Rattle.rpki_document.specs.Documents.{item_node, kept_node, told_line}
 use Rattle.rpki_files.specs.Contents.{IsList}
 use Rattle.rpki_files.specs.Files.{FileFields}
 use Rattle.rpki_keys.specs.Locators.{NamedTal}
@@ -35,6 +35,8 @@ use Rattle.rpki_answers.specs.ToldValues.{addresses_node, identifier_told, key_n
 use Rattle.rpki_answers.specs.ToldValues.{moment_told, numbers_node, serial_told, set_nodes}
 use Rattle.rpki_answers.specs.VerdictTexts.{IsFinding, Leaves, SaysOfEach, file_name_at}
 use Rattle.rpki_answers.specs.declared.details.Details.{Details}
+use Rattle.rpki_answers.specs.declared.verdict_document.files.About.{About}
+use Rattle.rpki_answers.specs.declared.verdict_document.files.About.TheVariants as about
 use Rattle.rpki_answers.specs.declared.verdicts.Finding.{Finding}
 use Rattle.rpki_answers.specs.declared.verdicts.Finding.TheVariants.{NotALocator, NotAList, Decided}
 
@@ -42,20 +44,16 @@ use Rattle.rpki_answers.specs.declared.verdicts.Finding.TheVariants.{NotALocator
 
 -- one by its path index, its kind, its serial number and its file
 abbrev pub certificate_node : ℕ → Kind → ℕ → List ℕ → Node
-certificate_node index kind serial name = inside [] (document_of (
-    line (codes "Certificate") (
+certificate_node index kind serial name = item_node (codes "Certificate") (
     tell (codes "index") (count index) ∷ say (codes ", ") ∷ tell (codes "kind") (kind_told kind)
     ∷ say (codes ", serial ") ∷ tell (codes "serial") (serial_told serial)
     ∷ say (codes ", ") ∷ tell (codes "file") (text name) ∷ [])
-    ∷ []))
 
 -- a file that begins with no certificate
 abbrev pub other_node : ℕ → List ℕ → Node
-other_node index name = inside [] (document_of (
-    line (codes "Certificate") (
+other_node index name = item_node (codes "Certificate") (
     tell (codes "index") (count index) ∷ say (codes ", not a certificate, ")
     ∷ tell (codes "file") (text name) ∷ [])
-    ∷ []))
 
 -- the file begins with a certificate, and this is said of it
 pub record IsKnown (strict : Bool) (index : ℕ) (file : FileFields) (node : Node) : Type 0 where
@@ -84,12 +82,10 @@ AreCertificates strict index (file ∷ files) nodes =
 
 -- a note: its sentence, the section that the certificate breaks, and its file
 abbrev pub note_node : List ℕ → Note → Node
-note_node name note = inside [] (document_of (
-    line (codes "Note") (
+note_node name note = item_node (codes "Note") (
     keep (codes "note") (text (note_name note)) ∷ tell (codes "why") (text (note_text note))
     ∷ say (codes " (") ∷ tell (codes "standard") (text (note_section note)) ∷ say (codes "): ")
     ∷ show (text name) ∷ [])
-    ∷ []))
 
 -- the notes of a certificate
 abbrev pub noted_node : List ℕ → List Note → Node
@@ -108,10 +104,8 @@ AreNoted file nodes = (notes : List Note) × AreNotes file.octets notes × (node
 
 -- how many octets stand behind what a file begins with, what that means, and the file
 abbrev pub left_node : List ℕ → List ℕ → ℕ → Node
-left_node means name left = inside [] (document_of (
-    line (codes "Bytes after its end") (
+left_node means name left = item_node (codes "Bytes after its end") (
     tell (codes "bytes") (count left) ∷ say means ∷ tell (codes "file") (text name) ∷ [])
-    ∷ []))
 
 -- if there are some
 abbrev pub left_nodes : List ℕ → List ℕ → Option ℕ → List Node
@@ -137,6 +131,13 @@ name_node label name = told_line label [] (text name)
 abbrev pub IsNotAList : FileFields → List Node → Type 0
 IsNotAList file nodes =
     (IsList file.octets × (nodes ≡ [])) ⊎ ((IsList file.octets → ⊥) × (nodes ≡ name_node (codes "Not a CRL") file.name ∷ []))
+
+-- what is said of each of some files
+abbrev pub IsAbout : About → FileFields → List Node → Type 0
+IsAbout about.Notes file nodes = AreNoted file nodes
+IsAbout about.BehindCertificate file nodes = IsLeft IsCertificate behind_certificate file nodes
+IsAbout about.BehindList file nodes = IsLeft IsCertificateList behind_list file nodes
+IsAbout about.NoList file nodes = IsNotAList file nodes
 
 -- of a file given as a TAL, of which this was read, its name, if it is none
 abbrev pub not_a_locator : List ℕ → Result NamedTal TalError → List Node

@@ -6,11 +6,11 @@ ghost use Rattle.rpki_answers.specs.RejectionDetails.{AreDetails, IsAnchor, IsCa
 use crate::told::{identifier_leaf, moment_leaf};
 use rpki_cert::Cert;
 use rpki_der::Time;
-use rpki_document::{Leaf, Part, Piece, add_line, add_told};
+use rpki_document::{Added, Leaf, Parts, Piece, add_line, add_told};
 use rpki_files::{Object, Sort, describe};
 use rpki_parts::{Https, KeyIdentifier, Rsync};
 use rpki_verdicts::{Fault, Question};
-use std::alloc::{AllocError, Global};
+use std::alloc::Global;
 
 /// What is said of files in the reverse order.
 pub const ORDER: &str =
@@ -129,12 +129,12 @@ pub fn details_of<'q>(question: &Question<'q, '_>, fault: &Fault) -> Details<'q>
 
 /// Adds the identifier of a key, if it is there.
 pub fn add_identifier<'p>(
-    parts: &mut Vec<Part<'p>>,
+    parts: &mut Parts<'p>,
     alloc: Global,
     label: &'p str,
     key: &'p str,
     identifier: Option<KeyIdentifier>,
-) -> Result<(), AllocError>
+) -> Added
     ensures { let its = identifier_nodes label.now key.now identifier in
         OnOk result (Adds its parts.old.items parts.new.items) }
 {
@@ -148,12 +148,12 @@ pub fn add_identifier<'p>(
 }
 
 fn add_own_key<'p>(
-    parts: &mut Vec<Part<'p>>,
+    parts: &mut Parts<'p>,
     alloc: Global,
     label: &'p str,
     key: &'p str,
     cert: Option<&Cert>,
-) -> Result<(), AllocError>
+) -> Added
     ensures { let identifier = option_map own_key (option_map (λ c. c.now) cert.entry) in
         let its = identifier_nodes label.now key.now identifier in
         OnOk result (Adds its parts.old.items parts.new.items) }
@@ -169,12 +169,12 @@ fn add_own_key<'p>(
 
 /// Adds where something is, if that is said.
 pub fn add_uri<'p>(
-    parts: &mut Vec<Part<'p>>,
+    parts: &mut Parts<'p>,
     alloc: Global,
     label: &'p str,
     key: &'p str,
     uri: Option<&'p Rsync>,
-) -> Result<(), AllocError>
+) -> Added
     ensures { let its = uri_nodes label.now key.now (option_map (λ it. it.now) uri.entry) in
         OnOk result (Adds its parts.old.items parts.new.items) }
 {
@@ -186,12 +186,12 @@ pub fn add_uri<'p>(
 
 /// Adds where something is, if that is said.
 pub fn add_https<'p>(
-    parts: &mut Vec<Part<'p>>,
+    parts: &mut Parts<'p>,
     alloc: Global,
     label: &'p str,
     key: &'p str,
     uri: Option<&'p Https>,
-) -> Result<(), AllocError>
+) -> Added
     ensures { let its = uri_nodes label.now key.now (option_map (λ it. it.now) uri.entry) in
         OnOk result (Adds its parts.old.items parts.new.items) }
 {
@@ -203,11 +203,11 @@ pub fn add_https<'p>(
 
 // The CRL that is needed, and the key that has to sign it.
 fn add_needed<'p>(
-    parts: &mut Vec<Part<'p>>,
+    parts: &mut Parts<'p>,
     alloc: Global,
     details: &Details<'_>,
     cert: &'p Cert,
-) -> Result<(), AllocError>
+) -> Added
     ensures { let above = option_map (λ c. c.now) details.now.above in
         let its = cause_nodes Cause.NoList details.now.moment cert.now above in
         OnOk result (Adds its parts.old.items parts.new.items) }
@@ -230,11 +230,11 @@ fn add_needed<'p>(
 
 // The keys that should be one.
 fn add_keys<'p>(
-    parts: &mut Vec<Part<'p>>,
+    parts: &mut Parts<'p>,
     alloc: Global,
     details: &Details<'_>,
     cert: &'p Cert,
-) -> Result<(), AllocError>
+) -> Added
     ensures { let above = option_map (λ c. c.now) details.now.above in
         let its = cause_nodes Cause.OtherKey details.now.moment cert.now above in
         OnOk result (Adds its parts.old.items parts.new.items) }
@@ -251,13 +251,13 @@ fn add_keys<'p>(
 
 // An end of a period, and the time at which is judged.
 fn add_bound<'p>(
-    parts: &mut Vec<Part<'p>>,
+    parts: &mut Parts<'p>,
     alloc: Global,
     label: &'p str,
     key: &'p str,
     bound: Time,
     at: Time,
-) -> Result<(), AllocError>
+) -> Added
     ensures { let its = bound_node label.now key.now bound at in
         OnOk result (Adds (its ∷ []) parts.old.items parts.new.items) }
 {
@@ -272,12 +272,7 @@ fn add_bound<'p>(
 }
 
 // The beginning of a period that hasn't begun.
-fn add_not_yet(
-    parts: &mut Vec<Part<'_>>,
-    alloc: Global,
-    details: &Details<'_>,
-    cert: &Cert,
-) -> Result<(), AllocError>
+fn add_not_yet(parts: &mut Parts<'_>, alloc: Global, details: &Details<'_>, cert: &Cert) -> Added
     ensures { let above = option_map (λ c. c.now) details.now.above in
         let its = cause_nodes Cause.NotYetValid details.now.moment cert.now above in
         OnOk result (Adds its parts.old.items parts.new.items) }
@@ -294,12 +289,7 @@ fn add_not_yet(
 }
 
 // The end of one that is over.
-fn add_expired(
-    parts: &mut Vec<Part<'_>>,
-    alloc: Global,
-    details: &Details<'_>,
-    cert: &Cert,
-) -> Result<(), AllocError>
+fn add_expired(parts: &mut Parts<'_>, alloc: Global, details: &Details<'_>, cert: &Cert) -> Added
     ensures { let above = option_map (λ c. c.now) details.now.above in
         let its = cause_nodes Cause.Expired details.now.moment cert.now above in
         OnOk result (Adds its parts.old.items parts.new.items) }
@@ -316,11 +306,11 @@ fn add_expired(
 }
 
 fn add_cause<'p>(
-    parts: &mut Vec<Part<'p>>,
+    parts: &mut Parts<'p>,
     alloc: Global,
     details: &Details<'_>,
     cert: &'p Cert,
-) -> Result<(), AllocError>
+) -> Added
     ensures { let above = option_map (λ c. c.now) details.now.above in
         let its = cause_nodes details.now.cause details.now.moment cert.now above in
         OnOk result (Adds its parts.old.items parts.new.items) }
@@ -334,11 +324,7 @@ fn add_cause<'p>(
     }
 }
 
-fn add_member<'p>(
-    parts: &mut Vec<Part<'p>>,
-    alloc: Global,
-    details: &Details<'p>,
-) -> Result<(), AllocError>
+fn add_member<'p>(parts: &mut Parts<'p>, alloc: Global, details: &Details<'p>) -> Added
     ensures { let d = details.now in
         let member = option_map (λ c. c.now) d.member in
         let above = option_map (λ c. c.now) d.above in
@@ -352,7 +338,7 @@ fn add_member<'p>(
 }
 
 // What a file of this sort is, and what to do.
-fn add_description(parts: &mut Vec<Part<'_>>, alloc: Global, sort: Sort) -> Result<(), AllocError>
+fn add_description(parts: &mut Parts<'_>, alloc: Global, sort: Sort) -> Added
     ensures { OnOk result (Adds (sort_nodes (Some sort)) parts.old.items parts.new.items) }
 {
     let told = describe(sort);
@@ -361,11 +347,7 @@ fn add_description(parts: &mut Vec<Part<'_>>, alloc: Global, sort: Sort) -> Resu
 }
 
 /// Adds what a file of this sort is, and what to do, if it is of one.
-pub fn add_sort(
-    parts: &mut Vec<Part<'_>>,
-    alloc: Global,
-    sort: Option<Sort>,
-) -> Result<(), AllocError>
+pub fn add_sort(parts: &mut Parts<'_>, alloc: Global, sort: Option<Sort>) -> Added
     ensures { OnOk result (Adds (sort_nodes sort) parts.old.items parts.new.items) }
 {
     match sort {
@@ -374,7 +356,7 @@ pub fn add_sort(
     }
 }
 
-fn add_order(parts: &mut Vec<Part<'_>>, alloc: Global, is_turned: bool) -> Result<(), AllocError>
+fn add_order(parts: &mut Parts<'_>, alloc: Global, is_turned: bool) -> Added
     ensures { OnOk result (Adds (order_nodes is_turned) parts.old.items parts.new.items) }
 {
     if is_turned {
@@ -385,11 +367,7 @@ fn add_order(parts: &mut Vec<Part<'_>>, alloc: Global, is_turned: bool) -> Resul
 }
 
 /// Adds the details of an error.
-pub fn add_details<'p>(
-    parts: &mut Vec<Part<'p>>,
-    alloc: Global,
-    details: &Details<'p>,
-) -> Result<(), AllocError>
+pub fn add_details<'p>(parts: &mut Parts<'p>, alloc: Global, details: &Details<'p>) -> Added
     ensures { OnOk result (Adds (details_nodes details.now) parts.old.items parts.new.items) }
 {
     add_member(parts, alloc, details)?;

@@ -13,7 +13,8 @@ use rpki_blocks::{Addr, AsBlock, AsBlocks, AsResources, IpBlock, IpBlocks, IpRes
 use rpki_cert::{Kind, TbsCert};
 use rpki_der::Time;
 use rpki_document::{
-    Colons, Leaf, Part, Piece, add_further, add_inside, add_kept, add_line, add_told,
+    Added, Colons, Leaf, Parts, Piece, add_further, add_inside, add_item, add_kept, add_line,
+    add_told,
 };
 use rpki_keys::KeyForm;
 use rpki_parts::{KeyIdentifier, Name, PublicKey, PublicKeyFormat};
@@ -70,12 +71,12 @@ pub fn name_leaf(alloc: Global, it: &Name) -> Result<Leaf<'static>, AllocError>
 
 /// Adds the end of a period, and its state.
 pub fn add_until<'p>(
-    parts: &mut Vec<Part<'p>>,
+    parts: &mut Parts<'p>,
     alloc: Global,
     label: &'p str,
     key: &'p str,
     period: &Period,
-) -> Result<(), AllocError>
+) -> Added
     ensures { let p = period.now in
         let its = until_line label.now key.now p.ends.now p.ended.now p.from p.until p.at in
         OnOk result (Adds (its ∷ []) parts.old.items parts.new.items) }
@@ -92,7 +93,7 @@ pub fn add_until<'p>(
 }
 
 /// Adds that an object isn't signed.
-pub fn add_unsigned(parts: &mut Vec<Part<'_>>, alloc: Global) -> Result<(), AllocError>
+pub fn add_unsigned(parts: &mut Parts<'_>, alloc: Global) -> Added
     ensures { OnOk result (Adds (unsigned_line ∷ []) parts.old.items parts.new.items) }
 {
     add_told(
@@ -108,7 +109,7 @@ pub fn add_unsigned(parts: &mut Vec<Part<'_>>, alloc: Global) -> Result<(), Allo
 }
 
 /// Adds that the signature of an object isn't checked.
-pub fn add_signature(parts: &mut Vec<Part<'_>>, alloc: Global) -> Result<(), AllocError>
+pub fn add_signature(parts: &mut Parts<'_>, alloc: Global) -> Added
     ensures { OnOk result (Adds (signature_line ∷ []) parts.old.items parts.new.items) }
 {
     add_told(
@@ -152,11 +153,7 @@ pub fn form_word(form: KeyForm) -> &'static str
     }
 }
 
-fn add_exponent(
-    parts: &mut Vec<Part<'_>>,
-    alloc: Global,
-    exponent: Option<u64>,
-) -> Result<(), AllocError>
+fn add_exponent(parts: &mut Parts<'_>, alloc: Global, exponent: Option<u64>) -> Added
     ensures { OnOk result (Adds (exponent_nodes exponent) parts.old.items parts.new.items) }
 {
     match exponent {
@@ -167,11 +164,11 @@ fn add_exponent(
 
 // The numbers of an RSA key.
 fn add_numbers_of_key(
-    parts: &mut Vec<Part<'_>>,
+    parts: &mut Parts<'_>,
     alloc: Global,
     bits: u64,
     exponent: Option<u64>,
-) -> Result<(), AllocError>
+) -> Added
     ensures { let its = form_nodes (KeyForm.RsaKey bits exponent) in
         OnOk result (Adds its parts.old.items parts.new.items) }
 {
@@ -179,7 +176,7 @@ fn add_numbers_of_key(
     add_exponent(parts, alloc, exponent)
 }
 
-fn add_form(parts: &mut Vec<Part<'_>>, alloc: Global, form: KeyForm) -> Result<(), AllocError>
+fn add_form(parts: &mut Parts<'_>, alloc: Global, form: KeyForm) -> Added
     ensures { OnOk result (Adds (form_nodes form) parts.old.items parts.new.items) }
 {
     match form {
@@ -195,11 +192,11 @@ fn add_form(parts: &mut Vec<Part<'_>>, alloc: Global, form: KeyForm) -> Result<(
 
 // The point of a key on a curve, under a label or in no line.
 fn add_point_at<'p>(
-    parts: &mut Vec<Part<'p>>,
+    parts: &mut Parts<'p>,
     alloc: Global,
     label: Option<&'p str>,
     leaf: Leaf<'p>,
-) -> Result<(), AllocError>
+) -> Added
     ensures { let its = point_node (option_map (λ l. l.now) label.entry) (leaf_view leaf.entry) in
         OnOk result (Adds (its ∷ []) parts.old.items parts.new.items) }
 {
@@ -211,11 +208,11 @@ fn add_point_at<'p>(
 
 // If it is one.
 fn add_point<'p>(
-    parts: &mut Vec<Part<'p>>,
+    parts: &mut Parts<'p>,
     alloc: Global,
     label: Option<&'p str>,
     key: &PublicKey,
-) -> Result<(), AllocError>
+) -> Added
     ensures { let label = option_map (λ l. l.now) label.entry in
         let its = point_nodes label (point_text key.now) in
         OnOk result (Adds its parts.old.items parts.new.items) }
@@ -231,14 +228,14 @@ fn add_point<'p>(
 
 // The line of a key.
 fn add_key_line<'p>(
-    parts: &mut Vec<Part<'p>>,
+    parts: &mut Parts<'p>,
     alloc: Global,
     label: &'p str,
     algorithm: &'p str,
     form: &'p str,
     said: Leaf<'p>,
     is_usable: bool,
-) -> Result<(), AllocError>
+) -> Added
     ensures { let spans = show (leaf_view said.entry)
         ∷ keep (codes "algorithm") (text algorithm.now)
         ∷ keep (codes "form") (text form.now)
@@ -256,14 +253,14 @@ fn add_key_line<'p>(
 
 /// Adds a key, of which this was found and is said; its point is in a line only under a label.
 pub fn add_key<'p>(
-    parts: &mut Vec<Part<'p>>,
+    parts: &mut Parts<'p>,
     alloc: Global,
     label: &'p str,
     said: Leaf<'p>,
     point_label: Option<&'p str>,
     key: &PublicKey,
     found: &KeyAnswer,
-) -> Result<(), AllocError>
+) -> Added
     ensures { let point = option_map (λ l. l.now) point_label.entry in
         let its = key_nodes label.now (leaf_view said.entry) point key.now found.now in
         OnOk result (Adds its parts.old.items parts.new.items) }
@@ -278,11 +275,7 @@ pub fn add_key<'p>(
 // ---- resources
 
 // A line under a label, or one more under the label above.
-fn add_at<'p>(
-    parts: &mut Vec<Part<'p>>,
-    label: Option<&'p str>,
-    pieces: Vec<Piece<'p>>,
-) -> Result<(), AllocError>
+fn add_at<'p>(parts: &mut Parts<'p>, label: Option<&'p str>, pieces: Vec<Piece<'p>>) -> Added
     ensures { let label = option_map (λ l. l.now) label.entry in
         let its = line_under label (spans_of pieces.entry.items) in
         OnOk result (Adds (its ∷ []) parts.old.items parts.new.items) }
@@ -295,12 +288,12 @@ fn add_at<'p>(
 
 // A block that is one value.
 fn add_single<'p>(
-    parts: &mut Vec<Part<'p>>,
+    parts: &mut Parts<'p>,
     alloc: Global,
     label: Option<&'p str>,
     key: &'p str,
     leaf: Leaf<'p>,
-) -> Result<(), AllocError>
+) -> Added
     ensures { let label = option_map (λ l. l.now) label.entry in
         let its = single_node label key.now (leaf_view leaf.entry) in
         OnOk result (Adds (its ∷ []) parts.old.items parts.new.items) }
@@ -313,13 +306,13 @@ fn add_single<'p>(
 
 // A block by its two ends.
 fn add_ends<'p>(
-    parts: &mut Vec<Part<'p>>,
+    parts: &mut Parts<'p>,
     alloc: Global,
     label: Option<&'p str>,
     key: &'p str,
     min: Leaf<'p>,
     max: Leaf<'p>,
-) -> Result<(), AllocError>
+) -> Added
     ensures { let label = option_map (λ l. l.now) label.entry in
         let its = ends_node label key.now (leaf_view min.entry) (leaf_view max.entry) in
         OnOk result (Adds (its ∷ []) parts.old.items parts.new.items) }
@@ -337,11 +330,11 @@ fn add_ends<'p>(
 }
 
 fn add_as_block<'p>(
-    parts: &mut Vec<Part<'p>>,
+    parts: &mut Parts<'p>,
     alloc: Global,
     label: Option<&'p str>,
     it: AsBlock,
-) -> Result<(), AllocError>
+) -> Added
     ensures { let its = numbers_node (option_map (λ l. l.now) label.entry) it in
         OnOk result (Adds (its ∷ []) parts.old.items parts.new.items) }
 {
@@ -375,12 +368,12 @@ fn prefix_leaf(alloc: Global, family: Family, it: IpBlock) -> Result<Leaf<'stati
 }
 
 fn add_ip_block<'p>(
-    parts: &mut Vec<Part<'p>>,
+    parts: &mut Parts<'p>,
     alloc: Global,
     label: Option<&'p str>,
     family: Family,
     it: IpBlock,
-) -> Result<(), AllocError>
+) -> Added
     ensures { let its = addresses_node family (option_map (λ l. l.now) label.entry) it in
         OnOk result (Adds (its ∷ []) parts.old.items parts.new.items) }
 {
@@ -394,7 +387,7 @@ fn add_ip_block<'p>(
 }
 
 // That a set is empty.
-fn add_none<'p>(parts: &mut Vec<Part<'p>>, alloc: Global, label: &'p str) -> Result<(), AllocError>
+fn add_none<'p>(parts: &mut Parts<'p>, alloc: Global, label: &'p str) -> Added
     ensures { let its = line label.now (say (codes "none") ∷ []) in
         OnOk result (Adds (its ∷ []) parts.old.items parts.new.items) }
 {
@@ -404,11 +397,11 @@ fn add_none<'p>(parts: &mut Vec<Part<'p>>, alloc: Global, label: &'p str) -> Res
 
 /// Adds a line for each block of AS numbers; `none` if there are none.
 pub fn add_numbers<'p>(
-    parts: &mut Vec<Part<'p>>,
+    parts: &mut Parts<'p>,
     alloc: Global,
     label: &'p str,
     blocks: &AsBlocks,
-) -> Result<(), AllocError>
+) -> Added
     ensures { let its = set_nodes numbers_node label.now blocks.now in
         OnOk result (Adds its parts.old.items parts.new.items) }
 {
@@ -425,12 +418,12 @@ pub fn add_numbers<'p>(
 
 /// Adds a line for each block of addresses; `none` if there are none.
 pub fn add_addresses<'p>(
-    parts: &mut Vec<Part<'p>>,
+    parts: &mut Parts<'p>,
     alloc: Global,
     label: &'p str,
     family: Family,
     blocks: &IpBlocks,
-) -> Result<(), AllocError>
+) -> Added
     ensures { let its = set_nodes (addresses_node family) label.now blocks.now in
         OnOk result (Adds its parts.old.items parts.new.items) }
 {
@@ -446,31 +439,24 @@ pub fn add_addresses<'p>(
 }
 
 // That the issuer's resources of a kind are meant.
-fn add_inherited<'p>(
-    parts: &mut Vec<Part<'p>>,
-    alloc: Global,
-    label: &'p str,
-    name: &'p str,
-) -> Result<(), AllocError>
+fn add_inherited<'p>(parts: &mut Parts<'p>, alloc: Global, label: &'p str, name: &'p str) -> Added
     ensures { let its = resource_nodes numbers_node label.now name.now inherit in
         OnOk result (Adds its parts.old.items parts.new.items) }
 {
-    let mut own = Vec::new(alloc);
     let pieces = vec![in alloc;
         Piece::Say("inherited"),
         Piece::Keep(name, Leaf::Text("inherit")),
     ]?;
-    add_line(&mut own, label, pieces)?;
-    add_inside(parts, "", own)
+    add_item(parts, alloc, label, pieces)
 }
 
 // What a certificate lists of AS numbers.
 fn add_as_resources<'p>(
-    parts: &mut Vec<Part<'p>>,
+    parts: &mut Parts<'p>,
     alloc: Global,
     label: &'p str,
     listed: &AsResources,
-) -> Result<(), AllocError>
+) -> Added
     ensures { let its = resource_nodes numbers_node label.now (codes "as_inherit") listed.now in
         OnOk result (Adds its parts.old.items parts.new.items) }
 {
@@ -483,13 +469,13 @@ fn add_as_resources<'p>(
 
 // What it lists of a family of addresses.
 fn add_ip_resources<'p>(
-    parts: &mut Vec<Part<'p>>,
+    parts: &mut Parts<'p>,
     alloc: Global,
     label: &'p str,
     name: &'p str,
     family: Family,
     listed: &IpResources,
-) -> Result<(), AllocError>
+) -> Added
     ensures { let its = resource_nodes (addresses_node family) label.now name.now listed.now in
         OnOk result (Adds its parts.old.items parts.new.items) }
 {
@@ -502,13 +488,13 @@ fn add_ip_resources<'p>(
 
 /// Adds what a certificate lists, under these labels.
 pub fn add_listed<'p>(
-    parts: &mut Vec<Part<'p>>,
+    parts: &mut Parts<'p>,
     alloc: Global,
     numbers: &'p str,
     ipv4: &'p str,
     ipv6: &'p str,
     fields: &TbsCert,
-) -> Result<(), AllocError>
+) -> Added
     ensures { let x = fields.now.extensions in
         let its = listed_nodes numbers.now ipv4.now ipv6.now x in
         OnOk result (Adds its parts.old.items parts.new.items) }

@@ -16,7 +16,7 @@ ghost use Rattle.rpki_answers.specs.VerdictTexts.{IsAcceptedFinding, IsFinding};
 use crate::as_json::value_text;
 use crate::outcomes::{Answer, Outcome};
 use crate::verdict_document::verdict_document;
-use rpki_document::{Part, json_of, text_of};
+use rpki_document::{Parts, json_of, text_of};
 use rpki_files::Object;
 use rpki_text::command_line::Format;
 use rpki_verdicts::{Fault, Question, Verdict, first_no_locator, judge};
@@ -33,7 +33,7 @@ pub enum Finding {
 }
 
 // The JSON of a document, in a format.
-fn json_text(alloc: Global, parts: &Vec<Part<'_>>, format: Format) -> Result<String, AllocError>
+fn json_text(alloc: Global, parts: &Parts<'_>, format: Format) -> Result<String, AllocError>
     ensures { let d = document_of (nodes_of parts.now.items) in
         IfOk result (λ text. string_bytes text ≡ json_value_text format (document_json d)) }
 {
@@ -46,7 +46,7 @@ fn json_text(alloc: Global, parts: &Vec<Part<'_>>, format: Format) -> Result<Str
 /// Writes a document in a format.
 pub(crate) fn rendered(
     alloc: Global,
-    parts: &Vec<Part<'_>>,
+    parts: &Parts<'_>,
     format: Format,
 ) -> Result<String, AllocError>
     ensures text { let d = document_of (nodes_of parts.now.items) in

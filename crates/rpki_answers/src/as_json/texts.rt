@@ -1,14 +1,12 @@
 //! JSON values as texts.
-ghost use Rattle.std.specs.Prelude.{◌≡◌, false, map, IfOk, string_bytes};
+ghost use Rattle.std.specs.Prelude.{◌≡◌, ◌++◌, false, map, IfOk, OnOk, string_bytes};
 ghost use Rattle.std.specs.List.{AllByRecursion, flat_map};
 ghost use Rattle.serde_json.specs.View.{view};
 ghost use Rattle.serde_json.specs.Written.{has_float};
 ghost use Rattle.rpki_answers.specs.JsonTexts.{json_line, json_lines, json_value_text, values_text};
 ghost use Rattle.rpki_document.specs.Documents.{array_of};
-ghost use Rattle.rpki_text.specs.Pages.{Appends};
 
 use crate::as_json::ascii::ended_ascii;
-use rpki_text::Page;
 use rpki_text::command_line::Format;
 use serde_json::Value;
 use std::alloc::{AllocError, Global};
@@ -43,14 +41,21 @@ pub fn value_text(alloc: Global, value: &Value, format: Format) -> Result<String
 }
 
 // Appends the text of each value.
-fn append_each(page: &mut Page, values: &[Value], format: Format)
+fn append_each(
+    out: &mut String,
+    alloc: Global,
+    values: &[Value],
+    format: Format,
+) -> Result<(), AllocError>
     ensures { AllByRecursion (λ value. has_float (view value) ≡ false) values.now
-        → Appends page.old (flat_map (λ value. json_value_text format (view value)) values.now) page.new }
+        → OnOk result (string_bytes out.new ≡ string_bytes out.old
+        ++ flat_map (λ value. json_value_text format (view value)) values.now) }
 {
     for value in values {
-        let text = value_text(page.alloc(), value, format);
-        page.formed(text);
+        let text = value_text(alloc, value, format)?;
+        out.push_str(text.as_str())?;
     }
+    Ok(())
 }
 
 // Writes each value, one after the other.
@@ -59,10 +64,10 @@ fn each_text(alloc: Global, values: Vec<Value>, format: Format) -> Result<String
         → IfOk result (λ text.
         string_bytes text ≡ flat_map (json_value_text format) (map view values.items)) }
 {
-    let mut page = Page::new(alloc);
-    append_each(&mut page, &values, format);
+    let mut out = String::new(alloc);
+    append_each(&mut out, alloc, &values, format)?;
     drop(values);
-    page.into_text()
+    Ok(out)
 }
 
 // Writes one array of the values.

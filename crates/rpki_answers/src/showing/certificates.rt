@@ -13,7 +13,9 @@ use crate::told::{
 };
 use rpki_cert::{Cert, InspectionError, KeyUsage, Kind, Overclaim, TbsCert};
 use rpki_der::Time;
-use rpki_document::{Leaf, Part, Piece, add_each, add_inside, add_line, add_told};
+use rpki_document::{
+    Added, Leaf, Parts, Piece, add_each, add_inside, add_item, add_line, add_told,
+};
 use rpki_files::Object;
 use rpki_parts::Validity;
 use rpki_text::Identifier;
@@ -35,12 +37,7 @@ fn type_word(kind: Kind) -> &'static str
     }
 }
 
-fn add_typed<'p>(
-    parts: &mut Vec<Part<'p>>,
-    alloc: Global,
-    kind: Leaf<'p>,
-    word: &'p str,
-) -> Result<(), AllocError>
+fn add_typed<'p>(parts: &mut Parts<'p>, alloc: Global, kind: Leaf<'p>, word: &'p str) -> Added
     ensures { let its = typed_line (leaf_view kind.entry) word.now in
         OnOk result (Adds (its ∷ []) parts.old.items parts.new.items) }
 {
@@ -51,14 +48,14 @@ fn add_typed<'p>(
     add_line(parts, "Kind", pieces)
 }
 
-fn add_kind(parts: &mut Vec<Part<'_>>, alloc: Global, kind: Kind) -> Result<(), AllocError>
+fn add_kind(parts: &mut Parts<'_>, alloc: Global, kind: Kind) -> Added
     ensures { OnOk result (Adds (kind_line kind ∷ []) parts.old.items parts.new.items) }
 {
     add_typed(parts, alloc, kind_leaf(kind), type_word(kind))
 }
 
 // The version, the number, the algorithm and the names.
-fn add_fields(parts: &mut Vec<Part<'_>>, alloc: Global, fields: &TbsCert) -> Result<(), AllocError>
+fn add_fields(parts: &mut Parts<'_>, alloc: Global, fields: &TbsCert) -> Added
     ensures { OnOk result (Adds (field_nodes fields.now) parts.old.items parts.new.items) }
 {
     add_told(parts, alloc, "Version", "version", Leaf::Count(3))?;
@@ -78,12 +75,7 @@ fn add_fields(parts: &mut Vec<Part<'_>>, alloc: Global, fields: &TbsCert) -> Res
     add_told(parts, alloc, "Subject", "cert_subject", subject)
 }
 
-fn add_validity(
-    parts: &mut Vec<Part<'_>>,
-    alloc: Global,
-    validity: Validity,
-    at: Time,
-) -> Result<(), AllocError>
+fn add_validity(parts: &mut Parts<'_>, alloc: Global, validity: Validity, at: Time) -> Added
     ensures { OnOk result (Adds (validity_nodes validity at) parts.old.items parts.new.items) }
 {
     let period = Period {
@@ -108,12 +100,7 @@ fn usage_leaf(usage: KeyUsage) -> Leaf<'static>
 }
 
 // The key, and that of the issuer.
-fn add_keys(
-    parts: &mut Vec<Part<'_>>,
-    alloc: Global,
-    fields: &TbsCert,
-    found: &KeyAnswer,
-) -> Result<(), AllocError>
+fn add_keys(parts: &mut Parts<'_>, alloc: Global, fields: &TbsCert, found: &KeyAnswer) -> Added
     ensures { OnOk result
         (Adds (own_key_nodes fields.now found.now) parts.old.items parts.new.items) }
 {
@@ -131,11 +118,7 @@ fn add_keys(
 }
 
 // Where things are.
-fn add_places<'p>(
-    parts: &mut Vec<Part<'p>>,
-    alloc: Global,
-    fields: &'p TbsCert,
-) -> Result<(), AllocError>
+fn add_places<'p>(parts: &mut Parts<'p>, alloc: Global, fields: &'p TbsCert) -> Added
     ensures { OnOk result
         (Adds (place_nodes fields.now.extensions) parts.old.items parts.new.items) }
 {
@@ -186,11 +169,7 @@ fn overclaim_leaf(overclaim: Overclaim) -> Leaf<'static>
     }
 }
 
-fn add_resources(
-    parts: &mut Vec<Part<'_>>,
-    alloc: Global,
-    fields: &TbsCert,
-) -> Result<(), AllocError>
+fn add_resources(parts: &mut Parts<'_>, alloc: Global, fields: &TbsCert) -> Added
     ensures { OnOk result
         (Adds (own_resource_nodes fields.now.extensions) parts.old.items parts.new.items) }
 {
@@ -218,12 +197,12 @@ fn add_resources(
 
 // What isn't as a profile requires.
 fn add_unmet<'p>(
-    parts: &mut Vec<Part<'p>>,
+    parts: &mut Parts<'p>,
     alloc: Global,
     label: &'p str,
     key: &'p str,
     fault: InspectionError,
-) -> Result<(), AllocError>
+) -> Added
     ensures { let its = profile_line label.now key.now (Some fault) in
         OnOk result (Adds (its ∷ []) parts.old.items parts.new.items) }
 {
@@ -235,12 +214,12 @@ fn add_unmet<'p>(
 }
 
 fn add_profile<'p>(
-    parts: &mut Vec<Part<'p>>,
+    parts: &mut Parts<'p>,
     alloc: Global,
     label: &'p str,
     key: &'p str,
     answer: Option<InspectionError>,
-) -> Result<(), AllocError>
+) -> Added
     ensures { let its = profile_line label.now key.now answer in
         OnOk result (Adds (its ∷ []) parts.old.items parts.new.items) }
 {
@@ -250,11 +229,7 @@ fn add_profile<'p>(
     }
 }
 
-fn add_each_profile(
-    parts: &mut Vec<Part<'_>>,
-    alloc: Global,
-    answers: &Answers,
-) -> Result<(), AllocError>
+fn add_each_profile(parts: &mut Parts<'_>, alloc: Global, answers: &Answers) -> Added
     ensures { OnOk result (Adds (each_profile answers.now) parts.old.items parts.new.items) }
 {
     add_profile(parts, alloc, "Trust anchor profile", "ta", answers.anchor)?;
@@ -270,11 +245,7 @@ fn add_each_profile(
     add_profile(parts, alloc, "Router profile", "router", answers.router)
 }
 
-fn add_profiles_inside(
-    parts: &mut Vec<Part<'_>>,
-    alloc: Global,
-    answers: &Answers,
-) -> Result<(), AllocError>
+fn add_profiles_inside(parts: &mut Parts<'_>, alloc: Global, answers: &Answers) -> Added
     ensures { OnOk result (Adds (all_profiles true answers.now) parts.old.items parts.new.items) }
 {
     let mut each = Vec::new(alloc);
@@ -283,12 +254,7 @@ fn add_profiles_inside(
 }
 
 // If all is asked.
-fn add_all_profiles(
-    parts: &mut Vec<Part<'_>>,
-    alloc: Global,
-    all: bool,
-    answers: &Answers,
-) -> Result<(), AllocError>
+fn add_all_profiles(parts: &mut Parts<'_>, alloc: Global, all: bool, answers: &Answers) -> Added
     ensures { OnOk result (Adds (all_profiles all answers.now) parts.old.items parts.new.items) }
 {
     if all {
@@ -299,12 +265,7 @@ fn add_all_profiles(
 }
 
 // That of its own kind, and the others.
-fn add_profiles(
-    parts: &mut Vec<Part<'_>>,
-    alloc: Global,
-    all: bool,
-    found: &Findings,
-) -> Result<(), AllocError>
+fn add_profiles(parts: &mut Parts<'_>, alloc: Global, all: bool, found: &Findings) -> Added
     ensures { OnOk result (Adds (profile_nodes all found.now) parts.old.items parts.new.items) }
 {
     let answer = found.answers.of(found.kind);
@@ -367,7 +328,7 @@ fn fact_leaf(alloc: Global, fact: Fact<'_>) -> Result<Leaf<'_>, AllocError>
     }
 }
 
-fn add_fact<'p>(parts: &mut Vec<Part<'p>>, alloc: Global, fact: Fact<'p>) -> Result<(), AllocError>
+fn add_fact<'p>(parts: &mut Parts<'p>, alloc: Global, fact: Fact<'p>) -> Added
     ensures { OnOk result (Adds (fact_node fact.entry ∷ []) parts.old.items parts.new.items) }
 {
     let leaf = fact_leaf(alloc, fact)?;
@@ -382,11 +343,7 @@ fn add_fact<'p>(parts: &mut Vec<Part<'p>>, alloc: Global, fact: Fact<'p>) -> Res
     add_inside(parts, "", own)
 }
 
-fn add_facts<'p>(
-    parts: &mut Vec<Part<'p>>,
-    alloc: Global,
-    facts: &[Fact<'p>],
-) -> Result<(), AllocError>
+fn add_facts<'p>(parts: &mut Parts<'p>, alloc: Global, facts: &[Fact<'p>]) -> Added
     ensures { OnOk result (Adds (map fact_node facts.now) parts.old.items parts.new.items) }
 {
     for fact in facts {
@@ -396,16 +353,15 @@ fn add_facts<'p>(
 }
 
 fn add_noted<'p>(
-    parts: &mut Vec<Part<'p>>,
+    parts: &mut Parts<'p>,
     alloc: Global,
     name: &'p str,
     says: &'p str,
     section: &'p str,
-) -> Result<(), AllocError>
+) -> Added
     ensures { let its = noted_line name.now says.now section.now in
         OnOk result (Adds (its ∷ []) parts.old.items parts.new.items) }
 {
-    let mut own = Vec::new(alloc);
     let pieces = vec![in alloc;
         Piece::Keep("note", Leaf::Text(name)),
         Piece::Tell("why", Leaf::Text(says)),
@@ -413,17 +369,16 @@ fn add_noted<'p>(
         Piece::Tell("standard", Leaf::Text(section)),
         Piece::Say(")"),
     ]?;
-    add_line(&mut own, "Note", pieces)?;
-    add_inside(parts, "", own)
+    add_item(parts, alloc, "Note", pieces)
 }
 
-fn add_note(parts: &mut Vec<Part<'_>>, alloc: Global, note: Note) -> Result<(), AllocError>
+fn add_note(parts: &mut Parts<'_>, alloc: Global, note: Note) -> Added
     ensures { OnOk result (Adds (note_line note ∷ []) parts.old.items parts.new.items) }
 {
     add_noted(parts, alloc, note.name(), note.says(), note.section())
 }
 
-fn add_notes(parts: &mut Vec<Part<'_>>, alloc: Global, notes: &[Note]) -> Result<(), AllocError>
+fn add_notes(parts: &mut Parts<'_>, alloc: Global, notes: &[Note]) -> Added
     ensures { OnOk result (Adds (map note_line notes.now) parts.old.items parts.new.items) }
 {
     for note in notes {
@@ -433,11 +388,11 @@ fn add_notes(parts: &mut Vec<Part<'_>>, alloc: Global, notes: &[Note]) -> Result
 }
 
 fn add_remarks<'p>(
-    parts: &mut Vec<Part<'p>>,
+    parts: &mut Parts<'p>,
     alloc: Global,
     facts: &[Fact<'p>],
     notes: &[Note],
-) -> Result<(), AllocError>
+) -> Added
     ensures { OnOk result
         (Adds (remark_nodes facts.now notes.now) parts.old.items parts.new.items) }
 {
@@ -453,12 +408,12 @@ fn add_remarks<'p>(
 
 // The fields of a certificate, and what was found of it.
 fn add_found<'p>(
-    parts: &mut Vec<Part<'p>>,
+    parts: &mut Parts<'p>,
     alloc: Global,
     fields: &'p TbsCert,
     found: &Findings,
     options: &Options,
-) -> Result<(), AllocError>
+) -> Added
     ensures { let f = fields.now in
         let its = certificate_nodes f options.now.at options.now.all found.now in
         OnOk result (Adds its parts.old.items parts.new.items) }
@@ -474,12 +429,12 @@ fn add_found<'p>(
 
 /// Adds the certificate that a file starts with, but for its signature.
 pub fn add_certificate<'p>(
-    parts: &mut Vec<Part<'p>>,
+    parts: &mut Parts<'p>,
     alloc: Global,
     object: &'p Object<'_>,
     cert: &'p Cert,
     options: &Options,
-) -> Result<(), AllocError>
+) -> Added
     requires { Means IsCertificate cert.now object.now.octets }
     ensures { let Is = IsShownCertificate options.now object.now.octets cert.now in
         OnOk result (AddsSome Is parts.old.items parts.new.items) }

@@ -20,7 +20,9 @@ use crate::told::{add_key, add_signature, add_unsigned, identifier_leaf, printed
 use base64::engine::general_purpose::STANDARD;
 use rpki_cert::Cert;
 use rpki_crl::Crl;
-use rpki_document::{Leaf, Part, Piece, add_each, add_inside, add_kept, add_line, add_told};
+use rpki_document::{
+    Added, Leaf, Parts, Piece, add_each, add_inside, add_kept, add_line, add_told,
+};
 use rpki_files::rules::{Rule, of_tal};
 use rpki_files::{Content, Flaw, Object, Place, Sort};
 use rpki_keys::tal::{Tal, TalError, TalUri};
@@ -45,7 +47,7 @@ fn hash_base64(alloc: Global, octets: &[u8]) -> Result<String, AllocError>
     STANDARD.encode(alloc, digest.as_slice())
 }
 
-fn add_hash(parts: &mut Vec<Part<'_>>, alloc: Global, octets: &[u8]) -> Result<(), AllocError>
+fn add_hash(parts: &mut Parts<'_>, alloc: Global, octets: &[u8]) -> Added
     ensures { OnOk result (Adds (hash_line octets.now ∷ []) parts.old.items parts.new.items) }
 {
     let digits = hash_digits(alloc, octets)?;
@@ -57,11 +59,7 @@ fn add_hash(parts: &mut Vec<Part<'_>>, alloc: Global, octets: &[u8]) -> Result<(
     add_line(parts, "SHA-256", pieces)
 }
 
-fn add_name<'p>(
-    parts: &mut Vec<Part<'p>>,
-    alloc: Global,
-    object: &'p Object<'_>,
-) -> Result<(), AllocError>
+fn add_name<'p>(parts: &mut Parts<'p>, alloc: Global, object: &'p Object<'_>) -> Added
     ensures { OnOk result (Adds (name_line object.now ∷ []) parts.old.items parts.new.items) }
 {
     add_told(parts, alloc, "File", "file", Leaf::Text(object.name()))
@@ -70,11 +68,11 @@ fn add_name<'p>(
 // Of a to-be-signed part that it isn't signed, and its name; of another file its name, and the hash
 // of its object.
 fn add_file<'p>(
-    parts: &mut Vec<Part<'p>>,
+    parts: &mut Parts<'p>,
     alloc: Global,
     object: &'p Object<'_>,
     to_be_signed: bool,
-) -> Result<(), AllocError>
+) -> Added
     ensures { let its = file_nodes object.now to_be_signed in
         OnOk result (Adds its parts.old.items parts.new.items) }
 {
@@ -87,7 +85,7 @@ fn add_file<'p>(
 }
 
 // How many octets stand behind an object.
-fn add_left(parts: &mut Vec<Part<'_>>, alloc: Global, left: usize) -> Result<(), AllocError>
+fn add_left(parts: &mut Parts<'_>, alloc: Global, left: usize) -> Added
     ensures { OnOk result (Adds (left_line left ∷ []) parts.old.items parts.new.items) }
 {
     let pieces = vec![in alloc;
@@ -98,7 +96,7 @@ fn add_left(parts: &mut Vec<Part<'_>>, alloc: Global, left: usize) -> Result<(),
 }
 
 // If some do.
-fn add_behind(parts: &mut Vec<Part<'_>>, alloc: Global, left: usize) -> Result<(), AllocError>
+fn add_behind(parts: &mut Parts<'_>, alloc: Global, left: usize) -> Added
     ensures { OnOk result (Adds (behind_nodes left) parts.old.items parts.new.items) }
 {
     if left > 0 {
@@ -110,7 +108,7 @@ fn add_behind(parts: &mut Vec<Part<'_>>, alloc: Global, left: usize) -> Result<(
 
 // ---- TALs
 
-fn add_uri<'p>(parts: &mut Vec<Part<'p>>, alloc: Global, uri: &'p TalUri) -> Result<(), AllocError>
+fn add_uri<'p>(parts: &mut Parts<'p>, alloc: Global, uri: &'p TalUri) -> Added
     ensures { let its = uri_line (uri_text uri.now) in
         OnOk result (Adds (its ∷ []) parts.old.items parts.new.items) }
 {
@@ -118,11 +116,7 @@ fn add_uri<'p>(parts: &mut Vec<Part<'p>>, alloc: Global, uri: &'p TalUri) -> Res
     add_told(parts, alloc, "URI", "", Leaf::Characters(octets))
 }
 
-fn add_uris<'p>(
-    parts: &mut Vec<Part<'p>>,
-    alloc: Global,
-    uris: &'p [TalUri],
-) -> Result<(), AllocError>
+fn add_uris<'p>(parts: &mut Parts<'p>, alloc: Global, uris: &'p [TalUri]) -> Added
     ensures { let its = map (λ uri. uri_line (uri_text uri)) uris.now in
         OnOk result (Adds its parts.old.items parts.new.items) }
 {
@@ -133,12 +127,7 @@ fn add_uris<'p>(
 }
 
 // The key, of which this was found, and its identifier.
-fn add_tal_key(
-    parts: &mut Vec<Part<'_>>,
-    alloc: Global,
-    tal: &Tal,
-    found: &KeyAnswer,
-) -> Result<(), AllocError>
+fn add_tal_key(parts: &mut Parts<'_>, alloc: Global, tal: &Tal, found: &KeyAnswer) -> Added
     ensures { OnOk result
         (Adds (tal_key_nodes tal.now.tal.key found.now) parts.old.items parts.new.items) }
 {
@@ -151,12 +140,7 @@ fn add_tal_key(
     add_told(parts, alloc, "Subject key identifier", "ski", identifier)
 }
 
-fn add_tal<'p>(
-    parts: &mut Vec<Part<'p>>,
-    alloc: Global,
-    name: &'p str,
-    tal: &'p Tal,
-) -> Result<(), AllocError>
+fn add_tal<'p>(parts: &mut Parts<'p>, alloc: Global, name: &'p str, tal: &'p Tal) -> Added
     ensures { OnOk result ((key : _) × IsLocatorKey tal.now.tal.key key
         × Adds (tal_nodes name.now tal.now.tal key) parts.old.items parts.new.items) }
 {
@@ -172,7 +156,7 @@ fn add_tal<'p>(
 // ---- files that are none
 
 // What an error means, and the section of the standard.
-fn add_rule(parts: &mut Vec<Part<'_>>, alloc: Global, rule: Rule) -> Result<(), AllocError>
+fn add_rule(parts: &mut Parts<'_>, alloc: Global, rule: Rule) -> Added
     ensures { OnOk result (Adds (rule_nodes rule) parts.old.items parts.new.items) }
 {
     add_told(parts, alloc, "Why", "why", Leaf::Text(rule.says))?;
@@ -186,7 +170,7 @@ fn add_rule(parts: &mut Vec<Part<'_>>, alloc: Global, rule: Rule) -> Result<(), 
 }
 
 // A file that looks like a TAL.
-fn add_no_tal(parts: &mut Vec<Part<'_>>, alloc: Global, error: &TalError) -> Result<(), AllocError>
+fn add_no_tal(parts: &mut Parts<'_>, alloc: Global, error: &TalError) -> Added
     ensures { OnOk result ((rule : _) × (rule_of rule ≡ tal_rule error.now)
         × Adds (no_tal_nodes error.now rule) parts.old.items parts.new.items) }
 {
@@ -196,11 +180,7 @@ fn add_no_tal(parts: &mut Vec<Part<'_>>, alloc: Global, error: &TalError) -> Res
 }
 
 // What is found where reading stops, if a flaw is told.
-fn add_found(
-    parts: &mut Vec<Part<'_>>,
-    alloc: Global,
-    found: Option<Flaw>,
-) -> Result<(), AllocError>
+fn add_found(parts: &mut Parts<'_>, alloc: Global, found: Option<Flaw>) -> Added
     ensures { OnOk result (Adds (found_nodes found) parts.old.items parts.new.items) }
 {
     match found {
@@ -213,12 +193,7 @@ fn add_found(
 }
 
 // Where reading stops.
-fn add_where<'p>(
-    parts: &mut Vec<Part<'p>>,
-    alloc: Global,
-    field: &'p str,
-    octet: usize,
-) -> Result<(), AllocError>
+fn add_where<'p>(parts: &mut Parts<'p>, alloc: Global, field: &'p str, octet: usize) -> Added
     ensures { let its = where_line field.now octet in
         OnOk result (Adds (its ∷ []) parts.old.items parts.new.items) }
 {
@@ -231,7 +206,7 @@ fn add_where<'p>(
 }
 
 // And what is expected there.
-fn add_place(parts: &mut Vec<Part<'_>>, alloc: Global, place: Place) -> Result<(), AllocError>
+fn add_place(parts: &mut Parts<'_>, alloc: Global, place: Place) -> Added
     ensures { OnOk result (Adds (place_nodes place) parts.old.items parts.new.items) }
 {
     add_where(parts, alloc, place.field, place.octet)?;
@@ -255,11 +230,7 @@ fn shows_stop(all: bool, sort: Option<Sort>) -> bool
 }
 
 // The error, and where reading stops.
-fn add_fault<'p>(
-    parts: &mut Vec<Part<'p>>,
-    alloc: Global,
-    it: &'p Rejection,
-) -> Result<(), AllocError>
+fn add_fault<'p>(parts: &mut Parts<'p>, alloc: Global, it: &'p Rejection) -> Added
     ensures { OnOk result (Adds (fault_nodes it.now) parts.old.items parts.new.items) }
 {
     add_told(parts, alloc, "Error", "fault", Leaf::Text(it.why.as_str()))?;
@@ -267,12 +238,7 @@ fn add_fault<'p>(
 }
 
 // If that is shown.
-fn add_stop<'p>(
-    parts: &mut Vec<Part<'p>>,
-    alloc: Global,
-    shows: bool,
-    it: &'p Rejection,
-) -> Result<(), AllocError>
+fn add_stop<'p>(parts: &mut Parts<'p>, alloc: Global, shows: bool, it: &'p Rejection) -> Added
     ensures { OnOk result (Adds (stop_nodes shows it.now) parts.old.items parts.new.items) }
 {
     if shows {
@@ -282,12 +248,7 @@ fn add_stop<'p>(
     }
 }
 
-fn add_unread<'p>(
-    parts: &mut Vec<Part<'p>>,
-    alloc: Global,
-    all: bool,
-    it: &'p Rejection,
-) -> Result<(), AllocError>
+fn add_unread<'p>(parts: &mut Parts<'p>, alloc: Global, all: bool, it: &'p Rejection) -> Added
     ensures { OnOk result (Adds (unread_nodes all it.now) parts.old.items parts.new.items) }
 {
     add_sort(parts, alloc, it.sort)?;
@@ -298,13 +259,13 @@ fn add_unread<'p>(
 // ---- the whole
 
 fn add_whole_certificate<'p>(
-    parts: &mut Vec<Part<'p>>,
+    parts: &mut Parts<'p>,
     alloc: Global,
     object: &'p Object<'_>,
     cert: &'p Cert,
     left: usize,
     options: &Options,
-) -> Result<(), AllocError>
+) -> Added
     requires { BeginsBefore IsCertificate object.now.octets cert.now left }
     ensures { let Is = IsShownBefore options.now object.now.octets cert.now left in
         OnOk result (AddsSome Is parts.old.items parts.new.items) }
@@ -315,12 +276,12 @@ fn add_whole_certificate<'p>(
 }
 
 fn add_whole_list<'p>(
-    parts: &mut Vec<Part<'p>>,
+    parts: &mut Parts<'p>,
     alloc: Global,
     list: &Crl,
     left: usize,
     options: &Options,
-) -> Result<(), AllocError>
+) -> Added
     ensures { let its = whole_list_nodes options.now list.now.list.fields left in
         OnOk result (Adds its parts.old.items parts.new.items) }
 {
@@ -331,11 +292,11 @@ fn add_whole_list<'p>(
 
 // A to-be-signed part, here with a signature of no bytes.
 fn add_to_be_signed<'p>(
-    parts: &mut Vec<Part<'p>>,
+    parts: &mut Parts<'p>,
     alloc: Global,
     whole: &'p Object<'_>,
     options: &Options,
-) -> Result<(), AllocError>
+) -> Added
     requires { BeginsWithEither whole.now.octets }
     ensures { let Is = IsShownUnsigned options.now whole.now.octets in
         OnOk result (AddsSome Is parts.old.items parts.new.items) }
@@ -351,12 +312,12 @@ fn add_to_be_signed<'p>(
 
 // What is said of a file that is this.
 fn add_said<'p>(
-    parts: &mut Vec<Part<'p>>,
+    parts: &mut Parts<'p>,
     alloc: Global,
     object: &'p Object<'_>,
     subject: &'p Subject<'_>,
     options: &Options,
-) -> Result<(), AllocError>
+) -> Added
     requires { IsSubject options.now.strict object.now.octets subject.now }
     ensures { let Is = IsSaidOfFile options.now object.now subject.now in
         OnOk result (AddsSome Is parts.old.items parts.new.items) }
@@ -379,7 +340,7 @@ pub fn file_document<'p>(
     object: &'p Object<'_>,
     subject: &'p Subject<'_>,
     options: &Options,
-) -> Result<Vec<Part<'p>>, AllocError>
+) -> Result<Parts<'p>, AllocError>
     requires { IsSubject options.now.strict object.now.octets subject.now }
     ensures { IfOk result (λ parts. IsFileDocument options.now object.now (nodes_of parts.items)) }
 {

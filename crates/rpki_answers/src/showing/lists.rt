@@ -7,7 +7,9 @@ ghost use Rattle.rpki_answers.specs.ShownLists.{entry_node, entry_nodes, few, li
 use crate::told::{add_until, identifier_leaf, moment_leaf, name_leaf, printed};
 use rpki_crl::{RevokedCertificates, TbsCertList};
 use rpki_der::{Serial, Time};
-use rpki_document::{Leaf, Part, Piece, add_each, add_further, add_inside, add_line, add_told};
+use rpki_document::{
+    Added, Leaf, Parts, Piece, add_each, add_further, add_inside, add_line, add_told,
+};
 use rpki_text::moments::Period;
 use std::alloc::{AllocError, Global};
 
@@ -26,11 +28,11 @@ fn count_of(revoked: &RevokedCertificates) -> Option<u64>
 }
 
 fn add_revocation<'p>(
-    parts: &mut Vec<Part<'p>>,
+    parts: &mut Parts<'p>,
     alloc: Global,
     serial: Leaf<'p>,
     date: Leaf<'p>,
-) -> Result<(), AllocError>
+) -> Added
     ensures { let its = revocation_node (leaf_view serial.entry) (leaf_view date.entry) in
         OnOk result (Adds (its ∷ []) parts.old.items parts.new.items) }
 {
@@ -44,12 +46,7 @@ fn add_revocation<'p>(
     add_inside(parts, "", own)
 }
 
-fn add_entry(
-    parts: &mut Vec<Part<'_>>,
-    alloc: Global,
-    serial: Serial,
-    date: Time,
-) -> Result<(), AllocError>
+fn add_entry(parts: &mut Parts<'_>, alloc: Global, serial: Serial, date: Time) -> Added
     ensures { let its = entry_node (record { serial = serial; date = date }) in
         OnOk result (Adds (its ∷ []) parts.old.items parts.new.items) }
 {
@@ -60,11 +57,11 @@ fn add_entry(
 
 // So many of the first revoked certificates.
 fn add_first(
-    parts: &mut Vec<Part<'_>>,
+    parts: &mut Parts<'_>,
     alloc: Global,
     revoked: &RevokedCertificates,
     count: u64,
-) -> Result<(), AllocError>
+) -> Added
     ensures { let its = map entry_node (take count revoked.now.entries) in
         OnOk result (Adds its parts.old.items parts.new.items) }
 {
@@ -80,11 +77,7 @@ fn add_first(
 }
 
 // The first few, and two dots.
-fn add_few(
-    parts: &mut Vec<Part<'_>>,
-    alloc: Global,
-    revoked: &RevokedCertificates,
-) -> Result<(), AllocError>
+fn add_few(parts: &mut Parts<'_>, alloc: Global, revoked: &RevokedCertificates) -> Added
     ensures { OnOk result
         (Adds (entry_nodes false revoked.now.entries) parts.old.items parts.new.items) }
 {
@@ -95,12 +88,12 @@ fn add_few(
 
 // All of the revoked certificates, which are so many, or the first few and two dots.
 fn add_entries(
-    parts: &mut Vec<Part<'_>>,
+    parts: &mut Parts<'_>,
     alloc: Global,
     revoked: &RevokedCertificates,
     count: u64,
     whole: bool,
-) -> Result<(), AllocError>
+) -> Added
     requires { count ≡ length revoked.now.entries }
     ensures { OnOk result
         (Adds (entry_nodes whole revoked.now.entries) parts.old.items parts.new.items) }
@@ -120,11 +113,11 @@ fn is_whole(all: bool, count: u64) -> bool
 }
 
 fn add_revoked(
-    parts: &mut Vec<Part<'_>>,
+    parts: &mut Parts<'_>,
     alloc: Global,
     revoked: &RevokedCertificates,
     all: bool,
-) -> Result<(), AllocError>
+) -> Added
     ensures { OnOk result
         (Adds (revoked_nodes all revoked.now.entries) parts.old.items parts.new.items) }
 {
@@ -141,10 +134,10 @@ fn add_revoked(
 
 // The issuer, its key, and the number.
 fn add_head(
-    parts: &mut Vec<Part<'_>>,
+    parts: &mut Parts<'_>,
     alloc: Global,
     fields: &TbsCertList<RevokedCertificates>,
-) -> Result<(), AllocError>
+) -> Added
     ensures { OnOk result (Adds (list_head fields.now) parts.old.items parts.new.items) }
 {
     add_told(parts, alloc, "Kind", "type", Leaf::Words("CRL", "crl"))?;
@@ -156,13 +149,7 @@ fn add_head(
     add_told(parts, alloc, "CRL number", "crl_serial", number)
 }
 
-fn add_updates(
-    parts: &mut Vec<Part<'_>>,
-    alloc: Global,
-    from: Time,
-    until: Time,
-    at: Time,
-) -> Result<(), AllocError>
+fn add_updates(parts: &mut Parts<'_>, alloc: Global, from: Time, until: Time, at: Time) -> Added
     ensures { OnOk result (Adds (update_nodes from until at) parts.old.items parts.new.items) }
 {
     let since = moment_leaf(alloc, from)?;
@@ -180,12 +167,12 @@ fn add_updates(
 /// Adds a CRL at a validation time, with all revoked certificates or the first few, but for its
 /// signature.
 pub fn add_list(
-    parts: &mut Vec<Part<'_>>,
+    parts: &mut Parts<'_>,
     alloc: Global,
     fields: &TbsCertList<RevokedCertificates>,
     now: Time,
     all: bool,
-) -> Result<(), AllocError>
+) -> Added
     ensures { OnOk result (Adds (list_nodes fields.now now all) parts.old.items parts.new.items) }
 {
     add_head(parts, alloc, fields)?;

@@ -1,6 +1,6 @@
-use Rattle.std.proofs.Common.{[], ◌∷◌, refl}
+use Rattle.std.proofs.Common.{◌∙◌, [], ◌∷◌, map, ap, refl}
+use Rattle.std.proofs.lemmas.List.{map-append}
 use Rattle.serde_json.specs.View.{view}
-use Rattle.rpki_answers.proofs.PushedItems.{value_pushed}
 use Rattle.rpki_answers.proofs.showing.push_value.Goals as goal
 
 pub returns-clause-pushed : goal.returns-clause-pushed
@@ -8,5 +8,5 @@ returns-clause-pushed c =
     let value = c.in_ok-it.it.value in (
       view value ∷ [],
       (view value, c.in_ok-it.ensures.value, refl),
-      value_pushed c.args.values.now.items c.push.new.self.items value (view value) c.in_ok-push.ensures.items refl,
+      ap (map view) c.in_ok-push.ensures.items ∙ map-append view c.args.values.now.items (value ∷ []),
     )

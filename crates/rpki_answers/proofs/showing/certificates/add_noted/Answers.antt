@@ -1,7 +1,4 @@
-use Rattle.rpki_document.proofs.Built.{ended_with}
 use Rattle.rpki_answers.proofs.showing.certificates.add_noted.Goals as goal
 
 pub returns : goal.returns
-returns c =
-    ended_with c.add_inside.result _ _ _ c.add_inside.ensures
-    (rw (c.in_ok-add_line.ensures, c.new-own.ensures.items, c.in_ok-pieces.ensures.items))
+returns c = rw c.in_ok-pieces.ensures.items at c.add_item.ensures

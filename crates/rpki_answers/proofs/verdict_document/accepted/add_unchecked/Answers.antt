@@ -1,0 +1,4 @@
+use Rattle.rpki_answers.proofs.verdict_document.accepted.add_unchecked.Goals as goal
+
+pub returns : goal.returns
+returns c = rw c.in_ok-pieces.ensures.items at c.add_line.ensures

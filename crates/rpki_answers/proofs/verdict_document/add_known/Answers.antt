@@ -1,7 +1,0 @@
-use Rattle.rpki_document.proofs.Built.{ended_with}
-use Rattle.rpki_answers.proofs.verdict_document.add_known.Goals as goal
-
-pub returns : goal.returns
-returns c =
-    ended_with c.add_inside.result _ _ _ c.add_inside.ensures
-    (rw (c.in_ok-add_line.ensures, c.new-own.ensures.items, c.in_ok-pieces.ensures.items, c.in_ok-serial.ensures, c.kind_leaf.ensures))

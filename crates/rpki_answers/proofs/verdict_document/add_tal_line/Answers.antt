@@ -1,4 +1,0 @@
-use Rattle.rpki_answers.proofs.verdict_document.add_tal_line.Goals as goal
-
-pub returns : goal.returns
-returns c = rw (c.in_ok-pieces.ensures.items, c.in_ok-key.ensures, c.uris_word.ensures) at c.add_line.ensures

@@ -1,4 +1,0 @@
-use Rattle.rpki_answers.proofs.verdict_document.add_unchecked.Goals as goal
-
-pub returns : goal.returns
-returns c = rw c.in_ok-pieces.ensures.items at c.add_line.ensures

@@ -1,0 +1,4 @@
+use Rattle.rpki_answers.proofs.verdict_document.files.add_other.Goals as goal
+
+pub returns : goal.returns
+returns c = rw c.in_ok-pieces.ensures.items at c.add_item.ensures
