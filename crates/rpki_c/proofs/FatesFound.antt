@@ -50,7 +50,7 @@ use Rattle.rpki_folder.specs.declared.walk_error.WalkError.TheVariants.{Anchor a
 use Rattle.rpki_folder.proofs.AlikeOctets.{AreAlike, accepted_alike, are_alike, chained_alike, kind_alike}
 use Rattle.rpki_folder.proofs.AlikeOctets.{rejected_alike}
 use Rattle.rpki_folder.proofs.AnchorSteps.{anchor_is}
-use Rattle.rpki_folder.proofs.Descent.{no_certificate, there as inside_at}
+use Rattle.rpki_folder.proofs.Descent.{all_weaker, no_certificate, there as inside_at}
 use Rattle.rpki_folder.proofs.FirstPaths.{first_same, looked_firsts, reached_firsts, stands_first}
 use Rattle.rpki_folder.proofs.KeptPaths.{first_told}
 use Rattle.rpki_folder.proofs.Renamed.{all_looked_there}
@@ -229,11 +229,6 @@ same_cas certs others moved (q ∷ places) h =
 all_of : {X : Type 0} (P : X → Type 0) → ((x : X) → P x) → (xs : List X) → AllByRecursion P xs
 all_of P h [] = tt
 all_of P h (x ∷ xs) = (h x, all_of P h xs)
-
-all_weaker : {X : Type 0} (P Q : X → Type 0) → ((x : X) → P x → Q x) → (xs : List X) → AllByRecursion P xs →
-    AllByRecursion Q xs
-all_weaker P Q f [] h = tt
-all_weaker P Q f (x ∷ xs) h = (f x h.0, all_weaker P Q f xs h.1)
 
 all_both : {X : Type 0} (P Q : X → Type 0) (xs : List X) → AllByRecursion P xs → AllByRecursion Q xs
     → AllByRecursion (λ x. P x × Q x) xs

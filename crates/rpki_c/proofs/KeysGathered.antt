@@ -1,6 +1,6 @@
 -- The keys of strings, gathered from one certificate after the other.
-use Rattle.std.specs.Prelude.{Any, Contains, Option, Some, None, map}
-use Rattle.std.proofs.Common.{◌≡◌, ◌+◌, ◌<◌, ◌⊎◌, ℕ, zero, suc, List, [], ◌∷◌, ◌++◌, append_assoc, get_or, length}
+use Rattle.std.specs.Prelude.{Contains, Option, Some, None, map}
+use Rattle.std.proofs.Common.{◌≡◌, ◌+◌, ◌<◌, ℕ, zero, suc, List, [], ◌∷◌, ◌++◌, append_assoc, get_or, length}
 use Rattle.std.proofs.Common.{take, refl, sym, ap, subst, ◌∙◌, inl, inr, arith}
 use Rattle.std.proofs.lemmas.List.{take_more}
 use Rattle.std.proofs.lemmas.List.Elements.{Contains-append_cases, Contains-append_left, Contains-append_right}
@@ -15,20 +15,7 @@ use Rattle.rpki_path.specs.declared.given.Last.{Last}
 use Rattle.rpki_path.specs.declared.given.Last.TheVariants as last
 use Rattle.rpki_c.specs.PathKeys.{AreKeysOf, key_named, keys_in, last_strings}
 use Rattle.rpki_c.specs.Verdicts.{IsKeyIn, all_strings}
-
-module _ (P : List ℕ → Type 0) where
-  any_push : (strings : List (List ℕ)) (octets : List ℕ) → Any P strings ⊎ P octets → Any P (strings ++ octets ∷ [])
-  any_push strings octets (inl (k, s, low, is, p)) = let (j, below, at) = Contains-append_left strings (octets ∷ [])
-      s (k, low, is) in (j, s, below, at, p)
-  any_push strings octets (inr p) = let (j, below, at) = Contains-append_right strings (octets ∷ []) octets
-      (0, omega arith, refl) in (j, octets, below, at, p)
-
-  any_cases : (strings : List (List ℕ)) (octets : List ℕ) → Any P (strings ++ octets ∷ []) → Any P strings ⊎ P octets
-  any_cases strings octets (k, s, low, is, p) = elim (Contains-append_cases strings (octets ∷ []) s (k, low, is)) [
-    | inl (j, below, at) ↦ inl (j, s, below, at, p)
-    | inr (zero, below, at) ↦ inr (subst P (sym at) p)
-    | inr (suc j, below, at) ↦ absurd (omega (arith, below))
-  ]
+use Rattle.rpki_c.proofs.OneMore.{any_front, any_last, any_split}
 
 -- none of none
 pub no_keys : AreKeysOf [] []
@@ -69,11 +56,11 @@ module _ (law : IsUnambiguous IsCertificate) (c : CertFields) (octets : List ℕ
   pub keys_more : (strings keys : List (List ℕ)) → AreKeysOf strings keys →
       AreKeysOf (strings ++ octets ∷ []) (keys ++ keys_in c)
   keys_more strings keys are key = (
-    (λ there. any_push (IsKeyIn key) strings octets (elim (Contains-append_cases keys (keys_in c) key there) [
-      | inl before ↦ inl ((are key).0 before)
-      | inr after ↦ inr (keys_back key after)
-    ])),
-    (λ some. elim (any_cases (IsKeyIn key) strings octets some) [
+    (λ there. elim (Contains-append_cases keys (keys_in c) key there) [
+      | inl before ↦ any_front (IsKeyIn key) strings octets ((are key).0 before)
+      | inr after ↦ any_last (IsKeyIn key) strings octets (keys_back key after)
+    ]),
+    (λ some. elim (any_split (IsKeyIn key) strings octets some) [
       | inl before ↦ Contains-append_left keys (keys_in c) key ((are key).1 before)
       | inr after ↦ Contains-append_right keys (keys_in c) key (keys_there key after)
     ]),
@@ -83,8 +70,8 @@ module _ (law : IsUnambiguous IsCertificate) (c : CertFields) (octets : List ℕ
 pub keys_same : (octets : List ℕ) → ((c : CertFields) → Means IsCertificate c octets → ⊥) →
     (strings keys : List (List ℕ)) → AreKeysOf strings keys → AreKeysOf (strings ++ octets ∷ []) keys
 keys_same octets none strings keys are key = (
-  (λ there. any_push (IsKeyIn key) strings octets (inl ((are key).0 there))),
-  (λ some. elim (any_cases (IsKeyIn key) strings octets some) [
+  (λ there. any_front (IsKeyIn key) strings octets ((are key).0 there)),
+  (λ some. elim (any_split (IsKeyIn key) strings octets some) [
     | inl before ↦ (are key).1 before
     | inr after ↦ absurd (none after.0 after.1)
   ]),

@@ -3,7 +3,6 @@ mod AllAsked
 mod AnsweredLists
 mod AnsweredWants
 mod CallersLists
-mod CertificateWalks
 mod Cutting
 mod EntriesPut
 mod FatesFound
@@ -17,7 +16,7 @@ mod KeysGathered
 mod LimitsFound
 mod ListTermsGiven
 mod OneMore
-mod PlacesTold
+mod PlacesFound
 mod QuestionTerms
 mod SameVerdicts
 mod Sentences

@@ -5,7 +5,6 @@ use Rattle.std.proofs.Common.{◌≡◌, ◌<◌, ◌≤◌, ◌⊎◌, ℕ, zer
 use Rattle.std.proofs.Common.{◌∙◌, refl, sym, ap, subst, inl, inr, arith}
 use Rattle.std.proofs.lemmas.Bool.{cases_lt, cases_eq, eq-eqb, ne_eqb}
 use Rattle.std.proofs.lemmas.List.{append-nil, get_or_past, length-map}
-use Rattle.std.proofs.lemmas.List.Elements.{Contains-append_cases, Contains-append_left, Contains-append_right}
 use Rattle.std.proofs.lemmas.List.Elements.{length_all_zip}
 use Rattle.rpki_der.specs.Values.{IsUnambiguous}
 use Rattle.rpki_der.proofs.Formats.{one_meant}
@@ -27,25 +26,8 @@ use Rattle.rpki_folder.proofs.LimitPlaces.{first_reached}
 use Rattle.rpki_c.specs.FolderFates.Steps.{IsAddedAs, IsSorted, added_reached, cert_reached, line_reached_at}
 use Rattle.rpki_c.specs.FolderLimits.{AreReachedAt, IsCaOf, IsLeastNeed, IsShortAmong, last_octets}
 use Rattle.rpki_c.specs.declared.folder_lines.WalkLines.{WalkLines}
+use Rattle.rpki_c.proofs.OneMore.{any_front, any_last, any_split}
 use Rattle.rpki_c.proofs.SortedMore.{filed_at}
-
--- ---- one of several, and one more
-
-module _ (P : LimitedCa → Type 0) where
-  any_front : (ls : List LimitedCa) (l : LimitedCa) → Any P ls → Any P (ls ++ l ∷ [])
-  any_front ls l (k, m, low, is, p) = let (j, below, at) = Contains-append_left ls (l ∷ []) m (k, low, is) in
-      (j, m, below, at, p)
-
-  any_last : (ls : List LimitedCa) (l : LimitedCa) → P l → Any P (ls ++ l ∷ [])
-  any_last ls l p = let (j, below, at) = Contains-append_right ls (l ∷ []) l (0, omega arith, refl) in
-      (j, l, below, at, p)
-
-  any_split : (ls : List LimitedCa) (l : LimitedCa) → Any P (ls ++ l ∷ []) → Any P ls ⊎ P l
-  any_split ls l (k, m, low, is, p) = elim (Contains-append_cases ls (l ∷ []) m (k, low, is)) [
-    | inl (j, below, at) ↦ inl (j, m, below, at, p)
-    | inr (zero, below, at) ↦ inr (subst P (sym at) p)
-    | inr (suc j, below, at) ↦ absurd (omega (arith, below))
-  ]
 
 -- ---- limits, gathered one after the other
 

@@ -1,8 +1,10 @@
 -- What holds of the items of a list, one more at a time.
-use Rattle.std.proofs.Common.{◌≡◌, ℕ, ◌+◌, ◌<◌, zero, suc, List, [], ◌∷◌, ◌++◌, length, map, take, get_or, sym}
-use Rattle.std.proofs.Common.{subst, arith}
+use Rattle.std.specs.Prelude.{Any}
+use Rattle.std.proofs.Common.{◌≡◌, ◌⊎◌, ℕ, ◌+◌, ◌<◌, zero, suc, List, [], ◌∷◌, ◌++◌, length, map, take, get_or, sym}
+use Rattle.std.proofs.Common.{subst, arith, refl, inl, inr}
 use Rattle.std.specs.List.{AllByRecursion}
 use Rattle.std.proofs.lemmas.List.{take_more, map-append}
+use Rattle.std.proofs.lemmas.List.Elements.{Contains-append_cases, Contains-append_left, Contains-append_right}
 
 pub map_more : {A B : Type 0} (f : A → B) (xs : List A) (i : ℕ) (d : A) → i < length xs →
     map f (take (i + 1) xs) ≡ map f (take i xs) ++ f (get_or xs i d) ∷ []
@@ -25,3 +27,19 @@ pub not_at : {A : Type 0} (P : A → Type 0) (xs : List A) (i : ℕ) (d : A) →
 not_at P [] i d within not all = absurd (omega (arith, within))
 not_at P (x ∷ xs) zero d within not all = not all.0
 not_at P (x ∷ xs) (suc i) d within not all = not_at P xs i d (omega (arith, within)) not all.1
+
+-- one of them, and one more
+module _ {A : Type 0} (P : A → Type 0) (xs : List A) (x : A) where
+  pub any_front : Any P xs → Any P (xs ++ x ∷ [])
+  any_front (k, y, low, is, p) =
+      let (j, below, at) = Contains-append_left xs (x ∷ []) y (k, low, is) in (j, y, below, at, p)
+
+  pub any_last : P x → Any P (xs ++ x ∷ [])
+  any_last p = let (j, below, at) = Contains-append_right xs (x ∷ []) x (0, omega arith, refl) in (j, x, below, at, p)
+
+  pub any_split : Any P (xs ++ x ∷ []) → Any P xs ⊎ P x
+  any_split (k, y, low, is, p) = elim (Contains-append_cases xs (x ∷ []) y (k, low, is)) [
+    | inl (j, below, at) ↦ inl (j, y, below, at, p)
+    | inr (zero, below, at) ↦ inr (subst P (sym at) p)
+    | inr (suc j, below, at) ↦ absurd (omega (arith, below))
+  ]

@@ -7,8 +7,3 @@ use Rattle.rpki_der.specs.declared.error.DecodeError.TheVariants as decoding
 pub unless_memory : (P : Type 0) (e : DecodeError) → Rejects e P → (e ≡ decoding.Memory → ⊥) → P
 unless_memory P decoding.Memory h other = absurd (other refl)
 unless_memory P e h other = h
-
--- what holds of any fault
-pub anyway : (P : Type 0) (e : DecodeError) → P → Rejects e P
-anyway P decoding.Memory h = tt
-anyway P e h = h

@@ -1,8 +1,10 @@
 -- What a caller is told of a certificate and of a revocation list (own).
-use Rattle.std.specs.Prelude.{◌≡◌, ◌↔◌, ◌⊎◌, ◌+◌, ◌-◌, ◌*◌, ◌^◌, ◌<◌, ℕ, true, List, length, drop, get_or}
+use Rattle.std.specs.Prelude.{◌≡◌, ◌↔◌, ◌⊎◌, ◌+◌, ◌-◌, ◌*◌, ◌^◌, ◌<◌, ℕ, true, List, [], ◌∷◌, length, drop, get_or}
 use Rattle.std.specs.Prelude.{slice_index_or, slice_range, min, Option, Some, None, replicate}
 use Rattle.std.specs.Int.Digits.{number_from_digits}
+use Rattle.rpki_der.specs.Encoding.{Begins}
 use Rattle.rpki_der.specs.Times.{Moment}
+use Rattle.rpki_der.specs.Values.{IsEnc}
 use Rattle.rpki_blocks.specs.Resources.{Resources, missing, inherit, blocks}
 use Rattle.rpki_blocks.specs.declared.overclaim.Overclaim.{Overclaim}
 use Rattle.rpki_blocks.specs.declared.overclaim.Overclaim.TheVariants.{Refuse, Trim}
@@ -66,17 +68,26 @@ pub record TellsKey (octets info : List ℕ) (used : Type 0) : Type 0 where
   pub key_is : IsPublicKey cert.fields.key info
   pub used_is : used ↔ IsUsableKey cert.fields.key
 
--- at the places are the SubjectPublicKeyInfo of the certificate with which the octets begin, its
--- TBSCertificate, which is signed, and its signature
+-- at the places are the SubjectPublicKeyInfo of the certificate, its TBSCertificate, which is signed,
+-- and its signature
+pub record ArePlaces (c : CertFields) (octets : List ℕ) (it : RpkiPlaces) : Type 0 where
+  pub info : List ℕ
+  pub key_is : IsPublicKey c.fields.key info
+  pub key : IsPartAt octets it.key_at it.key_length info
+  pub message : IsPartAt octets it.message_at it.message_length c.signed_data.message
+  pub signature : IsPartAt octets it.signature_at it.signature_length c.signed_data.signature.value
+
+-- they are those of the certificate with which the octets begin
 pub record TellsPlaces (octets : List ℕ) (it : RpkiPlaces) : Type 0 where
   pub cert : CertFields
   pub begins : Means IsCertificate cert octets
-  pub info : List ℕ
-  pub key_is : IsPublicKey cert.fields.key info
-  pub key : IsPartAt octets it.key_at it.key_length info
-  pub message : IsPartAt octets it.message_at it.message_length cert.signed_data.message
-  pub signature : IsPartAt octets it.signature_at it.signature_length
-      cert.signed_data.signature.value
+  pub places : ArePlaces cert octets it
+
+-- the octets are values with these identifier octets, one after the other, and then these
+abbrev pub StandInFront : List ℕ → List ℕ → List ℕ → Type 0
+StandInFront [] rest octets = octets ≡ rest
+StandInFront (tag ∷ tags) rest octets =
+    (content : List ℕ) × (after : List ℕ) × Begins (IsEnc tag) octets content after × StandInFront tags rest after
 
 -- the keys and the serial number are those of the fields
 pub record TellsKeys (f : TbsFields) (it : RpkiCertificate) : Type 0 where

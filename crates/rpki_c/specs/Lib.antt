@@ -1,4 +1,3 @@
-pub mod CertificateSpans
 pub mod Choices
 pub mod Contents
 pub mod FaultNumbers

@@ -1,6 +1,5 @@
 //! Certificates for C.
 ghost use Rattle.std.specs.Prelude.{ℕ, List, ◌≡◌, ◌≢◌, ◌<◌, ◌≤◌, ◌↔◌, ◌==◌, not, map, IsTrue, IsErr, IsNone, IfSome, OnOk, IfOk, IfErr, option_map};
-ghost use Rattle.rpki_der.specs.Place.{Rejects};
 ghost use Rattle.rpki_ext.specs.Kinds.{Means};
 ghost use Rattle.rpki_ext.specs.declared.inspection.InspectionError.{InspectionError as inspections};
 ghost use Rattle.rpki_cert.specs.Certificates.{CertFields, IsCertificate};
@@ -20,11 +19,9 @@ ghost use Rattle.rpki_c.specs.Questions.{kind_number};
 use crate::copying::{RpkiAsRange, RpkiIpRange, put_addresses, put_as_numbers, put_octets};
 use crate::faults::{BAD_CALL, MEMORY, NONE, of_decoding, of_inspection};
 use crate::moments::{RpkiTime, parts_of};
-use crate::spans::key_span;
-use bytes::Bytes;
+use crate::places::placed;
 use rpki_blocks::{AsResources, IpResources, Overclaim};
 use rpki_cert::{Cert, InspectionError, KeyUsage, Kind, TbsCert};
-use rpki_der::DecodeError;
 use rpki_keys::is_usable;
 use rpki_parts::{Https, Name, Rsync};
 use std::alloc::{AllocError, Global};
@@ -113,9 +110,9 @@ fn put_data(tbs: &TbsCert, out: &mut RpkiCertificate)
     out.asn = as_state(tbs.as_resources());
 }
 
-// The certificate that the octets begin with, or the number of a fault.
+/// Returns the certificate that the octets begin with, or the number of a fault.
 #[tactic(auto, using(crate::proofs::Unread::unless_memory))]
-fn decoded(alloc: Global, octets: &[u8]) -> Result<Cert, u32>
+pub(crate) fn decoded(alloc: Global, octets: &[u8]) -> Result<Cert, u32>
     ensures read { IfOk result (λ cert. Means IsCertificate cert octets.now) }
     ensures fault { IfErr result (λ fault. (fault ≢ NONE) × (fault ≢ BAD_CALL)) }
     ensures reading { IfErr result (λ fault. fault < 300) }
@@ -161,43 +158,6 @@ pub extern "C" fn rpki_certificate_read(
     }
 }
 
-// The SubjectPublicKeyInfo of the certificate that the octets begin with, and whether the RPKI uses
-// such a key.
-#[tactic(auto, using(crate::proofs::Unread::anyway))]
-fn key_in(alloc: Global, octets: &Bytes) -> Result<(Bytes, bool), DecodeError>
-    ensures key { IfOk result (λ it. TellsKey octets.now it.0 (IsTrue it.1)) }
-    ensures unread { IfErr result (λ e. Rejects e (BeginsNoCertificate octets.now)) }
-{
-    let cert = Cert::decode_shared(alloc, octets.clone()?)?;
-    let is_used = is_usable(cert.as_tbs().subject_public_key_info());
-    drop(cert);
-    let (from, to) = key_span(octets)?;
-    let info = octets.slice(from..to)?;
-    Ok((info, is_used))
-}
-
-// What is found of the caller's octets, or the number of a fault.
-#[tactic(auto, using(crate::proofs::Unread::unless_memory))]
-fn key_of(alloc: Global, octets: &[u8]) -> Result<(Bytes, bool), u32>
-    ensures key { IfOk result (λ it. TellsKey octets.now it.0 (IsTrue it.1)) }
-    ensures fault { IfErr result (λ fault. fault ≢ NONE) }
-    ensures unread { IfErr result (λ fault. fault ≢ MEMORY → BeginsNoCertificate octets.now) }
-{
-    let Ok(octets) = Bytes::copy_from_slice(alloc, octets) else {
-        return Err(MEMORY);
-    };
-    let found = key_in(alloc, &octets);
-    drop(octets);
-    match found {
-        Ok(found) => Ok(found),
-        Err(error) => {
-            let fault = of_decoding(&error);
-            drop(error);
-            Err(fault)
-        }
-    }
-}
-
 /// Writes the certificate's SubjectPublicKeyInfo in DER: as many bytes as fit, and in `count` how
 /// many there are. Writes 1 in `is_used` if the RPKI uses such a key (RFC 7935 3), and else 0.
 ///
@@ -221,11 +181,16 @@ pub extern "C" fn rpki_certificate_key(
 {
     *count = 0;
     *is_used = 0;
-    match key_of(alloc, octets) {
-        Ok((info, used)) => {
-            *count = put_octets(&info, out);
-            drop(info);
-            *is_used = if used { 1 } else { 0 };
+    match placed(alloc, octets) {
+        Ok((cert, places)) => {
+            let (from, length) = (places.key_at as usize, places.key_length as usize);
+            *count = put_octets(&octets[from..from + length], out);
+            *is_used = if is_usable(cert.as_tbs().subject_public_key_info()) {
+                1
+            } else {
+                0
+            };
+            drop(cert);
             NONE
         }
         Err(fault) => fault,

@@ -30,7 +30,6 @@ mod question;
 mod ranges;
 mod refusal;
 mod sorting;
-mod spans;
 mod stops;
 mod strings;
 mod tables;

@@ -1,6 +1,6 @@
 use Rattle.rpki_der.specs.Place.{MovesOn}
-use Rattle.rpki_c.proofs.CertificateWalks.{IsLeft}
-use Rattle.rpki_c.proofs.spans.skip.Given as goal
+use Rattle.rpki_c.proofs.PlacesFound.{IsLeft}
+use Rattle.rpki_c.proofs.places.skip.Given as goal
 
 abbrev pub invariant-loop-tag : goal.invariant-loop-tag
 invariant-loop-tag l = record {
