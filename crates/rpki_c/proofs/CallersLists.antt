@@ -19,43 +19,25 @@ use Rattle.rpki_c.specs.Verdicts.{AreAllLists, AreListsBut, AreListsNaming, AreN
 use Rattle.rpki_c.specs.Verdicts.{IsUnreadList}
 use Rattle.rpki_c.specs.declared.refusal.Refusal.{Refusal}
 use Rattle.rpki_c.specs.declared.refusal.Refusal.TheVariants as refusal
+use Rattle.rpki_c.proofs.OneMore.{keep_push, pass_push}
 
 -- ---- one string more
 
 module _ (MayPass : List ℕ → Type 0) where
-  pass_push : (strings : List (List ℕ)) (lists : List CrlState) (octets : List ℕ) →
-      AreListsBut MayPass strings lists → MayPass octets → AreListsBut MayPass (strings ++ octets ∷ []) lists
-  pass_push [] lists octets are passes = inl (passes, are)
-  pass_push (s ∷ strings) lists octets (inl (p, are)) passes = inl (p, pass_push strings lists octets are passes)
-  pass_push (s ∷ strings) lists octets (inr (l, others, e, given, are)) passes =
-      inr (l, others, e, given, pass_push strings others octets are passes)
-
-  give_push : (strings : List (List ℕ)) (lists : List CrlState) (octets : List ℕ) (m : CrlState) →
-      AreListsBut MayPass strings lists → IsListGiven octets m →
-      AreListsBut MayPass (strings ++ octets ∷ []) (lists ++ m ∷ [])
-  give_push [] lists octets m are is = inr (m, [], ap (λ (ls : List CrlState). ls ++ m ∷ []) are, is, refl)
-  give_push (s ∷ strings) lists octets m (inl (p, are)) is = inl (p, give_push strings lists octets m are is)
-  give_push (s ∷ strings) lists octets m (inr (l, others, e, given, are)) is =
-      inr (
-        l,
-        others ++ m ∷ [],
-        ap (λ (ls : List CrlState). ls ++ m ∷ []) e,
-        given,
-        give_push strings others octets m are is,
-      )
-
   module _ (strings : List (List ℕ)) (i : ℕ) (within : i < length strings) (lists : List CrlState)
       (are : AreListsBut MayPass (take i strings) lists) where
     -- the next string is passed over
     pub one_passed : MayPass (get_or strings i []) → AreListsBut MayPass (take (i + 1) strings) lists
     one_passed passes = subst (λ (front : List (List ℕ)). AreListsBut MayPass front lists)
-        (sym (take_more strings i [] within)) (pass_push (take i strings) lists (get_or strings i []) are passes)
+        (sym (take_more strings i [] within))
+        (pass_push MayPass IsListGiven (take i strings) lists (get_or strings i []) are passes)
 
     -- or it is a list
     pub one_given : (m : CrlState) → IsListGiven (get_or strings i []) m →
         AreListsBut MayPass (take (i + 1) strings) (lists ++ m ∷ [])
     one_given m is = subst (λ (front : List (List ℕ)). AreListsBut MayPass front (lists ++ m ∷ []))
-        (sym (take_more strings i [] within)) (give_push (take i strings) lists (get_or strings i []) m are is)
+        (sym (take_more strings i [] within))
+        (keep_push MayPass IsListGiven (take i strings) lists (get_or strings i []) m are is)
 
     -- as it was read
     pub one_more : (o : Option CrlState) (items : List CrlState) →

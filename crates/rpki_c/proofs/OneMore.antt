@@ -1,10 +1,11 @@
 -- What holds of the items of a list, one more at a time.
 use Rattle.std.specs.Prelude.{Any}
 use Rattle.std.proofs.Common.{◌≡◌, ◌⊎◌, ℕ, ◌+◌, ◌<◌, zero, suc, List, [], ◌∷◌, ◌++◌, length, map, take, get_or, sym}
-use Rattle.std.proofs.Common.{subst, arith, refl, inl, inr}
+use Rattle.std.proofs.Common.{subst, arith, ap, refl, inl, inr}
 use Rattle.std.specs.List.{AllByRecursion}
 use Rattle.std.proofs.lemmas.List.{take_more, map-append}
 use Rattle.std.proofs.lemmas.List.Elements.{Contains-append_cases, Contains-append_left, Contains-append_right}
+use Rattle.rpki_c.specs.Strings.{AreKeptAmong}
 
 pub map_more : {A B : Type 0} (f : A → B) (xs : List A) (i : ℕ) (d : A) → i < length xs →
     map f (take (i + 1) xs) ≡ map f (take i xs) ++ f (get_or xs i d) ∷ []
@@ -43,3 +44,19 @@ module _ {A : Type 0} (P : A → Type 0) (xs : List A) (x : A) where
     | inr (zero, below, at) ↦ inr (subst P (sym at) p)
     | inr (suc j, below, at) ↦ absurd (omega (arith, below))
   ]
+
+-- one string more, of which nothing or something is kept
+module _ {A : Type 0} (MayPass : List ℕ → Type 0) (Is : List ℕ → A → Type 0) where
+  pub pass_push : (strings : List (List ℕ)) (kept : List A) (octets : List ℕ) → AreKeptAmong MayPass Is strings kept →
+      MayPass octets → AreKeptAmong MayPass Is (strings ++ octets ∷ []) kept
+  pass_push [] kept octets are passes = inl (passes, are)
+  pass_push (s ∷ strings) kept octets (inl (p, are)) passes = inl (p, pass_push strings kept octets are passes)
+  pass_push (s ∷ strings) kept octets (inr (y, others, e, is, are)) passes =
+      inr (y, others, e, is, pass_push strings others octets are passes)
+
+  pub keep_push : (strings : List (List ℕ)) (kept : List A) (octets : List ℕ) (x : A) →
+      AreKeptAmong MayPass Is strings kept → Is octets x → AreKeptAmong MayPass Is (strings ++ octets ∷ []) (kept ++ x ∷ [])
+  keep_push [] kept octets x are it = inr (x, [], ap (λ (ks : List A). ks ++ x ∷ []) are, it, refl)
+  keep_push (s ∷ strings) kept octets x (inl (p, are)) it = inl (p, keep_push strings kept octets x are it)
+  keep_push (s ∷ strings) kept octets x (inr (y, others, e, is, are)) it =
+      inr (y, others ++ x ∷ [], ap (λ (ks : List A). ks ++ x ∷ []) e, is, keep_push strings others octets x are it)

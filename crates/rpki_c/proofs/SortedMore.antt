@@ -13,63 +13,18 @@ use Rattle.rpki_folder.specs.Folders.{FolderFields, with_cert, with_list, string
 use Rattle.rpki_folder.specs.declared.folder.Added.{Added}
 use Rattle.rpki_folder.specs.declared.folder.Added.TheVariants.{Certificate, List as list_added, Neither}
 use Rattle.rpki_c.specs.Verdicts.{AreNoList}
-use Rattle.rpki_c.specs.FolderFates.{IsTakenFor, IsTakenForNoList, AreListsAmong, AreCertificatesAmong}
+use Rattle.rpki_c.specs.FolderFates.{IsTakenFor, IsTakenForNoList, AreListsAmong, AreCertificatesAmong, IsFiledAs}
 use Rattle.rpki_c.specs.FolderFates.Steps.{IsAddedAs, AreSorted, IsSorted}
 use Rattle.rpki_c.specs.declared.sorting.Sorted.{Sorted}
+use Rattle.rpki_c.proofs.OneMore.{keep_push, pass_push}
 
 -- ---- lists
-
-no_list_more : (strings : List (List ℕ)) (lists : List CrlState) (octets : List ℕ) → IsTakenForNoList octets →
-    AreListsAmong strings lists → AreListsAmong (strings ++ octets ∷ []) lists
-no_list_more [] lists octets never h = inl (never, h)
-no_list_more (s ∷ strings) lists octets never h = elim h [
-  | inl k ↦ inl (k.0, no_list_more strings lists octets never k.1)
-  | inr k ↦ inr (k.0, k.1, k.2, k.3, no_list_more strings k.1 octets never k.4)
-]
-
-list_more : (strings : List (List ℕ)) (lists : List CrlState) (octets : List ℕ) (l : CrlState) →
-    IsTakenFor octets l → AreListsAmong strings lists → AreListsAmong (strings ++ octets ∷ []) (lists ++ l ∷ [])
-list_more [] lists octets l taken h = inr (l, [], ap (λ (ls : List CrlState). ls ++ l ∷ []) h, taken, refl)
-list_more (s ∷ strings) lists octets l taken h = elim h [
-  | inl k ↦ inl (k.0, list_more strings lists octets l taken k.1)
-  | inr k ↦ inr (
-    k.0,
-    k.1 ++ l ∷ [],
-    ap (λ (ls : List CrlState). ls ++ l ∷ []) k.2,
-    k.3,
-    list_more strings k.1 octets l taken k.4,
-  )
-]
 
 certificate_no_list : (octets : List ℕ) (c : CertFields) → Means IsCertificate c octets → IsTakenForNoList octets
 certificate_no_list octets c means l taken = taken.no_certificate c means
 
 neither_no_list : (octets : List ℕ) → AreNoList octets → IsTakenForNoList octets
 neither_no_list octets never l taken = never l.list taken.list_is
-
--- ---- certificates
-
-no_cert_more : (strings certs : List (List ℕ)) (octets : List ℕ) → BeginsNoCertificate octets →
-    AreCertificatesAmong strings certs → AreCertificatesAmong (strings ++ octets ∷ []) certs
-no_cert_more [] certs octets never h = inl (never, h)
-no_cert_more (s ∷ strings) certs octets never h = elim h [
-  | inl k ↦ inl (k.0, no_cert_more strings certs octets never k.1)
-  | inr k ↦ inr (k.0, k.1, k.2, k.3, no_cert_more strings k.1 octets never k.4)
-]
-
-one_cert_more : (strings certs : List (List ℕ)) (octets : List ℕ) (c : CertFields) → Means IsCertificate c octets →
-    AreCertificatesAmong strings certs → AreCertificatesAmong (strings ++ octets ∷ []) (certs ++ octets ∷ [])
-one_cert_more [] certs octets c means h = inr (c, [], ap (λ (l : List (List ℕ)). l ++ octets ∷ []) h, means, refl)
-one_cert_more (s ∷ strings) certs octets c means h = elim h [
-  | inl k ↦ inl (k.0, one_cert_more strings certs octets c means k.1)
-  | inr k ↦ inr (
-    k.0,
-    k.1 ++ octets ∷ [],
-    ap (λ (l : List (List ℕ)). l ++ octets ∷ []) k.2,
-    k.3,
-    one_cert_more strings k.1 octets c means k.4,
-  )
-]
 
 -- ---- places
 
@@ -151,7 +106,7 @@ module _ (strings : List (List ℕ)) (octets : List ℕ) where
         placed = still_placed never;
         lists_are = lists;
         certs_are = subst (λ (l : List (List ℕ)). AreCertificatesAmong more l) (sym same)
-            (no_cert_more strings f.certs octets no_cert old.certs_are);
+            (pass_push BeginsNoCertificate IsFiledAs strings f.certs octets old.certs_are no_cert);
       }
 
 module _ (strings : List (List ℕ)) (octets : List ℕ) (f g : FolderFields) (added addeds : List Added)
@@ -164,7 +119,7 @@ module _ (strings : List (List ℕ)) (octets : List ℕ) (f g : FolderFields) (a
       (subst (λ (h : FolderFields). AreSorted (strings ++ octets ∷ []) h (added ++ list_added ∷ []) origins)
       (sym folder)
       (other_more strings octets f added origins old list_added (with_list f l) refl (λ place e. cc) (l, taken)
-      taken.no_certificate (list_more strings f.lists octets l taken old.lists_are)))
+      taken.no_certificate (keep_push IsTakenForNoList IsTakenFor strings f.lists octets l old.lists_are taken)))
 
   -- a string that begins with neither
   pub sorted_neither : BeginsNoCertificate octets → AreNoList octets → g ≡ f → addeds ≡ added ++ Neither ∷ [] →
@@ -173,7 +128,7 @@ module _ (strings : List (List ℕ)) (octets : List ℕ) (f g : FolderFields) (a
       subst (λ (l : List Added). AreSorted (strings ++ octets ∷ []) g l origins) (sym items)
       (subst (λ (h : FolderFields). AreSorted (strings ++ octets ∷ []) h (added ++ Neither ∷ []) origins) (sym folder)
       (other_more strings octets f added origins old Neither f refl (λ place e. cc) (no_cert, no_list) no_cert
-      (no_list_more strings f.lists octets (neither_no_list octets no_list) old.lists_are)))
+      (pass_push IsTakenForNoList IsTakenFor strings f.lists octets old.lists_are (neither_no_list octets no_list))))
 
 -- ---- a certificate
 
@@ -265,8 +220,9 @@ module _ (strings : List (List ℕ)) (octets : List ℕ) (f : FolderFields) (add
     came_from = cert_from;
     begins = begins_more strings octets f added origins old one (c, means);
     placed = cert_placed;
-    lists_are = no_list_more strings f.lists octets (certificate_no_list octets c means) old.lists_are;
-    certs_are = one_cert_more strings f.certs octets c means old.certs_are;
+    lists_are = pass_push IsTakenForNoList IsTakenFor strings f.lists octets old.lists_are
+        (certificate_no_list octets c means);
+    certs_are = keep_push BeginsNoCertificate IsFiledAs strings f.certs octets octets old.certs_are (refl, (c, means));
   }
 
   -- a string that begins with a certificate

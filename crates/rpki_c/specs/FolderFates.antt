@@ -28,6 +28,7 @@ use Rattle.rpki_folder.specs.ReachedLimits.{AreLimited, LimitedCa}
 use Rattle.rpki_folder.specs.UsualBounds.{usual_steps}
 use Rattle.rpki_c.specs.FolderLimits.{AreReachedAt, IsCaOf}
 use Rattle.rpki_c.specs.FolderQuestions.{asked_or}
+use Rattle.rpki_c.specs.Strings.{AreKeptAmong}
 use Rattle.rpki_c.specs.Verdicts.{AreNoList}
 pub mod Steps
 
@@ -44,19 +45,15 @@ IsTakenForNoList octets = (l : CrlState) → IsTakenFor octets l → ⊥
 
 -- these are the lists for which strings are taken, in the order of the strings
 abbrev pub AreListsAmong : List (List ℕ) → List CrlState → Type 0
-AreListsAmong [] lists = lists ≡ []
-AreListsAmong (octets ∷ strings) lists =
-    (IsTakenForNoList octets × AreListsAmong strings lists)
-    ⊎ ((l : CrlState) × (more : List CrlState) × (lists ≡ l ∷ more) × IsTakenFor octets l
-    × AreListsAmong strings more)
+AreListsAmong = AreKeptAmong IsTakenForNoList IsTakenFor
+
+-- it is the string, which begins with a certificate
+abbrev pub IsFiledAs : List ℕ → List ℕ → Type 0
+IsFiledAs octets filed = (filed ≡ octets) × ((c : CertFields) × Means IsCertificate c octets)
 
 -- these are the strings that begin with certificates, in their order
 abbrev pub AreCertificatesAmong : List (List ℕ) → List (List ℕ) → Type 0
-AreCertificatesAmong [] certs = certs ≡ []
-AreCertificatesAmong (octets ∷ strings) certs =
-    (BeginsNoCertificate octets × AreCertificatesAmong strings certs)
-    ⊎ ((c : CertFields) × (more : List (List ℕ)) × (certs ≡ octets ∷ more)
-    × Means IsCertificate c octets × AreCertificatesAmong strings more)
+AreCertificatesAmong = AreKeptAmong BeginsNoCertificate IsFiledAs
 
 -- the string at the place is the first that begins with a certificate of the locator's key
 pub record IsFirstWithKey (t : TalFields) (strings : List (List ℕ)) (place : ℕ) : Type 0 where

@@ -21,7 +21,7 @@ use Rattle.rpki_path.specs.LocatedPaths.{BeginsWithOtherKey}
 use Rattle.rpki_path.specs.Paths.Steps.{IsUnread}
 use Rattle.rpki_path.specs.declared.judging.Judged.{Judged}
 use Rattle.rpki_c.specs.Questions.{HasTerms, HasNoTerms}
-use Rattle.rpki_c.specs.Strings.{AreCut}
+use Rattle.rpki_c.specs.Strings.{AreCut, AreKeptAmong}
 use Rattle.rpki_c.specs.declared.question.RpkiQuestion.{RpkiQuestion}
 use Rattle.rpki_c.specs.declared.question.Terms.{Terms}
 use Rattle.rpki_c.specs.declared.refusal.Refusal.{Refusal}
@@ -87,11 +87,7 @@ IsListGiven octets l = IsCertificateList l.list octets
 
 -- the lists that the strings are, in their order, but for strings that may be passed over
 abbrev pub AreListsBut : (List ℕ → Type 0) → List (List ℕ) → List CrlState → Type 0
-AreListsBut MayPass [] lists = lists ≡ []
-AreListsBut MayPass (octets ∷ strings) lists =
-    (MayPass octets × AreListsBut MayPass strings lists)
-    ⊎ ((l : CrlState) × (others : List CrlState) × (lists ≡ l ∷ others) × IsListGiven octets l
-    × AreListsBut MayPass strings others)
+AreListsBut MayPass = AreKeptAmong MayPass IsListGiven
 
 -- lists among which each is that names one of these keys
 abbrev pub AreListsNaming : (List ℕ → Type 0) → List (List ℕ) → List CrlState → Type 0

@@ -1,5 +1,5 @@
 //! Certificates for C.
-ghost use Rattle.std.specs.Prelude.{ℕ, List, ◌≡◌, ◌≢◌, ◌<◌, ◌≤◌, ◌↔◌, ◌==◌, not, map, IsTrue, IsErr, IsNone, IfSome, OnOk, IfOk, IfErr, option_map};
+ghost use Rattle.std.specs.Prelude.{ℕ, List, ◌≡◌, ◌≢◌, ◌<◌, ◌≤◌, ◌↔◌, ◌==◌, not, map, IsTrue, IsErr, IsNone, IfSome, OnOk, IfOk, IfErr, option_map, slice_range};
 ghost use Rattle.rpki_ext.specs.Kinds.{Means};
 ghost use Rattle.rpki_ext.specs.declared.inspection.InspectionError.{InspectionError as inspections};
 ghost use Rattle.rpki_cert.specs.Certificates.{CertFields, IsCertificate};
@@ -20,10 +20,10 @@ use crate::copying::{RpkiAsRange, RpkiIpRange, put_addresses, put_as_numbers, pu
 use crate::faults::{BAD_CALL, MEMORY, NONE, of_decoding, of_inspection};
 use crate::moments::{RpkiTime, parts_of};
 use crate::places::placed;
-use rpki_blocks::{AsResources, IpResources, Overclaim};
+use rpki_blocks::{Bound, IpResources, Overclaim, Resources};
 use rpki_cert::{Cert, InspectionError, KeyUsage, Kind, TbsCert};
 use rpki_keys::is_usable;
-use rpki_parts::{Https, Name, Rsync};
+use rpki_parts::Name;
 use std::alloc::{AllocError, Global};
 
 /// The fields of a certificate that have a fixed size.
@@ -47,30 +47,16 @@ pub struct RpkiCertificate {
     pub asn: u8,
 }
 
-fn state(is_present: bool, is_inherited: bool) -> u8
-    ensures missing { (IsTrue is_present → ⊥) → result ≡ 0 }
-    ensures inherited { IsTrue is_present → IsTrue is_inherited → result ≡ 1 }
-    ensures listed { IsTrue is_present → (IsTrue is_inherited → ⊥) → result ≡ 2 }
+fn state<B: Bound>(resources: &Resources<B>) -> u8
+    ensures { result ≡ state_number resources.now }
 {
-    if !is_present {
-        0
-    } else if is_inherited {
+    if resources.is_inherited() {
         1
-    } else {
+    } else if resources.is_present() {
         2
+    } else {
+        0
     }
-}
-
-fn ip_state(resources: &IpResources) -> u8
-    ensures { result ≡ state_number resources.now }
-{
-    state(resources.is_present(), resources.is_inherited())
-}
-
-fn as_state(resources: &AsResources) -> u8
-    ensures { result ≡ state_number resources.now }
-{
-    state(resources.is_present(), resources.is_inherited())
 }
 
 fn put_keys(tbs: &TbsCert, out: &mut RpkiCertificate)
@@ -105,12 +91,12 @@ fn put_data(tbs: &TbsCert, out: &mut RpkiCertificate)
         Overclaim::Refuse => 0,
         Overclaim::Trim => 1,
     };
-    out.v4 = ip_state(tbs.v4_resources());
-    out.v6 = ip_state(tbs.v6_resources());
-    out.asn = as_state(tbs.as_resources());
+    out.v4 = state(tbs.v4_resources());
+    out.v6 = state(tbs.v6_resources());
+    out.asn = state(tbs.as_resources());
 }
 
-/// Returns the certificate that the octets begin with, or the number of a fault.
+/// Returns the certificate that the bytes start with, or the number of an error.
 #[tactic(auto, using(crate::proofs::Unread::unless_memory))]
 pub(crate) fn decoded(alloc: Global, octets: &[u8]) -> Result<Cert, u32>
     ensures read { IfOk result (λ cert. Means IsCertificate cert octets.now) }
@@ -428,36 +414,16 @@ fn uri_numbered(number: u32) -> Option<CertUri>
     }
 }
 
-// The octets of a URI of the scheme rsync.
-fn rsync_octets(uri: Option<&Rsync>) -> Option<&[u8]>
-    ensures { option_map (λ it. it.now) result ≡ option_map (λ it. it.now) uri.entry }
-{
-    match uri {
-        Some(uri) => Some(uri.as_bytes()),
-        None => None,
-    }
-}
-
-// The octets of a URI of the scheme https.
-fn https_octets(uri: Option<&Https>) -> Option<&[u8]>
-    ensures { option_map (λ it. it.now) result ≡ option_map (λ it. it.now) uri.entry }
-{
-    match uri {
-        Some(uri) => Some(uri.as_bytes()),
-        None => None,
-    }
-}
-
 fn uri_of(tbs: &TbsCert, which: CertUri) -> Option<&[u8]>
     ensures { option_map (λ uri. uri.now) result ≡ uri_field which tbs.now.extensions }
 {
     match which {
-        CertUri::CaIssuer => rsync_octets(tbs.ca_issuer()),
-        CertUri::Crl => rsync_octets(tbs.crl_uri()),
-        CertUri::Repository => rsync_octets(tbs.ca_repository()),
-        CertUri::Manifest => rsync_octets(tbs.rpki_manifest()),
-        CertUri::SignedObject => rsync_octets(tbs.signed_object()),
-        CertUri::Notify => https_octets(tbs.rpki_notify()),
+        CertUri::CaIssuer => tbs.ca_issuer().map(|uri| uri.as_bytes()),
+        CertUri::Crl => tbs.crl_uri().map(|uri| uri.as_bytes()),
+        CertUri::Repository => tbs.ca_repository().map(|uri| uri.as_bytes()),
+        CertUri::Manifest => tbs.rpki_manifest().map(|uri| uri.as_bytes()),
+        CertUri::SignedObject => tbs.signed_object().map(|uri| uri.as_bytes()),
+        CertUri::Notify => tbs.rpki_notify().map(|uri| uri.as_bytes()),
     }
 }
 

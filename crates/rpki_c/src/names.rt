@@ -1,5 +1,5 @@
 //! Name chaining of paths for C.
-ghost use Rattle.std.specs.Prelude.{◌≡◌, ◌≢◌, ◌↔◌, ◌⊎◌, IsNone, IsSome, IfSome, IfOk, IfErr};
+ghost use Rattle.std.specs.Prelude.{◌≡◌, ◌⊎◌};
 ghost use Rattle.rpki_c.specs.Telling.{AreToldNames, FindsNames, IsToldNames, names_fault, names_place};
 
 use crate::faults::{BAD_CALL, MEMORY, NONE, OTHER_NAME, of_path};
@@ -22,11 +22,6 @@ fn found(alloc: Global, members: &[Member<'_>]) -> Option<Result<Option<usize>, 
 fn told(answer: Option<Result<Option<usize>, PathError>>) -> (u32, u64)
     ensures fault { result.0 ≡ names_fault answer }
     ensures place { result.1 ≡ names_place answer }
-    ensures bad_call { IsNone answer ↔ (result.0 ≡ BAD_CALL) }
-    ensures chain { IfSome answer (λ it. IfOk it (λ found. IsNone found ↔ (result.0 ≡ NONE))) }
-    ensures other { IfSome answer (λ it. IfOk it (λ found. IsSome found ↔ (result.0 ≡ OTHER_NAME))) }
-    ensures unread { IfSome answer (λ it. IfErr it (λ e.
-        (result.0 ≢ NONE) × (result.0 ≢ OTHER_NAME))) }
 {
     match answer {
         Some(Ok(None)) => (NONE, 0),

@@ -12,6 +12,7 @@ ghost use Rattle.rpki_c.specs.ListTables.{IsSerialTable, serials_in};
 ghost use Rattle.rpki_c.specs.Verdicts.{BeginsNoList};
 ghost use Rattle.rpki_c.specs.Writing.{IsWrittenInto, written_over};
 
+use crate::copying::put_items;
 use crate::faults::{BAD_CALL, MEMORY, NONE};
 use crate::lists::{add_up, decoded, number_of, serial_at};
 use rpki_crl::Crl;
@@ -143,15 +144,6 @@ fn table_of(alloc: Global, list: &Crl) -> Result<Vec<RpkiSerial>, AllocError>
     table
 }
 
-// Writes as many entries of a table as there is room for, and tells how many there are.
-fn put_table(table: &[RpkiSerial], out: &mut [RpkiSerial]) -> u64
-    ensures { IsWrittenInto table.now out.old out.new result }
-{
-    let fit = table.len().min(out.len());
-    out[..fit].copy_from_slice(&table[..fit]);
-    table.len() as u64
-}
-
 // The table of the list that the octets begin with, or the number of a fault.
 fn read_table(alloc: Global, octets: &[u8]) -> Result<Vec<RpkiSerial>, u32>
     ensures table { IfOk result (λ it. (l : CrlFields) × Means IsCertificateList l octets.now
@@ -195,7 +187,7 @@ pub extern "C" fn rpki_list_table(
     *count = 0;
     match read_table(alloc, octets) {
         Ok(table) => {
-            *count = put_table(&table, out);
+            *count = put_items(&table, out);
             drop(table);
             NONE
         }
