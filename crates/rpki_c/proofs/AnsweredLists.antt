@@ -12,7 +12,7 @@ use Rattle.rpki_issuing.specs.declared.wanted.preparing.WantedError.TheVariants.
 use Rattle.rpki_issuing.specs.declared.wanted.preparing.WantedError.TheVariants.{UnreadyList, Unsigned}
 use Rattle.rpki_issuing.specs.declared.wanted.preparing.WantedError.TheVariants.{UnsignedList}
 use Rattle.rpki_c.specs.ListAnswers.{AnswersBehind, AnswersListCompletedBelow, AnswersListFields, AnswersListNamed}
-use Rattle.rpki_c.specs.ListAnswers.{AnswersListSigned, WantsListFields, CompletesList, GivesNoList, IsListNamed}
+use Rattle.rpki_c.specs.ListAnswers.{AnswersListSigned, WantsListFields, CompletesList, GivesNoEntries, IsListNamed}
 use Rattle.rpki_c.specs.ListAnswers.{fields_before}
 use Rattle.rpki_c.specs.WantedAnswers.{unfit_of}
 use Rattle.rpki_c.specs.WantedLists.{GivesWantedList}
@@ -44,7 +44,7 @@ before_lent None = refl
 before_lent (Some l) = refl
 
 module _ (w : RpkiWantedList) (t : ListTerms) (issuer : TbsFields) (before : Option CrlState) where
-  pub ungiven_fields : (e : Unissued) → GivesNoList w e → AnswersListFields w t issuer before (Err e)
+  pub ungiven_fields : (e : Unissued) → GivesNoEntries w.revoked.now e → AnswersListFields w t issuer before (Err e)
   ungiven_fields (why.Unfit e) h = absurd h
   ungiven_fields _ h = h
 

@@ -8,13 +8,8 @@ use Rattle.rpki_der.specs.Values.{IsUnambiguous}
 use Rattle.rpki_der.proofs.Formats.{one_meant}
 use Rattle.rpki_ext.specs.Kinds.{Means}
 use Rattle.rpki_cert.specs.Certificates.{CertFields, IsCertificate}
-use Rattle.rpki_path.specs.GivenPaths.{last_router, members_below, path_strings}
-use Rattle.rpki_path.specs.NameChains.{router_candidates}
-use Rattle.rpki_path.specs.Paths.{Candidate}
-use Rattle.rpki_path.specs.declared.given.Last.{Last}
-use Rattle.rpki_path.specs.declared.given.Last.TheVariants as last
-use Rattle.rpki_c.specs.PathKeys.{AreKeysOf, key_named, keys_in, last_strings}
-use Rattle.rpki_c.specs.Verdicts.{IsKeyIn, all_strings}
+use Rattle.rpki_c.specs.PathKeys.{AreKeysOf, key_named, keys_in}
+use Rattle.rpki_c.specs.Verdicts.{IsKeyIn}
 use Rattle.rpki_c.proofs.OneMore.{any_front, any_last, any_split}
 
 -- none of none
@@ -76,20 +71,6 @@ keys_same octets none strings keys are key = (
     | inr after ↦ absurd (none after.0 after.1)
   ]),
 )
-
-below_strings : (cas : List (List ℕ)) (end : Option Last) →
-    map (λ (s : Candidate). s.octets) (members_below cas end ++ router_candidates (last_router end)) ≡ cas ++
-    last_strings end
-below_strings [] None = refl
-below_strings [] (Some (last.Ee octets)) = refl
-below_strings [] (Some (last.DetachedEe octets)) = refl
-below_strings [] (Some (last.Router octets)) = refl
-below_strings (ca ∷ cas) end = ap (λ (ss : List (List ℕ)). ca ∷ ss) (below_strings cas end)
-
--- the strings of a path are those of its certificates, one after the other
-pub strings_are : (anchor : List ℕ) (cas : List (List ℕ)) (end : Option Last) →
-    all_strings (path_strings anchor cas end) ≡ ((anchor ∷ []) ++ cas) ++ last_strings end
-strings_are anchor cas end = ap (λ (ss : List (List ℕ)). anchor ∷ ss) (below_strings cas end)
 
 -- one string more of others
 pub next_strings : (strings others : List (List ℕ)) (i : ℕ) (octets : List ℕ) → i < length others →

@@ -1,4 +1,3 @@
-mod AcceptedStrings
 mod AllAsked
 mod AnsweredLists
 mod AnsweredWants
@@ -11,7 +10,6 @@ mod FolderTermsGiven
 mod ForeignLists
 mod HeldLines
 mod Issuers
-mod KeysAsked
 mod KeysGathered
 mod LimitsFound
 mod ListTermsGiven

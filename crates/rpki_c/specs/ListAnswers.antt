@@ -3,18 +3,18 @@
 use Rattle.std.specs.Prelude.{◌≡◌, ◌⊎◌, ℕ, List, [], Option, Some, None, option_map, Result, Ok, Err}
 use Rattle.rpki_ext.specs.Kinds.{Means}
 use Rattle.rpki_cert.specs.Certificates.{TbsFields}
-use Rattle.rpki_cert.specs.Verification.{ResourceFields, context}
 use Rattle.rpki_crl.specs.Lists.{CrlFields, CrlState, IsCertificateList, IsTbsCertList, ListFields}
 use Rattle.rpki_crl.specs.RevokedEntries.{Revoked}
 use Rattle.rpki_issuing.specs.Acceptance.{IsAnsweringList}
 use Rattle.rpki_issuing.specs.Issuers.{IsOwnList}
-use Rattle.rpki_keys.specs.RsaSignatures.{IsSignedByRsa}
 use Rattle.rpki_issuing.specs.WantedLists.{IsListCompleted, IsListPrepared, IsListWanted, WantedListFields}
-use Rattle.rpki_c.specs.Verdicts.{AreNoList}
+use Rattle.rpki_c.specs.Verdicts.{AreNoList, asked_context}
 use Rattle.rpki_c.specs.WantedAnswers.{IsAuthorityOf, IsWhyNoIssuer}
 use Rattle.rpki_c.specs.WantedLists.{GivesWantedList, HasListCompletionTerms, HasListTerms, HasNoListCompletionTerms}
 use Rattle.rpki_c.specs.WantedLists.{HasNoListTerms, HaveDates}
+use Rattle.rpki_c.specs.declared.judging.Accepted.{Accepted}
 use Rattle.rpki_c.specs.declared.list_completing.RpkiListCompletion.{RpkiListCompletion}
+use Rattle.rpki_c.specs.declared.lists.RpkiEntry.{RpkiEntry}
 use Rattle.rpki_c.specs.declared.question.Terms.{Terms}
 use Rattle.rpki_c.specs.declared.unissued.Unissued.{Unissued}
 use Rattle.rpki_c.specs.declared.unissued.Unissued.TheVariants as why
@@ -51,10 +51,10 @@ fields_before before = option_map (λ l. l.list.fields) before
 -- ---- what is prepared
 
 -- why there are no values: no moment has the numbers of a date; or memory was wanted
-abbrev pub GivesNoList : RpkiWantedList → Unissued → Type 0
-GivesNoList w why.BadCall = HaveDates w.revoked.now → ⊥
-GivesNoList w why.Memory = Unit {0}
-GivesNoList w _ = ⊥
+abbrev pub GivesNoEntries : List RpkiEntry → Unissued → Type 0
+GivesNoEntries revoked why.BadCall = HaveDates revoked → ⊥
+GivesNoEntries revoked why.Memory = Unit {0}
+GivesNoEntries revoked _ = ⊥
 
 -- the fields that are asked for below this issuer, behind this list
 pub record WantsListFields (w : RpkiWantedList) (t : ListTerms) (issuer : TbsFields)
@@ -76,7 +76,7 @@ abbrev pub AnswersListFields : RpkiWantedList → ListTerms → TbsFields → Op
 AnswersListFields w t issuer before (Ok f) = WantsListFields w t issuer before f
 AnswersListFields w t issuer before (Err (why.Unfit e)) =
     AsksNone w t issuer before (λ f. Unit {0})
-AnswersListFields w t issuer before (Err e) = GivesNoList w e
+AnswersListFields w t issuer before (Err e) = GivesNoEntries w.revoked.now e
 
 -- the octets of these fields, of which only the signature is missing below the issuer; or why there
 -- are none: no such list may follow, or it isn't ready to be signed
@@ -88,7 +88,7 @@ AnswersBehind w t issuer before (Ok octets) =
 AnswersBehind w t issuer before (Err (why.Unfit e)) =
     AsksNone w t issuer before (λ f.
     (octets : List ℕ) × IsListPrepared t.asked.now t.asked.strict issuer f octets)
-AnswersBehind w t issuer before (Err e) = GivesNoList w e
+AnswersBehind w t issuer before (Err e) = GivesNoEntries w.revoked.now e
 
 -- the answer behind the list before, or why that is none of the issuer
 abbrev pub AnswersListBelow : RpkiWantedList → ListTerms → TbsFields → Result (List ℕ) Unissued
@@ -98,18 +98,14 @@ AnswersListBelow w t issuer r =
     ⊎ ((before : Option CrlState) × IsPreviousCrl issuer w.previous.now before
     × AnswersBehind w t issuer before r)
 
--- the answer below who issues, or why nobody does
-abbrev pub AnswersListTerms : RpkiWantedList → ListTerms → Result (List ℕ) Unissued → Type 0
-AnswersListTerms w t r =
-    ((e : Unissued) × (r ≡ Err e) × IsWhyNoIssuer w.issuer e)
-    ⊎ ((issuer : ResourceFields) × IsAuthorityOf w.issuer issuer
-    × AnswersListBelow w t issuer.cert.fields r)
-
 -- the octets that are to be signed of the list that is wanted, or why there are none
 abbrev pub AnswersWantedList : RpkiWantedList → Result (List ℕ) Unissued → Type 0
 AnswersWantedList w r =
     (HasNoListTerms w × (r ≡ Err why.BadCall))
-    ⊎ ((t : ListTerms) × HasListTerms w t × AnswersListTerms w t r)
+    ⊎ ((t : ListTerms) × HasListTerms w t
+    × (((e : Unissued) × (r ≡ Err e) × IsWhyNoIssuer w.issuer t.asked e)
+    ⊎ ((above : Accepted) × IsAuthorityOf w.issuer t.asked above
+    × AnswersListBelow w t above.judged.holder.cert.fields r)))
 
 -- ---- what is completed
 
@@ -144,22 +140,17 @@ abbrev pub AnswersListCompletedBelow : RpkiListCompletion → Terms → TbsField
 AnswersListCompletedBelow c t issuer (Ok octets) =
     (f : ListFields Revoked) × Means IsTbsCertList f c.prepared.now × IsListNamed issuer f
     × CompletesList c t issuer f octets
-    × IsAnsweringList (context IsSignedByRsa t.now t.strict) issuer f octets
+    × IsAnsweringList (asked_context t) issuer f octets
 AnswersListCompletedBelow c t issuer (Err (why.Unfit e)) =
     (f : ListFields Revoked) × Means IsTbsCertList f c.prepared.now × IsListNamed issuer f
     × ((octets : List ℕ) → CompletesList c t issuer f octets → ⊥)
 AnswersListCompletedBelow c t issuer (Err e) = AnswersListNamed issuer c.prepared.now (Err e)
 
--- the answer below who issues, or why nobody does
-abbrev pub AnswersListCompletionTerms : RpkiListCompletion → Terms → Result (List ℕ) Unissued
-    → Type 0
-AnswersListCompletionTerms c t r =
-    ((e : Unissued) × (r ≡ Err e) × IsWhyNoIssuer c.issuer e)
-    ⊎ ((issuer : ResourceFields) × IsAuthorityOf c.issuer issuer
-    × AnswersListCompletedBelow c t issuer.cert.fields r)
-
 -- the list that is completed, or why there is none
 abbrev pub AnswersListCompletion : RpkiListCompletion → Result (List ℕ) Unissued → Type 0
 AnswersListCompletion c r =
     (HasNoListCompletionTerms c × (r ≡ Err why.BadCall))
-    ⊎ ((t : Terms) × HasListCompletionTerms c t × AnswersListCompletionTerms c t r)
+    ⊎ ((t : Terms) × HasListCompletionTerms c t
+    × (((e : Unissued) × (r ≡ Err e) × IsWhyNoIssuer c.issuer t e)
+    ⊎ ((above : Accepted) × IsAuthorityOf c.issuer t above
+    × AnswersListCompletedBelow c t above.judged.holder.cert.fields r)))

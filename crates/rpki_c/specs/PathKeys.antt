@@ -2,8 +2,6 @@
 -- issuer's.
 use Rattle.std.specs.Prelude.{◌↔◌, ℕ, List, [], ◌∷◌, Contains, Option, Some, None}
 use Rattle.rpki_cert.specs.Certificates.{CertFields}
-use Rattle.rpki_path.specs.declared.given.Last.{Last}
-use Rattle.rpki_path.specs.declared.given.Last.TheVariants as last
 use Rattle.rpki_c.specs.Verdicts.{IsKeyOf}
 
 -- these are the keys of the certificates that the strings begin with
@@ -20,10 +18,3 @@ abbrev pub keys_in : CertFields → List (List ℕ)
 keys_in c =
     c.fields.extensions.subject_key_identifier
     ∷ key_named c.fields.extensions.authority_key_identifier
-
--- the string of the last certificate, where that isn't a CA's
-abbrev pub last_strings : Option Last → List (List ℕ)
-last_strings (Some (last.Ee octets)) = octets.now ∷ []
-last_strings (Some (last.DetachedEe octets)) = octets.now ∷ []
-last_strings (Some (last.Router octets)) = octets.now ∷ []
-last_strings None = []

@@ -4,11 +4,11 @@ use Rattle.rpki_cert.specs.Verification.{ResourceFields}
 use Rattle.rpki_cert.specs.declared.inspect.Kind.TheVariants.{Authority}
 use Rattle.rpki_path.specs.GivenPaths.{PathStrings, CanEndIn, IsSplitAs}
 use Rattle.rpki_path.specs.NameChains.{TellsNames}
-use Rattle.rpki_path.specs.declared.judging.Judged.{Judged}
 use Rattle.rpki_path.specs.declared.path_fault.PathError.{PathError}
 use Rattle.rpki_c.specs.FaultNumbers.{path_number, refusal_number}
-use Rattle.rpki_c.specs.Verdicts.{AreStringsOf, DontAddUp}
+use Rattle.rpki_c.specs.Verdicts.{AnswersQuestion, AreStringsOf, DontAddUp}
 use Rattle.rpki_c.specs.Writing.{as_struct, ip_struct, written_over}
+use Rattle.rpki_c.specs.declared.judging.Accepted.{Accepted}
 use Rattle.rpki_c.specs.declared.paths.RpkiRoom.{RpkiRoom}
 use Rattle.rpki_c.specs.declared.paths.RpkiVerdict.{RpkiVerdict}
 use Rattle.rpki_c.specs.declared.question.RpkiQuestion.{RpkiQuestion}
@@ -47,8 +47,8 @@ pub record IsSameRoom (old new : RpkiRoom) : Type 0 where
   pub asn : new.asn.ghost_name ≡ old.asn.ghost_name
 
 -- the verdict that an answer about so many members is: how much is held, or why it is rejected
-abbrev pub verdict_of : ℕ → Result Judged Refusal → RpkiVerdict
-verdict_of members (Ok judged) = acceptance judged.holder
+abbrev pub verdict_of : ℕ → Result Accepted Refusal → RpkiVerdict
+verdict_of members (Ok it) = acceptance it.judged.holder
 verdict_of members (Err r) = rejection (refusal_number r) (told_place (refusal_place members r))
 
 -- these ranges stand in the room, as many of each kind as there is room for
@@ -64,15 +64,15 @@ pub record HoldsTheSame (old new : RpkiRoom) : Type 0 where
   pub asn : new.asn.now ≡ old.asn.now
 
 -- the room holds what an accepted path's last member holds
-abbrev pub HoldsAnswer : Result Judged Refusal → RpkiRoom → RpkiRoom → Type 0
-HoldsAnswer (Ok judged) old new = HoldsRanges judged.holder old new
+abbrev pub HoldsAnswer : Result Accepted Refusal → RpkiRoom → RpkiRoom → Type 0
+HoldsAnswer (Ok it) old new = HoldsRanges it.judged.holder old new
 HoldsAnswer (Err r) old new = HoldsTheSame old new
 
 -- the verdict of an answer to a question about a path, and what then stands in the room
-pub record IsToldVerdict (Answers : Result Judged Refusal → Type 0) (q : RpkiQuestion)
-    (old new : RpkiRoom) (verdict : RpkiVerdict) : Type 0 where
-  pub answer : Result Judged Refusal
-  pub answers : Answers answer
+pub record IsToldVerdict (q : RpkiQuestion) (old new : RpkiRoom) (verdict : RpkiVerdict)
+    : Type 0 where
+  pub answer : Result Accepted Refusal
+  pub answers : AnswersQuestion q answer
   pub told : verdict ≡ verdict_of (length q.members.lengths.now) answer
   pub held : HoldsAnswer answer old new
 

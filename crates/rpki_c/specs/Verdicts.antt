@@ -1,9 +1,8 @@
--- What is answered to a question about a path, and what is then told of it (own).
-use Rattle.std.specs.Prelude.{◌≡◌, ◌≢◌, ◌⊎◌, ◌<◌, ℕ, Bool, true, false, List, [], ◌∷◌, Any, length, map, sum}
-use Rattle.std.specs.Prelude.{get_or, Some, Result, Ok, Err, IfOk, IsTrue}
+-- What is answered to a question about a path (own).
+use Rattle.std.specs.Prelude.{◌≡◌, ◌≢◌, ◌⊎◌, ◌<◌, ℕ, Bool, true, false, List, [], ◌∷◌, Any, length, sum, get_or}
+use Rattle.std.specs.Prelude.{Some, Result, Ok, Err, IsTrue}
 use Rattle.rpki_ext.specs.Kinds.{Means}
 use Rattle.rpki_der.specs.Place.{Rejects}
-use Rattle.rpki_parts.specs.Signatures.{Verifies}
 use Rattle.rpki_cert.specs.Certificates.{CertFields, IsCertificate}
 use Rattle.rpki_cert.specs.Verification.{Context, context}
 use Rattle.rpki_crl.specs.ListHeads.{NamesKey}
@@ -13,6 +12,7 @@ use Rattle.rpki_path.specs.AskedLists.{by_named_lists}
 use Rattle.rpki_keys.specs.KeyForms.{IsUsableKey}
 use Rattle.rpki_keys.specs.LocatorFaults.{RejectsTal}
 use Rattle.rpki_keys.specs.Locators.{TalFields, IsLocator}
+use Rattle.rpki_keys.specs.RsaSignatures.{IsSignedByRsa}
 use Rattle.rpki_path.specs.GivenPaths.{PathStrings, CanEndIn, IsSplitAs}
 use Rattle.rpki_path.specs.Judging.{Judges, IsAcceptedWith, last_key}
 use Rattle.rpki_path.specs.NameChains.{BeginChained, IsUnchained, strings_below}
@@ -22,6 +22,7 @@ use Rattle.rpki_path.specs.Paths.Steps.{IsUnread}
 use Rattle.rpki_path.specs.declared.judging.Judged.{Judged}
 use Rattle.rpki_c.specs.Questions.{HasTerms, HasNoTerms}
 use Rattle.rpki_c.specs.Strings.{AreCut, AreKeptAmong}
+use Rattle.rpki_c.specs.declared.judging.Accepted.{Accepted}
 use Rattle.rpki_c.specs.declared.question.RpkiQuestion.{RpkiQuestion}
 use Rattle.rpki_c.specs.declared.question.Terms.{Terms}
 use Rattle.rpki_c.specs.declared.refusal.Refusal.{Refusal}
@@ -51,6 +52,8 @@ IsUncalled P refusal.BadCall = P
 IsUncalled P refusal.Memory = Unit {0}
 IsUncalled P _ = ⊥
 
+-- ---- CRLs
+
 -- the octets begin with no list
 abbrev pub BeginsNoList : List ℕ → Type 0
 BeginsNoList octets = (l : CrlFields) → Means IsCertificateList l octets → ⊥
@@ -72,10 +75,6 @@ IsKeyIn key octets =
 -- one of the strings does
 abbrev pub IsKeyOf : List (List ℕ) → List ℕ → Type 0
 IsKeyOf strings key = Any (IsKeyIn key) strings
-
--- all strings of a path
-abbrev pub all_strings : PathStrings → List (List ℕ)
-all_strings path = path.anchor ∷ map (λ s. s.octets) (strings_below path)
 
 -- the octets have the head of a list, which names none of these keys
 abbrev pub IsForeign : (List ℕ → Type 0) → List ℕ → Type 0
@@ -105,7 +104,45 @@ IsUnreadList IsKey strings (refusal.List place e) =
 IsUnreadList IsKey strings refusal.Memory = Unit {0}
 IsUnreadList IsKey strings _ = ⊥
 
--- ---- why there is no trust anchor
+-- such lists of the caller's, if they are asked; else there are none
+abbrev pub AreListsGiven : (List (List ℕ) → List CrlState → Type 0) → Bool → RpkiStrings → List CrlState
+    → Type 0
+AreListsGiven Are true s lists =
+    (octets : List (List ℕ)) × AreStringsOf s octets × Are octets lists
+AreListsGiven Are false s lists = lists ≡ []
+
+-- they are asked, and this is why they aren't read; one that names none of these keys needn't be
+abbrev pub AreNoListsGiven : (List ℕ → Type 0) → Bool → RpkiStrings → Refusal → Type 0
+AreNoListsGiven IsKey asks s r =
+    IsTrue asks
+    × (IsUncalled (DontAddUp s) r
+    ⊎ ((octets : List (List ℕ)) × AreStringsOf s octets × IsUnreadList IsKey octets r))
+
+-- ---- who answers for revocation
+
+-- the lists, and whether they, and their names, are asked
+pub record AskedCrls : Type 0 where
+  pub lists : List CrlState
+  pub asks_lists : Bool
+  pub asks_names : Bool
+
+-- the lists are asked, which have to have their issuers' names if names are asked (RFC 5280 6.3.3 (b)
+-- (1)); or nobody is
+abbrev pub checks_if : Bool → Bool → List CrlState → Context → RevocationChecks
+checks_if true names lists x = by_named_lists names x lists
+checks_if false names lists x = nobody
+
+abbrev pub checks_by : AskedCrls → Context → RevocationChecks
+checks_by asked = checks_if asked.asks_lists asked.asks_names asked.lists
+
+abbrev pub asks_nobody : AskedCrls
+asks_nobody = record { lists = []; asks_lists = false; asks_names = false }
+
+abbrev pub asked_by : Terms → List CrlState → AskedCrls
+asked_by t lists =
+    record { lists = lists; asks_lists = t.asks_lists; asks_names = t.asks_names }
+
+-- ---- the trust anchor
 
 -- the locator's file is none, or the trust anchor's octets don't begin with a certificate that has
 -- its key and lists a number
@@ -120,101 +157,98 @@ IsUntrusted strict locator anchor (refusal.Member e) = (e.index ≡ 0) × IsUnre
 IsUntrusted strict locator anchor refusal.Memory = Unit {0}
 IsUntrusted strict locator anchor _ = ⊥
 
--- ---- answers
-
--- that the path is accepted, or what is wrong of its first wrong member, where these are asked for
--- revocation
-abbrev pub AnswersJudged : Context → RevocationChecks → PathStrings → Result Judged Refusal → Type 0
-AnswersJudged x asked path (Ok judged) = IsAcceptedWith x asked path judged
-AnswersJudged x asked path (Err (refusal.Member e)) = Judges x asked path (Err e)
-AnswersJudged x asked path _ = ⊥
-
--- the answer, where the lists that these octets are are asked; they have to have their issuers' names
--- if names are asked (RFC 5280 6.3.3 (b) (1)). The entries of one that names no key of the path
--- aren't looked at
-abbrev pub AnswersListed : Context → Bool → PathStrings → List (List ℕ) → Result Judged Refusal
-    → Type 0
-AnswersListed x asks_names path octets r =
-    let IsKey = IsKeyOf (all_strings path) in
-    Refused (IsUnreadList IsKey octets) r
-    ⊎ ((lists : List CrlState) × AreAllLists IsKey octets lists
-    × AnswersJudged x (by_named_lists asks_names x lists) path r)
-
--- the answer, where the caller's lists are asked
-abbrev pub AnswersWith : Context → Bool → PathStrings → RpkiStrings → Result Judged Refusal → Type 0
-AnswersWith x asks_names path s r =
-    Refused (IsUncalled (DontAddUp s)) r
-    ⊎ ((octets : List (List ℕ)) × AreStringsOf s octets × AnswersListed x asks_names path octets r)
-
--- the answer of a path whose trust anchor is trusted: lists are asked, or nobody is
-abbrev pub AnswersTrusted : Context → RpkiQuestion → Terms → PathStrings → Result Judged Refusal → Type 0
-AnswersTrusted x q t path r =
-    ((t.asks_lists ≡ true) × AnswersWith x t.asks_names path q.lists r)
-    ⊎ ((t.asks_lists ≡ false) × AnswersJudged x nobody path r)
-
 -- the trust anchor is taken as it is given, or has the locator's key and lists a number
 abbrev pub IsTrusted : RpkiQuestion → Terms → List ℕ → Type 0
 IsTrusted q t anchor =
     (t.asks_locator ≡ false)
     ⊎ (IsLocatorOf t.strict anchor q.locator.now × BeginsWithNumbers anchor)
 
+-- ---- the path
+
+-- these are the question's members, as this path of which the last is of the kind that is named
+pub record IsQuestionPath (q : RpkiQuestion) (t : Terms) (strings : List (List ℕ)) (path : PathStrings)
+    : Type 0 where
+  pub terms_are : HasTerms q t
+  pub strings_are : AreStringsOf q.members strings
+  pub can_end : CanEndIn t.last (length strings)
+  pub split : IsSplitAs strings t.last path
+
+-- the lengths don't add up, or there are too few members, or too many
+abbrev pub HasNoGivenPath : RpkiQuestion → Terms → Type 0
+HasNoGivenPath q t =
+    DontAddUp q.members
+    ⊎ ((strings : List (List ℕ)) × AreStringsOf q.members strings
+    × (CanEndIn t.last (length strings) → ⊥))
+
+-- with the RPKI's signatures (RSASSA-PKCS1-v1_5 with SHA-256, RFC 7935 2), at the question's time
+abbrev pub asked_context : Terms → Context
+asked_context t = context IsSignedByRsa t.now t.strict
+
+-- the path is valid, its names and its last key set aside
+abbrev pub IsValidWith : Terms → List CrlState → PathStrings → Judged → Type 0
+IsValidWith t lists path judged =
+    let x = asked_context t in IsAcceptedWith x (checks_by (asked_by t lists) x) path judged
+
 -- where names are asked, each issuer is the subject of the certificate above, and the trust anchor's
 -- its own (RFC 6487 7.2, RFC 8630 2.3)
 abbrev pub AreChainedIf : Bool → PathStrings → Type 0
 AreChainedIf asks_names path = IsTrue asks_names → BeginChained path.anchor (strings_below path)
-
--- names are asked, and those of the certificate at the place are the first that don't chain; or memory
--- ran out
-abbrev pub IsNameRefusal : Bool → PathStrings → Refusal → Type 0
-IsNameRefusal asks_names path (refusal.OtherName place) =
-    IsTrue asks_names × IsUnchained path.anchor (strings_below path) place
-IsNameRefusal asks_names path refusal.Memory = Unit {0}
-IsNameRefusal asks_names path _ = ⊥
-
--- the answer of a path whose trust anchor is trusted, and whose names are asked behind all else of it
-abbrev pub AnswersNamed : Context → RpkiQuestion → Terms → PathStrings → Result Judged Refusal → Type 0
-AnswersNamed x q t path r =
-    (Refused (IsNameRefusal t.asks_names path) r
-    × ((judged : Judged) × AnswersTrusted x q t path (Ok judged)))
-    ⊎ (AnswersTrusted x q t path r × IfOk r (λ judged. AreChainedIf t.asks_names path))
 
 -- where the last key is asked, it is one that the RPKI uses (RFC 7935 3, RFC 8608 3.1), as those above
 -- it are by the signatures that they verify
 abbrev pub HasKeyAsked : Bool → Judged → Type 0
 HasKeyAsked asks_key judged = IsTrue asks_key → IsUsableKey (last_key judged)
 
--- the path is accepted but for its last key
-abbrev pub HasUnusedKey : Context → RpkiQuestion → Terms → PathStrings → Type 0
-HasUnusedKey x q t path =
-    (judged : Judged) × AnswersNamed x q t path (Ok judged) × (HasKeyAsked t.asks_key judged → ⊥)
+-- ---- answers
 
--- the answer of a path whose trust anchor is trusted, and of which the last key is asked at the end
-abbrev pub AnswersKeyed : Context → RpkiQuestion → Terms → PathStrings → Result Judged Refusal → Type 0
-AnswersKeyed x q t path r =
-    ((r ≡ Err refusal.UnusedKey) × HasUnusedKey x q t path)
-    ⊎ (AnswersNamed x q t path r × IfOk r (HasKeyAsked t.asks_key))
+-- the question's path is accepted. Of its lists the entries of one that names no key of the path aren't
+-- looked at; those that name one are told with it
+pub record IsAcceptedQuestion (q : RpkiQuestion) (t : Terms) (it : Accepted) : Type 0 where
+  pub path : PathStrings
+  pub path_is : IsQuestionPath q t it.path.items path
+  pub trusted : IsTrusted q t path.anchor
+  pub lists : List CrlState
+  pub lists_are : AreListsGiven (AreAllLists (IsKeyOf it.path.items)) t.asks_lists q.lists lists
+  pub valid : IsValidWith t lists path it.judged
+  pub named_are : AreListsGiven (AreListsNaming (IsKeyOf it.path.items)) t.asks_lists q.lists
+      it.lists.items
+  pub chained : AreChainedIf t.asks_names path
+  pub usable : HasKeyAsked t.asks_key it.judged
 
--- the answer of a path
-abbrev pub AnswersPath : Context → RpkiQuestion → Terms → PathStrings → Result Judged Refusal → Type 0
-AnswersPath x q t path r =
-    ((t.asks_locator ≡ true) × Refused (IsUntrusted t.strict q.locator.now path.anchor) r)
-    ⊎ (IsTrusted q t path.anchor × AnswersKeyed x q t path r)
+-- with these lists: what is wrong of the first wrong member; of the first whose names don't chain, if
+-- names are asked behind all else; or that the RPKI doesn't use the last key, which is asked at the end
+abbrev pub FailsWith : Terms → List CrlState → PathStrings → Refusal → Type 0
+FailsWith t lists path (refusal.Member e) =
+    let x = asked_context t in Judges x (checks_by (asked_by t lists) x) path (Err e)
+FailsWith t lists path (refusal.OtherName place) =
+    (judged : Judged) × IsValidWith t lists path judged
+    × IsTrue t.asks_names × IsUnchained path.anchor (strings_below path) place
+FailsWith t lists path refusal.UnusedKey =
+    (judged : Judged) × IsValidWith t lists path judged
+    × AreChainedIf t.asks_names path × (HasKeyAsked t.asks_key judged → ⊥)
+FailsWith t lists path refusal.Memory = Unit {0}
+FailsWith t lists path _ = ⊥
 
--- the answer of these strings, of which the last is of the kind that is named
-abbrev pub AnswersStrings : Context → RpkiQuestion → Terms → List (List ℕ) → Result Judged Refusal → Type 0
-AnswersStrings x q t strings r =
-    Refused (IsUncalled (CanEndIn t.last (length strings) → ⊥)) r
-    ⊎ ((path : PathStrings) × CanEndIn t.last (length strings) × IsSplitAs strings t.last path ×
-    AnswersPath x q t path r)
+-- why the path of these strings isn't accepted: its trust anchor isn't trusted; lists that are asked
+-- aren't read; or, with such lists, it fails
+abbrev pub FailsAs : (List (List ℕ) → List CrlState → Type 0) → RpkiQuestion → Terms → List (List ℕ)
+    → PathStrings → Refusal → Type 0
+FailsAs Are q t strings path r =
+    (IsTrue t.asks_locator × IsUntrusted t.strict q.locator.now path.anchor r)
+    ⊎ (IsTrusted q t path.anchor × AreNoListsGiven (IsKeyOf strings) t.asks_lists q.lists r)
+    ⊎ (IsTrusted q t path.anchor
+    × ((lists : List CrlState) × AreListsGiven Are t.asks_lists q.lists lists
+    × FailsWith t lists path r))
 
--- the answer of the question's members
-abbrev pub AnswersMembers : Verifies → RpkiQuestion → Terms → Result Judged Refusal → Type 0
-AnswersMembers verifies q t r =
-    Refused (IsUncalled (DontAddUp q.members)) r
-    ⊎ ((strings : List (List ℕ)) × AreStringsOf q.members strings × AnswersStrings (context verifies t.now t.strict)
-    q t strings r)
+-- why a question with these terms isn't: it has no path, or this is why that fails
+abbrev pub IsRefusedOn : RpkiQuestion → Terms → Refusal → Type 0
+IsRefusedOn q t r =
+    IsUncalled (HasNoGivenPath q t) r
+    ⊎ ((strings : List (List ℕ)) × (path : PathStrings) × IsQuestionPath q t strings path
+    × FailsAs (AreAllLists (IsKeyOf strings)) q t strings path r)
 
--- the answer to a question, by this relation of signatures
-abbrev pub AnswersQuestion : Verifies → RpkiQuestion → Result Judged Refusal → Type 0
-AnswersQuestion verifies q r =
-    Refused (IsUncalled (HasNoTerms q)) r ⊎ ((t : Terms) × HasTerms q t × AnswersMembers verifies q t r)
+-- the answer to a question: its path is accepted, or why it isn't
+abbrev pub AnswersQuestion : RpkiQuestion → Result Accepted Refusal → Type 0
+AnswersQuestion q (Ok it) = (t : Terms) × IsAcceptedQuestion q t it
+AnswersQuestion q (Err r) =
+    IsUncalled (HasNoTerms q) r ⊎ ((t : Terms) × HasTerms q t × IsRefusedOn q t r)

@@ -1,19 +1,16 @@
 -- What is answered to what a caller wants of a certificate: the octets that are to be signed, those
 -- of the certificate, or why there are none (own).
-use Rattle.std.specs.Prelude.{◌≡◌, ◌≢◌, ◌⊎◌, ◌<◌, ℕ, Bool, true, false, List, [], Option, Some, None, Result, Ok, Err}
+use Rattle.std.specs.Prelude.{◌≡◌, ◌≢◌, ◌⊎◌, ◌<◌, ℕ, Bool, true, false, List, [], Option, Some, None, option_map}
+use Rattle.std.specs.Prelude.{Result, Ok, Err}
 use Rattle.rpki_cert.specs.Certificates.{TbsFields, IsTbsCertificate}
-use Rattle.rpki_cert.specs.Verification.{ResourceFields, context}
+use Rattle.rpki_cert.specs.Verification.{ResourceFields}
 use Rattle.rpki_cert.specs.declared.inspect.Kind.{Kind}
 use Rattle.rpki_cert.specs.declared.inspect.Kind.TheVariants.{Anchor}
-use Rattle.rpki_crl.specs.Lists.{CrlState}
 use Rattle.rpki_keys.specs.KeyForms.{IsUsableKey}
-use Rattle.rpki_keys.specs.RsaSignatures.{IsSignedByRsa}
 use Rattle.rpki_parts.specs.Keys.{KeyFields, IsPublicKey}
 use Rattle.rpki_parts.specs.Names.{IsName}
 use Rattle.rpki_parts.specs.Uris.{IsHttps, IsRsync}
-use Rattle.rpki_path.specs.AskedLists.{by_named_lists}
-use Rattle.rpki_path.specs.Asking.{RevocationChecks, nobody}
-use Rattle.rpki_path.specs.declared.judging.Judged.{Judged}
+use Rattle.rpki_path.specs.Asking.{RevocationChecks}
 use Rattle.rpki_issuing.specs.Acceptance.{IsAcceptedBelow}
 use Rattle.rpki_issuing.specs.AskedFields.{fields_asked, subject_asked}
 use Rattle.rpki_issuing.specs.Issuers.{HasIssuerName, fields_above}
@@ -21,19 +18,16 @@ use Rattle.rpki_issuing.specs.PreparedOctets.{IsCompleted, IsPrepared, IsToSign,
 use Rattle.rpki_issuing.specs.declared.wanted.preparing.WantedError.{WantedError}
 use Rattle.rpki_issuing.specs.declared.wanted.preparing.WantedError.TheVariants as wanting
 use Rattle.rpki_issuing.specs.declared.wanted.wanted.Wanted.{Wanted}
-use Rattle.rpki_c.specs.Verdicts.{AnswersQuestion, AreListsNaming, AreStringsOf, DontAddUp, IsKeyOf, IsUncalled}
-use Rattle.rpki_c.specs.Verdicts.{IsUnreadList}
+use Rattle.rpki_c.specs.Verdicts.{AskedCrls, IsAcceptedQuestion, IsRefusedOn, asked_by, asks_nobody, checks_by, asked_context}
 use Rattle.rpki_c.specs.WantedQuestions.{GivesWantedValues, HasCompletionTerms, HasNoCompletionTerms, HasNoWantedTerms}
 use Rattle.rpki_c.specs.WantedQuestions.{HasWantedTerms, IsKeyGiven}
 use Rattle.rpki_c.specs.declared.certificates.CertUri.{CertUri}
 use Rattle.rpki_c.specs.declared.certificates.CertUri.TheVariants as uri
 use Rattle.rpki_c.specs.declared.completing.CompletionTerms.{CompletionTerms}
 use Rattle.rpki_c.specs.declared.completing.RpkiCompletion.{RpkiCompletion}
-use Rattle.rpki_c.specs.declared.issuer.Above.{Above}
+use Rattle.rpki_c.specs.declared.judging.Accepted.{Accepted}
 use Rattle.rpki_c.specs.declared.question.RpkiQuestion.{RpkiQuestion}
 use Rattle.rpki_c.specs.declared.question.Terms.{Terms}
-use Rattle.rpki_c.specs.declared.refusal.Refusal.{Refusal}
-use Rattle.rpki_c.specs.declared.strings.RpkiStrings.{RpkiStrings}
 use Rattle.rpki_c.specs.declared.unissued.Unissued.{Unissued}
 use Rattle.rpki_c.specs.declared.unissued.Unissued.TheVariants as why
 use Rattle.rpki_c.specs.declared.wanted.RpkiUris.{RpkiUris}
@@ -88,76 +82,45 @@ AnswersValue {V} w Is (Err _) = ⊥
 abbrev pub EndsWell : Kind → RpkiQuestion → Type 0
 EndsWell kind q = ((kind ≡ Anchor) × (q.members.lengths.now ≡ [])) ⊎ ((kind ≢ Anchor) × (q.last < 2))
 
--- the path that is asked about is accepted, and its last member holds this
-abbrev pub IsHeldAtPathEnd : RpkiQuestion → ResourceFields → Type 0
-IsHeldAtPathEnd q r = (judged : Judged) × AnswersQuestion IsSignedByRsa q (Ok judged) × (judged.holder ≡ r)
-
--- the CA that the path ends in, and what it holds
-abbrev pub IsAuthorityOf : RpkiQuestion → ResourceFields → Type 0
-IsAuthorityOf q r = (q.last < 2) × IsHeldAtPathEnd q r
+-- the path that is asked about is accepted, and ends in a CA
+abbrev pub IsAuthorityOf : RpkiQuestion → Terms → Accepted → Type 0
+IsAuthorityOf q t it = (q.last < 2) × IsAcceptedQuestion q t it
 
 -- why there is none: the path ends in no CA, or isn't accepted
-abbrev pub IsWhyNoIssuer : RpkiQuestion → Unissued → Type 0
-IsWhyNoIssuer q why.BadCall = q.last < 2 → ⊥
-IsWhyNoIssuer q (why.Issuer r) = AnswersQuestion IsSignedByRsa q (Err r)
-IsWhyNoIssuer q _ = ⊥
+abbrev pub IsWhyNoIssuer : RpkiQuestion → Terms → Unissued → Type 0
+IsWhyNoIssuer q t why.BadCall = q.last < 2 → ⊥
+IsWhyNoIssuer q t (why.Issuer r) = IsRefusedOn q t r
+IsWhyNoIssuer q t _ = ⊥
 
--- nobody above a trust anchor; else the CA that the path ends in, and what it holds
-abbrev pub IsWantedIssuer : Kind → RpkiQuestion → Option ResourceFields → Type 0
-IsWantedIssuer kind q None = (kind ≡ Anchor) × (q.members.lengths.now ≡ [])
-IsWantedIssuer kind q (Some r) = (kind ≢ Anchor) × IsAuthorityOf q r
+-- nobody above a trust anchor; else the path that ends in the CA
+abbrev pub IsWantedIssuer : Kind → RpkiQuestion → Terms → Option Accepted → Type 0
+IsWantedIssuer kind q t None = (kind ≡ Anchor) × (q.members.lengths.now ≡ [])
+IsWantedIssuer kind q t (Some above) = (kind ≢ Anchor) × IsAuthorityOf q t above
 
 -- why nobody issues: the path doesn't go with the kind, or isn't accepted
-abbrev pub IsNoIssuer : Kind → RpkiQuestion → Unissued → Type 0
-IsNoIssuer kind q why.BadCall = EndsWell kind q → ⊥
-IsNoIssuer kind q (why.Issuer r) = (kind ≢ Anchor) × AnswersQuestion IsSignedByRsa q (Err r)
-IsNoIssuer kind q _ = ⊥
+abbrev pub IsNoIssuer : Kind → RpkiQuestion → Terms → Unissued → Type 0
+IsNoIssuer kind q t why.BadCall = EndsWell kind q → ⊥
+IsNoIssuer kind q t (why.Issuer r) = (kind ≢ Anchor) × IsRefusedOn q t r
+IsNoIssuer kind q t _ = ⊥
 
--- ---- the issuer's path, and who is asked for revocation
+-- ---- the issuer's path; above a trust anchor there is none, and nobody is asked
 
--- the caller's lists that name a key of this path, if lists are asked; else there are none
-abbrev pub AreListsGiven : Bool → List (List ℕ) → RpkiStrings → List CrlState → Type 0
-AreListsGiven true path s lists =
-    (octets : List (List ℕ)) × AreStringsOf s octets × AreListsNaming (IsKeyOf path) octets lists
-AreListsGiven false path s lists = lists ≡ []
+-- the issuer's certificate, and what it holds
+abbrev pub issuer_above : Option Accepted → Option ResourceFields
+issuer_above above = option_map (λ it. it.judged.holder) above
 
--- why they aren't read
-abbrev pub AreNoListsGiven : List (List ℕ) → RpkiStrings → Refusal → Type 0
-AreNoListsGiven path s r =
-    IsUncalled (DontAddUp s) r
-    ⊎ ((octets : List (List ℕ)) × AreStringsOf s octets × IsUnreadList (IsKeyOf path) octets r)
+-- the certificates of its path
+abbrev pub strings_above : Option Accepted → List (List ℕ)
+strings_above None = []
+strings_above (Some it) = it.path.items
 
--- the certificates of the issuer's path, and the lists
-pub record GivesAbove (q : RpkiQuestion) (t : Terms) (above : Above) : Type 0 where
-  pub path_is : AreStringsOf q.members above.path.items
-  pub lists_are : AreListsGiven t.asks_lists above.path.items q.lists above.lists.items
+-- who answers for revocation: the lists, as for the issuer's path, if they are asked
+abbrev pub asked_above : Terms → Option Accepted → AskedCrls
+asked_above t None = asks_nobody
+asked_above t (Some it) = asked_by t it.lists.items
 
--- why they aren't read
-abbrev pub GivesNoAbove : RpkiQuestion → Unissued → Type 0
-GivesNoAbove q (why.Issuer r) =
-    IsUncalled (DontAddUp q.members) r
-    ⊎ ((path : List (List ℕ)) × AreStringsOf q.members path × AreNoListsGiven path q.lists r)
-GivesNoAbove q _ = ⊥
-
--- who is asked whether a certificate is revoked: the lists, as for the issuer's path, if they are
--- asked; else nobody
-abbrev pub checks_if : Bool → Terms → List CrlState → RevocationChecks
-checks_if true t lists = by_named_lists t.asks_names (context IsSignedByRsa t.now t.strict) lists
-checks_if false t lists = nobody
-
-abbrev pub checks_above : Terms → List CrlState → RevocationChecks
-checks_above t lists = checks_if t.asks_lists t lists
-
--- the answer below this issuer, with its path and by who is asked, or why these aren't read; above
--- a trust anchor there is no path, and nobody is asked
-abbrev pub AnswersAbove : RpkiQuestion → Terms → Option ResourceFields
-    → (List (List ℕ) → RevocationChecks → Result (List ℕ) Unissued → Type 0)
-    → Result (List ℕ) Unissued → Type 0
-AnswersAbove q t None Answers r = Answers [] nobody r
-AnswersAbove q t (Some issuer) Answers r =
-    ((e : Unissued) × (r ≡ Err e) × GivesNoAbove q e)
-    ⊎ ((above : Above) × GivesAbove q t above
-    × Answers above.path.items (checks_above t above.lists.items) r)
+abbrev pub checks_above : Terms → Option Accepted → RevocationChecks
+checks_above t above = checks_by (asked_above t above) (asked_context t)
 
 -- ---- what is prepared
 
@@ -194,73 +157,64 @@ abbrev pub unfit_of : WantedError → Unissued
 unfit_of wanting.Memory = why.Memory
 unfit_of e = why.Unfit e
 
--- the octets of these fields, of which only the signature is missing below the issuer, the last of
--- this path, by who is asked for revocation; or why they aren't ready to be signed, or aren't there
-abbrev pub AnswersBelow : RpkiWanted → WantedTerms → Option ResourceFields → List (List ℕ)
-    → RevocationChecks → Result (List ℕ) Unissued → Type 0
-AnswersBelow w t issuer path checks (Ok octets) =
-    (f : TbsFields) × WantsFields w t issuer f
-    × IsPrepared t.kind issuer path checks t.asked.now t.asked.strict f octets
-AnswersBelow w t issuer path checks (Err (why.Unfit e)) =
-    (f : TbsFields) × WantsFields w t issuer f
-    × IsUnprepared t.kind issuer path checks t.asked.now t.asked.strict f e
-AnswersBelow w t issuer path checks (Err e) = AnswersFields w t issuer (Err e)
+-- the octets of these fields, of which only the signature is missing below the issuer; or why they
+-- aren't ready to be signed, or aren't there
+abbrev pub AnswersBelow : RpkiWanted → WantedTerms → Option Accepted → Result (List ℕ) Unissued
+    → Type 0
+AnswersBelow w t above (Ok octets) =
+    (f : TbsFields) × WantsFields w t (issuer_above above) f
+    × IsPrepared t.kind (issuer_above above) (strings_above above) (checks_above t.asked above)
+    t.asked.now t.asked.strict f octets
+AnswersBelow w t above (Err (why.Unfit e)) =
+    (f : TbsFields) × WantsFields w t (issuer_above above) f
+    × IsUnprepared t.kind (issuer_above above) (strings_above above) (checks_above t.asked above)
+    t.asked.now t.asked.strict f e
+AnswersBelow w t above (Err e) = AnswersFields w t (issuer_above above) (Err e)
 
--- the answer below who issues, or why nobody does
-abbrev pub AnswersTerms : RpkiWanted → WantedTerms → Result (List ℕ) Unissued → Type 0
-AnswersTerms w t r =
-    ((e : Unissued) × (r ≡ Err e) × IsNoIssuer t.kind w.issuer e)
-    ⊎ ((issuer : Option ResourceFields) × IsWantedIssuer t.kind w.issuer issuer
-    × AnswersAbove w.issuer t.asked issuer (AnswersBelow w t issuer) r)
-
--- the octets that are to be signed of the certificate that is wanted, or why there are none
+-- the octets that are to be signed of the certificate that is wanted, below who issues, or why there
+-- are none
 abbrev pub AnswersWanted : RpkiWanted → Result (List ℕ) Unissued → Type 0
 AnswersWanted w r =
     (HasNoWantedTerms w × (r ≡ Err why.BadCall))
-    ⊎ ((t : WantedTerms) × HasWantedTerms w t × AnswersTerms w t r)
+    ⊎ ((t : WantedTerms) × HasWantedTerms w t
+    × (((e : Unissued) × (r ≡ Err e) × IsNoIssuer t.kind w.issuer t.asked e)
+    ⊎ ((above : Option Accepted) × IsWantedIssuer t.kind w.issuer t.asked above
+    × AnswersBelow w t above r)))
 
 -- ---- what is completed
 
--- the fields of what was signed, or why there are none
-abbrev pub AnswersSigned : List ℕ → Result TbsFields Unissued → Type 0
-AnswersSigned octets (Ok f) = IsToSign f octets
-AnswersSigned octets (Err why.NotToSign) = (f : TbsFields) → IsTbsCertificate f octets → ⊥
-AnswersSigned octets (Err why.UnusedKey) =
+-- the fields of what was signed below this issuer, or why there are none
+abbrev pub AnswersSigned : Option ResourceFields → List ℕ → Result TbsFields Unissued → Type 0
+AnswersSigned issuer octets (Ok f) = IsToSign f octets × HasIssuerName issuer f
+AnswersSigned issuer octets (Err why.NotToSign) = (f : TbsFields) → IsTbsCertificate f octets → ⊥
+AnswersSigned issuer octets (Err why.UnusedKey) =
     (f : TbsFields) × IsTbsCertificate f octets × (IsUsableKey f.key → ⊥)
-AnswersSigned octets (Err why.Memory) = Unit {0}
-AnswersSigned octets (Err _) = ⊥
-
--- the fields of what was signed below this issuer
-abbrev pub AnswersNamed : Option ResourceFields → List ℕ → Result TbsFields Unissued → Type 0
-AnswersNamed issuer octets (Ok f) = IsToSign f octets × HasIssuerName issuer f
-AnswersNamed issuer octets (Err why.OtherName) =
+AnswersSigned issuer octets (Err why.OtherName) =
     (f : TbsFields) × IsToSign f octets × (HasIssuerName issuer f → ⊥)
-AnswersNamed issuer octets (Err e) = AnswersSigned octets (Err e)
+AnswersSigned issuer octets (Err why.Memory) = Unit {0}
+AnswersSigned issuer octets (Err _) = ⊥
 
--- the certificate that the signature makes of these fields below the issuer, the last of this path,
--- where it is accepted by who is asked for revocation; or why there is none
-abbrev pub AnswersCompletedBelow : RpkiCompletion → CompletionTerms → Option ResourceFields
-    → List (List ℕ) → RevocationChecks → Result (List ℕ) Unissued → Type 0
-AnswersCompletedBelow c t issuer path checks (Ok octets) =
-    (f : TbsFields) × IsToSign f c.prepared.now × HasIssuerName issuer f
-    × IsCompleted t.kind issuer path checks t.asked.now t.asked.strict f
-    c.prepared.now c.signature.now octets
-    × IsAcceptedBelow (context IsSignedByRsa t.asked.now t.asked.strict) checks t.kind issuer octets
-AnswersCompletedBelow c t issuer path checks (Err (why.Unfit e)) =
-    (f : TbsFields) × IsToSign f c.prepared.now × HasIssuerName issuer f
-    × IsUncompleted t.kind issuer path checks t.asked.now t.asked.strict f
-    c.prepared.now c.signature.now e
-AnswersCompletedBelow c t issuer path checks (Err e) = AnswersNamed issuer c.prepared.now (Err e)
-
--- the answer below who issues, or why nobody does
-abbrev pub AnswersCompletionTerms : RpkiCompletion → CompletionTerms → Result (List ℕ) Unissued → Type 0
-AnswersCompletionTerms c t r =
-    ((e : Unissued) × (r ≡ Err e) × IsNoIssuer t.kind c.issuer e)
-    ⊎ ((issuer : Option ResourceFields) × IsWantedIssuer t.kind c.issuer issuer
-    × AnswersAbove c.issuer t.asked issuer (AnswersCompletedBelow c t issuer) r)
+-- the certificate that the signature makes of these fields below the issuer, where it is accepted by
+-- who is asked for revocation; or why there is none
+abbrev pub AnswersCompletedBelow : RpkiCompletion → CompletionTerms → Option Accepted
+    → Result (List ℕ) Unissued → Type 0
+AnswersCompletedBelow c t above (Ok octets) =
+    (f : TbsFields) × IsToSign f c.prepared.now × HasIssuerName (issuer_above above) f
+    × IsCompleted t.kind (issuer_above above) (strings_above above) (checks_above t.asked above)
+    t.asked.now t.asked.strict f c.prepared.now c.signature.now octets
+    × IsAcceptedBelow (asked_context t.asked) (checks_above t.asked above) t.kind
+    (issuer_above above) octets
+AnswersCompletedBelow c t above (Err (why.Unfit e)) =
+    (f : TbsFields) × IsToSign f c.prepared.now × HasIssuerName (issuer_above above) f
+    × IsUncompleted t.kind (issuer_above above) (strings_above above) (checks_above t.asked above)
+    t.asked.now t.asked.strict f c.prepared.now c.signature.now e
+AnswersCompletedBelow c t above (Err e) = AnswersSigned (issuer_above above) c.prepared.now (Err e)
 
 -- the certificate that is completed, or why there is none
 abbrev pub AnswersCompletion : RpkiCompletion → Result (List ℕ) Unissued → Type 0
 AnswersCompletion c r =
     (HasNoCompletionTerms c × (r ≡ Err why.BadCall))
-    ⊎ ((t : CompletionTerms) × HasCompletionTerms c t × AnswersCompletionTerms c t r)
+    ⊎ ((t : CompletionTerms) × HasCompletionTerms c t
+    × (((e : Unissued) × (r ≡ Err e) × IsNoIssuer t.kind c.issuer t.asked e)
+    ⊎ ((above : Option Accepted) × IsWantedIssuer t.kind c.issuer t.asked above
+    × AnswersCompletedBelow c t above r)))

@@ -70,6 +70,9 @@ as_span it = between it.min it.max
 abbrev pub AreOrdered : List Block → Type 0
 AreOrdered bs = AllByRecursion (λ b. b.min ≤ b.max) bs
 
+abbrev pub AreBlocks : List Block → List Block → Type 0
+AreBlocks spans bs = (bs ≡ spans) × AreOrdered bs
+
 -- what is listed of a kind of numbers, by the number of a state: nothing; what the issuer has; or
 -- the numbers of these blocks, in any order
 abbrev pub AreResourcesGiven : ℕ → List Block → Resources → Type 0

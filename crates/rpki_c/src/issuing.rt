@@ -1,6 +1,8 @@
 //! Issuing for C with a key that is elsewhere.
 ghost use Rattle.std.specs.Prelude.{◌≡◌};
-ghost use Rattle.rpki_c.specs.IssuedTelling.{AreOctetsPut, IsToldCompleted, IsToldListCompleted, IsToldListPrepared, IsToldPrepared, issued_of};
+ghost use Rattle.rpki_c.specs.IssuedTelling.{AreOctetsPut, IsToldIssued, issued_of};
+ghost use Rattle.rpki_c.specs.ListAnswers.{AnswersListCompletion, AnswersWantedList};
+ghost use Rattle.rpki_c.specs.WantedAnswers.{AnswersCompletion, AnswersWanted};
 
 use crate::completing::{RpkiCompletion, complete};
 use crate::copying::put_octets;
@@ -65,7 +67,8 @@ pub extern "C" fn rpki_prepare(
     out: &mut [u8],
     told: &mut RpkiIssued,
 ) -> u32
-    ensures told { IsToldPrepared wanted.now out.old out.new told.new }
+    ensures told { let w = wanted.now in
+        IsToldIssued (AnswersWanted w) w.issuer out.old out.new told.new }
     ensures answered { result ≡ told.new.fault }
 {
     let answer = prepare(alloc, wanted);
@@ -86,7 +89,8 @@ pub extern "C" fn rpki_complete(
     out: &mut [u8],
     told: &mut RpkiIssued,
 ) -> u32
-    ensures told { IsToldCompleted completion.now out.old out.new told.new }
+    ensures told { let c = completion.now in
+        IsToldIssued (AnswersCompletion c) c.issuer out.old out.new told.new }
     ensures answered { result ≡ told.new.fault }
 {
     let answer = complete(alloc, completion);
@@ -107,7 +111,8 @@ pub extern "C" fn rpki_prepare_list(
     out: &mut [u8],
     told: &mut RpkiIssued,
 ) -> u32
-    ensures told { IsToldListPrepared list.now out.old out.new told.new }
+    ensures told { let w = list.now in
+        IsToldIssued (AnswersWantedList w) w.issuer out.old out.new told.new }
     ensures answered { result ≡ told.new.fault }
 {
     let answer = prepare_list(alloc, list);
@@ -127,7 +132,8 @@ pub extern "C" fn rpki_complete_list(
     out: &mut [u8],
     told: &mut RpkiIssued,
 ) -> u32
-    ensures told { IsToldListCompleted completion.now out.old out.new told.new }
+    ensures told { let c = completion.now in
+        IsToldIssued (AnswersListCompletion c) c.issuer out.old out.new told.new }
     ensures answered { result ≡ told.new.fault }
 {
     let answer = complete_list(alloc, completion);

@@ -1,14 +1,11 @@
 //! The answer to a question about a path.
-ghost use Rattle.std.specs.Prelude.{◌≡◌, ◌↔◌, IfOk, IfErr, IsTrue, MatchOption, Err};
-ghost use Rattle.rpki_cert.specs.Verification.{context};
-ghost use Rattle.rpki_path.specs.Judging.{Judges};
-ghost use Rattle.rpki_path.specs.AskedLists.{by_named_lists};
+ghost use Rattle.std.specs.Prelude.{◌↔◌, IfOk, IfErr, IsTrue, MatchOption};
 ghost use Rattle.rpki_path.specs.NameChains.{BeginPath, IsUnchained, strings_below};
-ghost use Rattle.rpki_keys.specs.RsaSignatures.{IsSignedByRsa};
-ghost use Rattle.rpki_c.specs.declared.refusal.Refusal.TheVariants.{UnusedKey};
-ghost use Rattle.rpki_c.specs.Verdicts.{AreStringsOf, DontAddUp, IsUncalled, AreListsNaming, IsKeyOf, IsUnreadList, all_strings, AnswersListed, AnswersWith, AnswersTrusted, AreChainedIf, IsNameRefusal, AnswersNamed, AnswersKeyed, AnswersPath, HasKeyAsked, AnswersStrings, AnswersMembers, AnswersQuestion};
+ghost use Rattle.rpki_c.specs.Questions.{HasTerms};
+ghost use Rattle.rpki_c.specs.Verdicts.{AreStringsOf, DontAddUp, IsUncalled, IsKeyOf, AreListsNaming, IsUnreadList, AreListsGiven, AreNoListsGiven, IsTrusted, IsQuestionPath, IsValidWith, AreChainedIf, HasKeyAsked, FailsWith, FailsAs, IsAcceptedQuestion, IsRefusedOn, AnswersQuestion};
 
-use crate::keys::keys_of;
+use crate::asking::Asked;
+use crate::keys::keys_among;
 use crate::lists::lists_of;
 use crate::locators::ask_locator;
 use crate::question::{RpkiQuestion, Terms, terms_of};
@@ -17,9 +14,17 @@ use crate::strings::{RpkiStrings, cut};
 use bytes::Bytes;
 use rpki_crl::Crl;
 use rpki_keys::{RsaVerifier, is_usable};
-use rpki_path::revocation::{GivenLists, NobodyAsked};
-use rpki_path::{GivenPath, Judged, Member, PathError, first_unchained, judge};
+use rpki_path::{GivenPath, Judged, Member, first_unchained, judge};
 use std::alloc::{AllocError, Global};
+
+/// An accepted path: what its last certificate holds, its certificates, and the CRLs that were
+/// checked.
+#[derive(Drop)]
+pub(crate) struct Accepted {
+    pub(crate) judged: Judged,
+    pub(crate) path: Vec<Bytes>,
+    pub(crate) lists: Vec<Crl>,
+}
 
 /// Cuts the caller's octets into the strings of these lengths.
 pub(crate) fn strings_of(alloc: Global, strings: &RpkiStrings<'_>) -> Result<Vec<Bytes>, Refusal>
@@ -32,80 +37,37 @@ pub(crate) fn strings_of(alloc: Global, strings: &RpkiStrings<'_>) -> Result<Vec
     }
 }
 
-// The verdict on the path, where these lists are asked.
-fn judge_lists(
-    alloc: Global,
-    path: &GivenPath<'_, '_>,
-    lists: &[Crl],
-    terms: Terms,
-) -> Result<Judged, PathError>
-    ensures { let x = context IsSignedByRsa terms.now terms.strict in
-        Judges x (by_named_lists terms.asks_names x lists.now) path.now result }
-{
-    let asked = GivenLists::with_names(lists, terms.asks_names);
-    judge(alloc, path, &asked, terms.strict, terms.now, &RsaVerifier)
-}
-
-// Reads the lists that these octets are, but for those that name no key of the path: a certificate
-// asks its issuer's lists alone.
-fn lists_for(alloc: Global, path: &GivenPath<'_, '_>, octets: &[Bytes]) -> Result<Vec<Crl>, Refusal>
+// Reads the lists that these octets are, but for those that name no key of the path of these strings:
+// a certificate asks its issuer's lists alone.
+fn lists_naming(alloc: Global, strings: &[Bytes], octets: &[Bytes]) -> Result<Vec<Crl>, Refusal>
     ensures lists { IfOk result (λ it.
-        AreListsNaming (IsKeyOf (all_strings path.now)) octets.now it.items) }
-    ensures unread { IfErr result (IsUnreadList (IsKeyOf (all_strings path.now)) octets.now) }
+        AreListsNaming (IsKeyOf strings.now) octets.now it.items) }
+    ensures unread { IfErr result (IsUnreadList (IsKeyOf strings.now) octets.now) }
 {
-    let keys = keys_of(alloc, path)?;
+    let keys = keys_among(alloc, strings)?;
     let lists = lists_of(alloc, octets, &keys);
     drop(keys);
     lists
 }
 
-// The answer of the path, where the lists that these octets are are asked.
-fn judge_listed(
+// The caller's lists that name a key of the path of these strings, if lists are asked.
+fn lists_asked(
     alloc: Global,
-    path: &GivenPath<'_, '_>,
-    octets: &[Bytes],
-    terms: Terms,
-) -> Result<Judged, Refusal>
-    ensures { let x = context IsSignedByRsa terms.now terms.strict in
-        AnswersListed x terms.asks_names path.now octets.now result }
-{
-    let lists = lists_for(alloc, path, octets)?;
-    let answer = judge_lists(alloc, path, &lists, terms);
-    drop(lists);
-    Ok(answer?)
-}
-
-// The answer of the path, where the caller's lists are asked.
-fn judge_with(
-    alloc: Global,
-    path: &GivenPath<'_, '_>,
+    strings: &[Bytes],
     lists: &RpkiStrings<'_>,
-    terms: Terms,
-) -> Result<Judged, Refusal>
-    ensures { let x = context IsSignedByRsa terms.now terms.strict in
-        AnswersWith x terms.asks_names path.now lists.now result }
+    asks_lists: bool,
+) -> Result<Vec<Crl>, Refusal>
+    ensures lists { IfOk result (λ it.
+        AreListsGiven (AreListsNaming (IsKeyOf strings.now)) asks_lists lists.now it.items) }
+    ensures unread { IfErr result (AreNoListsGiven (IsKeyOf strings.now) asks_lists lists.now) }
 {
-    let octets = strings_of(alloc, lists)?;
-    let answer = judge_listed(alloc, path, &octets, terms);
-    drop(octets);
-    answer
-}
-
-// The answer of the path, whose trust anchor is trusted.
-fn judge_trusted(
-    alloc: Global,
-    path: &GivenPath<'_, '_>,
-    question: &RpkiQuestion<'_>,
-    terms: Terms,
-) -> Result<Judged, Refusal>
-    ensures { let x = context IsSignedByRsa terms.now terms.strict in
-        AnswersTrusted x question.now terms path.now result }
-{
-    if terms.asks_lists {
-        return judge_with(alloc, path, &question.lists, terms);
+    if !asks_lists {
+        return Ok(Vec::new(alloc));
     }
-    let (strict, now) = (terms.strict, terms.now);
-    Ok(judge(alloc, path, &NobodyAsked, strict, now, &RsaVerifier)?)
+    let octets = strings_of(alloc, lists)?;
+    let lists = lists_naming(alloc, strings, &octets);
+    drop(octets);
+    lists
 }
 
 // The place of the first member whose names don't chain, if names are asked. All strings begin with
@@ -134,47 +96,6 @@ fn unchained(
     }
 }
 
-// What was judged of the path, whose names are asked.
-fn named(
-    alloc: Global,
-    path: &GivenPath<'_, '_>,
-    judged: Judged,
-    asks_names: bool,
-) -> Result<Judged, Refusal>
-    requires { BeginPath path.now }
-    ensures chained { IfOk result (λ it. (it ≡ judged) × AreChainedIf asks_names path.now) }
-    ensures other { IfErr result (IsNameRefusal asks_names path.now) }
-{
-    match unchained(alloc, path, asks_names) {
-        Ok(None) => Ok(judged),
-        Ok(Some(place)) => {
-            drop(judged);
-            Err(Refusal::OtherName(place))
-        }
-        Err(_) => {
-            drop(judged);
-            Err(Refusal::Memory)
-        }
-    }
-}
-
-// The answer of the path, whose trust anchor is trusted, and whose names are asked.
-fn judge_named(
-    alloc: Global,
-    path: &GivenPath<'_, '_>,
-    question: &RpkiQuestion<'_>,
-    terms: Terms,
-) -> Result<Judged, Refusal>
-    ensures { let x = context IsSignedByRsa terms.now terms.strict in
-        AnswersNamed x question.now terms path.now result }
-{
-    let asks_names = terms.asks_names;
-    match judge_trusted(alloc, path, question, terms) {
-        Ok(judged) => named(alloc, path, judged, asks_names),
-        Err(refusal) => Err(refusal),
-    }
-}
-
 /// Tells whether the last key is one that the RPKI uses, if it is asked.
 pub(crate) fn has_key_asked(judged: &Judged, asks_key: bool) -> bool
     ensures { IsTrue result ↔ HasKeyAsked asks_key judged.now }
@@ -182,101 +103,88 @@ pub(crate) fn has_key_asked(judged: &Judged, asks_key: bool) -> bool
     !asks_key || is_usable(judged.last_key())
 }
 
-// What was judged, of which the last key is asked.
-fn keyed(judged: Judged, asks_key: bool) -> Result<Judged, Refusal>
-    ensures asked { IfOk result (λ it. (it ≡ judged) × HasKeyAsked asks_key judged) }
-    ensures unused { IfErr result (λ e. (e ≡ UnusedKey) × (HasKeyAsked asks_key judged → ⊥)) }
-{
-    if has_key_asked(&judged, asks_key) {
-        return Ok(judged);
-    }
-    drop(judged);
-    Err(Refusal::UnusedKey)
-}
-
-// The answer of the path, whose trust anchor is trusted, and of which the last key is asked.
-#[tactic(auto, using(crate::proofs::KeysAsked::keyed_answer))]
-fn judge_keyed(
+// What is judged of the path with these lists.
+fn judge_with(
     alloc: Global,
     path: &GivenPath<'_, '_>,
-    question: &RpkiQuestion<'_>,
-    terms: Terms,
+    lists: &[Crl],
+    terms: &Terms,
 ) -> Result<Judged, Refusal>
-    ensures { let x = context IsSignedByRsa terms.now terms.strict in
-        AnswersKeyed x question.now terms path.now result }
+    ensures valid { IfOk result (IsValidWith terms.entry.now lists.now path.now) }
+    ensures chained { IfOk result (λ _. AreChainedIf terms.entry.now.asks_names path.now) }
+    ensures usable { IfOk result (HasKeyAsked terms.entry.now.asks_key) }
+    ensures fails { IfErr result (FailsWith terms.entry.now lists.now path.now) }
 {
-    let asks_key = terms.asks_key;
-    match judge_named(alloc, path, question, terms) {
-        Ok(judged) => keyed(judged, asks_key),
-        Err(refusal) => Err(refusal),
+    let asked = Asked::by(lists, terms);
+    let judged = judge(alloc, path, &asked, terms.strict, terms.now, &RsaVerifier)?;
+    if let Some(place) = unchained(alloc, path, terms.asks_names)? {
+        return Err(Refusal::OtherName(place));
     }
+    if !has_key_asked(&judged, terms.asks_key) {
+        return Err(Refusal::UnusedKey);
+    }
+    Ok(judged)
 }
 
-// The answer of the path.
+// What is judged of the path of these strings, and the lists that were asked.
 fn judge_path(
     alloc: Global,
     path: &GivenPath<'_, '_>,
+    strings: &[Bytes],
     question: &RpkiQuestion<'_>,
-    terms: Terms,
-) -> Result<Judged, Refusal>
-    ensures { let x = context IsSignedByRsa terms.now terms.strict in
-        AnswersPath x question.now terms path.now result }
+    terms: &Terms,
+) -> Result<(Judged, Vec<Crl>), Refusal>
+    ensures trusted { IfOk result (λ _. IsTrusted question.now terms.entry.now path.now.anchor) }
+    ensures lists { IfOk result (λ it. AreListsGiven
+        (AreListsNaming (IsKeyOf strings.now)) terms.entry.now.asks_lists question.now.lists it.1.items) }
+    ensures valid { IfOk result (λ it. IsValidWith terms.entry.now it.1.items path.now it.0) }
+    ensures chained { IfOk result (λ _. AreChainedIf terms.entry.now.asks_names path.now) }
+    ensures usable { IfOk result (λ it. HasKeyAsked terms.entry.now.asks_key it.0) }
+    ensures fails { let Are = AreListsNaming (IsKeyOf strings.now) in
+        IfErr result (FailsAs Are question.now terms.entry.now strings.now path.now) }
 {
     if terms.asks_locator {
         ask_locator(alloc, path.anchor, question.locator, terms.strict)?;
     }
-    judge_keyed(alloc, path, question, terms)
+    let lists = lists_asked(alloc, strings, &question.lists, terms.asks_lists)?;
+    let judged = judge_with(alloc, path, &lists, terms)?;
+    Ok((judged, lists))
 }
 
-// The answer to the question, whose members are these.
-fn judge_members(
+/// Judges the path of a question that has these terms, with the RPKI's signatures.
+pub(crate) fn judge_terms(
     alloc: Global,
-    members: &[Member<'_>],
     question: &RpkiQuestion<'_>,
-    terms: Terms,
-) -> Result<Judged, Refusal>
-    ensures { let x = context IsSignedByRsa terms.now terms.strict in
-        AnswersStrings x question.now terms members.now result }
-{
-    match GivenPath::of(members, terms.last) {
-        Some(path) => judge_path(alloc, &path, question, terms),
-        None => Err(Refusal::BadCall),
-    }
-}
-
-// The answer to the question, the octets of whose members are these.
-fn judge_strings(
-    alloc: Global,
-    strings: &[Bytes],
-    question: &RpkiQuestion<'_>,
-    terms: Terms,
-) -> Result<Judged, Refusal>
-    ensures { let x = context IsSignedByRsa terms.now terms.strict in
-        AnswersStrings x question.now terms strings.now result }
-{
-    let members = Member::of_each(alloc, strings)?;
-    let answer = judge_members(alloc, &members, question, terms);
-    drop(members);
-    answer
-}
-
-// The answer to the question, which has these terms.
-fn judge_terms(alloc: Global, question: &RpkiQuestion<'_>, terms: Terms) -> Result<Judged, Refusal>
-    ensures { AnswersMembers IsSignedByRsa question.now terms result }
+    terms: &Terms,
+) -> Result<Accepted, Refusal>
+    requires { HasTerms question.now terms.now }
+    ensures accepted { IfOk result (IsAcceptedQuestion question.now terms.entry.now) }
+    ensures refused { IfErr result (IsRefusedOn question.now terms.entry.now) }
 {
     let strings = strings_of(alloc, &question.members)?;
-    let answer = judge_strings(alloc, &strings, question, terms);
-    drop(strings);
-    answer
+    let members = Member::of_each(alloc, &strings)?;
+    let Some(path) = GivenPath::of(&members, terms.last) else {
+        return Err(Refusal::BadCall);
+    };
+    let (judged, lists) = judge_path(alloc, &path, &strings, question, terms)?;
+    drop(members);
+    Ok(Accepted {
+        judged,
+        path: strings,
+        lists,
+    })
 }
 
 /// Answers a question about a path, with the RPKI's signatures (RSASSA-PKCS1-v1_5 with SHA-256, RFC
 /// 7935 2).
-pub(crate) fn judge_question(alloc: Global, question: &RpkiQuestion<'_>) -> Result<Judged, Refusal>
-    ensures { AnswersQuestion IsSignedByRsa question.now result }
+pub(crate) fn judge_question(
+    alloc: Global,
+    question: &RpkiQuestion<'_>,
+) -> Result<Accepted, Refusal>
+    ensures { AnswersQuestion question.now result }
 {
     match terms_of(question) {
-        Some(terms) => judge_terms(alloc, question, terms),
+        Some(terms) => judge_terms(alloc, question, &terms),
         None => Err(Refusal::BadCall),
     }
 }

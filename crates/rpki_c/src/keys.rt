@@ -1,12 +1,11 @@
 //! The keys of a path: those of its certificates, and those that these name as their issuers'.
 ghost use Rattle.std.specs.Prelude.{◌≡◌, ◌++◌, ◌∷◌, [], ℕ, List, IfOk, OnOk};
-ghost use Rattle.rpki_c.specs.PathKeys.{AreKeysOf, keys_in, last_strings};
-ghost use Rattle.rpki_c.specs.Verdicts.{all_strings};
+ghost use Rattle.rpki_c.specs.PathKeys.{AreKeysOf, keys_in};
 
 use bytes::Bytes;
 use rpki_cert::{Cert, laws};
 use rpki_parts::KeyIdentifier;
-use rpki_path::{GivenPath, Last, Member};
+use rpki_path::Member;
 use std::alloc::{AllocError, Global};
 
 // Adds the key of a certificate, and the one that it names as its issuer's.
@@ -55,37 +54,6 @@ fn add_all(
         add_keys(alloc, keys, member.octets())?;
     }
     Ok(())
-}
-
-// Adds those of the last certificate, if it isn't a CA's.
-fn add_last(
-    alloc: Global,
-    keys: &mut Vec<KeyIdentifier>,
-    last: Option<Last<'_, '_>>,
-) -> Result<(), AllocError>
-    ensures { (strings : List (List ℕ)) → AreKeysOf strings keys.old.items
-        → OnOk result (AreKeysOf (strings ++ last_strings last.entry) keys.new.items) }
-{
-    match last {
-        Some(Last::Ee(member)) => add_keys(alloc, keys, member.octets()),
-        Some(Last::DetachedEe(member)) => add_keys(alloc, keys, member.octets()),
-        Some(Last::Router(member)) => add_keys(alloc, keys, member.octets()),
-        None => Ok(()),
-    }
-}
-
-/// Returns the keys of a path.
-pub(crate) fn keys_of(
-    alloc: Global,
-    path: &GivenPath<'_, '_>,
-) -> Result<Vec<KeyIdentifier>, AllocError>
-    ensures { IfOk result (λ keys. AreKeysOf (all_strings path.now) keys.items) }
-{
-    let mut keys = Vec::new(alloc);
-    add_keys(alloc, &mut keys, path.anchor.octets())?;
-    add_all(alloc, &mut keys, path.cas)?;
-    add_last(alloc, &mut keys, path.last)?;
-    Ok(keys)
 }
 
 /// Returns the keys of the certificates that these strings begin with.

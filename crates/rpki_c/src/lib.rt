@@ -5,6 +5,7 @@
 
 ghost use Rattle.std.specs.Prelude.{◌≡◌};
 
+mod asking;
 mod certificates;
 mod completing;
 mod copying;

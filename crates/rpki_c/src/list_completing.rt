@@ -1,10 +1,9 @@
 //! The completion of CRLs with their signatures.
 ghost use Rattle.std.specs.Prelude.{◌↔◌, IfSome, IsNone, IsTrue};
-ghost use Rattle.rpki_c.specs.ListAnswers.{AnswersListCompletedBelow, AnswersListCompletion, AnswersListCompletionTerms, AnswersListNamed, AnswersListSigned, IsListNamed};
+ghost use Rattle.rpki_c.specs.ListAnswers.{AnswersListCompletedBelow, AnswersListCompletion, AnswersListNamed, AnswersListSigned, IsListNamed};
 ghost use Rattle.rpki_c.specs.WantedLists.{HasListCompletionTerms, HasNoListCompletionTerms};
 
 use crate::issuer::authority_of;
-use crate::preparing::unfit;
 use crate::question::{RpkiQuestion, Terms, terms_of};
 use crate::unissued::Unissued;
 use bytes::Bytes;
@@ -67,16 +66,6 @@ fn read_data(alloc: Global, octets: &Bytes) -> Result<Data, Unissued>
     }
 }
 
-// The fields of what was signed.
-fn to_sign(alloc: Global, octets: &[u8]) -> Result<Data, Unissued>
-    ensures { AnswersListSigned octets.now result }
-{
-    let octets = Bytes::copy_from_slice(alloc, octets)?;
-    let list = read_data(alloc, &octets);
-    drop(octets);
-    list
-}
-
 // Whether the list is named as its issuer is.
 fn is_named(list: &Data, issuer: &TbsCert) -> bool
     ensures { IsTrue result ↔ IsListNamed issuer.now list.now }
@@ -88,12 +77,12 @@ fn is_named(list: &Data, issuer: &TbsCert) -> bool
 fn signed_below(alloc: Global, octets: &[u8], issuer: &TbsCert) -> Result<Data, Unissued>
     ensures { AnswersListNamed issuer.now octets.now result }
 {
-    let list = to_sign(alloc, octets)?;
-    if is_named(&list, issuer) {
-        return Ok(list);
+    let octets = Bytes::copy_from_slice(alloc, octets)?;
+    let list = read_data(alloc, &octets)?;
+    if !is_named(&list, issuer) {
+        return Err(Unissued::OtherName);
     }
-    drop(list);
-    Err(Unissued::OtherName)
+    Ok(list)
 }
 
 // The list below the issuer.
@@ -108,26 +97,8 @@ fn completed_below(
     let (prepared, signature) = (completion.prepared, completion.signature);
     let (strict, now) = (terms.strict, terms.now);
     let list = signed_below(alloc, prepared, issuer.as_cert().as_tbs())?;
-    let octets = complete_list_octets(alloc, &list, prepared, signature, issuer, strict, now);
-    drop(list);
-    match octets {
-        Ok(octets) => Ok(octets),
-        Err(error) => Err(unfit(error)),
-    }
-}
-
-// The list, on these terms.
-fn completed(
-    alloc: Global,
-    completion: &RpkiListCompletion<'_>,
-    terms: Terms,
-) -> Result<Bytes, Unissued>
-    ensures { AnswersListCompletionTerms completion.now terms result }
-{
-    let issuer = authority_of(alloc, &completion.issuer)?;
-    let octets = completed_below(alloc, completion, terms, &issuer);
-    drop(issuer);
-    octets
+    let octets = complete_list_octets(alloc, &list, prepared, signature, issuer, strict, now)?;
+    Ok(octets)
 }
 
 /// Completes a prepared CRL with its signature, and returns the CRL's bytes.
@@ -137,8 +108,9 @@ pub(crate) fn complete_list(
 ) -> Result<Bytes, Unissued>
     ensures { AnswersListCompletion completion.now result }
 {
-    match completion_terms_of(completion) {
-        Some(terms) => completed(alloc, completion, terms),
-        None => Err(Unissued::BadCall),
-    }
+    let Some(terms) = completion_terms_of(completion) else {
+        return Err(Unissued::BadCall);
+    };
+    let above = authority_of(alloc, &completion.issuer, &terms)?;
+    completed_below(alloc, completion, terms, &above.judged.holder)
 }

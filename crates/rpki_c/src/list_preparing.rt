@@ -1,14 +1,12 @@
 //! The to-be-signed part of a CRL that a caller requests.
 ghost use Rattle.std.specs.Prelude.{◌≡◌, ◌⊎◌, option_map, IfErr, IfOk};
 ghost use Rattle.rpki_crl.specs.Lists.{IsCertificateList};
-ghost use Rattle.rpki_c.specs.ListAnswers.{AnswersBehind, AnswersListBelow, AnswersListFields, AnswersListTerms, AnswersWantedList, IsNoPrevious, IsOwn, IsPreviousCrl};
-ghost use Rattle.rpki_issuing.specs.Issuers.{IsOwnList};
+ghost use Rattle.rpki_c.specs.ListAnswers.{AnswersBehind, AnswersListBelow, AnswersListFields, AnswersWantedList, IsNoPrevious, IsPreviousCrl};
 ghost use Rattle.rpki_c.specs.Verdicts.{AreNoList};
 ghost use Rattle.rpki_c.specs.declared.unissued.Unissued.TheVariants.{Memory, OtherList};
 
 use crate::issuer::authority_of;
 use crate::lists::whole_list;
-use crate::preparing::unfit;
 use crate::unissued::Unissued;
 use crate::wanted_list::{ListTerms, RpkiWantedList, list_given, list_terms_of};
 use bytes::Bytes;
@@ -40,31 +38,7 @@ fn read_list(alloc: Global, octets: &[u8]) -> Result<Crl, Unissued>
     }
 }
 
-// The list, if it is one of the issuer.
-fn owned_by(list: Crl, issuer: &ResourceCert) -> Result<Crl, Unissued>
-    ensures own { IfOk result (λ l. (l ≡ list) × IsOwnList issuer.now.cert.fields list.list) }
-    ensures other { IfErr result (λ e. (e ≡ OtherList)
-        × (IsOwnList issuer.now.cert.fields list.list → ⊥)) }
-{
-    if is_own(&list, issuer, true) {
-        return Ok(list);
-    }
-    drop(list);
-    Err(Unissued::OtherList)
-}
-
-// The list that the octets are, if it is one of the issuer.
-fn own_list(alloc: Global, octets: &[u8], issuer: &ResourceCert) -> Result<Crl, Unissued>
-    ensures own { IfOk result (IsOwn issuer.now.cert.fields octets.now) }
-    ensures other { IfErr result (IsNoPrevious issuer.now.cert.fields octets.now) }
-{
-    match read_list(alloc, octets) {
-        Ok(list) => owned_by(list, issuer),
-        Err(why) => Err(why),
-    }
-}
-
-// The list before. Without octets there was none.
+// The list before, which has to be one of the issuer. Without octets there was none.
 fn previous_of(alloc: Global, octets: &[u8], issuer: &ResourceCert) -> Result<Option<Crl>, Unissued>
     ensures previous { IfOk result (IsPreviousCrl issuer.now.cert.fields octets.now) }
     ensures other { IfErr result (IsNoPrevious issuer.now.cert.fields octets.now) }
@@ -72,10 +46,11 @@ fn previous_of(alloc: Global, octets: &[u8], issuer: &ResourceCert) -> Result<Op
     if octets.is_empty() {
         return Ok(None);
     }
-    match own_list(alloc, octets, issuer) {
-        Ok(list) => Ok(Some(list)),
-        Err(why) => Err(why),
+    let list = read_list(alloc, octets)?;
+    if !is_own(&list, issuer, true) {
+        return Err(Unissued::OtherList);
     }
+    Ok(Some(list))
 }
 
 // The fields of the list below the issuer, behind the list before.
@@ -90,12 +65,8 @@ fn fields_behind(
         AnswersListFields list.now terms issuer.now.cert.fields before result }
 {
     let wanted = list_given(alloc, list, terms)?;
-    let fields = list_fields(alloc, issuer, previous, &wanted);
-    drop(wanted);
-    match fields {
-        Ok(fields) => Ok(fields),
-        Err(error) => Err(unfit(error)),
-    }
+    let fields = list_fields(alloc, issuer, previous, &wanted)?;
+    Ok(fields)
 }
 
 // What is to be signed below the issuer, behind the list before.
@@ -111,12 +82,8 @@ fn prepared_behind(
 {
     let asked = terms.asked;
     let fields = fields_behind(alloc, list, terms, issuer, previous)?;
-    let octets = prepare_list_octets(alloc, &fields, issuer, asked.strict, asked.now);
-    drop(fields);
-    match octets {
-        Ok(octets) => Ok(octets),
-        Err(error) => Err(unfit(error)),
-    }
+    let octets = prepare_list_octets(alloc, &fields, issuer, asked.strict, asked.now)?;
+    Ok(octets)
 }
 
 // What is to be signed below the issuer.
@@ -129,27 +96,16 @@ fn prepared_below(
     ensures { AnswersListBelow list.now terms issuer.now.cert.fields result }
 {
     let previous = previous_of(alloc, list.previous, issuer)?;
-    let octets = prepared_behind(alloc, list, terms, issuer, previous.as_ref());
-    drop(previous);
-    octets
-}
-
-// What is to be signed, on these terms.
-fn prepared(alloc: Global, list: &RpkiWantedList<'_>, terms: ListTerms) -> Result<Bytes, Unissued>
-    ensures { AnswersListTerms list.now terms result }
-{
-    let issuer = authority_of(alloc, &list.issuer)?;
-    let octets = prepared_below(alloc, list, terms, &issuer);
-    drop(issuer);
-    octets
+    prepared_behind(alloc, list, terms, issuer, previous.as_ref())
 }
 
 /// Prepares the requested CRL, and returns the TBSCertList's bytes.
 pub(crate) fn prepare_list(alloc: Global, list: &RpkiWantedList<'_>) -> Result<Bytes, Unissued>
     ensures { AnswersWantedList list.now result }
 {
-    match list_terms_of(list) {
-        Some(terms) => prepared(alloc, list, terms),
-        None => Err(Unissued::BadCall),
-    }
+    let Some(terms) = list_terms_of(list) else {
+        return Err(Unissued::BadCall);
+    };
+    let above = authority_of(alloc, &list.issuer, &terms.asked)?;
+    prepared_below(alloc, list, terms, &above.judged.holder)
 }

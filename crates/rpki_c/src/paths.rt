@@ -1,16 +1,13 @@
 //! Paths for C.
 ghost use Rattle.std.specs.Prelude.{◌≡◌};
-ghost use Rattle.rpki_keys.specs.RsaSignatures.{IsSignedByRsa};
-ghost use Rattle.rpki_c.specs.Verdicts.{AnswersQuestion};
 ghost use Rattle.rpki_c.specs.Telling.{acceptance, rejection, HoldsAnswer, HoldsRanges, IsSameRoom, verdict_of, IsToldVerdict};
 
 use crate::copying::{RpkiAsRange, RpkiIpRange, put_addresses, put_as_numbers};
 use crate::faults::{NONE, of_refusal};
-use crate::judging::judge_question;
+use crate::judging::{Accepted, judge_question};
 use crate::question::RpkiQuestion;
 use crate::refusal::Refusal;
 use rpki_cert::ResourceCert;
-use rpki_path::Judged;
 use std::alloc::Global;
 
 /// Room for the ranges that the last certificate of a path holds.
@@ -64,15 +61,19 @@ fn accepted(holder: &ResourceCert, room: &mut RpkiRoom<'_>) -> RpkiVerdict
 }
 
 // The verdict that the answer is to a question of so many members, with the ranges that are held.
-fn verdict(answer: Result<Judged, Refusal>, members: usize, room: &mut RpkiRoom<'_>) -> RpkiVerdict
+fn verdict(
+    answer: Result<Accepted, Refusal>,
+    members: usize,
+    room: &mut RpkiRoom<'_>,
+) -> RpkiVerdict
     ensures told { result ≡ verdict_of members answer }
     ensures held { HoldsAnswer answer room.old room.new }
     ensures room { IsSameRoom room.old room.new }
 {
     match answer {
-        Ok(judged) => {
-            let out = accepted(&judged.holder, room);
-            drop(judged);
+        Ok(it) => {
+            let out = accepted(&it.judged.holder, room);
+            drop(it);
             out
         }
         Err(refusal) => {
@@ -81,16 +82,6 @@ fn verdict(answer: Result<Judged, Refusal>, members: usize, room: &mut RpkiRoom<
             out
         }
     }
-}
-
-// The verdict on the question's path, by real signatures.
-fn validate(alloc: Global, question: &RpkiQuestion<'_>, room: &mut RpkiRoom<'_>) -> RpkiVerdict
-    ensures verdict { let answers = AnswersQuestion IsSignedByRsa question.now in
-        IsToldVerdict answers question.now room.old room.new result }
-    ensures room { IsSameRoom room.old room.new }
-{
-    let answer = judge_question(alloc, question);
-    verdict(answer, question.members.lengths.len(), room)
 }
 
 /// Answers a question about a path, with real signatures (RSASSA-PKCS1-v1_5 with SHA-256). Writes
@@ -103,11 +94,11 @@ pub extern "C" fn rpki_path_validate(
     room: &mut RpkiRoom<'_>,
     out: &mut RpkiVerdict,
 ) -> u32
-    ensures verdict { let answers = AnswersQuestion IsSignedByRsa question.now in
-        IsToldVerdict answers question.now room.old room.new out.new }
+    ensures verdict { IsToldVerdict question.now room.old room.new out.new }
     ensures answered { result ≡ out.new.fault }
     ensures room { IsSameRoom room.old room.new }
 {
-    *out = validate(alloc, question, room);
+    let answer = judge_question(alloc, question);
+    *out = verdict(answer, question.members.lengths.len(), room);
     out.fault
 }

@@ -60,3 +60,17 @@ impl From<AllocError> for Unissued {
         Unissued::Memory
     }
 }
+
+impl From<WantedError> for Unissued {
+    ghost use Rattle.std.specs.Prelude.{◌≡◌};
+    ghost use Rattle.rpki_c.specs.WantedAnswers.{unfit_of};
+
+    ghost from_gives = { λ error why. why ≡ unfit_of error };
+
+    fn from(error: WantedError) -> Unissued {
+        match error {
+            WantedError::Memory => Unissued::Memory,
+            other => Unissued::Unfit(other),
+        }
+    }
+}

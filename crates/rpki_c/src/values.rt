@@ -6,7 +6,7 @@ ghost use Rattle.rpki_blocks.specs.Unions.{IsUnion};
 ghost use Rattle.rpki_parts.specs.Keys.{IsPublicKey};
 ghost use Rattle.rpki_issuing.specs.ValueTexts.{IsHttpsText, IsRsyncText};
 ghost use Rattle.rpki_c.specs.WantedAnswers.{AnswersValue, GivesValues, IsNoKey, IsNoText, uri_wanted};
-ghost use Rattle.rpki_c.specs.WantedQuestions.{AreResourcesGiven, AreOrdered, GivesWantedNumbers, GivesWantedUris, GivesWantedValues, IsKeyGiven, IsUriGiven, as_span, first_v4, last_v4, v4_span, v6_span};
+ghost use Rattle.rpki_c.specs.WantedQuestions.{AreBlocks, AreResourcesGiven, GivesWantedNumbers, GivesWantedUris, GivesWantedValues, IsKeyGiven, IsUriGiven, as_span, first_v4, last_v4, v4_span, v6_span};
 ghost use Rattle.rpki_c.specs.declared.certificates.CertUri.TheVariants.{Notify};
 ghost use Rattle.rpki_c.specs.declared.unissued.Unissued.TheVariants.{BadUri, Memory, NoKey};
 ghost use Rattle.rpki_c.specs.declared.wanted.RpkiWanted.{RpkiWanted as Asked};
@@ -96,46 +96,21 @@ impl Ranges<RpkiAsRange, Asn> for AsRanges {
     }
 }
 
-// Pushes the blocks of ranges, where none is there yet. Returns whether none of the ranges ends
-// before it begins.
-fn push_blocks<R, B: Bound, T: Ranges<R, B>>(
-    blocks: &mut BlocksBuilder<B>,
-    ranges: &[R],
-) -> Result<bool, AllocError>
-    requires { blocks.now ≡ [] }
-    ensures pushed { IfOk result (λ is. IsTrue is
-        → (blocks.new ≡ map T.span ranges.now) × AreOrdered blocks.new) }
-    ensures none { IfOk result (λ is. IsFalse is → AreOrdered (map T.span ranges.now) → ⊥) }
-{
-    for range in ranges {
-        let Some(block) = T::block(range) else {
-            return Ok(false);
-        };
-        blocks.push(block)?;
-    }
-    Ok(true)
-}
-
 // The blocks of ranges, if none ends before it begins.
 fn blocks_of<R, B: Bound, T: Ranges<R, B>>(
     alloc: Global,
     ranges: &[R],
-) -> Result<Option<BlocksBuilder<B>>, AllocError>
-    ensures { IfOk result (λ found. MatchOption found (AreOrdered (map T.span ranges.now) → ⊥)
-        (λ bs. (bs ≡ map T.span ranges.now) × AreOrdered bs)) }
+) -> Result<BlocksBuilder<B>, Unissued>
+    ensures { (w : Asked) → AnswersValue w (AreBlocks (map T.span ranges.now)) result }
 {
     let mut blocks = BlocksBuilder::new(alloc);
-    match push_blocks::<R, B, T>(&mut blocks, ranges) {
-        Ok(true) => Ok(Some(blocks)),
-        Ok(false) => {
-            drop(blocks);
-            Ok(None)
-        }
-        Err(error) => {
-            drop(blocks);
-            Err(error)
-        }
+    for range in ranges {
+        let Some(block) = T::block(range) else {
+            return Err(Unissued::BadCall);
+        };
+        blocks.push(block)?;
     }
+    Ok(blocks)
 }
 
 // The set of the numbers of blocks.
@@ -146,35 +121,20 @@ fn union_of<B: Bound>(blocks: BlocksBuilder<B>) -> Result<Resources<B>, AllocErr
     Ok(Resources::blocks(set))
 }
 
-// The set of the numbers of ranges. There has to be one.
-fn set_of<R, B: Bound, T: Ranges<R, B>>(
-    alloc: Global,
-    ranges: &[R],
-) -> Result<Option<Resources<B>>, AllocError>
-    ensures { let bs = map T.span ranges.now in
-        IfOk result (λ found. MatchOption found ((bs ≢ []) × AreOrdered bs → ⊥)
-        (λ r. (bs ≢ []) × AreOrdered bs × IsUnion bs r)) }
-{
-    if ranges.is_empty() {
-        return Ok(None);
-    }
-    match blocks_of::<R, B, T>(alloc, ranges)? {
-        Some(blocks) => Ok(Some(union_of(blocks)?)),
-        None => Ok(None),
-    }
-}
-
 // What the ranges list of a kind of numbers. There has to be one.
+#[tactic(auto, using(crate::proofs::WantedValues::no_blocks))]
 fn listed_of<R, B: Bound, T: Ranges<R, B>>(
     alloc: Global,
     ranges: &[R],
 ) -> Result<Resources<B>, Unissued>
     ensures { (w : Asked) → AnswersValue w (AreResourcesGiven 2 (map T.span ranges.now)) result }
 {
-    match set_of::<R, B, T>(alloc, ranges)? {
-        Some(set) => Ok(set),
-        None => Err(Unissued::BadCall),
+    if ranges.is_empty() {
+        return Err(Unissued::BadCall);
     }
+    let blocks = blocks_of::<R, B, T>(alloc, ranges)?;
+    let set = union_of(blocks)?;
+    Ok(set)
 }
 
 // What the ranges and the number of a state list of a kind of numbers.
@@ -193,45 +153,15 @@ fn resources_of<R, B: Bound, T: Ranges<R, B>>(
     }
 }
 
-// Two values, or why one isn't there.
-fn both<A: Drop, B: Drop>(
-    first: Result<A, Unissued>,
-    second: Result<B, Unissued>,
-) -> Result<(A, B), Unissued>
-    ensures both { IfOk result (λ r. (first ≡ Ok r.0) × (second ≡ Ok r.1)) }
-    ensures refused { IfErr result (λ e. (first ≡ Err e) ⊎ (second ≡ Err e)) }
-{
-    match first {
-        Ok(one) => match second {
-            Ok(other) => Ok((one, other)),
-            Err(why) => {
-                drop(one);
-                Err(why)
-            }
-        },
-        Err(why) => {
-            drop(second);
-            Err(why)
-        }
-    }
-}
-
 // What is listed of each kind of numbers.
+#[tactic(auto, using(crate::proofs::WantedValues::no_v4, crate::proofs::WantedValues::no_v6, crate::proofs::WantedValues::no_systems))]
 fn numbers(alloc: Global, w: &RpkiWanted<'_>) -> Result<Numbers, Unissued>
     ensures { AnswersValue w.now (GivesWantedNumbers w.now) result }
 {
-    let v4 = resources_of::<_, _, V4Ranges>(alloc, w.v4.state, w.v4.ranges);
-    let v6 = resources_of::<_, _, V6Ranges>(alloc, w.v6.state, w.v6.ranges);
-    let systems = resources_of::<_, _, AsRanges>(alloc, w.asn.state, w.asn.ranges);
-    let addresses = both(v4, v6);
-    let all = both(addresses, systems);
-    match all {
-        Ok((addresses, systems)) => {
-            let (v4, v6) = addresses;
-            Ok(Numbers { v4, v6, systems })
-        }
-        Err(why) => Err(why),
-    }
+    let v4 = resources_of::<_, _, V4Ranges>(alloc, w.v4.state, w.v4.ranges)?;
+    let v6 = resources_of::<_, _, V6Ranges>(alloc, w.v6.state, w.v6.ranges)?;
+    let systems = resources_of::<_, _, AsRanges>(alloc, w.asn.state, w.asn.ranges)?;
+    Ok(Numbers { v4, v6, systems })
 }
 
 // The octets of a URI.
@@ -280,58 +210,35 @@ fn notify_of(alloc: Global, w: &RpkiWanted<'_>) -> Result<Option<Https>, Unissue
 }
 
 // The URIs.
+#[tactic(auto, using(crate::proofs::WantedValues::no_repository, crate::proofs::WantedValues::no_manifest, crate::proofs::WantedValues::no_object, crate::proofs::WantedValues::no_notify, crate::proofs::WantedValues::no_issuer, crate::proofs::WantedValues::no_list))]
 fn places(alloc: Global, w: &RpkiWanted<'_>) -> Result<Places, Unissued>
     ensures { AnswersValue w.now (GivesWantedUris w.now.uris) result }
 {
-    let repository = rsync_of(alloc, w, CertUri::Repository);
-    let manifest = rsync_of(alloc, w, CertUri::Manifest);
-    let object = rsync_of(alloc, w, CertUri::SignedObject);
-    let notify = notify_of(alloc, w);
-    let issuer = rsync_of(alloc, w, CertUri::CaIssuer);
-    let list = rsync_of(alloc, w, CertUri::Crl);
-    let own = both(repository, manifest);
-    let more = both(object, notify);
-    let below = both(own, more);
-    let above = both(issuer, list);
-    let all = both(below, above);
-    match all {
-        Ok((below, above)) => {
-            let (own, more) = below;
-            let (repository, manifest) = own;
-            let (object, notify) = more;
-            let (issuer, list) = above;
-            Ok(Places {
-                repository,
-                manifest,
-                object,
-                notify,
-                issuer,
-                list,
-            })
-        }
-        Err(why) => Err(why),
-    }
+    Ok(Places {
+        repository: rsync_of(alloc, w, CertUri::Repository)?,
+        manifest: rsync_of(alloc, w, CertUri::Manifest)?,
+        object: rsync_of(alloc, w, CertUri::SignedObject)?,
+        notify: notify_of(alloc, w)?,
+        issuer: rsync_of(alloc, w, CertUri::CaIssuer)?,
+        list: rsync_of(alloc, w, CertUri::Crl)?,
+    })
 }
 
 // What is wanted of the certificate.
+#[tactic(auto, using(crate::proofs::WantedValues::no_numbers, crate::proofs::WantedValues::no_places))]
 fn wanted_of(alloc: Global, w: &RpkiWanted<'_>, terms: WantedTerms) -> Result<Wanted, Unissued>
     ensures { AnswersValue w.now (GivesWantedValues w.now terms) result }
 {
     let Some(serial) = serial_of(&w.serial) else {
         return Err(Unissued::BadCall);
     };
-    let numbers = numbers(alloc, w);
-    let places = places(alloc, w);
-    match both(numbers, places) {
-        Ok((numbers, places)) => Ok(Wanted {
-            serial,
-            not_before: terms.not_before,
-            not_after: terms.not_after,
-            numbers,
-            places,
-        }),
-        Err(why) => Err(why),
-    }
+    Ok(Wanted {
+        serial,
+        not_before: terms.not_before,
+        not_after: terms.not_after,
+        numbers: numbers(alloc, w)?,
+        places: places(alloc, w)?,
+    })
 }
 
 // The key that the octets are.
@@ -366,6 +273,7 @@ fn key_of(alloc: Global, w: &RpkiWanted<'_>) -> Result<PublicKey, Unissued>
 }
 
 /// Returns the values of the requested certificate, and the subject's key.
+#[tactic(auto, using(crate::proofs::WantedValues::no_wanted, crate::proofs::WantedValues::no_key))]
 pub(crate) fn values_of(
     alloc: Global,
     w: &RpkiWanted<'_>,
@@ -373,7 +281,7 @@ pub(crate) fn values_of(
 ) -> Result<(Wanted, PublicKey), Unissued>
     ensures { AnswersValue w.now (GivesValues w.now terms) result }
 {
-    let wanted = wanted_of(alloc, w, terms);
-    let key = key_of(alloc, w);
-    both(wanted, key)
+    let wanted = wanted_of(alloc, w, terms)?;
+    let key = key_of(alloc, w)?;
+    Ok((wanted, key))
 }

@@ -14,14 +14,13 @@ ghost use Rattle.rpki_folder.specs.Walks.{IsLookedAt, LeadsTo, Root, TellsBelow,
 ghost use Rattle.rpki_folder.specs.declared.anchors.FoundAnchor.TheVariants.{Valid};
 ghost use Rattle.rpki_c.specs.FolderFates.Steps.{IsSorted, refusal_of, wrong_first};
 ghost use Rattle.rpki_c.specs.FolderQuestions.{asked_or};
-ghost use Rattle.rpki_c.specs.FolderTelling.{AnswersBelow, AnswersLocated, AnswersGiven, AnswersFolder};
+ghost use Rattle.rpki_c.specs.FolderTelling.{AnswersBelow, AnswersGiven, AnswersFolder};
 
 use crate::folder_lines::{ToldLines, WalkLines};
 use crate::folder_question::{FolderTerms, RpkiFolderQuestion, folder_terms_of};
 use crate::judging::strings_of;
 use crate::refusal::Refusal;
 use crate::sorting::Sorted;
-use bytes::Bytes;
 use rpki_cert::{ResourceCert, laws};
 use rpki_folder::{
     Admission, AllAdmitted, Ended, Firsts, FoundAnchor, Lines, Walk, WalkError,
@@ -207,38 +206,6 @@ fn walk_sorted(
     }
 }
 
-// The answer of strings below a locator.
-fn walk_strings(
-    alloc: Global,
-    strings: &[Bytes],
-    tal: &Tal,
-    terms: FolderTerms,
-) -> Result<Walked, Refusal>
-    ensures { let x = context IsSignedByRsa terms.at terms.strict in
-        AnswersBelow x terms tal.now strings.now result }
-{
-    let sorted = Sorted::of(alloc, strings)?;
-    let answer = walk_sorted(alloc, &sorted, tal, terms);
-    drop(sorted);
-    answer
-}
-
-// The answer of strings below the locator that a file is.
-fn walk_located(
-    alloc: Global,
-    strings: &[Bytes],
-    file: &[u8],
-    terms: FolderTerms,
-) -> Result<Walked, Refusal>
-    ensures { let x = context IsSignedByRsa terms.at terms.strict in
-        AnswersLocated x terms file.now strings.now result }
-{
-    let tal = Tal::read_named(alloc, String::new(alloc), file, terms.strict)?;
-    let answer = walk_strings(alloc, strings, &tal, terms);
-    drop(tal);
-    answer
-}
-
 // The answer to the question, which has these terms.
 fn walk_given(
     alloc: Global,
@@ -248,9 +215,9 @@ fn walk_given(
     ensures { AnswersGiven IsSignedByRsa question.now terms result }
 {
     let strings = strings_of(alloc, &question.strings)?;
-    let answer = walk_located(alloc, &strings, question.locator, terms);
-    drop(strings);
-    answer
+    let tal = Tal::read_named(alloc, String::new(alloc), question.locator, terms.strict)?;
+    let sorted = Sorted::of(alloc, &strings)?;
+    walk_sorted(alloc, &sorted, &tal, terms)
 }
 
 /// Answers a question about a directory, with the RPKI's signatures (RSASSA-PKCS1-v1_5 with

@@ -1,7 +1,7 @@
 //! A CRL that a caller requests, as bytes, lengths and numbers.
-ghost use Rattle.std.specs.Prelude.{◌≡◌, [], map, IfErr, IfOk, IfSome, IsFalse, IsNone, IsTrue, MatchOption};
+ghost use Rattle.std.specs.Prelude.{◌≡◌, map, IfErr, IfOk, IfSome, IsNone, MatchOption};
 ghost use Rattle.rpki_crl.specs.RevokedEntries.Views.{entry_of};
-ghost use Rattle.rpki_c.specs.ListAnswers.{GivesNoList};
+ghost use Rattle.rpki_c.specs.ListAnswers.{GivesNoEntries};
 ghost use Rattle.rpki_c.specs.WantedLists.{GivesWantedList, HasDate, HasListTerms, HasNoListTerms, HaveDates, IsNumberChosen, given_entry};
 
 use crate::lists::{RpkiEntry, number_of};
@@ -11,7 +11,7 @@ use crate::unissued::Unissued;
 use rpki_crl::CrlEntry;
 use rpki_der::{Serial, Time};
 use rpki_issuing::wanted::WantedList;
-use std::alloc::{AllocError, Global};
+use std::alloc::Global;
 
 /// A requested CRL.
 #[repr(C)]
@@ -82,39 +82,22 @@ fn entry_given(it: &RpkiEntry) -> Option<CrlEntry>
     })
 }
 
-// Adds the entries that are given, where none is there yet. Returns whether there are such moments.
-fn add_given(all: &mut Vec<CrlEntry>, revoked: &[RpkiEntry]) -> Result<bool, AllocError>
-    requires { all.now.items ≡ [] }
-    ensures added { IfOk result (λ is. IsTrue is
-        → (map entry_of all.new.items ≡ map given_entry revoked.now) × HaveDates revoked.now) }
-    ensures none { IfOk result (λ is. IsFalse is → HaveDates revoked.now → ⊥) }
-{
-    for it in revoked {
-        let Some(entry) = entry_given(it) else {
-            return Ok(false);
-        };
-        all.push(entry)?;
-    }
-    Ok(true)
-}
-
 // The entries that are given, if there are such moments.
-fn entries_given(alloc: Global, revoked: &[RpkiEntry]) -> Result<Option<Vec<CrlEntry>>, AllocError>
-    ensures { IfOk result (λ found. MatchOption found (HaveDates revoked.now → ⊥)
-        (λ all. (map entry_of all.items ≡ map given_entry revoked.now) × HaveDates revoked.now)) }
+fn entries_given(alloc: Global, revoked: &[RpkiEntry]) -> Result<Vec<CrlEntry>, Unissued>
+    ensures given { IfOk result (λ all. map entry_of all.items ≡ map given_entry revoked.now) }
+    ensures dates { IfOk result (λ _. HaveDates revoked.now) }
+    ensures none { IfErr result (GivesNoEntries revoked.now) }
 {
     let mut all = Vec::new(alloc);
-    match add_given(&mut all, revoked) {
-        Ok(true) => Ok(Some(all)),
-        Ok(false) => {
-            drop(all);
-            Ok(None)
-        }
-        Err(error) => {
-            drop(all);
-            Err(error)
+    for it in revoked {
+        let Some(entry) = entry_given(it) else {
+            return Err(Unissued::BadCall);
+        };
+        if let Err(_) = all.push(entry) {
+            return Err(Unissued::Memory);
         }
     }
+    Ok(all)
 }
 
 /// Returns the values of the requested CRL.
@@ -124,14 +107,11 @@ pub(crate) fn list_given(
     terms: ListTerms,
 ) -> Result<WantedList, Unissued>
     ensures given { IfOk result (GivesWantedList list.now terms) }
-    ensures none { IfErr result (GivesNoList list.now) }
+    ensures none { IfErr result (GivesNoEntries list.now.revoked.now) }
 {
-    let Some(revoked) = entries_given(alloc, list.revoked)? else {
-        return Err(Unissued::BadCall);
-    };
     Ok(WantedList {
         number: number_chosen(&list.number),
-        revoked,
+        revoked: entries_given(alloc, list.revoked)?,
         this_update: terms.this_update,
         next_update: terms.next_update,
     })

@@ -16,5 +16,5 @@ returns c =
       c.in_ok-previous.previous,
       c.in_ok-previous.ensures.previous,
       subst (λ (o : Option CrlState). AnswersBehind c.args.list.now c.args.terms c.args.issuer.now.cert.fields o
-          c.prepared_behind-octets.result) c.as_ref.ensures.value c.prepared_behind-octets.ensures,
+          c.prepared_behind.result) c.as_ref.ensures.value c.prepared_behind.ensures,
     )

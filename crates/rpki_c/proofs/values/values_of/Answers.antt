@@ -1,9 +1,11 @@
-use Rattle.rpki_c.specs.WantedQuestions.{GivesWantedValues, IsKeyGiven}
-use Rattle.rpki_c.proofs.WantedValues.{both_given}
+use Rattle.std.specs.Prelude.{Err}
+use Rattle.std.proofs.Common.{◌≡◌}
+use Rattle.rpki_c.proofs.WantedValues.{no_key}
+use Rattle.rpki_c.proofs.Unread.{passed_on}
 use Rattle.rpki_c.proofs.values.values_of.Goals as goal
 
-pub returns : goal.returns
-returns c =
-    let w = c.args.w.now in
-    both_given w (GivesWantedValues w c.args.terms) (IsKeyGiven w.key.now) c.wanted_of-wanted.result c.key_of-key.result
-    c.both.result c.both.ensures.both c.both.ensures.refused c.wanted_of-wanted.ensures c.key_of-key.ensures
+pub returns-in_err-key : goal.returns-in_err-key
+returns-in_err-key c =
+    let e = c.in_err-key.field-0.0 in
+    let same : c.from_residual-in_err-key.result ≡ Err e = passed_on _ _ c.from_residual-in_err-key.ensures.1 in
+    rw same (no_key c.args.w.now c.args.terms e c.in_err-key.ensures)
