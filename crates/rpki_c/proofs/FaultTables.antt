@@ -23,7 +23,7 @@ use Rattle.rpki_files.specs.FaultTable.{general_faults, inspection_faults, issui
 use Rattle.rpki_files.specs.FaultTable.{part_table, reading_faults, revocation_faults, fault_named}
 use Rattle.rpki_files.specs.FaultTable.{verification_faults}
 use Rattle.rpki_c.specs.FaultNumbers.{decode_number, inspection_number, verification_number, revocation_number}
-use Rattle.rpki_c.specs.FaultNumbers.{locator_number, next_list_number}
+use Rattle.rpki_c.specs.FaultNumbers.{locator_number, next_list_number, IsReadingNumber}
 use Rattle.rpki_c.specs.FaultTexts.{name_told}
 
 -- a number that is 1 or at least 100, and what is added to it
@@ -40,6 +40,11 @@ decoding_told (decoding.Critical field.BasicConstraints) = refl
 decoding_told (decoding.NotCritical field.BasicConstraints) = refl
 decoding_told (decoding.WrongResources field.BasicConstraints) = refl
 decoding_told _ = refl
+
+-- that memory ran out is a fault of reading, too
+pub memory_is_reading : IsReadingNumber 1
+unfolding fault_named general_faults
+memory_is_reading = (decoding.Memory, refl)
 
 pub inspections : (e : InspectionError) → name_told (inspection_number e) ≡ Some (inspection_error_name e)
 unfolding fault_named general_faults inspection_faults

@@ -1,5 +1,5 @@
 -- The number that callers in C are told of each fault: that of its line in the table (own).
-use Rattle.std.specs.Prelude.{ℕ, ◌+◌}
+use Rattle.std.specs.Prelude.{◌≡◌, ℕ, ◌+◌}
 use Rattle.rpki_der.specs.declared.error.DecodeError.{DecodeError}
 use Rattle.rpki_der.specs.declared.error.DecodeError.TheVariants as decoding
 use Rattle.rpki_ext.specs.declared.inspection.InspectionError.{InspectionError}
@@ -39,6 +39,10 @@ part_added e = 0
 -- faults of reading
 abbrev pub decode_number : DecodeError → ℕ
 decode_number e = (reading_fault e).number + part_added e
+
+-- the number is that of a fault of reading
+abbrev pub IsReadingNumber : ℕ → Type 0
+IsReadingNumber number = (e : DecodeError) × (number ≡ decode_number e)
 
 -- faults of inspection
 abbrev pub inspection_number : InspectionError → ℕ

@@ -9,7 +9,7 @@ ghost use Rattle.rpki_c.specs.Choices.{family_number, family_field, listed_block
 ghost use Rattle.rpki_c.specs.Contents.{state_number, TellsKey, TellsKeys, TellsCertificate};
 ghost use Rattle.rpki_folder.specs.Folders.{BeginsNoCertificate};
 ghost use Rattle.rpki_parts.specs.NameTexts.{name_text};
-ghost use Rattle.rpki_c.specs.FaultNumbers.{inspection_number};
+ghost use Rattle.rpki_c.specs.FaultNumbers.{IsReadingNumber, inspection_number};
 ghost use Rattle.rpki_c.specs.Writing.{IsWrittenInto, as_struct, ip_struct};
 ghost use Rattle.rpki_c.specs.declared.certificates.Family.{Family as families};
 ghost use Rattle.rpki_c.specs.declared.certificates.CertUri.{CertUri as uris};
@@ -103,6 +103,7 @@ pub(crate) fn decoded(alloc: Global, octets: &[u8]) -> Result<Cert, u32>
     ensures fault { IfErr result (λ fault. (fault ≢ NONE) × (fault ≢ BAD_CALL)) }
     ensures reading { IfErr result (λ fault. fault < 300) }
     ensures unread { IfErr result (λ fault. fault ≢ MEMORY → BeginsNoCertificate octets.now) }
+    ensures code { IfErr result IsReadingNumber }
 {
     match Cert::decode(alloc, octets) {
         Ok(cert) => Ok(cert),
@@ -133,6 +134,7 @@ pub extern "C" fn rpki_certificate_read(
         × TellsCertificate c.fields out.new }
     ensures untouched { result ≢ NONE → out.new ≡ out.old }
     ensures unread { result ≢ NONE → result ≢ MEMORY → BeginsNoCertificate octets.now }
+    ensures code { result ≢ NONE → IsReadingNumber result }
 {
     match decoded(alloc, octets) {
         Ok(cert) => {
@@ -164,6 +166,7 @@ pub extern "C" fn rpki_certificate_key(
     ensures at_fault { result ≢ NONE → (count.new ≡ 0) × (is_used.new ≡ 0) }
     ensures untouched { result ≢ NONE → out.new ≡ out.old }
     ensures unread { result ≢ NONE → result ≢ MEMORY → BeginsNoCertificate octets.now }
+    ensures code { result ≢ NONE → IsReadingNumber result }
 {
     *count = 0;
     *is_used = 0;
@@ -240,6 +243,7 @@ pub extern "C" fn rpki_certificate_inspect(
         × IsFirstFault k (not (strict == 0)) c e }
     ensures unread { result ≢ NONE → result ≢ MEMORY → result ≢ BAD_CALL → result < 300
         → BeginsNoCertificate octets.now }
+    ensures code { result ≢ NONE → result ≢ BAD_CALL → result < 300 → IsReadingNumber result }
 {
     let Some(kind) = kind_of(kind) else {
         return BAD_CALL;
@@ -320,6 +324,7 @@ pub extern "C" fn rpki_certificate_addresses(
     ensures untouched { result ≢ NONE → out.new ≡ out.old }
     ensures unread { result ≢ NONE → result ≢ MEMORY → result ≢ BAD_CALL
         → BeginsNoCertificate octets.now }
+    ensures code { result ≢ NONE → result ≢ BAD_CALL → IsReadingNumber result }
 {
     *count = 0;
     let Some(family) = family_of(family) else {
@@ -354,6 +359,7 @@ pub extern "C" fn rpki_certificate_as_numbers(
     ensures at_fault { result ≢ NONE → count.new ≡ 0 }
     ensures untouched { result ≢ NONE → out.new ≡ out.old }
     ensures unread { result ≢ NONE → result ≢ MEMORY → BeginsNoCertificate octets.now }
+    ensures code { result ≢ NONE → IsReadingNumber result }
 {
     *count = 0;
     match decoded(alloc, octets) {
@@ -461,6 +467,7 @@ pub extern "C" fn rpki_certificate_uri(
     ensures untouched { result ≢ NONE → out.new ≡ out.old }
     ensures unread { result ≢ NONE → result ≢ MEMORY → result ≢ BAD_CALL
         → BeginsNoCertificate octets.now }
+    ensures code { result ≢ NONE → result ≢ BAD_CALL → IsReadingNumber result }
 {
     *count = 0;
     let Some(which) = uri_numbered(which) else {
@@ -551,6 +558,7 @@ pub extern "C" fn rpki_certificate_name(
     ensures untouched { result ≢ NONE → out.new ≡ out.old }
     ensures unread { result ≢ NONE → result ≢ MEMORY → result ≢ BAD_CALL
         → BeginsNoCertificate octets.now }
+    ensures code { result ≢ NONE → result ≢ BAD_CALL → IsReadingNumber result }
 {
     *count = 0;
     let Some(which) = name_numbered(which) else {

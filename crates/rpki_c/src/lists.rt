@@ -7,6 +7,7 @@ ghost use Rattle.rpki_crl.specs.Lists.{CrlFields, IsCertificateList};
 ghost use Rattle.rpki_crl.specs.RevokedEntries.{IsRevoked};
 ghost use Rattle.rpki_crl.specs.RevokedEntries.Views.{entry_of};
 ghost use Rattle.rpki_c.specs.Contents.{AreEntriesPut, AreTold, IsFlag, TellsEntry, TellsList, serial_in, told_count};
+ghost use Rattle.rpki_c.specs.FaultNumbers.{IsReadingNumber};
 ghost use Rattle.rpki_c.specs.Verdicts.{AreListsNaming, AreNoList, BeginsNoList, IsForeign, IsListGiven, IsUnreadList};
 ghost use Rattle.rpki_c.specs.Writing.{IsWrittenInto};
 
@@ -78,6 +79,7 @@ pub(crate) fn decoded(alloc: Global, octets: &[u8]) -> Result<Crl, u32>
     ensures read { IfOk result (λ l. Means IsCertificateList l.list octets.now) }
     ensures fault { IfErr result (λ fault. (fault ≢ NONE) × (fault ≢ BAD_CALL)) }
     ensures unread { IfErr result (λ fault. fault ≢ MEMORY → BeginsNoList octets.now) }
+    ensures code { IfErr result IsReadingNumber }
 {
     match Crl::decode(alloc, octets) {
         Ok(list) => Ok(list),
@@ -104,6 +106,7 @@ pub extern "C" fn rpki_list_read(alloc: Global, octets: &[u8], out: &mut RpkiLis
         × TellsList l.fields out.new }
     ensures untouched { result ≢ NONE → out.new ≡ out.old }
     ensures unread { result ≢ NONE → result ≢ MEMORY → BeginsNoList octets.now }
+    ensures code { result ≢ NONE → IsReadingNumber result }
 {
     match decoded(alloc, octets) {
         Ok(list) => {
@@ -155,6 +158,7 @@ pub extern "C" fn rpki_list_entries(
     ensures at_fault { result ≢ NONE → count.new ≡ 0 }
     ensures untouched { result ≢ NONE → out.new ≡ out.old }
     ensures unread { result ≢ NONE → result ≢ MEMORY → BeginsNoList octets.now }
+    ensures code { result ≢ NONE → IsReadingNumber result }
 {
     *count = 0;
     match decoded(alloc, octets) {
@@ -185,6 +189,7 @@ pub extern "C" fn rpki_list_issuer(
     ensures at_fault { result ≢ NONE → count.new ≡ 0 }
     ensures untouched { result ≢ NONE → out.new ≡ out.old }
     ensures unread { result ≢ NONE → result ≢ MEMORY → BeginsNoList octets.now }
+    ensures code { result ≢ NONE → IsReadingNumber result }
 {
     *count = 0;
     match decoded(alloc, octets) {
@@ -246,6 +251,7 @@ fn list_for(alloc: Global, octets: &[u8], count: usize) -> Result<Crl, u32>
     ensures read { IfOk result (λ l. Means IsCertificateList l.list octets.now) }
     ensures fault { IfErr result (λ fault. (fault ≢ NONE) × (fault ≢ BAD_CALL)) }
     ensures unread { IfErr result (λ fault. fault ≢ MEMORY → BeginsNoList octets.now) }
+    ensures code { IfErr result IsReadingNumber }
 {
     let mut list = decoded(alloc, octets)?;
     if count < 2 {
@@ -283,6 +289,7 @@ pub extern "C" fn rpki_list_ask(
         × AreTold l.fields.revoked.entries serials.now answers.new }
     ensures untouched { result ≢ NONE → answers.new ≡ answers.old }
     ensures unread { result ≢ NONE → result ≢ MEMORY → result ≢ BAD_CALL → BeginsNoList octets.now }
+    ensures code { result ≢ NONE → result ≢ BAD_CALL → IsReadingNumber result }
 {
     if !add_up(serials, answers) {
         return BAD_CALL;

@@ -5,6 +5,7 @@ ghost use Rattle.rpki_ext.specs.Kinds.{Means};
 ghost use Rattle.rpki_cert.specs.Certificates.{IsCertificate};
 ghost use Rattle.rpki_folder.specs.Folders.{BeginsNoCertificate};
 ghost use Rattle.rpki_c.specs.Contents.{ArePlaces, StandInFront, TellsPlaces};
+ghost use Rattle.rpki_c.specs.FaultNumbers.{IsReadingNumber};
 
 use crate::certificates::decoded;
 use crate::faults::{MEMORY, NONE};
@@ -90,6 +91,7 @@ pub(crate) fn placed(alloc: Global, octets: &[u8]) -> Result<(Cert, RpkiPlaces),
     ensures places { IfOk result (λ it. ArePlaces it.0 octets.now it.1) }
     ensures fault { IfErr result (λ fault. fault ≢ NONE) }
     ensures unread { IfErr result (λ fault. fault ≢ MEMORY → BeginsNoCertificate octets.now) }
+    ensures code { IfErr result IsReadingNumber }
 {
     let cert = decoded(alloc, octets)?;
     let Ok(octets) = Bytes::copy_from_slice(alloc, octets) else {
@@ -106,6 +108,7 @@ pub extern "C" fn rpki_certificate_places(alloc: Global, octets: &[u8], out: &mu
     ensures places { result ≡ NONE → TellsPlaces octets.now out.new }
     ensures untouched { result ≢ NONE → out.new ≡ out.old }
     ensures unread { result ≢ NONE → result ≢ MEMORY → BeginsNoCertificate octets.now }
+    ensures code { result ≢ NONE → IsReadingNumber result }
 {
     match placed(alloc, octets) {
         Ok((cert, places)) => {

@@ -8,6 +8,7 @@ ghost use Rattle.rpki_crl.specs.RevokedEntries.{Entry, IsRevoked};
 ghost use Rattle.rpki_crl.specs.SerialTables.{AreAscending, serials_of};
 ghost use Rattle.rpki_ext.specs.Kinds.{Means};
 ghost use Rattle.rpki_c.specs.Contents.{AreTold, IsFlag};
+ghost use Rattle.rpki_c.specs.FaultNumbers.{IsReadingNumber};
 ghost use Rattle.rpki_c.specs.ListTables.{IsSerialTable, serials_in};
 ghost use Rattle.rpki_c.specs.Verdicts.{BeginsNoList};
 ghost use Rattle.rpki_c.specs.Writing.{IsWrittenInto, written_over};
@@ -150,6 +151,7 @@ fn read_table(alloc: Global, octets: &[u8]) -> Result<Vec<RpkiSerial>, u32>
         × IsSerialTable l.fields.revoked.entries it.items) }
     ensures fault { IfErr result (λ fault. fault ≢ NONE) }
     ensures unread { IfErr result (λ fault. fault ≢ MEMORY → BeginsNoList octets.now) }
+    ensures code { IfErr result IsReadingNumber }
 {
     let list = decoded(alloc, octets)?;
     let table = table_of(alloc, &list);
@@ -183,6 +185,7 @@ pub extern "C" fn rpki_list_table(
     ensures at_fault { result ≢ NONE → count.new ≡ 0 }
     ensures untouched { result ≢ NONE → out.new ≡ out.old }
     ensures unread { result ≢ NONE → result ≢ MEMORY → BeginsNoList octets.now }
+    ensures code { result ≢ NONE → IsReadingNumber result }
 {
     *count = 0;
     match read_table(alloc, octets) {
