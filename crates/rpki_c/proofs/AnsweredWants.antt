@@ -1,5 +1,5 @@
 -- Why nothing is prepared or completed, from one step to the next.
-use Rattle.std.specs.Prelude.{ℕ, List, Option, Err}
+use Rattle.std.specs.Prelude.{Option, Err}
 use Rattle.std.proofs.Common.{◌≡◌, subst}
 use Rattle.rpki_cert.specs.Certificates.{TbsFields}
 use Rattle.rpki_cert.specs.Verification.{ResourceFields}

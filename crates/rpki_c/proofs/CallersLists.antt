@@ -1,7 +1,7 @@
 -- The caller's lists, as they are read one after the other, and those among all that are asked.
 use Rattle.std.specs.Prelude.{◌↔◌, Contains, MatchOption, Option, Some, None}
 use Rattle.std.proofs.Common.{◌≡◌, ◌+◌, ◌<◌, ◌⊎◌, ℕ, zero, suc, List, [], ◌∷◌, ◌++◌, length, take, get_or, false}
-use Rattle.std.proofs.Common.{refl, sym, ap, subst, ◌∙◌, inl, inr, arith}
+use Rattle.std.proofs.Common.{refl, sym, subst, ◌∙◌, inl, inr, arith}
 use Rattle.std.proofs.lemmas.List.{append-nil, take_more}
 use Rattle.std.proofs.lemmas.List.Elements.{Contains-append_right}
 use Rattle.rpki_der.specs.Reading.{Reads}

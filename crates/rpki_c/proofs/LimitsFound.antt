@@ -1,7 +1,7 @@
 -- From the limits that a walk told to those at the certificate of each string.
 use Rattle.std.specs.List.{AllByRecursion}
-use Rattle.std.specs.Prelude.{◌↔◌, ◌==◌, Bool, Any, Option, None, Some, fold, if◌then◌else◌, min}
-use Rattle.std.proofs.Common.{◌≡◌, ◌<◌, ◌≤◌, ◌⊎◌, ℕ, zero, suc, List, [], ◌∷◌, ◌++◌, length, get_or, append_assoc}
+use Rattle.std.specs.Prelude.{◌↔◌, ◌==◌, Bool, Option, None, Some, fold, if◌then◌else◌, min}
+use Rattle.std.proofs.Common.{◌≡◌, ◌<◌, ◌≤◌, ℕ, List, [], ◌∷◌, ◌++◌, length, get_or, append_assoc}
 use Rattle.std.proofs.Common.{◌∙◌, refl, sym, ap, subst, inl, inr, arith}
 use Rattle.std.proofs.lemmas.Bool.{cases_lt, cases_eq, eq-eqb, ne_eqb}
 use Rattle.std.proofs.lemmas.List.{append-nil, get_or_past, length-map}

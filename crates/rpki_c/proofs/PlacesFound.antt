@@ -1,15 +1,13 @@
 -- Where the parts of a certificate stand in its octets.
-use Rattle.std.specs.Prelude.{IsOk, Result, Ok, Err, OnOk}
 use Rattle.std.proofs.Common.{◌≡◌, ◌≤◌, ◌<◌, ◌+◌, ◌-◌, ℕ, List, [], ◌∷◌, ◌++◌, length, drop, get_or, slice_range}
 use Rattle.std.proofs.Common.{refl, sym, ap, subst, ◌∙◌, append_assoc, arith}
 use Rattle.std.proofs.lemmas.List.{drop_all, drop_more}
 use Rattle.std.proofs.lemmas.List.Edits.{length-between}
 use Rattle.rpki_der.specs.Encoding.{Begins, Means}
-use Rattle.rpki_der.specs.Place.{Place, IsWithin, MovesOn, remaining}
+use Rattle.rpki_der.specs.Place.{Place, MovesOn, remaining}
 use Rattle.rpki_der.specs.Skipping.{levels}
 use Rattle.rpki_der.specs.Tags.{BIT_STRING, CONTEXT_CONSTRUCTED, INTEGER, SEQUENCE}
 use Rattle.rpki_der.specs.Values.{IsEnc, enc, length_octets}
-use Rattle.rpki_der.specs.declared.error.DecodeError.{DecodeError}
 use Rattle.rpki_der.proofs.Places.{cut}
 use Rattle.rpki_der.proofs.Values.{one_enc}
 use Rattle.rpki_parts.specs.Algorithms.{algorithm_format}
@@ -20,9 +18,8 @@ use Rattle.rpki_parts.proofs.PartFormats.{whole_bits_are}
 use Rattle.rpki_parts.proofs.SignedFormats.{SignedParts, signed_parts}
 use Rattle.rpki_cert.specs.Certificates.{CertFields, IsCertificate, TbsFields, certificate_content_format}
 use Rattle.rpki_cert.specs.Certificates.{tbs_content_format, tbs_format, version_format}
-use Rattle.rpki_c.specs.Contents.{ArePlaces, StandInFront}
+use Rattle.rpki_c.specs.Contents.{StandInFront}
 use Rattle.rpki_c.specs.Writing.{IsPartAt}
-use Rattle.rpki_c.specs.declared.places.RpkiPlaces.{RpkiPlaces}
 
 -- ---- values that stand next
 

@@ -5,7 +5,6 @@ use Rattle.rpki_ext.specs.Kinds.{Means}
 use Rattle.rpki_cert.specs.Certificates.{CertFields, IsCertificate}
 use Rattle.rpki_folder.specs.Folders.{string_at}
 use Rattle.rpki_folder.specs.ReachedLimits.{LimitedCa}
-use Rattle.rpki_folder.specs.declared.bounds.Limit.{Limit}
 use Rattle.rpki_folder.specs.declared.bounds.Limit.TheVariants.{Depth, Steps as steps}
 use Rattle.rpki_folder.specs.declared.limits.Reached.{Reached}
 use Rattle.rpki_c.specs.declared.folder_lines.RpkiLine.{RpkiLine}

@@ -1,5 +1,5 @@
 -- What is answered to a question about a path (own).
-use Rattle.std.specs.Prelude.{◌≡◌, ◌≢◌, ◌⊎◌, ◌<◌, ℕ, Bool, true, false, List, [], ◌∷◌, Any, length, sum, get_or}
+use Rattle.std.specs.Prelude.{◌≡◌, ◌≢◌, ◌⊎◌, ◌<◌, ℕ, Bool, true, false, List, [], Any, length, sum, get_or}
 use Rattle.std.specs.Prelude.{Some, Result, Ok, Err, IsTrue}
 use Rattle.rpki_ext.specs.Kinds.{Means}
 use Rattle.rpki_der.specs.Place.{Rejects}

@@ -1,9 +1,9 @@
 use Rattle.std.specs.Prelude.{Err, Ok, option_map}
-use Rattle.std.proofs.Common.{◌≡◌, ℕ, List, Bor, Option, rules, subst}
+use Rattle.std.proofs.Common.{◌≡◌, Bor, Option, rules, subst}
 use Rattle.rpki_cert.specs.Verification.{ResourceFields}
 use Rattle.rpki_issuing.specs.Acceptance.{IsAcceptedBelow}
 use Rattle.rpki_issuing.specs.PreparedOctets.{IsCompleted, IsUncompleted}
-use Rattle.rpki_c.specs.Verdicts.{AskedCrls, checks_by, asked_context}
+use Rattle.rpki_c.specs.Verdicts.{checks_by, asked_context}
 use Rattle.rpki_c.specs.WantedAnswers.{AnswersSigned, unfit_of}
 use Rattle.rpki_c.specs.declared.judging.Accepted.{Accepted}
 use Rattle.rpki_c.proofs.AnsweredWants.{signed_below, three_same, unfit_completed}

@@ -2,7 +2,7 @@ use Rattle.std.specs.Prelude.{Err, Ok}
 use Rattle.std.proofs.Common.{◌≡◌, rules, subst}
 use Rattle.rpki_path.specs.Judging.{Judges}
 use Rattle.rpki_path.proofs.UnchainedNames.{accepted_begin}
-use Rattle.rpki_c.specs.Verdicts.{AskedCrls, IsValidWith, asked_by, checks_by, asked_context}
+use Rattle.rpki_c.specs.Verdicts.{AskedCrls, checks_by, asked_context}
 use Rattle.rpki_c.specs.declared.refusal.Refusal.TheVariants as refusal
 use Rattle.rpki_c.proofs.judging.judge_with.Goals as goal
 
