@@ -108,7 +108,8 @@ module _ (strings : List (List ℕ)) (kind : Kind) (g : PathStrings) (split : Is
     pub all_given : (s : RpkiStrings) (kept : List CrlState) →
         AreListsGiven (AreListsNaming (IsKeyOf strings)) t.asks_lists s kept
         → (lists : List CrlState) × AreListsGiven (AreAllLists (IsKeyOf strings)) t.asks_lists s lists
-        × ((r : Result Judged PathError) → Judges (asked_context t) (checks_by (asked_by t kept) (asked_context t)) g r →
+        × ((r : Result Judged PathError) →
+        Judges (asked_context t) (checks_by (asked_by t kept) (asked_context t)) g r →
         Judges (asked_context t) (checks_by (asked_by t lists) (asked_context t)) g r)
     all_given s kept are = all_if (asked_context t) t.asks_lists t.asks_names s kept are
 

@@ -55,7 +55,8 @@ module _ {A : Type 0} (MayPass : List ℕ → Type 0) (Is : List ℕ → A → T
       inr (y, others, e, is, pass_push strings others octets are passes)
 
   pub keep_push : (strings : List (List ℕ)) (kept : List A) (octets : List ℕ) (x : A) →
-      AreKeptAmong MayPass Is strings kept → Is octets x → AreKeptAmong MayPass Is (strings ++ octets ∷ []) (kept ++ x ∷ [])
+      AreKeptAmong MayPass Is strings kept → Is octets x →
+      AreKeptAmong MayPass Is (strings ++ octets ∷ []) (kept ++ x ∷ [])
   keep_push [] kept octets x are it = inr (x, [], ap (λ (ks : List A). ks ++ x ∷ []) are, it, refl)
   keep_push (s ∷ strings) kept octets x (inl (p, are)) it = inl (p, keep_push strings kept octets x are it)
   keep_push (s ∷ strings) kept octets x (inr (y, others, e, is, are)) it =

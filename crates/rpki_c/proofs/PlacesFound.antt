@@ -167,7 +167,8 @@ module _ (octets : List ℕ) (c : CertFields) (means : Means IsCertificate c oct
     pub outer_there : Begins (IsEnc SEQUENCE) (remaining whole) content means.0
     outer_there = subst (λ (o : List ℕ). Begins (IsEnc SEQUENCE) o content means.0) (sym all) outer_begins
 
-    module _ (inner after : Place) (read : Begins (IsEnc SEQUENCE) (remaining whole) (remaining inner) (remaining after))
+    module _ (inner after : Place)
+        (read : Begins (IsEnc SEQUENCE) (remaining whole) (remaining inner) (remaining after))
       where
         inner_is : remaining inner ≡ content
         inner_is = (same_value SEQUENCE (remaining whole) (remaining inner) (remaining after) content means.0 read
@@ -182,7 +183,8 @@ module _ (octets : List ℕ) (c : CertFields) (means : Means IsCertificate c oct
         }
 
         -- the fields, and behind some of them the key
-        pub key_there : (fields next : Place) → Begins (IsEnc SEQUENCE) (remaining inner) (remaining fields) (remaining next) →
+        pub key_there : (fields next : Place) →
+            Begins (IsEnc SEQUENCE) (remaining inner) (remaining fields) (remaining next) →
             (rest : List ℕ) × StandInFront before_key rest (remaining fields) × Means IsPublicKey c.fields.key rest
         key_there fields next fields_read =
             let same = same_value SEQUENCE (remaining inner) (remaining fields) (remaining next) parts.1.0
@@ -190,10 +192,12 @@ module _ (octets : List ℕ) (c : CertFields) (means : Means IsCertificate c oct
             has_key c.fields (remaining fields)
             (subst (λ (o : List ℕ). (tbs_content_format levels).encodes c.fields o) (sym same.0) parts.1.1)
 
-        module _ (source : inner.source ≡ octets) (order : inner.from ≤ inner.to) (within : inner.to ≤ length inner.source)
+        module _ (source : inner.source ≡ octets) (order : inner.from ≤ inner.to)
+            (within : inner.to ≤ length inner.source)
           where
             pub message_at : IsPartAt octets inner.from (length c.signed_data.message) c.signed_data.message
-            message_at = front_at inner octets c.signed_data.message (parts.0.algorithm ++ parts.0.signature) source order
+            message_at = front_at inner octets c.signed_data.message
+                (parts.0.algorithm ++ parts.0.signature) source order
                 within (inner_is ∙ parts.0.is)
 
             pub signature_at : (length c.signed_data.signature.value ≤ inner.to)
@@ -201,7 +205,8 @@ module _ (octets : List ℕ) (c : CertFields) (means : Means IsCertificate c oct
                 (length c.signed_data.signature.value) c.signed_data.signature.value
             signature_at =
                 let bits = c.signed_data.signature.value in
-                let end = bits_end bits parts.0.signature (whole_bits_are bits parts.0.signature parts.0.signature_is) in
+                let end = bits_end bits parts.0.signature
+                (whole_bits_are bits parts.0.signature parts.0.signature_is) in
                 let is : remaining inner ≡ (c.signed_data.message ++ (parts.0.algorithm ++ end.0)) ++ bits =
                 inner_is ∙ parts.0.is ∙ ap (λ (t : List ℕ). c.signed_data.message ++ (parts.0.algorithm ++ t)) end.1
                 ∙ ap (λ (t : List ℕ). c.signed_data.message ++ t) (sym (append_assoc parts.0.algorithm end.0 bits))

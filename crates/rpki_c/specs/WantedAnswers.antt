@@ -18,7 +18,8 @@ use Rattle.rpki_issuing.specs.PreparedOctets.{IsCompleted, IsPrepared, IsToSign,
 use Rattle.rpki_issuing.specs.declared.wanted.preparing.WantedError.{WantedError}
 use Rattle.rpki_issuing.specs.declared.wanted.preparing.WantedError.TheVariants as wanting
 use Rattle.rpki_issuing.specs.declared.wanted.wanted.Wanted.{Wanted}
-use Rattle.rpki_c.specs.Verdicts.{AskedCrls, IsAcceptedQuestion, IsRefusedOn, asked_by, asks_nobody, checks_by, asked_context}
+use Rattle.rpki_c.specs.Verdicts.{AskedCrls, IsAcceptedQuestion, IsRefusedOn}
+use Rattle.rpki_c.specs.Verdicts.{asked_by, asks_nobody, checks_by, asked_context}
 use Rattle.rpki_c.specs.WantedQuestions.{GivesWantedValues, HasCompletionTerms, HasNoCompletionTerms, HasNoWantedTerms}
 use Rattle.rpki_c.specs.WantedQuestions.{HasWantedTerms, IsKeyGiven}
 use Rattle.rpki_c.specs.declared.certificates.CertUri.{CertUri}

@@ -34,9 +34,11 @@ returns c =
       signed.1,
       three_same (λ i p a. IsCompleted t.kind i p (checks_by a x) t.asked.now t.asked.strict f it.prepared.now
           it.signature.now octets)
-          c.holder_above-issuer.ensures c.strings_above-path.ensures c.asked_above-source.ensures c.in_ok-octets.ensures.completed,
+          c.holder_above-issuer.ensures c.strings_above-path.ensures c.asked_above-source.ensures
+          c.in_ok-octets.ensures.completed,
       three_same (λ i p a. IsAcceptedBelow x (checks_by a x) t.kind i octets)
-          c.holder_above-issuer.ensures c.strings_above-path.ensures c.asked_above-source.ensures c.in_ok-octets.ensures.accepted,
+          c.holder_above-issuer.ensures c.strings_above-path.ensures c.asked_above-source.ensures
+          c.in_ok-octets.ensures.accepted,
     )
 
 pub returns-in_err-octets : goal.returns-in_err-octets
@@ -48,9 +50,11 @@ returns-in_err-octets c =
     let signed = subst (λ (i : Option ResourceFields). AnswersSigned i it.prepared.now (Ok f))
     c.holder_above-issuer.ensures c.in_ok-tbs.ensures in
     let e = c.in_err-octets.field-0.0 in
-    let same : c.from_residual-in_err-octets.result ≡ Err (unfit_of e) = passed_on _ _ c.from_residual-in_err-octets.ensures.1 in
+    let same : c.from_residual-in_err-octets.result ≡ Err (unfit_of e) =
+    passed_on _ _ c.from_residual-in_err-octets.ensures.1 in
     rw same
     (unfit_completed it t above f signed.0 signed.1 e
     (three_same (λ i p a. IsUncompleted t.kind i p (checks_by a (asked_context t.asked)) t.asked.now t.asked.strict f
     it.prepared.now it.signature.now e)
-    c.holder_above-issuer.ensures c.strings_above-path.ensures c.asked_above-source.ensures c.in_err-octets.ensures.told))
+    c.holder_above-issuer.ensures c.strings_above-path.ensures c.asked_above-source.ensures
+    c.in_err-octets.ensures.told))

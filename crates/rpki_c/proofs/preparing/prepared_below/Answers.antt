@@ -28,8 +28,10 @@ returns c =
     let octets = c.in_ok-octets.octets in (
       f,
       subst (λ (i : Option ResourceFields). WantsFields w t i f) c.holder_above-issuer.ensures c.in_ok-tbs.ensures,
-      three_same (λ i p a. IsPrepared t.kind i p (checks_by a (asked_context t.asked)) t.asked.now t.asked.strict f octets)
-          c.holder_above-issuer.ensures c.strings_above-path.ensures c.asked_above-source.ensures c.in_ok-octets.ensures.prepared,
+      three_same (λ i p a. IsPrepared t.kind i p
+          (checks_by a (asked_context t.asked)) t.asked.now t.asked.strict f octets)
+          c.holder_above-issuer.ensures c.strings_above-path.ensures c.asked_above-source.ensures
+          c.in_ok-octets.ensures.prepared,
     )
 
 pub returns-in_err-octets : goal.returns-in_err-octets
@@ -39,9 +41,11 @@ returns-in_err-octets c =
     let above = option_map (λ (a : Bor Accepted). a.now) c.args.above in
     let f = c.in_ok-tbs.tbs in
     let e = c.in_err-octets.field-0.0 in
-    let same : c.from_residual-in_err-octets.result ≡ Err (unfit_of e) = passed_on _ _ c.from_residual-in_err-octets.ensures.1 in
+    let same : c.from_residual-in_err-octets.result ≡ Err
+    (unfit_of e) = passed_on _ _ c.from_residual-in_err-octets.ensures.1 in
     rw same
     (unfit_below w t above f
     (subst (λ (i : Option ResourceFields). WantsFields w t i f) c.holder_above-issuer.ensures c.in_ok-tbs.ensures) e
     (three_same (λ i p a. IsUnprepared t.kind i p (checks_by a (asked_context t.asked)) t.asked.now t.asked.strict f e)
-    c.holder_above-issuer.ensures c.strings_above-path.ensures c.asked_above-source.ensures c.in_err-octets.ensures.told))
+    c.holder_above-issuer.ensures c.strings_above-path.ensures c.asked_above-source.ensures
+    c.in_err-octets.ensures.told))
