@@ -102,7 +102,8 @@ module _ (ts : List Told) (place : ℕ) where
   never P all above h = subst P h.3 (All-from_recursion P ts all h.0 h.1 h.2)
 
   -- its line doesn't accept it
-  pub line_denies : (l : Line) → ((paths : AcceptedPaths) → l ≡ line.Accepted paths → ⊥) → IsLine ts place l → (above : List ℕ) → IsTold ts above place → ⊥
+  pub line_denies : (l : Line) → ((paths : AcceptedPaths) → l ≡ line.Accepted paths → ⊥) → IsLine ts place l → (above : List ℕ) →
+      IsTold ts above place → ⊥
   line_denies line.Unseen denies kept above h = never (λ t. t.place ≡ place → ⊥) kept above h h.4.1
   line_denies (line.Accepted paths) denies kept above h = absurd (denies paths refl)
   line_denies (line.Rejected n f) denies kept above h = (never (IsRejectedWithin place n) kept.1 above h h.4.1).0 h.4.2

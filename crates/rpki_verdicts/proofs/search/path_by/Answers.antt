@@ -29,7 +29,8 @@ returns-in-Some-2 c =
     let path = map (λ f. f.now) c.in-Some-2.path.items in
     let denies : All (λ part. DeniesFirst part.answer) trees.parts.items = rw (c.in_default.is, c.deref.ensures.value)
     at c.in_ok-path.ensures in
-    let named : IsNamedAmong (placed_of trees) trees.parts.items file path = rw (c.in-Some-2.is, c.deref-2.ensures.value) at c.in_ok-path-2.ensures in
+    let named : IsNamedAmong (placed_of trees) trees.parts.items file path = rw
+    (c.in-Some-2.is, c.deref-2.ensures.value) at c.in_ok-path-2.ensures in
     named_sought c.unambiguous.ensures.certificate (context IsSignedByRsa q.at q.strict) (asked_of q) file
     c.requires.first.0 c.requires.first.1 c.requires.certificate trees c.requires.trees path denies named
     c.ended.result c.ended.ensures

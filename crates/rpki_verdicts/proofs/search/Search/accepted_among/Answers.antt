@@ -8,8 +8,10 @@ pub returns-in-Some : goal.returns-in-Some
 returns-in-Some c =
     let file = c.args.file.now in
     let path = map (λ f. f.now) c.in-Some.path.items in
-    let its : IsAcceptedIn (placed_of c.args.self.now.trees.now) file path c.part-item.result.answer = rw c.in-Some.is at c.in_ok-path.ensures in
-    any_here (λ part. IsAcceptedIn (placed_of c.args.self.now.trees.now) file path part.answer) c.args.parts.now c.loop-part.part-index c.part-item.result
+    let its : IsAcceptedIn (placed_of c.args.self.now.trees.now) file path c.part-item.result.answer = rw c.in-Some.is at
+    c.in_ok-path.ensures in
+    any_here (λ part. IsAcceptedIn
+    (placed_of c.args.self.now.trees.now) file path part.answer) c.args.parts.now c.loop-part.part-index c.part-item.result
     c.loop-part-test.true c.part-item.is its
 
 pub loop-part-preserved : goal.loop-part-preserved

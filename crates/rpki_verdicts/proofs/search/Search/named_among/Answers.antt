@@ -34,7 +34,8 @@ returns-then-reach c =
     let part = c.part-item.result in
     let path = map (λ f. f.now) c.in-Some.named.path.items in
     let its : IsNamedIn certs part.answer file c.in-Some.named.reach path = rw c.in-Some.is at c.in_ok-named.ensures in
-    let reaches : IsNamedIn certs part.answer file true path = subst (λ (b : Bool). IsNamedIn certs part.answer file b path) c.if-reach.true its in
+    let reaches : IsNamedIn certs part.answer file true path = subst
+    (λ (b : Bool). IsNamedIn certs part.answer file b path) c.if-reach.true its in
     inl (any_here (λ part. IsNamedIn certs part.answer file true path) parts c.loop-part.part-index part
     c.loop-part-test.true c.part-item.is reaches)
 
@@ -51,7 +52,8 @@ loop-part-preserved c =
       | in-Some+else-reach w ↦
           let path = map (λ f. f.now) w.in-Some.named.path.items in
           let said : IsNamedIn certs part.answer file w.in-Some.named.reach path = rw w.in-Some.is at c.in_ok-named.ensures in
-          let its : IsNamedIn certs part.answer file false path = subst (λ (b : Bool). IsNamedIn certs part.answer file b path) w.if-reach.false said in
+          let its : IsNamedIn certs part.answer file false path = subst
+          (λ (b : Bool). IsNamedIn certs part.answer file b path) w.if-reach.false said in
           let is : c.match-branch-2.kept ≡ Some w.in-Some.named.path = cc (w.kept-is, w.replace.ensures.after) in
           record {
             stops = all_more (λ part. DoesNotReach certs file part.answer) parts i part low there
