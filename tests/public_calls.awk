@@ -4,8 +4,7 @@
 #
 # A call may answer out of memory where its signature names an allocator, a vector that it appends
 # to, the error of a request that was refused, or one of those of a walk down a path or a folder,
-# which has the allocator; where it adds to a document (`Added`); or where it hands back what could not be
-# stored. So do the calls of
+# which has the allocator; or where it hands back what could not be stored. So do the calls of
 # public types that sign, or are told what a walk finds. One whose result isn't a Result, an Option or
 # a status can't: what it makes empty is what its contract says.
 
@@ -50,9 +49,9 @@ function type_of(line) {
 }
 
 function asks(text) {
-    if (text ~ /-> / && text !~ /-> .*(Result<|Option<|ExitCode|Added$|Added )/)
+    if (text ~ /-> / && text !~ /-> .*(Result<|Option<|ExitCode)/)
         return 0
-    return text ~ /alloc: Global|AllocError|-> Added|&mut Vec<u8>|Result<\(\), \([A-Z][a-z]+, [A-Z][a-z]+\)>/ ||
+    return text ~ /alloc: Global|AllocError|&mut Vec<u8>|Result<\(\), \([A-Z][a-z]+, [A-Z][a-z]+\)>/ ||
         text ~ /, (PathFault|WalkError)>/
 }
 

@@ -6,11 +6,11 @@ ghost use Rattle.rpki_answers.specs.RejectionDetails.{AreDetails, IsAnchor, IsCa
 use crate::told::{identifier_leaf, moment_leaf};
 use rpki_cert::Cert;
 use rpki_der::Time;
-use rpki_document::{Added, Leaf, Parts, Piece, add_line, add_told};
+use rpki_document::{Leaf, Parts, Piece, add_line, add_told};
 use rpki_files::{Object, Sort, describe};
 use rpki_parts::{Https, KeyIdentifier, Rsync};
 use rpki_verdicts::{Fault, Question};
-use std::alloc::Global;
+use std::alloc::{AllocError, Global};
 
 /// What is said of files in the reverse order.
 pub const ORDER: &str =
@@ -134,7 +134,7 @@ pub fn add_identifier<'p>(
     label: &'p str,
     key: &'p str,
     identifier: Option<KeyIdentifier>,
-) -> Added
+) -> Result<(), AllocError>
     ensures { let its = identifier_nodes label.now key.now identifier in
         OnOk result (Adds its parts.old.items parts.new.items) }
 {
@@ -153,7 +153,7 @@ fn add_own_key<'p>(
     label: &'p str,
     key: &'p str,
     cert: Option<&Cert>,
-) -> Added
+) -> Result<(), AllocError>
     ensures { let identifier = option_map own_key (option_map (λ c. c.now) cert.entry) in
         let its = identifier_nodes label.now key.now identifier in
         OnOk result (Adds its parts.old.items parts.new.items) }
@@ -174,7 +174,7 @@ pub fn add_uri<'p>(
     label: &'p str,
     key: &'p str,
     uri: Option<&'p Rsync>,
-) -> Added
+) -> Result<(), AllocError>
     ensures { let its = uri_nodes label.now key.now (option_map (λ it. it.now) uri.entry) in
         OnOk result (Adds its parts.old.items parts.new.items) }
 {
@@ -191,7 +191,7 @@ pub fn add_https<'p>(
     label: &'p str,
     key: &'p str,
     uri: Option<&'p Https>,
-) -> Added
+) -> Result<(), AllocError>
     ensures { let its = uri_nodes label.now key.now (option_map (λ it. it.now) uri.entry) in
         OnOk result (Adds its parts.old.items parts.new.items) }
 {
@@ -207,7 +207,7 @@ fn add_needed<'p>(
     alloc: Global,
     details: &Details<'_>,
     cert: &'p Cert,
-) -> Added
+) -> Result<(), AllocError>
     ensures { let above = option_map (λ c. c.now) details.now.above in
         let its = cause_nodes Cause.NoList details.now.moment cert.now above in
         OnOk result (Adds its parts.old.items parts.new.items) }
@@ -234,7 +234,7 @@ fn add_keys<'p>(
     alloc: Global,
     details: &Details<'_>,
     cert: &'p Cert,
-) -> Added
+) -> Result<(), AllocError>
     ensures { let above = option_map (λ c. c.now) details.now.above in
         let its = cause_nodes Cause.OtherKey details.now.moment cert.now above in
         OnOk result (Adds its parts.old.items parts.new.items) }
@@ -257,7 +257,7 @@ fn add_bound<'p>(
     key: &'p str,
     bound: Time,
     at: Time,
-) -> Added
+) -> Result<(), AllocError>
     ensures { let its = bound_node label.now key.now bound at in
         OnOk result (Adds (its ∷ []) parts.old.items parts.new.items) }
 {
@@ -272,7 +272,12 @@ fn add_bound<'p>(
 }
 
 // The beginning of a period that hasn't begun.
-fn add_not_yet(parts: &mut Parts<'_>, alloc: Global, details: &Details<'_>, cert: &Cert) -> Added
+fn add_not_yet(
+    parts: &mut Parts<'_>,
+    alloc: Global,
+    details: &Details<'_>,
+    cert: &Cert,
+) -> Result<(), AllocError>
     ensures { let above = option_map (λ c. c.now) details.now.above in
         let its = cause_nodes Cause.NotYetValid details.now.moment cert.now above in
         OnOk result (Adds its parts.old.items parts.new.items) }
@@ -289,7 +294,12 @@ fn add_not_yet(parts: &mut Parts<'_>, alloc: Global, details: &Details<'_>, cert
 }
 
 // The end of one that is over.
-fn add_expired(parts: &mut Parts<'_>, alloc: Global, details: &Details<'_>, cert: &Cert) -> Added
+fn add_expired(
+    parts: &mut Parts<'_>,
+    alloc: Global,
+    details: &Details<'_>,
+    cert: &Cert,
+) -> Result<(), AllocError>
     ensures { let above = option_map (λ c. c.now) details.now.above in
         let its = cause_nodes Cause.Expired details.now.moment cert.now above in
         OnOk result (Adds its parts.old.items parts.new.items) }
@@ -310,7 +320,7 @@ fn add_cause<'p>(
     alloc: Global,
     details: &Details<'_>,
     cert: &'p Cert,
-) -> Added
+) -> Result<(), AllocError>
     ensures { let above = option_map (λ c. c.now) details.now.above in
         let its = cause_nodes details.now.cause details.now.moment cert.now above in
         OnOk result (Adds its parts.old.items parts.new.items) }
@@ -324,7 +334,11 @@ fn add_cause<'p>(
     }
 }
 
-fn add_member<'p>(parts: &mut Parts<'p>, alloc: Global, details: &Details<'p>) -> Added
+fn add_member<'p>(
+    parts: &mut Parts<'p>,
+    alloc: Global,
+    details: &Details<'p>,
+) -> Result<(), AllocError>
     ensures { let d = details.now in
         let member = option_map (λ c. c.now) d.member in
         let above = option_map (λ c. c.now) d.above in
@@ -338,7 +352,7 @@ fn add_member<'p>(parts: &mut Parts<'p>, alloc: Global, details: &Details<'p>) -
 }
 
 // What a file of this sort is, and what to do.
-fn add_description(parts: &mut Parts<'_>, alloc: Global, sort: Sort) -> Added
+fn add_description(parts: &mut Parts<'_>, alloc: Global, sort: Sort) -> Result<(), AllocError>
     ensures { OnOk result (Adds (sort_nodes (Some sort)) parts.old.items parts.new.items) }
 {
     let told = describe(sort);
@@ -347,7 +361,7 @@ fn add_description(parts: &mut Parts<'_>, alloc: Global, sort: Sort) -> Added
 }
 
 /// Adds what a file of this sort is, and what to do, if it is of one.
-pub fn add_sort(parts: &mut Parts<'_>, alloc: Global, sort: Option<Sort>) -> Added
+pub fn add_sort(parts: &mut Parts<'_>, alloc: Global, sort: Option<Sort>) -> Result<(), AllocError>
     ensures { OnOk result (Adds (sort_nodes sort) parts.old.items parts.new.items) }
 {
     match sort {
@@ -356,7 +370,7 @@ pub fn add_sort(parts: &mut Parts<'_>, alloc: Global, sort: Option<Sort>) -> Add
     }
 }
 
-fn add_order(parts: &mut Parts<'_>, alloc: Global, is_turned: bool) -> Added
+fn add_order(parts: &mut Parts<'_>, alloc: Global, is_turned: bool) -> Result<(), AllocError>
     ensures { OnOk result (Adds (order_nodes is_turned) parts.old.items parts.new.items) }
 {
     if is_turned {
@@ -367,7 +381,11 @@ fn add_order(parts: &mut Parts<'_>, alloc: Global, is_turned: bool) -> Added
 }
 
 /// Adds the details of an error.
-pub fn add_details<'p>(parts: &mut Parts<'p>, alloc: Global, details: &Details<'p>) -> Added
+pub fn add_details<'p>(
+    parts: &mut Parts<'p>,
+    alloc: Global,
+    details: &Details<'p>,
+) -> Result<(), AllocError>
     ensures { OnOk result (Adds (details_nodes details.now) parts.old.items parts.new.items) }
 {
     add_member(parts, alloc, details)?;

@@ -13,8 +13,7 @@ use rpki_blocks::{Addr, AsBlock, AsBlocks, AsResources, IpBlock, IpBlocks, IpRes
 use rpki_cert::{Kind, TbsCert};
 use rpki_der::Time;
 use rpki_document::{
-    Added, Colons, Leaf, Parts, Piece, add_further, add_inside, add_item, add_kept, add_line,
-    add_told,
+    Colons, Leaf, Parts, Piece, add_further, add_inside, add_item, add_kept, add_line, add_told,
 };
 use rpki_keys::KeyForm;
 use rpki_parts::{KeyIdentifier, Name, PublicKey, PublicKeyFormat};
@@ -76,7 +75,7 @@ pub fn add_until<'p>(
     label: &'p str,
     key: &'p str,
     period: &Period,
-) -> Added
+) -> Result<(), AllocError>
     ensures { let p = period.now in
         let its = until_line label.now key.now p.ends.now p.ended.now p.from p.until p.at in
         OnOk result (Adds (its ∷ []) parts.old.items parts.new.items) }
@@ -93,7 +92,7 @@ pub fn add_until<'p>(
 }
 
 /// Adds that an object isn't signed.
-pub fn add_unsigned(parts: &mut Parts<'_>, alloc: Global) -> Added
+pub fn add_unsigned(parts: &mut Parts<'_>, alloc: Global) -> Result<(), AllocError>
     ensures { OnOk result (Adds (unsigned_line ∷ []) parts.old.items parts.new.items) }
 {
     add_told(
@@ -109,7 +108,7 @@ pub fn add_unsigned(parts: &mut Parts<'_>, alloc: Global) -> Added
 }
 
 /// Adds that the signature of an object isn't checked.
-pub fn add_signature(parts: &mut Parts<'_>, alloc: Global) -> Added
+pub fn add_signature(parts: &mut Parts<'_>, alloc: Global) -> Result<(), AllocError>
     ensures { OnOk result (Adds (signature_line ∷ []) parts.old.items parts.new.items) }
 {
     add_told(
@@ -153,7 +152,11 @@ pub fn form_word(form: KeyForm) -> &'static str
     }
 }
 
-fn add_exponent(parts: &mut Parts<'_>, alloc: Global, exponent: Option<u64>) -> Added
+fn add_exponent(
+    parts: &mut Parts<'_>,
+    alloc: Global,
+    exponent: Option<u64>,
+) -> Result<(), AllocError>
     ensures { OnOk result (Adds (exponent_nodes exponent) parts.old.items parts.new.items) }
 {
     match exponent {
@@ -168,7 +171,7 @@ fn add_numbers_of_key(
     alloc: Global,
     bits: u64,
     exponent: Option<u64>,
-) -> Added
+) -> Result<(), AllocError>
     ensures { let its = form_nodes (KeyForm.RsaKey bits exponent) in
         OnOk result (Adds its parts.old.items parts.new.items) }
 {
@@ -176,7 +179,7 @@ fn add_numbers_of_key(
     add_exponent(parts, alloc, exponent)
 }
 
-fn add_form(parts: &mut Parts<'_>, alloc: Global, form: KeyForm) -> Added
+fn add_form(parts: &mut Parts<'_>, alloc: Global, form: KeyForm) -> Result<(), AllocError>
     ensures { OnOk result (Adds (form_nodes form) parts.old.items parts.new.items) }
 {
     match form {
@@ -196,7 +199,7 @@ fn add_point_at<'p>(
     alloc: Global,
     label: Option<&'p str>,
     leaf: Leaf<'p>,
-) -> Added
+) -> Result<(), AllocError>
     ensures { let its = point_node (option_map (λ l. l.now) label.entry) (leaf_view leaf.entry) in
         OnOk result (Adds (its ∷ []) parts.old.items parts.new.items) }
 {
@@ -212,7 +215,7 @@ fn add_point<'p>(
     alloc: Global,
     label: Option<&'p str>,
     key: &PublicKey,
-) -> Added
+) -> Result<(), AllocError>
     ensures { let label = option_map (λ l. l.now) label.entry in
         let its = point_nodes label (point_text key.now) in
         OnOk result (Adds its parts.old.items parts.new.items) }
@@ -235,7 +238,7 @@ fn add_key_line<'p>(
     form: &'p str,
     said: Leaf<'p>,
     is_usable: bool,
-) -> Added
+) -> Result<(), AllocError>
     ensures { let spans = show (leaf_view said.entry)
         ∷ keep (codes "algorithm") (text algorithm.now)
         ∷ keep (codes "form") (text form.now)
@@ -260,7 +263,7 @@ pub fn add_key<'p>(
     point_label: Option<&'p str>,
     key: &PublicKey,
     found: &KeyAnswer,
-) -> Added
+) -> Result<(), AllocError>
     ensures { let point = option_map (λ l. l.now) point_label.entry in
         let its = key_nodes label.now (leaf_view said.entry) point key.now found.now in
         OnOk result (Adds its parts.old.items parts.new.items) }
@@ -275,7 +278,11 @@ pub fn add_key<'p>(
 // ---- resources
 
 // A line under a label, or one more under the label above.
-fn add_at<'p>(parts: &mut Parts<'p>, label: Option<&'p str>, pieces: Vec<Piece<'p>>) -> Added
+fn add_at<'p>(
+    parts: &mut Parts<'p>,
+    label: Option<&'p str>,
+    pieces: Vec<Piece<'p>>,
+) -> Result<(), AllocError>
     ensures { let label = option_map (λ l. l.now) label.entry in
         let its = line_under label (spans_of pieces.entry.items) in
         OnOk result (Adds (its ∷ []) parts.old.items parts.new.items) }
@@ -293,7 +300,7 @@ fn add_single<'p>(
     label: Option<&'p str>,
     key: &'p str,
     leaf: Leaf<'p>,
-) -> Added
+) -> Result<(), AllocError>
     ensures { let label = option_map (λ l. l.now) label.entry in
         let its = single_node label key.now (leaf_view leaf.entry) in
         OnOk result (Adds (its ∷ []) parts.old.items parts.new.items) }
@@ -312,7 +319,7 @@ fn add_ends<'p>(
     key: &'p str,
     min: Leaf<'p>,
     max: Leaf<'p>,
-) -> Added
+) -> Result<(), AllocError>
     ensures { let label = option_map (λ l. l.now) label.entry in
         let its = ends_node label key.now (leaf_view min.entry) (leaf_view max.entry) in
         OnOk result (Adds (its ∷ []) parts.old.items parts.new.items) }
@@ -334,7 +341,7 @@ fn add_as_block<'p>(
     alloc: Global,
     label: Option<&'p str>,
     it: AsBlock,
-) -> Added
+) -> Result<(), AllocError>
     ensures { let its = numbers_node (option_map (λ l. l.now) label.entry) it in
         OnOk result (Adds (its ∷ []) parts.old.items parts.new.items) }
 {
@@ -373,7 +380,7 @@ fn add_ip_block<'p>(
     label: Option<&'p str>,
     family: Family,
     it: IpBlock,
-) -> Added
+) -> Result<(), AllocError>
     ensures { let its = addresses_node family (option_map (λ l. l.now) label.entry) it in
         OnOk result (Adds (its ∷ []) parts.old.items parts.new.items) }
 {
@@ -387,7 +394,7 @@ fn add_ip_block<'p>(
 }
 
 // That a set is empty.
-fn add_none<'p>(parts: &mut Parts<'p>, alloc: Global, label: &'p str) -> Added
+fn add_none<'p>(parts: &mut Parts<'p>, alloc: Global, label: &'p str) -> Result<(), AllocError>
     ensures { let its = line label.now (say (codes "none") ∷ []) in
         OnOk result (Adds (its ∷ []) parts.old.items parts.new.items) }
 {
@@ -401,7 +408,7 @@ pub fn add_numbers<'p>(
     alloc: Global,
     label: &'p str,
     blocks: &AsBlocks,
-) -> Added
+) -> Result<(), AllocError>
     ensures { let its = set_nodes numbers_node label.now blocks.now in
         OnOk result (Adds its parts.old.items parts.new.items) }
 {
@@ -423,7 +430,7 @@ pub fn add_addresses<'p>(
     label: &'p str,
     family: Family,
     blocks: &IpBlocks,
-) -> Added
+) -> Result<(), AllocError>
     ensures { let its = set_nodes (addresses_node family) label.now blocks.now in
         OnOk result (Adds its parts.old.items parts.new.items) }
 {
@@ -439,7 +446,12 @@ pub fn add_addresses<'p>(
 }
 
 // That the issuer's resources of a kind are meant.
-fn add_inherited<'p>(parts: &mut Parts<'p>, alloc: Global, label: &'p str, name: &'p str) -> Added
+fn add_inherited<'p>(
+    parts: &mut Parts<'p>,
+    alloc: Global,
+    label: &'p str,
+    name: &'p str,
+) -> Result<(), AllocError>
     ensures { let its = resource_nodes numbers_node label.now name.now inherit in
         OnOk result (Adds its parts.old.items parts.new.items) }
 {
@@ -456,7 +468,7 @@ fn add_as_resources<'p>(
     alloc: Global,
     label: &'p str,
     listed: &AsResources,
-) -> Added
+) -> Result<(), AllocError>
     ensures { let its = resource_nodes numbers_node label.now (codes "as_inherit") listed.now in
         OnOk result (Adds its parts.old.items parts.new.items) }
 {
@@ -475,7 +487,7 @@ fn add_ip_resources<'p>(
     name: &'p str,
     family: Family,
     listed: &IpResources,
-) -> Added
+) -> Result<(), AllocError>
     ensures { let its = resource_nodes (addresses_node family) label.now name.now listed.now in
         OnOk result (Adds its parts.old.items parts.new.items) }
 {
@@ -494,7 +506,7 @@ pub fn add_listed<'p>(
     ipv4: &'p str,
     ipv6: &'p str,
     fields: &TbsCert,
-) -> Added
+) -> Result<(), AllocError>
     ensures { let x = fields.now.extensions in
         let its = listed_nodes numbers.now ipv4.now ipv6.now x in
         OnOk result (Adds its parts.old.items parts.new.items) }

@@ -18,9 +18,7 @@ pub(crate) use files::add_not_locators;
 pub(crate) use rejected::{add_fault, add_unjudged};
 use rejected::{add_no_path, add_rejection, name_at};
 use rpki_der::Time;
-use rpki_document::{
-    Added, Leaf, Parts, Piece, add_each, add_head, add_kept, add_told, add_unsaid,
-};
+use rpki_document::{Leaf, Parts, Piece, add_each, add_head, add_kept, add_told, add_unsaid};
 use rpki_files::Object;
 use rpki_verdicts::{GivenLocator, Question, Verdict};
 use std::alloc::{AllocError, Global};
@@ -37,7 +35,7 @@ fn last_name<'p>(members: &'p [Object<'_>]) -> &'p str
     }
 }
 
-fn add_accepted<'p>(parts: &mut Parts<'p>, alloc: Global, name: &'p str) -> Added
+fn add_accepted<'p>(parts: &mut Parts<'p>, alloc: Global, name: &'p str) -> Result<(), AllocError>
     ensures { OnOk result (Adds (accepted_head name.now ∷ []) parts.old.items parts.new.items) }
 {
     let pieces = vec![in alloc;
@@ -52,7 +50,7 @@ fn add_verdict_line<'p>(
     alloc: Global,
     question: &Question<'p, '_>,
     verdict: &Option<Verdict>,
-) -> Added
+) -> Result<(), AllocError>
     ensures { let Are = IsOpening question.now (Finding.Decided verdict.now) in
         OnOk result (AddsSome Are parts.old.items parts.new.items) }
 {
@@ -69,7 +67,7 @@ fn add_opening<'p>(
     alloc: Global,
     question: &Question<'p, '_>,
     finding: &Finding,
-) -> Added
+) -> Result<(), AllocError>
     ensures { let Are = IsOpening question.now finding.now in
         OnOk result (AddsSome Are parts.old.items parts.new.items) }
 {
@@ -105,7 +103,7 @@ fn add_closing<'p>(
     alloc: Global,
     question: &Question<'p, '_>,
     finding: &Finding,
-) -> Added
+) -> Result<(), AllocError>
     requires { All (IsRead question.now.strict) question.now.locators }
     ensures { let Are = IsClosing question.now finding.now in
         OnOk result (AddsSome Are parts.old.items parts.new.items) }
@@ -119,7 +117,11 @@ fn add_closing<'p>(
 }
 
 // The files' names, for a program.
-fn add_path<'p>(parts: &mut Parts<'p>, alloc: Global, members: &'p [Object<'_>]) -> Added
+fn add_path<'p>(
+    parts: &mut Parts<'p>,
+    alloc: Global,
+    members: &'p [Object<'_>],
+) -> Result<(), AllocError>
     ensures { let its = map (λ file. kept_node [] (text file.name)) members.now in
         OnOk result (Adds its parts.old.items parts.new.items) }
 {
@@ -142,7 +144,11 @@ fn has_locators(locators: &[GivenLocator<'_>]) -> bool
 }
 
 // What was asked, for a program.
-fn add_asked<'p>(parts: &mut Parts<'p>, alloc: Global, question: &Question<'p, '_>) -> Added
+fn add_asked<'p>(
+    parts: &mut Parts<'p>,
+    alloc: Global,
+    question: &Question<'p, '_>,
+) -> Result<(), AllocError>
     ensures { OnOk result (Adds (asked_nodes question.now) parts.old.items parts.new.items) }
 {
     let mut path = Vec::new(alloc);
@@ -157,7 +163,7 @@ fn add_asked<'p>(parts: &mut Parts<'p>, alloc: Global, question: &Question<'p, '
     add_unsaid(parts, pieces)
 }
 
-pub(crate) fn add_time(parts: &mut Parts<'_>, alloc: Global, at: Time) -> Added
+pub(crate) fn add_time(parts: &mut Parts<'_>, alloc: Global, at: Time) -> Result<(), AllocError>
     ensures { OnOk result (Adds (time_node at ∷ []) parts.old.items parts.new.items) }
 {
     let leaf = moment_leaf(alloc, at)?;

@@ -8,7 +8,7 @@ ghost use Rattle.rpki_document.specs.Texts.{characters_text, colons_text};
 ghost use Rattle.rpki_document.specs.Views.{Puts, document_view, leaf_view, made_json, making_view, part_view, parts_members, piece_view, pieces_members};
 
 use crate::leaves::{Characters, Colons};
-use crate::parts::{Added, Leaf, Part, Parts, Piece};
+use crate::parts::{Leaf, Part, Parts, Piece};
 use serde_json::{Map, Value, put};
 use std::alloc::{AllocError, Global};
 
@@ -31,7 +31,7 @@ impl Gathered {
 }
 
 // Puts a member into an object, or its value behind those of a list.
-fn gather(out: &mut Gathered, alloc: Global, key: &str, value: Value) -> Added
+fn gather(out: &mut Gathered, alloc: Global, key: &str, value: Value) -> Result<(), AllocError>
     ensures { OnOk result (Puts ((key.now, view value) ∷ []) out.old out.new) }
 {
     match out {
@@ -78,14 +78,14 @@ fn leaf_value(alloc: Global, leaf: &Leaf<'_>) -> Result<Value, AllocError>
 
 // ---- pieces and parts
 
-fn put_leaf(out: &mut Gathered, alloc: Global, key: &str, leaf: &Leaf<'_>) -> Added
+fn put_leaf(out: &mut Gathered, alloc: Global, key: &str, leaf: &Leaf<'_>) -> Result<(), AllocError>
     ensures { OnOk result (Puts ((key.now, told_json (leaf_view leaf.now)) ∷ []) out.old out.new) }
 {
     let value = leaf_value(alloc, leaf)?;
     gather(out, alloc, key, value)
 }
 
-fn put_piece(out: &mut Gathered, alloc: Global, piece: &Piece<'_>) -> Added
+fn put_piece(out: &mut Gathered, alloc: Global, piece: &Piece<'_>) -> Result<(), AllocError>
     ensures { OnOk result (Puts (span_members (piece_view piece.now)) out.old out.new) }
 {
     match piece {
@@ -94,7 +94,7 @@ fn put_piece(out: &mut Gathered, alloc: Global, piece: &Piece<'_>) -> Added
     }
 }
 
-fn put_pieces(out: &mut Gathered, alloc: Global, pieces: &[Piece<'_>]) -> Added
+fn put_pieces(out: &mut Gathered, alloc: Global, pieces: &[Piece<'_>]) -> Result<(), AllocError>
     ensures { OnOk result (Puts (pieces_members pieces.now) out.old out.new) }
 {
     for piece in pieces {
@@ -103,7 +103,7 @@ fn put_pieces(out: &mut Gathered, alloc: Global, pieces: &[Piece<'_>]) -> Added
     Ok(())
 }
 
-fn put_line(out: &mut Gathered, alloc: Global, pieces: &[Piece<'_>]) -> Added
+fn put_line(out: &mut Gathered, alloc: Global, pieces: &[Piece<'_>]) -> Result<(), AllocError>
     ensures { OnOk result
         (Puts (flat_map span_members (map piece_view pieces.now)) out.old out.new) }
 {
@@ -111,7 +111,7 @@ fn put_line(out: &mut Gathered, alloc: Global, pieces: &[Piece<'_>]) -> Added
 }
 
 #[cycle(values)]
-fn put_part(it: &Part<'_>, out: &mut Gathered, alloc: Global) -> Added
+fn put_part(it: &Part<'_>, out: &mut Gathered, alloc: Global) -> Result<(), AllocError>
     ensures { OnOk result (Puts (node_members (part_view it.now)) out.old out.new) }
 {
     match it {
@@ -132,7 +132,7 @@ fn put_part(it: &Part<'_>, out: &mut Gathered, alloc: Global) -> Added
 }
 
 #[cycle(values)]
-fn put_parts(parts: &Parts<'_>, out: &mut Gathered, alloc: Global) -> Added
+fn put_parts(parts: &Parts<'_>, out: &mut Gathered, alloc: Global) -> Result<(), AllocError>
     ensures { OnOk result (Puts (parts_members parts.now.items) out.old out.new) }
 {
     for it in parts {

@@ -5,12 +5,12 @@ ghost use Rattle.rpki_document.specs.Texts.{line_feed};
 ghost use Rattle.rpki_document.specs.Views.{document_view, part_view, node_parts_text, piece_view, pieces_text};
 
 use crate::leaves::{Characters, Heading, Label, Margin};
-use crate::parts::{Added, Part, Parts, Piece};
+use crate::parts::{Part, Parts, Piece};
 use std::alloc::{AllocError, Global};
 use std::fmt;
 
 // Appends the text of a value.
-fn append<T: fmt::Display>(out: &mut String, alloc: Global, value: &T) -> Added
+fn append<T: fmt::Display>(out: &mut String, alloc: Global, value: &T) -> Result<(), AllocError>
     ensures { IfSome (T.output value.now) (λ text.
         OnOk result (string_bytes out.new ≡ string_bytes out.old ++ text)) }
 {
@@ -18,7 +18,7 @@ fn append<T: fmt::Display>(out: &mut String, alloc: Global, value: &T) -> Added
     out.push_str(made.as_str())
 }
 
-fn write_piece(out: &mut String, alloc: Global, piece: &Piece<'_>) -> Added
+fn write_piece(out: &mut String, alloc: Global, piece: &Piece<'_>) -> Result<(), AllocError>
     ensures { OnOk result
         (string_bytes out.new ≡ string_bytes out.old ++ span_text (piece_view piece.now)) }
 {
@@ -30,7 +30,7 @@ fn write_piece(out: &mut String, alloc: Global, piece: &Piece<'_>) -> Added
     }
 }
 
-fn write_pieces(out: &mut String, alloc: Global, pieces: &[Piece<'_>]) -> Added
+fn write_pieces(out: &mut String, alloc: Global, pieces: &[Piece<'_>]) -> Result<(), AllocError>
     ensures { OnOk result
         (string_bytes out.new ≡ string_bytes out.old ++ pieces_text pieces.now) }
 {
@@ -46,7 +46,7 @@ fn write_line<T: fmt::Display>(
     alloc: Global,
     start: &T,
     pieces: &[Piece<'_>],
-) -> Added
+) -> Result<(), AllocError>
     ensures { IfSome (T.output start.now) (λ text. OnOk result (string_bytes out.new
         ≡ string_bytes out.old ++ (text ++ (spans_text (map piece_view pieces.now) ++ line_feed)))) }
 {
@@ -56,7 +56,7 @@ fn write_line<T: fmt::Display>(
 }
 
 #[cycle(write)]
-fn write_part(out: &mut String, alloc: Global, it: &Part<'_>) -> Added
+fn write_part(out: &mut String, alloc: Global, it: &Part<'_>) -> Result<(), AllocError>
     ensures { OnOk result
         (string_bytes out.new ≡ string_bytes out.old ++ node_text (part_view it.now)) }
 {
@@ -72,7 +72,7 @@ fn write_part(out: &mut String, alloc: Global, it: &Part<'_>) -> Added
 }
 
 #[cycle(write)]
-fn write_parts(out: &mut String, alloc: Global, parts: &Parts<'_>) -> Added
+fn write_parts(out: &mut String, alloc: Global, parts: &Parts<'_>) -> Result<(), AllocError>
     ensures { OnOk result
         (string_bytes out.new ≡ string_bytes out.old ++ node_parts_text parts.now.items) }
 {

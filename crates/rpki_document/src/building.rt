@@ -4,11 +4,15 @@ ghost use Rattle.rpki_document.specs.Documents.{aside, document_of, each, furthe
 ghost use Rattle.rpki_document.specs.Building.{Adds, nodes_of, spans_of};
 ghost use Rattle.rpki_document.specs.Views.{leaf_view};
 
-use crate::parts::{Added, Leaf, Part, Parts, Piece};
-use std::alloc::Global;
+use crate::parts::{Leaf, Part, Parts, Piece};
+use std::alloc::{AllocError, Global};
 
 /// Adds the head of an answer.
-pub fn add_head<'a>(parts: &mut Parts<'a>, label: &'a str, pieces: Vec<Piece<'a>>) -> Added
+pub fn add_head<'a>(
+    parts: &mut Parts<'a>,
+    label: &'a str,
+    pieces: Vec<Piece<'a>>,
+) -> Result<(), AllocError>
     ensures { let its = head label.now (spans_of pieces.entry.items) in
         OnOk result (Adds (its ∷ []) parts.old.items parts.new.items) }
 {
@@ -17,7 +21,11 @@ pub fn add_head<'a>(parts: &mut Parts<'a>, label: &'a str, pieces: Vec<Piece<'a>
 }
 
 /// Adds a line.
-pub fn add_line<'a>(parts: &mut Parts<'a>, label: &'a str, pieces: Vec<Piece<'a>>) -> Added
+pub fn add_line<'a>(
+    parts: &mut Parts<'a>,
+    label: &'a str,
+    pieces: Vec<Piece<'a>>,
+) -> Result<(), AllocError>
     ensures { let its = line label.now (spans_of pieces.entry.items) in
         OnOk result (Adds (its ∷ []) parts.old.items parts.new.items) }
 {
@@ -26,7 +34,7 @@ pub fn add_line<'a>(parts: &mut Parts<'a>, label: &'a str, pieces: Vec<Piece<'a>
 }
 
 /// Adds a further line of the label above.
-pub fn add_further<'a>(parts: &mut Parts<'a>, pieces: Vec<Piece<'a>>) -> Added
+pub fn add_further<'a>(parts: &mut Parts<'a>, pieces: Vec<Piece<'a>>) -> Result<(), AllocError>
     ensures { let its = further (spans_of pieces.entry.items) in
         OnOk result (Adds (its ∷ []) parts.old.items parts.new.items) }
 {
@@ -35,7 +43,7 @@ pub fn add_further<'a>(parts: &mut Parts<'a>, pieces: Vec<Piece<'a>>) -> Added
 }
 
 /// Adds values that are in no line.
-pub fn add_unsaid<'a>(parts: &mut Parts<'a>, pieces: Vec<Piece<'a>>) -> Added
+pub fn add_unsaid<'a>(parts: &mut Parts<'a>, pieces: Vec<Piece<'a>>) -> Result<(), AllocError>
     ensures { let its = unsaid (spans_of pieces.entry.items) in
         OnOk result (Adds (its ∷ []) parts.old.items parts.new.items) }
 {
@@ -50,7 +58,7 @@ pub fn add_told<'a>(
     label: &'a str,
     key: &'a str,
     leaf: Leaf<'a>,
-) -> Added
+) -> Result<(), AllocError>
     ensures { let its = told_line label.now key.now (leaf_view leaf.entry) in
         OnOk result (Adds (its ∷ []) parts.old.items parts.new.items) }
 {
@@ -59,7 +67,12 @@ pub fn add_told<'a>(
 }
 
 /// Adds a value that is in no line, under a key.
-pub fn add_kept<'a>(parts: &mut Parts<'a>, alloc: Global, key: &'a str, leaf: Leaf<'a>) -> Added
+pub fn add_kept<'a>(
+    parts: &mut Parts<'a>,
+    alloc: Global,
+    key: &'a str,
+    leaf: Leaf<'a>,
+) -> Result<(), AllocError>
     ensures { let its = kept_node key.now (leaf_view leaf.entry) in
         OnOk result (Adds (its ∷ []) parts.old.items parts.new.items) }
 {
@@ -68,7 +81,11 @@ pub fn add_kept<'a>(parts: &mut Parts<'a>, alloc: Global, key: &'a str, leaf: Le
 }
 
 /// Adds parts that are an object under a key.
-pub fn add_inside<'a>(parts: &mut Parts<'a>, key: &'a str, inner: Parts<'a>) -> Added
+pub fn add_inside<'a>(
+    parts: &mut Parts<'a>,
+    key: &'a str,
+    inner: Parts<'a>,
+) -> Result<(), AllocError>
     ensures { let its = inside key.now (document_of (nodes_of inner.entry.items)) in
         OnOk result (Adds (its ∷ []) parts.old.items parts.new.items) }
 {
@@ -82,7 +99,7 @@ pub fn add_item<'a>(
     alloc: Global,
     label: &'a str,
     pieces: Vec<Piece<'a>>,
-) -> Added
+) -> Result<(), AllocError>
     ensures { let its = item_node label.now (spans_of pieces.entry.items) in
         OnOk result (Adds (its ∷ []) parts.old.items parts.new.items) }
 {
@@ -92,7 +109,7 @@ pub fn add_item<'a>(
 }
 
 /// Adds parts that are a list under a key.
-pub fn add_each<'a>(parts: &mut Parts<'a>, key: &'a str, inner: Parts<'a>) -> Added
+pub fn add_each<'a>(parts: &mut Parts<'a>, key: &'a str, inner: Parts<'a>) -> Result<(), AllocError>
     ensures { let its = each key.now (document_of (nodes_of inner.entry.items)) in
         OnOk result (Adds (its ∷ []) parts.old.items parts.new.items) }
 {
@@ -101,7 +118,7 @@ pub fn add_each<'a>(parts: &mut Parts<'a>, key: &'a str, inner: Parts<'a>) -> Ad
 }
 
 /// Adds parts that are in no line.
-pub fn add_aside<'a>(parts: &mut Parts<'a>, inner: Parts<'a>) -> Added
+pub fn add_aside<'a>(parts: &mut Parts<'a>, inner: Parts<'a>) -> Result<(), AllocError>
     ensures { let its = aside (document_of (nodes_of inner.entry.items)) in
         OnOk result (Adds (its ∷ []) parts.old.items parts.new.items) }
 {

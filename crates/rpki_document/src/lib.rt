@@ -15,4 +15,4 @@ pub use building::{
     add_unsaid,
 };
 pub use leaves::{Characters, Colons};
-pub use parts::{Added, Leaf, Part, Parts, Piece};
+pub use parts::{Leaf, Part, Parts, Piece};

@@ -1,5 +1,4 @@
 //! What a document is made of.
-use std::alloc::AllocError;
 
 /// A value of a document. The text and the JSON of each kind are its two forms.
 #[derive(Drop)]
@@ -43,9 +42,6 @@ pub enum Piece<'a> {
 
 /// The parts of a document, one after the other.
 pub type Parts<'a> = Vec<Part<'a>>;
-
-/// What a call that adds to a document returns: an error only if memory runs out.
-pub type Added = Result<(), AllocError>;
 
 /// A part of a document.
 #[derive(Drop)]

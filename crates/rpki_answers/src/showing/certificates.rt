@@ -13,9 +13,7 @@ use crate::told::{
 };
 use rpki_cert::{Cert, InspectionError, KeyUsage, Kind, Overclaim, TbsCert};
 use rpki_der::Time;
-use rpki_document::{
-    Added, Leaf, Parts, Piece, add_each, add_inside, add_item, add_line, add_told,
-};
+use rpki_document::{Leaf, Parts, Piece, add_each, add_inside, add_item, add_line, add_told};
 use rpki_files::Object;
 use rpki_parts::Validity;
 use rpki_text::Identifier;
@@ -37,7 +35,12 @@ fn type_word(kind: Kind) -> &'static str
     }
 }
 
-fn add_typed<'p>(parts: &mut Parts<'p>, alloc: Global, kind: Leaf<'p>, word: &'p str) -> Added
+fn add_typed<'p>(
+    parts: &mut Parts<'p>,
+    alloc: Global,
+    kind: Leaf<'p>,
+    word: &'p str,
+) -> Result<(), AllocError>
     ensures { let its = typed_line (leaf_view kind.entry) word.now in
         OnOk result (Adds (its ∷ []) parts.old.items parts.new.items) }
 {
@@ -48,14 +51,14 @@ fn add_typed<'p>(parts: &mut Parts<'p>, alloc: Global, kind: Leaf<'p>, word: &'p
     add_line(parts, "Kind", pieces)
 }
 
-fn add_kind(parts: &mut Parts<'_>, alloc: Global, kind: Kind) -> Added
+fn add_kind(parts: &mut Parts<'_>, alloc: Global, kind: Kind) -> Result<(), AllocError>
     ensures { OnOk result (Adds (kind_line kind ∷ []) parts.old.items parts.new.items) }
 {
     add_typed(parts, alloc, kind_leaf(kind), type_word(kind))
 }
 
 // The version, the number, the algorithm and the names.
-fn add_fields(parts: &mut Parts<'_>, alloc: Global, fields: &TbsCert) -> Added
+fn add_fields(parts: &mut Parts<'_>, alloc: Global, fields: &TbsCert) -> Result<(), AllocError>
     ensures { OnOk result (Adds (field_nodes fields.now) parts.old.items parts.new.items) }
 {
     add_told(parts, alloc, "Version", "version", Leaf::Count(3))?;
@@ -75,7 +78,12 @@ fn add_fields(parts: &mut Parts<'_>, alloc: Global, fields: &TbsCert) -> Added
     add_told(parts, alloc, "Subject", "cert_subject", subject)
 }
 
-fn add_validity(parts: &mut Parts<'_>, alloc: Global, validity: Validity, at: Time) -> Added
+fn add_validity(
+    parts: &mut Parts<'_>,
+    alloc: Global,
+    validity: Validity,
+    at: Time,
+) -> Result<(), AllocError>
     ensures { OnOk result (Adds (validity_nodes validity at) parts.old.items parts.new.items) }
 {
     let period = Period {
@@ -100,7 +108,12 @@ fn usage_leaf(usage: KeyUsage) -> Leaf<'static>
 }
 
 // The key, and that of the issuer.
-fn add_keys(parts: &mut Parts<'_>, alloc: Global, fields: &TbsCert, found: &KeyAnswer) -> Added
+fn add_keys(
+    parts: &mut Parts<'_>,
+    alloc: Global,
+    fields: &TbsCert,
+    found: &KeyAnswer,
+) -> Result<(), AllocError>
     ensures { OnOk result
         (Adds (own_key_nodes fields.now found.now) parts.old.items parts.new.items) }
 {
@@ -118,7 +131,11 @@ fn add_keys(parts: &mut Parts<'_>, alloc: Global, fields: &TbsCert, found: &KeyA
 }
 
 // Where things are.
-fn add_places<'p>(parts: &mut Parts<'p>, alloc: Global, fields: &'p TbsCert) -> Added
+fn add_places<'p>(
+    parts: &mut Parts<'p>,
+    alloc: Global,
+    fields: &'p TbsCert,
+) -> Result<(), AllocError>
     ensures { OnOk result
         (Adds (place_nodes fields.now.extensions) parts.old.items parts.new.items) }
 {
@@ -169,7 +186,7 @@ fn overclaim_leaf(overclaim: Overclaim) -> Leaf<'static>
     }
 }
 
-fn add_resources(parts: &mut Parts<'_>, alloc: Global, fields: &TbsCert) -> Added
+fn add_resources(parts: &mut Parts<'_>, alloc: Global, fields: &TbsCert) -> Result<(), AllocError>
     ensures { OnOk result
         (Adds (own_resource_nodes fields.now.extensions) parts.old.items parts.new.items) }
 {
@@ -202,7 +219,7 @@ fn add_unmet<'p>(
     label: &'p str,
     key: &'p str,
     fault: InspectionError,
-) -> Added
+) -> Result<(), AllocError>
     ensures { let its = profile_line label.now key.now (Some fault) in
         OnOk result (Adds (its ∷ []) parts.old.items parts.new.items) }
 {
@@ -219,7 +236,7 @@ fn add_profile<'p>(
     label: &'p str,
     key: &'p str,
     answer: Option<InspectionError>,
-) -> Added
+) -> Result<(), AllocError>
     ensures { let its = profile_line label.now key.now answer in
         OnOk result (Adds (its ∷ []) parts.old.items parts.new.items) }
 {
@@ -229,7 +246,11 @@ fn add_profile<'p>(
     }
 }
 
-fn add_each_profile(parts: &mut Parts<'_>, alloc: Global, answers: &Answers) -> Added
+fn add_each_profile(
+    parts: &mut Parts<'_>,
+    alloc: Global,
+    answers: &Answers,
+) -> Result<(), AllocError>
     ensures { OnOk result (Adds (each_profile answers.now) parts.old.items parts.new.items) }
 {
     add_profile(parts, alloc, "Trust anchor profile", "ta", answers.anchor)?;
@@ -245,7 +266,11 @@ fn add_each_profile(parts: &mut Parts<'_>, alloc: Global, answers: &Answers) -> 
     add_profile(parts, alloc, "Router profile", "router", answers.router)
 }
 
-fn add_profiles_inside(parts: &mut Parts<'_>, alloc: Global, answers: &Answers) -> Added
+fn add_profiles_inside(
+    parts: &mut Parts<'_>,
+    alloc: Global,
+    answers: &Answers,
+) -> Result<(), AllocError>
     ensures { OnOk result (Adds (all_profiles true answers.now) parts.old.items parts.new.items) }
 {
     let mut each = Vec::new(alloc);
@@ -254,7 +279,12 @@ fn add_profiles_inside(parts: &mut Parts<'_>, alloc: Global, answers: &Answers) 
 }
 
 // If all is asked.
-fn add_all_profiles(parts: &mut Parts<'_>, alloc: Global, all: bool, answers: &Answers) -> Added
+fn add_all_profiles(
+    parts: &mut Parts<'_>,
+    alloc: Global,
+    all: bool,
+    answers: &Answers,
+) -> Result<(), AllocError>
     ensures { OnOk result (Adds (all_profiles all answers.now) parts.old.items parts.new.items) }
 {
     if all {
@@ -265,7 +295,12 @@ fn add_all_profiles(parts: &mut Parts<'_>, alloc: Global, all: bool, answers: &A
 }
 
 // That of its own kind, and the others.
-fn add_profiles(parts: &mut Parts<'_>, alloc: Global, all: bool, found: &Findings) -> Added
+fn add_profiles(
+    parts: &mut Parts<'_>,
+    alloc: Global,
+    all: bool,
+    found: &Findings,
+) -> Result<(), AllocError>
     ensures { OnOk result (Adds (profile_nodes all found.now) parts.old.items parts.new.items) }
 {
     let answer = found.answers.of(found.kind);
@@ -328,7 +363,7 @@ fn fact_leaf(alloc: Global, fact: Fact<'_>) -> Result<Leaf<'_>, AllocError>
     }
 }
 
-fn add_fact<'p>(parts: &mut Parts<'p>, alloc: Global, fact: Fact<'p>) -> Added
+fn add_fact<'p>(parts: &mut Parts<'p>, alloc: Global, fact: Fact<'p>) -> Result<(), AllocError>
     ensures { OnOk result (Adds (fact_node fact.entry ∷ []) parts.old.items parts.new.items) }
 {
     let leaf = fact_leaf(alloc, fact)?;
@@ -343,7 +378,7 @@ fn add_fact<'p>(parts: &mut Parts<'p>, alloc: Global, fact: Fact<'p>) -> Added
     add_inside(parts, "", own)
 }
 
-fn add_facts<'p>(parts: &mut Parts<'p>, alloc: Global, facts: &[Fact<'p>]) -> Added
+fn add_facts<'p>(parts: &mut Parts<'p>, alloc: Global, facts: &[Fact<'p>]) -> Result<(), AllocError>
     ensures { OnOk result (Adds (map fact_node facts.now) parts.old.items parts.new.items) }
 {
     for fact in facts {
@@ -358,7 +393,7 @@ fn add_noted<'p>(
     name: &'p str,
     says: &'p str,
     section: &'p str,
-) -> Added
+) -> Result<(), AllocError>
     ensures { let its = noted_line name.now says.now section.now in
         OnOk result (Adds (its ∷ []) parts.old.items parts.new.items) }
 {
@@ -372,13 +407,13 @@ fn add_noted<'p>(
     add_item(parts, alloc, "Note", pieces)
 }
 
-fn add_note(parts: &mut Parts<'_>, alloc: Global, note: Note) -> Added
+fn add_note(parts: &mut Parts<'_>, alloc: Global, note: Note) -> Result<(), AllocError>
     ensures { OnOk result (Adds (note_line note ∷ []) parts.old.items parts.new.items) }
 {
     add_noted(parts, alloc, note.name(), note.says(), note.section())
 }
 
-fn add_notes(parts: &mut Parts<'_>, alloc: Global, notes: &[Note]) -> Added
+fn add_notes(parts: &mut Parts<'_>, alloc: Global, notes: &[Note]) -> Result<(), AllocError>
     ensures { OnOk result (Adds (map note_line notes.now) parts.old.items parts.new.items) }
 {
     for note in notes {
@@ -392,7 +427,7 @@ fn add_remarks<'p>(
     alloc: Global,
     facts: &[Fact<'p>],
     notes: &[Note],
-) -> Added
+) -> Result<(), AllocError>
     ensures { OnOk result
         (Adds (remark_nodes facts.now notes.now) parts.old.items parts.new.items) }
 {
@@ -413,7 +448,7 @@ fn add_found<'p>(
     fields: &'p TbsCert,
     found: &Findings,
     options: &Options,
-) -> Added
+) -> Result<(), AllocError>
     ensures { let f = fields.now in
         let its = certificate_nodes f options.now.at options.now.all found.now in
         OnOk result (Adds its parts.old.items parts.new.items) }
@@ -434,7 +469,7 @@ pub fn add_certificate<'p>(
     object: &'p Object<'_>,
     cert: &'p Cert,
     options: &Options,
-) -> Added
+) -> Result<(), AllocError>
     requires { Means IsCertificate cert.now object.now.octets }
     ensures { let Is = IsShownCertificate options.now object.now.octets cert.now in
         OnOk result (AddsSome Is parts.old.items parts.new.items) }

@@ -20,9 +20,7 @@ use crate::told::{add_key, add_signature, add_unsigned, identifier_leaf, printed
 use base64::engine::general_purpose::STANDARD;
 use rpki_cert::Cert;
 use rpki_crl::Crl;
-use rpki_document::{
-    Added, Leaf, Parts, Piece, add_each, add_inside, add_kept, add_line, add_told,
-};
+use rpki_document::{Leaf, Parts, Piece, add_each, add_inside, add_kept, add_line, add_told};
 use rpki_files::rules::{Rule, of_tal};
 use rpki_files::{Content, Flaw, Object, Place, Sort};
 use rpki_keys::tal::{Tal, TalError, TalUri};
@@ -47,7 +45,7 @@ fn hash_base64(alloc: Global, octets: &[u8]) -> Result<String, AllocError>
     STANDARD.encode(alloc, digest.as_slice())
 }
 
-fn add_hash(parts: &mut Parts<'_>, alloc: Global, octets: &[u8]) -> Added
+fn add_hash(parts: &mut Parts<'_>, alloc: Global, octets: &[u8]) -> Result<(), AllocError>
     ensures { OnOk result (Adds (hash_line octets.now ∷ []) parts.old.items parts.new.items) }
 {
     let digits = hash_digits(alloc, octets)?;
@@ -59,7 +57,11 @@ fn add_hash(parts: &mut Parts<'_>, alloc: Global, octets: &[u8]) -> Added
     add_line(parts, "SHA-256", pieces)
 }
 
-fn add_name<'p>(parts: &mut Parts<'p>, alloc: Global, object: &'p Object<'_>) -> Added
+fn add_name<'p>(
+    parts: &mut Parts<'p>,
+    alloc: Global,
+    object: &'p Object<'_>,
+) -> Result<(), AllocError>
     ensures { OnOk result (Adds (name_line object.now ∷ []) parts.old.items parts.new.items) }
 {
     add_told(parts, alloc, "File", "file", Leaf::Text(object.name()))
@@ -72,7 +74,7 @@ fn add_file<'p>(
     alloc: Global,
     object: &'p Object<'_>,
     to_be_signed: bool,
-) -> Added
+) -> Result<(), AllocError>
     ensures { let its = file_nodes object.now to_be_signed in
         OnOk result (Adds its parts.old.items parts.new.items) }
 {
@@ -85,7 +87,7 @@ fn add_file<'p>(
 }
 
 // How many octets stand behind an object.
-fn add_left(parts: &mut Parts<'_>, alloc: Global, left: usize) -> Added
+fn add_left(parts: &mut Parts<'_>, alloc: Global, left: usize) -> Result<(), AllocError>
     ensures { OnOk result (Adds (left_line left ∷ []) parts.old.items parts.new.items) }
 {
     let pieces = vec![in alloc;
@@ -96,7 +98,7 @@ fn add_left(parts: &mut Parts<'_>, alloc: Global, left: usize) -> Added
 }
 
 // If some do.
-fn add_behind(parts: &mut Parts<'_>, alloc: Global, left: usize) -> Added
+fn add_behind(parts: &mut Parts<'_>, alloc: Global, left: usize) -> Result<(), AllocError>
     ensures { OnOk result (Adds (behind_nodes left) parts.old.items parts.new.items) }
 {
     if left > 0 {
@@ -108,7 +110,7 @@ fn add_behind(parts: &mut Parts<'_>, alloc: Global, left: usize) -> Added
 
 // ---- TALs
 
-fn add_uri<'p>(parts: &mut Parts<'p>, alloc: Global, uri: &'p TalUri) -> Added
+fn add_uri<'p>(parts: &mut Parts<'p>, alloc: Global, uri: &'p TalUri) -> Result<(), AllocError>
     ensures { let its = uri_line (uri_text uri.now) in
         OnOk result (Adds (its ∷ []) parts.old.items parts.new.items) }
 {
@@ -116,7 +118,7 @@ fn add_uri<'p>(parts: &mut Parts<'p>, alloc: Global, uri: &'p TalUri) -> Added
     add_told(parts, alloc, "URI", "", Leaf::Characters(octets))
 }
 
-fn add_uris<'p>(parts: &mut Parts<'p>, alloc: Global, uris: &'p [TalUri]) -> Added
+fn add_uris<'p>(parts: &mut Parts<'p>, alloc: Global, uris: &'p [TalUri]) -> Result<(), AllocError>
     ensures { let its = map (λ uri. uri_line (uri_text uri)) uris.now in
         OnOk result (Adds its parts.old.items parts.new.items) }
 {
@@ -127,7 +129,12 @@ fn add_uris<'p>(parts: &mut Parts<'p>, alloc: Global, uris: &'p [TalUri]) -> Add
 }
 
 // The key, of which this was found, and its identifier.
-fn add_tal_key(parts: &mut Parts<'_>, alloc: Global, tal: &Tal, found: &KeyAnswer) -> Added
+fn add_tal_key(
+    parts: &mut Parts<'_>,
+    alloc: Global,
+    tal: &Tal,
+    found: &KeyAnswer,
+) -> Result<(), AllocError>
     ensures { OnOk result
         (Adds (tal_key_nodes tal.now.tal.key found.now) parts.old.items parts.new.items) }
 {
@@ -140,7 +147,12 @@ fn add_tal_key(parts: &mut Parts<'_>, alloc: Global, tal: &Tal, found: &KeyAnswe
     add_told(parts, alloc, "Subject key identifier", "ski", identifier)
 }
 
-fn add_tal<'p>(parts: &mut Parts<'p>, alloc: Global, name: &'p str, tal: &'p Tal) -> Added
+fn add_tal<'p>(
+    parts: &mut Parts<'p>,
+    alloc: Global,
+    name: &'p str,
+    tal: &'p Tal,
+) -> Result<(), AllocError>
     ensures { OnOk result ((key : _) × IsLocatorKey tal.now.tal.key key
         × Adds (tal_nodes name.now tal.now.tal key) parts.old.items parts.new.items) }
 {
@@ -156,7 +168,7 @@ fn add_tal<'p>(parts: &mut Parts<'p>, alloc: Global, name: &'p str, tal: &'p Tal
 // ---- files that are none
 
 // What an error means, and the section of the standard.
-fn add_rule(parts: &mut Parts<'_>, alloc: Global, rule: Rule) -> Added
+fn add_rule(parts: &mut Parts<'_>, alloc: Global, rule: Rule) -> Result<(), AllocError>
     ensures { OnOk result (Adds (rule_nodes rule) parts.old.items parts.new.items) }
 {
     add_told(parts, alloc, "Why", "why", Leaf::Text(rule.says))?;
@@ -170,7 +182,7 @@ fn add_rule(parts: &mut Parts<'_>, alloc: Global, rule: Rule) -> Added
 }
 
 // A file that looks like a TAL.
-fn add_no_tal(parts: &mut Parts<'_>, alloc: Global, error: &TalError) -> Added
+fn add_no_tal(parts: &mut Parts<'_>, alloc: Global, error: &TalError) -> Result<(), AllocError>
     ensures { OnOk result ((rule : _) × (rule_of rule ≡ tal_rule error.now)
         × Adds (no_tal_nodes error.now rule) parts.old.items parts.new.items) }
 {
@@ -180,7 +192,7 @@ fn add_no_tal(parts: &mut Parts<'_>, alloc: Global, error: &TalError) -> Added
 }
 
 // What is found where reading stops, if a flaw is told.
-fn add_found(parts: &mut Parts<'_>, alloc: Global, found: Option<Flaw>) -> Added
+fn add_found(parts: &mut Parts<'_>, alloc: Global, found: Option<Flaw>) -> Result<(), AllocError>
     ensures { OnOk result (Adds (found_nodes found) parts.old.items parts.new.items) }
 {
     match found {
@@ -193,7 +205,12 @@ fn add_found(parts: &mut Parts<'_>, alloc: Global, found: Option<Flaw>) -> Added
 }
 
 // Where reading stops.
-fn add_where<'p>(parts: &mut Parts<'p>, alloc: Global, field: &'p str, octet: usize) -> Added
+fn add_where<'p>(
+    parts: &mut Parts<'p>,
+    alloc: Global,
+    field: &'p str,
+    octet: usize,
+) -> Result<(), AllocError>
     ensures { let its = where_line field.now octet in
         OnOk result (Adds (its ∷ []) parts.old.items parts.new.items) }
 {
@@ -206,7 +223,7 @@ fn add_where<'p>(parts: &mut Parts<'p>, alloc: Global, field: &'p str, octet: us
 }
 
 // And what is expected there.
-fn add_place(parts: &mut Parts<'_>, alloc: Global, place: Place) -> Added
+fn add_place(parts: &mut Parts<'_>, alloc: Global, place: Place) -> Result<(), AllocError>
     ensures { OnOk result (Adds (place_nodes place) parts.old.items parts.new.items) }
 {
     add_where(parts, alloc, place.field, place.octet)?;
@@ -230,7 +247,7 @@ fn shows_stop(all: bool, sort: Option<Sort>) -> bool
 }
 
 // The error, and where reading stops.
-fn add_fault<'p>(parts: &mut Parts<'p>, alloc: Global, it: &'p Rejection) -> Added
+fn add_fault<'p>(parts: &mut Parts<'p>, alloc: Global, it: &'p Rejection) -> Result<(), AllocError>
     ensures { OnOk result (Adds (fault_nodes it.now) parts.old.items parts.new.items) }
 {
     add_told(parts, alloc, "Error", "fault", Leaf::Text(it.why.as_str()))?;
@@ -238,7 +255,12 @@ fn add_fault<'p>(parts: &mut Parts<'p>, alloc: Global, it: &'p Rejection) -> Add
 }
 
 // If that is shown.
-fn add_stop<'p>(parts: &mut Parts<'p>, alloc: Global, shows: bool, it: &'p Rejection) -> Added
+fn add_stop<'p>(
+    parts: &mut Parts<'p>,
+    alloc: Global,
+    shows: bool,
+    it: &'p Rejection,
+) -> Result<(), AllocError>
     ensures { OnOk result (Adds (stop_nodes shows it.now) parts.old.items parts.new.items) }
 {
     if shows {
@@ -248,7 +270,12 @@ fn add_stop<'p>(parts: &mut Parts<'p>, alloc: Global, shows: bool, it: &'p Rejec
     }
 }
 
-fn add_unread<'p>(parts: &mut Parts<'p>, alloc: Global, all: bool, it: &'p Rejection) -> Added
+fn add_unread<'p>(
+    parts: &mut Parts<'p>,
+    alloc: Global,
+    all: bool,
+    it: &'p Rejection,
+) -> Result<(), AllocError>
     ensures { OnOk result (Adds (unread_nodes all it.now) parts.old.items parts.new.items) }
 {
     add_sort(parts, alloc, it.sort)?;
@@ -265,7 +292,7 @@ fn add_whole_certificate<'p>(
     cert: &'p Cert,
     left: usize,
     options: &Options,
-) -> Added
+) -> Result<(), AllocError>
     requires { BeginsBefore IsCertificate object.now.octets cert.now left }
     ensures { let Is = IsShownBefore options.now object.now.octets cert.now left in
         OnOk result (AddsSome Is parts.old.items parts.new.items) }
@@ -281,7 +308,7 @@ fn add_whole_list<'p>(
     list: &Crl,
     left: usize,
     options: &Options,
-) -> Added
+) -> Result<(), AllocError>
     ensures { let its = whole_list_nodes options.now list.now.list.fields left in
         OnOk result (Adds its parts.old.items parts.new.items) }
 {
@@ -296,7 +323,7 @@ fn add_to_be_signed<'p>(
     alloc: Global,
     whole: &'p Object<'_>,
     options: &Options,
-) -> Added
+) -> Result<(), AllocError>
     requires { BeginsWithEither whole.now.octets }
     ensures { let Is = IsShownUnsigned options.now whole.now.octets in
         OnOk result (AddsSome Is parts.old.items parts.new.items) }
@@ -317,7 +344,7 @@ fn add_said<'p>(
     object: &'p Object<'_>,
     subject: &'p Subject<'_>,
     options: &Options,
-) -> Added
+) -> Result<(), AllocError>
     requires { IsSubject options.now.strict object.now.octets subject.now }
     ensures { let Is = IsSaidOfFile options.now object.now subject.now in
         OnOk result (AddsSome Is parts.old.items parts.new.items) }

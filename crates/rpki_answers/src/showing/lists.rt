@@ -7,9 +7,7 @@ ghost use Rattle.rpki_answers.specs.ShownLists.{entry_node, entry_nodes, few, li
 use crate::told::{add_until, identifier_leaf, moment_leaf, name_leaf, printed};
 use rpki_crl::{RevokedCertificates, TbsCertList};
 use rpki_der::{Serial, Time};
-use rpki_document::{
-    Added, Leaf, Parts, Piece, add_each, add_further, add_inside, add_line, add_told,
-};
+use rpki_document::{Leaf, Parts, Piece, add_each, add_further, add_inside, add_line, add_told};
 use rpki_text::moments::Period;
 use std::alloc::{AllocError, Global};
 
@@ -32,7 +30,7 @@ fn add_revocation<'p>(
     alloc: Global,
     serial: Leaf<'p>,
     date: Leaf<'p>,
-) -> Added
+) -> Result<(), AllocError>
     ensures { let its = revocation_node (leaf_view serial.entry) (leaf_view date.entry) in
         OnOk result (Adds (its ∷ []) parts.old.items parts.new.items) }
 {
@@ -46,7 +44,12 @@ fn add_revocation<'p>(
     add_inside(parts, "", own)
 }
 
-fn add_entry(parts: &mut Parts<'_>, alloc: Global, serial: Serial, date: Time) -> Added
+fn add_entry(
+    parts: &mut Parts<'_>,
+    alloc: Global,
+    serial: Serial,
+    date: Time,
+) -> Result<(), AllocError>
     ensures { let its = entry_node (record { serial = serial; date = date }) in
         OnOk result (Adds (its ∷ []) parts.old.items parts.new.items) }
 {
@@ -61,7 +64,7 @@ fn add_first(
     alloc: Global,
     revoked: &RevokedCertificates,
     count: u64,
-) -> Added
+) -> Result<(), AllocError>
     ensures { let its = map entry_node (take count revoked.now.entries) in
         OnOk result (Adds its parts.old.items parts.new.items) }
 {
@@ -77,7 +80,11 @@ fn add_first(
 }
 
 // The first few, and two dots.
-fn add_few(parts: &mut Parts<'_>, alloc: Global, revoked: &RevokedCertificates) -> Added
+fn add_few(
+    parts: &mut Parts<'_>,
+    alloc: Global,
+    revoked: &RevokedCertificates,
+) -> Result<(), AllocError>
     ensures { OnOk result
         (Adds (entry_nodes false revoked.now.entries) parts.old.items parts.new.items) }
 {
@@ -93,7 +100,7 @@ fn add_entries(
     revoked: &RevokedCertificates,
     count: u64,
     whole: bool,
-) -> Added
+) -> Result<(), AllocError>
     requires { count ≡ length revoked.now.entries }
     ensures { OnOk result
         (Adds (entry_nodes whole revoked.now.entries) parts.old.items parts.new.items) }
@@ -117,7 +124,7 @@ fn add_revoked(
     alloc: Global,
     revoked: &RevokedCertificates,
     all: bool,
-) -> Added
+) -> Result<(), AllocError>
     ensures { OnOk result
         (Adds (revoked_nodes all revoked.now.entries) parts.old.items parts.new.items) }
 {
@@ -137,7 +144,7 @@ fn add_head(
     parts: &mut Parts<'_>,
     alloc: Global,
     fields: &TbsCertList<RevokedCertificates>,
-) -> Added
+) -> Result<(), AllocError>
     ensures { OnOk result (Adds (list_head fields.now) parts.old.items parts.new.items) }
 {
     add_told(parts, alloc, "Kind", "type", Leaf::Words("CRL", "crl"))?;
@@ -149,7 +156,13 @@ fn add_head(
     add_told(parts, alloc, "CRL number", "crl_serial", number)
 }
 
-fn add_updates(parts: &mut Parts<'_>, alloc: Global, from: Time, until: Time, at: Time) -> Added
+fn add_updates(
+    parts: &mut Parts<'_>,
+    alloc: Global,
+    from: Time,
+    until: Time,
+    at: Time,
+) -> Result<(), AllocError>
     ensures { OnOk result (Adds (update_nodes from until at) parts.old.items parts.new.items) }
 {
     let since = moment_leaf(alloc, from)?;
@@ -172,7 +185,7 @@ pub fn add_list(
     fields: &TbsCertList<RevokedCertificates>,
     now: Time,
     all: bool,
-) -> Added
+) -> Result<(), AllocError>
     ensures { OnOk result (Adds (list_nodes fields.now now all) parts.old.items parts.new.items) }
 {
     add_head(parts, alloc, fields)?;

@@ -9,7 +9,7 @@ ghost use Rattle.rpki_answers.specs.Verdicts.{AreAcceptance, AreHeld, IsTal, che
 
 use crate::told::{add_addresses, add_key, add_listed, add_numbers, identifier_leaf, printed};
 use rpki_cert::{Cert, ResourceCert};
-use rpki_document::{Added, Leaf, Parts, Piece, add_each, add_inside, add_line, add_told};
+use rpki_document::{Leaf, Parts, Piece, add_each, add_inside, add_line, add_told};
 use rpki_files::Object;
 use rpki_keys::tal::Tal;
 use rpki_parts::KeyIdentifier;
@@ -17,7 +17,7 @@ use rpki_path::Judged;
 use rpki_text::blocks::Family;
 use rpki_text::keys::answer_of;
 use rpki_verdicts::{GivenLocator, Question, located};
-use std::alloc::Global;
+use std::alloc::{AllocError, Global};
 
 fn uris_word(count: u64) -> &'static str
     ensures { result.now ≡ uris_word count }
@@ -35,7 +35,7 @@ fn add_tal_line<'p>(
     name: &'p str,
     uris: u64,
     key: &KeyIdentifier,
-) -> Added
+) -> Result<(), AllocError>
     ensures { OnOk result
         (Adds (tal_line name.now uris key.now ∷ []) parts.old.items parts.new.items) }
 {
@@ -50,7 +50,12 @@ fn add_tal_line<'p>(
     add_line(parts, "TAL", pieces)
 }
 
-fn add_tal<'p>(parts: &mut Parts<'p>, alloc: Global, name: &'p str, tal: &Tal) -> Added
+fn add_tal<'p>(
+    parts: &mut Parts<'p>,
+    alloc: Global,
+    name: &'p str,
+    tal: &Tal,
+) -> Result<(), AllocError>
     ensures { let t = tal.now.tal in
         let its = tal_line name.now (length t.uris) (key_identifier t.key) in
         OnOk result (Adds (its ∷ []) parts.old.items parts.new.items) }
@@ -59,7 +64,11 @@ fn add_tal<'p>(parts: &mut Parts<'p>, alloc: Global, name: &'p str, tal: &Tal) -
     add_tal_line(parts, alloc, name, uris, &tal.key_info().key_identifier())
 }
 
-fn add_read_tal<'p>(parts: &mut Parts<'p>, alloc: Global, locator: &'p GivenLocator<'_>) -> Added
+fn add_read_tal<'p>(
+    parts: &mut Parts<'p>,
+    alloc: Global,
+    locator: &'p GivenLocator<'_>,
+) -> Result<(), AllocError>
     ensures { let its = read_tal locator.now.file.name locator.now.read in
         OnOk result (Adds its parts.old.items parts.new.items) }
 {
@@ -70,7 +79,11 @@ fn add_read_tal<'p>(parts: &mut Parts<'p>, alloc: Global, locator: &'p GivenLoca
 }
 
 // The TAL of the trust anchor, if some are given.
-fn add_located<'p>(parts: &mut Parts<'p>, alloc: Global, question: &Question<'p, '_>) -> Added
+fn add_located<'p>(
+    parts: &mut Parts<'p>,
+    alloc: Global,
+    question: &Question<'p, '_>,
+) -> Result<(), AllocError>
     requires { All (IsRead question.now.strict) question.now.locators }
     ensures { OnOk result (AddsSome (IsTal question.now) parts.old.items parts.new.items) }
 {
@@ -88,7 +101,7 @@ fn add_holder<'p>(
     ipv4: &'p str,
     ipv6: &'p str,
     holder: &ResourceCert,
-) -> Added
+) -> Result<(), AllocError>
     ensures { let its = holder_nodes numbers.now ipv4.now ipv6.now holder.now in
         OnOk result (Adds its parts.old.items parts.new.items) }
 {
@@ -97,7 +110,7 @@ fn add_holder<'p>(
     add_addresses(parts, alloc, ipv6, Family::V6, holder.v6_resources())
 }
 
-fn add_router(parts: &mut Parts<'_>, alloc: Global, cert: &Cert) -> Added
+fn add_router(parts: &mut Parts<'_>, alloc: Global, cert: &Cert) -> Result<(), AllocError>
     ensures { OnOk result ((key : _) × IsKeyAnswer cert.now.fields.key key
         × Adds (router_nodes cert.now key) parts.old.items parts.new.items) }
 {
@@ -127,7 +140,7 @@ fn add_router_below(
     alloc: Global,
     cert: &Cert,
     holder: &ResourceCert,
-) -> Added
+) -> Result<(), AllocError>
     ensures { let Are = AreHeld holder.now (Some cert.now) in
         OnOk result (AddsSome Are parts.old.items parts.new.items) }
 {
@@ -146,7 +159,11 @@ fn add_router_below(
     add_each(parts, "issuer_holds", held)
 }
 
-fn add_own_resources(parts: &mut Parts<'_>, alloc: Global, holder: &ResourceCert) -> Added
+fn add_own_resources(
+    parts: &mut Parts<'_>,
+    alloc: Global,
+    holder: &ResourceCert,
+) -> Result<(), AllocError>
     ensures { let Are = AreHeld holder.now None in
         OnOk result (AddsSome Are parts.old.items parts.new.items) }
 {
@@ -162,7 +179,11 @@ fn add_own_resources(parts: &mut Parts<'_>, alloc: Global, holder: &ResourceCert
     add_each(parts, "holds", held)
 }
 
-pub(crate) fn add_held(parts: &mut Parts<'_>, alloc: Global, judged: &Judged) -> Added
+pub(crate) fn add_held(
+    parts: &mut Parts<'_>,
+    alloc: Global,
+    judged: &Judged,
+) -> Result<(), AllocError>
     ensures { let Are = AreHeld judged.now.holder judged.now.router in
         OnOk result (AddsSome Are parts.old.items parts.new.items) }
 {
@@ -205,7 +226,11 @@ fn revocation_leaf(lists: &[Object<'_>]) -> Leaf<'static>
 }
 
 // What was checked beside.
-fn add_checked(parts: &mut Parts<'_>, alloc: Global, question: &Question<'_, '_>) -> Added
+fn add_checked(
+    parts: &mut Parts<'_>,
+    alloc: Global,
+    question: &Question<'_, '_>,
+) -> Result<(), AllocError>
     ensures { OnOk result (Adds (checked_nodes question.now) parts.old.items parts.new.items) }
 {
     add_told(
@@ -227,7 +252,11 @@ fn add_checked(parts: &mut Parts<'_>, alloc: Global, question: &Question<'_, '_>
     )
 }
 
-pub(crate) fn add_unchecked<'p>(parts: &mut Parts<'p>, alloc: Global, what: &'p str) -> Added
+pub(crate) fn add_unchecked<'p>(
+    parts: &mut Parts<'p>,
+    alloc: Global,
+    what: &'p str,
+) -> Result<(), AllocError>
     ensures { OnOk result (Adds (unchecked what.now ∷ []) parts.old.items parts.new.items) }
 {
     let pieces = vec![in alloc; Piece::Say(what)]?;
@@ -238,7 +267,7 @@ fn add_unchecked_anchor(
     parts: &mut Parts<'_>,
     alloc: Global,
     locators: &[GivenLocator<'_>],
-) -> Added
+) -> Result<(), AllocError>
     ensures { OnOk result
         (Adds (unchecked_anchor locators.now) parts.old.items parts.new.items) }
 {
@@ -249,7 +278,11 @@ fn add_unchecked_anchor(
     }
 }
 
-pub(crate) fn add_unchecked_names(parts: &mut Parts<'_>, alloc: Global, names: bool) -> Added
+pub(crate) fn add_unchecked_names(
+    parts: &mut Parts<'_>,
+    alloc: Global,
+    names: bool,
+) -> Result<(), AllocError>
     ensures { OnOk result (Adds (unchecked_names names) parts.old.items parts.new.items) }
 {
     if names {
@@ -259,7 +292,11 @@ pub(crate) fn add_unchecked_names(parts: &mut Parts<'_>, alloc: Global, names: b
     }
 }
 
-fn add_all_unchecked(parts: &mut Parts<'_>, alloc: Global, question: &Question<'_, '_>) -> Added
+fn add_all_unchecked(
+    parts: &mut Parts<'_>,
+    alloc: Global,
+    question: &Question<'_, '_>,
+) -> Result<(), AllocError>
     ensures { OnOk result (Adds (unchecked_nodes question.now) parts.old.items parts.new.items) }
 {
     add_unchecked_anchor(parts, alloc, question.locators)?;
@@ -272,7 +309,7 @@ pub(crate) fn add_acceptance<'p>(
     alloc: Global,
     question: &Question<'p, '_>,
     judged: &Judged,
-) -> Added
+) -> Result<(), AllocError>
     requires { All (IsRead question.now.strict) question.now.locators }
     ensures { let Are = AreAcceptance question.now judged.now in
         OnOk result (AddsSome Are parts.old.items parts.new.items) }

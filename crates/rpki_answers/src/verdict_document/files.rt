@@ -10,13 +10,11 @@ ghost use Rattle.rpki_answers.specs.VerdictTexts.{SaysOfEach};
 use crate::told::{kind_leaf, printed};
 use rpki_cert::{Kind, kind_of};
 use rpki_der::Serial;
-use rpki_document::{
-    Added, Leaf, Parts, Piece, add_each, add_inside, add_item, add_kept, add_told,
-};
+use rpki_document::{Leaf, Parts, Piece, add_each, add_inside, add_item, add_kept, add_told};
 use rpki_files::Object;
 use rpki_text::notes::{Note, notes_of};
 use rpki_verdicts::{GivenLocator, Question};
-use std::alloc::Global;
+use std::alloc::{AllocError, Global};
 
 const BEHIND_CERTIFICATE: &str = ", not read: ";
 
@@ -31,7 +29,7 @@ fn add_known<'p>(
     kind: Kind,
     serial: Serial,
     name: &'p str,
-) -> Added
+) -> Result<(), AllocError>
     ensures { let its = certificate_node index kind serial name.now in
         OnOk result (Adds (its ∷ []) parts.old.items parts.new.items) }
 {
@@ -48,7 +46,12 @@ fn add_known<'p>(
     add_item(parts, alloc, "Certificate", pieces)
 }
 
-fn add_other<'p>(parts: &mut Parts<'p>, alloc: Global, index: usize, name: &'p str) -> Added
+fn add_other<'p>(
+    parts: &mut Parts<'p>,
+    alloc: Global,
+    index: usize,
+    name: &'p str,
+) -> Result<(), AllocError>
     ensures { OnOk result (Adds (other_node index name.now ∷ []) parts.old.items parts.new.items) }
 {
     let pieces = vec![in alloc;
@@ -66,7 +69,7 @@ fn add_certificate<'p>(
     strict: bool,
     index: usize,
     object: &'p Object<'_>,
-) -> Added
+) -> Result<(), AllocError>
     ensures { OnOk result ((node : Node) × IsCertificateNode strict index object.now node
         × Adds (node ∷ []) parts.old.items parts.new.items) }
 {
@@ -85,7 +88,7 @@ fn add_certificates<'p>(
     alloc: Global,
     strict: bool,
     members: &'p [Object<'_>],
-) -> Added
+) -> Result<(), AllocError>
     ensures { let Are = AreCertificates strict 0 members.now in
         OnOk result (AddsSome Are parts.old.items parts.new.items) }
 {
@@ -97,7 +100,12 @@ fn add_certificates<'p>(
 
 // ---- notes
 
-fn add_note<'p>(parts: &mut Parts<'p>, alloc: Global, name: &'p str, note: Note) -> Added
+fn add_note<'p>(
+    parts: &mut Parts<'p>,
+    alloc: Global,
+    name: &'p str,
+    note: Note,
+) -> Result<(), AllocError>
     ensures { OnOk result (Adds (note_node name.now note ∷ []) parts.old.items parts.new.items) }
 {
     let pieces = vec![in alloc;
@@ -111,7 +119,12 @@ fn add_note<'p>(parts: &mut Parts<'p>, alloc: Global, name: &'p str, note: Note)
     add_item(parts, alloc, "Note", pieces)
 }
 
-fn add_each_note<'p>(parts: &mut Parts<'p>, alloc: Global, name: &'p str, notes: &[Note]) -> Added
+fn add_each_note<'p>(
+    parts: &mut Parts<'p>,
+    alloc: Global,
+    name: &'p str,
+    notes: &[Note],
+) -> Result<(), AllocError>
     ensures { OnOk result
         (Adds (map (note_node name.now) notes.now) parts.old.items parts.new.items) }
 {
@@ -122,7 +135,12 @@ fn add_each_note<'p>(parts: &mut Parts<'p>, alloc: Global, name: &'p str, notes:
 }
 
 // The notes of a certificate.
-fn add_noted_file<'p>(parts: &mut Parts<'p>, alloc: Global, name: &'p str, notes: &[Note]) -> Added
+fn add_noted_file<'p>(
+    parts: &mut Parts<'p>,
+    alloc: Global,
+    name: &'p str,
+    notes: &[Note],
+) -> Result<(), AllocError>
     ensures { let its = noted_node name.now notes.now in
         OnOk result (Adds (its ∷ []) parts.old.items parts.new.items) }
 {
@@ -135,7 +153,12 @@ fn add_noted_file<'p>(parts: &mut Parts<'p>, alloc: Global, name: &'p str, notes
 }
 
 // If it has some.
-fn add_notes<'p>(parts: &mut Parts<'p>, alloc: Global, name: &'p str, notes: &[Note]) -> Added
+fn add_notes<'p>(
+    parts: &mut Parts<'p>,
+    alloc: Global,
+    name: &'p str,
+    notes: &[Note],
+) -> Result<(), AllocError>
     ensures { OnOk result
         (Adds (noted_nodes name.now notes.now) parts.old.items parts.new.items) }
 {
@@ -145,7 +168,11 @@ fn add_notes<'p>(parts: &mut Parts<'p>, alloc: Global, name: &'p str, notes: &[N
     }
 }
 
-fn add_noted<'p>(parts: &mut Parts<'p>, alloc: Global, member: &'p Object<'_>) -> Added
+fn add_noted<'p>(
+    parts: &mut Parts<'p>,
+    alloc: Global,
+    member: &'p Object<'_>,
+) -> Result<(), AllocError>
     ensures { OnOk result (AddsSome (AreNoted member.now) parts.old.items parts.new.items) }
 {
     let notes = notes_of(alloc, member)?;
@@ -160,7 +187,7 @@ fn add_left_file<'p>(
     means: &'p str,
     name: &'p str,
     left: usize,
-) -> Added
+) -> Result<(), AllocError>
     ensures { let its = left_node means.now name.now left in
         OnOk result (Adds (its ∷ []) parts.old.items parts.new.items) }
 {
@@ -179,7 +206,7 @@ fn add_left<'p>(
     means: &'p str,
     name: &'p str,
     left: usize,
-) -> Added
+) -> Result<(), AllocError>
     ensures { let its = left_nodes means.now name.now (Some left) in
         OnOk result (Adds its parts.old.items parts.new.items) }
 {
@@ -190,7 +217,11 @@ fn add_left<'p>(
     }
 }
 
-fn add_left_of_member<'p>(parts: &mut Parts<'p>, alloc: Global, member: &'p Object<'_>) -> Added
+fn add_left_of_member<'p>(
+    parts: &mut Parts<'p>,
+    alloc: Global,
+    member: &'p Object<'_>,
+) -> Result<(), AllocError>
     ensures { let Are = IsLeft IsCertificate behind_certificate member.now in
         OnOk result (AddsSome Are parts.old.items parts.new.items) }
 {
@@ -200,7 +231,11 @@ fn add_left_of_member<'p>(parts: &mut Parts<'p>, alloc: Global, member: &'p Obje
     }
 }
 
-fn add_left_of_list<'p>(parts: &mut Parts<'p>, alloc: Global, list: &'p Object<'_>) -> Added
+fn add_left_of_list<'p>(
+    parts: &mut Parts<'p>,
+    alloc: Global,
+    list: &'p Object<'_>,
+) -> Result<(), AllocError>
     ensures { let Are = IsLeft IsCertificateList behind_list list.now in
         OnOk result (AddsSome Are parts.old.items parts.new.items) }
 {
@@ -212,7 +247,11 @@ fn add_left_of_list<'p>(parts: &mut Parts<'p>, alloc: Global, list: &'p Object<'
 
 // ---- files that aren't what they are given as
 
-fn add_not_a_list<'p>(parts: &mut Parts<'p>, alloc: Global, list: &'p Object<'_>) -> Added
+fn add_not_a_list<'p>(
+    parts: &mut Parts<'p>,
+    alloc: Global,
+    list: &'p Object<'_>,
+) -> Result<(), AllocError>
     ensures { OnOk result (AddsSome (IsNotAList list.now) parts.old.items parts.new.items) }
 {
     if list.is_list() {
@@ -225,7 +264,7 @@ fn add_not_a_locator<'p>(
     parts: &mut Parts<'p>,
     alloc: Global,
     locator: &'p GivenLocator<'_>,
-) -> Added
+) -> Result<(), AllocError>
     ensures { let its = not_a_locator locator.now.file.name locator.now.read in
         OnOk result (Adds its parts.old.items parts.new.items) }
 {
@@ -239,7 +278,7 @@ pub(crate) fn add_not_locators<'p>(
     parts: &mut Parts<'p>,
     alloc: Global,
     locators: &'p [GivenLocator<'_>],
-) -> Added
+) -> Result<(), AllocError>
     ensures { OnOk result
         (Adds (not_locators locators.now) parts.old.items parts.new.items) }
 {
@@ -260,7 +299,12 @@ enum About {
     NoList,
 }
 
-fn add_about<'p>(parts: &mut Parts<'p>, alloc: Global, about: About, file: &'p Object<'_>) -> Added
+fn add_about<'p>(
+    parts: &mut Parts<'p>,
+    alloc: Global,
+    about: About,
+    file: &'p Object<'_>,
+) -> Result<(), AllocError>
     ensures { OnOk result (AddsSome (IsAbout about file.now) parts.old.items parts.new.items) }
 {
     match about {
@@ -276,7 +320,7 @@ fn add_of_each<'p>(
     alloc: Global,
     about: About,
     files: &'p [Object<'_>],
-) -> Added
+) -> Result<(), AllocError>
     ensures { let Are = SaysOfEach (IsAbout about) files.now in
         OnOk result (AddsSome Are parts.old.items parts.new.items) }
 {
@@ -291,7 +335,7 @@ pub(crate) fn add_files<'p>(
     parts: &mut Parts<'p>,
     alloc: Global,
     question: &Question<'p, '_>,
-) -> Added
+) -> Result<(), AllocError>
     ensures { OnOk result (AddsSome (AreFiles question.now) parts.old.items parts.new.items) }
 {
     let mut certificates = Vec::new(alloc);

@@ -7,11 +7,11 @@ ghost use Rattle.rpki_answers.specs.VerdictTexts.{file_name_at};
 
 use crate::details::{Details, add_details, details_of};
 use rpki_document::{
-    Added, Leaf, Parts, Piece, add_head, add_inside, add_kept, add_line, add_told, add_unsaid,
+    Leaf, Parts, Piece, add_head, add_inside, add_kept, add_line, add_told, add_unsaid,
 };
 use rpki_files::Object;
 use rpki_verdicts::{Fault, Question};
-use std::alloc::Global;
+use std::alloc::{AllocError, Global};
 
 /// Adds the fault as a program needs it.
 pub(crate) fn add_fault<'p>(
@@ -20,7 +20,7 @@ pub(crate) fn add_fault<'p>(
     name: &'p str,
     says: &'p str,
     section: &'p str,
-) -> Added
+) -> Result<(), AllocError>
     ensures { let its = fault_spans name.now says.now section.now in
         OnOk result (Adds (unsaid its ∷ []) parts.old.items parts.new.items) }
 {
@@ -40,7 +40,7 @@ fn add_rejected_file<'p>(
     says: &'p str,
     name: &'p str,
     section: &'p str,
-) -> Added
+) -> Result<(), AllocError>
     ensures { let reason = reason_spans says.now name.now section.now in
         let its = rejected_head (show (inner file.now) ∷ say (codes ": ") ∷ reason) in
         OnOk result (Adds (its ∷ []) parts.old.items parts.new.items) }
@@ -67,7 +67,7 @@ fn add_rejected_index<'p>(
     says: &'p str,
     name: &'p str,
     section: &'p str,
-) -> Added
+) -> Result<(), AllocError>
     ensures { let reason = reason_spans says.now name.now section.now in
         let its = rejected_head (place_spans index None ++ reason) in
         OnOk result (Adds (its ∷ []) parts.old.items parts.new.items) }
@@ -92,7 +92,7 @@ fn add_rejected_head<'p>(
     alloc: Global,
     fault: &Fault,
     file: Option<&'p str>,
-) -> Added
+) -> Result<(), AllocError>
     ensures { let f = fault.now in
         let place = place_spans f.index (option_map (λ name. name.now) file.entry) in
         let its = rejected_head (place
@@ -108,7 +108,11 @@ fn add_rejected_head<'p>(
     }
 }
 
-fn add_faulty_file<'p>(parts: &mut Parts<'p>, alloc: Global, name: Option<&'p str>) -> Added
+fn add_faulty_file<'p>(
+    parts: &mut Parts<'p>,
+    alloc: Global,
+    name: Option<&'p str>,
+) -> Result<(), AllocError>
     ensures { let its = faulty_file (option_map (λ name. name.now) name.entry) in
         OnOk result (Adds its parts.old.items parts.new.items) }
 {
@@ -119,7 +123,12 @@ fn add_faulty_file<'p>(parts: &mut Parts<'p>, alloc: Global, name: Option<&'p st
 }
 
 // In which step, and which certificate is wrong.
-fn add_step<'p>(parts: &mut Parts<'p>, alloc: Global, step: &'p str, index: usize) -> Added
+fn add_step<'p>(
+    parts: &mut Parts<'p>,
+    alloc: Global,
+    step: &'p str,
+    index: usize,
+) -> Result<(), AllocError>
     ensures { OnOk result (Adds (step_line step.now index ∷ []) parts.old.items parts.new.items) }
 {
     let pieces = vec![in alloc;
@@ -138,7 +147,7 @@ fn add_why<'p>(
     fault: &Fault,
     name: Option<&'p str>,
     details: &Details<'p>,
-) -> Added
+) -> Result<(), AllocError>
     ensures { let name = option_map (λ name. name.now) name.entry in
         let its = rejected_nodes fault.now name details.now in
         OnOk result (Adds its parts.old.items parts.new.items) }
@@ -169,7 +178,7 @@ pub(crate) fn add_rejection<'p>(
     alloc: Global,
     question: &Question<'p, '_>,
     fault: &Fault,
-) -> Added
+) -> Result<(), AllocError>
     ensures { let Are = AreRejection question.now fault.now in
         OnOk result (AddsSome Are parts.old.items parts.new.items) }
 {
@@ -188,7 +197,7 @@ fn add_unjudged_head<'p>(
     says: &'p str,
     name: &'p str,
     section: &'p str,
-) -> Added
+) -> Result<(), AllocError>
     ensures { let its = rejected_head (reason_spans says.now name.now section.now) in
         OnOk result (Adds (its ∷ []) parts.old.items parts.new.items) }
 {
@@ -212,7 +221,7 @@ pub(crate) fn add_unjudged<'p>(
     says: &'p str,
     name: &'p str,
     section: &'p str,
-) -> Added
+) -> Result<(), AllocError>
     ensures { let its = unjudged_nodes step.now says.now name.now section.now in
         OnOk result (Adds its parts.old.items parts.new.items) }
 {
@@ -224,7 +233,7 @@ pub(crate) fn add_unjudged<'p>(
 }
 
 // That no certificate was given.
-pub(crate) fn add_no_path(parts: &mut Parts<'_>, alloc: Global) -> Added
+pub(crate) fn add_no_path(parts: &mut Parts<'_>, alloc: Global) -> Result<(), AllocError>
     ensures { let its = rejected_head (say (codes "no certificate was given") ∷ []) in
         OnOk result (Adds (its ∷ []) parts.old.items parts.new.items) }
 {
