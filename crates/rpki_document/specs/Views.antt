@@ -49,13 +49,7 @@ part_view = fold-Part Node part_step
 abbrev pub document_view : List Part → Document
 document_view parts = document_of (map part_view parts)
 
--- ---- what pieces and parts say, one behind the other
-
-abbrev pub pieces_text : List Piece → List ℕ
-pieces_text pieces = flat_map (λ p. span_text (piece_view p)) pieces
-
-abbrev pub pieces_members : List Piece → List Pair
-pieces_members pieces = flat_map (λ p. span_members (piece_view p)) pieces
+-- ---- what parts say, one behind the other
 
 abbrev pub node_parts_text : List Part → List ℕ
 node_parts_text parts = flat_map (λ p. node_text (part_view p)) parts

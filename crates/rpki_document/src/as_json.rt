@@ -1,18 +1,18 @@
 //! Documents as JSON.
-ghost use Rattle.std.specs.Prelude.{◌≡◌, [], ◌∷◌, map, IfOk, OnOk};
+ghost use Rattle.std.specs.Prelude.{◌≡◌, [], ◌∷◌, map, IfOk, IfSome, OnOk};
 ghost use Rattle.std.specs.List.{flat_map};
 ghost use Rattle.serde_json.specs.Data.{string};
 ghost use Rattle.serde_json.specs.View.{view};
 ghost use Rattle.rpki_document.specs.Documents.{document_json, list_of, node_members, object_of, span_members, told_json};
-ghost use Rattle.rpki_document.specs.Texts.{characters_text, colons_text};
-ghost use Rattle.rpki_document.specs.Views.{Puts, document_view, leaf_view, made_json, making_view, part_view, parts_members, piece_view, pieces_members};
+ghost use Rattle.rpki_document.specs.Views.{Puts, document_view, leaf_view, made_json, making_view, part_view, parts_members, piece_view};
 
 use crate::leaves::{Characters, Colons};
 use crate::parts::{Leaf, Part, Parts, Piece};
 use serde_json::{Map, Value, put};
 use std::alloc::{AllocError, Global};
+use std::fmt;
 
-// What a value is made of: the members of an object, or the values of a list.
+// A value that is being made: the members of an object, or the values of a list.
 #[derive(Drop)]
 enum Gathered {
     Object(Map<String, Value>),
@@ -30,7 +30,7 @@ impl Gathered {
     }
 }
 
-// Puts a member into an object, or its value behind those of a list.
+// Adds a member to an object, or its value to a list.
 fn gather(out: &mut Gathered, alloc: Global, key: &str, value: Value) -> Result<(), AllocError>
     ensures { OnOk result (Puts ((key.now, view value) ∷ []) out.old out.new) }
 {
@@ -43,19 +43,11 @@ fn gather(out: &mut Gathered, alloc: Global, key: &str, value: Value) -> Result<
     }
 }
 
-fn octets_value(alloc: Global, octets: &[u8]) -> Result<Value, AllocError>
-    ensures { IfOk result (λ made. view made ≡ string (colons_text octets.now)) }
+fn text_value<T: fmt::Display>(alloc: Global, value: &T) -> Result<Value, AllocError>
+    ensures { IfSome (T.output value.now) (λ text.
+        IfOk result (λ made. view made ≡ string text)) }
 {
-    let it = Colons(octets);
-    let text = format!(in alloc; "{it}")?;
-    Ok(Value::from(text))
-}
-
-fn characters_value(alloc: Global, octets: &[u8]) -> Result<Value, AllocError>
-    ensures { IfOk result (λ made. view made ≡ string (characters_text octets.now)) }
-{
-    let it = Characters(octets);
-    let text = format!(in alloc; "{it}")?;
+    let text = format!(in alloc; "{value}")?;
     Ok(Value::from(text))
 }
 
@@ -63,15 +55,14 @@ fn leaf_value(alloc: Global, leaf: &Leaf<'_>) -> Result<Value, AllocError>
     ensures { IfOk result (λ made. view made ≡ told_json (leaf_view leaf.now)) }
 {
     match leaf {
-        Leaf::Text(text) => Value::try_from_str(alloc, *text),
-        Leaf::Inner(text) => Value::try_from_str(alloc, *text),
-        Leaf::Characters(octets) => characters_value(alloc, *octets),
-        Leaf::Words(_, word) => Value::try_from_str(alloc, *word),
+        Leaf::Text(text) | Leaf::Inner(text) | Leaf::Words(_, text) => {
+            Value::try_from_str(alloc, *text)
+        }
+        Leaf::Characters(octets) => text_value(alloc, &Characters(*octets)),
         Leaf::Count(n) => Ok(Value::from(*n)),
-        Leaf::Octets(octets) => octets_value(alloc, *octets),
+        Leaf::Octets(octets) => text_value(alloc, &Colons(*octets)),
         Leaf::Flag(is_so) => Ok(Value::from(*is_so)),
-        Leaf::Own(text) => Value::try_from_str(alloc, text.as_str()),
-        Leaf::Printed(text) => Value::try_from_str(alloc, text.as_str()),
+        Leaf::Own(text) | Leaf::Printed(text) => Value::try_from_str(alloc, text.as_str()),
         Leaf::Dated(_, n) => Ok(Value::from(*n)),
     }
 }
@@ -94,8 +85,10 @@ fn put_piece(out: &mut Gathered, alloc: Global, piece: &Piece<'_>) -> Result<(),
     }
 }
 
-fn put_pieces(out: &mut Gathered, alloc: Global, pieces: &[Piece<'_>]) -> Result<(), AllocError>
-    ensures { OnOk result (Puts (pieces_members pieces.now) out.old out.new) }
+#[tactic(auto, using(std::proofs::lemmas::Grind::common_steps, crate::proofs::Joined::put_both))]
+fn put_line(out: &mut Gathered, alloc: Global, pieces: &[Piece<'_>]) -> Result<(), AllocError>
+    ensures { OnOk result
+        (Puts (flat_map span_members (map piece_view pieces.now)) out.old out.new) }
 {
     for piece in pieces {
         put_piece(out, alloc, piece)?;
@@ -103,22 +96,15 @@ fn put_pieces(out: &mut Gathered, alloc: Global, pieces: &[Piece<'_>]) -> Result
     Ok(())
 }
 
-fn put_line(out: &mut Gathered, alloc: Global, pieces: &[Piece<'_>]) -> Result<(), AllocError>
-    ensures { OnOk result
-        (Puts (flat_map span_members (map piece_view pieces.now)) out.old out.new) }
-{
-    put_pieces(out, alloc, pieces)
-}
-
 #[cycle(values)]
 fn put_part(it: &Part<'_>, out: &mut Gathered, alloc: Global) -> Result<(), AllocError>
     ensures { OnOk result (Puts (node_members (part_view it.now)) out.old out.new) }
 {
     match it {
-        Part::Head(_, pieces) => put_line(out, alloc, pieces.as_slice()),
-        Part::Line(_, pieces) => put_line(out, alloc, pieces.as_slice()),
-        Part::Further(pieces) => put_line(out, alloc, pieces.as_slice()),
-        Part::Unsaid(pieces) => put_line(out, alloc, pieces.as_slice()),
+        Part::Head(_, pieces)
+        | Part::Line(_, pieces)
+        | Part::Further(pieces)
+        | Part::Unsaid(pieces) => put_line(out, alloc, pieces.as_slice()),
         Part::Inside(key, parts) => {
             let value = object_value(alloc, parts)?;
             gather(out, alloc, *key, value)
@@ -132,6 +118,7 @@ fn put_part(it: &Part<'_>, out: &mut Gathered, alloc: Global) -> Result<(), Allo
 }
 
 #[cycle(values)]
+#[tactic(auto, using(std::proofs::lemmas::Grind::common_steps, crate::proofs::Joined::put_both))]
 fn put_parts(parts: &Parts<'_>, out: &mut Gathered, alloc: Global) -> Result<(), AllocError>
     ensures { OnOk result (Puts (parts_members parts.now.items) out.old out.new) }
 {

@@ -2,7 +2,7 @@
 ghost use Rattle.std.specs.Prelude.{◌≡◌, ◌++◌, map, string_bytes, IfOk, IfSome, OnOk};
 ghost use Rattle.rpki_document.specs.Documents.{document_text, node_text, span_text, spans_text};
 ghost use Rattle.rpki_document.specs.Texts.{line_feed};
-ghost use Rattle.rpki_document.specs.Views.{document_view, part_view, node_parts_text, piece_view, pieces_text};
+ghost use Rattle.rpki_document.specs.Views.{document_view, part_view, node_parts_text, piece_view};
 
 use crate::leaves::{Characters, Heading, Label, Margin};
 use crate::parts::{Part, Parts, Piece};
@@ -24,23 +24,11 @@ fn write_piece(out: &mut String, alloc: Global, piece: &Piece<'_>) -> Result<(),
 {
     match piece {
         Piece::Say(said) => append(out, alloc, &Characters(said.as_bytes())),
-        Piece::Tell(_, told) => append(out, alloc, told),
-        Piece::Show(told) => append(out, alloc, told),
+        Piece::Tell(_, told) | Piece::Show(told) => append(out, alloc, told),
         Piece::Keep(_, _) => Ok(()),
     }
 }
 
-fn write_pieces(out: &mut String, alloc: Global, pieces: &[Piece<'_>]) -> Result<(), AllocError>
-    ensures { OnOk result
-        (string_bytes out.new ≡ string_bytes out.old ++ pieces_text pieces.now) }
-{
-    for piece in pieces {
-        write_piece(out, alloc, piece)?;
-    }
-    Ok(())
-}
-
-// Writes a line that starts so.
 fn write_line<T: fmt::Display>(
     out: &mut String,
     alloc: Global,
@@ -51,7 +39,9 @@ fn write_line<T: fmt::Display>(
         ≡ string_bytes out.old ++ (text ++ (spans_text (map piece_view pieces.now) ++ line_feed)))) }
 {
     append(out, alloc, start)?;
-    write_pieces(out, alloc, pieces)?;
+    for piece in pieces {
+        write_piece(out, alloc, piece)?;
+    }
     out.push_str("\n")
 }
 
@@ -66,8 +56,7 @@ fn write_part(out: &mut String, alloc: Global, it: &Part<'_>) -> Result<(), Allo
         Part::Further(pieces) => write_line(out, alloc, &Margin, pieces.as_slice()),
         Part::Unsaid(_) => Ok(()),
         Part::Aside(_) => Ok(()),
-        Part::Inside(_, parts) => write_parts(out, alloc, parts),
-        Part::Each(_, parts) => write_parts(out, alloc, parts),
+        Part::Inside(_, parts) | Part::Each(_, parts) => write_parts(out, alloc, parts),
     }
 }
 

@@ -2,13 +2,12 @@
 ghost use Rattle.std.specs.Prelude.{◌≡◌, Some, replicate};
 ghost use Rattle.std.specs.Fmt.{WritesOnOk};
 ghost use Rattle.rpki_document.specs.Documents.{told_text};
-ghost use Rattle.rpki_document.specs.Texts.{two_digits, colons_text, character_text, characters_text, escaped, escaped_text, escapes, flag_text, further_margin, head_text, label_text, separates};
+ghost use Rattle.rpki_document.specs.Texts.{two_digits, colons_text, character_text, characters_text, escaped_text, escapes, further_margin, head_text, label_text};
 ghost use Rattle.rpki_document.specs.Views.{leaf_view};
 
 use crate::parts::Leaf;
 use std::fmt;
 
-// An octet in two hexadecimal digits.
 #[tactic(auto, using(std::proofs::lemmas::Fmt::hex_byte))]
 fn write_octet<W: fmt::Write>(f: &mut fmt::Formatter<W>, octet: u8) -> fmt::Result
     ensures { WritesOnOk W.write_str_gives f.old result (two_digits octet) f.new }
@@ -30,20 +29,8 @@ fn write_colons<W: fmt::Write>(f: &mut fmt::Formatter<W>, octets: &[u8]) -> fmt:
     Ok(())
 }
 
-fn write_escaped<W: fmt::Write>(f: &mut fmt::Formatter<W>, octet: u8) -> fmt::Result
-    ensures { WritesOnOk W.write_str_gives f.old result (escaped octet) f.new }
-{
-    f.write_str("\\x")?;
-    write_octet(f, octet)
-}
-
-fn separates(octet: u8) -> bool
-    ensures { result ≡ separates octet }
-{
-    octet == b':' || octet == b',' || octet == b'>' || octet == b'('
-}
-
-// How a text is written in its line: alone there, with more behind it, or with escapes of its own.
+// What is escaped in a text of a line: a backslash; separators too, since more follows in the line;
+// or neither, since the text has escapes of its own.
 #[derive(Clone, Copy)]
 enum Escape {
     Text,
@@ -58,7 +45,9 @@ impl Escape {
     {
         match self {
             Escape::Text => octet == b'\\',
-            Escape::Inner => octet == b'\\' || separates(octet),
+            Escape::Inner => {
+                octet == b'\\' || octet == b':' || octet == b',' || octet == b'>' || octet == b'('
+            }
             Escape::Printed => false,
         }
     }
@@ -75,7 +64,8 @@ fn write_character<W: fmt::Write>(
     if is_visible && !escape.escapes(octet) {
         f.write_char(char::from(octet))
     } else {
-        write_escaped(f, octet)
+        f.write_str("\\x")?;
+        write_octet(f, octet)
     }
 }
 
@@ -92,31 +82,23 @@ fn write_text<W: fmt::Write>(
     Ok(())
 }
 
-fn write_flag<W: fmt::Write>(f: &mut fmt::Formatter<W>, is_so: bool) -> fmt::Result
-    ensures { WritesOnOk W.write_str_gives f.old result (flag_text is_so) f.new }
-{
-    if is_so {
-        f.write_str("yes")
-    } else {
-        f.write_str("no")
-    }
-}
-
 impl fmt::Display for Leaf<'_> {
     ghost output = { λ it. Some (told_text (leaf_view it)) };
 
     fn fmt<W: fmt::Write>(&self, f: &mut fmt::Formatter<W>) -> fmt::Result {
         match self {
-            Leaf::Text(text) => write_text(f, Escape::Text, text.as_bytes()),
+            Leaf::Text(text) | Leaf::Words(text, _) => {
+                write_text(f, Escape::Text, text.as_bytes())
+            }
             Leaf::Inner(text) => write_text(f, Escape::Inner, text.as_bytes()),
             Leaf::Characters(octets) => write_text(f, Escape::Text, octets),
-            Leaf::Words(said, _) => write_text(f, Escape::Text, said.as_bytes()),
             Leaf::Count(n) => write!(f, "{n}"),
             Leaf::Octets(octets) => write_colons(f, octets),
-            Leaf::Flag(is_so) => write_flag(f, *is_so),
-            Leaf::Own(text) => write_text(f, Escape::Text, text.as_bytes()),
+            Leaf::Flag(is_so) => f.write_str(if *is_so { "yes" } else { "no" }),
+            Leaf::Own(text) | Leaf::Dated(text, _) => {
+                write_text(f, Escape::Text, text.as_bytes())
+            }
             Leaf::Printed(text) => write_text(f, Escape::Printed, text.as_bytes()),
-            Leaf::Dated(said, _) => write_text(f, Escape::Text, said.as_bytes()),
         }
     }
 }
@@ -181,7 +163,7 @@ impl fmt::Display for Heading<'_> {
     }
 }
 
-/// Where a further line of a label starts.
+/// The spaces before a further line of a label.
 #[derive(Drop)]
 pub struct Margin;
 

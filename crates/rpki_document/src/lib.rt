@@ -1,4 +1,4 @@
-//! Documents: what an answer says, once, and its two renderings, as lines for a person and as JSON.
+//! Documents: the content of an answer, rendered as lines for a person and as JSON.
 #![tactic(auto)]
 
 mod as_json;

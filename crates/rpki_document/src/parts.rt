@@ -1,4 +1,4 @@
-//! What a document is made of.
+//! The parts of a document.
 
 /// A value of a document. The text and the JSON of each kind are its two forms.
 #[derive(Drop)]
@@ -16,7 +16,7 @@ pub enum Leaf<'a> {
     Count(u64),
     /// Octets, in hexadecimal with colons between them.
     Octets(&'a [u8]),
-    /// Whether something is so: `yes` or `no`.
+    /// A boolean, in a line `yes` or `no`.
     Flag(bool),
     /// A text that was made for the document, the same in both forms.
     Own(String),
@@ -46,7 +46,7 @@ pub type Parts<'a> = Vec<Part<'a>>;
 /// A part of a document.
 #[derive(Drop)]
 pub enum Part<'a> {
-    /// The head of an answer: a label, a colon, a space, and what it says.
+    /// The head of an answer: a label, a colon, a space, and the pieces.
     Head(&'a str, Vec<Piece<'a>>),
     /// A line, with its label.
     Line(&'a str, Vec<Piece<'a>>),
