@@ -1,6 +1,6 @@
 -- A walk over extensions that gathers what they say.
 use Rattle.std.specs.List.{flat_map}
-use Rattle.std.proofs.Common.{◌≡◌, ℕ, List, [], ◌++◌, Some, None, sym, ap, ◌∙◌, append_assoc, arith}
+use Rattle.std.proofs.Common.{◌≡◌, ℕ, List, ◌++◌, Some, None, sym, ap, ◌∙◌, append_assoc, arith}
 use Rattle.std.proofs.lemmas.List.{append-nil}
 use Rattle.rpki_ext.specs.CertificateExtensions.{ExtensionFields}
 use Rattle.rpki_der.specs.Extensions.{Extension, IsExtension, extension_format}

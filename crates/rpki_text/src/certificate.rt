@@ -1,4 +1,4 @@
-//! What is found of a certificate beyond its fields.
+//! Findings on a certificate beyond its fields.
 ghost use Rattle.std.specs.Prelude.{◌≡◌};
 ghost use Rattle.rpki_text.specs.CertificateTexts.{AreAnswers, AreFindings, answer_for};
 
@@ -43,8 +43,8 @@ impl Answers {
     }
 }
 
-/// What is found of a certificate beyond its fields: its kind, the result of inspection for each
-/// kind, and the form of its key.
+/// Findings on a certificate: its kind, the result of inspection for each kind, and the form of its
+/// key.
 #[derive(Clone, Copy)]
 pub struct Findings {
     pub kind: Kind,
@@ -52,7 +52,7 @@ pub struct Findings {
     pub key: KeyAnswer,
 }
 
-/// Returns what is found of a certificate.
+/// Returns the findings on a certificate.
 pub fn findings_of(cert: &Cert, strict: bool) -> Findings
     ensures { AreFindings strict cert.now result }
 {

@@ -46,7 +46,6 @@ pub fn answer_of_locator(key: &PublicKey) -> KeyAnswer
     }
 }
 
-// The exponent of an RSA key.
 #[derive(Clone, Copy)]
 struct Exponent(Option<u64>);
 
@@ -61,7 +60,6 @@ impl fmt::Display for Exponent {
     }
 }
 
-// The form of a key.
 #[derive(Clone, Copy)]
 struct Form(KeyForm);
 
@@ -84,7 +82,7 @@ impl fmt::Display for Form {
     }
 }
 
-// What is asked of a key with this algorithm.
+// The form that is required of a key with this algorithm.
 #[derive(Clone, Copy)]
 struct Asked(KeyForm);
 

@@ -15,7 +15,7 @@ fn seconds_between(one: Time, other: Time) -> u64
     one.timestamp().abs_diff(other.timestamp())
 }
 
-// So many seconds, in the two units at most that tell them best.
+// A number of seconds, printed in at most two units.
 #[derive(Clone, Copy)]
 struct Duration(u64);
 
@@ -77,10 +77,8 @@ pub fn from_seconds(seconds: u64) -> Option<Time>
     ensures none { seconds < 2 ^ 63
         → IfNone result ((t : Moment) → IsMoment t → timestamp t ≡ pos seconds → ⊥) }
 {
-    match i64::try_from(seconds) {
-        Ok(seconds) => Time::from_timestamp(seconds),
-        Err(_) => None,
-    }
+    let seconds = i64::try_from(seconds).ok()?;
+    Time::from_timestamp(seconds)
 }
 
 // The digits of `YYYY-MM-DD`, and those of midnight.
@@ -94,7 +92,8 @@ fn date_digits(text: &[u8]) -> [u8; 14]
     ]
 }
 
-// The moment of `YYYY-MM-DD`, at midnight.
+// The time of `YYYY-MM-DD`, at midnight.
+#[tactic(auto, using(crate::proofs::DigitPlaces::no_date))]
 fn from_date(text: &[u8]) -> Option<Time>
     ensures some { IfSome result (λ t. IsMoment t × IsDateText t text.now) }
     ensures none { IfNone result ((t : Moment) → IsMoment t → IsDateText t text.now → ⊥) }
@@ -106,7 +105,7 @@ fn from_date(text: &[u8]) -> Option<Time>
     Time::from_digits(&digits)
 }
 
-// Whether the marks between the digits of `YYYY-MM-DDThh:mm:ssZ` stand in their places.
+// Whether the marks between the digits of `YYYY-MM-DDThh:mm:ssZ` are in their places.
 fn has_marks(text: &[u8]) -> bool
     ensures { IsTrue result ↔ HasMarks text.now }
 {
@@ -130,7 +129,7 @@ fn all_digits(text: &[u8]) -> [u8; 14]
     ]
 }
 
-// The moment of `YYYY-MM-DDThh:mm:ssZ`.
+// The time of `YYYY-MM-DDThh:mm:ssZ`.
 fn from_date_and_clock(text: &[u8]) -> Option<Time>
     ensures some { IfSome result (λ t. IsMoment t × (text.now ≡ time_text t)) }
     ensures none { IfNone result ((t : Moment) → IsMoment t → text.now ≡ time_text t → ⊥) }

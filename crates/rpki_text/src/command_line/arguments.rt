@@ -17,7 +17,7 @@ use std::fmt;
 /// The words that name a command.
 const COMMANDS: &str = "show, validate, tree, prepare, complete, help or --version";
 
-/// The most octets that a file may have, where the command line doesn't say it: 64 MiB.
+/// The most bytes of a file, unless the command line says it: 64 MiB.
 const USUAL_SIZE: u64 = 67_108_864;
 
 /// The three commands, and the two texts about them.
@@ -121,7 +121,6 @@ pub enum Misuse<'a> {
     Memory,
 }
 
-// An option by its name.
 fn name_of(setting: Setting) -> &'static str
     ensures { result.now ≡ setting_name setting }
 {
@@ -139,7 +138,6 @@ fn name_of(setting: Setting) -> &'static str
     }
 }
 
-// What a value of the option is called.
 fn value_kind(setting: Setting) -> &'static str
     ensures { result.now ≡ value_kind setting }
 {
@@ -153,7 +151,6 @@ fn value_kind(setting: Setting) -> &'static str
     }
 }
 
-// Which values the option takes.
 fn expected_value(setting: Setting) -> &'static str
     ensures { result.now ≡ expected_value setting }
 {
@@ -168,7 +165,7 @@ fn expected_value(setting: Setting) -> &'static str
     }
 }
 
-// That a value isn't one of the option, and which it takes.
+// Writes the error of a value that the option doesn't accept.
 fn write_wrong<W: fmt::Write>(
     f: &mut fmt::Formatter<W>,
     setting: Setting,
@@ -231,7 +228,7 @@ impl fmt::Display for Misuse<'_> {
     }
 }
 
-// A task, and nothing more.
+// A request with no option and no file.
 fn new_request<'a>(alloc: Global, task: Task) -> Request<'a>
     ensures { fields_of result ≡ only_task task }
 {

@@ -7,7 +7,7 @@ ghost use Rattle.rpki_text.specs.Misuses.{IsExtra, IsLeftOutBy, IsOfTree, IsReas
 use crate::command_line::arguments::{Misuse, Request, Task};
 use crate::command_line::parts::is;
 
-// The option by which TAL or CRLs are left out, where one is given.
+// The option that leaves out TALs or CRLs, if one is given.
 fn left_out(request: &Request<'_>) -> Option<&'static [u8]>
     ensures { let r = fields_of request.now in
         MatchOption result (LeavesNothingOut r) (λ name. IsLeftOutBy name.now r) }
@@ -21,7 +21,7 @@ fn left_out(request: &Request<'_>) -> Option<&'static [u8]>
     None
 }
 
-// An option that only a tree takes, where one is given.
+// An option that only `tree` accepts, if one is given.
 fn only_of_tree(request: &Request<'_>) -> Option<&'static [u8]>
     ensures { let r = fields_of request.now in
         MatchOption result (AsksNoTree r) (λ name. IsOfTree name.now r) }
@@ -35,56 +35,48 @@ fn only_of_tree(request: &Request<'_>) -> Option<&'static [u8]>
     None
 }
 
-// An option that only validating takes, where one is given.
+// An option that `show` doesn't accept and validating does, if one is given.
 fn only_validating(request: &Request<'_>) -> Option<&'static [u8]>
     ensures { let r = fields_of request.now in
         MatchOption result (AsksNoPath r) (λ name. IsExtra Task.Show name.now r) }
 {
     if !request.lists.is_empty() {
-        return Some(b"--crl".as_slice());
+        Some(b"--crl".as_slice())
+    } else if !request.locators.is_empty() {
+        Some(b"--tal".as_slice())
+    } else if !request.folders.is_empty() {
+        Some(b"--in".as_slice())
+    } else if !request.names {
+        Some(b"--no-names".as_slice())
+    } else if let Some(name) = left_out(request) {
+        Some(name)
+    } else if request.depth.is_some() {
+        Some(b"--depth".as_slice())
+    } else if request.steps.is_some() {
+        Some(b"--steps".as_slice())
+    } else {
+        None
     }
-    if !request.locators.is_empty() {
-        return Some(b"--tal".as_slice());
-    }
-    if !request.folders.is_empty() {
-        return Some(b"--in".as_slice());
-    }
-    if !request.names {
-        return Some(b"--no-names".as_slice());
-    }
-    if let Some(name) = left_out(request) {
-        return Some(name);
-    }
-    if request.depth.is_some() {
-        return Some(b"--depth".as_slice());
-    }
-    if request.steps.is_some() {
-        return Some(b"--steps".as_slice());
-    }
-    None
 }
 
-// What doesn't suit a tree: an option that it doesn't take, or that there is no locator.
+// The error of a request for `tree`: an option that it doesn't accept, or no TAL.
 fn misuse_of_tree(request: &Request<'_>) -> Option<Misuse<'static>>
     ensures { let r = fields_of request.now in
         MatchOption result (AsksTree r) (λ misuse. IsReason misuse Task.Tree r) }
 {
     if !request.lists.is_empty() {
-        return Some(Misuse::Unknown(b"--crl".as_slice()));
+        Some(Misuse::Unknown(b"--crl".as_slice()))
+    } else if !request.folders.is_empty() {
+        Some(Misuse::Unknown(b"--in".as_slice()))
+    } else if request.all {
+        Some(Misuse::Unknown(b"--all".as_slice()))
+    } else if let Some(name) = left_out(request) {
+        Some(Misuse::Unknown(name))
+    } else if request.locators.is_empty() {
+        Some(Misuse::NoLocator)
+    } else {
+        None
     }
-    if !request.folders.is_empty() {
-        return Some(Misuse::Unknown(b"--in".as_slice()));
-    }
-    if request.all {
-        return Some(Misuse::Unknown(b"--all".as_slice()));
-    }
-    if let Some(name) = left_out(request) {
-        return Some(Misuse::Unknown(name));
-    }
-    if request.locators.is_empty() {
-        return Some(Misuse::NoLocator);
-    }
-    None
 }
 
 // Whether one of the names is that of standard input.
@@ -99,7 +91,7 @@ fn names_input(names: &[&[u8]]) -> bool
     false
 }
 
-// Whether the file that is sought, a folder or a locator is standard input.
+// Whether a file, a directory or a TAL is standard input.
 fn reads_input(request: &Request<'_>) -> bool
     ensures { IsTrue result ↔ ReadsInput (fields_of request.now) }
 {
@@ -112,28 +104,25 @@ fn reads_input(request: &Request<'_>) -> bool
     names_input(&request.locators)
 }
 
-// What doesn't suit a path that is sought: that there isn't one file alone, that lists are given,
-// that there is no locator, or that standard input would be read twice.
+// The error of a search for a path: not exactly one file, a CRL, no TAL, or standard input.
 fn misuse_of_search(request: &Request<'_>) -> Option<Misuse<'static>>
     ensures { let r = fields_of request.now in MatchOption result (AsksSearch r)
         (λ misuse. r.folders ≢ [] → IsReason misuse Task.Validate r) }
 {
     if request.files.len() != 1 {
-        return Some(Misuse::OneFile);
+        Some(Misuse::OneFile)
+    } else if !request.lists.is_empty() {
+        Some(Misuse::ListsIn)
+    } else if request.locators.is_empty() {
+        Some(Misuse::NoLocatorIn)
+    } else if reads_input(request) {
+        Some(Misuse::InputIn)
+    } else {
+        None
     }
-    if !request.lists.is_empty() {
-        return Some(Misuse::ListsIn);
-    }
-    if request.locators.is_empty() {
-        return Some(Misuse::NoLocatorIn);
-    }
-    if reads_input(request) {
-        return Some(Misuse::InputIn);
-    }
-    None
 }
 
-// What doesn't suit the folders in which a path is sought, or that there are none.
+// The error of a search in directories, or of its limits without directories.
 fn misuse_of_folders(request: &Request<'_>) -> Option<Misuse<'static>>
     ensures { let r = fields_of request.now in
         MatchOption result (SuitsFolders r.folders r) (λ misuse. IsReason misuse Task.Validate r) }
@@ -147,7 +136,7 @@ fn misuse_of_folders(request: &Request<'_>) -> Option<Misuse<'static>>
     None
 }
 
-// That it isn't said once what the trust anchor is compared with.
+// The error of neither or both options for the trust anchor.
 fn misuse_of_anchor(request: &Request<'_>) -> Option<Misuse<'static>>
     ensures { let r = fields_of request.now in
         MatchOption result (SaysAnchor r) (λ misuse. IsReason misuse Task.Validate r) }
@@ -172,8 +161,7 @@ fn misuse_of_lists(request: &Request<'_>) -> Option<Misuse<'static>>
     }
 }
 
-// What doesn't suit a path: an option that it doesn't take, what its folders don't suit, or that it
-// isn't said what is checked.
+// The error of a request to validate.
 fn misuse_of_path(request: &Request<'_>) -> Option<Misuse<'static>>
     ensures { let r = fields_of request.now in MatchOption result
         ((r.all_entries ≡ false) × SuitsFolders r.folders r × SaysAnchor r × SaysLists r
@@ -181,24 +169,21 @@ fn misuse_of_path(request: &Request<'_>) -> Option<Misuse<'static>>
         (λ misuse. IsReason misuse Task.Validate r) }
 {
     if request.all {
-        return Some(Misuse::Unknown(b"--all".as_slice()));
+        Some(Misuse::Unknown(b"--all".as_slice()))
+    } else if let Some(misuse) = misuse_of_folders(request) {
+        Some(misuse)
+    } else if let Some(misuse) = misuse_of_anchor(request) {
+        Some(misuse)
+    } else if let Some(misuse) = misuse_of_lists(request) {
+        Some(misuse)
+    } else if let Some(name) = only_of_tree(request) {
+        Some(Misuse::Unknown(name))
+    } else {
+        None
     }
-    if let Some(misuse) = misuse_of_folders(request) {
-        return Some(misuse);
-    }
-    if let Some(misuse) = misuse_of_anchor(request) {
-        return Some(misuse);
-    }
-    if let Some(misuse) = misuse_of_lists(request) {
-        return Some(misuse);
-    }
-    if let Some(name) = only_of_tree(request) {
-        return Some(Misuse::Unknown(name));
-    }
-    None
 }
 
-// What doesn't suit the task: an option that it doesn't take, or that there is no file.
+// The error of a request: an option that its command doesn't accept, or no file.
 pub(crate) fn misuse_of(request: &Request<'_>) -> Option<Misuse<'static>>
     ensures suits { IfNone result (Suits request.now.task (fields_of request.now)) }
     ensures told { IfSome result

@@ -1,4 +1,4 @@
-//! What the words behind the task say, added to a request.
+//! Adds the words after the command to a request.
 ghost use Rattle.std.specs.Prelude.{◌≡◌, ◌≢◌, ℕ, List, [], ◌∷◌, ◌++◌, map, IfSome, IfNone, MatchOption, OnOk, IfOk, IfErr};
 ghost use Rattle.std.specs.Bool.{OnTrue, OnFalse};
 ghost use Rattle.rpki_text.specs.CommandLines.{IsFormatName, IsTaskName, IsCountText, IsPart, IsSwitch, LinePart, setting_name, with_files, with_part};
@@ -34,7 +34,7 @@ pub(crate) fn task_of(word: &[u8]) -> Option<Task>
     }
 }
 
-// The option that takes a value and has this name.
+// The option with a value that has this name.
 fn setting_of(word: &[u8]) -> Option<Setting>
     ensures named { IfSome result (λ setting. IsOptionName setting word.now) }
     ensures unknown { IfNone result ((setting : Setting) → IsOptionName setting word.now → ⊥) }
@@ -64,22 +64,18 @@ fn setting_of(word: &[u8]) -> Option<Setting>
     }
 }
 
-// The option and its value that a word gives with `=` between them.
+// The option and its value in a word `OPTION=VALUE`.
 fn joined<'a>(word: &'a [u8]) -> Option<(Setting, &'a [u8])>
     ensures joined { IfSome result (λ found. Joins (setting_name found.0) found.1.now word.now) }
     ensures unknown { IfNone result
         ((setting : Setting) (value : List ℕ) → Joins (setting_name setting) value word.now → ⊥) }
 {
-    let Some(place) = place_of_equals(word) else {
-        return None;
-    };
-    match setting_of(&word[..place]) {
-        Some(setting) => Some((setting, &word[place + 1..])),
-        None => None,
-    }
+    let place = place_of_equals(word)?;
+    let setting = setting_of(&word[..place])?;
+    Some((setting, &word[place + 1..]))
 }
 
-// The number below 2^64 that a text of decimal digits is.
+// The number below 2^64 in decimal digits.
 fn number_of(text: &[u8]) -> Option<u64>
     ensures { MatchOption result ((n : ℕ) → IsCountText n text.now → ⊥)
         (λ n. IsCountText n text.now) }
@@ -93,7 +89,8 @@ fn number_of(text: &[u8]) -> Option<u64>
     digits.parse::<u64>().ok()
 }
 
-// The number that the value of an option says.
+// The number that is the value of an option.
+#[tactic(auto, using(crate::proofs::WrongWords::no_number, crate::proofs::WrongWords::value_told))]
 fn count_of<'a>(setting: Setting, text: &'a [u8]) -> Result<usize, Misuse<'a>>
     ensures number { IfOk result (λ n. IsCountText n text.now) }
     ensures told { IfErr result (λ e. IsBound setting → TellsValue e setting text.now) }
@@ -104,7 +101,6 @@ fn count_of<'a>(setting: Setting, text: &'a [u8]) -> Result<usize, Misuse<'a>>
     }
 }
 
-// The format that a text names.
 fn format_of(text: &[u8]) -> Option<Format>
     ensures named { IfSome result (λ format. IsFormatName format text.now) }
     ensures unknown { IfNone result ((format : Format) → IsFormatName format text.now → ⊥) }
@@ -120,7 +116,6 @@ fn format_of(text: &[u8]) -> Option<Format>
     }
 }
 
-// Adds a file's name.
 fn push_name<'a>(names: &mut Vec<&'a [u8]>, name: &'a [u8]) -> Added<'a>
     ensures added { OnOk result (map (λ n. n.now) names.new.items
         ≡ map (λ n. n.now) names.old.items ++ name.now ∷ []) }
@@ -132,7 +127,7 @@ fn push_name<'a>(names: &mut Vec<&'a [u8]>, name: &'a [u8]) -> Added<'a>
     }
 }
 
-// Adds what an option without a value says; false where the word is no such option.
+// Adds an option without a value. Returns false if the word isn't one.
 fn switch(request: &mut Request<'_>, word: &[u8]) -> bool
     ensures added { let adds = AddsPart IsPart with_part (word.now ∷ []) in
         OnTrue result (adds (fields_of request.old) (fields_of request.new)) }
@@ -140,44 +135,37 @@ fn switch(request: &mut Request<'_>, word: &[u8]) -> bool
 {
     if is(word, "--lenient") {
         request.strict = false;
-        return true;
-    }
-    if is(word, "--json") || is(word, "-j") {
+        true
+    } else if is(word, "--json") || is(word, "-j") {
         request.format = Format::Json;
-        return true;
-    }
-    if is(word, "--quiet") || is(word, "-q") {
+        true
+    } else if is(word, "--quiet") || is(word, "-q") {
         request.quiet = true;
-        return true;
-    }
-    if is(word, "--all") {
+        true
+    } else if is(word, "--all") {
         request.all = true;
-        return true;
-    }
-    if is(word, "--no-names") {
+        true
+    } else if is(word, "--no-names") {
         request.names = false;
-        return true;
-    }
-    if is(word, "--trust-first") {
+        true
+    } else if is(word, "--trust-first") {
         request.trust_first = true;
-        return true;
-    }
-    if is(word, "--no-crl") {
+        true
+    } else if is(word, "--no-crl") {
         request.no_crl = true;
-        return true;
-    }
-    if is(word, "--strict-exit") {
+        true
+    } else if is(word, "--strict-exit") {
         request.strict_exit = true;
-        return true;
-    }
-    if is(word, "--help") || is(word, "-h") {
+        true
+    } else if is(word, "--help") || is(word, "-h") {
         request.task = Task::Help;
-        return true;
+        true
+    } else {
+        false
     }
-    false
 }
 
-// Adds the format that the value of an option names.
+#[tactic(auto, using(crate::proofs::WrongWords::no_format, crate::proofs::WrongWords::value_told))]
 fn add_format<'a>(request: &mut Request<'a>, setting: Setting, text: &'a [u8]) -> Added<'a>
     ensures added { OnOk result
         (AddsSet Setting.Output text.now (fields_of request.old) (fields_of request.new)) }
@@ -192,7 +180,8 @@ fn add_format<'a>(request: &mut Request<'a>, setting: Setting, text: &'a [u8]) -
     }
 }
 
-// Adds how many octets a file may have, which a text says.
+// Adds the most bytes of a file.
+#[tactic(auto, using(crate::proofs::WrongWords::no_size, crate::proofs::WrongWords::value_told))]
 fn add_size<'a>(request: &mut Request<'a>, text: &'a [u8]) -> Added<'a>
     ensures added { OnOk result
         (AddsSet Setting.MaxSize text.now (fields_of request.old) (fields_of request.new)) }
@@ -207,7 +196,8 @@ fn add_size<'a>(request: &mut Request<'a>, text: &'a [u8]) -> Added<'a>
     }
 }
 
-// Adds that only certificates that aren't accepted are printed, if a text says it.
+// Adds that only certificates that aren't accepted are printed.
+#[tactic(auto, using(crate::proofs::WrongWords::not_only, crate::proofs::WrongWords::value_told))]
 fn add_only<'a>(request: &mut Request<'a>, text: &'a [u8]) -> Added<'a>
     ensures added { OnOk result
         (AddsSet Setting.Only text.now (fields_of request.old) (fields_of request.new)) }
@@ -220,7 +210,7 @@ fn add_only<'a>(request: &mut Request<'a>, text: &'a [u8]) -> Added<'a>
     Err(Misuse::WrongValue(Setting::Only, text))
 }
 
-// Adds what an option with its value says.
+// Adds an option with its value.
 fn add_set<'a>(request: &mut Request<'a>, setting: Setting, value: &'a [u8]) -> Added<'a>
     ensures added { OnOk result
         (AddsSet setting value.now (fields_of request.old) (fields_of request.new)) }
@@ -272,7 +262,7 @@ fn add_word<'a>(request: &mut Request<'a>, word: &'a [u8]) -> Added<'a>
     }
 }
 
-// Adds what the words before `--` say.
+// Adds the words before `--`.
 pub(crate) fn add_words<'a>(request: &mut Request<'a>, words: &'a [Vec<u8>]) -> Added<'a>
     ensures added { let adds = AddsParts IsPart with_part (word_octets words.now) in
         OnOk result (adds (fields_of request.old) (fields_of request.new)) }
@@ -298,7 +288,7 @@ pub(crate) fn add_words<'a>(request: &mut Request<'a>, words: &'a [Vec<u8>]) -> 
     }
 }
 
-// Adds the files that the words behind `--` are.
+// Adds the words after `--`, which are files.
 pub(crate) fn add_files<'a>(request: &mut Request<'a>, words: &'a [Vec<u8>]) -> Added<'a>
     ensures added { OnOk result
         (fields_of request.new ≡ with_files (fields_of request.old) (word_octets words.now)) }

@@ -16,9 +16,9 @@ use rpki_der::{Cursor, oid, tag};
 pub(crate) enum Method {
     SignedObject,
     RpkiNotify,
-    // It, with a URI of another scheme than https.
+    // rpkiNotify, with a URI of another scheme than https.
     NotifyElsewhere,
-    // None of those that are known.
+    // A method that isn't known.
     Unknown,
 }
 
@@ -48,7 +48,7 @@ fn is_elsewhere(uri: &[u8]) -> bool
     !are_alike(scheme, b"https://")
 }
 
-// Whether the URI that stands first has another scheme than https.
+// Whether the first URI has another scheme than https.
 fn has_uri_elsewhere(location: &Cursor<'_>) -> bool
     ensures { result ≡ uri_elsewhere (value_at (CONTEXT 6) (remaining location.now)) }
 {
@@ -71,7 +71,7 @@ impl Method {
         }
     }
 
-    // Whether a location is one that is asked for with the method.
+    // Whether a location suits the method.
     fn suits(self, location: &Cursor<'_>) -> bool
         ensures { result ≡ suits_method self (remaining location.now) }
     {
@@ -93,7 +93,7 @@ impl Method {
     }
 }
 
-// Whether so many of the descriptions, one after the other, have the method, or more.
+// Whether at least so many of the descriptions have the method.
 fn are_at_least(descriptions: &Cursor<'_>, times: usize, method: Method) -> bool
     ensures { let values = values_in (value_at SEQUENCE) (remaining descriptions.now) in
         IsTrue result ↔ times ≤ count_by (has_method method) values }

@@ -11,7 +11,7 @@ use rpki_cert::TbsCert;
 use rpki_der::{Cursor, EncodeError, Piece, take_extension};
 use std::alloc::{AllocError, Global};
 
-// A cursor over the content of the extension that the octets are; where there are none, over none.
+// A cursor over the content of an encoded extension, or over no octets if there is none.
 fn content_of(octets: &Bytes) -> Cursor<'_>
     requires { IsExtensionOrNone octets.now }
     ensures { IsContentOf octets.now (remaining result) }
@@ -42,7 +42,7 @@ fn kept(written: Vec<u8>, answer: Result<(), EncodeError>) -> Result<Bytes, Allo
     Ok(octets)
 }
 
-// The content of the extension that the octets are; where there are none, no octets.
+// The content of an encoded extension, or no octets if there is none.
 fn kept_content(alloc: Global, octets: &Bytes) -> Result<Piece, AllocError>
     requires { IsExtensionOrNone octets.now }
     ensures { IfOk result (λ content. IsContentOf octets.now content) }
@@ -53,7 +53,7 @@ fn kept_content(alloc: Global, octets: &Bytes) -> Result<Piece, AllocError>
     }
 }
 
-// The extension that is written of a certificate's IP resources; no octets where there is none.
+// The encoded extension of a certificate's IP resources, or no octets if there is none.
 fn ip_extension(alloc: Global, tbs: &TbsCert) -> Result<Bytes, AllocError>
     ensures { IfOk result (IsExtensionOf (canonical_addresses tbs.now.extensions)) }
 {
@@ -63,7 +63,7 @@ fn ip_extension(alloc: Global, tbs: &TbsCert) -> Result<Bytes, AllocError>
     kept(written, answer)
 }
 
-// The extension that is written of a certificate's AS resources; no octets where there is none.
+// The encoded extension of a certificate's AS resources, or no octets if there is none.
 fn as_extension(alloc: Global, tbs: &TbsCert) -> Result<Bytes, AllocError>
     ensures { IfOk result (IsExtensionOf (canonical_systems tbs.now.extensions)) }
 {

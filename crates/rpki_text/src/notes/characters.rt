@@ -13,7 +13,6 @@ use rpki_der::{Cursor, tag};
 // The characters beside letters and digits that a PrintableString may have (X.680 41.4).
 const OTHERS: &[u8] = b" '()+,-./:=?";
 
-// Whether the octet is one of these, or between them.
 fn is_between(octet: u8, first: u8, last: u8) -> bool
     ensures { result ≡ is_between octet first last }
 {
@@ -37,7 +36,7 @@ fn is_printable(octet: u8) -> bool
         || is_one_of(octet, OTHERS)
 }
 
-// Whether a string has another character than those.
+// Whether a string has a character that a PrintableString may not have.
 fn has_other(string: &[u8]) -> bool
     ensures { result ≡ list_any (λ c. not (is_printable c)) string.now }
 {
@@ -94,7 +93,7 @@ fn is_misprinted(name: Option<(Cursor<'_>, Cursor<'_>)>) -> bool
     }
 }
 
-/// Tells whether a name of the certificate that the octets begin with has a character that its
+/// Returns whether a name of the certificate that the octets start with has a character that its
 /// PrintableString doesn't allow.
 pub(crate) fn has_other_characters(octets: &Bytes) -> bool
     ensures { IsTrue result ↔ HasOtherCharacters octets.now }

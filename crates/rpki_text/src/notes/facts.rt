@@ -6,7 +6,7 @@ ghost use Rattle.rpki_der.specs.Extensions.{Extension, IsExtension};
 ghost use Rattle.rpki_der.specs.Extensions.Views.{extension_view};
 ghost use Rattle.rpki_der.specs.Place.{remaining};
 ghost use Rattle.rpki_der.specs.Sequences.{AreEncodings};
-ghost use Rattle.rpki_text.specs.Facts.{AreFacts, fact_view, facts_in, facts_of, known_facts, source_of, statement_at, statement_facts, uri_by};
+ghost use Rattle.rpki_text.specs.Facts.{AreFacts, fact_view, facts_in, facts_of, known_facts, source_of, statement_at, statement_facts};
 ghost use Rattle.rpki_text.specs.Qualifiers.{id_qt_cps};
 
 use crate::notes::contents::{content, next_extension};
@@ -19,7 +19,7 @@ use rpki_ext::is_known;
 use rpki_files::{Object, extensions_in};
 use std::alloc::{AllocError, Global};
 
-// id-qt-cps, the qualifier that is a statement of practices (RFC 5280 4.2.1.4).
+// id-qt-cps, the qualifier that is a practice statement (RFC 5280 4.2.1.4).
 const QT_CPS: &[u8] = &[0x2b, 0x06, 0x01, 0x05, 0x05, 0x07, 0x02, 0x01];
 
 const IA5_STRING: u8 = 0x16;
@@ -31,14 +31,7 @@ pub(crate) fn is_cps(kind: &Cursor<'_>) -> bool
     kind.rest() == QT_CPS
 }
 
-// The URI of a qualifier, where that is a statement of practices.
-fn uri_of<'a>(kind: &Cursor<'a>, uri: &Cursor<'a>) -> Option<&'a [u8]>
-    ensures { option_map (λ octets. octets.now) result ≡ uri_by (remaining kind.now) (remaining uri.now) }
-{
-    if is_cps(kind) { Some(uri.rest()) } else { None }
-}
-
-// The URI of the statement of practices in the content of Certificate Policies.
+// The URI of the practice statement in the content of Certificate Policies.
 #[tactic(auto, unfolding(crate::specs::Facts::statement_at))]
 fn statement_in<'a>(policies: &Cursor<'a>) -> Option<&'a [u8]>
     ensures { option_map (λ uri. uri.now) result ≡ statement_at (remaining policies.now) }
@@ -51,10 +44,14 @@ fn statement_in<'a>(policies: &Cursor<'a>) -> Option<&'a [u8]>
     let mut qualifier = content(&mut qualifiers, tag::SEQUENCE)?;
     let kind = content(&mut qualifier, tag::OBJECT_IDENTIFIER)?;
     let uri = content(&mut qualifier, IA5_STRING)?;
-    uri_of(&kind, &uri)
+    if is_cps(&kind) {
+        Some(uri.rest())
+    } else {
+        None
+    }
 }
 
-// Adds the statement of practices, where there is one.
+// Adds the practice statement, if there is one.
 fn put_statement<'a>(facts: &mut Facts<'a>, policies: &Cursor<'a>) -> Put
     ensures { let more = statement_facts (statement_at (remaining policies.now)) in
         OnOk result (map fact_view facts.new.items ≡ map fact_view facts.old.items ++ more) }
@@ -65,7 +62,7 @@ fn put_statement<'a>(facts: &mut Facts<'a>, policies: &Cursor<'a>) -> Put
     }
 }
 
-/// What is read of an extension of a known kind.
+/// The kinds of known extensions that have facts.
 #[derive(Clone, Copy)]
 pub(crate) enum Source {
     Policies,
@@ -76,7 +73,6 @@ pub(crate) enum Source {
 }
 
 impl Source {
-    // What is looked at in an extension with this identifier.
     fn of(identifier: &[u8]) -> Source
         ensures { result ≡ source_of identifier.now }
     {
@@ -94,7 +90,7 @@ impl Source {
     }
 }
 
-// Adds what the content of an extension of a known kind says.
+// Adds the facts in the content of an extension of a known kind.
 fn put_known<'a>(facts: &mut Facts<'a>, tbs: &TbsCert, source: Source, content: &Cursor<'a>) -> Put
     ensures { let more = known_facts tbs.now.extensions source (remaining content.now) in
         OnOk result (map fact_view facts.new.items ≡ map fact_view facts.old.items ++ more) }
@@ -114,7 +110,7 @@ fn put_known<'a>(facts: &mut Facts<'a>, tbs: &TbsCert, source: Source, content: 
     }
 }
 
-// Adds what an extension says.
+// Adds the facts of an extension.
 fn put_extension<'a>(
     facts: &mut Facts<'a>,
     tbs: &TbsCert,
@@ -131,7 +127,7 @@ fn put_extension<'a>(
     }
 }
 
-// What the extensions of a sequence say beside these fields.
+// The facts of the extensions in a sequence, beside these fields.
 fn facts_among<'a>(
     alloc: Global,
     tbs: &TbsCert,
@@ -148,7 +144,7 @@ fn facts_among<'a>(
     Ok(facts)
 }
 
-// What the extensions say of the certificate that these octets begin with.
+// The facts of the certificate that the octets start with.
 fn facts_within<'a>(alloc: Global, octets: &'a Bytes, cert: &Cert) -> Result<Facts<'a>, AllocError>
     requires { Means IsCertificate cert.now octets.now }
     ensures { IfOk result (λ facts. AreFacts octets.now (map fact_view facts.items)) }

@@ -27,13 +27,13 @@ pub(crate) enum Kinds {
     Policies,
 }
 
-/// What may be wrong with an extension.
+/// An error in an extension.
 #[derive(Clone, Copy)]
 pub(crate) enum Fault {
     NotCritical,
     OtherContent,
     NotOneValue,
-    // So many descriptions have the method, or more.
+    // At least so many descriptions have the method.
     AtLeast(usize, Method),
     OtherQualifiers,
 }
@@ -83,8 +83,8 @@ fn is_one_value(octets: &Cursor<'_>) -> bool
 }
 
 impl Fault {
-    // Whether an extension with this flag and content has the fault, where another content is
-    // written of it.
+    // Whether an extension with this flag and content has the error. `written` is the content that
+    // it should have.
     fn is_in(self, written: &[u8], critical: bool, content: &Cursor<'_>) -> bool
         ensures { (x : Extension) → x.critical ≡ critical → x.content ≡ remaining content.now
             → (IsTrue result ↔ HasFault self written.now x) }

@@ -10,7 +10,7 @@ use bytes::Bytes;
 use rpki_der::{Cursor, tag};
 use rpki_files::extensions_in;
 
-// What the flag of an extension has, if it is stated.
+// The content of an extension's flag, if it is stated.
 #[tactic(auto, unfolding(crate::specs::Notes::flag_at))]
 fn flag_in<'a>(extension: &Cursor<'a>) -> Option<Cursor<'a>>
     ensures { option_map remaining result ≡ flag_at (remaining extension.now) }
@@ -36,7 +36,7 @@ impl Test for StatedFalse {
     }
 }
 
-/// Tells whether an extension of the certificate that the octets begin with states FALSE, the
+/// Returns whether an extension of the certificate that the octets start with states FALSE, the
 /// default of its flag.
 pub(crate) fn states_false(octets: &Bytes) -> bool
     ensures { (xs : List Extension) → HaveExtensions xs octets.now

@@ -31,7 +31,7 @@ fn is_kept(kept: Option<&[u8]>, uri: &[u8]) -> bool
     }
 }
 
-// Adds a URI, where it isn't the one that is kept.
+// Adds a URI, if it isn't the one that is kept.
 fn put_further<'a>(facts: &mut Facts<'a>, kind: FactKind, kept: Option<&[u8]>, uri: &'a [u8]) -> Put
     ensures { let more = further_if kind (option_copied kept.entry) uri.now in
         OnOk result (map fact_view facts.new.items ≡ map fact_view facts.old.items ++ more) }
@@ -72,7 +72,7 @@ fn point_names<'a>(points: &Cursor<'a>) -> Option<Cursor<'a>>
     content(&mut name, tag::CONTEXT_CONSTRUCTED)
 }
 
-// The names behind the method of the description.
+// The names after the method of the description.
 #[tactic(auto, unfolding(crate::specs::Facts::issuer_names))]
 fn issuer_names<'a>(descriptions: &Cursor<'a>) -> Option<Cursor<'a>>
     ensures { option_map remaining result ≡ issuer_names (remaining descriptions.now) }
@@ -112,28 +112,36 @@ pub(crate) fn put_issuers<'a>(
     }
 }
 
-// Of a method that readers know: of which kind its further URIs are, and the URI that is kept.
+// The kind of a known method's further URIs, and the URI that is kept.
 fn kept_by<'a>(tbs: &'a TbsCert, method: &[u8]) -> Option<(FactKind, Option<&'a [u8]>)>
     ensures { option_map kept_view result ≡ kept_by tbs.now.extensions.access method.now }
 {
     if method == oid::AD_CA_REPOSITORY {
-        let kept = tbs.ca_repository().map(|uri| uri.as_bytes());
-        Some((FactKind::FurtherRepository, kept))
+        Some((
+            FactKind::FurtherRepository,
+            tbs.ca_repository().map(|uri| uri.as_bytes()),
+        ))
     } else if method == oid::AD_RPKI_MANIFEST {
-        let kept = tbs.rpki_manifest().map(|uri| uri.as_bytes());
-        Some((FactKind::FurtherManifest, kept))
+        Some((
+            FactKind::FurtherManifest,
+            tbs.rpki_manifest().map(|uri| uri.as_bytes()),
+        ))
     } else if method == oid::AD_SIGNED_OBJECT {
-        let kept = tbs.signed_object().map(|uri| uri.as_bytes());
-        Some((FactKind::FurtherObject, kept))
+        Some((
+            FactKind::FurtherObject,
+            tbs.signed_object().map(|uri| uri.as_bytes()),
+        ))
     } else if method == oid::AD_RPKI_NOTIFY {
-        let kept = tbs.rpki_notify().map(|uri| uri.as_bytes());
-        Some((FactKind::FurtherNotify, kept))
+        Some((
+            FactKind::FurtherNotify,
+            tbs.rpki_notify().map(|uri| uri.as_bytes()),
+        ))
     } else {
         None
     }
 }
 
-// Adds the URI that stands first, where it isn't the one that is kept.
+// Adds the first URI, if it isn't the one that is kept.
 fn put_first<'a>(
     facts: &mut Facts<'a>,
     kind: FactKind,
@@ -151,7 +159,7 @@ fn put_first<'a>(
     }
 }
 
-// Adds the location behind a method that is known, or an unknown method and its URI.
+// Adds the location of a known method, or an unknown method and its URI.
 fn put_location<'a>(
     facts: &mut Facts<'a>,
     kept: Option<(FactKind, Option<&[u8]>)>,
@@ -171,7 +179,7 @@ fn put_location<'a>(
     }
 }
 
-// Adds what a description says: a method and a location.
+// Adds the facts of a description: a method and a location.
 fn put_description<'a>(facts: &mut Facts<'a>, tbs: &TbsCert, description: &Cursor<'a>) -> Put
     ensures { let more = description_facts tbs.now.extensions.access (remaining description.now) in
         OnOk result (map fact_view facts.new.items ≡ map fact_view facts.old.items ++ more) }
@@ -186,7 +194,7 @@ fn put_description<'a>(facts: &mut Facts<'a>, tbs: &TbsCert, description: &Curso
     }
 }
 
-// Adds what descriptions say, one after the other.
+// Adds the facts of each description.
 fn put_descriptions<'a>(facts: &mut Facts<'a>, tbs: &TbsCert, descriptions: &Cursor<'a>) -> Put
     ensures { let access = tbs.now.extensions.access in
         let more = descriptions_facts access (remaining descriptions.now) in

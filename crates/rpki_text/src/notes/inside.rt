@@ -1,4 +1,4 @@
-//! A test of what values have that follow one another.
+//! A test of the contents of values.
 ghost use Rattle.std.specs.List.{list_any};
 ghost use Rattle.std.specs.Prelude.{◌≡◌, ℕ, List, Bool};
 ghost use Rattle.rpki_der.specs.Place.{remaining};
@@ -8,7 +8,7 @@ ghost use Rattle.rpki_parts.specs.NameTexts.Reading.{values_in};
 use crate::notes::contents::content;
 use rpki_der::Cursor;
 
-/// A test of what a value has.
+/// A test of a value's content.
 pub(crate) trait Test {
     ghost passes: { List ℕ → Bool };
 
@@ -17,7 +17,7 @@ pub(crate) trait Test {
         ensures { result ≡ passes (remaining inside.now) };
 }
 
-/// Tells whether what one of the values with this identifier octet has passes the test.
+/// Returns whether the content of a value with this identifier octet passes the test.
 pub(crate) fn has_any<T: Test>(values: &Cursor<'_>, identifier: u8) -> bool
     ensures { let inside = values_in (value_at identifier) (remaining values.now) in
         result ≡ list_any T.passes inside }

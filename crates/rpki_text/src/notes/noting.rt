@@ -20,7 +20,7 @@ use rpki_der::Serial;
 use rpki_files::Object;
 use std::alloc::{AllocError, Global};
 
-// Every note, in the order in which they are told.
+// Every note, in the order of answers.
 const NOTES: [Note; 19] = [
     Note::SerialZero,
     Note::SerialLong,
@@ -49,7 +49,7 @@ fn is_zero(serial: Serial) -> bool
     serial == Serial::from(0u64)
 }
 
-// Whether 20 octets are a number whose INTEGER takes an octet more.
+// Whether 20 octets are a number whose INTEGER has an octet more.
 fn begins_high(octets: &[u8]) -> bool
     requires { length octets.now ≡ 20 }
     ensures { IsTrue result ↔ (2 ^ 159 ≤ number_from_digits 256 octets.now) }
@@ -85,7 +85,7 @@ fn is_end_entity_with_notify(tbs: &TbsCert) -> bool
     }
 }
 
-// Whether so many descriptions of an end entity have the method, or more.
+// Whether at least so many descriptions of an end entity have the method.
 fn has_other_access(octets: &Bytes, tbs: &TbsCert, times: usize, method: Method) -> bool
     ensures { (xs : List Extension) → HaveExtensions xs octets.now
         → (IsTrue result ↔ HasOtherAccess times method tbs.now xs) }
@@ -101,14 +101,10 @@ fn has_other_notify(octets: &Bytes, tbs: &TbsCert) -> bool
     ensures { (xs : List Extension) → HaveExtensions xs octets.now
         → (IsTrue result ↔ HasOtherNotify tbs.now xs) }
 {
+    let fault = Fault::AtLeast(1, Method::RpkiNotify);
     match tbs.rpki_notify() {
         Some(_) => false,
-        None => has_one(
-            octets,
-            Kinds::Access,
-            Fault::AtLeast(1, Method::RpkiNotify),
-            &[],
-        ),
+        None => has_one(octets, Kinds::Access, fault, &[]),
     }
 }
 
@@ -117,19 +113,14 @@ fn has_further_notify(octets: &Bytes, tbs: &TbsCert) -> bool
     ensures { (xs : List Extension) → HaveExtensions xs octets.now
         → (IsTrue result ↔ HasFurtherNotify tbs.now xs) }
 {
+    let fault = Fault::AtLeast(1, Method::NotifyElsewhere);
     match tbs.rpki_notify() {
-        Some(_) => has_one(
-            octets,
-            Kinds::Access,
-            Fault::AtLeast(1, Method::NotifyElsewhere),
-            &[],
-        ),
+        Some(_) => has_one(octets, Kinds::Access, fault, &[]),
         None => false,
     }
 }
 
-// Whether the certificate that the octets begin with, which has these fields, breaks the rule of a
-// note.
+// Whether the certificate that the octets start with, with these fields, breaks the rule of a note.
 fn is_note(alloc: Global, octets: &Bytes, tbs: &TbsCert, note: Note) -> Result<bool, AllocError>
     ensures { IfOk result (λ yes. (xs : List Extension) → HaveExtensions xs octets.now
         → (IsTrue yes ↔ Breaks note octets.now tbs.now xs)) }
@@ -150,22 +141,12 @@ fn is_note(alloc: Global, octets: &Bytes, tbs: &TbsCert, note: Note) -> Result<b
         Note::IpNotCritical => has_one(octets, Kinds::Addresses, Fault::NotCritical, &[]),
         Note::AsNotCritical => has_one(octets, Kinds::Systems, Fault::NotCritical, &[]),
         Note::IpForm => {
-            let content = canonical::addresses(alloc, tbs)?;
-            has_one(
-                octets,
-                Kinds::Addresses,
-                Fault::OtherContent,
-                content.as_bytes(),
-            )
+            let it = canonical::addresses(alloc, tbs)?;
+            has_one(octets, Kinds::Addresses, Fault::OtherContent, it.as_bytes())
         }
         Note::AsForm => {
-            let content = canonical::systems(alloc, tbs)?;
-            has_one(
-                octets,
-                Kinds::Systems,
-                Fault::OtherContent,
-                content.as_bytes(),
-            )
+            let it = canonical::systems(alloc, tbs)?;
+            has_one(octets, Kinds::Systems, Fault::OtherContent, it.as_bytes())
         }
         Note::BytesAfterValue => has_one(octets, Kinds::Known, Fault::NotOneValue, &[]),
         Note::FlagForm => states_false(octets),
@@ -173,7 +154,7 @@ fn is_note(alloc: Global, octets: &Bytes, tbs: &TbsCert, note: Note) -> Result<b
     })
 }
 
-// Adds a note that is one.
+// Adds a note, if it is one.
 fn put(notes: &mut Vec<Note>, note: Note, is_one: bool) -> Result<(), AllocError>
     ensures { OnOk result (notes.new.items
         ≡ (if is_one then notes.old.items ++ note ∷ [] else notes.old.items)) }
@@ -184,7 +165,7 @@ fn put(notes: &mut Vec<Note>, note: Note, is_one: bool) -> Result<(), AllocError
     Ok(())
 }
 
-// The notes of the certificate that the octets begin with.
+// The notes of the certificate that the octets start with.
 fn of_certificate(alloc: Global, octets: &Bytes, cert: &Cert) -> Result<Vec<Note>, AllocError>
     requires { Means IsCertificate cert.now octets.now }
     ensures { IfOk result (λ notes. AreNotes octets.now notes.items) }
@@ -205,6 +186,7 @@ fn of_certificate(alloc: Global, octets: &Bytes, cert: &Cert) -> Result<Vec<Note
 ///
 /// Returns an error if memory runs out, or if an extension of resources would have 2^32 bytes or
 /// more.
+#[tactic(auto, using(crate::proofs::Told::none_told))]
 pub fn notes_of(alloc: Global, object: &Object<'_>) -> Result<Vec<Note>, AllocError>
     ensures { IfOk result (λ notes. AreNotes object.now.octets notes.items) }
 {

@@ -19,7 +19,7 @@ fn qualifiers_in<'a>(policies: &Cursor<'a>) -> Option<Cursor<'a>>
     content(&mut policy, tag::SEQUENCE)
 }
 
-// What stands behind the first qualifier, where that is a statement of practices.
+// The octets after the first qualifier, if that is a practice statement.
 #[tactic(auto, unfolding(crate::specs::Notes::behind_statement))]
 fn behind_statement<'a>(qualifiers: &Cursor<'a>) -> Option<Cursor<'a>>
     ensures { option_map remaining result ≡ behind_statement (remaining qualifiers.now) }
@@ -30,7 +30,7 @@ fn behind_statement<'a>(qualifiers: &Cursor<'a>) -> Option<Cursor<'a>>
     if is_cps(&kind) { Some(rest) } else { None }
 }
 
-// Whether qualifiers are one statement of practices, and nothing else.
+// Whether the qualifiers are exactly one practice statement.
 fn are_one_statement(qualifiers: &Cursor<'_>) -> bool
     ensures { IsTrue result ↔ IsEnd (behind_statement (remaining qualifiers.now)) }
 {

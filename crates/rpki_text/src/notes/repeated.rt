@@ -32,8 +32,7 @@ fn has_again(alloc: Global, elements: &Cursor<'_>) -> Result<bool, AllocError>
     Ok(false)
 }
 
-/// Tells whether two extensions of the certificate that the octets begin with have one identifier.
-/// Errs where memory runs out.
+/// Returns whether two extensions of the certificate that the octets start with have one identifier.
 pub(crate) fn is_one_twice(alloc: Global, octets: &Bytes) -> Result<bool, AllocError>
     ensures { IfOk result (λ yes. (xs : List Extension) → HaveExtensions xs octets.now
         → (IsTrue yes ↔ HaveAgain [] xs)) }

@@ -11,7 +11,7 @@ use bytes::Bytes;
 use rpki_cert::TbsCert;
 use rpki_der::{Cursor, Time, tag};
 
-// Whether a UTCTime can say it.
+// Whether a UTCTime can encode it.
 fn has_utc_time(time: Time) -> bool
     ensures { IsTrue result ↔ ((1950 ≤ time.year) × (time.year < 2050)) }
 {
@@ -26,14 +26,14 @@ fn is_generalized(octets: &Cursor<'_>) -> bool
     content(&mut rest, tag::GENERALIZED_TIME).is_some()
 }
 
-// Whether the time that stands first has the other form.
+// Whether the first time is a GeneralizedTime though a UTCTime can encode it.
 fn is_other_form(time: Time, octets: &Cursor<'_>) -> bool
     ensures { IsTrue result ↔ IsOtherForm time (remaining octets.now) }
 {
     is_generalized(octets) && has_utc_time(time)
 }
 
-// What stands behind the time that stands first.
+// The octets after the first time.
 fn not_after_in<'a>(times: &Cursor<'a>) -> Option<Cursor<'a>>
     ensures { option_map remaining result ≡ not_after_at (remaining times.now) }
 {
@@ -42,13 +42,11 @@ fn not_after_in<'a>(times: &Cursor<'a>) -> Option<Cursor<'a>>
         return Some(rest);
     }
     let mut rest = times.fork();
-    match content(&mut rest, tag::GENERALIZED_TIME) {
-        Some(_) => Some(rest),
-        None => None,
-    }
+    let _time = content(&mut rest, tag::GENERALIZED_TIME)?;
+    Some(rest)
 }
 
-// Whether the second of two times has the other form.
+// Whether the second time is a GeneralizedTime though a UTCTime can encode it.
 fn is_other_not_after(time: Time, times: &Cursor<'_>) -> bool
     ensures { IsTrue result ↔ IsOtherFormAt time (not_after_at (remaining times.now)) }
 {
@@ -58,8 +56,8 @@ fn is_other_not_after(time: Time, times: &Cursor<'_>) -> bool
     }
 }
 
-/// Tells whether a time of the certificate that the octets begin with, which has these fields, is a
-/// GeneralizedTime though a UTCTime can say it.
+/// Returns whether a time of the certificate that the octets start with, with these fields, is a
+/// GeneralizedTime though a UTCTime can encode it.
 pub(crate) fn have_other_form(octets: &Bytes, tbs: &TbsCert) -> bool
     ensures { IsTrue result ↔ HaveOtherForm tbs.now.validity (validity_at octets.now) }
 {

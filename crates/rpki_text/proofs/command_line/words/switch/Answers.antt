@@ -5,11 +5,11 @@ use Rattle.rpki_text.proofs.command_line.words.switch.Goals as goal
 pub returns-then-is-clause-added : goal.returns-then-is-clause-added
 returns-then-is-clause-added c = (lenient, (c.args.word.now, refl, search rules), refl)
 
-pub returns-then-is-2-clause-added : goal.returns-then-is-2-clause-added
-returns-then-is-2-clause-added c = (json, (c.args.word.now, refl, search rules), refl)
+pub returns-then-is-3-clause-added : goal.returns-then-is-3-clause-added
+returns-then-is-3-clause-added c = (json, (c.args.word.now, refl, search rules), refl)
 
-pub returns-then-is-4-clause-added : goal.returns-then-is-4-clause-added
-returns-then-is-4-clause-added c = (quiet, (c.args.word.now, refl, search rules), refl)
+pub returns-then-is-5-clause-added : goal.returns-then-is-5-clause-added
+returns-then-is-5-clause-added c = (quiet, (c.args.word.now, refl, search rules), refl)
 
 pub returns-then-is-6-clause-added : goal.returns-then-is-6-clause-added
 returns-then-is-6-clause-added c = (all, (c.args.word.now, refl, search rules), refl)
@@ -26,5 +26,5 @@ returns-then-is-9-clause-added c = (no_crl, (c.args.word.now, refl, search rules
 pub returns-then-is-10-clause-added : goal.returns-then-is-10-clause-added
 returns-then-is-10-clause-added c = (strict_exit, (c.args.word.now, refl, search rules), refl)
 
-pub returns-then-is-11-clause-added : goal.returns-then-is-11-clause-added
-returns-then-is-11-clause-added c = (help, (c.args.word.now, refl, search rules), refl)
+pub returns-then-is-12-clause-added : goal.returns-then-is-12-clause-added
+returns-then-is-12-clause-added c = (help, (c.args.word.now, refl, search rules), refl)
