@@ -23,8 +23,8 @@ use Rattle.rpki_text.specs.declared.command_line.arguments.Format.TheVariants.{T
 use Rattle.rpki_verdicts.specs.ShownPaths.{HoldSame}
 use Rattle.rpki_verdicts.specs.TreeParts.{are_anchors, files_of, worst_end}
 use Rattle.rpki_verdicts.specs.Trees.{TreeFields, certs_of}
-use Rattle.rpki_verdicts.specs.declared.issuers.Unseen.{Unseen as Why}
-use Rattle.rpki_verdicts.specs.declared.issuers.Unseen.TheVariants as why
+use Rattle.rpki_folder.specs.declared.unseen.Unseen.{Unseen as Why}
+use Rattle.rpki_folder.specs.declared.unseen.Unseen.TheVariants as why
 use Rattle.rpki_verdicts.specs.declared.parts.TreePart.{TreePart}
 use Rattle.rpki_verdicts.specs.declared.parts.Trees.{Trees}
 use Rattle.rpki_verdicts.specs.declared.path.Fault.{Fault}

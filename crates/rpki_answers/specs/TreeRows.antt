@@ -23,7 +23,7 @@ use Rattle.rpki_verdicts.specs.ShownPaths.{AreShown, placed_of}
 use Rattle.rpki_verdicts.specs.TreeParts.{AreAllAccepted, AreDamaged, AreTreesOf, shown_part, wrong_at}
 use Rattle.rpki_verdicts.specs.Trees.{TreeFields, is_anchor_at, line_at}
 use Rattle.rpki_verdicts.specs.UnseenCertificates.{IsUnseen, error_above, limit_at}
-use Rattle.rpki_verdicts.specs.declared.issuers.Unseen.{Unseen as Why}
+use Rattle.rpki_folder.specs.declared.unseen.Unseen.{Unseen as Why}
 use Rattle.rpki_verdicts.specs.declared.parts.TreePart.{TreePart}
 use Rattle.rpki_verdicts.specs.declared.parts.Trees.{Trees}
 use Rattle.rpki_verdicts.specs.declared.unordered.Tree.{Tree}

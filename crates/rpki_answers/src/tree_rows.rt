@@ -12,11 +12,11 @@ ghost use Rattle.rpki_answers.specs.TreeRows.{AreRows, IsTreeRow, IsUnaskedKey, 
 
 use rpki_cert::{Kind, said_kind};
 use rpki_files::{BareObject, Front};
-use rpki_folder::{AcceptedPaths, Limit, Line};
+use rpki_folder::{AcceptedPaths, Limit, Line, Unseen};
 use rpki_parts::KeyIdentifier;
 use rpki_path::{Judged, PathFault};
 use rpki_verdicts::reasons::of_path;
-use rpki_verdicts::{Fault, Issuers, ShownPaths, Tree, TreeAnswer, Trees, Unseen, signer_of};
+use rpki_verdicts::{Fault, Issuers, ShownPaths, Tree, TreeAnswer, Trees, signer_of};
 use std::alloc::{AllocError, Global};
 
 /// What is said of a file.

@@ -5,14 +5,14 @@ use crate::inputs::{ANCHOR, anchor, new_year};
 use crate::making::authority;
 use crate::stores::list_by;
 use bytes::Bytes;
-use rpki_cert::{Cert, KeyUsage, ResourceCert, Said, TbsCert};
+use rpki_cert::{Cert, KeyUsage, Kind, ResourceCert, Said, TbsCert};
 use rpki_crl::Crl;
 use rpki_folder::{
-    Accepted, AllAdmitted, Bounds, Ended, Firsts, Folder, Found, FoundAnchor, Line, Lines, Visitor,
-    Walk, Walked,
+    Accepted, AllAdmitted, Bounds, Ended, Firsts, Folder, Found, FoundAnchor, IssuerStatus,
+    IssuersByKey, Line, Lines, Unseen, Visitor, Walk, Walked,
 };
 use rpki_keys::tal::Tal;
-use rpki_parts::StandIn;
+use rpki_parts::{KeyIdentifier, StandIn};
 use rpki_path::{Member, PathFault};
 use rpki_tests::samples::{self, rsa, shared};
 use std::alloc::Global;
@@ -150,6 +150,36 @@ fn line_told_of(alloc: Global, issuer: &ResourceCert) -> Option<Told> {
     let mut lines = Lines::new(alloc, 2).ok()?;
     let outcome = tell(alloc, &mut lines, issuer);
     ended_without(alloc, lines, outcome)
+}
+
+// ---- issuers
+
+// What a certificate says that names its own key as its signer's.
+fn own_signer(key: KeyIdentifier) -> Said {
+    Said {
+        kind: Kind::EndEntity,
+        key,
+        signer: Some(key),
+    }
+}
+
+// Whether the certificate is below a rejected one, itself at place 0.
+fn is_below_itself(issuers: &IssuersByKey, key: KeyIdentifier) -> bool {
+    match issuers.why_unseen(own_signer(key)) {
+        Unseen::BelowRejected(place) => place == 0,
+        _ => false,
+    }
+}
+
+// A rejected certificate, beside none before.
+fn issuer_added(alloc: Global) -> Option<Told> {
+    let key = rsa(b"b").key_identifier();
+    let mut issuers = IssuersByKey::new(alloc);
+    begin(alloc);
+    let answer = issuers.add(0, own_signer(key), IssuerStatus::Rejected);
+    let is_kept = is_below_itself(&issuers, key);
+    let outcome = Some((name_of(&answer), is_kept == answer.is_ok()));
+    ended_without(alloc, issuers, outcome)
 }
 
 // ---- the walk
@@ -295,6 +325,7 @@ pub fn told(alloc: Global, path: &str) -> Option<Told> {
     match path {
         "rpki_folder::Filed::cert" | "rpki_folder::Firsts::of" => filed(alloc, path),
         "rpki_folder::Lines::tell" => line_told(alloc),
+        "rpki_folder::IssuersByKey::add" => issuer_added(alloc),
         "rpki_folder::Folder::add_cert" => added(alloc, false),
         "rpki_folder::Folder::add_list" => added(alloc, true),
         _ if path.starts_with("rpki_folder::Walk::") => of_walk(alloc, path),

@@ -35,3 +35,5 @@ pub mod ListPlaces
 pub mod IssuersList
 pub mod UnaskedSteps
 pub mod IsolatedPaths
+pub mod IssuersAmong
+pub mod KeptWalkSteps

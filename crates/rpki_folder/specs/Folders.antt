@@ -38,6 +38,12 @@ pub record NamesSigner (key octets : List ℕ) : Type 0 where
   pub begins : Means IsCertificate cert octets
   pub names : cert.fields.extensions.authority_key_identifier ≡ Some key
 
+-- the octets begin with a certificate whose own key has this identifier (RFC 5280 4.2.1.2)
+pub record HasSubjectKey (key octets : List ℕ) : Type 0 where
+  pub cert : CertFields
+  pub begins : Means IsCertificate cert octets
+  pub key_is : cert.fields.extensions.subject_key_identifier ≡ key
+
 -- the octets at the two places begin with one certificate. Whatever is behind it doesn't count
 abbrev pub AreOneAt : List (List ℕ) → ℕ → ℕ → Type 0
 AreOneAt certs place other =

@@ -11,6 +11,8 @@ pub mod NameTables
 pub mod IssuerTables
 pub mod WalkFaults
 pub mod KeptLines
+pub mod UnseenCertificates
+pub mod KeptWalks
 pub mod Searches
 pub mod Strangers
 pub mod FoundAnchors

@@ -15,27 +15,6 @@ use Rattle.rpki_verdicts.specs.Trees.{certs_of}
 use Rattle.rpki_verdicts.proofs.SearchSteps.{file_there}
 use Rattle.rpki_verdicts.specs.declared.unordered.Tree.{Tree}
 
--- ---- what a file says of keys
-
-module _ (one : IsUnambiguous IsCertificate) (file : FileFields) (said : Said) (begins : BeginsWithSaid said file.octets) where
-  -- its own is the one that was read
-  pub own_key : (key : List ℕ) → (said.key ≡ key) ↔ HasKeyNamed key file
-  own_key key = (
-    λ is. record { cert = begins.0; begins = begins.1; key_is = sym begins.2.key_is ∙ is },
-    λ h.
-        let same : h.cert ≡ begins.0 = one_meant IsCertificate one h.cert begins.0 file.octets h.begins begins.1 in
-        begins.2.key_is ∙ sym (ap (λ (c : CertFields). c.fields.extensions.subject_key_identifier) same) ∙ h.key_is,
-  )
-
-  -- and so is that of its signer
-  pub signer_key : (key : List ℕ) → NamesSigner key file.octets ↔ (said.signer ≡ Some key)
-  signer_key key = (
-    λ h.
-        let same : h.cert ≡ begins.0 = one_meant IsCertificate one h.cert begins.0 file.octets h.begins begins.1 in
-        begins.2.signer_is ∙ sym (ap (λ (c : CertFields). c.fields.extensions.authority_key_identifier) same) ∙ h.names,
-    λ is. record { cert = begins.0; begins = begins.1; names = sym begins.2.signer_is ∙ is },
-  )
-
 -- ---- the issuer
 
 module _ (tree : Tree) (file : FileFields) where

@@ -9,7 +9,6 @@ mod FoldedItems
 mod FoundLocators
 mod GivenKinds
 mod IsolatedQuestions
-mod IssuersByKey
 mod KeptFirsts
 pub mod MappedItems
 mod NamedChoice

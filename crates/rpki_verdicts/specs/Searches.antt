@@ -8,7 +8,7 @@ use Rattle.rpki_cert.specs.Certificates.{CertFields, IsCertificate}
 use Rattle.rpki_der.specs.Encoding.{Means}
 use Rattle.rpki_folder.specs.declared.bounds.Ended.{Ended}
 use Rattle.rpki_folder.specs.declared.bounds.Ended.TheVariants.{Whole}
-use Rattle.rpki_folder.specs.Folders.{NamesSigner}
+use Rattle.rpki_folder.specs.Folders.{HasSubjectKey, NamesSigner}
 use Rattle.rpki_path.specs.GivenPaths.{PathStrings}
 use Rattle.rpki_path.specs.declared.judging.Judged.{Judged}
 use Rattle.rpki_path.specs.Judging.{IsAcceptedWith}
@@ -117,10 +117,8 @@ DeniesFirst (Walked tree) = IsAcceptedAt tree 0 → ⊥
 -- ---- what stands above a file to which no valid path leads
 
 -- the file begins with a certificate that has the key of this identifier (RFC 5280 4.2.1.2)
-pub record HasKeyNamed (key : List ℕ) (file : FileFields) : Type 0 where
-  pub cert : CertFields
-  pub begins : Means IsCertificate cert file.octets
-  pub key_is : cert.fields.extensions.subject_key_identifier ≡ key
+abbrev pub HasKeyNamed : List ℕ → FileFields → Type 0
+HasKeyNamed key file = HasSubjectKey key file.octets
 
 -- the certificate at the place has the key, and is accepted, where that is asked
 abbrev pub HasKeyAt : Tree → List ℕ → Bool → ℕ → Type 0

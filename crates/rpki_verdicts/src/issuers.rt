@@ -1,38 +1,31 @@
 //! Why there is no verdict on a certificate: what became of its issuer.
-ghost use Rattle.std.specs.Prelude.{◌≡◌, ◌↔◌, ◌+◌, ◌++◌, ◌∷◌, ◌^◌, ◌<◌, [], ℕ, List, Some, None, codes, fold, option_copied, option_map, slice_get, length, map, IfOk, OnOk, IsTrue};
+ghost use Rattle.std.specs.Prelude.{◌≡◌, ◌+◌, ◌++◌, ◌∷◌, [], ℕ, List, None, Some, fold, option_copied, option_map, slice_get, length, map, IfOk, OnOk};
 ghost use Rattle.std.specs.BTreeMap.{get};
 ghost use Rattle.std.specs.Option.{option_or};
 ghost use Rattle.std.specs.Cmp.Lexicographic.{slice_cmp};
 ghost use Rattle.std.specs.Ordering.{nat_cmp};
-ghost use Rattle.rpki_files.specs.Files.{FileFields};
+ghost use Rattle.rpki_files.specs.Files.{FileFields, contents};
 ghost use Rattle.rpki_folder.specs.FirstPlaces.{first_from};
-ghost use Rattle.rpki_verdicts.specs.Searches.{HasKeyNamed};
+ghost use Rattle.rpki_folder.specs.UnseenCertificates.{AreIssuersAmong};
 ghost use Rattle.rpki_verdicts.specs.ShownPaths.{AreNamedFiles, IsNamedIn, name_below, place_of, placed, uri_of};
 ghost use Rattle.rpki_verdicts.specs.TreeParts.{files_of};
-ghost use Rattle.rpki_verdicts.specs.UnseenCertificates.{AreTreeIssuers, IsIssuerAmong, IsUnseen, StandsBetter, below_accepted, error_above, error_at, error_by, error_in, is_ca, is_looked_at, is_looked_below, is_rejected_at, place_by_key, limit_at, paths_by, reached_by, standing, standing_of, why_unseen};
+ghost use Rattle.rpki_verdicts.specs.UnseenCertificates.{AreTreeIssuers, IsUnseen, error_above, error_at, error_by, error_in, is_looked_at, is_rejected_at, limit_at, looks_below, reached_by, status};
 
 use crate::parts::{Trees, is_told};
 use crate::reasons::name_of;
-use crate::search::signer_of;
 use crate::unordered::TreeAnswer;
 use bytes::Bytes;
-use rpki_cert::laws;
 use rpki_files::{BareObject, Front};
-use rpki_folder::{Limit, Line, Reached};
-use rpki_parts::{KeyIdentifier, Rsync};
-use rpki_path::Judged;
+use rpki_folder::{IssuerStatus, IssuersByKey, Limit, Line, Reached, Unseen, is_looked_below};
+use rpki_parts::Rsync;
 use std::alloc::{AllocError, Global};
 use std::collections::BTreeMap;
 
-/// The issuers among certificates, by their keys and by the URIs of their files.
-///
-/// For each key the place of a certificate that has it: an accepted CA if there is one (one at which a
-/// walk reached a limit on each path before one below which it looked), else a rejected certificate,
-/// else an accepted one that isn't a CA, or else another one. And for each file's name below the
-/// directory that is named, behind `rsync://`, the first place of a file that has it.
+/// The issuers among certificates, by their keys, and by the URIs of their files: for each file's name
+/// below the directory that is named, behind `rsync://`, the first place of a file that has it.
 #[derive(Drop)]
 pub struct Issuers {
-    places: BTreeMap<[u8; 20], usize>,
+    by_key: IssuersByKey,
     pub(crate) files: NamedFiles,
 }
 
@@ -42,84 +35,23 @@ pub(crate) struct NamedFiles {
     places: BTreeMap<Bytes, usize>,
 }
 
-/// Why there is no verdict on a certificate. A place is that of its issuer: of the certificate whose
-/// key it names as its signer's.
-#[derive(Clone, Copy, Debug, PartialEq, Eq)]
-pub enum Unseen {
-    /// It names no key, or no certificate here has the key.
-    NoIssuer,
-    /// The issuer is an accepted CA, and didn't issue it: it has another name, or its key didn't sign
-    /// the certificate.
-    NotBelow(usize),
-    /// The issuer is accepted, and isn't a CA.
-    NotCa(usize),
-    /// The issuer is an accepted CA at which this limit was reached.
-    NotLookedAt(usize, Limit),
-    /// The issuer is rejected.
-    BelowRejected(usize),
-    /// There is no verdict on the issuer either.
-    BelowUnseen(usize),
-}
-
-// The key of the certificate with which a file begins.
-fn key_of(file: &BareObject<'_>) -> Option<KeyIdentifier>
-    ensures { (key : List ℕ) → HasKeyNamed key file.now ↔ (result ≡ Some key) }
-{
-    laws::unambiguous();
-    match file.front() {
-        Front::Certificate(said) => Some(said.key),
-        Front::List | Front::Neither => None,
-    }
-}
-
-// Whether the certificate at a place stands better than that of the same key before.
-fn is_better(trees: &Trees<'_, '_>, before: Option<&usize>, place: usize) -> bool
-    ensures { IsTrue result ↔ StandsBetter trees.now (option_copied before.entry) place }
-{
-    match before {
-        Some(before) => trees.standing(place) < trees.standing(*before),
-        None => true,
-    }
-}
-
 // Adds the certificate at a place, which is that of the file.
 fn add_issuer(
-    places: &mut BTreeMap<[u8; 20], usize>,
+    by_key: &mut IssuersByKey,
     trees: &Trees<'_, '_>,
     place: usize,
     file: &BareObject<'_>,
 ) -> Result<(), AllocError>
     requires { slice_get (files_of trees.now) place ≡ Some file.now }
-    ensures { OnOk result ((key : List ℕ)
-        → IsIssuerAmong trees.now place key (get (slice_cmp nat_cmp) places.old key)
-        → IsIssuerAmong trees.now (place + 1) key (get (slice_cmp nat_cmp) places.new key)) }
+    ensures { let certs = contents (files_of trees.now) in
+        OnOk result (AreIssuersAmong certs (status trees.now) place by_key.old
+        → AreIssuersAmong certs (status trees.now) (place + 1) by_key.new) }
 {
-    let Some(key) = key_of(file) else {
+    let Front::Certificate(said) = file.front() else {
         return Ok(());
     };
-    if is_better(trees, places.get(key.as_octets()), place) {
-        return match places.insert(*key.as_octets(), place) {
-            Ok(_) => Ok(()),
-            Err(_) => Err(AllocError),
-        };
-    }
+    by_key.add(place, said, trees.status(place))?;
     Ok(())
-}
-
-// The places of the issuers of all keys.
-fn places_by_key(
-    alloc: Global,
-    trees: &Trees<'_, '_>,
-) -> Result<BTreeMap<[u8; 20], usize>, AllocError>
-    ensures { IfOk result (λ places. (key : List ℕ)
-        → IsIssuerAmong trees.now (length (files_of trees.now)) key
-        (get (slice_cmp nat_cmp) places key)) }
-{
-    let mut places = BTreeMap::new(alloc);
-    for (place, file) in trees.certs.iter().enumerate() {
-        add_issuer(&mut places, trees, place, *file)?;
-    }
-    Ok(places)
 }
 
 // The part of a name below the directory with whose path names there begin.
@@ -183,21 +115,12 @@ fn places_by_uri(
 pub fn issuers_of(alloc: Global, trees: &Trees<'_, '_>) -> Result<Issuers, AllocError>
     ensures { IfOk result (AreTreeIssuers trees.now) }
 {
-    let places = places_by_key(alloc, trees)?;
-    let files = NamedFiles::of(alloc, trees.root, &trees.certs)?;
-    Ok(Issuers { places, files })
-}
-
-impl Issuers {
-    // The place of the key's issuer.
-    fn get(&self, key: &KeyIdentifier) -> Option<usize>
-        ensures { result ≡ place_by_key self.now key.now }
-    {
-        match self.places.get(key.as_octets()) {
-            Some(place) => Some(*place),
-            None => None,
-        }
+    let mut by_key = IssuersByKey::new(alloc);
+    for (place, file) in trees.certs.iter().enumerate() {
+        add_issuer(&mut by_key, trees, place, *file)?;
     }
+    let files = NamedFiles::of(alloc, trees.root, &trees.certs)?;
+    Ok(Issuers { by_key, files })
 }
 
 impl NamedFiles {
@@ -256,41 +179,18 @@ impl NamedFiles {
     }
 }
 
-// Whether the certificate was accepted as a CA's.
-fn is_ca(judged: &Judged) -> bool
-    ensures { result ≡ is_ca judged.now }
-{
-    let is_ca = judged.holder.as_cert().as_tbs().basic_ca().unwrap_or(false);
-    is_ca && judged.router.is_none()
-}
-
-// How many paths lead to a CA by its line: how many are kept, and how many are counted.
-fn paths_by(line: Option<&Line>) -> (usize, usize)
-    ensures paths { result.0 + result.1 ≡ paths_by (option_copied line.entry) }
-    ensures kept { result.0 < 2 ^ 63 + 1 }
-    ensures more { result.0 ≡ 0 → result.1 ≡ 0 }
-{
-    match line {
-        Some(Line::Accepted(paths)) => {
-            if is_ca(&paths.first.judged) {
-                return (paths.others.len() + 1, paths.more);
-            }
-            (0, 0)
-        }
-        Some(Line::Rejected(..)) | Some(Line::Unseen) | None => (0, 0),
-    }
-}
-
 // Whether the walk below a trust anchor looked below the CA at a place, on a path to it.
-fn is_looked_below(answer: &TreeAnswer<'_, '_>, place: usize) -> bool
-    ensures { result ≡ is_looked_below place answer.now }
+fn looks_below(answer: &TreeAnswer<'_, '_>, place: usize) -> bool
+    ensures { result ≡ looks_below place answer.now }
 {
     match answer {
         TreeAnswer::NoAnchor(_) => false,
         TreeAnswer::Walked(tree) => {
-            let (kept, more) = paths_by(tree.line(place));
-            let of_anchor = usize::from(tree.is_anchor_at(place));
-            tree.reached(place).paths.saturating_sub(more) < of_anchor + kept
+            is_looked_below(
+                tree.is_anchor_at(place),
+                tree.line(place),
+                tree.reached(place),
+            )
         }
     }
 }
@@ -302,28 +202,6 @@ fn reached_by(answer: &TreeAnswer<'_, '_>, place: usize) -> Reached
     match answer {
         TreeAnswer::NoAnchor(_) => Reached::nothing(),
         TreeAnswer::Walked(tree) => tree.reached(place),
-    }
-}
-
-// How an accepted certificate stands as an issuer, the least number best.
-fn standing_of(is_looked_at: bool, limit: Option<Limit>) -> u8
-    ensures { result ≡ standing_of is_looked_at limit }
-{
-    match (is_looked_at, limit) {
-        (true, _) => 1,
-        (false, Some(_)) => 0,
-        (false, None) => 3,
-    }
-}
-
-// Why there is no verdict on a certificate with this accepted issuer.
-fn below_accepted(is_looked_at: bool, limit: Option<Limit>, issuer: usize) -> Unseen
-    ensures { result ≡ below_accepted is_looked_at limit issuer }
-{
-    match (is_looked_at, limit) {
-        (true, _) => Unseen::NotBelow(issuer),
-        (false, Some(limit)) => Unseen::NotLookedAt(issuer, limit),
-        (false, None) => Unseen::NotCa(issuer),
     }
 }
 
@@ -372,7 +250,7 @@ impl<'q, 'n> Trees<'q, 'n> {
     {
         self.parts
             .iter()
-            .any(|part| is_looked_below(&part.answer, place))
+            .any(|part| looks_below(&part.answer, place))
     }
     /// Returns the limit that a walk reached at the CA at a place. If there are several, at several
     /// paths to the CA or below several trust anchors, the one that takes the fewest steps.
@@ -385,32 +263,17 @@ impl<'q, 'n> Trees<'q, 'n> {
         }
         reached.least()
     }
-    // How the certificate at a place stands as an issuer, the least number best.
-    fn standing(&self, place: usize) -> u8
-        ensures { result ≡ standing self.now place }
+    // The status of the certificate at a place as an issuer.
+    fn status(&self, place: usize) -> IssuerStatus
+        ensures { result ≡ status self.now place }
     {
         if is_told(&self.parts, place, 1) {
-            standing_of(self.is_looked_at(place), self.limit_at(place))
+            IssuerStatus::of_accepted(self.is_looked_at(place), self.limit_at(place))
         } else if self.is_rejected_at(place) {
-            2
+            IssuerStatus::Rejected
         } else {
-            4
+            IssuerStatus::Unseen
         }
-    }
-    // Why there is no verdict on a certificate with this issuer.
-    fn why_unseen(&self, issuer: Option<usize>) -> Unseen
-        ensures { result ≡ why_unseen self.now issuer }
-    {
-        let Some(place) = issuer else {
-            return Unseen::NoIssuer;
-        };
-        if is_told(&self.parts, place, 1) {
-            return below_accepted(self.is_looked_at(place), self.limit_at(place), place);
-        }
-        if self.is_rejected_at(place) {
-            return Unseen::BelowRejected(place);
-        }
-        Unseen::BelowUnseen(place)
     }
     // The name of the error of the certificate at a place, by the first line that rejects it.
     fn error_by_line(&self, place: usize) -> Option<&'static str>
@@ -452,9 +315,9 @@ impl<'q, 'n> Trees<'q, 'n> {
         requires { AreTreeIssuers self.now issuers.now }
         ensures { IsUnseen self.now file.now result }
     {
-        match signer_of(file) {
-            Some(key) => self.why_unseen(issuers.get(&key)),
-            None => self.why_unseen(None),
-        }
+        let Front::Certificate(said) = file.front() else {
+            return Unseen::NoIssuer;
+        };
+        issuers.by_key.why_unseen(said)
     }
 }

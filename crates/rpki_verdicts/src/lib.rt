@@ -15,7 +15,7 @@ mod search;
 mod shown_paths;
 mod unordered;
 
-pub use issuers::{Issuers, Unseen, issuers_of};
+pub use issuers::{Issuers, issuers_of};
 pub use locators::GivenLocator;
 pub use parts::{TreePart, Trees, judge_all};
 pub use path::{

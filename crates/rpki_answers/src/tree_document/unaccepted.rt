@@ -9,8 +9,8 @@ use crate::tree_rows::{Word, unseen_word};
 use crate::verdict_document::add_fault;
 use rpki_document::{Leaf, Part, Piece, add_head, add_unsaid};
 use rpki_files::BareObject;
-use rpki_folder::Limit;
-use rpki_verdicts::{Fault, Unseen};
+use rpki_folder::{Limit, Unseen};
+use rpki_verdicts::Fault;
 use std::alloc::{AllocError, Global};
 
 // The head of a rejected certificate's row.

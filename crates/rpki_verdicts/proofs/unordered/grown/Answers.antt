@@ -2,7 +2,6 @@ use Rattle.std.specs.List.{AllZip}
 use Rattle.std.specs.Prelude.{Ok}
 use Rattle.std.proofs.Common.{◌≡◌, ◌<◌, [], ℕ, List, length, map, sym, ap, subst, ◌∙◌, arith}
 use Rattle.std.proofs.lemmas.List.{length-map}
-use Rattle.rpki_cert.specs.Certificates.{CertFields}
 use Rattle.rpki_cert.specs.Verification.{context}
 use Rattle.rpki_keys.specs.RsaSignatures.{IsSignedByRsa}
 use Rattle.rpki_path.specs.AskedLists.{by_named_lists}
@@ -10,11 +9,11 @@ use Rattle.rpki_folder.specs.FirstPlaces.{AreFirstsIn, IsFirstIn}
 use Rattle.rpki_folder.specs.Folders.{string_at}
 use Rattle.rpki_folder.specs.FoundAnchors.{IsAnchorAt}
 use Rattle.rpki_folder.specs.LimitTables.{IsTableOf}
-use Rattle.rpki_folder.specs.ReachedLimits.{AreLimited, AreLimitedFrom}
-use Rattle.rpki_folder.specs.Walks.{IsLookedAt, TellsWithin, TellsFrom, at_anchor}
+use Rattle.rpki_folder.specs.ReachedLimits.{AreLimitedFrom}
+use Rattle.rpki_folder.specs.Walks.{TellsFrom}
 use Rattle.rpki_folder.specs.declared.anchors.WrongCandidate.{WrongCandidate}
 use Rattle.rpki_folder.specs.declared.walk_error.WalkError.{WalkError}
-use Rattle.rpki_folder.proofs.AnchorSteps.{anchor_is}
+use Rattle.rpki_folder.proofs.KeptWalkSteps.{limited_from, tells_from}
 use Rattle.rpki_files.specs.Files.{FileFields}
 use Rattle.rpki_folder.specs.KeptLines.{AreLines}
 use Rattle.rpki_folder.specs.declared.lines.Line.{Line}
@@ -57,38 +56,15 @@ returns-in_ok-walk-in-Valid c = λ l read.
     let low : place < length files = omega (arith, inside, ap length same_certs, length-map files (λ (f : FileFields). f.octets)) in
     let file = file_there files place low in
     let same : octets ≡ file.0.octets = ap (λ (o : List (List ℕ)). string_at o place) same_certs ∙ octets_there files place file.0 file.1 in
-    let root = at_anchor t octets in
     let firsts = c.in_ok-firsts-in-Valid.firsts in
     let told = c.in_ok-walk-in-Valid.ensures.tells in
     let walk = c.in_ok-walk-in-Valid.walk in
-    let tells = told.2 root found.0 in
     let reached = c.in_ok-walk-in-Valid.ensures.limits in
     let cas = reached.0 in
     let start = c.first_of-start.ensures.value in
     let law = c.unambiguous.ensures.certificate in
-    let from : TellsFrom {E = WalkError} x asked q.names (IsFirstIn firsts) t octets folder.certs q.depth q.steps (Ok walk.ended) told.0 =
-    λ top begins.
-    subst (λ (d : CertFields). TellsWithin {E = WalkError} x asked (IsLookedAt q.names (IsFirstIn firsts) d folder.certs)
-    root folder.certs [] q.depth q.steps (Ok walk.ended) told.0)
-    (anchor_is x asked t octets issuer found.0 law top begins)
-    (record {
-      right = tells.right;
-      let_in = tells.let_in;
-      few = tells.few;
-      short = tells.short;
-      too_deep =
-          tells.too_deep;
-      complete = tells.complete;
-      in_shares = tells.in_shares;
-      judged = tells.judged;
-      enough =
-          tells.enough;
-    }) in
-    let limited : AreLimitedFrom x asked q.names (IsFirstIn firsts) t octets folder.certs q.depth q.steps cas =
-    λ top begins.
-    subst (λ (d : CertFields). AreLimited x asked (IsLookedAt q.names (IsFirstIn firsts) d folder.certs) root
-    folder.certs q.depth q.steps cas) (anchor_is x asked t octets issuer found.0 law top begins)
-    (reached.2 root found.0) in
+    let from = tells_from x q.names t folder q.depth q.steps place issuer firsts law found walk.ended told.0 told.2 in
+    let limited = limited_from x q.names t folder q.depth q.steps place issuer firsts law found cas reached.2 in
     let new = c.in_ok-kept-in-Valid.ensures in
     let after : NamedLines = c.walked-walked.new.lines in
     let parts = c.into_parts-lines in

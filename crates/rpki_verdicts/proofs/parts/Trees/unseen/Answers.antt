@@ -1,21 +1,26 @@
 use Rattle.std.specs.Prelude.{None}
-use Rattle.std.proofs.Common.{◌∙◌, sym}
-use Rattle.rpki_verdicts.specs.UnseenCertificates.{place_by_key}
-use Rattle.rpki_verdicts.proofs.IssuersByKey.{issuer_of}
+use Rattle.std.proofs.Common.{ℕ, List, length, refl, sym, subst}
+use Rattle.std.proofs.lemmas.List.{length-map}
+use Rattle.rpki_files.specs.Files.{FileFields, contents}
+use Rattle.rpki_folder.specs.UnseenCertificates.{AreIssuersAmong}
+use Rattle.rpki_verdicts.proofs.FilesAt.{begins_none}
+use Rattle.rpki_verdicts.specs.TreeParts.{files_of}
+use Rattle.rpki_verdicts.specs.UnseenCertificates.{status}
 use Rattle.rpki_verdicts.proofs.parts.Trees.unseen.Goals as goal
 
-pub returns-in-Some : goal.returns-in-Some
-returns-in-Some c =
+pub returns : goal.returns
+returns c =
     let trees = c.args.self.now in
-    let file = c.args.file.now in
-    let key = c.in-Some.key in
-    let names = (c.signer_of.ensures key).1 c.in-Some.is in (
-      place_by_key c.args.issuers.now key,
-      issuer_of trees file key (place_by_key c.args.issuers.now key) names
-          (λ other others. let both = sym c.in-Some.is ∙ (c.signer_of.ensures other).0 others in cc) (c.requires.by_key key),
-      rw c.get.ensures at c.why_unseen.ensures,
-    )
+    let files = files_of trees in
+    c.why_unseen.ensures (contents files) (status trees) c.args.file.now.octets c.in-Certificate.ensures.0
+    (subst (λ (n : ℕ). AreIssuersAmong (contents files) (status trees) n c.args.issuers.now.by_key)
+    (sym (length-map files (λ (f : FileFields). f.octets))) c.requires.by_key)
 
-pub returns-in-None : goal.returns-in-None
-returns-in-None c =
-    (None, (λ key names. let never = sym c.in-None.is ∙ (c.signer_of.ensures key).0 names in absurd cc), c.why_unseen-in-None.ensures)
+pub returns-in_default : goal.returns-in_default
+returns-in_default c = (
+  None,
+  (λ key names. absurd
+      (begins_none c.args.file.now.octets c.front.result c.front.ensures c.in_default.not-Certificate
+      (names.cert, names.begins))),
+  refl,
+)
