@@ -9,12 +9,14 @@ use Rattle.rpki_cert.specs.Verification.{ResourceFields}
 use Rattle.rpki_folder.specs.Folders.{string_at}
 use Rattle.rpki_c.specs.FolderFates.{Fate, anchor, list, neither, unseen, accepted, rejected}
 use Rattle.rpki_c.specs.FolderLimits.{TellsReached, but_for_limits}
-use Rattle.rpki_c.specs.FolderTelling.{IsFateLine, IsLineWith, AreLinesOf}
+use Rattle.rpki_c.specs.FolderFates.{IsWhyAt, StringWalk, fate_at, origin_of}
+use Rattle.rpki_c.specs.FolderTelling.{AreLinesOf, IsFateLine, IsLineAt, IsLineWith}
 use Rattle.rpki_c.specs.HeldRanges.{AreHeldAt, KeepsItems, HaveGrown}
 use Rattle.rpki_c.specs.Writing.{as_struct, ip_struct, IsPartAt}
 use Rattle.rpki_c.specs.declared.folder_lines.RpkiLine.{RpkiLine}
 use Rattle.rpki_c.specs.declared.folder_lines.ToldLines.{ToldLines}
 use Rattle.rpki_folder.specs.declared.limits.Reached.{Reached}
+use Rattle.rpki_folder.specs.declared.unseen.Unseen.{Unseen}
 use Rattle.rpki_c.specs.declared.ranges.Ranges.{Ranges}
 use Rattle.rpki_c.specs.declared.ranges.RpkiHeld.{RpkiHeld}
 
@@ -54,10 +56,10 @@ held_stays r old new held on h = record {
 }
 
 -- a line of a fate is one without limits
-module _ (asks : Bool) (top : ℕ) (octets : List ℕ) (ranges : Ranges) where
-  line_bare : (fate : Fate) (line : RpkiLine) → IsFateLine asks top octets fate ranges line →
-      IsFateLine asks top octets fate ranges (but_for_limits line)
-  line_bare unseen line h = ap but_for_limits h
+module _ (asks : Bool) (top : ℕ) (octets : List ℕ) (IsWhy : Unseen → Type 0) (ranges : Ranges) where
+  line_bare : (fate : Fate) (line : RpkiLine) → IsFateLine asks top octets IsWhy fate ranges line →
+      IsFateLine asks top octets IsWhy fate ranges (but_for_limits line)
+  line_bare unseen line h = (h.0, h.1, ap but_for_limits h.2)
   line_bare anchor line h = ap but_for_limits h
   line_bare (accepted above j) line h = (
     h.0,
@@ -72,18 +74,21 @@ module _ (asks : Bool) (top : ℕ) (octets : List ℕ) (ranges : Ranges) where
   line_bare neither line h = ap but_for_limits h
 
   -- and tells limits where these are added
-  pub line_with : (fate : Fate) (r : Reached) (line told : RpkiLine) → IsFateLine asks top octets fate ranges line →
+  pub line_with : (fate : Fate) (r : Reached) (line told : RpkiLine) →
+      IsFateLine asks top octets IsWhy fate ranges line →
       but_for_limits told ≡ but_for_limits line → TellsReached r told
-      → IsLineWith asks top octets fate r ranges told
-  line_with fate r line told h same tells =
-      (subst (λ (l : RpkiLine). IsFateLine asks top octets fate ranges l) (sym same) (line_bare fate line h), tells)
+      → IsLineWith asks top octets IsWhy fate r ranges told
+  line_with fate r line told h same tells = (
+    subst (λ (l : RpkiLine). IsFateLine asks top octets IsWhy fate ranges l) (sym same) (line_bare fate line h),
+    tells,
+  )
 
-module _ (asks : Bool) (top : ℕ) (old new : Ranges) (on : HaveGrown old new) where
-  line_stays : (octets : List ℕ) (fate : Fate) (line : RpkiLine)
-      → IsFateLine asks top octets fate old line → IsFateLine asks top octets fate new line
-  line_stays octets unseen line h = h
-  line_stays octets anchor line h = h
-  line_stays octets (accepted above j) line h = (
+module _ (asks : Bool) (old new : Ranges) (on : HaveGrown old new) where
+  line_stays : (top : ℕ) (octets : List ℕ) (IsWhy : Unseen → Type 0) (fate : Fate) (line : RpkiLine)
+      → IsFateLine asks top octets IsWhy fate old line → IsFateLine asks top octets IsWhy fate new line
+  line_stays top octets IsWhy unseen line h = h
+  line_stays top octets IsWhy anchor line h = h
+  line_stays top octets IsWhy (accepted above j) line h = (
     h.0,
     h.1,
     elim h.2 [
@@ -91,49 +96,44 @@ module _ (asks : Bool) (top : ℕ) (old new : Ranges) (on : HaveGrown old new) w
       | inr right ↦ inr (right.0, held_stays j.holder old new line.held on right.1, right.2)
     ],
   )
-  line_stays octets (rejected step fault) line h = h
-  line_stays octets list line h = h
-  line_stays octets neither line h = h
+  line_stays top octets IsWhy (rejected step fault) line h = h
+  line_stays top octets IsWhy list line h = h
+  line_stays top octets IsWhy neither line h = h
 
-  stays_with : (octets : List ℕ) (fate : Fate) (r : Reached) (line : RpkiLine)
-      → IsLineWith asks top octets fate r old line → IsLineWith asks top octets fate r new line
-  stays_with octets fate r line h = (line_stays octets fate (but_for_limits line) h.0, h.1)
+  module _ (w : StringWalk) where
+    stays_at : (place : ℕ) (line : RpkiLine) → IsLineAt asks w place old line → IsLineAt asks w place new line
+    stays_at place line h = (
+      line_stays (origin_of w.sorted w.anchor) (string_at w.sorted.strings.now place) (IsWhyAt w place)
+          (fate_at w place) (but_for_limits line) h.0,
+      h.1,
+    )
 
-  -- one line more
-  pub lines_more : (strings : List (List ℕ)) (fate : ℕ → Fate) (reached : ℕ → Reached) (n : ℕ) (it told : ToldLines)
-      (line : RpkiLine)
-      → it.ranges ≡ old → told.ranges ≡ new → told.lines.items ≡ it.lines.items ++ line ∷ []
-      → AreLinesOf asks top strings fate reached n it →
-      IsLineWith asks top (string_at strings n) (fate n) (reached n) new line
-      → AreLinesOf asks top strings fate reached (n + 1) told
-  lines_more strings fate reached n it told line were are pushed h is =
-      let size = length-append it.lines.items (line ∷ []) in
-      let count = h.count_is in
-      let all : length told.lines.items ≡ n + 1 = ap length pushed ∙ omega (arith, size, count) in
-      record {
-        count_is = all;
-        line_is = λ place d low.
-            subst (λ (r : Ranges). IsLineWith asks top (string_at strings place) (fate place) (reached place) r
-            (get_or told.lines.items place d)) (sym are)
-            (subst (λ (l : List RpkiLine). IsLineWith asks top (string_at strings place) (fate place)
-            (reached place) new (get_or l place d)) (sym pushed)
-            (elim (cases_lt place n) [
-              | inl before ↦
-                  let within : place < length it.lines.items = omega (arith, before, count) in
-                  subst (λ (l : RpkiLine). IsLineWith asks top (string_at strings place) (fate place)
-                  (reached place) new l)
-                  (sym (get_or-append it.lines.items (line ∷ []) d place within))
-                  (stays_with (string_at strings place) (fate place) (reached place) (get_or it.lines.items place d)
-                  (subst (λ (r : Ranges). IsLineWith asks top (string_at strings place) (fate place) (reached place)
-                  r (get_or it.lines.items place d)) were
-                  (h.line_is place d before)))
-              | inr behind ↦
-                  let same : place ≡ n = omega (arith, low, behind) in
-                  let here : length it.lines.items ≡ place = count ∙ sym same in
-                  subst (λ (l : RpkiLine). IsLineWith asks top (string_at strings place) (fate place)
-                  (reached place) new l)
-                  (sym (get_or_push it.lines.items line d place here))
-                  (subst (λ (m : ℕ). IsLineWith asks top (string_at strings m) (fate m) (reached m) new line)
-                  (sym same) is)
-            ]));
-      }
+    -- one line more
+    pub lines_more : (n : ℕ) (it told : ToldLines) (line : RpkiLine)
+        → it.ranges ≡ old → told.ranges ≡ new → told.lines.items ≡ it.lines.items ++ line ∷ []
+        → AreLinesOf asks w n it → IsLineAt asks w n new line → AreLinesOf asks w (n + 1) told
+    lines_more n it told line were are pushed h is =
+        let size = length-append it.lines.items (line ∷ []) in
+        let count = h.count_is in
+        let all : length told.lines.items ≡ n + 1 = ap length pushed ∙ omega (arith, size, count) in
+        record {
+          count_is = all;
+          line_is = λ place d low.
+              subst (λ (r : Ranges). IsLineAt asks w place r (get_or told.lines.items place d)) (sym are)
+              (subst (λ (l : List RpkiLine). IsLineAt asks w place new (get_or l place d)) (sym pushed)
+              (elim (cases_lt place n) [
+                | inl before ↦
+                    let within : place < length it.lines.items = omega (arith, before, count) in
+                    subst (λ (l : RpkiLine). IsLineAt asks w place new l)
+                    (sym (get_or-append it.lines.items (line ∷ []) d place within))
+                    (stays_at place (get_or it.lines.items place d)
+                    (subst (λ (r : Ranges). IsLineAt asks w place r (get_or it.lines.items place d)) were
+                    (h.line_is place d before)))
+                | inr behind ↦
+                    let same : place ≡ n = omega (arith, low, behind) in
+                    let here : length it.lines.items ≡ place = count ∙ sym same in
+                    subst (λ (l : RpkiLine). IsLineAt asks w place new l)
+                    (sym (get_or_push it.lines.items line d place here))
+                    (subst (λ (m : ℕ). IsLineAt asks w m new line) (sym same) is)
+              ]));
+        }

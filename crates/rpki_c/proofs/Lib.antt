@@ -4,14 +4,13 @@ mod AnsweredWants
 mod CallersLists
 mod Cutting
 mod EntriesPut
-mod FatesFound
+mod SortedAnchors
 mod FaultTables
 mod FolderTermsGiven
 mod ForeignLists
 mod HeldLines
 mod Issuers
 mod KeysGathered
-mod LimitsFound
 mod ListTermsGiven
 mod OneMore
 mod PlacesFound

@@ -14,7 +14,7 @@ use Rattle.rpki_folder.specs.declared.folder.Added.{Added}
 use Rattle.rpki_folder.specs.declared.folder.Added.TheVariants.{Certificate, List as list_added, Neither}
 use Rattle.rpki_c.specs.Verdicts.{AreNoList}
 use Rattle.rpki_c.specs.FolderFates.{IsTakenFor, IsTakenForNoList, AreListsAmong, AreCertificatesAmong, IsFiledAs}
-use Rattle.rpki_c.specs.FolderFates.Steps.{IsAddedAs, AreSorted, IsSorted}
+use Rattle.rpki_c.specs.FolderFates.{IsAddedAs, AreSorted, IsSorted}
 use Rattle.rpki_c.specs.declared.sorting.Sorted.{Sorted}
 use Rattle.rpki_c.proofs.OneMore.{keep_push, pass_push}
 

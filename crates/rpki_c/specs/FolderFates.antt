@@ -1,35 +1,40 @@
 -- What becomes of strings, which are certificates and revocation lists in any order, below the
 -- trust anchor among them that is a locator's (own).
-use Rattle.std.specs.Prelude.{◌≡◌, ◌⊎◌, ◌+◌, ◌<◌, ℕ, Bool, List, [], ◌∷◌, ◌++◌, length, Err, IsTrue}
+use Rattle.std.specs.Prelude.{◌≡◌, ◌==◌, ◌<◌, ℕ, Bool, List, ◌∷◌, length, map, slice_get, slice_index_or}
+use Rattle.std.specs.Prelude.{if◌then◌else◌}
 use Rattle.rpki_ext.specs.Kinds.{Means}
 use Rattle.rpki_cert.specs.Certificates.{CertFields, IsCertificate}
-use Rattle.rpki_cert.specs.SaidKinds.{BeginsWithKind}
 use Rattle.rpki_cert.specs.Verification.{Context}
-use Rattle.rpki_cert.specs.declared.inspect.Kind.{Kind}
 use Rattle.rpki_crl.specs.Lists.{CrlState, IsCertificateList}
-use Rattle.rpki_path.specs.Asking.{RevocationChecks}
 use Rattle.rpki_path.specs.AskedLists.{by_named_lists}
-use Rattle.rpki_keys.specs.Locators.{NamedTal, TalFields}
 use Rattle.rpki_path.specs.LocatedPaths.{BeginsWithKey}
-use Rattle.rpki_path.specs.NameChains.{BeginChained}
-use Rattle.rpki_path.specs.Paths.{candidate}
 use Rattle.rpki_path.specs.declared.judging.Judged.{Judged}
 use Rattle.rpki_path.specs.declared.path_fault.PathFault.{PathFault}
-use Rattle.rpki_folder.specs.FirstPlaces.{AreFirstsIn, IsFirstIn}
-use Rattle.rpki_folder.specs.Folders.{string_at, AreOneAt, BeginsNoCertificate}
-use Rattle.rpki_folder.specs.FoundAnchors.{HasNoValid, IsAnchorAt}
-use Rattle.rpki_folder.specs.Walks.{Root, at_anchor, members_at, IsAcceptedAs, IsReached, IsRightOf, Covers}
-use Rattle.rpki_folder.specs.Walks.{AreAdmitted, IsLookedAt, HasBelow, IsShort}
+use Rattle.rpki_keys.specs.Locators.{NamedTal, TalFields}
+use Rattle.rpki_folder.specs.FirstPlaces.{first_place_of}
+use Rattle.rpki_folder.specs.Folders.{FolderFields, string_at, BeginsNoCertificate}
+use Rattle.rpki_folder.specs.FoundAnchors.{HasNoValid}
+use Rattle.rpki_folder.specs.KeptWalks.{IsKeptWalk}
+use Rattle.rpki_folder.specs.LimitTables.{nothing, reached_at}
+use Rattle.rpki_folder.specs.UnseenCertificates.{AreIssuersAmong, IsWhyUnseen, status_of}
+use Rattle.rpki_folder.specs.UsualBounds.{usual_steps}
 use Rattle.rpki_folder.specs.declared.bounds.Ended.{Ended}
 use Rattle.rpki_folder.specs.declared.firsts.Firsts.{Firsts}
-use Rattle.rpki_folder.specs.declared.bounds.Ended.TheVariants.{TooDeep, OutOfSteps}
+use Rattle.rpki_folder.specs.declared.folder.Added.{Added}
+use Rattle.rpki_folder.specs.declared.folder.Added.TheVariants.{Certificate, List as list_added, Neither}
+use Rattle.rpki_folder.specs.declared.limits.LimitTable.{LimitTable}
 use Rattle.rpki_folder.specs.declared.limits.Reached.{Reached}
-use Rattle.rpki_folder.specs.ReachedLimits.{AreLimited, LimitedCa}
-use Rattle.rpki_folder.specs.UsualBounds.{usual_steps}
-use Rattle.rpki_c.specs.FolderLimits.{AreReachedAt, IsCaOf}
+use Rattle.rpki_folder.specs.declared.lines.Line.{Line}
+use Rattle.rpki_folder.specs.declared.lines.Line.TheVariants.{Unseen, Accepted, Rejected}
+use Rattle.rpki_folder.specs.declared.unseen.IssuersByKey.{IssuersByKey}
+use Rattle.rpki_folder.specs.declared.unseen.IssuerStatus.{IssuerStatus}
+use Rattle.rpki_folder.specs.declared.unseen.Unseen.{Unseen as Why}
+use Rattle.rpki_folder.specs.declared.unseen.Unseen.TheVariants as why
 use Rattle.rpki_c.specs.FolderQuestions.{asked_or}
 use Rattle.rpki_c.specs.Strings.{AreKeptAmong}
 use Rattle.rpki_c.specs.Verdicts.{AreNoList}
+use Rattle.rpki_c.specs.declared.folder_lines.WalkLines.{WalkLines}
+use Rattle.rpki_c.specs.declared.sorting.Sorted.{Sorted}
 pub mod Steps
 
 -- ---- strings
@@ -74,95 +79,156 @@ pub record HasNoFolderAnchor (x : Context) (names : Bool) (t : NamedTal) (string
   pub lists_are : AreListsAmong strings lists
   pub none : HasNoValid x (by_named_lists names x lists) names t strings
 
+-- ---- sorting
+
+-- the octets are what they were added as
+abbrev pub IsAddedAs : List ℕ → Added → Type 0
+IsAddedAs octets (Certificate place) = (c : CertFields) × Means IsCertificate c octets
+IsAddedAs octets list_added = (l : CrlState) × IsTakenFor octets l
+IsAddedAs octets Neither = BeginsNoCertificate octets × AreNoList octets
+
+-- the strings are sorted into the folder: what each was added as, and at each certificate's place
+-- the place of its string, in the order of the strings
+pub record AreSorted (strings : List (List ℕ)) (f : FolderFields) (added : List Added) (origins : List ℕ) : Type 0 where
+  pub count : length added ≡ length strings
+  pub origin_count : length origins ≡ length f.certs
+  pub inside : (place d : ℕ) → place < length f.certs → slice_index_or origins place d < length strings
+  pub ascend : (place other d e : ℕ) → place < other → other < length f.certs
+      → slice_index_or origins place d < slice_index_or origins other e
+  pub came_from : (place d : ℕ) → place < length f.certs
+      → string_at strings (slice_index_or origins place d) ≡ string_at f.certs place
+  pub begins : (i : ℕ) (d : Added) → i < length strings → IsAddedAs (string_at strings i) (slice_index_or added i d)
+  pub placed : (i place : ℕ) (d : Added) → i < length strings → slice_index_or added i d ≡ Certificate place
+      → (place < length f.certs) × ((e : ℕ) → slice_index_or origins place e ≡ i)
+  pub lists_are : AreListsAmong strings f.lists
+  pub certs_are : AreCertificatesAmong strings f.certs
+
+abbrev pub AreSortedIn : List (List ℕ) → Sorted → Type 0
+AreSortedIn strings s = AreSorted strings s.folder s.added.items s.origins.items
+
+-- its own strings
+abbrev pub IsSorted : Sorted → Type 0
+IsSorted s = AreSortedIn s.strings.now s
+
+-- the string that the certificate at a place was; behind the last one a place behind all strings
+abbrev pub origin_of : Sorted → ℕ → ℕ
+origin_of s place = slice_index_or s.origins.items place (length s.added.items)
+
 -- ---- fates
 
--- a valid path leads, by the CAs at these places, to the certificate at the place, which is judged so
--- as what it says that it is; and its names chain, if they are asked (RFC 6487 7.2, RFC 5280 6.1.3 (a)
--- (4))
-pub record IsJudgedAt (x : Context) (asked : RevocationChecks) (names : Bool) (root : Root)
-    (strings : List (List ℕ)) (above : List ℕ) (place : ℕ) (j : Judged) : Type 0 where
-  pub kind : Kind
-  pub says : BeginsWithKind kind (string_at strings place)
-  pub accepted_is : IsAcceptedAs x asked root (members_at root strings above) kind
-      (string_at strings place) j
-  pub chained : IsTrue names → BeginChained root.anchor
-      (members_at root strings above ++ candidate kind (string_at strings place) ∷ [])
-
--- what becomes of a string: it is the trust anchor or a copy of it, a list, neither a list nor a certificate, or a
--- certificate which no CA of a valid path signed; or one that is accepted, below the CAs at these
--- places, and judged so; or one that is rejected, at this step below the trust anchor
+-- what becomes of a string: it is the trust anchor or a copy of it, a list, neither a list nor a certificate, or
+-- a certificate without a verdict; or one that is accepted, below the CAs at these places, and judged so; or
+-- one that is rejected, at this step below the trust anchor
 pub data Fate : Type 0 where
   anchor list neither unseen : Fate
   accepted : List ℕ → Judged → Fate
   rejected : ℕ → PathFault → Fate
 
--- it is what becomes of the string at the place
-abbrev pub IsFate : Context → RevocationChecks → Bool → Root → List (List ℕ) → ℕ → ℕ → Fate → Type 0
-IsFate x asked names root strings top place anchor = AreOneAt strings place top
-IsFate x asked names root strings top place list =
-    (l : CrlState) × IsTakenFor (string_at strings place) l
-IsFate x asked names root strings top place neither =
-    BeginsNoCertificate (string_at strings place) × AreNoList (string_at strings place)
-IsFate x asked names root strings top place unseen =
-    (c : CertFields) × Means IsCertificate c (string_at strings place)
-IsFate x asked names root strings top place (accepted above j) =
-    IsJudgedAt x asked names root strings above place j
-IsFate x asked names root strings top place (rejected step fault) =
-    (above : List ℕ) × (step ≡ length above + 1)
-    × IsRightOf x asked root (members_at root strings above) (string_at strings place) (Err fault)
+-- ---- what is kept of verdicts
 
--- the string is a valid certificate
-abbrev pub IsValidFate : Fate → Type 0
-IsValidFate anchor = Unit {0}
-IsValidFate (accepted above j) = Unit {0}
-IsValidFate _ = ⊥
-
--- a certificate stands below a valid path of so many CAs
-abbrev pub StandsBelow : Context → RevocationChecks → Root → List (List ℕ) → ℕ → Type 0
-StandsBelow x asked root strings n =
-    (above : List ℕ) × (length above ≡ n)
-    × HasBelow x asked (λ places place. Unit {0}) root strings [] above
-
--- What becomes of the strings below the trust anchor at a place: each fate is right, that of a copy is
--- that of the certificate, whatever is behind either, and each certificate is accepted to which a path
--- leads that was looked at, on which no issuer stands twice. The walk is said to have been too deep
--- only where a certificate stands below so many CAs.
-pub record AreFates (x : Context) (asked : RevocationChecks) (names : Bool) (root : Root)
-    (strings : List (List ℕ)) (top depth : ℕ) (ended : Ended) (fate : ℕ → Fate) : Type 0 where
-  pub anchor_is : fate top ≡ anchor
-  pub right : (place : ℕ) → place < length strings
-      → IsFate x asked names root strings top place (fate place)
-  pub copies : (place other : ℕ) → AreOneAt strings place other → fate place ≡ fate other
-  pub complete : (c : CertFields) (above : List ℕ) (place : ℕ) → place < length strings
-      → Means IsCertificate c root.anchor → Covers ended depth (length above + 1)
-      → AreAdmitted (IsLookedAt names (λ l p. Unit {0}) c strings) [] (above ++ place ∷ [])
-      → IsReached x asked root strings above place → IsValidFate (fate place)
-  pub too_deep : ended ≡ TooDeep → StandsBelow x asked root strings depth
-
--- what becomes of the strings at a moment, by a walk that ended so: the string at the place is the
--- trust anchor of the locator, the greatest of those that are valid; and the lists among them are asked
--- for revocation, which have to have their issuers' names if names are asked (RFC 5280 6.3.3 (b) (1));
--- the steps are those that are asked for, or else the usual ones. The walk is said to be out of steps
--- only where the share of a CA is less than its children, of which copies don't count. These are the
--- limits that it reached at the certificate of each string
-pub record IsJudgedFolder (x : Context) (names : Bool) (t : NamedTal) (strings : List (List ℕ))
-    (top depth steps : ℕ) (ended : Ended) (fate : ℕ → Fate) (reached : ℕ → Reached) : Type 0 where
-  pub lists : List CrlState
-  pub lists_are : AreListsAmong strings lists
-  pub anchor_is : IsAnchorAt x (by_named_lists names x lists) names t strings top
-  pub fates : AreFates x (by_named_lists names x lists) names (at_anchor t (string_at strings top))
-      strings top depth ended fate
-  pub certs : List (List ℕ)
-  pub certs_are : AreCertificatesAmong strings certs
+-- strings that are sorted into a folder, and what is kept of a walk over it, from the trust anchor at a place
+pub record StringWalk : Type 0 where
+  pub sorted : Sorted
+  pub anchor : ℕ
   pub firsts : Firsts
-  pub firsts_are : AreFirstsIn certs firsts
-  pub short : ended ≡ OutOfSteps → IsShort x (by_named_lists names x lists)
-      (IsLookedAt names (IsFirstIn firsts) anchor_is.cert certs)
-      (at_anchor t (string_at strings top)) certs [] (asked_or steps usual_steps)
-  pub limited : List LimitedCa
-  pub limited_are : AreLimited x (by_named_lists names x lists)
-      (IsLookedAt names (IsFirstIn firsts) anchor_is.cert certs)
-      (at_anchor t (string_at strings top)) certs depth (asked_or steps usual_steps) limited
-  pub reached_are : (place : ℕ) → place < length strings
-      → AreReachedAt (IsCaOf certs (string_at strings top) (string_at strings place)) limited
-      (reached place)
+  pub kept : List Line
+  pub limits : LimitTable
+
+-- by which the lines are
+abbrev pub seen : WalkLines → StringWalk
+seen w = record {
+  sorted = w.sorted.now;
+  anchor = w.anchor;
+  firsts = w.firsts.now;
+  kept = w.kept.now;
+  limits = w.limits.now;
+}
+
+-- of a certificate, by the strings of the CAs above it
+abbrev pub kept_fate : (ℕ → ℕ) → Line → Fate
+kept_fate origin Unseen = unseen
+kept_fate origin (Accepted paths) = accepted (map origin paths.first.above.items) paths.first.judged
+kept_fate origin (Rejected step fault) = rejected step fault
+
+-- of the certificate at a place of the folder: that of its first place, or the trust anchor's
+abbrev pub cert_fate : StringWalk → ℕ → Fate
+cert_fate w place =
+    let first = first_place_of w.firsts place in
+    if first == first_place_of w.firsts w.anchor then anchor else
+    kept_fate (origin_of w.sorted) (slice_index_or w.kept first Unseen)
+
+-- of what was added
+abbrev pub added_fate : StringWalk → Added → Fate
+added_fate w (Certificate place) = cert_fate w place
+added_fate w list_added = list
+added_fate w Neither = neither
+
+-- of the string at a place
+abbrev pub fate_at : StringWalk → ℕ → Fate
+fate_at w place = added_fate w (slice_index_or w.sorted.added.items place Neither)
+
+-- the limits that were reached at the certificate at a place of the folder: those at its first place
+abbrev pub cert_reached : StringWalk → ℕ → Reached
+cert_reached w place = reached_at w.limits (first_place_of w.firsts place)
+
+-- at what was added
+abbrev pub added_reached : StringWalk → Added → Reached
+added_reached w (Certificate place) = cert_reached w place
+added_reached w list_added = nothing
+added_reached w Neither = nothing
+
+-- at the string at a place
+abbrev pub line_reached_at : StringWalk → ℕ → Reached
+line_reached_at w place = added_reached w (slice_index_or w.sorted.added.items place Neither)
+
+-- ---- why there is no verdict
+
+-- the status of the certificate at a place of the folder as an issuer, after the walk
+abbrev pub cert_status : StringWalk → ℕ → IssuerStatus
+cert_status w place =
+    let first = first_place_of w.firsts place in
+    status_of (first == first_place_of w.firsts w.anchor) (slice_get w.kept first)
+    (reached_at w.limits first)
+
+-- with the string of the issuer in place of its certificate in the folder
+abbrev pub moved : (ℕ → ℕ) → Why → Why
+moved origin why.NoIssuer = why.NoIssuer
+moved origin (why.NotBelow place) = why.NotBelow (origin place)
+moved origin (why.NotCa place) = why.NotCa (origin place)
+moved origin (why.NotLookedAt place limit) = why.NotLookedAt (origin place) limit
+moved origin (why.BelowRejected place) = why.BelowRejected (origin place)
+moved origin (why.BelowUnseen place) = why.BelowUnseen (origin place)
+
+-- of each key the issuer among all certificates of the folder
+abbrev pub AreCertIssuers : StringWalk → IssuersByKey → Type 0
+AreCertIssuers w issuers =
+    AreIssuersAmong w.sorted.folder.certs (cert_status w) (length w.sorted.folder.certs) issuers
+
+-- why there is no verdict on the certificate at a place of the folder
+abbrev pub IsCertWhy : StringWalk → ℕ → Why → Type 0
+IsCertWhy w place why =
+    let certs = w.sorted.folder.certs in (below : Why)
+    × IsWhyUnseen certs (cert_status w) (string_at certs place) below
+    × (why ≡ moved (origin_of w.sorted) below)
+
+-- on what was added
+abbrev pub IsAddedWhy : StringWalk → Added → Why → Type 0
+IsAddedWhy w (Certificate place) why = IsCertWhy w place why
+IsAddedWhy w list_added why = ⊥
+IsAddedWhy w Neither why = ⊥
+
+-- on the string at a place
+abbrev pub IsWhyAt : StringWalk → ℕ → Why → Type 0
+IsWhyAt w place why = IsAddedWhy w (slice_index_or w.sorted.added.items place Neither) why
+
+-- ---- the walk
+
+-- These are the lines of the strings at a moment: the strings are sorted into a folder, over which a walk
+-- went from the locator's trust anchor, and ended so. The lists among the strings are asked for
+-- revocation, which have to have their issuers' names if names are asked (RFC 5280 6.3.3 (b) (1)); the
+-- steps are those that are asked for, or else the usual ones
+pub record IsWalkedFolder (x : Context) (names : Bool) (t : NamedTal) (strings : List (List ℕ))
+    (depth steps : ℕ) (w : StringWalk) (ended : Ended) : Type 0 where
+  pub sorted : AreSortedIn strings w.sorted
+  pub kept : IsKeptWalk x names t w.sorted.folder depth (asked_or steps usual_steps) w.anchor
+      w.firsts w.kept w.limits ended

@@ -16,9 +16,13 @@ use Rattle.rpki_folder.specs.Folders.{string_at}
 use Rattle.rpki_folder.specs.Walks.{HasOtherName}
 use Rattle.rpki_folder.specs.declared.bounds.Ended.{Ended}
 use Rattle.rpki_folder.specs.declared.bounds.Ended.TheVariants.{Whole, TooDeep, OutOfSteps}
+use Rattle.rpki_folder.specs.declared.unseen.Unseen.{Unseen}
+use Rattle.rpki_folder.specs.declared.unseen.Unseen.TheVariants.{NoIssuer, NotBelow, NotCa, NotLookedAt, BelowRejected}
+use Rattle.rpki_folder.specs.declared.unseen.Unseen.TheVariants.{BelowUnseen}
 use Rattle.rpki_c.specs.FaultNumbers.{path_number, refusal_number}
 use Rattle.rpki_c.specs.FolderFates.{Fate, anchor, list, neither, unseen, accepted, rejected, AreListsAmong}
-use Rattle.rpki_c.specs.FolderFates.{HasNoFolderAnchor, NoneHasKey, IsJudgedFolder}
+use Rattle.rpki_c.specs.FolderFates.{HasNoFolderAnchor, IsWalkedFolder, IsWhyAt, NoneHasKey, fate_at, line_reached_at}
+use Rattle.rpki_c.specs.FolderFates.{StringWalk, origin_of}
 use Rattle.rpki_c.specs.FolderLimits.{TellsReached, but_for_limits}
 use Rattle.rpki_c.specs.FolderQuestions.{HasFolderTerms, HasNoFolderTerms}
 use Rattle.rpki_c.specs.HeldRanges.{AreHeldAt, no_ranges_held}
@@ -91,40 +95,66 @@ IsAcceptedLine asks_key kind top above j ranges line =
     ⊎ (HasKeyAsked asks_key j × AreHeldAt j.holder ranges line.held
     × (line ≡ accepted_line kind top above line.held))
 
--- the line of a string that has this fate
-abbrev pub IsFateLine : Bool → ℕ → List ℕ → Fate → Ranges → RpkiLine → Type 0
-IsFateLine asks_key top octets unseen ranges line = line ≡ plain_line 0
-IsFateLine asks_key top octets anchor ranges line = line ≡ plain_line 1
-IsFateLine asks_key top octets (accepted above j) ranges line =
+-- the number that tells why there is no verdict, and the place of the issuer, where there is one
+abbrev pub unseen_number : Unseen → ℕ
+unseen_number NoIssuer = 0
+unseen_number (NotBelow issuer) = 6
+unseen_number (NotCa issuer) = 7
+unseen_number (NotLookedAt issuer limit) = 8
+unseen_number (BelowRejected issuer) = 9
+unseen_number (BelowUnseen issuer) = 10
+
+abbrev pub unseen_issuer : Unseen → ℕ
+unseen_issuer NoIssuer = 0
+unseen_issuer (NotBelow issuer) = issuer
+unseen_issuer (NotCa issuer) = issuer
+unseen_issuer (NotLookedAt issuer limit) = issuer
+unseen_issuer (BelowRejected issuer) = issuer
+unseen_issuer (BelowUnseen issuer) = issuer
+
+-- the line of a certificate without a verdict
+abbrev pub unseen_line : Unseen → RpkiLine
+unseen_line why = record (plain_line (unseen_number why)) { issuer = unseen_issuer why }
+
+-- the line of a string that has this fate, where these are reasons why there is no verdict on it
+abbrev pub IsFateLine : Bool → ℕ → List ℕ → (Unseen → Type 0) → Fate → Ranges → RpkiLine → Type 0
+IsFateLine asks_key top octets IsWhy unseen ranges line =
+    (why : Unseen) × IsWhy why × (line ≡ unseen_line why)
+IsFateLine asks_key top octets IsWhy anchor ranges line = line ≡ plain_line 1
+IsFateLine asks_key top octets IsWhy (accepted above j) ranges line =
     (kind : ℕ) × IsKindSaid octets kind × IsAcceptedLine asks_key kind top above j ranges line
-IsFateLine asks_key top octets (rejected step fault) ranges line =
+IsFateLine asks_key top octets IsWhy (rejected step fault) ranges line =
     (kind : ℕ) × IsKindSaid octets kind × (line ≡ rejected_line kind step (path_number fault))
-IsFateLine asks_key top octets list ranges line = line ≡ plain_line 4
-IsFateLine asks_key top octets neither ranges line = line ≡ plain_line 5
+IsFateLine asks_key top octets IsWhy list ranges line = line ≡ plain_line 4
+IsFateLine asks_key top octets IsWhy neither ranges line = line ≡ plain_line 5
 
 -- the line of a string that has this fate, and at whose certificate these limits were reached
-abbrev pub IsLineWith : Bool → ℕ → List ℕ → Fate → Reached → Ranges → RpkiLine → Type 0
-IsLineWith asks_key top octets fate r ranges line =
-    IsFateLine asks_key top octets fate ranges (but_for_limits line) × TellsReached r line
+abbrev pub IsLineWith : Bool → ℕ → List ℕ → (Unseen → Type 0) → Fate → Reached → Ranges → RpkiLine → Type 0
+IsLineWith asks_key top octets IsWhy fate r ranges line =
+    IsFateLine asks_key top octets IsWhy fate ranges (but_for_limits line) × TellsReached r line
 
--- these are the lines of so many strings, which have these fates, and at whose certificates these
--- limits were reached, with what is held
-pub record AreLinesOf (asks_key : Bool) (top : ℕ) (strings : List (List ℕ)) (fate : ℕ → Fate)
-    (reached : ℕ → Reached) (count : ℕ) (it : ToldLines) : Type 0 where
+-- the line of the string at a place, by the lines of the walk
+abbrev pub IsLineAt : Bool → StringWalk → ℕ → Ranges → RpkiLine → Type 0
+IsLineAt asks_key w place ranges line =
+    IsLineWith asks_key (origin_of w.sorted w.anchor) (string_at w.sorted.strings.now place)
+    (IsWhyAt w place) (fate_at w place) (line_reached_at w place) ranges line
+
+-- these are the lines of so many strings, with what is held
+pub record AreLinesOf (asks_key : Bool) (w : StringWalk) (count : ℕ) (it : ToldLines) : Type 0 where
   pub count_is : length it.lines.items ≡ count
   pub line_is : (place : ℕ) (d : RpkiLine) → place < count
-      → IsLineWith asks_key top (string_at strings place) (fate place) (reached place) it.ranges
-      (slice_index_or it.lines.items place d)
+      → IsLineAt asks_key w place it.ranges (slice_index_or it.lines.items place d)
 
 -- ---- answers
 
 -- what became of the strings, below the locator's trust anchor among them
 pub record IsWalkOf (x : Context) (f : FolderTerms) (t : NamedTal) (strings : List (List ℕ))
     (w : Walked) : Type 0 where
-  pub fate : ℕ → Fate
-  pub reached : ℕ → Reached
-  pub judged : IsJudgedFolder x f.asks_names t strings w.anchor f.depth f.steps w.ended fate reached
-  pub lines_are : AreLinesOf f.asks_key w.anchor strings fate reached (length strings) w.told
+  pub lines : StringWalk
+  pub strings_are : lines.sorted.strings.now ≡ strings
+  pub walked : IsWalkedFolder x f.asks_names t strings f.depth f.steps lines w.ended
+  pub anchor_is : w.anchor ≡ origin_of lines.sorted lines.anchor
+  pub lines_are : AreLinesOf f.asks_key lines (length strings) w.told
 
 -- the file is no locator
 abbrev pub IsTalRefusal : Bool → List ℕ → Refusal → Type 0

@@ -10,21 +10,25 @@ use crate::judging::has_key_asked;
 use crate::limits::{limits_number, needed_number};
 use crate::ranges::{Ranges, RpkiHeld};
 use crate::sorting::Sorted;
-use rpki_cert::Kind;
-use rpki_folder::{Added, Firsts, FoundPath, LimitTable, Line, Reached};
+use rpki_cert::{Kind, Said};
+use rpki_folder::{
+    Added, Firsts, FoundPath, IssuerStatus, IssuersByKey, LimitTable, Line, Reached, Unseen,
+};
 use std::alloc::{AllocError, Global};
 
 /// The result for a string.
 #[repr(C)]
 #[derive(Clone, Copy)]
 pub struct RpkiLine {
-    /// 0 not judged, 1 the trust anchor, 2 accepted, 3 rejected, 4 a CRL, 5 neither.
+    /// 1 the trust anchor, 2 accepted, 3 rejected, 4 a CRL, 5 neither. Without a verdict: 0 no issuer,
+    /// 6 not issued by the issuer, 7 the issuer isn't a CA, 8 a limit was reached at the issuer, 9 the
+    /// issuer is rejected, 10 it has no verdict either.
     pub what: u32,
     /// The number of the error, if the certificate is rejected.
     pub fault: u32,
     /// How many certificates of the path are above it, if it is accepted or rejected.
     pub step: u64,
-    /// The index of the issuer's string, if it is accepted.
+    /// The index of the issuer's string, if it is accepted, or has an issuer and no verdict.
     pub issuer: u64,
     /// The kind as which it was judged, if it is accepted or rejected: 1 a CA, 2 an end entity, 3 a
     /// detached end entity, 4 a router.
@@ -46,7 +50,7 @@ pub(crate) struct ToldLines {
     pub(crate) ranges: Ranges,
 }
 
-const UNSEEN: u32 = 0;
+const NO_ISSUER: u32 = 0;
 
 const ANCHOR: u32 = 1;
 
@@ -57,6 +61,16 @@ const REJECTED: u32 = 3;
 const LIST: u32 = 4;
 
 const NEITHER: u32 = 5;
+
+const NOT_ISSUED: u32 = 6;
+
+const ISSUER_NOT_CA: u32 = 7;
+
+const NOT_LOOKED_AT: u32 = 8;
+
+const BELOW_REJECTED: u32 = 9;
+
+const BELOW_UNSEEN: u32 = 10;
 
 fn kind_number(kind: Kind) -> u32
     ensures { result ≡ number_of kind }
@@ -144,9 +158,10 @@ pub(crate) struct WalkLines<'w, 's> {
 
 impl<'s> Sorted<'s> {
     ghost use Rattle.std.specs.Prelude.{◌≡◌, ◌<◌, length, map, IfOk, OnOk};
+    ghost use Rattle.rpki_cert.specs.SaidKinds.{BeginsWithSaid};
     ghost use Rattle.rpki_folder.specs.Folders.{string_at};
-    ghost use Rattle.rpki_c.specs.FolderFates.Steps.{origin_of, kept_fate};
-    ghost use Rattle.rpki_c.specs.FolderTelling.{issuer_of, IsAcceptedLine, IsKindSaid, IsFateLine};
+    ghost use Rattle.rpki_c.specs.FolderFates.{moved, origin_of};
+    ghost use Rattle.rpki_c.specs.FolderTelling.{issuer_of, unseen_line, IsAcceptedLine, IsKindSaid};
     ghost use Rattle.rpki_c.specs.HeldRanges.{HaveGrown};
 
     // The place of the issuer's string, below the CAs at these places of the folder.
@@ -159,12 +174,42 @@ impl<'s> Sorted<'s> {
         }
     }
 
+    // What the certificate at a place of the folder says.
+    fn said(&self, at: usize) -> Said
+        requires { at < length self.now.folder.certs }
+        ensures { BeginsWithSaid result (string_at self.now.folder.certs at) }
+    {
+        self.folder.certs()[at].said()
+    }
+
     // The number of the kind as which the certificate at a place of the folder is judged.
     fn kind(&self, at: usize) -> u32
         requires { at < length self.now.folder.certs }
         ensures { IsKindSaid (string_at self.now.folder.certs at) result }
     {
-        kind_number(self.folder.certs()[at].said().kind)
+        kind_number(self.said(at).kind)
+    }
+
+    // The line of a certificate without a verdict.
+    fn unseen(&self, why: Unseen) -> RpkiLine
+        ensures { result ≡ unseen_line (moved (origin_of self.now) why) }
+    {
+        let (what, place) = match why {
+            Unseen::NoIssuer => (NO_ISSUER, None),
+            Unseen::NotBelow(place) => (NOT_ISSUED, Some(place)),
+            Unseen::NotCa(place) => (ISSUER_NOT_CA, Some(place)),
+            Unseen::NotLookedAt(place, _) => (NOT_LOOKED_AT, Some(place)),
+            Unseen::BelowRejected(place) => (BELOW_REJECTED, Some(place)),
+            Unseen::BelowUnseen(place) => (BELOW_UNSEEN, Some(place)),
+        };
+        let issuer = match place {
+            Some(place) => self.origin(place),
+            None => 0,
+        };
+        RpkiLine {
+            issuer: issuer as u64,
+            ..plain(what)
+        }
     }
 
     // The line of a certificate that is judged as one of the kind of this number, and to which this
@@ -198,68 +243,109 @@ impl<'s> Sorted<'s> {
             needed: 0,
         })
     }
-
-    // The line of the certificate at a place of the folder, of which this is kept.
-    #[tactic(auto, using(crate::proofs::HeldLines::not_grown))]
-    fn line(
-        &self,
-        at: usize,
-        kept: &Line,
-        anchor: usize,
-        asks_key: bool,
-        ranges: &mut Ranges,
-    ) -> Result<RpkiLine, AllocError>
-        requires { at < length self.now.folder.certs }
-        ensures line { let octets = string_at self.now.folder.certs at in
-            let fate = kept_fate (origin_of self.now) kept.now in
-            IfOk result (IsFateLine asks_key anchor octets fate ranges.new) }
-        ensures grown { OnOk result (HaveGrown ranges.old ranges.new) }
-    {
-        let kind = self.kind(at);
-        match kept {
-            Line::Unseen => Ok(plain(UNSEEN)),
-            Line::Accepted(paths) => self.accepted(kind, &paths.first, anchor, asks_key, ranges),
-            Line::Rejected(step, fault) => Ok(rejected(kind, *step, of_path(fault))),
-        }
-    }
 }
 
 impl<'w, 's> WalkLines<'w, 's> {
     ghost use Rattle.std.specs.Prelude.{◌≡◌, ◌<◌, length, IfOk, IsTrue, OnOk};
     ghost use Rattle.rpki_folder.specs.Folders.{string_at};
-    ghost use Rattle.rpki_c.specs.FolderFates.Steps.{IsSorted, origin_of, cert_fate, cert_reached, fate_at, line_reached_at};
-    ghost use Rattle.rpki_c.specs.FolderTelling.{AreLinesOf, IsFateLine, IsLineWith};
+    ghost use Rattle.rpki_folder.specs.UnseenCertificates.{AreIssuersAmong};
+    ghost use Rattle.rpki_c.specs.FolderFates.{AreCertIssuers, IsCertWhy, IsSorted, cert_fate, cert_reached, cert_status, kept_fate, origin_of, seen};
+    ghost use Rattle.rpki_c.specs.FolderTelling.{AreLinesOf, IsFateLine, IsLineAt, unseen_line};
+    ghost use Rattle.rpki_folder.specs.declared.unseen.Unseen.{Unseen};
     ghost use Rattle.rpki_c.specs.HeldRanges.{HaveGrown};
+
+    // The status of the certificate at a place of the folder as an issuer.
+    fn status(&self, at: usize) -> IssuerStatus
+        ensures { result ≡ cert_status (seen self.now) at }
+    {
+        let first = self.firsts.first_of(at);
+        let is_anchor = first == self.firsts.first_of(self.anchor);
+        IssuerStatus::of(is_anchor, self.kept.get(first), self.limits.at(first))
+    }
+
+    // The issuers among the certificates of the folder.
+    fn issuers(&self, alloc: Global) -> Result<IssuersByKey, AllocError>
+        ensures { IfOk result (AreCertIssuers (seen self.now)) }
+    {
+        let mut issuers = IssuersByKey::new(alloc);
+        for at in 0..self.sorted.folder.certs().len() {
+            issuers.add(at, self.sorted.said(at), self.status(at))?;
+        }
+        Ok(issuers)
+    }
+
+    // The line of the certificate at a place of the folder, on which there is no verdict.
+    fn unseen(&self, issuers: &IssuersByKey, at: usize) -> RpkiLine
+        requires issuers { AreCertIssuers (seen self.now) issuers.now }
+        requires inside { at < length self.now.sorted.now.folder.certs }
+        ensures { (why : Unseen) × IsCertWhy (seen self.now) at why × (result ≡ unseen_line why) }
+    {
+        let why = issuers.why_unseen(self.sorted.said(at));
+        self.sorted.unseen(why)
+    }
+
+    // The line of the certificate at a place of the folder, of which this is kept.
+    #[tactic(auto, using(crate::proofs::HeldLines::not_grown))]
+    fn kept_line(
+        &self,
+        issuers: &IssuersByKey,
+        at: usize,
+        kept: &Line,
+        asks_key: bool,
+        ranges: &mut Ranges,
+    ) -> Result<RpkiLine, AllocError>
+        requires issuers { AreCertIssuers (seen self.now) issuers.now }
+        requires inside { at < length self.now.sorted.now.folder.certs }
+        ensures line { let sorted = self.now.sorted.now in
+            let octets = string_at sorted.folder.certs at in
+            let top = origin_of sorted self.now.anchor in
+            IfOk result (IsFateLine asks_key top octets (IsCertWhy (seen self.now) at)
+            (kept_fate (origin_of sorted) kept.now) ranges.new) }
+        ensures grown { OnOk result (HaveGrown ranges.old ranges.new) }
+    {
+        let kind = self.sorted.kind(at);
+        let top = self.sorted.origin(self.anchor);
+        match kept {
+            Line::Accepted(paths) => {
+                self.sorted
+                    .accepted(kind, &paths.first, top, asks_key, ranges)
+            }
+            Line::Rejected(step, fault) => Ok(rejected(kind, *step, of_path(fault))),
+            Line::Unseen => Ok(self.unseen(issuers, at)),
+        }
+    }
 
     // The line of the certificate at a place of the folder: that of its first place.
     #[tactic(auto, using(crate::proofs::HeldLines::not_grown))]
     fn cert_line(
         &self,
+        issuers: &IssuersByKey,
         at: usize,
         asks_key: bool,
         ranges: &mut Ranges,
     ) -> Result<RpkiLine, AllocError>
-        requires { at < length self.now.sorted.now.folder.certs }
+        requires issuers { AreCertIssuers (seen self.now) issuers.now }
+        requires inside { at < length self.now.sorted.now.folder.certs }
         ensures line { let sorted = self.now.sorted.now in
             let octets = string_at sorted.folder.certs at in
             let top = origin_of sorted self.now.anchor in
-            IfOk result (IsFateLine asks_key top octets (cert_fate self.now at) ranges.new) }
+            IfOk result (IsFateLine asks_key top octets (IsCertWhy (seen self.now) at)
+            (cert_fate (seen self.now) at) ranges.new) }
         ensures grown { OnOk result (HaveGrown ranges.old ranges.new) }
     {
         let first = self.firsts.first_of(at);
         if first == self.firsts.first_of(self.anchor) {
             return Ok(plain(ANCHOR));
         }
-        let top = self.sorted.origin(self.anchor);
         match self.kept.get(first) {
-            Some(kept) => self.sorted.line(at, kept, top, asks_key, ranges),
-            None => Ok(plain(UNSEEN)),
+            Some(kept) => self.kept_line(issuers, at, kept, asks_key, ranges),
+            None => Ok(self.unseen(issuers, at)),
         }
     }
 
     // The limits that were reached at the certificate at a place of the folder.
     fn reached(&self, at: usize) -> Reached
-        ensures { result ≡ cert_reached self.now at }
+        ensures { result ≡ cert_reached (seen self.now) at }
     {
         self.limits.at(self.firsts.first_of(at))
     }
@@ -268,22 +354,20 @@ impl<'w, 's> WalkLines<'w, 's> {
     #[tactic(auto, using(crate::proofs::HeldLines::not_grown))]
     fn line_at(
         &self,
+        issuers: &IssuersByKey,
         asks_key: bool,
         place: usize,
         ranges: &mut Ranges,
     ) -> Result<RpkiLine, AllocError>
         requires sorted { IsSorted self.now.sorted.now }
+        requires issuers { AreCertIssuers (seen self.now) issuers.now }
         requires inside { place < length self.now.sorted.now.strings.now }
-        ensures line { let sorted = self.now.sorted.now in
-            let octets = string_at sorted.strings.now place in
-            let top = origin_of sorted self.now.anchor in
-            IfOk result (IsLineWith asks_key top octets (fate_at self.now place)
-            (line_reached_at self.now place) ranges.new) }
+        ensures line { IfOk result (IsLineAt asks_key (seen self.now) place ranges.new) }
         ensures grown { OnOk result (HaveGrown ranges.old ranges.new) }
     {
         match self.sorted.added[place] {
             Added::Certificate(at) => {
-                let line = self.cert_line(at, asks_key, ranges)?;
+                let line = self.cert_line(issuers, at, asks_key, ranges)?;
                 Ok(with_limits(line, self.reached(at)))
             }
             Added::List => Ok(plain(LIST)),
@@ -294,16 +378,14 @@ impl<'w, 's> WalkLines<'w, 's> {
     /// Returns the line of each string.
     pub(crate) fn told(&self, alloc: Global, asks_key: bool) -> Result<ToldLines, AllocError>
         requires { IsSorted self.now.sorted.now }
-        ensures { let sorted = self.now.sorted.now in
-            let strings = sorted.strings.now in
-            let top = origin_of sorted self.now.anchor in
-            IfOk result (AreLinesOf asks_key top strings (fate_at self.now)
-            (line_reached_at self.now) (length strings)) }
+        ensures { let count = length self.now.sorted.now.strings.now in
+            IfOk result (AreLinesOf asks_key (seen self.now) count) }
     {
+        let issuers = self.issuers(alloc)?;
         let mut lines = Vec::new(alloc);
         let mut ranges = Ranges::new(alloc);
         for place in 0..self.sorted.strings.len() {
-            let line = self.line_at(asks_key, place, &mut ranges)?;
+            let line = self.line_at(&issuers, asks_key, place, &mut ranges)?;
             lines.push(line)?;
         }
         Ok(ToldLines { lines, ranges })

@@ -45,7 +45,7 @@ mod wanted_list;
 /// Returns the number of this interface. It grows with each change that a caller has to follow.
 #[unsafe(no_mangle)]
 pub extern "C" fn rpki_abi_version() -> u32
-    ensures { result ≡ 4 }
+    ensures { result ≡ 5 }
 {
-    4
+    5
 }

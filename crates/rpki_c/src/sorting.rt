@@ -1,6 +1,6 @@
 //! Strings, sorted into certificates and CRLs.
 ghost use Rattle.std.specs.Prelude.{◌≡◌, ◌++◌, ◌∷◌, [], ℕ, List, IfOk, OnOk};
-ghost use Rattle.rpki_c.specs.FolderFates.Steps.{AreSortedIn, IsSorted, origin_of};
+ghost use Rattle.rpki_c.specs.FolderFates.{AreSortedIn, IsSorted, origin_of};
 
 use bytes::Bytes;
 use rpki_folder::{Added, Folder};

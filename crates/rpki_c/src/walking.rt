@@ -12,7 +12,8 @@ ghost use Rattle.rpki_folder.specs.ReachedLimits.{AreLimited, LimitedCa, ended_o
 ghost use Rattle.rpki_folder.specs.UsualBounds.{usual_steps};
 ghost use Rattle.rpki_folder.specs.Walks.{IsLookedAt, LeadsTo, Root, TellsBelow, Told, members_at};
 ghost use Rattle.rpki_folder.specs.declared.anchors.FoundAnchor.TheVariants.{Valid};
-ghost use Rattle.rpki_c.specs.FolderFates.Steps.{IsSorted, refusal_of, wrong_first};
+ghost use Rattle.rpki_c.specs.FolderFates.{IsSorted};
+ghost use Rattle.rpki_c.specs.FolderFates.Steps.{refusal_of, wrong_first};
 ghost use Rattle.rpki_c.specs.FolderQuestions.{asked_or};
 ghost use Rattle.rpki_c.specs.FolderTelling.{AnswersBelow, AnswersGiven, AnswersFolder};
 

@@ -4,7 +4,7 @@ use Rattle.rpki_cert.specs.Verification.{context}
 use Rattle.rpki_keys.specs.RsaSignatures.{IsSignedByRsa}
 use Rattle.rpki_c.specs.FolderTelling.{AnswersBelow}
 use Rattle.rpki_c.specs.declared.refusal.Refusal.{Refusal}
-use Rattle.rpki_c.proofs.FatesFound.{wrong_answered}
+use Rattle.rpki_c.proofs.SortedAnchors.{wrong_answered}
 use Rattle.rpki_c.proofs.walking.walk_sorted.Goals as goal
 
 pub returns-in-Valid : goal.returns-in-Valid

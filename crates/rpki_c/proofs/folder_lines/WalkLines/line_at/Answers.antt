@@ -4,16 +4,18 @@ use Rattle.rpki_folder.specs.Folders.{string_at}
 use Rattle.rpki_folder.specs.declared.folder.Added.{Added}
 use Rattle.rpki_folder.specs.declared.folder.Added.TheVariants.{Certificate, Neither}
 use Rattle.rpki_c.specs.FolderFates.{Fate}
-use Rattle.rpki_c.specs.FolderFates.Steps.{added_fate, added_reached, cert_fate, fate_at, origin_of, line_reached_at}
+use Rattle.rpki_c.specs.FolderFates.{IsAddedWhy, IsCertWhy, IsWhyAt, added_fate, added_reached, cert_fate, fate_at}
+use Rattle.rpki_c.specs.FolderFates.{origin_of, line_reached_at, seen}
 use Rattle.rpki_c.specs.FolderLimits.{TellsReached}
 use Rattle.rpki_c.specs.FolderTelling.{IsFateLine}
 use Rattle.rpki_folder.specs.declared.limits.Reached.{Reached}
+use Rattle.rpki_folder.specs.declared.unseen.Unseen.{Unseen as Why}
 use Rattle.rpki_c.proofs.HeldLines.{line_with}
 use Rattle.rpki_c.proofs.SortedMore.{filed_at}
 use Rattle.rpki_c.proofs.folder_lines.WalkLines.line_at.Goals as goal
 
-pub cert_line-requires : goal.cert_line-requires
-cert_line-requires c =
+pub cert_line-requires-clause-inside : goal.cert_line-requires-clause-inside
+cert_line-requires-clause-inside c =
     let s = c.args.self.now.sorted.now in
     let place = c.args.place in
     let inside : place < length s.added.items = subst (λ (n : ℕ). place < n) (sym c.requires.sorted.count)
@@ -25,8 +27,8 @@ cert_line-requires c =
 
 pub returns-in_ok-line-in-Certificate-clause-line : goal.returns-in_ok-line-in-Certificate-clause-line
 returns-in_ok-line-in-Certificate-clause-line c =
-    let w = c.args.self.now in
-    let s = w.sorted.now in
+    let w = seen c.args.self.now in
+    let s = w.sorted in
     let at = c.in-Certificate.at in
     let place = c.args.place in
     let top = origin_of s w.anchor in
@@ -42,11 +44,14 @@ returns-in_ok-line-in-Certificate-clause-line c =
     let ranges = c.cert_line.new.ranges in
     let line = c.in_ok-line-in-Certificate.line in
     let told = c.with_limits.result in
-    line_with c.args.asks_key top (string_at s.strings.now place) ranges (fate_at w place) (line_reached_at w place)
-    line
-    told
-    (subst (λ (f : Fate). IsFateLine c.args.asks_key top (string_at s.strings.now place) f ranges line) fate
-    (subst (λ (o : List ℕ). IsFateLine c.args.asks_key top o (cert_fate w at) ranges line) filed.1
-    c.in_ok-line-in-Certificate.ensures.line))
+    let why : IsCertWhy w at ≡ IsWhyAt w place = sym (ap (λ (a : Added). IsAddedWhy w a) read) in
+    line_with c.args.asks_key top (string_at s.strings.now place) (IsWhyAt w place) ranges (fate_at w place)
+    (line_reached_at w place) line told
+    (subst (λ (Is : Why → Type 0). IsFateLine c.args.asks_key top (string_at s.strings.now place) Is (fate_at w place)
+    ranges line) why
+    (subst (λ (f : Fate). IsFateLine c.args.asks_key top (string_at s.strings.now place) (IsCertWhy w at) f ranges
+    line) fate
+    (subst (λ (o : List ℕ). IsFateLine c.args.asks_key top o (IsCertWhy w at) (cert_fate w at) ranges line) filed.1
+    c.in_ok-line-in-Certificate.ensures.line)))
     c.with_limits.ensures.line
     (subst (λ (r : Reached). TellsReached r told) reached c.with_limits.ensures.limits)

@@ -1,5 +1,5 @@
 use Rattle.std.proofs.Common.{◌≡◌, take}
-use Rattle.rpki_c.specs.FolderFates.Steps.{AreSortedIn}
+use Rattle.rpki_c.specs.FolderFates.{AreSortedIn}
 use Rattle.rpki_c.proofs.sorting.Sorted.add_all.Given as goal
 
 abbrev pub invariant-loop-octets : goal.invariant-loop-octets

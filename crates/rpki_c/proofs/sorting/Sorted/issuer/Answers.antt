@@ -1,7 +1,7 @@
 use Rattle.std.specs.Prelude.{slice_get, Some}
 use Rattle.std.proofs.Common.{◌≡◌, ◌-◌, length, sym, ap, ◌∙◌}
 use Rattle.std.specs.Option.{option_copied}
-use Rattle.rpki_c.specs.FolderFates.Steps.{origin_of}
+use Rattle.rpki_c.specs.FolderFates.{origin_of}
 use Rattle.rpki_c.proofs.Issuers.{issuer_last}
 use Rattle.rpki_c.proofs.sorting.Sorted.issuer.Goals as goal
 
