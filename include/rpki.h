@@ -64,7 +64,7 @@ extern "C" {
 #endif
 
 /* What rpki_abi_version returns if this header fits the library. */
-#define RPKI_ABI 4
+#define RPKI_ABI 5
 
 /* The version of Gonxebhula that this header is of: MAJOR.MINOR.PATCH. */
 #define RPKI_VERSION "0.2.0"
@@ -810,16 +810,27 @@ struct rpki_folder_question {
     uint32_t names;  /* is an enum rpki_names, for the anchor, each certificate and each CRL */
 };
 
-/* Numbers the results for a string. */
+/* Numbers the results for a string. Number 0 and those above 5 are certificates without a verdict. For
+ * those above 5 the certificate's issuer is the one among the strings whose key it names as its signer's,
+ * and `issuer` of the line is that one's place. An issuer that is rejected with RPKI_BAD_KEY counts as
+ * accepted here. */
 enum rpki_fate {
-    RPKI_LINE_UNSEEN = 0,   /* a certificate without a verdict: no accepted CA has the key that it
-                             * names as its issuer's and, if names are checked, the name of its
-                             * issuer; or a limit was reached before */
-    RPKI_LINE_ANCHOR = 1,   /* the trust anchor, which is valid, or a copy of it */
-    RPKI_LINE_ACCEPTED = 2, /* the last certificate of a valid path */
-    RPKI_LINE_REJECTED = 3, /* a certificate that is wrong below each valid path that was tried */
-    RPKI_LINE_LIST = 4,     /* a CRL, whether it was used or not */
-    RPKI_LINE_NEITHER = 5   /* bytes that are neither; also a CRL that other bytes follow */
+    RPKI_LINE_NO_ISSUER = 0,      /* a certificate that names no key as its signer's, or a key that no
+                                   * certificate among the strings has */
+    RPKI_LINE_ANCHOR = 1,         /* the trust anchor, which is valid, or a copy of it */
+    RPKI_LINE_ACCEPTED = 2,       /* the last certificate of a valid path */
+    RPKI_LINE_REJECTED = 3,       /* a certificate that is wrong below each valid path that was tried */
+    RPKI_LINE_LIST = 4,           /* a CRL, whether it was used or not */
+    RPKI_LINE_NEITHER = 5,        /* bytes that are neither; also a CRL that other bytes follow */
+    RPKI_LINE_NOT_ISSUED = 6,     /* its issuer is an accepted CA below which the walk looked, and didn't
+                                   * issue it: the CA has another name, or its key didn't sign the
+                                   * certificate */
+    RPKI_LINE_ISSUER_NOT_CA = 7,  /* its issuer is accepted, and isn't a CA */
+    RPKI_LINE_NOT_LOOKED_AT = 8,  /* the walk reached a limit at its issuer, on each path to it: the
+                                   * issuer's line has `limits` and `needed` */
+    RPKI_LINE_BELOW_REJECTED = 9, /* its issuer is rejected: the issuer's line has the error */
+    RPKI_LINE_BELOW_UNSEEN = 10   /* there is no verdict on its issuer either, which may be the
+                                   * certificate itself; several such may form a circle */
 };
 
 /* Says which of the ranges in a struct rpki_room a certificate holds. */
@@ -842,8 +853,12 @@ struct rpki_line {
     uint32_t what;   /* is an enum rpki_fate */
     uint32_t fault;  /* is the error of a rejected certificate on one of the longest paths to it */
     uint64_t step;   /* counts the certificates above it on that path, or on the accepted path */
-    uint64_t issuer; /* is the place among the strings of the CA right above an accepted certificate.
-                      * A CA that two paths lead to has a line for one of them */
+    uint64_t issuer; /* is the place among the strings of the CA right above an accepted certificate
+                      * (a CA that two paths lead to has a line for one of them), or of the issuer of a
+                      * certificate without a verdict. Of several with the key that it names this is an
+                      * accepted CA at which a limit was reached on each path to it, else an accepted
+                      * CA below which the walk looked, else a rejected one, else an accepted one that
+                      * isn't a CA, else one without a verdict; of equal ones the first */
     uint32_t kind;   /* is the kind as which an accepted or rejected certificate was validated: an
                       * enum rpki_kind, but for RPKI_ANCHOR */
     uint32_t limits; /* is the sum of the enum rpki_limit that the walk reached at a CA, or at the

@@ -1,9 +1,10 @@
 /* Calls the library at its edges: lengths cut short or that don't add up, no room, room one too
  * small, NULL beside the length 0, numbers behind the last, moments at the ends, no members and
- * many. usage: edges EXAMPLES FILES, which are the folders examples/ and tests/files/. What is wanted
- * follows from include/rpki.h, and from what examples/make.sh and tests/files/make.py write into the
- * files. Prints what isn't so, and a last line `N passed, M failed`. tests/callers runs it, under
- * valgrind where that is there. */
+ * many. usage: edges EXAMPLES FILES, which are the folders examples/ and tests/files/; it also reads
+ * tests/added/ and tests/anchors/ beside these. What is wanted follows from include/rpki.h, and from what
+ * examples/make.sh, tests/files/make.py, reference/added.py and reference/anchors.py write into the files.
+ * Prints what isn't so, and a last line `N passed, M failed`. tests/callers runs it, under valgrind where
+ * that is there. */
 #include "rpki.h"
 #include <stdio.h>
 #include <stdlib.h>
@@ -1475,8 +1476,8 @@ static void folder_names(const char *files) {
                         .count = 4, .locator = contents(files, "named/ta.tal")};
     struct rpki_folder_question question = in_folder(&it, &at);
     check(judge_folder(&it, question, 4) == RPKI_OK && is_line(it.lines[2], RPKI_LINE_ACCEPTED, 0, 1, 0)
-              && is_line(it.lines[3], RPKI_LINE_UNSEEN, 0, 0, 0),
-          "a certificate of another issuer's name is below none");
+              && is_line(it.lines[3], RPKI_LINE_NOT_ISSUED, 0, 0, 0),
+          "a certificate of another issuer's name isn't issued by it");
     question.names = RPKI_ANY_NAMES;
     check(judge_folder(&it, question, 4) == RPKI_OK && is_line(it.lines[2], RPKI_LINE_ACCEPTED, 0, 1, 0)
               && is_line(it.lines[3], RPKI_LINE_ACCEPTED, 0, 1, 0),
@@ -1498,6 +1499,15 @@ static int has_limits(const struct folder *it, size_t at, uint32_t limits, uint6
     for (size_t i = 0; i < it->count; i++) {
         const struct rpki_line line = it->lines[i];
         if (line.limits != (i == at ? limits : 0) || line.needed != (i == at ? needed : 0)) return 0;
+    }
+    return 1;
+}
+
+/* of the path's certificates at the first places, from below, the limit was reached at this one */
+static int are_below_limit(const struct folder *it, size_t at) {
+    for (size_t i = 0; i < at; i++) {
+        const uint32_t what = i + 1 < at ? RPKI_LINE_BELOW_UNSEEN : RPKI_LINE_NOT_LOOKED_AT;
+        if (!is_line(it->lines[i], what, 0, 0, i + 1)) return 0;
     }
     return 1;
 }
@@ -1524,8 +1534,7 @@ static void folders(const char *examples) {
     for (size_t depth = 1; depth <= 3; depth++) {
         other.depth = depth;
         check(judge_folder(&it, other, 9) == RPKI_OK && it.walk.ended == (depth < 3 ? RPKI_TOO_DEEP : RPKI_WHOLE)
-                  && it.lines[3 - depth].what == RPKI_LINE_ACCEPTED
-                  && (depth == 3 || it.lines[2 - depth].what == RPKI_LINE_UNSEEN),
+                  && it.lines[3 - depth].what == RPKI_LINE_ACCEPTED && are_below_limit(&it, 3 - depth),
               "a walk ends at its depth");
         check(has_limits(&it, 3 - depth, depth < 3 ? RPKI_LIMIT_DEPTH : 0, 0), "the CA at the depth is told");
     }
@@ -1533,8 +1542,7 @@ static void folders(const char *examples) {
     for (size_t steps = 1; steps <= 3; steps++) {
         other.steps = steps;
         check(judge_folder(&it, other, 9) == RPKI_OK && it.walk.ended == (steps < 3 ? RPKI_OUT_OF_STEPS : RPKI_WHOLE)
-                  && it.lines[3 - steps].what == RPKI_LINE_ACCEPTED
-                  && (steps == 3 || it.lines[2 - steps].what == RPKI_LINE_UNSEEN),
+                  && it.lines[3 - steps].what == RPKI_LINE_ACCEPTED && are_below_limit(&it, 3 - steps),
               "a walk ends where its steps are used up");
         check(has_limits(&it, 3 - steps, steps < 3 ? RPKI_LIMIT_STEPS : 0, steps < 3 ? steps + 1 : 0),
               "the CA is told whose children need more steps, and how many");
@@ -1601,10 +1609,191 @@ static void folders(const char *examples) {
     it.count = 4;
     check(judge_folder(&it, question, 9) == RPKI_OK && it.walk.ended == RPKI_WHOLE
               && is_line(it.lines[2], RPKI_LINE_REJECTED, RPKI_REVOCATION_NO_CRL, 1, 0)
-              && is_line(it.lines[1], RPKI_LINE_UNSEEN, 0, 0, 0),
-          "where lists are missing the first is rejected, and what is below it unseen");
+              && is_line(it.lines[1], RPKI_LINE_BELOW_REJECTED, 0, 0, 2)
+              && is_line(it.lines[0], RPKI_LINE_BELOW_UNSEEN, 0, 0, 1),
+          "where lists are missing the first is rejected, and there is no verdict on what is below it");
     for (size_t i = 0; i < 7; i++) free(it.files[i].octets);
     free(it.locator.octets);
+}
+
+/* ---- why there is no verdict */
+
+/* A file of tests/added, of which reference/added.py says, by its word: the name, without `.cer` at its
+ * end. `NAME=OTHER` names the key of OTHER as its signer's, `NAME!` has another signature, and an octet
+ * follows `NAME+`. */
+static struct file worded(const char *files, const char *word) {
+    char name[64];
+    const int length = (int)strcspn(word, "=!+");
+    const int is_list = length > 4 && strncmp(word + length - 4, ".crl", 4) == 0;
+    snprintf(name, sizeof name, "../added/%.*s%s", length, word, is_list ? "" : ".cer");
+    struct file it = contents(files, name);
+    if (word[length] == '=') {
+        struct file other = worded(files, word + length + 1);
+        struct rpki_certificate own, above;
+        check(rpki_certificate_read(it.octets, it.length, &own) == RPKI_OK && own.has_authority_key
+                  && rpki_certificate_read(other.octets, other.length, &above) == RPKI_OK,
+              "a certificate names its signer's key");
+        size_t at = 0;
+        while (memcmp(it.octets + at, own.authority_key, 20) != 0) at++;
+        memcpy(it.octets + at, above.subject_key, 20);
+        free(other.octets);
+    }
+    if (word[length] == '!') it.octets[it.length - 1] ^= 1;
+    if (word[length] == '+') it.octets = realloc(it.octets, it.length + 1), it.octets[it.length++] = 0;
+    return it;
+}
+
+/* The words of a line, which it is cut into; and how many they are. */
+static size_t cut_words(char *line, char *words[16]) {
+    size_t count = 0;
+    for (char *word = strtok(line, " "); word != NULL && count < 16; word = strtok(NULL, " ")) words[count++] = word;
+    return count;
+}
+
+/* the place of the first of some words among others, or how many these are */
+static size_t first_place(char *const *words, size_t count, const char *some) {
+    for (size_t at = 0; at < count; at++) {
+        const size_t length = strlen(words[at]);
+        for (const char *word = some; *word != 0; word += strcspn(word, " "), word += *word == ' ')
+            if (strcspn(word, " ") == length && memcmp(word, words[at], length) == 0) return at;
+    }
+    return count;
+}
+
+/* whether a line is that of an issuer for which a certificate has this line */
+static int is_issuer_for(uint32_t what, struct rpki_line it) {
+    const int is_ca = it.what == RPKI_LINE_ANCHOR || (it.what == RPKI_LINE_ACCEPTED && it.kind == RPKI_AUTHORITY);
+    switch (what) {
+    case RPKI_LINE_NOT_ISSUED: return is_ca;
+    case RPKI_LINE_ISSUER_NOT_CA: return it.what == RPKI_LINE_ACCEPTED && it.kind != RPKI_AUTHORITY;
+    case RPKI_LINE_NOT_LOOKED_AT: return is_ca && it.limits != 0;
+    case RPKI_LINE_BELOW_REJECTED: return it.what == RPKI_LINE_REJECTED && it.fault != RPKI_OK;
+    default: return it.what == RPKI_LINE_NO_ISSUER || it.what > RPKI_LINE_NEITHER;
+    }
+}
+
+/* A certificate among files, and its line: whose issuer is the first of some of them, or none. */
+struct unjudged {
+    const char *files, *of, *issuers;
+    uint32_t what;
+    size_t depth, steps;
+    uint32_t limits; /* at the issuer */
+    uint64_t needed;
+};
+
+static const struct unjudged unjudged[] = {
+    /* it names no key; nobody has the key that it names */
+    {"ta ta.crl ../files/bad_no_aki", "../files/bad_no_aki", "", RPKI_LINE_NO_ISSUER, 0, 0, 0, 0},
+    {"ta ta.crl a a.crl be", "be", "", RPKI_LINE_NO_ISSUER, 0, 0, 0, 0},
+    {"ta ta.crl be be+", "be+", "", RPKI_LINE_NO_ISSUER, 0, 0, 0, 0},
+    /* it names the key of a CA, but another name: of several such CAs that are looked at the first */
+    {"ta ta.crl a a.crl re", "re", "a", RPKI_LINE_NOT_ISSUED, 0, 0, 0, 0},
+    {"ta ta.crl a+ a a.crl re re+", "re+", "a a+", RPKI_LINE_NOT_ISSUED, 0, 0, 0, 0},
+    {"ta ta.crl a a-own a.crl re", "re", "a a-own", RPKI_LINE_NOT_ISSUED, 0, 0, 0, 0},
+    {"ta ta+ ta.crl two_names", "two_names", "ta ta+", RPKI_LINE_NOT_ISSUED, 0, 0, 0, 0},
+    /* or a rejected certificate has that key, or one without a verdict */
+    {"ta ta.crl a a! a.crl re", "re", "a", RPKI_LINE_NOT_ISSUED, 0, 0, 0, 0},
+    {"ta ta.crl a a=be a.crl re", "re", "a", RPKI_LINE_NOT_ISSUED, 0, 0, 0, 0},
+    /* an end entity's key signed it */
+    {"ta ta.crl b b.crl be le", "le", "be", RPKI_LINE_ISSUER_NOT_CA, 0, 0, 0, 0},
+    {"ta ta.crl b b.crl be+ be le le+", "le", "be be+", RPKI_LINE_ISSUER_NOT_CA, 0, 0, 0, 0},
+    {"ta ta.crl a a.crl b b.crl be ae le", "le", "be ae", RPKI_LINE_ISSUER_NOT_CA, 0, 0, 0, 0},
+    {"ta ta.crl b b.crl be be=le le", "le", "be", RPKI_LINE_ISSUER_NOT_CA, 0, 0, 0, 0},
+    /* a limit was reached at its issuer: at the trust anchor, which is a child of its own, or below */
+    {"ta ta.crl b b.crl be", "be", "b", RPKI_LINE_NOT_LOOKED_AT, 1, 0, RPKI_LIMIT_DEPTH, 0},
+    {"ta ta.crl b b.crl be", "be", "b", RPKI_LINE_NOT_LOOKED_AT, 0, 2, RPKI_LIMIT_STEPS, 3},
+    {"ta ta.crl b+ b b.crl be be+", "be+", "b b+", RPKI_LINE_NOT_LOOKED_AT, 0, 2, RPKI_LIMIT_STEPS, 3},
+    {"ta ta.crl b b.crl be", "b", "ta", RPKI_LINE_NOT_LOOKED_AT, 0, 1, RPKI_LIMIT_STEPS, 2},
+    /* a path to another certificate of the key has no limit, but not to this one */
+    {"ta ta.crl a a.crl b b.crl b-a m re", "re", "b-a", RPKI_LINE_NOT_LOOKED_AT, 2, 0, RPKI_LIMIT_DEPTH, 0},
+    {"ta ta.crl a a! a.crl b b.crl b-a m re", "re", "b-a", RPKI_LINE_NOT_LOOKED_AT, 2, 0, RPKI_LIMIT_DEPTH, 0},
+    /* its issuer is rejected, without a CRL or by its signature; an end entity has that key, too, or one
+     * without a verdict */
+    {"ta b b.crl be", "be", "b", RPKI_LINE_BELOW_REJECTED, 0, 0, 0, 0},
+    {"ta b+ b b.crl be be+", "be+", "b b+", RPKI_LINE_BELOW_REJECTED, 0, 0, 0, 0},
+    {"ta ta.crl b! b.crl be", "be", "b!", RPKI_LINE_BELOW_REJECTED, 0, 0, 0, 0},
+    {"ta ta.crl b! b=re b.crl be", "be", "b!", RPKI_LINE_BELOW_REJECTED, 0, 0, 0, 0},
+    {"ta ta.crl b b.crl be be! le", "le", "be!", RPKI_LINE_BELOW_REJECTED, 0, 0, 0, 0},
+    /* there is none on its issuer either, which may be itself, or below it */
+    {"ta ta.crl b b.crl b-c c.crl ce", "ce", "b-c", RPKI_LINE_BELOW_UNSEEN, 1, 0, 0, 0},
+    {"ta ta.crl b-c c.crl ce b-c+ ce+", "ce", "b-c b-c+", RPKI_LINE_BELOW_UNSEEN, 0, 0, 0, 0},
+    {"ta ta.crl b-c b=ce ce", "ce", "b-c", RPKI_LINE_BELOW_UNSEEN, 0, 0, 0, 0},
+    {"ta ta.crl ../anchors/ta ../anchors/ta+", "../anchors/ta+", "../anchors/ta ../anchors/ta+",
+     RPKI_LINE_BELOW_UNSEEN, 0, 0, 0, 0},
+    {"ta ta.crl a-b b-a a.crl b.crl", "a-b", "b-a", RPKI_LINE_BELOW_UNSEEN, 0, 0, 0, 0},
+    {"ta ta.crl a-b b-a a.crl b.crl", "b-a", "a-b", RPKI_LINE_BELOW_UNSEEN, 0, 0, 0, 0},
+};
+
+/* exchanges two files, and their words */
+static void exchange(struct folder *it, char **words, size_t i, size_t j) {
+    const struct file file = it->files[i];
+    char *word = words[i];
+    it->files[i] = it->files[j], words[i] = words[j];
+    it->files[j] = file, words[j] = word;
+}
+
+/* the line in the order that stands there, in each that begins at another place, and in these from behind */
+static void unjudged_in_order(const char *files, const struct unjudged *row) {
+    static const struct rpki_time at = {2025, 6, 1, 0, 0, 0, 0};
+    char line[256], *words[16];
+    snprintf(line, sizeof line, "%s", row->files);
+    struct folder it = {.count = cut_words(line, words), .locator = contents(files, "../added/ta.tal")};
+    for (size_t i = 0; i < it.count; i++) it.files[i] = worded(files, words[i]);
+    struct rpki_folder_question question = in_folder(&it, &at);
+    question.depth = row->depth, question.steps = row->steps;
+    for (size_t turn = 0; turn < 2 * it.count; turn++) {
+        const size_t place = first_place(words, it.count, row->of);
+        const size_t issuer = first_place(words, it.count, row->issuers);
+        const int has_issuer = issuer < it.count;
+        char what[512];
+        snprintf(what, sizeof what, "%s among %s: line %u, issuer %s", row->of, row->files, row->what, row->issuers);
+        check(judge_folder(&it, question, 17) == RPKI_OK && has_issuer == (row->what != RPKI_LINE_NO_ISSUER)
+                  && is_line(it.lines[place], row->what, 0, 0, has_issuer ? issuer : 0),
+              what);
+        check(!has_issuer
+                  || (is_issuer_for(row->what, it.lines[issuer]) && it.lines[issuer].limits == row->limits
+                      && it.lines[issuer].needed == row->needed),
+              "the issuer's line says why");
+        for (size_t i = 1; i < it.count; i++) exchange(&it, words, i - 1, i);
+        for (size_t i = 0; turn + 1 == it.count && i < it.count / 2; i++) exchange(&it, words, i, it.count - 1 - i);
+    }
+    for (size_t i = 0; i < it.count; i++) free(it.files[i].octets);
+    free(it.locator.octets);
+}
+
+/* an issuer that is rejected for its key alone counts as accepted */
+static void issuers_of_other_keys(const char *files) {
+    static const struct rpki_time at = {2025, 6, 1, 0, 0, 0, 0};
+    static const struct {
+        const char *issuer, *below;
+        uint32_t kind, what;
+    } rows[] = {{"ee_1024", "ee_2048=../files/keyed/ee_1024", RPKI_END_ENTITY, RPKI_LINE_ISSUER_NOT_CA},
+                {"ca_1024", "ee_2048=../files/keyed/ca_1024", RPKI_AUTHORITY, RPKI_LINE_NOT_ISSUED}};
+    for (size_t i = 0; i < sizeof rows / sizeof *rows; i++) {
+        const char *const names[] = {"ta", "ta.crl", rows[i].issuer, rows[i].below};
+        struct folder it = {.count = 4, .locator = contents(files, "keyed/ta.tal")};
+        for (size_t k = 0; k < 4; k++) {
+            char word[128];
+            snprintf(word, sizeof word, "../files/keyed/%s", names[k]);
+            it.files[k] = worded(files, word);
+        }
+        struct rpki_folder_question question = in_folder(&it, &at);
+        check(judge_folder(&it, question, 4) == RPKI_OK && it.lines[2].kind == rows[i].kind
+                  && is_line(it.lines[2], RPKI_LINE_REJECTED, RPKI_BAD_KEY, 1, 0)
+                  && is_line(it.lines[3], rows[i].what, 0, 0, 2),
+              "an issuer's key is asked");
+        question.key = RPKI_ANY_KEY;
+        check(judge_folder(&it, question, 4) == RPKI_OK && is_line(it.lines[2], RPKI_LINE_ACCEPTED, 0, 1, 0)
+                  && is_line(it.lines[3], rows[i].what, 0, 0, 2),
+              "an issuer's key isn't asked");
+        for (size_t k = 0; k < 4; k++) free(it.files[k].octets);
+        free(it.locator.octets);
+    }
+}
+
+static void without_verdict(const char *files) {
+    for (size_t i = 0; i < sizeof unjudged / sizeof *unjudged; i++) unjudged_in_order(files, &unjudged[i]);
+    issuers_of_other_keys(files);
 }
 
 /* ---- the last key */
@@ -2431,6 +2620,7 @@ int main(int count, char **words) {
     locators(words[2], list);
     folders(words[1]);
     folder_names(words[2]);
+    without_verdict(words[2]);
     keys(words[2]);
     tables(list, empty, words[2]);
     issuing(anchor, first);

@@ -258,6 +258,33 @@ static int are_fields(uint32_t answer) {
     return has_all && it->has_usable_key <= 1 && it->size > 3 && (it->size <= a.room) == (it->key.length > 0);
 }
 
+/* Whether a line is a certificate's without a verdict. */
+static int is_unjudged(const struct rpki_line *it) {
+    return it->what == RPKI_LINE_NO_ISSUER || it->what > RPKI_LINE_NEITHER;
+}
+
+/* Whether a line is that of an issuer for which a certificate has this line. */
+static int is_issuer_for(const struct rpki_line *of, const struct rpki_line *it) {
+    int is_ca = it->what == RPKI_LINE_ANCHOR || it->kind == RPKI_AUTHORITY;
+    int is_accepted = it->what == RPKI_LINE_ANCHOR || it->what == RPKI_LINE_ACCEPTED || it->fault == RPKI_BAD_KEY;
+    switch (of->what) {
+    case RPKI_LINE_NOT_ISSUED: return is_accepted && is_ca;
+    case RPKI_LINE_ISSUER_NOT_CA: return is_accepted && !is_ca;
+    case RPKI_LINE_NOT_LOOKED_AT: return is_accepted && is_ca && it->limits != 0;
+    case RPKI_LINE_BELOW_REJECTED: return it->what == RPKI_LINE_REJECTED && !is_accepted;
+    default: return is_unjudged(it);
+    }
+}
+
+/* Whether the issuer of a line goes with it, of so many strings, of which the first have these lines. */
+static int has_issuer(const struct rpki_line *it, uint64_t count, const struct out *lines) {
+    if (it->what != RPKI_LINE_ACCEPTED && it->what <= RPKI_LINE_NEITHER) return it->issuer == 0;
+    if (it->issuer >= count) return 0;
+    size_t at = it->issuer * sizeof *it;
+    if (it->what == RPKI_LINE_ACCEPTED || at >= lines->size || is_blank(lines, at)) return 1;
+    return is_issuer_for(it, (const struct rpki_line *)(lines->at + at));
+}
+
 /* What the header says of one answer and of what was written. */
 static void check_answer(uint32_t answer) {
     const struct out *last = &outs[outs_used > 0 ? outs_used - 1 : 0];
@@ -302,9 +329,13 @@ static void check_answer(uint32_t answer) {
     for (size_t i = 0; answer == RPKI_OK && i < a.room && a.room * element == last->size; i++) {
         const struct rpki_line *line = (const struct rpki_line *)last->at + i;
         if (is_blank(last, i * element)) break;
-        check(line->what <= RPKI_LINE_NEITHER && line->kind <= RPKI_ROUTER &&
+        check(line->what <= RPKI_LINE_BELOW_UNSEEN && line->kind <= RPKI_ROUTER &&
                   rpki_name_of_fault(line->fault) != NULL,
               "a line has no fate");
+        check(!is_unjudged(line) || (line->fault == 0 && line->step == 0 && line->kind == 0 && line->limits == 0),
+              "a line without a verdict has one");
+        check(has_issuer(line, ((const struct rpki_folder_question *)a.question)->strings.count, last),
+              "a line has another issuer");
         check(line->held.v4_at + line->held.v4 <= walk->v4 && line->held.v6_at + line->held.v6 <= walk->v6 &&
                   line->held.asn_at + line->held.asn <= walk->asn,
               "a line holds more than there is");

@@ -146,6 +146,19 @@ static void print_stop(const uint8_t *octets, size_t length) {
 /* A locator says which of the strings is the trust anchor. */
 static void print_lines(struct rpki_strings strings, const uint8_t *locator,
                         size_t length) {
+    static const char *const fates[] = {
+        [RPKI_LINE_NO_ISSUER] = "no issuer here",
+        [RPKI_LINE_ANCHOR] = "the trust anchor",
+        [RPKI_LINE_ACCEPTED] = "accepted",
+        [RPKI_LINE_REJECTED] = "rejected",
+        [RPKI_LINE_LIST] = "a revocation list",
+        [RPKI_LINE_NEITHER] = "neither",
+        [RPKI_LINE_NOT_ISSUED] = "not issued by a CA here",
+        [RPKI_LINE_ISSUER_NOT_CA] = "issuer isn't a CA",
+        [RPKI_LINE_NOT_LOOKED_AT] = "not looked at",
+        [RPKI_LINE_BELOW_REJECTED] = "below a rejected CA",
+        [RPKI_LINE_BELOW_UNSEEN] = "below an unjudged CA",
+    };
     struct rpki_line lines[100];
     struct rpki_ip_range v4[100];
     struct rpki_room room = {.v4 = v4, .v4_room = 100};
@@ -162,12 +175,13 @@ static void print_lines(struct rpki_strings strings, const uint8_t *locator,
         print_sentence(walk.fault);
         return;
     }
-    for (size_t i = 0; i < strings.count && i < 100; i++)
-        printf("%d: %s\n", (int)i,
-               lines[i].what == RPKI_LINE_ANCHOR     ? "the trust anchor"
-               : lines[i].what == RPKI_LINE_ACCEPTED ? "accepted"
-               : lines[i].what == RPKI_LINE_LIST     ? "a revocation list"
-                                                     : "neither");
+    for (size_t i = 0; i < strings.count && i < 100; i++) {
+        uint32_t what = lines[i].what;
+        printf("%d: %s", (int)i, fates[what]);
+        if (what == RPKI_LINE_ACCEPTED || what >= RPKI_LINE_NOT_ISSUED)
+            printf(", issuer %d", (int)lines[i].issuer);
+        printf("\n");
+    }
     for (size_t i = 0; i < strings.count && i < 100; i++) {
         size_t at = lines[i].held.v4_at;
         for (size_t end = at + lines[i].held.v4; at < end && at < 100; at++)

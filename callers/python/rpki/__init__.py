@@ -911,21 +911,41 @@ def validate(
 
 
 class State(enum.Enum):
-    """The result for a certificate or CRL of a directory."""
+    """The result for a string of a directory.
 
-    UNSEEN = 0
-    """A certificate that no accepted CA of its issuer's name signed, or that a bound kept from being
-    judged."""
+    Six states are of certificates without a verdict, and say why there is none. The certificate's
+    issuer is the one among the strings whose key it names as its signer's. An issuer that is rejected
+    with `BadKey` counts as accepted here."""
+
+    NO_ISSUER = 0
+    """A certificate that names no key as its signer's, or a key that no certificate among the strings
+    has."""
     ANCHOR = 1
-    """The trust anchor, which is valid."""
+    """The trust anchor, which is valid, or a copy of it."""
     ACCEPTED = 2
-    """The last member of a valid path."""
+    """The last certificate of a valid path."""
     REJECTED = 3
     """A certificate that is wrong below each valid path to its issuer."""
     LIST = 4
-    """A revocation list."""
+    """A CRL."""
     NEITHER = 5
-    """Neither a certificate nor a revocation list; also a list with octets behind it."""
+    """Neither a certificate nor a CRL; also a CRL that other bytes follow."""
+    NOT_ISSUED = 6
+    """The issuer is an accepted CA below which the walk looked, and didn't issue the certificate: the
+    CA has another name, or its key didn't sign the certificate."""
+    ISSUER_NOT_CA = 7
+    """The issuer is accepted, and isn't a CA."""
+    NOT_LOOKED_AT = 8
+    """The walk reached a limit at the issuer, on each path to it: `Folder.limited` has the limit."""
+    BELOW_REJECTED = 9
+    """The issuer is rejected: its line has the fault."""
+    BELOW_UNSEEN = 10
+    """There is no verdict on the issuer either, which may be the certificate itself; several such may
+    form a circle."""
+
+
+# the states of certificates without a verdict that have an issuer
+_WITH_ISSUER = frozenset(it for it in State if it.value >= State.NOT_ISSUED.value)
 
 
 @dataclass(frozen=True)
@@ -934,20 +954,29 @@ class Line:
 
     state: State
     step: int | None = None
-    """How many certificates of the path stand above it, where it is accepted or rejected."""
+    """How many certificates of the path are above it, if it is accepted or rejected."""
     issuer: int | None = None
-    """The place of its issuer among the octets, where it is accepted."""
+    """The index of its issuer's string: if it is accepted, of the CA right above it. If there is no
+    verdict on it, of the certificate whose key it names as its signer's; None if there is none. Of
+    several with that key it is an accepted CA at which a limit was reached on each path to it, else an
+    accepted CA below which the walk looked, else a rejected one, else an accepted one that isn't a CA,
+    else one without a verdict; of equal ones the first."""
     fault: Fault | None = None
     """Why it is rejected."""
     kind: Kind | None = None
-    """As what it was judged, where it is accepted or rejected: as what it says that it is."""
+    """The kind as which it was validated, if it is accepted or rejected: the one that it says."""
     held: Resources | None = None
-    """What it holds, where it is accepted; of a router's certificate what the one above it holds."""
+    """What it holds, if it is accepted; of a router's certificate what the one above it holds."""
 
     @property
     def is_valid(self) -> bool:
         """Whether it is a valid certificate."""
         return self.state in (State.ANCHOR, State.ACCEPTED)
+
+    @property
+    def is_unjudged(self) -> bool:
+        """Whether it is a certificate without a verdict; `state` says why there is none."""
+        return self.state is State.NO_ISSUER or self.state in _WITH_ISSUER
 
 
 @dataclass(frozen=True)
@@ -1004,7 +1033,7 @@ def _line(it: raw.Line, held: Callable[[raw.Line], Resources]) -> Line:
         return Line(state, it.step, it.issuer, kind=Kind(it.kind), held=held(it))
     if state is State.REJECTED:
         return Line(state, it.step, None, _fault(it.fault), Kind(it.kind))
-    return Line(state)
+    return Line(state, issuer=it.issuer if state in _WITH_ISSUER else None)
 
 
 def _limited(lines: Sequence[raw.Line]) -> Iterator[LimitedCa]:

@@ -7,7 +7,7 @@ from collections.abc import Sequence
 from ctypes import c_size_t, c_uint8, c_uint16, c_uint32, c_uint64
 from typing import Any, TypeVar
 
-ABI = 4  # RPKI_ABI of rpki.h
+ABI = 5  # RPKI_ABI of rpki.h
 
 OK, MEMORY, BAD_CALL = 0, 1, 2
 BAD_KEY, BAD_URI = 603, 802

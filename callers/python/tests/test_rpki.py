@@ -13,6 +13,7 @@ import json
 import os
 import pickle
 import random
+import re
 import shutil
 import subprocess
 import sys
@@ -789,13 +790,14 @@ class Folders(unittest.TestCase):
             valid = [it for it in given if line[it].is_valid]
             self.assertCountEqual(valid, [anchor, first, second, leaf])
 
-    def test_revoked_and_unseen(self) -> None:
+    def test_revoked(self) -> None:
         names = ("anchor", "first", "second", "object")
         given = [*certificates(*names), octets("first.crl"), octets("revoked.crl")]
         folder = self.judge(given)
         states = [it.state for it in folder.lines]
-        accepted = [State.ANCHOR, State.ACCEPTED, State.REJECTED, State.UNSEEN]
+        accepted = [State.ANCHOR, State.ACCEPTED, State.REJECTED, State.BELOW_REJECTED]
         self.assertEqual(states, [*accepted, State.LIST, State.LIST])
+        self.assertEqual(folder.lines[3], Line(State.BELOW_REJECTED, issuer=2))
         fault = folder.lines[2].fault
         assert isinstance(fault, rpki.RevocationFault)
         self.assertEqual(fault.name, "Revoked")
@@ -809,7 +811,7 @@ class Folders(unittest.TestCase):
         asked["at"] = datetime(2025, 6, 1, tzinfo=timezone.utc)
         lines = judge_folder(given, **asked).lines
         self.assertEqual([it.is_valid for it in lines], [True, False, True, False])
-        self.assertEqual(lines[3], Line(State.UNSEEN))
+        self.assertEqual(lines[3], Line(State.NOT_ISSUED, issuer=0))
         lines = judge_folder(given, chain_names=False, **asked).lines
         self.assertEqual([it.is_valid for it in lines], [True, False, True, True])
         given[0] = files / "ta_of_two_names.cer"
@@ -817,6 +819,40 @@ class Folders(unittest.TestCase):
         with self.assertRaises(rpki.NamesFault) as caught:
             judge_folder(given, **asked)
         self.assertEqual((caught.exception.name, caught.exception.member), ("OtherName", 0))
+
+    def test_states(self) -> None:
+        """The states are those of enum rpki_fate of the header."""
+        header = (TOP / "include" / "rpki.h").read_text()
+        fates = re.findall(r"^ +RPKI_LINE_(\w+) = (\d+)", header, re.M)
+        self.assertEqual({it.name: it.value for it in State}, {name: int(it) for name, it in fates})
+
+    def test_unjudged(self) -> None:
+        """The files of tests/added, of which reference/added.py says: why there is no verdict on the
+        last one of these, and which of them is its issuer, also of two copies the first."""
+        rows: list[tuple[str, dict[str, Any], State, str]] = [
+            ("ta.cer ta.crl a.cer a.crl be.cer", {}, State.NO_ISSUER, ""),
+            ("ta.cer ta.crl a.cer a.crl re.cer", {}, State.NOT_ISSUED, "a.cer"),
+            ("ta.cer ta.crl a.cer a-own.cer a.crl re.cer", {}, State.NOT_ISSUED, "a.cer a-own.cer"),
+            ("ta.cer ta.crl b.cer b.crl be.cer le.cer", {}, State.ISSUER_NOT_CA, "be.cer"),
+            ("ta.cer ta.crl b.cer b.crl be.cer", {"depth": 1}, State.NOT_LOOKED_AT, "b.cer"),
+            ("ta.cer ta.crl b.cer b.crl be.cer", {"steps": 2}, State.NOT_LOOKED_AT, "b.cer"),
+            ("ta.cer b.cer b.crl be.cer", {}, State.BELOW_REJECTED, "b.cer"),
+            ("ta.cer ta.crl b-c.cer c.crl ce.cer", {}, State.BELOW_UNSEEN, "b-c.cer"),
+        ]
+        asked: dict[str, Any] = {"at": datetime(2025, 6, 1, tzinfo=timezone.utc)}
+        files = TOP / "tests" / "added"
+        asked["locator"] = files / "ta.tal"
+        for words, bounds, state, issuers in rows:
+            names = words.split()
+            copied = [*names[:-1], *issuers.split(), names[-1]]
+            for order in (names, names[::-1], copied, copied[::-1]):
+                folder = judge_folder([files / it for it in order], **asked, **bounds)
+                line = folder.lines[order.index(names[-1])]
+                issuer = min(map(order.index, issuers.split()), default=None)
+                self.assertEqual(line, Line(state, issuer=issuer), order)
+                self.assertTrue(line.is_unjudged and not line.is_valid)
+                self.assertEqual(issuer in [it.ca for it in folder.limited], bool(bounds))
+                self.assertFalse(folder.lines[folder.anchor].is_unjudged)
 
     def anchors(self, *names: str) -> list[bytes]:
         """Files of tests/anchors, of which reference/anchors.py says."""

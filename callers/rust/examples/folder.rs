@@ -9,13 +9,22 @@ use std::fs;
 use std::process::ExitCode;
 
 fn text(line: &Line, files: &[String]) -> String {
-    match line {
-        Line::Anchor => "trust anchor".to_owned(),
-        Line::Accepted { issuer, .. } => format!("accepted, below {}", files[*issuer]),
-        Line::Rejected { fault, .. } => format!("rejected: {fault}"),
-        Line::Unseen => "no accepted issuer here".to_owned(),
-        Line::List => "CRL".to_owned(),
-        _ => "neither a certificate nor a CRL".to_owned(),
+    let says = match line {
+        Line::Anchor => "trust anchor",
+        Line::Accepted { .. } => "accepted",
+        Line::Rejected { fault, .. } => return format!("rejected: {fault}"),
+        Line::NoIssuer => "no issuer here",
+        Line::NotIssued { .. } => "not issued by a CA here",
+        Line::IssuerNotCa { .. } => "issuer isn't a CA",
+        Line::NotLookedAt { .. } => "not looked at",
+        Line::BelowRejected { .. } => "below a rejected CA",
+        Line::BelowUnseen { .. } => "below an unjudged CA",
+        Line::List => "CRL",
+        _ => "neither a certificate nor a CRL",
+    };
+    match line.issuer() {
+        Some(issuer) => format!("{says}, issuer {}", files[issuer]),
+        None => says.to_owned(),
     }
 }
 
@@ -56,6 +65,6 @@ fn main() -> ExitCode {
         let ca = &files[it.ca];
         println!("{ca}: a limit was reached, so its children aren't validated{needed}");
     }
-    let is_wrong = |line: &Line| matches!(line, Line::Rejected { .. } | Line::Unseen);
+    let is_wrong = |line: &Line| matches!(line, Line::Rejected { .. }) || line.is_unjudged();
     ExitCode::from(judged.lines.iter().any(is_wrong) as u8)
 }

@@ -7,22 +7,62 @@ use std::collections::HashMap;
 use std::sync::Arc;
 
 /// The result for one string of a directory.
+///
+/// Six variants are of certificates without a verdict, and say why there is none
+/// ([`Line::is_unjudged`]). The certificate's issuer is the one among the strings whose key it names as
+/// its signer's. Of several with that key it is an accepted CA at which a limit was reached on each path
+/// to it, else an accepted CA below which the walk looked, else a rejected one, else an accepted one that
+/// isn't a CA, else one without a verdict; of equal ones the first. An issuer that is rejected with `BadKey`
+/// counts as accepted here.
 #[derive(Clone, Debug, PartialEq, Eq, Hash)]
 #[cfg_attr(feature = "serde", derive(serde::Serialize))]
 #[cfg_attr(feature = "serde", serde(rename_all = "snake_case"))]
 #[non_exhaustive]
 pub enum Line {
-    /// A certificate that no accepted CA of its issuer's name signed, or that a bound kept from being
-    /// judged.
-    Unseen,
-    /// The trust anchor, which is valid.
+    /// A certificate that names no key as its signer's, or a key that no certificate among the strings
+    /// has.
+    NoIssuer,
+    /// A certificate whose issuer is an accepted CA below which the walk looked, and didn't issue it: the
+    /// CA has another name, or its key didn't sign the certificate.
+    #[non_exhaustive]
+    NotIssued {
+        /// The index of its issuer's string.
+        issuer: usize,
+    },
+    /// A certificate whose issuer is accepted, and isn't a CA.
+    #[non_exhaustive]
+    IssuerNotCa {
+        /// The index of its issuer's string.
+        issuer: usize,
+    },
+    /// A certificate at whose issuer the walk reached a limit, on each path to it.
+    /// [`Judged::limited`] has the limit.
+    #[non_exhaustive]
+    NotLookedAt {
+        /// The index of its issuer's string.
+        issuer: usize,
+    },
+    /// A certificate whose issuer is rejected: the issuer's line has the error.
+    #[non_exhaustive]
+    BelowRejected {
+        /// The index of its issuer's string.
+        issuer: usize,
+    },
+    /// A certificate on whose issuer there is no verdict either. The issuer may be the certificate
+    /// itself, and several such may form a circle.
+    #[non_exhaustive]
+    BelowUnseen {
+        /// The index of its issuer's string.
+        issuer: usize,
+    },
+    /// The trust anchor, which is valid, or a copy of it.
     Anchor,
     /// The last certificate of a valid path.
     #[non_exhaustive]
     Accepted {
         /// How many certificates of the path are above it.
         step: usize,
-        /// The index of its issuer's string.
+        /// The index of its issuer's string: of the CA right above it.
         issuer: usize,
         /// As what it was judged.
         kind: Kind,
@@ -51,13 +91,45 @@ impl Line {
         matches!(self, Line::Anchor | Line::Accepted { .. })
     }
 
+    /// Returns whether it is a certificate without a verdict; its variant says why there is none.
+    pub fn is_unjudged(&self) -> bool {
+        matches!(
+            self,
+            Line::NoIssuer
+                | Line::NotIssued { .. }
+                | Line::IssuerNotCa { .. }
+                | Line::NotLookedAt { .. }
+                | Line::BelowRejected { .. }
+                | Line::BelowUnseen { .. }
+        )
+    }
+
+    /// Returns the index of its issuer's string: of the CA right above an accepted certificate, or of
+    /// the issuer of a certificate without a verdict. `None` if there is none, and of other lines.
+    pub fn issuer(&self) -> Option<usize> {
+        match self {
+            Line::Accepted { issuer, .. }
+            | Line::NotIssued { issuer }
+            | Line::IssuerNotCa { issuer }
+            | Line::NotLookedAt { issuer }
+            | Line::BelowRejected { issuer }
+            | Line::BelowUnseen { issuer } => Some(*issuer),
+            _ => None,
+        }
+    }
+
     fn of(it: &sys::Line, held: &mut SharedRanges<'_>) -> Line {
-        let step = it.step as usize;
+        let (step, issuer) = (it.step as usize, it.issuer as usize);
         match it.what {
+            sys::NOT_ISSUED => Line::NotIssued { issuer },
+            sys::ISSUER_NOT_CA => Line::IssuerNotCa { issuer },
+            sys::NOT_LOOKED_AT => Line::NotLookedAt { issuer },
+            sys::BELOW_REJECTED => Line::BelowRejected { issuer },
+            sys::BELOW_UNSEEN => Line::BelowUnseen { issuer },
             sys::ANCHOR => Line::Anchor,
             sys::ACCEPTED => Line::Accepted {
                 step,
-                issuer: it.issuer as usize,
+                issuer,
                 kind: kind_of(it.kind),
                 held: held.of(&it.held),
             },
@@ -68,7 +140,7 @@ impl Line {
             },
             sys::LIST => Line::List,
             sys::NEITHER => Line::Neither,
-            _ => Line::Unseen,
+            _ => Line::NoIssuer,
         }
     }
 }

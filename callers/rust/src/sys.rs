@@ -6,18 +6,23 @@ use std::mem::size_of;
 use std::ptr;
 
 /// RPKI_ABI of rpki.h.
-pub const ABI: u32 = 4;
+pub const ABI: u32 = 5;
 pub const OK: u32 = 0;
 pub const MEMORY: u32 = 1;
 pub const BAD_CALL: u32 = 2;
 pub const NO_RESOURCES: u32 = 602;
 pub const BAD_URI: u32 = 802;
-/// enum rpki_fate of rpki.h.
+/// enum rpki_fate of rpki.h, but for the number 0.
 pub const ANCHOR: u32 = 1;
 pub const ACCEPTED: u32 = 2;
 pub const REJECTED: u32 = 3;
 pub const LIST: u32 = 4;
 pub const NEITHER: u32 = 5;
+pub const NOT_ISSUED: u32 = 6;
+pub const ISSUER_NOT_CA: u32 = 7;
+pub const NOT_LOOKED_AT: u32 = 8;
+pub const BELOW_REJECTED: u32 = 9;
+pub const BELOW_UNSEEN: u32 = 10;
 /// RPKI_WHOLE of rpki.h.
 pub const WHOLE: u32 = 1;
 /// RPKI_LIMIT_DEPTH of rpki.h.

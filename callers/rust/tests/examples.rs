@@ -460,7 +460,7 @@ fn names_of_folders_are_asked() {
     let mut files = ["ta.cer", "ta.crl", "ca.cer", "ca_other_case.cer"].map(read);
     let valid = |it: Judged| it.lines.iter().map(Line::is_valid).collect::<Vec<_>>();
     let asked = Folder::new(&files, &locator).judge(june).unwrap();
-    assert_eq!(asked.lines[3], Line::Unseen);
+    assert!(matches!(asked.lines[3], Line::NotIssued { issuer: 0, .. }));
     assert_eq!(valid(asked), [true, false, true, false]);
     let waived = Folder::new(&files, &locator).without_names();
     assert_eq!(
@@ -475,6 +475,53 @@ fn names_of_folders_are_asked() {
         (fault.name().as_str(), fault.place()),
         ("OtherName", Some(Place::Member(0)))
     );
+}
+
+/// The files of tests/added, of which reference/added.py says: why there is no verdict on the last one of
+/// these, and which one is its issuer, in this order and from behind.
+#[test]
+fn certificates_without_a_verdict_say_why() {
+    let folder = concat!(env!("CARGO_MANIFEST_DIR"), "/../../tests/added");
+    let read = |name: &str| std::fs::read(format!("{folder}/{name}")).unwrap();
+    let locator = read("ta.tal");
+    let why = |line: &Line| match line {
+        Line::NoIssuer => "no issuer",
+        Line::NotIssued { .. } => "not issued",
+        Line::IssuerNotCa { .. } => "not a CA",
+        Line::NotLookedAt { .. } => "limited",
+        Line::BelowRejected { .. } => "rejected",
+        Line::BelowUnseen { .. } => "unseen",
+        other => panic!("{other:?}"),
+    };
+    for (names, depth, wanted, issuer) in [
+        ("ta.cer ta.crl a.cer a.crl be.cer", 0, "no issuer", None),
+        ("ta.cer ta.crl a.cer a.crl re.cer", 0, "not issued", Some(2)),
+        (
+            "ta.cer ta.crl b.cer b.crl be.cer le.cer",
+            0,
+            "not a CA",
+            Some(4),
+        ),
+        ("ta.cer ta.crl b.cer b.crl be.cer", 1, "limited", Some(2)),
+        ("ta.cer b.cer b.crl be.cer", 0, "rejected", Some(1)),
+        ("ta.cer ta.crl b-c.cer c.crl ce.cer", 0, "unseen", Some(2)),
+    ] {
+        let mut files: Vec<_> = names.split(' ').map(read).collect();
+        let last = files.len() - 1;
+        for is_backward in [false, true] {
+            let place = |at: usize| if is_backward { last - at } else { at };
+            let asked = Folder::new(&files, &locator).depth(depth);
+            let it = asked.judge(at([2025, 6, 1, 0, 0, 0])).unwrap();
+            let line = &it.lines[place(last)];
+            assert_eq!((why(line), line.issuer()), (wanted, issuer.map(place)));
+            assert!(line.is_unjudged() && !line.is_valid());
+            let limited: Vec<_> = it.limited.iter().map(|it| Some(it.ca)).collect();
+            assert_eq!(limited.contains(&line.issuer()), depth == 1);
+            let anchor = &it.lines[place(0)];
+            assert!(!anchor.is_unjudged() && anchor.issuer().is_none());
+            files.reverse();
+        }
+    }
 }
 
 #[test]

@@ -131,6 +131,7 @@ fn verdicts_are_written() {
         "tampered.cer",
         "first.crl",
         "make.sh",
+        "object.cer",
     ]
     .map(octets);
     let locator = octets("anchor.tal");
@@ -147,4 +148,9 @@ fn verdicts_are_written() {
     assert_eq!(rejected["kind"], json!("verification"));
     assert_eq!(told["lines"][3], json!("list"));
     assert_eq!(told["lines"][4], json!("neither"));
+    let below = json!({"below_rejected": {"issuer": 2}});
+    assert_eq!(told["lines"][5], below);
+    let strings = files[2..].iter().chain(&files[..1]);
+    let judged = Folder::new(strings, &locator).judge(june()).unwrap();
+    assert_eq!(to_value(&judged.lines[0]).unwrap(), json!("no_issuer"));
 }
