@@ -3,7 +3,8 @@ use Rattle.std.specs.Bool.{MatchBool}
 use Rattle.std.specs.Io.KnownBytes.{Appends}
 use Rattle.std.specs.Prelude.{Option, Some, None, Result, Ok, Err, IfOk, IsOkAnd}
 use Rattle.std.specs.declared.vec.Vec.{Vec}
-use Rattle.std.proofs.Common.{◌≡◌, ◌==◌, ◌++◌, ℕ, Bool, false, true, List, [], ◌∷◌, length, map, inl, inr, refl, subst, sym, ap, ◌∙◌}
+use Rattle.std.proofs.Common.{◌≡◌, ◌==◌, ◌++◌, ℕ, Bool, false, true, List, [], ◌∷◌, length, map, inl, inr, refl}
+use Rattle.std.proofs.Common.{subst, sym, ap, ◌∙◌}
 use Rattle.std.proofs.lemmas.Bool.{eq-eqb, false≢true}
 use Rattle.std.proofs.lemmas.List.{length-map}
 use Rattle.rpki_keys.specs.RsaSignatures.{IsSignedByRsa}
@@ -19,7 +20,8 @@ use Rattle.rpki_command.specs.ListedFolders.{ListsFolder, roots_of}
 use Rattle.rpki_command.specs.ReadFiles.{ReadsFile}
 use Rattle.rpki_command.specs.Moments.{IsMomentBy}
 use Rattle.rpki_command.specs.SoughtPaths.{with_sought}
-use Rattle.rpki_command.specs.Runs.{IsRunAnswer, IsAnswerAmong, IsAnswerBy, IsAnswerIn, IsAnswerOf, IsAnswerOfNamed, LineEnds, TaskEnds, with_files_below}
+use Rattle.rpki_command.specs.Runs.{IsRunAnswer, IsAnswerAmong, IsAnswerBy, IsAnswerIn, IsAnswerOf, IsAnswerOfNamed}
+use Rattle.rpki_command.specs.Runs.{LineEnds, TaskEnds, with_files_below}
 use Rattle.rpki_text.specs.declared.command_line.arguments.Task.{Task}
 use Rattle.rpki_text.specs.declared.command_line.arguments.Task.TheVariants.{Show, Validate, Tree, Help, Version}
 use Rattle.rpki_command.proofs.WrittenTexts.{appends_both}
