@@ -1,5 +1,5 @@
 //! Bytes that are to be signed: a TBSCertificate or a TBSCertList.
-ghost use Rattle.std.specs.Prelude.{◌≡◌, ◌≤◌, ◌<◌, ◌^◌, ℕ, List, None, length, IfOk, MatchOption};
+ghost use Rattle.std.specs.Prelude.{◌≡◌, ◌≤◌, ◌<◌, ◌^◌, ℕ, List, None, length, IfOk, IfSome, MatchOption};
 ghost use Rattle.rpki_parts.specs.SignedDatas.{signed_content, signed_data};
 ghost use Rattle.rpki_files.specs.Contents.{BeginsWithEither};
 ghost use Rattle.rpki_files.specs.ToBeSigned.{IsToBeSigned, IsUnsignedFile, unsigned_data};
@@ -45,8 +45,9 @@ fn object_of_either<'a>(
     name: &'a str,
     octets: Bytes,
 ) -> Result<Option<Object<'a>>, AllocError>
-    ensures { IfOk result (λ found. MatchOption found (BeginsWithEither octets → ⊥)
+    ensures object { IfOk result (λ found. MatchOption found (BeginsWithEither octets → ⊥)
         (λ object. (object.octets ≡ octets) × BeginsWithEither octets)) }
+    ensures name { IfOk result (λ found. IfSome found (λ object. object.name ≡ name.now)) }
 {
     let object = object_of(alloc, name, octets)?;
     match object.content() {
@@ -69,6 +70,7 @@ fn unsigned_under<'a>(
         (λ object. IsUnsignedFile octets.now object.octets)) }
     ensures none { IfOk result (λ found. (found ≡ None) → (whole : List ℕ)
         → (it : IsUnsignedFile octets.now whole) → it.algorithm ≡ algorithm → ⊥) }
+    ensures name { IfOk result (λ found. IfSome found (λ object. object.name ≡ name.now)) }
 {
     match unsigned_octets(alloc, octets, algorithm)? {
         Some(whole) => object_of_either(alloc, name, whole),
@@ -87,8 +89,9 @@ pub fn as_unsigned<'a>(
     name: &'a str,
     octets: &Bytes,
 ) -> Result<Option<Object<'a>>, AllocError>
-    ensures { IfOk result (λ found. MatchOption found (IsToBeSigned octets.now → ⊥)
+    ensures object { IfOk result (λ found. MatchOption found (IsToBeSigned octets.now → ⊥)
         (λ object. IsUnsignedFile octets.now object.octets)) }
+    ensures name { IfOk result (λ found. IfSome found (λ object. object.name ≡ name.now)) }
 {
     let usual = RpkiSignatureAlgorithm::default();
     match unsigned_under(alloc, name, octets, usual)? {

@@ -23,9 +23,9 @@ both (Ok (Some object)) octets usual found other = found
 both (Ok None) octets usual found other = λ is. none_by octets is.0 is.1 is.1.algorithm.has_null refl usual (other refl)
 both (Err error) octets usual found other = tt
 
-pub returns-in-None : goal.returns-in-None
+pub returns-in-None-clause-object : goal.returns-in-None-clause-object
 unfolding NoneUnder
-returns-in-None c =
+returns-in-None-clause-object c =
     let first = (rw c.in-None.is at c.in_ok-object.ensures.none) refl in
     both c.unsigned_under-in-None.result c.args.octets.now
     (λ whole it is. first whole it (is ∙ sym c.default-usual.ensures))
