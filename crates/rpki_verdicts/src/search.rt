@@ -507,11 +507,12 @@ pub fn seek<'q, 'n>(
     alloc: Global,
     question: &TreeQuestion<'q, 'n>,
 ) -> Result<Sought<'q, 'n>, AllocError>
-    ensures { let x = context IsSignedByRsa question.now.at question.now.strict in
+    ensures path { let x = context IsSignedByRsa question.now.at question.now.strict in
         IfOk result (λ sought. (file : FileFields) (more : List FileFields)
         → question.now.files.now ≡ file ∷ more
         → let path = map (λ f. f.now) sought.path.items in
         IsSoughtPath x (asked_of question.now) file path sought.ended) }
+    ensures none { question.now.files.now ≡ [] → IfOk result (λ sought. sought.path.items ≡ []) }
 {
     let Some((file, _)) = question.files.split_first() else {
         return Ok(whole(Vec::new(alloc)));

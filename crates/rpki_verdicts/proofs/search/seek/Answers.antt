@@ -6,8 +6,8 @@ use Rattle.rpki_verdicts.specs.Trees.{asked_of}
 use Rattle.rpki_verdicts.proofs.SearchSteps.{alone_in, of_first}
 use Rattle.rpki_verdicts.proofs.search.seek.Goals as goal
 
-pub returns-then-is_alone : goal.returns-then-is_alone
-returns-then-is_alone c =
+pub returns-then-is_alone-clause-path : goal.returns-then-is_alone-clause-path
+returns-then-is_alone-clause-path c =
     let q = c.args.question.now in
     let x = context IsSignedByRsa q.at q.strict in
     let file = c.in-Some.file.now in
