@@ -53,15 +53,20 @@ module _ (strict : Bool) (locators : List LocatorFields) where
     pub is_locator : (t : NamedTal) → l.read ≡ Ok t → AreLocator strict l.file.octets
     is_locator t was = (t.tal, subst (λ (r : Result NamedTal TalError). IsReadAs strict l.file.octets r) was read_at)
 
-    -- one that wasn't is none, and the fault says why
+    -- one that wasn't, behind locators, is the first that is none, and the fault says why
     pub no_locator : (e : TalError) (fault : Fault) → l.read ≡ Err e → fault.index ≡ k →
-        reason_of fault ≡ tal_reason e → IsNoLocator strict (locator_octets locators) fault
-    no_locator e fault was place reason =
+        reason_of fault ≡ tal_reason e →
+        ((j : ℕ) → j < k → (o : LocatorFields) → slice_get locators j ≡ Some o → AreLocator strict o.file.octets) →
+        IsNoLocator strict (locator_octets locators) fault
+    no_locator e fault was place reason each =
         let why = subst (λ (r : Result NamedTal TalError). IsReadAs strict l.file.octets r) was read_at in
         record {
           octets = l.file.octets;
           octets_are = ap (slice_get (locator_octets locators)) place ∙ octets_at locators k l is;
           no_locator = why.2;
+          earlier = λ j before low is.
+              let there = file_of locators j before is in
+              subst (AreLocator strict) there.2 (each j (omega (arith, low, place)) there.0 there.1);
           error = e;
           error_is = why.1;
           reason_is = reason;

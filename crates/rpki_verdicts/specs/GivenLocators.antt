@@ -60,3 +60,9 @@ IsFirstThat Holds xs None = Any Holds xs → ⊥
 IsFirstThat {X} Holds xs (Some place) =
     (x : X) × (slice_get xs place ≡ Some x) × Holds x
     × ((k : ℕ) → k < place → (earlier : X) → slice_get xs k ≡ Some earlier → Holds earlier → ⊥)
+
+-- this was read of the first of them that was read as a locator of the key
+abbrev pub IsFirstTalRead : List LocatorFields → KeyFields → NamedTal → Type 0
+IsFirstTalRead locators key t =
+    (place : ℕ) × IsFirstThat (HasKeyRead key) locators (Some place)
+    × ((l : LocatorFields) × (slice_get locators place ≡ Some l) × (l.read ≡ Ok t))

@@ -1,5 +1,5 @@
 -- What the command answers of the files of a path.
-use Rattle.std.specs.Prelude.{◌≡◌, ◌≢◌, ◌↔◌, ◌⊎◌, ◌+◌, ℕ, Bool, IsTrue, List, [], ◌∷◌, length, Option, Some, None, slice_get}
+use Rattle.std.specs.Prelude.{◌≡◌, ◌≢◌, ◌↔◌, ◌⊎◌, ◌+◌, ◌<◌, ℕ, Bool, IsTrue, List, [], ◌∷◌, length, Option, Some, None, slice_get}
 use Rattle.rpki_path.specs.Asking.{RevocationChecks, nobody}
 use Rattle.rpki_path.specs.AskedLists.{by_named_lists}
 use Rattle.rpki_path.specs.GivenPaths.{PathStrings}
@@ -62,11 +62,12 @@ pub record IsReasonAt (files : List (List ℕ)) (error : PathFault) (fault : Fau
   pub octets_are : slice_get files fault.index ≡ Some octets
   pub reason_is : IsPathReason error octets (reason_of fault)
 
--- the file at the fault's place is no locator, and why
+-- the file at the fault's place is the first that is no locator, and why
 pub record IsNoLocator (strict : Bool) (files : List (List ℕ)) (fault : Fault) : Type 0 where
   pub octets : List ℕ
   pub octets_are : slice_get files fault.index ≡ Some octets
   pub no_locator : AreLocator strict octets → ⊥
+  pub earlier : (k : ℕ) (before : List ℕ) → k < fault.index → slice_get files k ≡ Some before → AreLocator strict before
   pub error : TalError
   pub error_is : IsTalFault strict error octets
   pub reason_is : reason_of fault ≡ tal_reason error

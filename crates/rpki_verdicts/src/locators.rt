@@ -1,6 +1,6 @@
 //! Files that are given as TALs of the trust anchor.
 ghost use Rattle.std.specs.Prelude.{◌≡◌, ◌↔◌, Any, Ok, Err, IfOk, IfErr, IfNone, IfSome, IsTrue};
-ghost use Rattle.rpki_verdicts.specs.GivenLocators.{HasKeyRead, HasLocator, HasTalRead, IsAnchorOf, IsFirstThat, IsRead};
+ghost use Rattle.rpki_verdicts.specs.GivenLocators.{HasKeyRead, HasLocator, HasTalRead, IsAnchorOf, IsFirstTalRead, IsFirstThat, IsRead};
 
 use rpki_cert::laws;
 use rpki_files::{BareObject, read_locator};
@@ -94,6 +94,7 @@ impl<'n> GivenLocator<'n> {
 /// Returns the first TAL with this key.
 pub fn tal_of_key<'q>(locators: &'q [GivenLocator<'_>], key: &PublicKey) -> Option<&'q Tal>
     ensures found { IfSome result (λ t. HasTalRead locators.now key.now t.now) }
+    ensures first { IfSome result (λ t. IsFirstTalRead locators.now key.now t.now) }
     ensures none { IfNone result (Any (HasKeyRead key.now) locators.now → ⊥) }
 {
     for (place, locator) in locators.iter().enumerate() {

@@ -17,7 +17,7 @@ returns-in-Err c =
     let there = subst (λ (f : QuestionFields). slice_get f.locators i ≡ Some item) c.question.view_is
     (slice_get_read inside (length inside) i item refl low c.locator-item.is) in
     no_locator q.strict q.locators c.requires i item there c.in-Err.fault.now c.no_locator.result c.in-Err.ensures.err
-    c.no_locator.ensures.place c.no_locator.ensures.reason
+    c.no_locator.ensures.place c.no_locator.ensures.reason c.loop-place.invariant
 
 pub loop-place-preserved : goal.loop-place-preserved
 loop-place-preserved c =
