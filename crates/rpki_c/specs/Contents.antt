@@ -1,5 +1,5 @@
 -- What a caller is told of a certificate and of a revocation list (own).
-use Rattle.std.specs.Prelude.{◌≡◌, ◌↔◌, ◌⊎◌, ◌+◌, ◌-◌, ◌*◌, ◌^◌, ◌<◌, ℕ, true, List, [], ◌∷◌, length, drop, get_or}
+use Rattle.std.specs.Prelude.{◌≡◌, ◌↔◌, ◌⊎◌, ◌+◌, ◌-◌, ◌*◌, ◌^◌, ◌<◌, ◌≤◌, ℕ, true, List, [], ◌∷◌, length, drop, get_or}
 use Rattle.std.specs.Prelude.{slice_index_or, slice_range, min, Option, Some, None, replicate}
 use Rattle.std.specs.Int.Digits.{number_from_digits}
 use Rattle.rpki_der.specs.Encoding.{Begins}
@@ -141,3 +141,7 @@ serial_in serials i = number_from_digits 256 (slice_range serials (20 * i) (20 *
 abbrev pub AreTold : List Entry → List ℕ → List ℕ → Type 0
 AreTold entries serials answers =
     (i : ℕ) → i < length answers → IsFlag (IsRevoked (serial_in serials i) entries) (get_or answers i 0)
+
+-- each answer is 0 or 1
+abbrev pub AreFlags : List ℕ → Type 0
+AreFlags answers = (i : ℕ) → i < length answers → get_or answers i 0 ≤ 1

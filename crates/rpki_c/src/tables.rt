@@ -7,7 +7,7 @@ ghost use Rattle.rpki_crl.specs.Lists.{CrlFields, IsCertificateList};
 ghost use Rattle.rpki_crl.specs.RevokedEntries.{Entry, IsRevoked};
 ghost use Rattle.rpki_crl.specs.SerialTables.{AreAscending, serials_of};
 ghost use Rattle.rpki_ext.specs.Kinds.{Means};
-ghost use Rattle.rpki_c.specs.Contents.{AreTold, IsFlag};
+ghost use Rattle.rpki_c.specs.Contents.{AreFlags, AreTold, IsFlag};
 ghost use Rattle.rpki_c.specs.FaultNumbers.{IsReadingNumber};
 ghost use Rattle.rpki_c.specs.ListTables.{IsSerialTable, serials_in};
 ghost use Rattle.rpki_c.specs.Verdicts.{BeginsNoList};
@@ -301,16 +301,18 @@ fn has(table: &[RpkiSerial], serial: Serial) -> bool
 
 // 1 where the serial number stands in an ascending table, and else 0.
 fn answer_of(table: &[RpkiSerial], serial: Serial) -> u8
-    ensures { (entries : List Entry) → IsSerialTable entries table.now
+    ensures told { (entries : List Entry) → IsSerialTable entries table.now
         → IsFlag (IsRevoked serial entries) result }
+    ensures flag { result ≤ 1 }
 {
     if has(table, serial) { 1 } else { 0 }
 }
 
 fn put_answers(table: &[RpkiSerial], serials: &[u8], answers: &mut [u8])
     requires { length serials.now ≡ 20 * length answers.old }
-    ensures { (entries : List Entry) → IsSerialTable entries table.now
+    ensures told { (entries : List Entry) → IsSerialTable entries table.now
         → AreTold entries serials.now answers.new }
+    ensures flags { AreFlags answers.new }
 {
     for at in 0..answers.len() {
         answers[at] = answer_of(table, serial_at(serials, at));
@@ -318,8 +320,8 @@ fn put_answers(table: &[RpkiSerial], serials: &[u8], answers: &mut [u8])
 }
 
 /// Searches a table that `rpki_list_table` has written for serial numbers of 20 bytes each, one
-/// after the other, and writes 1 if a serial number is on the table's CRL and else 0. The answers
-/// mean nothing for entries that aren't such a table's.
+/// after the other, and writes 1 if a serial number is on the table's CRL and else 0. For entries
+/// that aren't such a table's, each answer is 0 or 1 and means nothing.
 ///
 /// # Errors
 ///
@@ -329,6 +331,8 @@ pub extern "C" fn rpki_table_ask(table: &[RpkiSerial], serials: &[u8], answers: 
     ensures bad_call { (result ≡ BAD_CALL) ↔ (length serials.now ≢ 20 * length answers.old) }
     ensures answers { result ≡ NONE → (entries : List Entry) → IsSerialTable entries table.now
         → AreTold entries serials.now answers.new }
+    ensures flags { result ≡ NONE → AreFlags answers.new }
+    ensures fault { result ≢ NONE → result ≡ BAD_CALL }
     ensures untouched { result ≢ NONE → answers.new ≡ answers.old }
 {
     if !add_up(serials, answers) {
