@@ -1,7 +1,7 @@
-//! What a rejection says besides its rule, so that its reader can act.
+//! The details of a rejection besides its rule, so that its reader can act.
 ghost use Rattle.std.specs.Prelude.{◌≡◌, ◌↔◌, [], ◌∷◌, option_map, IsTrue, OnOk, Some};
 ghost use Rattle.rpki_document.specs.Building.{Adds};
-ghost use Rattle.rpki_answers.specs.RejectionDetails.{AreDetails, IsAnchor, IsCause, IsCertificateAt, IsSortAt, TellsOrder, bound_node, cause_nodes, details_nodes, identifier_nodes, member_nodes, order_nodes, own_key, sort_nodes, uri_nodes};
+ghost use Rattle.rpki_answers.specs.RejectionDetails.{AreDetails, IsAnchor, IsCause, IsCertificateAt, IsSortAt, TellsOrder, bound_node, cause_nodes, details_nodes, identifier_nodes, member_nodes, order_nodes, sort_nodes, uri_nodes};
 
 use crate::told::{identifier_leaf, moment_leaf};
 use rpki_cert::Cert;
@@ -12,11 +12,11 @@ use rpki_parts::{Https, KeyIdentifier, Rsync};
 use rpki_verdicts::{Fault, Question};
 use std::alloc::{AllocError, Global};
 
-/// What is said of files in the reverse order.
+/// The text about files in the reverse order.
 pub const ORDER: &str =
     "expected the files from the trust anchor down, but the last one is a trust anchor";
 
-/// The errors that have more to say than their rule.
+/// The errors that have details besides their rule.
 #[derive(Clone, Copy)]
 pub enum Cause {
     /// The list of the member's issuer isn't among those given.
@@ -43,7 +43,7 @@ pub struct Details<'q> {
 
 // ---- finding them
 
-// Whether the fault has this name, in this step.
+// Whether the error has this name, in this step.
 fn is_named(fault: &Fault, step: &str, name: &str) -> bool
     ensures { IsTrue result ↔ ((fault.now.step.now ≡ step.now) × (fault.now.name.now ≡ name.now)) }
 {
@@ -66,7 +66,7 @@ fn cause_of(fault: &Fault) -> Cause
     }
 }
 
-// The certificate that the file at this place begins with.
+// The certificate that the file at this place starts with.
 fn certificate_at<'q>(files: &'q [Object<'_>], place: usize) -> Option<&'q Cert>
     ensures { IsCertificateAt files.now place (option_map (λ c. c.now) result) }
 {
@@ -79,7 +79,6 @@ fn certificate_at<'q>(files: &'q [Object<'_>], place: usize) -> Option<&'q Cert>
     }
 }
 
-// The sort of the file at this place.
 fn sort_at(files: &[Object<'_>], place: usize) -> Option<Sort>
     ensures { IsSortAt files.now place result }
 {
@@ -147,27 +146,7 @@ pub fn add_identifier<'p>(
     }
 }
 
-fn add_own_key<'p>(
-    parts: &mut Parts<'p>,
-    alloc: Global,
-    label: &'p str,
-    key: &'p str,
-    cert: Option<&Cert>,
-) -> Result<(), AllocError>
-    ensures { let identifier = option_map own_key (option_map (λ c. c.now) cert.entry) in
-        let its = identifier_nodes label.now key.now identifier in
-        OnOk result (Adds its parts.old.items parts.new.items) }
-{
-    match cert {
-        Some(cert) => {
-            let leaf = identifier_leaf(alloc, &cert.as_tbs().subject_key_identifier())?;
-            add_told(parts, alloc, label, key, leaf)
-        }
-        None => Ok(()),
-    }
-}
-
-/// Adds where something is, if that is said.
+/// Adds a URI, if it is there.
 pub fn add_uri<'p>(
     parts: &mut Parts<'p>,
     alloc: Global,
@@ -184,7 +163,7 @@ pub fn add_uri<'p>(
     }
 }
 
-/// Adds where something is, if that is said.
+/// Adds a URI, if it is there.
 pub fn add_https<'p>(
     parts: &mut Parts<'p>,
     alloc: Global,
@@ -212,23 +191,13 @@ fn add_needed<'p>(
         let its = cause_nodes Cause.NoList details.now.moment cert.now above in
         OnOk result (Adds its parts.old.items parts.new.items) }
 {
-    add_uri(
-        parts,
-        alloc,
-        "CRL needed",
-        "crl_needed",
-        cert.as_tbs().crl_uri(),
-    )?;
-    add_identifier(
-        parts,
-        alloc,
-        "Issuer's key",
-        "aki",
-        cert.as_tbs().authority_key_identifier(),
-    )
+    let uri = cert.as_tbs().crl_uri();
+    add_uri(parts, alloc, "CRL needed", "crl_needed", uri)?;
+    let key = cert.as_tbs().authority_key_identifier();
+    add_identifier(parts, alloc, "Issuer's key", "aki", key)
 }
 
-// The keys that should be one.
+// The keys that should be equal.
 fn add_keys<'p>(
     parts: &mut Parts<'p>,
     alloc: Global,
@@ -239,17 +208,15 @@ fn add_keys<'p>(
         let its = cause_nodes Cause.OtherKey details.now.moment cert.now above in
         OnOk result (Adds its parts.old.items parts.new.items) }
 {
-    add_identifier(
-        parts,
-        alloc,
-        "Issuer's key",
-        "aki",
-        cert.as_tbs().authority_key_identifier(),
-    )?;
-    add_own_key(parts, alloc, "Key above", "ski_above", details.above)
+    let key = cert.as_tbs().authority_key_identifier();
+    add_identifier(parts, alloc, "Issuer's key", "aki", key)?;
+    let key = details
+        .above
+        .map(|cert| cert.as_tbs().subject_key_identifier());
+    add_identifier(parts, alloc, "Key above", "ski_above", key)
 }
 
-// An end of a period, and the time at which is judged.
+// An end of a period, and the validation time.
 fn add_bound<'p>(
     parts: &mut Parts<'p>,
     alloc: Global,
@@ -271,7 +238,6 @@ fn add_bound<'p>(
     add_line(parts, label, pieces)
 }
 
-// The beginning of a period that hasn't begun.
 fn add_not_yet(
     parts: &mut Parts<'_>,
     alloc: Global,
@@ -283,17 +249,10 @@ fn add_not_yet(
         OnOk result (Adds its parts.old.items parts.new.items) }
 {
     let bound = cert.as_tbs().validity().not_before();
-    add_bound(
-        parts,
-        alloc,
-        "Valid from",
-        "valid_since",
-        bound,
-        details.moment,
-    )
+    let at = details.moment;
+    add_bound(parts, alloc, "Valid from", "valid_since", bound, at)
 }
 
-// The end of one that is over.
 fn add_expired(
     parts: &mut Parts<'_>,
     alloc: Global,
@@ -305,14 +264,8 @@ fn add_expired(
         OnOk result (Adds its parts.old.items parts.new.items) }
 {
     let bound = cert.as_tbs().validity().not_after();
-    add_bound(
-        parts,
-        alloc,
-        "Valid until",
-        "valid_until",
-        bound,
-        details.moment,
-    )
+    let at = details.moment;
+    add_bound(parts, alloc, "Valid until", "valid_until", bound, at)
 }
 
 fn add_cause<'p>(
@@ -351,7 +304,6 @@ fn add_member<'p>(
     }
 }
 
-// What a file of this sort is, and what to do.
 fn add_description(parts: &mut Parts<'_>, alloc: Global, sort: Sort) -> Result<(), AllocError>
     ensures { OnOk result (Adds (sort_nodes (Some sort)) parts.old.items parts.new.items) }
 {
@@ -360,7 +312,7 @@ fn add_description(parts: &mut Parts<'_>, alloc: Global, sort: Sort) -> Result<(
     add_told(parts, alloc, "To do", "advice", Leaf::Text(told.advice))
 }
 
-/// Adds what a file of this sort is, and what to do, if it is of one.
+/// Adds the sort of a file, and what to do, if the file is of a known sort.
 pub fn add_sort(parts: &mut Parts<'_>, alloc: Global, sort: Option<Sort>) -> Result<(), AllocError>
     ensures { OnOk result (Adds (sort_nodes sort) parts.old.items parts.new.items) }
 {

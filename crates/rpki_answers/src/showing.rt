@@ -1,4 +1,4 @@
-//! What files are: the answer of `show`, as text or as JSON.
+//! The answer of `show`, as text or as JSON.
 ghost use Rattle.std.specs.Prelude.{◌≡◌, ◌≢◌, ◌↔◌, All, IfOk, IsTrue, OnOk, map, string_bytes};
 ghost use Rattle.serde_json.specs.View.{view};
 ghost use Rattle.rpki_files.specs.Files.{contents};
@@ -85,7 +85,7 @@ fn file_value(
 
 // ---- as text
 
-// Appends the text of a file, and tells whether the file can be shown.
+// Appends the text of a file. Returns whether the file can be shown.
 fn show(
     out: &mut String,
     alloc: Global,
@@ -103,7 +103,7 @@ fn show(
     Ok(shows)
 }
 
-// That of a file behind another one, after an empty line.
+// Appends an empty line and the text of a file.
 fn show_further(
     out: &mut String,
     alloc: Global,
@@ -119,7 +119,7 @@ fn show_further(
     show(out, alloc, object, options)
 }
 
-// Those of the files behind the first one.
+// Appends the texts of the files after the first one.
 fn show_more(
     out: &mut String,
     alloc: Global,
@@ -139,7 +139,7 @@ fn show_more(
     Ok(can_be_shown)
 }
 
-// The text of the files, one behind the other.
+// Appends the texts of all files.
 fn show_all(
     out: &mut String,
     alloc: Global,
@@ -179,7 +179,7 @@ fn text_of_files(
 
 // ---- as JSON
 
-// Pushes the value of a file, and tells whether the file can be shown.
+// Adds the value of a file. Returns whether the file can be shown.
 fn push_value(
     values: &mut Vec<Value>,
     alloc: Global,
@@ -197,7 +197,6 @@ fn push_value(
     Ok(shows)
 }
 
-// Those of files, one behind the other.
 fn push_values(
     values: &mut Vec<Value>,
     alloc: Global,
@@ -238,7 +237,7 @@ fn json_of_files(
     })
 }
 
-/// Writes what the files are, as lines for a person or as JSON, which is one value if exactly one
+/// Writes the contents of the files, as lines for a person or as JSON, which is one value if exactly one
 /// file is named. The outcome is success if each file starts with a certificate or a CRL, or is a
 /// TAL or a to-be-signed part.
 ///

@@ -7,7 +7,7 @@ ghost use Rattle.rpki_document.specs.Views.{leaf_view};
 ghost use Rattle.rpki_text.specs.BlockLines.{family_address_text, family_text};
 ghost use Rattle.rpki_parts.specs.NameTexts.{name_text};
 ghost use Rattle.rpki_text.specs.KeyTexts.{point_text};
-ghost use Rattle.rpki_answers.specs.ToldValues.{addresses_node, algorithm_word, ends_node, exponent_nodes, form_nodes, form_word, identifier_told, key_nodes, kind_told, line_under, listed_nodes, moment_told, numbers_node, point_node, point_nodes, resource_nodes, set_nodes, signature_line, single_node, unsigned_line, until_line};
+ghost use Rattle.rpki_answers.specs.ToldValues.{addresses_node, algorithm_word, ends_node, form_nodes, form_word, identifier_told, key_nodes, kind_told, line_under, listed_nodes, moment_told, numbers_node, point_node, point_nodes, resource_nodes, set_nodes, signature_line, single_node, unsigned_line, until_line};
 
 use rpki_blocks::{Addr, AsBlock, AsBlocks, AsResources, IpBlock, IpBlocks, IpResources};
 use rpki_cert::{Kind, TbsCert};
@@ -32,7 +32,7 @@ pub fn printed<T: fmt::Display>(alloc: Global, value: &T) -> Result<Leaf<'static
     Ok(Leaf::Own(made))
 }
 
-/// Returns what a certificate is.
+/// Returns the leaf of a certificate's kind.
 pub fn kind_leaf(kind: Kind) -> Leaf<'static>
     ensures { leaf_view result ≡ kind_told kind }
 {
@@ -95,32 +95,18 @@ pub fn add_until<'p>(
 pub fn add_unsigned(parts: &mut Parts<'_>, alloc: Global) -> Result<(), AllocError>
     ensures { OnOk result (Adds (unsigned_line ∷ []) parts.old.items parts.new.items) }
 {
-    add_told(
-        parts,
-        alloc,
-        "Signature",
-        "signature",
-        Leaf::Words(
-            "none, this is the to-be-signed part (RFC 5280 4.1, 5.1)",
-            "none",
-        ),
-    )
+    let said = "none, this is the to-be-signed part (RFC 5280 4.1, 5.1)";
+    let leaf = Leaf::Words(said, "none");
+    add_told(parts, alloc, "Signature", "signature", leaf)
 }
 
 /// Adds that the signature of an object isn't checked.
 pub fn add_signature(parts: &mut Parts<'_>, alloc: Global) -> Result<(), AllocError>
     ensures { OnOk result (Adds (signature_line ∷ []) parts.old.items parts.new.items) }
 {
-    add_told(
-        parts,
-        alloc,
-        "Signature",
-        "signature",
-        Leaf::Words(
-            "not checked (rpki validate checks those of a path)",
-            "not checked",
-        ),
-    )
+    let said = "not checked (rpki validate checks those of a path)";
+    let leaf = Leaf::Words(said, "not checked");
+    add_told(parts, alloc, "Signature", "signature", leaf)
 }
 
 // ---- keys
@@ -152,19 +138,6 @@ pub fn form_word(form: KeyForm) -> &'static str
     }
 }
 
-fn add_exponent(
-    parts: &mut Parts<'_>,
-    alloc: Global,
-    exponent: Option<u64>,
-) -> Result<(), AllocError>
-    ensures { OnOk result (Adds (exponent_nodes exponent) parts.old.items parts.new.items) }
-{
-    match exponent {
-        Some(exponent) => add_kept(parts, alloc, "exponent", Leaf::Count(exponent)),
-        None => Ok(()),
-    }
-}
-
 // The numbers of an RSA key.
 fn add_numbers_of_key(
     parts: &mut Parts<'_>,
@@ -176,7 +149,10 @@ fn add_numbers_of_key(
         OnOk result (Adds its parts.old.items parts.new.items) }
 {
     add_kept(parts, alloc, "bits", Leaf::Count(bits))?;
-    add_exponent(parts, alloc, exponent)
+    match exponent {
+        Some(exponent) => add_kept(parts, alloc, "exponent", Leaf::Count(exponent)),
+        None => Ok(()),
+    }
 }
 
 fn add_form(parts: &mut Parts<'_>, alloc: Global, form: KeyForm) -> Result<(), AllocError>
@@ -193,7 +169,7 @@ fn add_form(parts: &mut Parts<'_>, alloc: Global, form: KeyForm) -> Result<(), A
     }
 }
 
-// The point of a key on a curve, under a label or in no line.
+// A point, under a label or in no line.
 fn add_point_at<'p>(
     parts: &mut Parts<'p>,
     alloc: Global,
@@ -209,7 +185,7 @@ fn add_point_at<'p>(
     }
 }
 
-// If it is one.
+// The point of a key, if the key is on a curve.
 fn add_point<'p>(
     parts: &mut Parts<'p>,
     alloc: Global,
@@ -229,7 +205,6 @@ fn add_point<'p>(
     }
 }
 
-// The line of a key.
 fn add_key_line<'p>(
     parts: &mut Parts<'p>,
     alloc: Global,
@@ -254,7 +229,7 @@ fn add_key_line<'p>(
     add_line(parts, label, pieces)
 }
 
-/// Adds a key, of which this was found and is said; its point is in a line only under a label.
+/// Adds a key with the findings on it; its point is in a line only under a label.
 pub fn add_key<'p>(
     parts: &mut Parts<'p>,
     alloc: Global,
@@ -393,7 +368,6 @@ fn add_ip_block<'p>(
     add_ends(parts, alloc, label, "ip_range", min, max)
 }
 
-// That a set is empty.
 fn add_none<'p>(parts: &mut Parts<'p>, alloc: Global, label: &'p str) -> Result<(), AllocError>
     ensures { let its = line label.now (say (codes "none") ∷ []) in
         OnOk result (Adds (its ∷ []) parts.old.items parts.new.items) }
@@ -445,7 +419,7 @@ pub fn add_addresses<'p>(
     Ok(())
 }
 
-// That the issuer's resources of a kind are meant.
+// Resources inherited from the issuer.
 fn add_inherited<'p>(
     parts: &mut Parts<'p>,
     alloc: Global,
@@ -462,7 +436,6 @@ fn add_inherited<'p>(
     add_item(parts, alloc, label, pieces)
 }
 
-// What a certificate lists of AS numbers.
 fn add_as_resources<'p>(
     parts: &mut Parts<'p>,
     alloc: Global,
@@ -479,7 +452,6 @@ fn add_as_resources<'p>(
     }
 }
 
-// What it lists of a family of addresses.
 fn add_ip_resources<'p>(
     parts: &mut Parts<'p>,
     alloc: Global,
@@ -498,7 +470,7 @@ fn add_ip_resources<'p>(
     }
 }
 
-/// Adds what a certificate lists, under these labels.
+/// Adds the resources of a certificate, under these labels.
 pub fn add_listed<'p>(
     parts: &mut Parts<'p>,
     alloc: Global,

@@ -1,4 +1,4 @@
-//! What is said of each file of a tree.
+//! The finding on each file of a tree.
 ghost use Rattle.std.specs.Prelude.{◌≡◌, ◌≤◌, ◌<◌, ◌+◌, ◌^◌, option_map, IfOk};
 ghost use Rattle.rpki_cert.specs.SaidKinds.{SaysKind};
 ghost use Rattle.rpki_path.specs.Judging.{last_certificate};
@@ -19,7 +19,7 @@ use rpki_verdicts::reasons::of_path;
 use rpki_verdicts::{Fault, Issuers, ShownPaths, Tree, TreeAnswer, Trees, signer_of};
 use std::alloc::{AllocError, Global};
 
-/// What is said of a file.
+/// The finding on a file.
 #[derive(Drop)]
 pub enum Said<'t, 'q, 'n> {
     /// Its certificate is a trust anchor, or a copy of one.
@@ -37,8 +37,8 @@ pub enum Said<'t, 'q, 'n> {
     Neither,
 }
 
-/// A file, how many bytes follow what it starts with, what is said of it, the key of its issuer if
-/// that has no current CRL, and the limit that a walk reached below its certificate.
+/// A file, the number of bytes after its object, the finding on it, the key of its issuer if that has
+/// no current CRL, and the limit that a walk reached below its certificate.
 #[derive(Drop)]
 pub struct Row<'t, 'q, 'n> {
     pub file: &'q BareObject<'n>,
@@ -48,7 +48,7 @@ pub struct Row<'t, 'q, 'n> {
     pub limit: Option<Limit>,
 }
 
-/// The word for what is said of a file.
+/// The word for a finding.
 #[derive(Clone, Copy)]
 pub enum Word {
     Anchor,
@@ -158,7 +158,7 @@ impl Said<'_, '_, '_> {
     }
 }
 
-// As what the certificate that was accepted was judged: as what it says that it is.
+// The kind of an accepted certificate, as it says.
 fn judged_as(judged: &Judged) -> Kind
     ensures { let c = last_certificate judged.now.holder judged.now.router in
         SaysKind result c.fields }
@@ -169,7 +169,7 @@ fn judged_as(judged: &Judged) -> Kind
     }
 }
 
-// What is wrong with a certificate that was rejected at a path index.
+// The error of a certificate that was rejected at a path index.
 fn fault_of(index: usize, error: &PathFault, file: &BareObject<'_>) -> Fault
     ensures index { result.index ≡ index }
     ensures reason { IsPathReason error.now file.now.octets (reason_of result) }
@@ -183,7 +183,7 @@ fn fault_of(index: usize, error: &PathFault, file: &BareObject<'_>) -> Fault
     }
 }
 
-// What is said of a certificate on which there is no verdict.
+// The finding on a certificate without a verdict.
 fn said_unseen<'t, 'q, 'n>(
     trees: &'t Trees<'q, 'n>,
     issuers: &Issuers,
@@ -202,7 +202,7 @@ fn said_unseen<'t, 'q, 'n>(
     }
 }
 
-// That it is accepted, by the path that is shown of these.
+// The finding on a certificate that is accepted by these paths.
 fn said_accepted<'t, 'q, 'n>(
     alloc: Global,
     trees: &'t Trees<'q, 'n>,
@@ -219,7 +219,7 @@ fn said_accepted<'t, 'q, 'n>(
     Ok(Said::Accepted(tree, shown, kind))
 }
 
-// By its line.
+// The finding on a certificate by its line.
 fn said_by_line<'t, 'q, 'n>(
     alloc: Global,
     trees: &'t Trees<'q, 'n>,
@@ -240,7 +240,7 @@ fn said_by_line<'t, 'q, 'n>(
     }
 }
 
-// By the answer on a TAL.
+// The finding on a certificate by the answer on a TAL.
 fn said_by_answer<'t, 'q, 'n>(
     alloc: Global,
     trees: &'t Trees<'q, 'n>,
@@ -263,7 +263,7 @@ fn said_by_answer<'t, 'q, 'n>(
     }
 }
 
-// What is said of the certificate of a file at a place.
+// The finding on the certificate at a place.
 fn said_of_certificate<'t, 'q, 'n>(
     alloc: Global,
     trees: &'t Trees<'q, 'n>,
@@ -280,7 +280,7 @@ fn said_of_certificate<'t, 'q, 'n>(
     }
 }
 
-// Whether a certificate is rejected since no CRL of its issuer can be asked.
+// Whether a certificate is rejected since its issuer has no current CRL.
 fn is_unasked(said: &Said<'_, '_, '_>) -> bool
     ensures { result ≡ is_unasked said.now }
 {
@@ -290,7 +290,7 @@ fn is_unasked(said: &Said<'_, '_, '_>) -> bool
     }
 }
 
-// The key of the issuer of which no CRL can be asked.
+// The key of the issuer, if that has no current CRL.
 fn unasked_key(file: &BareObject<'_>, said: &Said<'_, '_, '_>) -> Option<KeyIdentifier>
     ensures { IsUnaskedKey file.now said.now result }
 {
@@ -301,7 +301,7 @@ fn unasked_key(file: &BareObject<'_>, said: &Said<'_, '_, '_>) -> Option<KeyIden
     }
 }
 
-// A row, where the next certificate is at this place; and the place of one after it.
+// A row of a file before the certificate at this place, and the place of the next certificate.
 fn row_of<'t, 'q, 'n>(
     alloc: Global,
     trees: &'t Trees<'q, 'n>,
@@ -334,7 +334,7 @@ fn row_of<'t, 'q, 'n>(
     Ok((next, row))
 }
 
-/// Finds what is said of each file.
+/// Finds the row of each file.
 ///
 /// # Errors
 ///

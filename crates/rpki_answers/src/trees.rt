@@ -44,7 +44,7 @@ pub struct TreeOptions {
     pub strict_exit: bool,
 }
 
-// What is wrong of the first file that is given as a locator and is none.
+// The error of the first file that is given as a TAL and isn't one.
 fn no_locator_of(question: &TreeQuestion<'_, '_>) -> Option<Fault>
     requires { All (IsRead question.now.strict) question.now.locators.now }
     ensures { let files = locator_octets question.now.locators.now in
@@ -61,7 +61,6 @@ fn no_locator_of(question: &TreeQuestion<'_, '_>) -> Option<Fault>
     })
 }
 
-// What is found of the files.
 fn find<'q, 'n>(
     alloc: Global,
     question: &TreeQuestion<'q, 'n>,
@@ -77,15 +76,15 @@ fn find<'q, 'n>(
     Ok(TreeFinding::Answered(trees))
 }
 
-// Whether it is asked that damage fails the run, and the cache is damaged.
+// Whether damage fails the run, and the cache is damaged.
 fn is_damage_refused(trees: &Trees<'_, '_>, strict_exit: bool) -> bool
     ensures { IsTrue result ↔ (IsTrue strict_exit × AreDamaged trees.now) }
 {
     strict_exit && trees.are_damaged()
 }
 
-// Whether each certificate is a trust anchor or accepted, no limit was reached, and, if that is
-// asked, the cache isn't damaged.
+// Whether each certificate is a trust anchor or accepted, no limit was reached, and, if damage fails
+// the run, the cache isn't damaged.
 fn is_accepting(finding: &TreeFinding<'_, '_>, strict_exit: bool) -> bool
     ensures { IsTrue result ↔ IsAcceptingFinding strict_exit finding.now }
 {
@@ -97,7 +96,7 @@ fn is_accepting(finding: &TreeFinding<'_, '_>, strict_exit: bool) -> bool
     }
 }
 
-// A document in a format.
+// Writes a document in a format.
 fn formed(alloc: Global, parts: &Vec<Part<'_>>, format: Format) -> Result<String, AllocError>
     ensures { IfOk result (λ text.
         string_bytes text ≡ rendered format (nodes_of parts.now.items)) }
@@ -148,7 +147,6 @@ fn append_row<'p>(
     Ok(())
 }
 
-// Appends those of all rows.
 fn append_rows<'p>(
     out: &mut String,
     alloc: Global,
@@ -184,7 +182,6 @@ fn add_row<'p>(
     Ok(())
 }
 
-// Adds those of all rows.
 fn add_rows<'p>(
     files: &mut Vec<Part<'p>>,
     alloc: Global,
@@ -226,7 +223,7 @@ fn as_lines(
     Ok(out)
 }
 
-// The rows as a line of JSON each, and one line for the rest.
+// Each row as a line of JSON, and one line for the rest.
 fn as_json_lines<'p>(
     alloc: Global,
     question: &TreeQuestion<'_, '_>,
@@ -249,7 +246,7 @@ fn as_json_lines<'p>(
     Ok(out)
 }
 
-// All as one object of JSON.
+// One object of JSON.
 fn as_object<'p>(
     alloc: Global,
     question: &TreeQuestion<'_, '_>,
@@ -272,7 +269,7 @@ fn as_object<'p>(
     formed(alloc, &whole, options.format)
 }
 
-// The trees of files, of which these rows are.
+// The trees of files, with these rows.
 fn printed_rows<'p>(
     alloc: Global,
     question: &TreeQuestion<'_, '_>,
@@ -308,7 +305,6 @@ fn printed_trees<'p>(
     printed_rows(alloc, question, trees, &rows, unread, options)
 }
 
-// What is found.
 fn printed_finding<'p>(
     alloc: Global,
     question: &TreeQuestion<'p, '_>,

@@ -23,7 +23,7 @@ use rpki_files::Object;
 use rpki_verdicts::{GivenLocator, Question, Verdict};
 use std::alloc::{AllocError, Global};
 
-/// What is said where a file given as a CRL isn't one.
+/// The error of a file given as a CRL that isn't one.
 const NO_LIST: &str = "a file given as a CRL isn't one";
 
 fn last_name<'p>(members: &'p [Object<'_>]) -> &'p str
@@ -61,7 +61,7 @@ fn add_verdict_line<'p>(
     }
 }
 
-// The verdict, and why a path is rejected.
+// The verdict, and the reason of a rejection.
 fn add_opening<'p>(
     parts: &mut Parts<'p>,
     alloc: Global,
@@ -73,31 +73,18 @@ fn add_opening<'p>(
 {
     match finding {
         Finding::NotALocator(fault) => {
-            let rule = fault.rule;
-            add_unjudged(
-                parts,
-                alloc,
-                fault.step,
-                rule.says,
-                fault.name,
-                rule.section,
-            )
+            let it = fault.rule;
+            add_unjudged(parts, alloc, fault.step, it.says, fault.name, it.section)
         }
         Finding::NotAList => {
-            add_unjudged(
-                parts,
-                alloc,
-                "crls",
-                NO_LIST,
-                "NotACrl",
-                "RFC 6487 5, own rules",
-            )
+            let section = "RFC 6487 5, own rules";
+            add_unjudged(parts, alloc, "crls", NO_LIST, "NotACrl", section)
         }
         Finding::Decided(verdict) => add_verdict_line(parts, alloc, question, verdict),
     }
 }
 
-// What an accepted path holds, and what was checked of it.
+// The resources of an accepted path, and what was checked.
 fn add_closing<'p>(
     parts: &mut Parts<'p>,
     alloc: Global,
@@ -116,7 +103,6 @@ fn add_closing<'p>(
     }
 }
 
-// The files' names, for a program.
 fn add_path<'p>(
     parts: &mut Parts<'p>,
     alloc: Global,
@@ -143,7 +129,7 @@ fn has_locators(locators: &[GivenLocator<'_>]) -> bool
     !locators.is_empty()
 }
 
-// What was asked, for a program.
+// The options of the question, for a program.
 fn add_asked<'p>(
     parts: &mut Parts<'p>,
     alloc: Global,

@@ -61,7 +61,7 @@ pub(crate) fn rendered(
     json_text(alloc, parts, format)
 }
 
-// Whether each file given as a list is one.
+// Whether each file given as a CRL is one.
 fn are_lists(lists: &[Object<'_>]) -> bool
     ensures { IsTrue result ↔ All IsList (contents lists.now) }
 {
@@ -72,7 +72,6 @@ fn are_lists(lists: &[Object<'_>]) -> bool
     are_lists
 }
 
-// What is found of the path.
 fn find(alloc: Global, question: &Question<'_, '_>) -> Result<Finding, AllocError>
     requires { All (IsRead question.now.strict) question.now.locators }
     ensures { let x = context IsSignedByRsa question.now.at question.now.strict in
@@ -89,7 +88,7 @@ fn find(alloc: Global, question: &Question<'_, '_>) -> Result<Finding, AllocErro
     Ok(Finding::NotAList)
 }
 
-// Whether the path is accepted; it isn't where it has no file.
+// Whether the path is accepted; it isn't if it has no file.
 fn is_accepted(finding: &Finding) -> bool
     ensures { IsTrue result ↔ IsAcceptedFinding finding.now }
 {

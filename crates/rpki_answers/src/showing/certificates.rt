@@ -57,7 +57,6 @@ fn add_kind(parts: &mut Parts<'_>, alloc: Global, kind: Kind) -> Result<(), Allo
     add_typed(parts, alloc, kind_leaf(kind), type_word(kind))
 }
 
-// The version, the number, the algorithm and the names.
 fn add_fields(parts: &mut Parts<'_>, alloc: Global, fields: &TbsCert) -> Result<(), AllocError>
     ensures { OnOk result (Adds (field_nodes fields.now) parts.old.items parts.new.items) }
 {
@@ -107,7 +106,7 @@ fn usage_leaf(usage: KeyUsage) -> Leaf<'static>
     }
 }
 
-// The key, and that of the issuer.
+// The key, and the issuer's.
 fn add_keys(
     parts: &mut Parts<'_>,
     alloc: Global,
@@ -130,7 +129,7 @@ fn add_keys(
     add_told(parts, alloc, "Key usage", "key_usage", usage)
 }
 
-// Where things are.
+// URIs.
 fn add_places<'p>(
     parts: &mut Parts<'p>,
     alloc: Global,
@@ -139,42 +138,17 @@ fn add_places<'p>(
     ensures { OnOk result
         (Adds (place_nodes fields.now.extensions) parts.old.items parts.new.items) }
 {
-    add_uri(
-        parts,
-        alloc,
-        "Authority info access",
-        "aia",
-        fields.ca_issuer(),
-    )?;
-    add_uri(
-        parts,
-        alloc,
-        "CRL distribution point",
-        "crl",
-        fields.crl_uri(),
-    )?;
-    add_uri(
-        parts,
-        alloc,
-        "Repository",
-        "carepository",
-        fields.ca_repository(),
-    )?;
+    let issuer = fields.ca_issuer();
+    add_uri(parts, alloc, "Authority info access", "aia", issuer)?;
+    let crl = fields.crl_uri();
+    add_uri(parts, alloc, "CRL distribution point", "crl", crl)?;
+    let repository = fields.ca_repository();
+    add_uri(parts, alloc, "Repository", "carepository", repository)?;
     add_uri(parts, alloc, "Manifest", "manifest", fields.rpki_manifest())?;
-    add_uri(
-        parts,
-        alloc,
-        "Signed object",
-        "signed_object",
-        fields.signed_object(),
-    )?;
-    add_https(
-        parts,
-        alloc,
-        "Notify URL",
-        "notify_url",
-        fields.rpki_notify(),
-    )
+    let object = fields.signed_object();
+    add_uri(parts, alloc, "Signed object", "signed_object", object)?;
+    let notify = fields.rpki_notify();
+    add_https(parts, alloc, "Notify URL", "notify_url", notify)
 }
 
 fn overclaim_leaf(overclaim: Overclaim) -> Leaf<'static>
@@ -190,14 +164,8 @@ fn add_resources(parts: &mut Parts<'_>, alloc: Global, fields: &TbsCert) -> Resu
     ensures { OnOk result
         (Adds (own_resource_nodes fields.now.extensions) parts.old.items parts.new.items) }
 {
-    let overclaim = overclaim_leaf(fields.overclaim());
-    add_told(
-        parts,
-        alloc,
-        "Overclaimed resources",
-        "overclaim",
-        overclaim,
-    )?;
+    let leaf = overclaim_leaf(fields.overclaim());
+    add_told(parts, alloc, "Overclaimed resources", "overclaim", leaf)?;
     let mut listed = Vec::new(alloc);
     add_listed(
         &mut listed,
@@ -212,7 +180,7 @@ fn add_resources(parts: &mut Parts<'_>, alloc: Global, fields: &TbsCert) -> Resu
 
 // ---- profiles
 
-// What isn't as a profile requires.
+// The error of a profile that isn't met.
 fn add_unmet<'p>(
     parts: &mut Parts<'p>,
     alloc: Global,
@@ -256,13 +224,8 @@ fn add_each_profile(
     add_profile(parts, alloc, "Trust anchor profile", "ta", answers.anchor)?;
     add_profile(parts, alloc, "CA profile", "ca", answers.authority)?;
     add_profile(parts, alloc, "EE profile", "ee", answers.end_entity)?;
-    add_profile(
-        parts,
-        alloc,
-        "Detached EE profile",
-        "detached_ee",
-        answers.detached,
-    )?;
+    let answer = answers.detached;
+    add_profile(parts, alloc, "Detached EE profile", "detached_ee", answer)?;
     add_profile(parts, alloc, "Router profile", "router", answers.router)
 }
 
@@ -278,7 +241,7 @@ fn add_profiles_inside(
     add_inside(parts, "profiles", each)
 }
 
-// If all is asked.
+// The result of each profile, if all is shown.
 fn add_all_profiles(
     parts: &mut Parts<'_>,
     alloc: Global,
@@ -294,7 +257,7 @@ fn add_all_profiles(
     }
 }
 
-// That of its own kind, and the others.
+// The result of the profile of its own kind, and those of the others.
 fn add_profiles(
     parts: &mut Parts<'_>,
     alloc: Global,
@@ -308,7 +271,7 @@ fn add_profiles(
     add_all_profiles(parts, alloc, all, &found.answers)
 }
 
-// ---- what it says beside its fields
+// ---- facts and notes
 
 fn fact_label(kind: FactKind) -> &'static str
     ensures { result.now ≡ fact_label kind }
@@ -344,7 +307,6 @@ fn fact_word(kind: FactKind) -> &'static str
     }
 }
 
-// An identifier, or a URI.
 fn fact_leaf(alloc: Global, fact: Fact<'_>) -> Result<Leaf<'_>, AllocError>
     ensures { IfOk result (λ leaf. leaf_view leaf ≡ fact_told fact.entry.kind fact.entry.octets.now) }
 {
@@ -367,14 +329,9 @@ fn add_fact<'p>(parts: &mut Parts<'p>, alloc: Global, fact: Fact<'p>) -> Result<
     ensures { OnOk result (Adds (fact_node fact.entry ∷ []) parts.old.items parts.new.items) }
 {
     let leaf = fact_leaf(alloc, fact)?;
+    let kind = fact.kind;
     let mut own = Vec::new(alloc);
-    add_told(
-        &mut own,
-        alloc,
-        fact_label(fact.kind),
-        fact_word(fact.kind),
-        leaf,
-    )?;
+    add_told(&mut own, alloc, fact_label(kind), fact_word(kind), leaf)?;
     add_inside(parts, "", own)
 }
 
@@ -441,7 +398,7 @@ fn add_remarks<'p>(
 
 // ---- the whole
 
-// The fields of a certificate, and what was found of it.
+// The fields of a certificate, and the findings on it.
 fn add_found<'p>(
     parts: &mut Parts<'p>,
     alloc: Global,

@@ -9,7 +9,7 @@ ghost use Rattle.rpki_cert.specs.Certificates.{IsCertificate};
 ghost use Rattle.rpki_files.specs.Contents.{BeginsBefore, BeginsWithEither};
 ghost use Rattle.rpki_files.specs.FaultRules.{rule_of, tal_rule};
 ghost use Rattle.rpki_text.specs.KeyTexts.{IsLocatorKey};
-ghost use Rattle.rpki_answers.specs.ShownFiles.{IsFileDocument, IsSaidOfFile, IsShownBefore, IsShownUnsigned, IsSubject, behind_nodes, fault_nodes, file_nodes, found_nodes, hash_line, left_line, name_line, no_tal_nodes, place_nodes, rule_nodes, shows_stop, stop_nodes, tal_key_nodes, tal_nodes, unread_nodes, uri_line, where_line, whole_list_nodes};
+ghost use Rattle.rpki_answers.specs.ShownFiles.{IsFileDocument, IsSaidOfFile, IsShownBefore, IsShownUnsigned, IsSubject, behind_nodes, file_nodes, found_nodes, hash_line, name_line, no_tal_nodes, place_nodes, rule_nodes, shows_stop, stop_nodes, tal_key_nodes, tal_nodes, unread_nodes, uri_line, where_line, whole_list_nodes};
 
 use crate::details::add_sort;
 use crate::showing::Options;
@@ -67,8 +67,8 @@ fn add_name<'p>(
     add_told(parts, alloc, "File", "file", Leaf::Text(object.name()))
 }
 
-// Of a to-be-signed part that it isn't signed, and its name; of another file its name, and the hash
-// of its object.
+// The name of a to-be-signed part, and that it isn't signed; or the name of a file, and the hash of
+// its object.
 fn add_file<'p>(
     parts: &mut Parts<'p>,
     alloc: Global,
@@ -86,26 +86,18 @@ fn add_file<'p>(
     add_hash(parts, alloc, object.octets().as_slice())
 }
 
-// How many octets stand behind an object.
-fn add_left(parts: &mut Parts<'_>, alloc: Global, left: usize) -> Result<(), AllocError>
-    ensures { OnOk result (Adds (left_line left ∷ []) parts.old.items parts.new.items) }
+// The number of bytes after an object, if there are some.
+fn add_behind(parts: &mut Parts<'_>, alloc: Global, left: usize) -> Result<(), AllocError>
+    ensures { OnOk result (Adds (behind_nodes left) parts.old.items parts.new.items) }
 {
+    if left == 0 {
+        return Ok(());
+    }
     let pieces = vec![in alloc;
         Piece::Tell("bytes_after_end", Leaf::Count(left as u64)),
         Piece::Say(", not read"),
     ]?;
     add_line(parts, "Bytes after its end", pieces)
-}
-
-// If some do.
-fn add_behind(parts: &mut Parts<'_>, alloc: Global, left: usize) -> Result<(), AllocError>
-    ensures { OnOk result (Adds (behind_nodes left) parts.old.items parts.new.items) }
-{
-    if left > 0 {
-        add_left(parts, alloc, left)
-    } else {
-        Ok(())
-    }
 }
 
 // ---- TALs
@@ -128,7 +120,7 @@ fn add_uris<'p>(parts: &mut Parts<'p>, alloc: Global, uris: &'p [TalUri]) -> Res
     Ok(())
 }
 
-// The key, of which this was found, and its identifier.
+// The key, with the findings on it, and its identifier.
 fn add_tal_key(
     parts: &mut Parts<'_>,
     alloc: Global,
@@ -167,18 +159,13 @@ fn add_tal<'p>(
 
 // ---- files that are none
 
-// What an error means, and the section of the standard.
+// The meaning of an error, and the section of the standard.
 fn add_rule(parts: &mut Parts<'_>, alloc: Global, rule: Rule) -> Result<(), AllocError>
     ensures { OnOk result (Adds (rule_nodes rule) parts.old.items parts.new.items) }
 {
     add_told(parts, alloc, "Why", "why", Leaf::Text(rule.says))?;
-    add_told(
-        parts,
-        alloc,
-        "Standard",
-        "standard",
-        Leaf::Text(rule.section),
-    )
+    let section = Leaf::Text(rule.section);
+    add_told(parts, alloc, "Standard", "standard", section)
 }
 
 // A file that looks like a TAL.
@@ -191,7 +178,7 @@ fn add_no_tal(parts: &mut Parts<'_>, alloc: Global, error: &TalError) -> Result<
     add_rule(parts, alloc, of_tal(error))
 }
 
-// What is found where reading stops, if a flaw is told.
+// The flaw where reading stops, if one is known.
 fn add_found(parts: &mut Parts<'_>, alloc: Global, found: Option<Flaw>) -> Result<(), AllocError>
     ensures { OnOk result (Adds (found_nodes found) parts.old.items parts.new.items) }
 {
@@ -204,7 +191,7 @@ fn add_found(parts: &mut Parts<'_>, alloc: Global, found: Option<Flaw>) -> Resul
     }
 }
 
-// Where reading stops.
+// The field where reading stops.
 fn add_where<'p>(
     parts: &mut Parts<'p>,
     alloc: Global,
@@ -222,18 +209,13 @@ fn add_where<'p>(
     add_line(parts, "Where", pieces)
 }
 
-// And what is expected there.
+// The place where reading stops, and what is expected there.
 fn add_place(parts: &mut Parts<'_>, alloc: Global, place: Place) -> Result<(), AllocError>
     ensures { OnOk result (Adds (place_nodes place) parts.old.items parts.new.items) }
 {
     add_where(parts, alloc, place.field, place.octet)?;
-    add_told(
-        parts,
-        alloc,
-        "Expected",
-        "expected",
-        Leaf::Text(place.wanted),
-    )?;
+    let wanted = Leaf::Text(place.wanted);
+    add_told(parts, alloc, "Expected", "expected", wanted)?;
     add_found(parts, alloc, place.found)
 }
 
@@ -246,15 +228,7 @@ fn shows_stop(all: bool, sort: Option<Sort>) -> bool
     }
 }
 
-// The error, and where reading stops.
-fn add_fault<'p>(parts: &mut Parts<'p>, alloc: Global, it: &'p Rejection) -> Result<(), AllocError>
-    ensures { OnOk result (Adds (fault_nodes it.now) parts.old.items parts.new.items) }
-{
-    add_told(parts, alloc, "Error", "fault", Leaf::Text(it.why.as_str()))?;
-    add_place(parts, alloc, it.place)
-}
-
-// If that is shown.
+// The error, and the place where reading stops, if they are shown.
 fn add_stop<'p>(
     parts: &mut Parts<'p>,
     alloc: Global,
@@ -263,11 +237,11 @@ fn add_stop<'p>(
 ) -> Result<(), AllocError>
     ensures { OnOk result (Adds (stop_nodes shows it.now) parts.old.items parts.new.items) }
 {
-    if shows {
-        add_fault(parts, alloc, it)
-    } else {
-        Ok(())
+    if !shows {
+        return Ok(());
     }
+    add_told(parts, alloc, "Error", "fault", Leaf::Text(it.why.as_str()))?;
+    add_place(parts, alloc, it.place)
 }
 
 fn add_unread<'p>(
@@ -337,7 +311,7 @@ fn add_to_be_signed<'p>(
     }
 }
 
-// What is said of a file that is this.
+// The content of a file.
 fn add_said<'p>(
     parts: &mut Parts<'p>,
     alloc: Global,

@@ -1,5 +1,5 @@
 //! The document of a CRL.
-ghost use Rattle.std.specs.Prelude.{◌≡◌, ◌||◌, [], ◌∷◌, false, nat_le, IfSome, OnOk, length, map, take};
+ghost use Rattle.std.specs.Prelude.{◌≡◌, ◌||◌, [], ◌∷◌, nat_le, IfSome, OnOk, length, map, take};
 ghost use Rattle.rpki_document.specs.Building.{Adds};
 ghost use Rattle.rpki_document.specs.Views.{leaf_view};
 ghost use Rattle.rpki_answers.specs.ShownLists.{entry_node, entry_nodes, few, list_head, list_nodes, revocation_node, revoked_nodes, update_nodes};
@@ -11,10 +11,10 @@ use rpki_document::{Leaf, Parts, Piece, add_each, add_further, add_inside, add_l
 use rpki_text::moments::Period;
 use std::alloc::{AllocError, Global};
 
-// How many revoked certificates are shown, unless all are asked for.
+// The number of revoked certificates that are shown, unless all are.
 const FEW: u64 = 5;
 
-// How many certificates are revoked; nothing where 64 bits can't tell.
+// The number of revoked certificates, if it is below 2^64.
 fn count_of(revoked: &RevokedCertificates) -> Option<u64>
     ensures { IfSome result (λ n. n ≡ length revoked.now.entries) }
 {
@@ -79,21 +79,7 @@ fn add_first(
     Ok(())
 }
 
-// The first few, and two dots.
-fn add_few(
-    parts: &mut Parts<'_>,
-    alloc: Global,
-    revoked: &RevokedCertificates,
-) -> Result<(), AllocError>
-    ensures { OnOk result
-        (Adds (entry_nodes false revoked.now.entries) parts.old.items parts.new.items) }
-{
-    add_first(parts, alloc, revoked, FEW)?;
-    let pieces = vec![in alloc; Piece::Say("..")]?;
-    add_further(parts, pieces)
-}
-
-// All of the revoked certificates, which are so many, or the first few and two dots.
+// All revoked certificates, which are so many; or the first few, and two dots.
 fn add_entries(
     parts: &mut Parts<'_>,
     alloc: Global,
@@ -106,10 +92,11 @@ fn add_entries(
         (Adds (entry_nodes whole revoked.now.entries) parts.old.items parts.new.items) }
 {
     if whole {
-        add_first(parts, alloc, revoked, count)
-    } else {
-        add_few(parts, alloc, revoked)
+        return add_first(parts, alloc, revoked, count);
     }
+    add_first(parts, alloc, revoked, FEW)?;
+    let pieces = vec![in alloc; Piece::Say("..")]?;
+    add_further(parts, pieces)
 }
 
 // Whether all of so many are shown.
@@ -189,12 +176,7 @@ pub fn add_list(
     ensures { OnOk result (Adds (list_nodes fields.now now all) parts.old.items parts.new.items) }
 {
     add_head(parts, alloc, fields)?;
-    add_updates(
-        parts,
-        alloc,
-        fields.this_update(),
-        fields.next_update(),
-        now,
-    )?;
+    let until = fields.next_update();
+    add_updates(parts, alloc, fields.this_update(), until, now)?;
     add_revoked(parts, alloc, fields.revoked_certs(), all)
 }

@@ -1,4 +1,4 @@
-//! What a file is: a certificate, a CRL, a TAL, or none of them, and why.
+//! The subject of a file: a certificate, a CRL, a TAL, or none of them, and why.
 ghost use Rattle.std.specs.Prelude.{◌≡◌, ◌≢◌, ◌↔◌, IfOk, IsTrue};
 ghost use Rattle.rpki_der.specs.declared.error.DecodeError.TheVariants as decoding;
 ghost use Rattle.rpki_files.specs.Contents.{BeginsWithEither};
@@ -30,7 +30,7 @@ pub struct Rejection {
     pub place: Place,
 }
 
-/// What a file is.
+/// The subject of a file.
 #[derive(Drop)]
 pub enum Subject<'a> {
     /// It starts with a certificate, and so many bytes follow.
@@ -68,7 +68,7 @@ impl Subject<'_> {
     }
 }
 
-// Whether octets of this sort, which look like a CRL's, are told as a certificate.
+// Whether a file of this sort, which looks like a CRL, is read as a certificate.
 fn is_told_as_certificate(sort: Option<Sort>) -> bool
     ensures { IsTrue result ↔ IsToldAsCertificate sort }
 {
@@ -78,7 +78,7 @@ fn is_told_as_certificate(sort: Option<Sort>) -> bool
     }
 }
 
-// Whether the octets of a file of this sort are told as a CRL.
+// Whether a file of this sort is read as a CRL.
 fn is_told_as_list(octets: &Bytes, sort: Option<Sort>) -> bool
     ensures { IsTrue result ↔ IsToldAsList sort octets.now }
 {
@@ -88,7 +88,7 @@ fn is_told_as_list(octets: &Bytes, sort: Option<Sort>) -> bool
     }
 }
 
-// What is said of a file of this sort, or else of its fault.
+// The rule of a file's sort, or else of its error.
 fn rule_of_file(sort: Option<Sort>, fault: &DecodeError, octets: &Bytes, is_list: bool) -> Rule
     ensures { IsToldRule sort is_list fault.now octets.now (rule_of result) }
 {
@@ -104,7 +104,7 @@ fn rule_of_file(sort: Option<Sort>, fault: &DecodeError, octets: &Bytes, is_list
     }
 }
 
-// The fault that is told: this one where it is true, and else the plain one.
+// The error that is printed: this one if it is true, and else the plain one.
 fn told<'a>(fault: &'a DecodeError, plain: &'a DecodeError, is_true: bool) -> &'a DecodeError
     requires { plain.now ≡ decoding.BadValue }
     ensures { result.now ≡ kept_fault fault.now is_true }
@@ -138,7 +138,7 @@ fn rejection_of(
     })
 }
 
-// What a file is that is none of them.
+// The subject of a file that is no TAL either.
 fn other_subject<'a>(
     alloc: Global,
     object: &'a Object<'_>,
@@ -158,7 +158,7 @@ fn other_subject<'a>(
     Ok(Subject::Unread(rejection))
 }
 
-// What a file is that is no certificate and no CRL, signed or not.
+// The subject of a file that is no certificate and no CRL, signed or not.
 fn subject_of_none<'a>(
     alloc: Global,
     object: &'a Object<'_>,
@@ -176,7 +176,7 @@ fn subject_of_none<'a>(
     }
 }
 
-// What a file is that starts with neither a certificate nor a CRL.
+// The subject of a file that starts with neither a certificate nor a CRL.
 fn subject_of_neither<'a>(
     alloc: Global,
     object: &'a Object<'_>,
@@ -193,7 +193,7 @@ fn subject_of_neither<'a>(
     }
 }
 
-/// Finds what a file is.
+/// Finds the subject of a file.
 ///
 /// # Errors
 ///

@@ -1,4 +1,4 @@
-//! The row of an accepted certificate: its paths, and what it holds.
+//! The row of an accepted certificate: its paths and its resources.
 ghost use Rattle.std.specs.Prelude.{◌≡◌, ◌++◌, ◌∷◌, [], codes, map, OnOk};
 ghost use Rattle.rpki_document.specs.Building.{Adds, AddsSome, spans_of};
 ghost use Rattle.rpki_document.specs.Documents.{inner, say, show};
@@ -20,7 +20,7 @@ use rpki_text::command_line::Format;
 use rpki_verdicts::{ShownPaths, Tree, hold_same};
 use std::alloc::{AllocError, Global};
 
-// Adds a name behind an arrow to a line.
+// Adds an arrow and a name to a line.
 fn push_arrow<'p>(pieces: &mut Vec<Piece<'p>>, name: &'p str) -> Result<(), AllocError>
     ensures { let its = say (codes " > ") ∷ show (inner name.now) ∷ [] in
         OnOk result (spans_of pieces.new.items ≡ spans_of pieces.old.items ++ its) }
@@ -30,7 +30,7 @@ fn push_arrow<'p>(pieces: &mut Vec<Piece<'p>>, name: &'p str) -> Result<(), Allo
     Ok(())
 }
 
-// Those of the CAs at these places.
+// Adds the names of the CAs at these places, each after an arrow.
 fn push_below<'p>(
     pieces: &mut Vec<Piece<'p>>,
     certs: &[&'p BareObject<'_>],
@@ -117,7 +117,7 @@ fn add_shown_path<'p>(
     add_inside(parts, "", own)
 }
 
-// That another path gives other resources.
+// Adds that another path gives other resources.
 fn push_same(pieces: &mut Vec<Piece<'_>>, same: bool) -> Result<(), AllocError>
     ensures { OnOk result
         (spans_of pieces.new.items ≡ spans_of pieces.old.items ++ same_spans same) }
@@ -202,7 +202,6 @@ fn add_paths<'p>(
     add_each(parts, "paths", all)
 }
 
-// How many paths aren't kept.
 fn add_more_line(parts: &mut Vec<Part<'_>>, alloc: Global, more: usize) -> Result<(), AllocError>
     ensures { OnOk result (Adds (more_line more ∷ []) parts.old.items parts.new.items) }
 {
@@ -214,7 +213,7 @@ fn add_more_line(parts: &mut Vec<Part<'_>>, alloc: Global, more: usize) -> Resul
     add_further(parts, pieces)
 }
 
-// If there are some.
+// The number of paths that aren't kept, if there are some.
 fn add_more(parts: &mut Vec<Part<'_>>, alloc: Global, more: usize) -> Result<(), AllocError>
     ensures { OnOk result (Adds (more_nodes more) parts.old.items parts.new.items) }
 {
@@ -225,7 +224,7 @@ fn add_more(parts: &mut Vec<Part<'_>>, alloc: Global, more: usize) -> Result<(),
     }
 }
 
-// What is held, in no line.
+// The resources, in no line.
 fn add_held_aside(
     parts: &mut Vec<Part<'_>>,
     alloc: Global,
@@ -239,8 +238,8 @@ fn add_held_aside(
     add_aside(parts, held)
 }
 
-// Adds what the certificate holds, unless it is text that is printed: no line of a text says it, and
-// its parts are many if a CA holds many blocks.
+// Adds the resources of the certificate, unless the format is text: no line of a text has them, and
+// a CA may hold many blocks.
 fn add_held_in(
     parts: &mut Vec<Part<'_>>,
     alloc: Global,

@@ -1,4 +1,4 @@
-//! The counts of rows, their errors, and what damages a cache.
+//! The counts of rows, their errors, and the damage of a cache.
 ghost use Rattle.std.specs.List.{list_any};
 ghost use Rattle.std.specs.Str.{bytes_eq};
 ghost use Rattle.std.specs.Prelude.{◌≡◌, ◌∷◌, [], Some, count_by, length, map, option_map, IfOk, OnOk};
@@ -31,7 +31,7 @@ fn count_of(rows: &[Row<'_, '_, '_>], word: Word) -> usize
     count
 }
 
-// How many rows have a word.
+// The number of rows with a word.
 fn add_count<'p>(
     parts: &mut Vec<Part<'p>>,
     alloc: Global,
@@ -56,28 +56,13 @@ fn add_counts<'p>(
     add_count(parts, alloc, "Trust anchors", Word::Anchor, rows)?;
     add_count(parts, alloc, "Accepted", Word::Accepted, rows)?;
     add_count(parts, alloc, "Rejected", Word::Rejected, rows)?;
-    add_count(
-        parts,
-        alloc,
-        "Below a rejected CA",
-        Word::BelowRejected,
-        rows,
-    )?;
-    add_count(
-        parts,
-        alloc,
-        "Below an unjudged CA",
-        Word::BelowUnseen,
-        rows,
-    )?;
+    let word = Word::BelowRejected;
+    add_count(parts, alloc, "Below a rejected CA", word, rows)?;
+    let word = Word::BelowUnseen;
+    add_count(parts, alloc, "Below an unjudged CA", word, rows)?;
     add_count(parts, alloc, "Not looked at", Word::NotLookedAt, rows)?;
-    add_count(
-        parts,
-        alloc,
-        "Not issued by a CA here",
-        Word::NotIssued,
-        rows,
-    )?;
+    let word = Word::NotIssued;
+    add_count(parts, alloc, "Not issued by a CA here", word, rows)?;
     add_count(parts, alloc, "Issuer isn't a CA", Word::NotCa, rows)?;
     add_count(parts, alloc, "No issuer here", Word::NoIssuer, rows)?;
     add_count(parts, alloc, "CRLs", Word::Crl, rows)?;
@@ -94,14 +79,8 @@ pub fn add_all_counts<'p>(
         OnOk result (Adds (its ∷ []) parts.old.items parts.new.items) }
 {
     let mut counts = Vec::new(alloc);
-    let count = trees.certs.len() as u64;
-    add_told(
-        &mut counts,
-        alloc,
-        "Certificates",
-        "certificates",
-        Leaf::Count(count),
-    )?;
+    let count = Leaf::Count(trees.certs.len() as u64);
+    add_told(&mut counts, alloc, "Certificates", "certificates", count)?;
     add_counts(&mut counts, alloc, rows)?;
     add_inside(parts, "counts", counts)
 }
@@ -113,7 +92,7 @@ fn has_name(names: &[&'static str], name: &'static str) -> bool
     names.iter().any(|one| *one == name)
 }
 
-// Adds an error, where it is new.
+// Adds an error, if it is new.
 fn push_new(names: &mut Vec<&'static str>, error: &'static str) -> Result<(), AllocError>
     ensures { OnOk result (map (λ n. n.now) names.new.items
         ≡ with_error (map (λ n. n.now) names.old.items) (Some error.now)) }
@@ -125,7 +104,7 @@ fn push_new(names: &mut Vec<&'static str>, error: &'static str) -> Result<(), Al
     Ok(())
 }
 
-// Adds that of a row, where it has one.
+// Adds the error of a row, if it has one.
 fn push_error(names: &mut Vec<&'static str>, error: Option<&'static str>) -> Result<(), AllocError>
     ensures { OnOk result (map (λ n. n.now) names.new.items
         ≡ with_error (map (λ n. n.now) names.old.items) (option_map (λ n. n.now) error.entry)) }
@@ -203,7 +182,7 @@ pub fn add_errors(
     add_each(parts, "errors", each)
 }
 
-// Adds the key of a row's issuer, if no CRL of that can be asked.
+// Adds the key of a row's issuer, if that has no current CRL.
 fn add_unasked(
     keys: &mut BTreeSet<[u8; 20]>,
     unasked: Option<KeyIdentifier>,
@@ -217,7 +196,7 @@ fn add_unasked(
     Ok(())
 }
 
-// How many CAs there are of which no CRL can be asked.
+// The number of CAs without a current CRL.
 fn count_unasked(alloc: Global, rows: &[Row<'_, '_, '_>]) -> Result<usize, AllocError>
     ensures { IfOk result (λ count. count ≡ length (unasked_of rows.now)) }
 {
@@ -228,7 +207,7 @@ fn count_unasked(alloc: Global, rows: &[Row<'_, '_, '_>]) -> Result<usize, Alloc
     Ok(keys.len())
 }
 
-/// Adds what damages a cache.
+/// Adds the damage of a cache.
 pub fn add_damage(
     parts: &mut Vec<Part<'_>>,
     alloc: Global,

@@ -1,4 +1,4 @@
-//! The lines behind those of the files, and the answer if a file given as a TAL is none.
+//! The lines after those of the files, and the answer if a file given as a TAL isn't one.
 ghost use Rattle.std.specs.Prelude.{◌≡◌, ◌∷◌, [], map, IfOk, OnOk};
 ghost use Rattle.rpki_document.specs.Building.{Adds, nodes_of};
 ghost use Rattle.rpki_answers.specs.TreeDocuments.{end_nodes, no_locator_nodes, searched_line, limited_line, whole_line, tree_asked, tree_unchecked, unread_node};
@@ -14,7 +14,6 @@ use rpki_folder::Ended;
 use rpki_verdicts::{Fault, TreeQuestion, Trees};
 use std::alloc::{AllocError, Global};
 
-// That every certificate was judged.
 fn add_whole(parts: &mut Vec<Part<'_>>, alloc: Global) -> Result<(), AllocError>
     ensures { OnOk result (Adds (whole_line ∷ []) parts.old.items parts.new.items) }
 {
@@ -25,7 +24,6 @@ fn add_whole(parts: &mut Vec<Part<'_>>, alloc: Global) -> Result<(), AllocError>
     add_line(parts, "Searched", pieces)
 }
 
-// That a limit was reached.
 fn add_limited<'p>(
     parts: &mut Vec<Part<'p>>,
     alloc: Global,
@@ -46,7 +44,7 @@ fn add_limited<'p>(
     add_line(parts, "Searched", pieces)
 }
 
-// How far the walks went.
+// Whether every certificate was judged, or which limit was reached.
 fn add_searched(
     parts: &mut Vec<Part<'_>>,
     alloc: Global,
@@ -117,7 +115,7 @@ fn add_unread<'p>(
     add_each(parts, "unread", names)
 }
 
-/// Adds what is said behind the rows.
+/// Adds the lines after the rows.
 pub fn add_end<'p>(
     parts: &mut Vec<Part<'p>>,
     alloc: Global,
@@ -140,7 +138,7 @@ pub fn add_end<'p>(
     add_tree_asked(parts, alloc, question.names)
 }
 
-/// Makes the document where a file given as a TAL isn't one.
+/// Makes the document of a file given as a TAL that isn't one.
 pub fn no_locator_document<'p>(
     alloc: Global,
     question: &TreeQuestion<'p, '_>,

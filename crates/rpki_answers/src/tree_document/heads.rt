@@ -46,14 +46,12 @@ fn add_anchored<'p>(
     ensures { let its = anchor_head name.now tree.now in
         OnOk result (Adds (its ∷ []) parts.old.items parts.new.items) }
 {
+    let anchor = Leaf::Text(name_of(&tree.certs, tree.anchor));
     let pieces = vec![in alloc;
         Piece::Tell("tal", Leaf::Inner(name)),
         Piece::Keep("ended", Leaf::Text(ended_word(tree.ended))),
         Piece::Say(", trust anchor "),
-        Piece::Tell(
-            "trust_anchor",
-            Leaf::Text(name_of(&tree.certs, tree.anchor))
-        ),
+        Piece::Tell("trust_anchor", anchor),
     ]?;
     add_head(parts, "TAL", pieces)
 }

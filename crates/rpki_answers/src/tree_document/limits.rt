@@ -8,7 +8,7 @@ use rpki_document::{Leaf, Part, Piece, add_further};
 use rpki_folder::Limit;
 use std::alloc::{AllocError, Global};
 
-// That a limit was reached, which is no number of steps.
+// Adds that a limit was reached.
 fn push_limit_word<'p>(
     pieces: &mut Vec<Piece<'p>>,
     word: &'p str,
@@ -22,7 +22,7 @@ fn push_limit_word<'p>(
     Ok(())
 }
 
-// How many steps it takes to go on.
+// Adds the number of steps that is needed to go on.
 fn push_steps(pieces: &mut Vec<Piece<'_>>, steps: usize) -> Result<(), AllocError>
     ensures { let its = tell (codes "steps_needed") (count steps)
         ∷ say (codes " is needed") ∷ [] in
@@ -33,7 +33,7 @@ fn push_steps(pieces: &mut Vec<Piece<'_>>, steps: usize) -> Result<(), AllocErro
     Ok(())
 }
 
-// That the limit of steps was reached below a CA, and how many it takes to go on there.
+// Adds that the limit of steps was reached below a CA, and the number that is needed there.
 fn push_steps_limit(pieces: &mut Vec<Piece<'_>>, needed: Option<usize>) -> Result<(), AllocError>
     ensures { let its = limit_spans (Limit.Steps needed) in
         OnOk result (spans_of pieces.new.items ≡ spans_of pieces.old.items ++ its) }
@@ -51,7 +51,7 @@ fn push_steps_limit(pieces: &mut Vec<Piece<'_>>, needed: Option<usize>) -> Resul
     }
 }
 
-/// That a limit was reached below a CA, and what it takes to go on there.
+/// Adds that a limit was reached below a CA, and what is needed to go on there.
 pub fn push_limit(pieces: &mut Vec<Piece<'_>>, limit: Limit) -> Result<(), AllocError>
     ensures { OnOk result
         (spans_of pieces.new.items ≡ spans_of pieces.old.items ++ limit_spans limit) }
@@ -66,7 +66,7 @@ pub fn push_limit(pieces: &mut Vec<Piece<'_>>, limit: Limit) -> Result<(), Alloc
     }
 }
 
-/// The limit that was reached below it, if one was.
+/// Adds the limit that was reached below a CA, if one was.
 pub fn add_limit(
     parts: &mut Vec<Part<'_>>,
     alloc: Global,

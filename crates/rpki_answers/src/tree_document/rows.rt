@@ -2,7 +2,7 @@
 ghost use Rattle.std.specs.Prelude.{◌≡◌, ◌∷◌, [], codes, map, IfOk, OnOk};
 ghost use Rattle.rpki_document.specs.Building.{Adds, AddsSome, nodes_of};
 ghost use Rattle.rpki_document.specs.Documents.{count, further, say, tell};
-ghost use Rattle.rpki_answers.specs.TreeDocuments.{AreSaid, IsRowDocument, file_last, left_line, left_nodes, left_words, row_head};
+ghost use Rattle.rpki_answers.specs.TreeDocuments.{AreSaid, IsRowDocument, file_last, left_nodes, left_words, row_head};
 ghost use Rattle.rpki_answers.specs.TreeDocuments.Steps.{PrintsSome};
 
 use crate::tree_document::accepted::add_accepted;
@@ -31,7 +31,7 @@ fn add_plain<'p>(
     add_head(parts, word.label(), pieces)
 }
 
-// What is said of a file of this name.
+// The finding on a file of this name.
 fn add_said<'p>(
     parts: &mut Vec<Part<'p>>,
     alloc: Global,
@@ -82,19 +82,12 @@ fn add_left_words<'p>(
     add_further(parts, pieces)
 }
 
-// That so many octets stand behind what it begins with.
-fn add_left_line(parts: &mut Vec<Part<'_>>, alloc: Global, left: usize) -> Result<(), AllocError>
-    ensures { OnOk result (Adds (left_line left ∷ []) parts.old.items parts.new.items) }
-{
-    add_left_words(parts, alloc, left, left_words(left))
-}
-
-// If some do.
+// The number of bytes after the object of a file, if there are some.
 fn add_left(parts: &mut Vec<Part<'_>>, alloc: Global, left: usize) -> Result<(), AllocError>
     ensures { OnOk result (Adds (left_nodes left) parts.old.items parts.new.items) }
 {
     if left > 0 {
-        add_left_line(parts, alloc, left)
+        add_left_words(parts, alloc, left, left_words(left))
     } else {
         Ok(())
     }

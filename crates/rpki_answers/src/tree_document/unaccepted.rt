@@ -39,7 +39,6 @@ fn add_rejected_head<'p>(
     add_head(parts, Word::Rejected.label(), pieces)
 }
 
-// How many certificates are above it, and in which step it is rejected.
 fn add_index<'p>(
     parts: &mut Vec<Part<'p>>,
     alloc: Global,
@@ -73,7 +72,7 @@ pub fn add_rejected<'p>(
     add_fault(parts, alloc, name, says, section)
 }
 
-// Adds the row of a word with the file's name, where an issuer's may follow.
+// Adds the row of a word with the file's name.
 fn add_alone<'p>(
     parts: &mut Vec<Part<'p>>,
     alloc: Global,
@@ -133,7 +132,7 @@ fn add_limited_row<'p>(
     add_head(parts, Word::NotLookedAt.label(), pieces)
 }
 
-// Adds the row of a certificate below a rejected one, with its issuer and the name of the error of that.
+// Adds the row of a certificate below a rejected CA, with its issuer and the issuer's error.
 fn add_below_error<'p>(
     parts: &mut Vec<Part<'p>>,
     alloc: Global,
@@ -156,7 +155,7 @@ fn add_below_error<'p>(
     add_head(parts, Word::BelowRejected.label(), pieces)
 }
 
-// With the error, if there is one.
+// Adds the row of a certificate below a rejected CA, with the issuer's error, if there is one.
 fn add_below_rejected<'p>(
     parts: &mut Vec<Part<'p>>,
     alloc: Global,
@@ -174,7 +173,7 @@ fn add_below_rejected<'p>(
     }
 }
 
-/// A certificate on which there is no verdict.
+/// Adds the row of a certificate without a verdict.
 pub fn add_unseen<'p>(
     parts: &mut Vec<Part<'p>>,
     alloc: Global,

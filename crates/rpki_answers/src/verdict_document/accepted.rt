@@ -1,4 +1,4 @@
-//! What an accepted path holds, and what was checked of it.
+//! The resources of an accepted path, and what was checked.
 ghost use Rattle.std.specs.Prelude.{◌≡◌, [], ◌∷◌, All, None, Some, length, OnOk};
 ghost use Rattle.rpki_document.specs.Building.{Adds, AddsSome};
 ghost use Rattle.rpki_document.specs.Views.{leaf_view};
@@ -78,7 +78,7 @@ fn add_read_tal<'p>(
     }
 }
 
-// The TAL of the trust anchor, if some are given.
+// The TAL of the trust anchor, if TALs are given.
 fn add_located<'p>(
     parts: &mut Parts<'p>,
     alloc: Global,
@@ -93,7 +93,6 @@ fn add_located<'p>(
     }
 }
 
-// The resources that a certificate holds.
 fn add_holder<'p>(
     parts: &mut Parts<'p>,
     alloc: Global,
@@ -193,7 +192,7 @@ pub(crate) fn add_held(
     }
 }
 
-// That there are parts of what is held by a router's certificate and by the CA above it.
+// The resources of a router's certificate and of the CA above it have parts.
 fn some_below(cert: &Cert, holder: &ResourceCert)
     ensures { (held : _) × AreHeld holder.now (Some cert.now) held }
 {
@@ -202,7 +201,7 @@ fn some_below(cert: &Cert, holder: &ResourceCert)
     let _found = answer_of(key);
 }
 
-/// States that what a certificate holds has parts, also if none are made.
+/// States that the resources of a certificate have parts, also if none are made.
 pub(crate) fn some_held(judged: &Judged)
     ensures { (held : _) × AreHeld judged.now.holder judged.now.router held }
 {
@@ -218,14 +217,12 @@ fn revocation_leaf(lists: &[Object<'_>]) -> Leaf<'static>
     if lists.is_empty() {
         Leaf::Words("not checked, no CRL was given", "not checked")
     } else {
-        Leaf::Words(
-            "checked, no certificate is revoked by the CRLs given",
-            "checked",
-        )
+        let said = "checked, no certificate is revoked by the CRLs given";
+        Leaf::Words(said, "checked")
     }
 }
 
-// What was checked beside.
+// The checks of signatures and revocation.
 fn add_checked(
     parts: &mut Parts<'_>,
     alloc: Global,
@@ -233,23 +230,11 @@ fn add_checked(
 ) -> Result<(), AllocError>
     ensures { OnOk result (Adds (checked_nodes question.now) parts.old.items parts.new.items) }
 {
-    add_told(
-        parts,
-        alloc,
-        "Signatures",
-        "signatures",
-        Leaf::Words(
-            "checked (RSASSA-PKCS1-v1_5 with SHA-256, RFC 7935)",
-            "checked",
-        ),
-    )?;
-    add_told(
-        parts,
-        alloc,
-        "Revocation",
-        "revocation",
-        revocation_leaf(question.lists),
-    )
+    let said = "checked (RSASSA-PKCS1-v1_5 with SHA-256, RFC 7935)";
+    let leaf = Leaf::Words(said, "checked");
+    add_told(parts, alloc, "Signatures", "signatures", leaf)?;
+    let leaf = revocation_leaf(question.lists);
+    add_told(parts, alloc, "Revocation", "revocation", leaf)
 }
 
 pub(crate) fn add_unchecked<'p>(

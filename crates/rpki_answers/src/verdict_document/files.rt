@@ -62,7 +62,6 @@ fn add_other<'p>(
     add_item(parts, alloc, "Certificate", pieces)
 }
 
-// What is said of the file at an index.
 fn add_certificate<'p>(
     parts: &mut Parts<'p>,
     alloc: Global,
@@ -134,7 +133,6 @@ fn add_each_note<'p>(
     Ok(())
 }
 
-// The notes of a certificate.
 fn add_noted_file<'p>(
     parts: &mut Parts<'p>,
     alloc: Global,
@@ -152,7 +150,7 @@ fn add_noted_file<'p>(
     add_inside(parts, "", own)
 }
 
-// If it has some.
+// The notes of a certificate, if it has some.
 fn add_notes<'p>(
     parts: &mut Parts<'p>,
     alloc: Global,
@@ -179,7 +177,7 @@ fn add_noted<'p>(
     add_notes(parts, alloc, member.name(), &notes)
 }
 
-// ---- octets behind
+// ---- bytes after an object
 
 fn add_left_file<'p>(
     parts: &mut Parts<'p>,
@@ -199,7 +197,7 @@ fn add_left_file<'p>(
     add_item(parts, alloc, "Bytes after its end", pieces)
 }
 
-// If there are some.
+// The number of bytes after an object, if there are some.
 fn add_left<'p>(
     parts: &mut Parts<'p>,
     alloc: Global,
@@ -290,7 +288,7 @@ pub(crate) fn add_not_locators<'p>(
 
 // ---- each of some files
 
-// What is said of each.
+// A finding on a file.
 #[derive(Clone, Copy)]
 enum About {
     Notes,
@@ -330,7 +328,7 @@ fn add_of_each<'p>(
     Ok(())
 }
 
-// What is said of the files.
+// The findings on the files.
 pub(crate) fn add_files<'p>(
     parts: &mut Parts<'p>,
     alloc: Global,

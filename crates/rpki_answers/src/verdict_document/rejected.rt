@@ -1,4 +1,4 @@
-//! Why a path is rejected.
+//! The reason of a rejection.
 ghost use Rattle.std.specs.Prelude.{◌≡◌, ◌++◌, [], ◌∷◌, None, codes, option_map, OnOk};
 ghost use Rattle.rpki_document.specs.Building.{Adds, AddsSome};
 ghost use Rattle.rpki_document.specs.Documents.{inner, say, show, unsaid};
@@ -13,7 +13,7 @@ use rpki_files::Object;
 use rpki_verdicts::{Fault, Question};
 use std::alloc::{AllocError, Global};
 
-/// Adds the fault as a program needs it.
+/// Adds an error for a program.
 pub(crate) fn add_fault<'p>(
     parts: &mut Parts<'p>,
     alloc: Global,
@@ -59,7 +59,7 @@ fn add_rejected_file<'p>(
     add_head(parts, "rejected", pieces)
 }
 
-// Finds it by its path index.
+// The head of a rejection, by the path index of the certificate that is wrong.
 fn add_rejected_index<'p>(
     parts: &mut Parts<'p>,
     alloc: Global,
@@ -122,7 +122,6 @@ fn add_faulty_file<'p>(
     }
 }
 
-// In which step, and which certificate is wrong.
 fn add_step<'p>(
     parts: &mut Parts<'p>,
     alloc: Global,
@@ -140,7 +139,7 @@ fn add_step<'p>(
     add_line(parts, "Step", pieces)
 }
 
-// And why.
+// The step and the path index of a rejection, and its reason.
 fn add_why<'p>(
     parts: &mut Parts<'p>,
     alloc: Global,
@@ -154,13 +153,8 @@ fn add_why<'p>(
 {
     add_step(parts, alloc, fault.step, fault.index)?;
     add_faulty_file(parts, alloc, name)?;
-    add_fault(
-        parts,
-        alloc,
-        fault.name,
-        fault.rule.says,
-        fault.rule.section,
-    )?;
+    let rule = fault.rule;
+    add_fault(parts, alloc, fault.name, rule.says, rule.section)?;
     add_details(parts, alloc, details)
 }
 
@@ -213,7 +207,7 @@ fn add_unjudged_head<'p>(
     add_head(parts, "rejected", pieces)
 }
 
-// That there is such a file.
+// The head and the reason of a rejection without a verdict on the path.
 pub(crate) fn add_unjudged<'p>(
     parts: &mut Parts<'p>,
     alloc: Global,
@@ -232,7 +226,6 @@ pub(crate) fn add_unjudged<'p>(
     add_inside(parts, "rejected", why)
 }
 
-// That no certificate was given.
 pub(crate) fn add_no_path(parts: &mut Parts<'_>, alloc: Global) -> Result<(), AllocError>
     ensures { let its = rejected_head (say (codes "no certificate was given") ∷ []) in
         OnOk result (Adds (its ∷ []) parts.old.items parts.new.items) }

@@ -6,15 +6,15 @@ pub returns : goal.returns
 returns c =
     ended_with c.add_https.result _ _ _ c.add_https.ensures
     (rw (
-      c.rpki_notify.ensures,
+      c.rpki_notify-notify.ensures,
       c.in_ok-add_uri-5.ensures,
-      c.signed_object.ensures,
+      c.signed_object-object.ensures,
       c.in_ok-add_uri-4.ensures,
       c.rpki_manifest.ensures,
       c.in_ok-add_uri-3.ensures,
-      c.ca_repository.ensures,
+      c.ca_repository-repository.ensures,
       c.in_ok-add_uri-2.ensures,
-      c.crl_uri.ensures,
+      c.crl_uri-crl.ensures,
       c.in_ok-add_uri.ensures,
-      c.ca_issuer.ensures,
+      c.ca_issuer-issuer.ensures,
     ) (simp append_assoc))

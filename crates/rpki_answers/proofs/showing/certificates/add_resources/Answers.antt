@@ -9,6 +9,6 @@ returns c =
       c.in_ok-add_listed.ensures,
       c.new-listed.ensures.items,
       c.in_ok-add_told.ensures,
-      c.overclaim_leaf-overclaim.ensures,
+      c.overclaim_leaf-leaf.ensures,
       c.overclaim.ensures,
     ) (simp append_assoc))

@@ -11,4 +11,4 @@ returns c =
     let last = c.add_told-2.result in
     subst (λ (f : QuestionFields). OnOk last (Adds (checked_nodes f) c.args.parts.now.items c.add_told-2.new.parts.items))
     c.question.view_is
-    (then_ended last _ _ _ _ _ c.in_ok-add_told.ensures (rw c.revocation_leaf.ensures at c.add_told-2.ensures))
+    (then_ended last _ _ _ _ _ c.in_ok-add_told.ensures (rw c.revocation_leaf-leaf.ensures at c.add_told-2.ensures))

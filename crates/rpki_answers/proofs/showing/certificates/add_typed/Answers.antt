@@ -1,4 +1,0 @@
-use Rattle.rpki_answers.proofs.showing.certificates.add_typed.Goals as goal
-
-pub returns : goal.returns
-returns c = rw c.in_ok-pieces.ensures.items at c.add_line.ensures

@@ -1,4 +1,0 @@
-use Rattle.rpki_answers.proofs.showing.documents.add_left.Goals as goal
-
-pub returns : goal.returns
-returns c = rw c.in_ok-pieces.ensures.items at c.add_line.ensures

@@ -1,7 +1,0 @@
-use Rattle.rpki_document.proofs.Built.{ended_with}
-use Rattle.rpki_answers.proofs.tree_document.heads.add_tal.Goals as goal
-
-pub returns : goal.returns
-returns c =
-    ended_with c.add_inside.result _ _ _ c.add_inside.ensures
-    (rw (c.in_ok-add_tal_head.ensures, c.new-own.ensures.items, c.name.ensures))
