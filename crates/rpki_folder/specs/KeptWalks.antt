@@ -1,5 +1,5 @@
 -- What is kept of a walk over a folder, from the trust anchor of a locator (own).
-use Rattle.std.specs.Prelude.{◌≡◌, ℕ, Bool, List, Ok, length}
+use Rattle.std.specs.Prelude.{◌≡◌, ℕ, Bool, List, Ok, Option, Some, length}
 use Rattle.rpki_cert.specs.Verification.{Context}
 use Rattle.rpki_keys.specs.Locators.{NamedTal}
 use Rattle.rpki_path.specs.AskedLists.{by_named_lists}
@@ -14,6 +14,7 @@ use Rattle.rpki_folder.specs.declared.bounds.Ended.{Ended}
 use Rattle.rpki_folder.specs.declared.firsts.Firsts.{Firsts}
 use Rattle.rpki_folder.specs.declared.limits.LimitTable.{LimitTable}
 use Rattle.rpki_folder.specs.declared.lines.Line.{Line}
+use Rattle.rpki_folder.specs.declared.lines.Line.TheVariants.{Accepted}
 use Rattle.rpki_folder.specs.declared.walk_error.WalkError.{WalkError}
 
 -- The trust anchor of the locator stands at the place: the greatest of those that are valid. A walk from
@@ -33,3 +34,8 @@ pub record IsKeptWalk (x : Context) (names : Bool) (t : NamedTal) (f : FolderFie
   pub limited_are : AreLimitedFrom x (by_named_lists names x f.lists) names (IsFirstIn firsts) t
       (string_at f.certs anchor) f.certs depth steps limited
   pub limits_are : IsTableOf (first_place_of firsts anchor) (length f.certs) limited limits
+
+-- there is a line, and it accepts its certificate
+abbrev pub IsAcceptedBy : Option Line → Type 0
+IsAcceptedBy (Some (Accepted paths)) = Unit {0}
+IsAcceptedBy _ = ⊥

@@ -1,8 +1,9 @@
 //! Laws about paths through a folder.
-ghost use Rattle.std.specs.Prelude.{◌≡◌, ◌≢◌, ◌↔◌, ◌+◌, ◌++◌, ◌∷◌, ℕ, Bool, true, List, [], length, Contains, Ok, map};
+ghost use Rattle.std.specs.Prelude.{◌≡◌, ◌≢◌, ◌↔◌, ◌+◌, ◌++◌, ◌∷◌, ℕ, Bool, true, List, [], length, Contains, Ok, map, slice_get};
 ghost use Rattle.rpki_der.specs.Times.{Moment};
 ghost use Rattle.rpki_parts.specs.Keys.{KeyFields};
-ghost use Rattle.rpki_cert.specs.Certificates.{TbsFields, CertFields};
+ghost use Rattle.rpki_ext.specs.Kinds.{Means};
+ghost use Rattle.rpki_cert.specs.Certificates.{TbsFields, CertFields, IsCertificate};
 ghost use Rattle.rpki_cert.specs.Profiles.{MeetsProfile};
 ghost use Rattle.rpki_cert.specs.Verification.{TrustAnchorCheck, context, trust_anchor_checks, IsVerified};
 ghost use Rattle.rpki_cert.specs.SaidKinds.{BeginsWithKind};
@@ -13,7 +14,12 @@ ghost use Rattle.rpki_path.specs.Asking.{IsUnrevokedBy};
 ghost use Rattle.rpki_path.specs.AskedLists.{AreSameLists, by_named_lists};
 ghost use Rattle.rpki_folder.specs.Folders.{FolderFields, cas_at, string_at};
 ghost use Rattle.rpki_folder.specs.Strangers.{AddsOnly, HasCertificate, IsFreeOf, LeadsThrough};
-ghost use Rattle.rpki_folder.specs.Walks.{Root, AreAdmitted, Covers, IsLookedAt, IsReached, IsTold, LeadsBy, Told, TellsFrom};
+ghost use Rattle.rpki_folder.specs.Walks.{Root, AreAdmitted, Covers, IsLookedAt, IsReached, IsTold, LeadsBy, Told, TellsFrom, at_anchor};
+ghost use Rattle.rpki_folder.specs.FirstPlaces.{first_place_of};
+ghost use Rattle.rpki_folder.specs.KeptWalks.{IsAcceptedBy, IsKeptWalk};
+ghost use Rattle.rpki_folder.specs.declared.firsts.Firsts.{Firsts};
+ghost use Rattle.rpki_folder.specs.declared.limits.LimitTable.{LimitTable};
+ghost use Rattle.rpki_folder.specs.declared.lines.Line.{Line};
 ghost use Rattle.rpki_path.specs.NameChains.{IsSelfNamed, NamesChain};
 ghost use Rattle.rpki_path.specs.Paths.{IsPathOf, Path, candidate};
 ghost use Rattle.rpki_path.specs.Repeats.{AsksByEntity};
@@ -105,6 +111,25 @@ pub fn nothing_is_lost<R: RevocationSource, V: Verifier>()
         → Covers ended depth (length above + 1)
         → LeadsBy x asked names t anchor certs kind place above
         → (other : List ℕ) × IsTold ts other place }
+{
+    rpki_cert::laws::unambiguous();
+}
+
+/// States that the lines that are kept of a walk from a trust anchor miss no certificate, whichever
+/// copies a path leads by. If a valid path on which no entity is twice leads to a certificate, its
+/// names chain where names are checked, and the walk's end covers its length, the line of the
+/// certificate's first place accepts it.
+pub fn lines_are_complete<V: Verifier>()
+    ensures { (verifier : V) (now : Moment) (strict names : Bool) (t : NamedTal)
+        (f : FolderFields) (depth steps anchor : ℕ) (firsts : Firsts) (lines : List Line)
+        (limits : LimitTable) (ended : Ended) (top : CertFields) (above : List ℕ) (place : ℕ)
+        → let x = context (V.verifies verifier) now strict in
+        let root = at_anchor t (string_at f.certs anchor) in
+        IsKeptWalk x names t f depth steps anchor firsts lines limits ended
+        → Means IsCertificate top root.anchor → Covers ended depth (length above + 1)
+        → AreAdmitted (IsLookedAt names (λ l p. Unit {0}) top f.certs) [] (above ++ place ∷ [])
+        → IsReached x (by_named_lists names x f.lists) root f.certs above place
+        → IsAcceptedBy (slice_get lines (first_place_of firsts place)) }
 {
     rpki_cert::laws::unambiguous();
 }
